@@ -17,12 +17,11 @@ pub record Holdings : Type 0 where
   pub points : List (List ℕ)
   pub tags : List ℕ
 
--- a cursor: its number, all hits of its query with their tags as the list stood at its opening, and how many were given
+-- an open cursor: its number, and the hits that it has still to give, with their tags
 pub record Cursor : Type 0 where
   pub number : ℕ
   pub hits : List Hit
   pub tags : List ℕ
-  pub given : ℕ
 
 -- the objects, the open cursors, and the number of the next cursor
 pub record State : Type 0 where
@@ -96,11 +95,11 @@ hits_reply objects hits = reply.Hits hits (tags_of objects hits)
 abbrev pub most_cursors : ℕ
 most_cursors = 16
 
--- all objects from the nearest on
+-- a new cursor has to give all objects, from the nearest on
 abbrev pub cursor_over : Space → State → List ℕ → Cursor
 cursor_over s state q =
     let hits = nearest_hits s state.objects.points q (length state.objects.points) in
-    record { number = state.next; hits = hits; tags = tags_of state.objects hits; given = 0 }
+    record { number = state.next; hits = hits; tags = tags_of state.objects hits }
 
 abbrev pub cursor_step : Space → State → List ℕ → Step
 cursor_step s state q =
@@ -112,19 +111,15 @@ cursor_step s state q =
 abbrev pub cursor_named : ℕ → State → Option Cursor
 cursor_named number state = find (λ c. c.number == number) state.cursors
 
--- the following n of a list of which some were given
-abbrev pub following : {X : Type 0} → ℕ → ℕ → List X → List X
-following given n xs = take n (drop given xs)
-
--- a cursor, where it has this number after so many more hits
-abbrev pub advanced : ℕ → ℕ → Cursor → Cursor
-advanced number more c = if c.number == number then record c { given = c.given + more } else c
+-- the cursors, where the one of this number has given n hits more
+abbrev pub given_more : ℕ → ℕ → List Cursor → List Cursor
+given_more number n cursors = map {A = Cursor} (λ c. if c.number == number then record c { hits = drop n c.hits; tags = drop n c.tags } else c) cursors
 
 abbrev pub next_from : State → ℕ → Option Cursor → Step
 next_from state n None = refused state refusal.NoCursor
 next_from state n (Some c) = record {
-  reply = reply.Next (following c.given n c.hits) (following c.given n c.tags);
-  state = record state { cursors = map (advanced c.number (length (following c.given n c.hits))) state.cursors };
+  reply = reply.Next (take n c.hits) (take n c.tags);
+  state = record state { cursors = given_more c.number n state.cursors };
 }
 
 abbrev pub close_from : State → Option Cursor → Step
