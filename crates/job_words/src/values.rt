@@ -39,19 +39,24 @@ fn is_other(matches: &ArgMatches<'_>, names: &[&str], name: &str) -> bool
     value(matches, name).is_some() && !is_among(name, names)
 }
 
-/// Whether something is given that is none of the names. COMMAND always is.
-pub fn has_other(matches: &ArgMatches<'_>, names: &[&str]) -> bool
-    ensures { result ≡ has_other (map (λ s. s.now) names.now) (given_in matches.now) }
+// Whether one of these options is given, and is none of the names.
+fn has_other_option(matches: &ArgMatches<'_>, names: &[&str], options: &[&str]) -> bool
+    ensures { result
+        ≡ list_any (is_other (map (λ s. s.now) names.now) (given_in matches.now)) (map (λ s. s.now) options.now) }
 {
-    if is_other(matches, names, "INDEX") {
-        return true;
-    }
-    for name in &OPTIONS {
-        if is_other(matches, names, name) {
+    for option in options {
+        if is_other(matches, names, option) {
             return true;
         }
     }
     false
+}
+
+/// Whether something is given that is none of the names. COMMAND always is.
+pub fn has_other(matches: &ArgMatches<'_>, names: &[&str]) -> bool
+    ensures { result ≡ has_other (map (λ s. s.now) names.now) (given_in matches.now) }
+{
+    is_other(matches, names, "INDEX") || has_other_option(matches, names, &OPTIONS)
 }
 
 // The number of an option, from the least to the most; the other where it isn't given.
