@@ -1,5 +1,5 @@
 -- What clap's matches give.
-use Rattle.clap.specs.Words.{Text, first_of, found_of, rows_of}
+use Rattle.clap.specs.Words.{first_of, found_of, rows_of}
 use Rattle.clap.specs.declared.parser.matches.ArgMatches.{ArgMatches}
 use Rattle.job_words.specs.Given.{Given}
 

@@ -48,15 +48,12 @@ fn no_files<Name>() -> FileNames<Name>
 }
 
 // The index alone, which is there.
-fn on_index<Name>(index: Name) -> FileNames<Name>
+fn on_index<Name: Drop>(index: Name) -> FileNames<Name>
     ensures { result ≡ on_index index }
 {
     FileNames {
         index: Some(index),
-        make: false,
-        other: None,
-        log_in: None,
-        log_out: None,
+        ..no_files()
     }
 }
 
@@ -81,7 +78,10 @@ fn files_of<Name: Copy>(job: Job<Name>) -> FileNames<Name>
             ..on_index(index)
         },
         Job::Join {
-            index, other, log, ..
+            index,
+            other,
+            log,
+            ..
         } => FileNames {
             other: Some(other),
             log_out: log,

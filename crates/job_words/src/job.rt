@@ -26,9 +26,14 @@ pub enum Job<Name> {
         show_tags: bool,
     },
     /// `shape`: the tree of the index.
-    Shape { index: Name },
+    Shape {
+        index: Name,
+    },
     /// `audit`: whether the index is sound.
-    Audit { index: Name, workers: usize },
+    Audit {
+        index: Name,
+        workers: usize,
+    },
     /// `verify`: whether a log's pages are those of the file.
     Verify {
         index: Name,
@@ -58,7 +63,10 @@ pub enum Job<Name> {
         workers: usize,
     },
     /// `migrate`: an index made from the older file `other`.
-    Migrate { index: Name, other: Name },
+    Migrate {
+        index: Name,
+        other: Name,
+    },
     /// `batch`: a script of queries on an index that is read into memory.
     Batch {
         index: Name,
@@ -67,7 +75,9 @@ pub enum Job<Name> {
         show_tags: bool,
     },
     /// `seal`: the root digest of the index.
-    Seal { index: Name },
+    Seal {
+        index: Name,
+    },
     /// `proof` with INDEX: the logs of `log`, carried with their pages into `proof`.
     Carry {
         index: Name,
@@ -75,7 +85,10 @@ pub enum Job<Name> {
         proof: Name,
     },
     /// `proof` without INDEX: the carried logs of `log`, against a root digest.
-    Prove { log: Name, root: [u8; 32] },
+    Prove {
+        log: Name,
+        root: [u8; 32],
+    },
 }
 
 /// Why there is no job.

@@ -3,6 +3,7 @@ use crate::{
     places, read_job, reads_as_clap,
 };
 use std::alloc::{AllocError, Global};
+use std::process::Abort;
 use std::test::Fail;
 
 // The words of a line, which stand between single spaces.
@@ -56,8 +57,8 @@ const ROOT: [u8; 32] = [
     38, 39, 40, 41, 48, 255,
 ];
 
-fn check_jobs(
-    rt: &HostRuntime,
+fn check_jobs<R: AllocGlobal + Abort>(
+    rt: &R,
     cases: &[(&str, Option<Job<&str>>)],
 ) -> Result<(), Fail> {
     let alloc = rt.alloc();
@@ -237,10 +238,7 @@ fn rows_are_kept(rt: HostRuntime) -> Result<(), Fail> {
             ("gen a.mt --metric l1 --dim 2 --count 4 --max 9", None),
             ("seal a.mt --log a.log", None),
             ("proof --log a.proof --proof b.proof", None),
-            (
-                "proof a.mt --log a.log --proof a.proof --root 00",
-                None,
-            ),
+            ("proof a.mt --log a.log --proof a.proof --root 00", None),
         ],
     )
 }
@@ -250,12 +248,27 @@ fn values_keep_their_ranges(rt: HostRuntime) -> Result<(), Fail> {
     check_jobs(
         &rt,
         &[
-            ("scan --metric hamming --dim 1", scan_in(MetricName::Hamming, 1)),
+            (
+                "scan --metric hamming --dim 1",
+                scan_in(MetricName::Hamming, 1),
+            ),
             ("scan --metric max --dim 64", scan_in(MetricName::Max, 64)),
-            ("scan --metric kendall --dim 3", scan_in(MetricName::Kendall, 3)),
-            ("scan --metric hausdorff --dim 3", scan_in(MetricName::Hausdorff, 3)),
-            ("scan --metric mixsum --dim 4", scan_in(MetricName::MixSum, 4)),
-            ("scan --metric mixmax --dim 64", scan_in(MetricName::MixMax, 64)),
+            (
+                "scan --metric kendall --dim 3",
+                scan_in(MetricName::Kendall, 3),
+            ),
+            (
+                "scan --metric hausdorff --dim 3",
+                scan_in(MetricName::Hausdorff, 3),
+            ),
+            (
+                "scan --metric mixsum --dim 4",
+                scan_in(MetricName::MixSum, 4),
+            ),
+            (
+                "scan --metric mixmax --dim 64",
+                scan_in(MetricName::MixMax, 64),
+            ),
             ("scan --metric l1cap --dim 5", scan_in(MetricName::L1Cap, 5)),
             ("scan --metric l2 --dim 2", None),
             ("scan --metric L1 --dim 2", None),
@@ -283,7 +296,10 @@ fn values_keep_their_ranges(rt: HostRuntime) -> Result<(), Fail> {
             ("join a.mt --other b.mt --radius 18446744073709551616", None),
             ("gen a.mt --metric l1 --dim 2 --count 0", None),
             ("gen a.mt --metric l1 --dim 2 --count 1048577", None),
-            ("gen a.mt --metric l1 --dim 2 --count 4 --seed 4294967296", None),
+            (
+                "gen a.mt --metric l1 --dim 2 --count 4 --seed 4294967296",
+                None,
+            ),
             ("gen a.mt --metric kendall --dim 2 --count 4", None),
             ("gen a.mt --metric hausdorff --dim 2 --count 4", None),
             (
@@ -373,7 +389,10 @@ const INDEX: FileNames<&str> = FileNames {
 #[test]
 fn jobs_name_their_files(rt: HostRuntime) -> Result<(), Fail> {
     let alloc = rt.alloc();
-    let made = FileNames { make: true, ..INDEX };
+    let made = FileNames {
+        make: true,
+        ..INDEX
+    };
     let cases = [
         ("scan --metric l1 --dim 2", NO_FILES),
         ("create a.mt --metric l1 --dim 2", made),

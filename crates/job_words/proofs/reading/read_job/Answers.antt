@@ -1,6 +1,6 @@
-use Rattle.std.proofs.Common.{◌≡◌, ◌∙◌, inl, inr, sym, ap, subst}
+use Rattle.std.proofs.Common.{◌∙◌, inl, inr, sym, ap, subst}
 use Rattle.clap.specs.Words.{App, IsAmong, fault_of, found_of, is_simple, is_simple_and_free, kind_of, matches_of, rows_of}
-use Rattle.job_words.specs.Words.{texts_of, command_line}
+use Rattle.job_words.specs.Words.{texts_of}
 use Rattle.std.specs.Option.{option_map}
 use Rattle.job_words.specs.Jobs.{texts_in}
 use Rattle.job_words.proofs.JobLemmas.{is_simple_line, is_free_line, job_given, job_refused}
