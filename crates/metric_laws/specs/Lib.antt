@@ -1,0 +1,5 @@
+pub mod Space
+pub mod Pruning
+pub mod Counts
+pub mod Rows
+pub mod Lists

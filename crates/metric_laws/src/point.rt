@@ -1,0 +1,35 @@
+ghost use Rattle.std.specs.Prelude.{◌≡◌, List, ℕ, IfOk};
+
+use crate::Memory;
+use smallvec::SmallVec;
+use std::alloc::Global;
+use std::marker::Model;
+
+/// One list of coordinates. Up to 16 of them stand in the value itself, with no allocation of their own.
+#[derive(Clone, Debug, Drop)]
+pub struct Point {
+    coordinates: SmallVec<u32, 16>,
+}
+
+impl Model for Point {
+    ghost Value = { List ℕ };
+
+    ghost view = { λ p. p.coordinates.items };
+}
+
+impl Point {
+    /// The point with these coordinates.
+    pub fn new(alloc: Global, coordinates: &[u32]) -> Result<Self, Memory>
+        ensures { IfOk result (λ p. p ≡ coordinates.now) }
+    {
+        let coordinates = SmallVec::from_slice(alloc, coordinates)?;
+        Ok(Point { coordinates })
+    }
+
+    /// The coordinates.
+    pub fn as_slice(&self) -> &[u32]
+        ensures { result.now ≡ self.now }
+    {
+        self.coordinates.as_slice()
+    }
+}

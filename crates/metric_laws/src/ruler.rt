@@ -1,0 +1,68 @@
+ghost use Rattle.std.specs.Prelude.{◌≡◌, ◌≤◌, ℕ};
+ghost use Rattle.metric_laws.specs.Counts.{next_count};
+
+use crate::{BOUND, Metric};
+
+/// Measures by its metric and counts the distances. Searches, splits, auditors and verifiers have no other way to
+/// a distance.
+pub trait Ruler {
+    type M: Metric;
+
+    /// The metric by which is measured.
+    ghost metric: { Self → Self.M };
+
+    /// The number of distances so far. It stands still at the end of 64 bits.
+    ghost used: { Self → ℕ };
+
+    /// Whether the list is a point of the metric's space.
+    fn fits(&self, p: &[u32]) -> bool
+        ensures { result ≡ (Self.M.space (metric self.now)).fits p.now };
+
+    /// The distance by the metric.
+    fn dist(&mut self, a: &[u32], b: &[u32]) -> u64
+        ensures value { result ≡ (Self.M.space (metric self.old)).dist a.now b.now }
+        ensures bounded { result ≤ BOUND }
+        ensures counted { used self.new ≡ next_count (used self.old) }
+        ensures same { metric self.new ≡ metric self.old };
+}
+
+/// A metric with a count of the distances that it gave.
+#[derive(Clone, Copy, Debug)]
+pub struct Meter<M: Metric> {
+    metric: M,
+    used: u64,
+}
+
+impl<M: Metric> Meter<M> {
+    /// A meter that has measured nothing.
+    pub fn new(metric: M) -> Self
+        ensures metric { result.metric ≡ metric }
+        ensures used { result.used ≡ 0 }
+    {
+        Meter { metric, used: 0 }
+    }
+
+    /// How many distances were computed, or the greatest `u64`.
+    pub fn used(&self) -> u64
+        ensures { result ≡ self.now.used }
+    {
+        self.used
+    }
+}
+
+impl<M: Metric> Ruler for Meter<M> {
+    type M = M;
+
+    ghost metric = { λ m. m.metric };
+
+    ghost used = { λ m. m.used };
+
+    fn fits(&self, p: &[u32]) -> bool {
+        self.metric.fits(p)
+    }
+
+    fn dist(&mut self, a: &[u32], b: &[u32]) -> u64 {
+        self.used = self.used.saturating_add(1);
+        self.metric.dist(a, b)
+    }
+}

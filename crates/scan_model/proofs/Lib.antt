@@ -1,0 +1,5 @@
+mod OrderedLemmas
+mod ScanLemmas
+mod JoinLemmas
+pub mod RangeLaw
+mod JoinLaw

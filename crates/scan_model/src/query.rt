@@ -1,0 +1,11 @@
+use metric_laws::Point;
+
+/// What is asked of a list of points.
+#[derive(Debug, Drop)]
+pub enum Query {
+    /// Every object within the radius `r` of `q`.
+    Range { q: Point, r: u64 },
+
+    /// The `k` objects nearest to `q`.
+    Nearest { q: Point, k: u64 },
+}
