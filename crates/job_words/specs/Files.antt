@@ -1,0 +1,51 @@
+-- The files that a job works on.
+use Rattle.std.specs.Prelude.{◌≡◌, true, false, Option, Some, None, Result, Ok, Err, ⊤}
+use Rattle.std.specs.Borrow.{Bor}
+use Rattle.std.specs.Option.{option_map}
+use Rattle.clap.specs.Words.{Text}
+use Rattle.job_words.specs.declared.files.FileNames.{FileNames}
+use Rattle.job_words.specs.declared.files.PlacesFault.{PlacesFault}
+use Rattle.job_words.specs.declared.files.PlacesFault.TheVariants.{Usage, Memory}
+use Rattle.job_words.specs.declared.job.Job.{Job}
+use Rattle.job_words.specs.declared.job.Job.TheVariants.{Scan, Create, Session, Shape, Audit, Verify, Check, Join, Gen, Migrate, Batch, Seal, Carry, Prove}
+
+abbrev pub no_files : {Name : Type 0} → FileNames Name
+no_files = record { index = None; make = false; other = None; log_in = None; log_out = None }
+
+-- a file of its own, which is there
+abbrev pub on_index : {Name : Type 0} → Name → FileNames Name
+on_index index = record no_files { index = Some index }
+
+-- the files of a job: `create`, `gen` and `migrate` make INDEX; the log is read by `verify`, `check` and `proof`, and
+-- written by the others; `proof` with INDEX writes its proofs
+abbrev pub files_of : {Name : Type 0} → Job Name → FileNames Name
+files_of (Scan space limit show) = no_files
+files_of (Create index space policies limit) = record (on_index index) { make = true }
+files_of (Session index log workers show) = record (on_index index) { log_out = log }
+files_of (Shape index) = on_index index
+files_of (Audit index workers) = on_index index
+files_of (Verify index log other) = record (on_index index) { other = other; log_in = Some log }
+files_of (Check index log other) = record (on_index index) { other = other; log_in = Some log }
+files_of (Join index other radius log) = record (on_index index) { other = Some other; log_out = log }
+files_of (Gen index space count seed policies workers) = record (on_index index) { make = true }
+files_of (Migrate index other) = record (on_index index) { make = true; other = Some other }
+files_of (Batch index workers log show) = record (on_index index) { log_out = log }
+files_of (Seal index) = on_index index
+files_of (Carry index log proof) = record (on_index index) { log_in = Some log; log_out = Some proof }
+files_of (Prove log root) = record no_files { log_in = Some log }
+
+-- the names' texts
+abbrev pub file_texts : FileNames (Bor Text) → FileNames Text
+file_texts files = record {
+  index = option_map (λ s. s.now) files.index;
+  make = files.make;
+  other = option_map (λ s. s.now) files.other;
+  log_in = option_map (λ s. s.now) files.log_in;
+  log_out = option_map (λ s. s.now) files.log_out;
+}
+
+-- an answer is the files of the job or want of memory; the words are refused only where there is no job
+abbrev pub AnswersFiles : Option (Job Text) → Result (FileNames (Bor Text)) PlacesFault → Type 0
+AnswersFiles job (Ok found) = option_map files_of job ≡ Some (file_texts found)
+AnswersFiles job (Err Usage) = job ≡ None
+AnswersFiles job (Err Memory) = ⊤

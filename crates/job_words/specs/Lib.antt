@@ -1,0 +1,10 @@
+pub mod Numbers
+pub mod Words
+pub mod Read
+pub mod Law
+pub mod Names
+pub mod Given
+pub mod Found
+pub mod Rows
+pub mod Jobs
+pub mod Files

@@ -1,0 +1,148 @@
+-- The rows of the table of commands: what each command requires, and what it may be given besides.
+use Rattle.std.specs.Prelude.{ℕ, Bool, List, [], ◌∷◌, codes, Option, Some, None, if◌then◌else◌}
+use Rattle.clap.specs.Words.{Text}
+use Rattle.job_words.specs.Given.{Given, has_other, count_given, generated_space_given, limit_given, policies_given, radius_given, root_given, seed_given, show_given, space_given, workers_given}
+use Rattle.job_words.specs.declared.job.Job.{Job}
+use Rattle.job_words.specs.declared.job.Job.TheVariants as job
+use Rattle.job_words.specs.declared.names.SpaceName.{SpaceName}
+use Rattle.job_words.specs.declared.names.PolicyNames.{PolicyNames}
+
+-- nothing but these names is given
+abbrev pub only : List Text → Given → Option (Job Text) → Option (Job Text)
+only names given job = if has_other names given then None else job
+
+-- `scan --metric --dim`, and perhaps `--max`, `--tags`
+abbrev pub scan_of : Option SpaceName → Option ℕ → Option Bool → Option (Job Text)
+scan_of (Some space) (Some limit) (Some show) = Some (job.Scan space limit show)
+scan_of _ _ _ = None
+
+abbrev pub scan_in : Given → Option (Job Text)
+scan_in given =
+    only (codes "metric" ∷ codes "dim" ∷ codes "max" ∷ codes "tags" ∷ []) given
+    (scan_of (space_given given) (limit_given given) (show_given given))
+
+-- `create INDEX --metric --dim`, and perhaps `--promote`, `--split`, `--max`
+abbrev pub create_of : Option Text → Option SpaceName → Option PolicyNames → Option ℕ → Option (Job Text)
+create_of (Some index) (Some space) (Some policies) (Some limit) = Some (job.Create index space policies limit)
+create_of _ _ _ _ = None
+
+abbrev pub create_in : Given → Option (Job Text)
+create_in given =
+    only (codes "INDEX" ∷ codes "metric" ∷ codes "dim" ∷ codes "promote" ∷ codes "split" ∷ codes "max" ∷ []) given
+    (create_of (given (codes "INDEX")) (space_given given) (policies_given given) (limit_given given))
+
+-- `session INDEX`, and perhaps `--log`, `--workers`, `--tags`
+abbrev pub session_of : Option Text → Option Text → Option ℕ → Option Bool → Option (Job Text)
+session_of (Some index) log (Some workers) (Some show) = Some (job.Session index log workers show)
+session_of _ _ _ _ = None
+
+abbrev pub session_in : Given → Option (Job Text)
+session_in given =
+    only (codes "INDEX" ∷ codes "log" ∷ codes "workers" ∷ codes "tags" ∷ []) given
+    (session_of (given (codes "INDEX")) (given (codes "log")) (workers_given given) (show_given given))
+
+-- `shape INDEX`
+abbrev pub shape_of : Option Text → Option (Job Text)
+shape_of (Some index) = Some (job.Shape index)
+shape_of None = None
+
+abbrev pub shape_in : Given → Option (Job Text)
+shape_in given = only (codes "INDEX" ∷ []) given (shape_of (given (codes "INDEX")))
+
+-- `audit INDEX`, and perhaps `--workers`
+abbrev pub audit_of : Option Text → Option ℕ → Option (Job Text)
+audit_of (Some index) (Some workers) = Some (job.Audit index workers)
+audit_of _ _ = None
+
+abbrev pub audit_in : Given → Option (Job Text)
+audit_in given =
+    only (codes "INDEX" ∷ codes "workers" ∷ []) given
+    (audit_of (given (codes "INDEX")) (workers_given given))
+
+-- `verify INDEX --log`, and perhaps `--other`
+abbrev pub verify_of : Option Text → Option Text → Option Text → Option (Job Text)
+verify_of (Some index) (Some log) other = Some (job.Verify index log other)
+verify_of _ _ _ = None
+
+abbrev pub verify_in : Given → Option (Job Text)
+verify_in given =
+    only (codes "INDEX" ∷ codes "log" ∷ codes "other" ∷ []) given
+    (verify_of (given (codes "INDEX")) (given (codes "log")) (given (codes "other")))
+
+-- `check INDEX --log`, and perhaps `--other`
+abbrev pub check_of : Option Text → Option Text → Option Text → Option (Job Text)
+check_of (Some index) (Some log) other = Some (job.Check index log other)
+check_of _ _ _ = None
+
+abbrev pub check_in : Given → Option (Job Text)
+check_in given =
+    only (codes "INDEX" ∷ codes "log" ∷ codes "other" ∷ []) given
+    (check_of (given (codes "INDEX")) (given (codes "log")) (given (codes "other")))
+
+-- `join INDEX --other --radius`, and perhaps `--log`
+abbrev pub join_of : Option Text → Option Text → Option ℕ → Option Text → Option (Job Text)
+join_of (Some index) (Some other) (Some radius) log = Some (job.Join index other radius log)
+join_of _ _ _ _ = None
+
+abbrev pub join_in : Given → Option (Job Text)
+join_in given =
+    only (codes "INDEX" ∷ codes "other" ∷ codes "radius" ∷ codes "log" ∷ []) given
+    (join_of (given (codes "INDEX")) (given (codes "other")) (radius_given given) (given (codes "log")))
+
+-- `gen INDEX --metric --dim --count`, and perhaps `--seed`, `--promote`, `--split`, `--workers`
+abbrev pub gen_of : Option Text → Option SpaceName → Option ℕ → Option ℕ → Option PolicyNames → Option ℕ → Option (Job Text)
+gen_of (Some index) (Some space) (Some count) (Some seed) (Some policies) (Some workers) = Some (job.Gen index space count seed policies workers)
+gen_of _ _ _ _ _ _ = None
+
+abbrev pub gen_in : Given → Option (Job Text)
+gen_in given =
+    only (codes "INDEX" ∷ codes "metric" ∷ codes "dim" ∷ codes "count" ∷ codes "seed" ∷ codes "promote" ∷ codes "split" ∷ codes "workers" ∷ []) given
+    (gen_of (given (codes "INDEX")) (generated_space_given given) (count_given given) (seed_given given) (policies_given given) (workers_given given))
+
+-- `migrate INDEX --other`
+abbrev pub migrate_of : Option Text → Option Text → Option (Job Text)
+migrate_of (Some index) (Some other) = Some (job.Migrate index other)
+migrate_of _ _ = None
+
+abbrev pub migrate_in : Given → Option (Job Text)
+migrate_in given =
+    only (codes "INDEX" ∷ codes "other" ∷ []) given
+    (migrate_of (given (codes "INDEX")) (given (codes "other")))
+
+-- `batch INDEX`, and perhaps `--workers`, `--log`, `--tags`
+abbrev pub batch_of : Option Text → Option ℕ → Option Text → Option Bool → Option (Job Text)
+batch_of (Some index) (Some workers) log (Some show) = Some (job.Batch index workers log show)
+batch_of _ _ _ _ = None
+
+abbrev pub batch_in : Given → Option (Job Text)
+batch_in given =
+    only (codes "INDEX" ∷ codes "workers" ∷ codes "log" ∷ codes "tags" ∷ []) given
+    (batch_of (given (codes "INDEX")) (workers_given given) (given (codes "log")) (show_given given))
+
+-- `seal INDEX`
+abbrev pub seal_of : Option Text → Option (Job Text)
+seal_of (Some index) = Some (job.Seal index)
+seal_of None = None
+
+abbrev pub seal_in : Given → Option (Job Text)
+seal_in given = only (codes "INDEX" ∷ []) given (seal_of (given (codes "INDEX")))
+
+-- `proof INDEX --log --proof`
+abbrev pub carry_of : Option Text → Option Text → Option Text → Option (Job Text)
+carry_of (Some index) (Some log) (Some proof) = Some (job.Carry index log proof)
+carry_of _ _ _ = None
+
+abbrev pub carry_in : Given → Option (Job Text)
+carry_in given =
+    only (codes "INDEX" ∷ codes "log" ∷ codes "proof" ∷ []) given
+    (carry_of (given (codes "INDEX")) (given (codes "log")) (given (codes "proof")))
+
+-- `proof --log --root`
+abbrev pub prove_of : Option Text → Option (List ℕ) → Option (Job Text)
+prove_of (Some log) (Some root) = Some (job.Prove log root)
+prove_of _ _ = None
+
+abbrev pub prove_in : Given → Option (Job Text)
+prove_in given =
+    only (codes "log" ∷ codes "root" ∷ []) given
+    (prove_of (given (codes "log")) (root_given given))

@@ -1,0 +1,103 @@
+use crate::names::{PolicyNames, SpaceName};
+use thiserror::Error;
+
+/// What the words ask for: a variant for each row of the table of commands, with the values of its words and the
+/// values that hold where a word isn't given. `Name` is what names a file.
+#[derive(Clone, Copy, Debug, PartialEq, Eq)]
+pub enum Job<Name> {
+    /// `scan`: a script on a plain list of at most `limit` objects.
+    Scan {
+        space: SpaceName,
+        limit: u32,
+        show_tags: bool,
+    },
+    /// `create`: an empty index for at most `limit` objects.
+    Create {
+        index: Name,
+        space: SpaceName,
+        policies: PolicyNames,
+        limit: u32,
+    },
+    /// `session`: a script on the index.
+    Session {
+        index: Name,
+        log: Option<Name>,
+        workers: usize,
+        show_tags: bool,
+    },
+    /// `shape`: the tree of the index.
+    Shape {
+        index: Name,
+    },
+    /// `audit`: whether the index is sound.
+    Audit {
+        index: Name,
+        workers: usize,
+    },
+    /// `verify`: whether a log's pages are those of the file.
+    Verify {
+        index: Name,
+        log: Name,
+        other: Option<Name>,
+    },
+    /// `check`: whether a log's answers are complete.
+    Check {
+        index: Name,
+        log: Name,
+        other: Option<Name>,
+    },
+    /// `join`: the pairs of two indexes that lie within the radius.
+    Join {
+        index: Name,
+        other: Name,
+        radius: u64,
+        log: Option<Name>,
+    },
+    /// `gen`: an index of `count` generated objects.
+    Gen {
+        index: Name,
+        space: SpaceName,
+        count: u32,
+        seed: u32,
+        policies: PolicyNames,
+        workers: usize,
+    },
+    /// `migrate`: an index made from the older file `other`.
+    Migrate {
+        index: Name,
+        other: Name,
+    },
+    /// `batch`: a script of queries on an index that is read into memory.
+    Batch {
+        index: Name,
+        workers: usize,
+        log: Option<Name>,
+        show_tags: bool,
+    },
+    /// `seal`: the root digest of the index.
+    Seal {
+        index: Name,
+    },
+    /// `proof` with INDEX: the logs of `log`, carried with their pages into `proof`.
+    Carry {
+        index: Name,
+        log: Name,
+        proof: Name,
+    },
+    /// `proof` without INDEX: the carried logs of `log`, against a root digest.
+    Prove {
+        log: Name,
+        root: [u8; 32],
+    },
+}
+
+/// Why there is no job.
+#[derive(Clone, Copy, Debug, PartialEq, Eq, Error)]
+pub enum JobFault {
+    /// The words are no job.
+    #[error("usage: mtree COMMAND INDEX [options]")]
+    Usage,
+    /// There was no memory to read them.
+    #[error("out of memory")]
+    Memory,
+}

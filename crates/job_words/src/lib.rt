@@ -1,0 +1,24 @@
+//! What the words of the command line ask for.
+//!
+//! The words are those after the program's name. [`read_job`] reads them with `clap` and answers the job, and
+//! [`places`] answers the files that the job works on.
+#![tactic(auto)]
+
+mod command_line;
+mod files;
+mod job;
+mod law;
+mod names;
+mod number;
+mod reading;
+mod rows;
+mod values;
+
+pub use files::{FileNames, PlacesFault, places};
+pub use job::{Job, JobFault};
+pub use law::reads_as_clap;
+pub use names::{MetricName, PolicyNames, Promote, SpaceName, Split};
+pub use reading::read_job;
+
+#[cfg(test)]
+mod tests;

@@ -1,0 +1,63 @@
+ghost use Rattle.std.specs.Prelude.{◌≡◌};
+ghost use Rattle.std.specs.Option.{option_map};
+ghost use Rattle.job_words.specs.Found.{given_in};
+ghost use Rattle.job_words.specs.Jobs.{AnswersJob, job_in, job_named, job_of, texts_in};
+ghost use Rattle.job_words.specs.Words.{texts_of};
+
+use crate::command_line::command_line;
+use crate::job::{Job, JobFault};
+use crate::rows;
+use crate::values::value;
+use clap::ArgMatches;
+use clap::error::ErrorKind;
+use std::alloc::Global;
+
+// The job of a command, where its row holds.
+fn job_named<'a>(matches: &ArgMatches<'a>, command: &str) -> Option<Job<&'a str>>
+    ensures { option_map texts_in result ≡ job_named (given_in matches.now) command.now }
+{
+    match command {
+        "scan" => rows::scan(matches),
+        "create" => rows::create(matches),
+        "session" => rows::session(matches),
+        "shape" => rows::shape(matches),
+        "audit" => rows::audit(matches),
+        "verify" => rows::verify(matches),
+        "check" => rows::check(matches),
+        "join" => rows::join(matches),
+        "gen" => rows::generate(matches),
+        "migrate" => rows::migrate(matches),
+        "batch" => rows::batch(matches),
+        "seal" => rows::seal(matches),
+        "proof" => rows::proof(matches),
+        _ => None,
+    }
+}
+
+// The job of what the words give.
+fn job_from<'a>(matches: &ArgMatches<'a>) -> Option<Job<&'a str>>
+    ensures { option_map texts_in result ≡ job_in (given_in matches.now) }
+{
+    job_named(matches, value(matches, "COMMAND")?)
+}
+
+/// The job of the words after the program's name.
+///
+/// [`JobFault::Usage`] comes only where the words are no job, and nothing but want of memory comes beside it there.
+pub fn read_job(alloc: Global, words: &[String]) -> Result<Job<&str>, JobFault>
+    ensures { AnswersJob (job_of (texts_of words.now)) result }
+{
+    let Ok(command) = command_line(alloc) else {
+        return Err(JobFault::Memory);
+    };
+    match command.try_get_matches_from(words) {
+        Ok(matches) => match job_from(&matches) {
+            Some(job) => Ok(job),
+            None => Err(JobFault::Usage),
+        },
+        Err(error) => match error.kind() {
+            ErrorKind::OutOfMemory => Err(JobFault::Memory),
+            _ => Err(JobFault::Usage),
+        },
+    }
+}

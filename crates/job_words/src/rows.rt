@@ -1,0 +1,227 @@
+ghost use Rattle.std.specs.Prelude.{◌≡◌};
+ghost use Rattle.std.specs.Option.{option_map};
+ghost use Rattle.job_words.specs.Found.{given_in};
+ghost use Rattle.job_words.specs.Jobs.{proof_in, texts_in};
+ghost use Rattle.job_words.specs.Rows.{audit_in, batch_in, carry_in, check_in, create_in, gen_in, join_in, migrate_in, prove_in, scan_in, seal_in, session_in, shape_in, verify_in};
+
+use crate::job::Job;
+use crate::values::{
+    count_in, generated_space_in, has_other, limit_in, policies_in, radius_in, root_in, seed_in,
+    show_tags_in, space_in, value, workers_in,
+};
+use clap::ArgMatches;
+
+/// The row of `scan`.
+pub fn scan<'a>(matches: &ArgMatches<'a>) -> Option<Job<&'a str>>
+    ensures { option_map texts_in result ≡ scan_in (given_in matches.now) }
+{
+    if has_other(matches, &["metric", "dim", "max", "tags"]) {
+        return None;
+    }
+    Some(Job::Scan {
+        space: space_in(matches)?,
+        limit: limit_in(matches)?,
+        show_tags: show_tags_in(matches)?,
+    })
+}
+
+/// The row of `create`.
+pub fn create<'a>(matches: &ArgMatches<'a>) -> Option<Job<&'a str>>
+    ensures { option_map texts_in result ≡ create_in (given_in matches.now) }
+{
+    if has_other(
+        matches,
+        &["INDEX", "metric", "dim", "promote", "split", "max"],
+    ) {
+        return None;
+    }
+    Some(Job::Create {
+        index: value(matches, "INDEX")?,
+        space: space_in(matches)?,
+        policies: policies_in(matches)?,
+        limit: limit_in(matches)?,
+    })
+}
+
+/// The row of `session`.
+pub fn session<'a>(matches: &ArgMatches<'a>) -> Option<Job<&'a str>>
+    ensures { option_map texts_in result ≡ session_in (given_in matches.now) }
+{
+    if has_other(matches, &["INDEX", "log", "workers", "tags"]) {
+        return None;
+    }
+    Some(Job::Session {
+        index: value(matches, "INDEX")?,
+        log: value(matches, "log"),
+        workers: workers_in(matches)?,
+        show_tags: show_tags_in(matches)?,
+    })
+}
+
+/// The row of `shape`.
+pub fn shape<'a>(matches: &ArgMatches<'a>) -> Option<Job<&'a str>>
+    ensures { option_map texts_in result ≡ shape_in (given_in matches.now) }
+{
+    if has_other(matches, &["INDEX"]) {
+        return None;
+    }
+    Some(Job::Shape {
+        index: value(matches, "INDEX")?,
+    })
+}
+
+/// The row of `audit`.
+pub fn audit<'a>(matches: &ArgMatches<'a>) -> Option<Job<&'a str>>
+    ensures { option_map texts_in result ≡ audit_in (given_in matches.now) }
+{
+    if has_other(matches, &["INDEX", "workers"]) {
+        return None;
+    }
+    Some(Job::Audit {
+        index: value(matches, "INDEX")?,
+        workers: workers_in(matches)?,
+    })
+}
+
+/// The row of `verify`.
+pub fn verify<'a>(matches: &ArgMatches<'a>) -> Option<Job<&'a str>>
+    ensures { option_map texts_in result ≡ verify_in (given_in matches.now) }
+{
+    if has_other(matches, &["INDEX", "log", "other"]) {
+        return None;
+    }
+    Some(Job::Verify {
+        index: value(matches, "INDEX")?,
+        log: value(matches, "log")?,
+        other: value(matches, "other"),
+    })
+}
+
+/// The row of `check`.
+pub fn check<'a>(matches: &ArgMatches<'a>) -> Option<Job<&'a str>>
+    ensures { option_map texts_in result ≡ check_in (given_in matches.now) }
+{
+    if has_other(matches, &["INDEX", "log", "other"]) {
+        return None;
+    }
+    Some(Job::Check {
+        index: value(matches, "INDEX")?,
+        log: value(matches, "log")?,
+        other: value(matches, "other"),
+    })
+}
+
+/// The row of `join`.
+pub fn join<'a>(matches: &ArgMatches<'a>) -> Option<Job<&'a str>>
+    ensures { option_map texts_in result ≡ join_in (given_in matches.now) }
+{
+    if has_other(matches, &["INDEX", "other", "radius", "log"]) {
+        return None;
+    }
+    Some(Job::Join {
+        index: value(matches, "INDEX")?,
+        other: value(matches, "other")?,
+        radius: radius_in(matches)?,
+        log: value(matches, "log"),
+    })
+}
+
+/// The row of `gen`.
+pub fn generate<'a>(matches: &ArgMatches<'a>) -> Option<Job<&'a str>>
+    ensures { option_map texts_in result ≡ gen_in (given_in matches.now) }
+{
+    if has_other(
+        matches,
+        &[
+            "INDEX", "metric", "dim", "count", "seed", "promote", "split", "workers",
+        ],
+    ) {
+        return None;
+    }
+    Some(Job::Gen {
+        index: value(matches, "INDEX")?,
+        space: generated_space_in(matches)?,
+        count: count_in(matches)?,
+        seed: seed_in(matches)?,
+        policies: policies_in(matches)?,
+        workers: workers_in(matches)?,
+    })
+}
+
+/// The row of `migrate`.
+pub fn migrate<'a>(matches: &ArgMatches<'a>) -> Option<Job<&'a str>>
+    ensures { option_map texts_in result ≡ migrate_in (given_in matches.now) }
+{
+    if has_other(matches, &["INDEX", "other"]) {
+        return None;
+    }
+    Some(Job::Migrate {
+        index: value(matches, "INDEX")?,
+        other: value(matches, "other")?,
+    })
+}
+
+/// The row of `batch`.
+pub fn batch<'a>(matches: &ArgMatches<'a>) -> Option<Job<&'a str>>
+    ensures { option_map texts_in result ≡ batch_in (given_in matches.now) }
+{
+    if has_other(matches, &["INDEX", "workers", "log", "tags"]) {
+        return None;
+    }
+    Some(Job::Batch {
+        index: value(matches, "INDEX")?,
+        workers: workers_in(matches)?,
+        log: value(matches, "log"),
+        show_tags: show_tags_in(matches)?,
+    })
+}
+
+/// The row of `seal`.
+pub fn seal<'a>(matches: &ArgMatches<'a>) -> Option<Job<&'a str>>
+    ensures { option_map texts_in result ≡ seal_in (given_in matches.now) }
+{
+    if has_other(matches, &["INDEX"]) {
+        return None;
+    }
+    Some(Job::Seal {
+        index: value(matches, "INDEX")?,
+    })
+}
+
+// The row of `proof` with INDEX.
+fn carry<'a>(matches: &ArgMatches<'a>) -> Option<Job<&'a str>>
+    ensures { option_map texts_in result ≡ carry_in (given_in matches.now) }
+{
+    if has_other(matches, &["INDEX", "log", "proof"]) {
+        return None;
+    }
+    Some(Job::Carry {
+        index: value(matches, "INDEX")?,
+        log: value(matches, "log")?,
+        proof: value(matches, "proof")?,
+    })
+}
+
+// The row of `proof` without INDEX.
+fn prove<'a>(matches: &ArgMatches<'a>) -> Option<Job<&'a str>>
+    ensures { option_map texts_in result ≡ prove_in (given_in matches.now) }
+{
+    if has_other(matches, &["log", "root"]) {
+        return None;
+    }
+    Some(Job::Prove {
+        log: value(matches, "log")?,
+        root: root_in(matches)?,
+    })
+}
+
+/// The rows of `proof`.
+pub fn proof<'a>(matches: &ArgMatches<'a>) -> Option<Job<&'a str>>
+    ensures { option_map texts_in result ≡ proof_in (given_in matches.now) }
+{
+    if value(matches, "INDEX").is_some() {
+        carry(matches)
+    } else {
+        prove(matches)
+    }
+}

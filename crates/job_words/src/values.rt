@@ -1,0 +1,225 @@
+ghost use Rattle.std.specs.Prelude.{◌≡◌, ◌≤◌, map, option_map, IfSome};
+ghost use Rattle.std.specs.List.{list_any};
+ghost use Rattle.std.specs.Str.{bytes_eq};
+ghost use Rattle.job_words.specs.Found.{given_in};
+ghost use Rattle.job_words.specs.Given.{is_other, has_other, number_given, limit_given, workers_given, count_given, seed_given, radius_given, show_given, space_given, generated_space_given, policies_given, digest_of, root_given, promote_or, split_or, is_lower_digit};
+ghost use Rattle.job_words.specs.Names.{is_halved, is_generated};
+
+use crate::command_line::OPTIONS;
+use crate::names::{
+    MetricName, PolicyNames, Promote, SpaceName, Split, metric_named, promote_named, split_named,
+};
+use crate::number::number;
+use clap::ArgMatches;
+use hex::FromHex;
+
+/// The value of an option or a positional.
+pub fn value<'a>(matches: &ArgMatches<'a>, name: &str) -> Option<&'a str>
+    ensures { option_map (λ s. s.now) result ≡ given_in matches.now name.now }
+{
+    matches.get_str(name)
+}
+
+// Whether a name is one of these.
+fn is_among(name: &str, names: &[&str]) -> bool
+    ensures { result ≡ list_any (bytes_eq name.now) (map (λ s. s.now) names.now) }
+{
+    for other in names {
+        if name == *other {
+            return true;
+        }
+    }
+    false
+}
+
+// Whether this is given, and is none of the names.
+fn is_other(matches: &ArgMatches<'_>, names: &[&str], name: &str) -> bool
+    ensures { result ≡ is_other (map (λ s. s.now) names.now) (given_in matches.now) name.now }
+{
+    value(matches, name).is_some() && !is_among(name, names)
+}
+
+// Whether one of these options is given, and is none of the names.
+fn has_other_option(matches: &ArgMatches<'_>, names: &[&str], options: &[&str]) -> bool
+    ensures { result
+        ≡ list_any (is_other (map (λ s. s.now) names.now) (given_in matches.now)) (map (λ s. s.now) options.now) }
+{
+    for option in options {
+        if is_other(matches, names, option) {
+            return true;
+        }
+    }
+    false
+}
+
+/// Whether something is given that is none of the names. COMMAND always is.
+pub fn has_other(matches: &ArgMatches<'_>, names: &[&str]) -> bool
+    ensures { result ≡ has_other (map (λ s. s.now) names.now) (given_in matches.now) }
+{
+    is_other(matches, names, "INDEX") || has_other_option(matches, names, &OPTIONS)
+}
+
+// The number of an option, from the least to the most; the other where it isn't given.
+fn number_in(
+    matches: &ArgMatches<'_>,
+    name: &str,
+    least: u64,
+    most: u64,
+    other: Option<u64>,
+) -> Option<u64>
+    ensures value { result ≡ number_given name.now least most other (given_in matches.now) }
+    ensures within { IfSome other (λ n. n ≤ most) → IfSome result (λ n. n ≤ most) }
+{
+    let Some(text) = value(matches, name) else {
+        return other;
+    };
+    let n = number(text.as_bytes())?;
+    if n < least || n > most {
+        return None;
+    }
+    Some(n)
+}
+
+/// The most objects, `--max`.
+pub fn limit_in(matches: &ArgMatches<'_>) -> Option<u32>
+    ensures { result ≡ limit_given (given_in matches.now) }
+{
+    let limit = number_in(matches, "max", 1, 16777216, Some(16777216))?;
+    Some(limit as u32)
+}
+
+/// The number of threads, `--workers`.
+pub fn workers_in(matches: &ArgMatches<'_>) -> Option<usize>
+    ensures { result ≡ workers_given (given_in matches.now) }
+{
+    let workers = number_in(matches, "workers", 1, 64, Some(1))?;
+    Some(workers as usize)
+}
+
+/// How many objects are generated, `--count`.
+pub fn count_in(matches: &ArgMatches<'_>) -> Option<u32>
+    ensures { result ≡ count_given (given_in matches.now) }
+{
+    let count = number_in(matches, "count", 1, 1048576, None)?;
+    Some(count as u32)
+}
+
+/// The generator's seed, `--seed`.
+pub fn seed_in(matches: &ArgMatches<'_>) -> Option<u32>
+    ensures { result ≡ seed_given (given_in matches.now) }
+{
+    let seed = number_in(matches, "seed", 0, 4294967295, Some(0))?;
+    Some(seed as u32)
+}
+
+/// The radius of a join, `--radius`.
+pub fn radius_in(matches: &ArgMatches<'_>) -> Option<u64>
+    ensures { result ≡ radius_given (given_in matches.now) }
+{
+    number_in(matches, "radius", 0, u64::MAX, None)
+}
+
+/// Whether `--tags` is `show`.
+pub fn show_tags_in(matches: &ArgMatches<'_>) -> Option<bool>
+    ensures { result ≡ show_given (given_in matches.now) }
+{
+    match value(matches, "tags") {
+        None => Some(false),
+        Some("hide") => Some(false),
+        Some("show") => Some(true),
+        Some(_) => None,
+    }
+}
+
+// Whether a metric cuts a point into two halves.
+fn is_halved(metric: MetricName) -> bool
+    ensures { result ≡ is_halved metric }
+{
+    matches!(metric, MetricName::MixSum | MetricName::MixMax)
+}
+
+/// The space of `--metric` and `--dim`.
+pub fn space_in(matches: &ArgMatches<'_>) -> Option<SpaceName>
+    ensures { result ≡ space_given (given_in matches.now) }
+{
+    let metric = metric_named(value(matches, "metric")?)?;
+    let dim = number_in(matches, "dim", 1, 64, None)? as u8;
+    if is_halved(metric) && dim % 2 == 1 {
+        return None;
+    }
+    Some(SpaceName { metric, dim })
+}
+
+// Whether the generator makes points of a metric.
+fn is_generated(metric: MetricName) -> bool
+    ensures { result ≡ is_generated metric }
+{
+    !matches!(metric, MetricName::Kendall | MetricName::Hausdorff)
+}
+
+/// The space of `--metric` and `--dim`, where the generator makes its points.
+pub fn generated_space_in(matches: &ArgMatches<'_>) -> Option<SpaceName>
+    ensures { result ≡ generated_space_given (given_in matches.now) }
+{
+    let space = space_in(matches)?;
+    if !is_generated(space.metric) {
+        return None;
+    }
+    Some(space)
+}
+
+// The promotion policy of a name; the usual one where there is none.
+fn promote_or(text: Option<&str>) -> Option<Promote>
+    ensures { result ≡ promote_or (option_map (λ s. s.now) text.entry) }
+{
+    match text {
+        None => Some(Promote::Mmrad),
+        Some(text) => promote_named(text),
+    }
+}
+
+// The partition policy of a name; the usual one where there is none.
+fn split_or(text: Option<&str>) -> Option<Split>
+    ensures { result ≡ split_or (option_map (λ s. s.now) text.entry) }
+{
+    match text {
+        None => Some(Split::Hyperplane),
+        Some(text) => split_named(text),
+    }
+}
+
+/// The policies of `--promote` and `--split`.
+pub fn policies_in(matches: &ArgMatches<'_>) -> Option<PolicyNames>
+    ensures { result ≡ policies_given (given_in matches.now) }
+{
+    Some(PolicyNames {
+        promote: promote_or(value(matches, "promote"))?,
+        split: split_or(value(matches, "split"))?,
+    })
+}
+
+// Whether a byte is a hexadecimal digit in lower case.
+fn is_lower_digit(byte: u8) -> bool
+    ensures { result ≡ is_lower_digit byte }
+{
+    matches!(byte, b'0'..=b'9' | b'a'..=b'f')
+}
+
+// The bytes of 64 hexadecimal digits in lower case.
+fn digest(text: &str) -> Option<[u8; 32]>
+    ensures { result ≡ digest_of text.now }
+{
+    for &byte in text.as_bytes() {
+        if !is_lower_digit(byte) {
+            return None;
+        }
+    }
+    <[u8; 32] as FromHex>::from_hex(text).ok()
+}
+
+/// The root digest of `--root`.
+pub fn root_in(matches: &ArgMatches<'_>) -> Option<[u8; 32]>
+    ensures { result ≡ root_given (given_in matches.now) }
+{
+    digest(value(matches, "root")?)
+}
