@@ -63,10 +63,15 @@ hamming_axioms dim some few = record {
   symmetric = λ a b fa fb. omega (arith, hamming_is a b, hamming_is b a, total_symmetric differs differs_is a b);
   zero_same = λ a fa. omega (arith, hamming_is a a, total_same differs differs_is a);
   same_zero = λ a b fa fb none.
-    total_apart differs differs_is a b (vector_long dim a fa ∙ sym (vector_long dim b fb)) (omega (arith, hamming_is a b));
+      total_apart differs differs_is a b (vector_long dim a fa ∙ sym (vector_long dim b fb)) (omega (arith, hamming_is a b));
   triangle = λ a b c fa fb fc.
-    omega (arith, hamming_is a c, hamming_is a b, hamming_is b c,
-      total_triangle differs differs_is a b c (vector_long dim a fa ∙ sym (vector_long dim b fb)) (vector_long dim b fb ∙ sym (vector_long dim c fc)));
+      omega (
+        arith,
+        hamming_is a c,
+        hamming_is a b,
+        hamming_is b c,
+        total_triangle differs differs_is a b c (vector_long dim a fa ∙ sym (vector_long dim b fb)) (vector_long dim b fb ∙ sym (vector_long dim c fc)),
+      );
   bounded = λ a b fa fb. omega arith;
 }
 
@@ -79,10 +84,15 @@ l1_axioms dim some few = record {
   symmetric = λ a b fa fb. omega (arith, l1_is a b, l1_is b a, total_symmetric gap gap_is a b);
   zero_same = λ a fa. omega (arith, l1_is a a, total_same gap gap_is a);
   same_zero = λ a b fa fb none.
-    total_apart gap gap_is a b (vector_long dim a fa ∙ sym (vector_long dim b fb)) (omega (arith, l1_is a b));
+      total_apart gap gap_is a b (vector_long dim a fa ∙ sym (vector_long dim b fb)) (omega (arith, l1_is a b));
   triangle = λ a b c fa fb fc.
-    omega (arith, l1_is a c, l1_is a b, l1_is b c,
-      total_triangle gap gap_is a b c (vector_long dim a fa ∙ sym (vector_long dim b fb)) (vector_long dim b fb ∙ sym (vector_long dim c fc)));
+      omega (
+        arith,
+        l1_is a c,
+        l1_is a b,
+        l1_is b c,
+        total_triangle gap gap_is a b c (vector_long dim a fa ∙ sym (vector_long dim b fb)) (vector_long dim b fb ∙ sym (vector_long dim c fc)),
+      );
   bounded = λ a b fa fb. omega arith;
 }
 
@@ -96,7 +106,7 @@ max_axioms dim some few = record {
   zero_same = λ a fa. max_same a;
   same_zero = λ a b fa fb none. max_apart a b (vector_long dim a fa ∙ sym (vector_long dim b fb)) none;
   triangle = λ a b c fa fb fc.
-    max_triangle a b c (vector_long dim a fa ∙ sym (vector_long dim b fb)) (vector_long dim b fb ∙ sym (vector_long dim c fc));
+      max_triangle a b c (vector_long dim a fa ∙ sym (vector_long dim b fb)) (vector_long dim b fb ∙ sym (vector_long dim c fc));
   bounded = λ a b fa fb.
-    omega (arith, max_bounded a b (and_parts _ _ fa).1 (and_parts _ _ fb).1);
+      omega (arith, max_bounded a b (and_parts _ _ fa).1 (and_parts _ _ fb).1);
 }

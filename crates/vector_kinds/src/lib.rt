@@ -11,3 +11,6 @@ pub use hamming::Hamming;
 pub use l1::L1;
 pub use max::Max;
 pub use space::{Space, SpaceFault};
+
+#[cfg(test)]
+mod tests;
