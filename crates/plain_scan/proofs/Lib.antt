@@ -1,3 +1,4 @@
 mod Numbers
 mod Closing
 mod Mapped
+pub mod WrittenLemmas

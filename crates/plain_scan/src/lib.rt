@@ -4,8 +4,10 @@
 mod cursor;
 mod list;
 mod points;
+mod session;
 
 pub use list::PlainList;
+pub use session::{Scan, Stop, run_script};
 
 /// Want of memory.
 pub type Memory = std::alloc::AllocError;
