@@ -1,1 +1,2 @@
 mod RunSteps
+mod Kept

@@ -162,3 +162,15 @@ RunIsItsSteps =
     (setting : Setting) (state : State) (first second : List Command) →
     (replies setting state (first ++ second) ≡ replies setting state first ++ replies setting (after setting state first) second)
     × (after setting state (first ++ second) ≡ after setting (after setting state first) second)
+
+-- a reply with hits has a tag for each
+abbrev pub TagsAre : Reply → Type 0
+TagsAre (reply.Hits hits tags) = length tags ≡ length hits
+TagsAre (reply.Next hits tags) = length tags ≡ length hits
+TagsAre (reply.Id id) = Unit {0}
+TagsAre (reply.Loaded count) = Unit {0}
+TagsAre (reply.Pairs pairs) = Unit {0}
+TagsAre (reply.Count count) = Unit {0}
+TagsAre (reply.Refused why) = Unit {0}
+TagsAre (reply.Cursor number) = Unit {0}
+TagsAre (reply.Closed number) = Unit {0}

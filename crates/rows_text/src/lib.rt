@@ -5,10 +5,12 @@ mod command;
 pub mod laws;
 mod refusal;
 mod reply;
+mod text;
 
 pub use command::Command;
 pub use refusal::Refusal;
 pub use reply::Reply;
+pub use text::{query_text, reply_text};
 
 /// Want of memory.
 pub type Memory = std::alloc::AllocError;
