@@ -67,7 +67,8 @@ impl OpenCursor {
 
     /// Their tags.
     pub fn next_tags(&self, alloc: Global, n: u64) -> Result<Vec<u64>, Memory>
-        ensures { IfOk result (λ tags. tags.items ≡ take n self.now.tags) }
+        ensures tags { IfOk result (λ tags. tags.items ≡ take n self.now.tags) }
+        ensures count { IfOk result (λ tags. length tags.items ≡ length (take n self.now.hits)) }
     {
         self.tags[self.given..self.given + self.more(n)]
             .iter()

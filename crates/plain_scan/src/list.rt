@@ -1,5 +1,5 @@
 ghost use Rattle.std.specs.Prelude.{◌≡◌, ◌≤◌, ◌<◌, ◌+◌, ◌-◌, ◌^◌, length, map, option_map, IfOk, OnErr, IsTrue, All};
-ghost use Rattle.rows_text.specs.Meaning.{nothing_yet, insert_step, load_step, hits_reply, tags_of, cursor_step, cursor_named, next_from, close_from, advanced, execute, step, has_points_of, numbers_from};
+ghost use Rattle.rows_text.specs.Meaning.{nothing_yet, insert_step, load_step, hits_reply, tags_of, cursor_step, cursor_named, next_from, close_from, advanced, execute, step, has_points_of, numbers_from, TagsAre};
 ghost use Rattle.rows_text.specs.Readable.{IsReadable};
 ghost use Rattle.scan_model.specs.Scan.{nearest_hits};
 ghost use Rattle.plain_scan.specs.List.{state_of, IsListOf};
@@ -63,6 +63,7 @@ impl PlainList {
         requires words { length p.now ≡ self.old.rows.words }
         requires limit { length self.old.rows.points ≤ limit }
         ensures ok { IfOk result (λ reply. insert_step limit (state_of self.old) p.now tag ≡ record { reply = reply; state = state_of self.new }) }
+        ensures tagged { IfOk result TagsAre }
         ensures err { OnErr result (state_of self.new ≡ state_of self.old) }
         ensures words { self.new.rows.words ≡ self.old.rows.words }
     {
@@ -80,6 +81,7 @@ impl PlainList {
     fn load(&mut self, limit: u32, rows: Rows, tags: Vec<u64>) -> Reply
         requires { rows.words ≡ self.old.rows.words }
         ensures step { load_step limit (state_of self.old) rows.points tags.items ≡ record { reply = result; state = state_of self.new } }
+        ensures tagged { TagsAre result }
         ensures words { self.new.rows.words ≡ self.old.rows.words }
     {
         if !self.rows.is_empty() {
@@ -106,7 +108,8 @@ impl PlainList {
     }
 
     fn hits_reply(&self, alloc: Global, hits: Vec<Hit>) -> Result<Reply, Memory>
-        ensures { IfOk result (λ reply. reply ≡ hits_reply (state_of self.now).objects hits.items) }
+        ensures reply { IfOk result (λ reply. reply ≡ hits_reply (state_of self.now).objects hits.items) }
+        ensures tagged { IfOk result TagsAre }
     {
         let tags = self.tags_of(alloc, &hits)?;
         Ok(Reply::Hits {
@@ -122,6 +125,7 @@ impl PlainList {
         requires query { IsTrue ((M.space metric.now).fits q.now) }
         requires numbers { self.old.next + 1 < 2 ^ 32 }
         ensures ok { IfOk result (λ reply. cursor_step (M.space metric.now) (state_of self.old) q.now ≡ record { reply = reply; state = state_of self.new }) }
+        ensures tagged { IfOk result TagsAre }
         ensures err { OnErr result (state_of self.new ≡ state_of self.old) }
         ensures rows { self.new.rows ≡ self.old.rows }
         ensures tags { self.new.tags ≡ self.old.tags }
@@ -149,6 +153,7 @@ impl PlainList {
     // The next hits of a cursor.
     fn advance(&mut self, alloc: Global, number: u32, n: u64) -> Result<Reply, Memory>
         ensures ok { IfOk result (λ reply. next_from (state_of self.old) number n (cursor_named number (state_of self.old)) ≡ record { reply = reply; state = state_of self.new }) }
+        ensures tagged { IfOk result TagsAre }
         ensures err { OnErr result (state_of self.new ≡ state_of self.old) }
         ensures rows { self.new.rows ≡ self.old.rows }
         ensures tags { self.new.tags ≡ self.old.tags }
@@ -169,6 +174,7 @@ impl PlainList {
     // Closes a cursor.
     fn close(&mut self, number: u32) -> Reply
         ensures step { close_from (state_of self.old) number (cursor_named number (state_of self.old)) ≡ record { reply = result; state = state_of self.new } }
+        ensures tagged { TagsAre result }
         ensures rows { self.new.rows ≡ self.old.rows }
         ensures tags { self.new.tags ≡ self.old.tags }
         ensures next { self.new.next ≡ self.old.next }
@@ -194,6 +200,7 @@ impl PlainList {
         requires readable { IsReadable (M.space metric.now).words command }
         requires points { IsTrue (has_points_of (M.space metric.now) command) }
         ensures ok { IfOk result (λ reply. execute (record { space = M.space metric.now; limit = limit }) (state_of self.old) command ≡ record { reply = reply; state = state_of self.new }) }
+        ensures tagged { IfOk result TagsAre }
         ensures err { OnErr result (state_of self.new ≡ state_of self.old) }
         ensures list { IsListOf (M.space metric.now) limit self.new }
         ensures numbers { self.new.next ≤ self.old.next + 1 }
@@ -238,6 +245,7 @@ impl PlainList {
         requires numbers { self.old.next + 1 < 2 ^ 32 }
         requires readable { IsReadable (M.space metric.now).words command }
         ensures ok { IfOk result (λ reply. step (record { space = M.space metric.now; limit = limit }) (state_of self.old) command ≡ record { reply = reply; state = state_of self.new }) }
+        ensures tagged { IfOk result TagsAre }
         ensures err { OnErr result (state_of self.new ≡ state_of self.old) }
         ensures list { IsListOf (M.space metric.now) limit self.new }
         ensures numbers { self.new.next ≤ self.old.next + 1 }
