@@ -3,9 +3,12 @@
 
 mod capped;
 mod joined;
+mod kendall;
 mod most;
+mod permutations;
 mod sum;
 
 pub use capped::Capped;
+pub use kendall::Kendall;
 pub use most::Most;
 pub use sum::Sum;
