@@ -35,8 +35,8 @@ pub missing : (n k : ℕ) (p : List ℕ) → k < n → list_any (λ x. x == k) p
 missing zero k p within none = absurd (omega arith)
 missing (suc n) k p within none =
     elim (cases_lt k n) [
-      inl under ↦ ap (λ (b : Bool). list_any (λ x. x == n) p && b) (missing n k p under none) ∙ and-false (list_any (λ x. x == n) p)
-    | inr over ↦ (let same : k ≡ n = omega arith in
-        let here : list_any (λ x. x == n) p ≡ false = ap (λ (m : ℕ). list_any (λ x. x == m) p) (sym same) ∙ none in
-        ap (λ (b : Bool). b && holds_below n p) here)
+      | inl under ↦ ap (λ (b : Bool). list_any (λ x. x == n) p && b) (missing n k p under none) ∙ and-false (list_any (λ x. x == n) p)
+      | inr over ↦ (let same : k ≡ n = omega arith in
+          let here : list_any (λ x. x == n) p ≡ false = ap (λ (m : ℕ). list_any (λ x. x == m) p) (sym same) ∙ none in
+          ap (λ (b : Bool). b && holds_below n p) here)
     ]

@@ -138,11 +138,12 @@ discord_apart (x ∷ a) (y ∷ b) long same none =
     equal_heads : (x y : ℕ) (a b : List ℕ) → high x (x ∷ a) ≡ high x (y ∷ b) → high y (x ∷ a) ≡ high y (y ∷ b) → high x a ≡ high y b → x ≡ y
     equal_heads x y a b at_x at_y rows =
         elim (cases_order x y) [
-          inl e ↦ e
-        | inr either ↦ elim either [
-            inl less ↦ (let falls = high_falls x y b (omega arith) in grind (arith, nat_tests))
-          | inr more ↦ (let falls = high_falls y x a (omega arith) in grind (arith, nat_tests))
+          | inl e ↦ e
+          | inr either ↦ elim either [
+            | inl less ↦ (let falls = high_falls x y b (omega arith) in grind (arith, nat_tests))
+            | inr more ↦ (let falls = high_falls y x a (omega arith) in grind (arith, nat_tests))
           ]
         ]
+
     rest : (v : ℕ) → x ≡ y → high v (x ∷ a) ≡ high v (y ∷ b) → high v a ≡ high v b
     rest v e whole = let tests : cond (nat_lt v x) 1 0 ≡ cond {A = ℕ} (nat_lt v y) 1 0 = ap (λ (u : ℕ). cond (nat_lt v u) 1 0) e in omega arith

@@ -4,3 +4,6 @@ pub mod Permutations
 pub mod Ranks
 pub mod Discordance
 pub mod KendallLaws
+pub mod Sets
+pub mod Spellings
+pub mod HausdorffLaws

@@ -53,8 +53,8 @@ holds_less zero zero p less holds = refl
 holds_less zero (suc v) p less holds = absurd (omega arith)
 holds_less (suc n) v p less holds =
     elim (cases_lt v (suc n)) [
-      inl under ↦ holds_less n v p (omega arith) (and_parts (list_any (λ x. x == n) p) (holds_below n p) holds).1
-    | inr over ↦ (let same : suc n ≡ v = omega arith in ap (λ (m : ℕ). holds_below m p) (sym same) ∙ holds)
+      | inl under ↦ holds_less n v p (omega arith) (and_parts (list_any (λ x. x == n) p) (holds_below n p) holds).1
+      | inr over ↦ (let same : suc n ≡ v = omega arith in ap (λ (m : ℕ). holds_below m p) (sym same) ∙ holds)
     ]
 
 -- each number below n takes a place of its own
@@ -64,8 +64,8 @@ low_climbs zero (suc v) p less holds = absurd (omega arith)
 low_climbs (suc n) v p less holds =
     let parts = and_parts (list_any (λ x. x == n) p) (holds_below n p) holds in
     elim (cases_lt v (suc n)) [
-      inl under ↦ (let rest = low_climbs n v p (omega arith) parts.1 in let step = low_step n p parts.0 in omega arith)
-    | inr over ↦ (let same : suc n ≡ v = omega arith in let equal : low (suc n) p ≡ low v p = ap (λ (m : ℕ). low m p) same in omega arith)
+      | inl under ↦ (let rest = low_climbs n v p (omega arith) parts.1 in let step = low_step n p parts.0 in omega arith)
+      | inr over ↦ (let same : suc n ≡ v = omega arith in let equal : low (suc n) p ≡ low v p = ap (λ (m : ℕ). low m p) same in omega arith)
     ]
 
 -- in a permutation of 0 to n - 1, the numbers below v are v many
@@ -84,8 +84,8 @@ high_is n v p fits =
     let split = low_and_high v p in
     let few = low_few (suc v) p in
     elim (cases_lt v n) [
-      inl under ↦ (let here = low_is n (suc v) p (omega arith) fits in omega arith)
-    | inr over ↦ (let all = low_is n n p (omega arith) fits in let more = low_grows n (suc v) p (omega arith) in omega arith)
+      | inl under ↦ (let here = low_is n (suc v) p (omega arith) fits in omega arith)
+      | inr over ↦ (let all = low_is n n p (omega arith) fits in let more = low_grows n (suc v) p (omega arith) in omega arith)
     ]
 
 -- each of its numbers is below n

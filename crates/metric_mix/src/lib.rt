@@ -2,13 +2,16 @@
 #![tactic(auto)]
 
 mod capped;
+mod hausdorff;
 mod joined;
 mod kendall;
 mod most;
 mod permutations;
+mod sets;
 mod sum;
 
 pub use capped::Capped;
+pub use hausdorff::Hausdorff;
 pub use kendall::Kendall;
 pub use most::Most;
 pub use sum::Sum;
