@@ -7,3 +7,7 @@ pub mod KendallLaws
 pub mod Sets
 pub mod Spellings
 pub mod HausdorffLaws
+pub mod MixSpaces
+pub mod MixLaws
+pub mod MixKinds
+pub mod MixKindLaws
