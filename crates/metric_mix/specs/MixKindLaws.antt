@@ -1,15 +1,13 @@
--- What a value names is lawful, and each part of it is the part of its space.
+-- What a value names is lawful, and is a space.
 use Rattle.std.specs.Prelude.{◌≡◌, ℕ, ◌≤◌, ◌%◌, ◌==◌, ◌&&◌, true, refl, IsTrue, nat_le}
 use Rattle.std.proofs.Common.{arith}
 use Rattle.std.proofs.lemmas.Bool.{and_from, eq-eqb, le-leb}
 use Rattle.metric_laws.specs.Space.{IsSpace}
-use Rattle.vector_kinds.specs.Vectors.{vector_space}
 use Rattle.vector_kinds.specs.Kinds.{kind_of, dim_of}
-use Rattle.vector_kinds.specs.declared.space.Space.{Space}
 use Rattle.vector_kinds.specs.declared.space.Space.TheVariants.{Hamming, L1, Max}
 use Rattle.metric_mix.specs.declared.mix_space.MixSpace.{MixSpace}
 use Rattle.metric_mix.specs.declared.mix_space.MixSpace.TheVariants.{Plain, Kendall, Hausdorff, MixSum, MixMax, L1Cap}
-use Rattle.metric_mix.specs.MixSpaces.{is_lawful, mix_parts, mix_space}
+use Rattle.metric_mix.specs.MixSpaces.{is_lawful, mix_space}
 use Rattle.metric_mix.specs.MixKinds.{mix_kind, mix_dim}
 use Rattle.metric_mix.specs.MixLaws.{lawful_axioms}
 
@@ -41,12 +39,6 @@ mix_low (Hausdorff m) = (omega arith, omega arith)
 mix_low (MixSum h) = (omega arith, omega arith)
 mix_low (MixMax h) = (omega arith, omega arith)
 mix_low (L1Cap m) = (omega arith, omega arith)
-
--- a plain space among the eight
-pub plain_is : (s : Space) (dim : ℕ) → mix_parts (kind_of s) dim ≡ vector_space (kind_of s) dim
-plain_is (Hamming m) dim = refl
-plain_is (L1 m) dim = refl
-plain_is (Max m) dim = refl
 
 pub mix_axioms : (s : MixSpace) → IsSpace (mix_space (mix_kind s) (mix_dim s))
 mix_axioms s = lawful_axioms (mix_kind s) (mix_dim s) (mix_low s).0 (mix_low s).1 (mix_lawful s)

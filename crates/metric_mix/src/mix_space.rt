@@ -1,4 +1,4 @@
-ghost use Rattle.std.specs.Prelude.{◌≡◌, ◌≤◌, ◌<◌, ◌↔◌, ◌⊎◌, false, IfOk, IsErrOf};
+ghost use Rattle.std.specs.Prelude.{◌≡◌, ◌≤◌, ◌<◌, ◌↔◌, ◌⊎◌, false, IfOk, IsErrOf, IsOk, IsTrue};
 ghost use Rattle.metric_mix.specs.MixSpaces.{is_lawful, mix_name};
 
 use crate::{Capped, Halves, Hausdorff, Kendall};
@@ -41,6 +41,8 @@ impl MixSpace {
         ensures kind { IfOk result (λ s. mix_kind s ≡ kind) }
         ensures dim { IfOk result (λ s. mix_dim s ≡ dim) }
 
+        ensures ok { IsOk result ↔ ((1 ≤ kind) × (kind ≤ 8) × IsTrue (is_lawful kind dim)) }
+
         // The kind is judged first.
         ensures no_kind { IsErrOf result SpaceFault.Kind ↔ ((kind < 1) ⊎ (8 < kind)) }
         ensures no_dim { IsErrOf result SpaceFault.Dim ↔ ((1 ≤ kind) × (kind ≤ 8) × (is_lawful kind dim ≡ false)) }
@@ -64,8 +66,11 @@ impl MixSpace {
     }
 
     /// The number of the metric, 1 to 8.
+    #[tactic(auto, using(crate::specs::MixKindLaws::mix_low))]
     pub fn kind(&self) -> u8
-        ensures { result ≡ mix_kind self.now }
+        ensures value { result ≡ mix_kind self.now }
+        ensures some { 1 ≤ result }
+        ensures few { result ≤ 8 }
     {
         match self {
             MixSpace::Plain(space) => space.kind(),
@@ -78,8 +83,10 @@ impl MixSpace {
     }
 
     /// The number of coordinates of a point.
+    #[tactic(auto, using(crate::specs::MixKindLaws::mix_lawful))]
     pub fn dim(&self) -> u8
-        ensures { result ≡ mix_dim self.now }
+        ensures value { result ≡ mix_dim self.now }
+        ensures lawful { IsTrue (is_lawful (mix_kind self.now) result) }
     {
         match self {
             MixSpace::Plain(space) => space.dim(),
