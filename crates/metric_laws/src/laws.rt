@@ -5,17 +5,14 @@ ghost use Rattle.metric_laws.specs.Pruning.{CentreRulesOut, ParentRulesOut, Pair
 /// Where the centre test passes, no point of the sphere is an answer.
 pub fn centre_test_rules_out()
     ensures { CentreRulesOut }
-{
-}
+{}
 
 /// Where the parent test passes, no point of the sphere is an answer.
 pub fn parent_test_rules_out()
     ensures { ParentRulesOut }
-{
-}
+{}
 
 /// Where the pair test passes, no two points of the spheres are an answer.
 pub fn pair_test_rules_out()
     ensures { PairRulesOut }
-{
-}
+{}
