@@ -1,2 +1,13 @@
 pub mod Composed
 pub mod ComposedLaws
+pub mod Permutations
+pub mod Ranks
+pub mod Discordance
+pub mod KendallLaws
+pub mod Sets
+pub mod Spellings
+pub mod HausdorffLaws
+pub mod MixSpaces
+pub mod MixLaws
+pub mod MixKinds
+pub mod MixKindLaws

@@ -1,4 +1,5 @@
-ghost use Rattle.std.specs.Prelude.{◌≡◌, ⊤, ◌≤◌, ◌^◌};
+ghost use Rattle.std.specs.Prelude.{◌≡◌, ⊤, ◌≤◌};
+ghost use Rattle.metric_laws.specs.Space.{bound};
 ghost use Rattle.metric_mix.specs.Composed.{capped_space};
 ghost use Rattle.metric_mix.specs.ComposedLaws.{capped_axioms};
 
@@ -11,14 +12,14 @@ pub struct Capped<M: Metric> {
     pub metric: M,
     pub most: u64,
     ghost some: { 1 ≤ most },
-    ghost low: { most ≤ 2 ^ 38 },
+    ghost low: { most ≤ bound },
 }
 
 impl<M: Metric> Capped<M> {
     /// The metric, with `most` from 1 to `BOUND` in place of every greater distance.
     pub fn new(metric: M, most: u64) -> Self
         requires some { 1 ≤ most }
-        requires low { most ≤ 2 ^ 38 }
+        requires low { most ≤ bound }
         ensures metric { result.metric ≡ metric }
         ensures most { result.most ≡ most }
     {

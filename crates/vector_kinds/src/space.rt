@@ -1,4 +1,4 @@
-ghost use Rattle.std.specs.Prelude.{◌≡◌, ◌≤◌, ◌<◌, ◌↔◌, ◌⊎◌, IfOk, IsErrOf};
+ghost use Rattle.std.specs.Prelude.{◌≡◌, ◌≤◌, ◌<◌, ◌↔◌, ◌⊎◌, IfOk, IsErrOf, IsOk};
 
 use crate::{Hamming, L1, Max, differences};
 use metric_laws::Metric;
@@ -31,6 +31,8 @@ impl Space {
         ensures kind { IfOk result (λ s. kind_of s ≡ kind) }
         ensures dim { IfOk result (λ s. dim_of s ≡ dim) }
 
+        ensures ok { IsOk result ↔ ((1 ≤ kind) × (kind ≤ 3) × (1 ≤ dim) × (dim ≤ 64)) }
+
         // The kind is judged first.
         ensures no_kind { IsErrOf result SpaceFault.Kind ↔ ((kind < 1) ⊎ (3 < kind)) }
         ensures no_dim { IsErrOf result SpaceFault.Dim ↔ ((1 ≤ kind) × (kind ≤ 3) × ((dim < 1) ⊎ (64 < dim))) }
@@ -50,7 +52,9 @@ impl Space {
 
     /// The number of the metric, 1 to 3.
     pub fn kind(&self) -> u8
-        ensures { result ≡ kind_of self.now }
+        ensures value { result ≡ kind_of self.now }
+        ensures some { 1 ≤ result }
+        ensures few { result ≤ 3 }
     {
         match self {
             Space::Hamming(_) => 1,
@@ -61,7 +65,9 @@ impl Space {
 
     /// The number of coordinates of a point.
     pub fn dim(&self) -> u8
-        ensures { result ≡ dim_of self.now }
+        ensures value { result ≡ dim_of self.now }
+        ensures some { 1 ≤ result }
+        ensures few { result ≤ 64 }
     {
         match self {
             Space::Hamming(metric) => metric.dim,

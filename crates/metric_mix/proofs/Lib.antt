@@ -1,0 +1,2 @@
+pub mod PairCounts
+pub mod SetPasses

@@ -1,0 +1,51 @@
+-- The spaces that a program chooses from, by kind and dimension.
+use Rattle.std.specs.Prelude.{◌≢◌, ◌≤◌, IsTrue, ℕ, ◌/◌, ◌%◌, ◌==◌, ◌&&◌, ◌||◌, Bool, true, List, codes, nat_le, if◌then◌else◌}
+use Rattle.metric_laws.specs.Space.{Space, IsSpace}
+use Rattle.vector_kinds.specs.Vectors.{is_vector, vector_space}
+use Rattle.metric_mix.specs.Composed.{capped_space, sum_space, most_space}
+use Rattle.metric_mix.specs.Permutations.{kendall_space}
+use Rattle.metric_mix.specs.Sets.{hausdorff_space}
+
+-- whether a point of this kind is two halves, of which L1 measures the first and Hamming the second
+abbrev pub has_halves : ℕ → Bool
+has_halves kind = (kind == 6) || (kind == 7)
+
+-- whether the kind has a space of this dimension
+abbrev pub is_lawful : ℕ → ℕ → Bool
+is_lawful kind dim = nat_le 1 dim && nat_le dim 64 && (if has_halves kind then dim % 2 == 0 else true)
+
+-- 1 Hamming, 2 L1, 3 the maximum, 4 Kendall, 5 Hausdorff, 6 the sum and 7 the greater of both halves, 8 L1 up to 65535
+abbrev pub mix_parts : ℕ → ℕ → Space
+mix_parts kind dim =
+    if kind == 4 then kendall_space dim
+    else (if kind == 5 then hausdorff_space dim
+    else (if kind == 6 then sum_space (vector_space 2 (dim / 2)) (vector_space 1 (dim / 2))
+    else (if kind == 7 then most_space (vector_space 2 (dim / 2)) (vector_space 1 (dim / 2))
+    else (if kind == 8 then capped_space (vector_space 2 dim) 65535
+    else vector_space kind dim))))
+
+-- the space of a kind and a dimension
+abbrev pub mix_space : ℕ → ℕ → Space
+mix_space kind dim = record { words = dim; fits = (mix_parts kind dim).fits; dist = (mix_parts kind dim).dist }
+
+-- what a kind is called
+abbrev pub mix_name : ℕ → List ℕ
+mix_name kind =
+    if kind == 1 then codes "hamming"
+    else (if kind == 2 then codes "l1"
+    else (if kind == 3 then codes "max"
+    else (if kind == 4 then codes "kendall"
+    else (if kind == 5 then codes "hausdorff"
+    else (if kind == 6 then codes "mixsum"
+    else (if kind == 7 then codes "mixmax"
+    else codes "l1cap"))))))
+
+-- every kind from 1 to 8 has a space of each lawful dimension
+abbrev pub MixSpacesAreSpaces : Type 0
+MixSpacesAreSpaces = (kind dim : ℕ) → 1 ≤ kind → kind ≤ 8 → IsTrue (is_lawful kind dim) → IsSpace (mix_space kind dim)
+
+-- but for permutations and sets, every list of `dim` numbers of 32 bits is a point
+abbrev pub VectorsFit : Type 0
+VectorsFit =
+    (kind dim : ℕ) → 1 ≤ kind → kind ≤ 8 → IsTrue (is_lawful kind dim) → kind ≢ 4 → kind ≢ 5 →
+    (p : List ℕ) → IsTrue (is_vector dim p) → IsTrue ((mix_space kind dim).fits p)

@@ -1,0 +1,34 @@
+-- Permutations, and how many pairs of places two of them order differently (M. G. Kendall, 1938).
+use Rattle.std.specs.Prelude.{ℕ, zero, suc, ◌==◌, ◌&&◌, Bool, true, not, List, [], ◌∷◌, ◌++◌, length, take, map, nat_lt, count_by, if◌then◌else◌}
+use Rattle.std.specs.List.{list_any, zip}
+use Rattle.metric_laws.specs.Space.{Space}
+
+-- whether each number below n stands in the list
+abbrev pub holds_below : ℕ → List ℕ → Bool
+holds_below zero p = true
+holds_below (suc n) p = list_any (λ x. x == n) p && holds_below n p
+
+-- whether the list is a permutation of the numbers from 0 to n - 1
+abbrev pub is_permutation : ℕ → List ℕ → Bool
+is_permutation n p = (length p == n) && holds_below n p
+
+-- each pair of elements, the one that stands before the other first
+abbrev pub pairs_of : {X : Type 0} → List X → List (X × X)
+pairs_of [] = []
+pairs_of (x ∷ xs) = map (λ y. (x, y)) xs ++ pairs_of xs
+
+-- whether one of the two holds and the other not
+abbrev pub exactly_one : Bool → Bool → Bool
+exactly_one x y = if x then not y else y
+
+-- whether two lists order a pair of places differently, i and j being what they hold at these places
+abbrev pub is_discordant : (ℕ × ℕ) × (ℕ × ℕ) → Bool
+is_discordant (i, j) = exactly_one (nat_lt i.0 j.0) (nat_lt i.1 j.1)
+
+-- the number of pairs of places, of the first n, that two lists order differently
+abbrev pub kendall_distance : ℕ → List ℕ → List ℕ → ℕ
+kendall_distance n a b = count_by is_discordant (pairs_of (zip (take n a) (take n b)))
+
+-- the space of permutations
+abbrev pub kendall_space : ℕ → Space
+kendall_space n = record { words = n; fits = is_permutation n; dist = kendall_distance n }

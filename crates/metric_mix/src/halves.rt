@@ -1,0 +1,43 @@
+ghost use Rattle.std.specs.Prelude.{◌≡◌, ◌≤◌, ◌/◌, ◌%◌};
+
+use crate::{Most, Sum};
+use vector_kinds::{Hamming, L1};
+
+/// A number of coordinates that is even: L1 measures the first half and Hamming the second.
+#[derive(Clone, Copy, Debug, PartialEq, Eq)]
+pub struct Halves {
+    pub dim: u8,
+    ghost some: { 1 ≤ dim },
+    ghost few: { dim ≤ 64 },
+    ghost even: { dim % 2 ≡ 0 },
+}
+
+impl Halves {
+    /// Both halves of `dim` coordinates.
+    pub fn new(dim: u8) -> Self
+        requires some { 1 ≤ dim }
+        requires few { dim ≤ 64 }
+        requires even { dim % 2 ≡ 0 }
+        ensures { result.dim ≡ dim }
+    {
+        Halves { dim }
+    }
+
+    /// The metric that adds the distances of the halves.
+    pub fn sum(self) -> Sum<L1, Hamming>
+        ensures first { result.first.dim ≡ self.dim / 2 }
+        ensures second { result.second.dim ≡ self.dim / 2 }
+    {
+        let half = self.dim / 2;
+        Sum::new(L1::new(half), Hamming::new(half))
+    }
+
+    /// The metric that takes the greater of the distances of the halves.
+    pub fn most(self) -> Most<L1, Hamming>
+        ensures first { result.first.dim ≡ self.dim / 2 }
+        ensures second { result.second.dim ≡ self.dim / 2 }
+    {
+        let half = self.dim / 2;
+        Most::new(L1::new(half), Hamming::new(half))
+    }
+}

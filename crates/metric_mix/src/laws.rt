@@ -1,0 +1,15 @@
+//! What holds of the eight spaces by kind and dimension.
+
+ghost use Rattle.metric_mix.specs.MixSpaces.{MixSpacesAreSpaces, VectorsFit};
+
+/// Each lawful kind and dimension has a metric space.
+#[tactic(auto, using(crate::specs::MixLaws::lawful_axioms))]
+pub fn mix_spaces_are_spaces()
+    ensures { MixSpacesAreSpaces }
+{}
+
+/// But for permutations and sets, each list of `dim` coordinates is a point.
+#[tactic(auto, using(crate::specs::MixLaws::vectors_fit))]
+pub fn vectors_fit()
+    ensures { VectorsFit }
+{}

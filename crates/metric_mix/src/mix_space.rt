@@ -1,0 +1,152 @@
+ghost use Rattle.std.specs.Prelude.{◌≡◌, ◌≤◌, ◌<◌, ◌↔◌, ◌⊎◌, false, IfOk, IsErrOf, IsOk, IsTrue};
+ghost use Rattle.metric_mix.specs.MixSpaces.{is_lawful, mix_name};
+
+use crate::{Capped, Halves, Hausdorff, Kendall};
+use metric_laws::Metric;
+use vector_kinds::{Hamming, L1, Max, Space, SpaceFault};
+
+/// The greatest distance of an `l1cap` space.
+const MOST: u64 = 65535;
+
+/// One of eight metrics, chosen when the program runs.
+#[derive(Clone, Copy, Debug, PartialEq, Eq)]
+pub enum MixSpace {
+    /// `hamming`, `l1` and `max`.
+    Plain(Space),
+    /// `kendall`
+    Kendall(Kendall),
+    /// `hausdorff`
+    Hausdorff(Hausdorff),
+    /// `mixsum`: L1 of the first half and Hamming of the second together.
+    MixSum(Halves),
+    /// `mixmax`: the greater of L1 of the first half and Hamming of the second.
+    MixMax(Halves),
+    /// `l1cap`: L1, of which no distance counts for more than 65535.
+    L1Cap(L1),
+}
+
+/// Whether the kind has a space of this dimension.
+fn has_dimension(kind: u8, dim: u8) -> bool
+    ensures { result ≡ is_lawful kind dim }
+{
+    let halves = kind == 6 || kind == 7;
+    1 <= dim && dim <= 64 && (!halves || dim % 2 == 0)
+}
+
+impl MixSpace {
+    ghost use Rattle.metric_mix.specs.MixKinds.{mix_kind, mix_dim};
+
+    /// The space of a kind, 1 to 8 in the order above, and a dimension of 1 to 64, which is even for 6 and 7.
+    pub fn new(kind: u8, dim: u8) -> Result<Self, SpaceFault>
+        ensures kind { IfOk result (λ s. mix_kind s ≡ kind) }
+        ensures dim { IfOk result (λ s. mix_dim s ≡ dim) }
+
+        ensures ok { IsOk result ↔ ((1 ≤ kind) × (kind ≤ 8) × IsTrue (is_lawful kind dim)) }
+
+        // The kind is judged first.
+        ensures no_kind { IsErrOf result SpaceFault.Kind ↔ ((kind < 1) ⊎ (8 < kind)) }
+        ensures no_dim { IsErrOf result SpaceFault.Dim ↔ ((1 ≤ kind) × (kind ≤ 8) × (is_lawful kind dim ≡ false)) }
+    {
+        if kind == 0 || kind > 8 {
+            return Err(SpaceFault::Kind);
+        }
+        if !has_dimension(kind, dim) {
+            return Err(SpaceFault::Dim);
+        }
+        Ok(match kind {
+            1 => MixSpace::Plain(Space::Hamming(Hamming::new(dim))),
+            2 => MixSpace::Plain(Space::L1(L1::new(dim))),
+            3 => MixSpace::Plain(Space::Max(Max::new(dim))),
+            4 => MixSpace::Kendall(Kendall::new(dim)),
+            5 => MixSpace::Hausdorff(Hausdorff::new(dim)),
+            6 => MixSpace::MixSum(Halves::new(dim)),
+            7 => MixSpace::MixMax(Halves::new(dim)),
+            _ => MixSpace::L1Cap(L1::new(dim)),
+        })
+    }
+
+    /// The number of the metric, 1 to 8.
+    #[tactic(auto, using(crate::specs::MixKindLaws::mix_low))]
+    pub fn kind(&self) -> u8
+        ensures value { result ≡ mix_kind self.now }
+        ensures some { 1 ≤ result }
+        ensures few { result ≤ 8 }
+    {
+        match self {
+            MixSpace::Plain(space) => space.kind(),
+            MixSpace::Kendall(_) => 4,
+            MixSpace::Hausdorff(_) => 5,
+            MixSpace::MixSum(_) => 6,
+            MixSpace::MixMax(_) => 7,
+            MixSpace::L1Cap(_) => 8,
+        }
+    }
+
+    /// The number of coordinates of a point.
+    #[tactic(auto, using(crate::specs::MixKindLaws::mix_lawful))]
+    pub fn dim(&self) -> u8
+        ensures value { result ≡ mix_dim self.now }
+        ensures lawful { IsTrue (is_lawful (mix_kind self.now) result) }
+    {
+        match self {
+            MixSpace::Plain(space) => space.dim(),
+            MixSpace::Kendall(metric) => metric.dim,
+            MixSpace::Hausdorff(metric) => metric.dim,
+            MixSpace::MixSum(halves) => halves.dim,
+            MixSpace::MixMax(halves) => halves.dim,
+            MixSpace::L1Cap(metric) => metric.dim,
+        }
+    }
+
+    /// What the metric is called.
+    pub fn name(&self) -> &'static str
+        ensures { result.now ≡ mix_name (mix_kind self.now) }
+    {
+        match self {
+            MixSpace::Plain(Space::Hamming(_)) => "hamming",
+            MixSpace::Plain(Space::L1(_)) => "l1",
+            MixSpace::Plain(Space::Max(_)) => "max",
+            MixSpace::Kendall(_) => "kendall",
+            MixSpace::Hausdorff(_) => "hausdorff",
+            MixSpace::MixSum(_) => "mixsum",
+            MixSpace::MixMax(_) => "mixmax",
+            MixSpace::L1Cap(_) => "l1cap",
+        }
+    }
+}
+
+impl Metric for MixSpace {
+    ghost use Rattle.metric_mix.specs.MixSpaces.{mix_space};
+    ghost use Rattle.metric_mix.specs.MixKinds.{mix_kind, mix_dim};
+    ghost use Rattle.metric_mix.specs.MixKindLaws.{mix_axioms};
+
+    ghost space = { λ s. mix_space (mix_kind s) (mix_dim s) };
+
+    ghost axioms = { mix_axioms };
+
+    fn words(&self) -> usize {
+        usize::from(self.dim())
+    }
+
+    fn fits(&self, p: &[u32]) -> bool {
+        match self {
+            MixSpace::Plain(space) => space.fits(p),
+            MixSpace::Kendall(metric) => metric.fits(p),
+            MixSpace::Hausdorff(metric) => metric.fits(p),
+            MixSpace::MixSum(halves) => halves.sum().fits(p),
+            MixSpace::MixMax(halves) => halves.most().fits(p),
+            MixSpace::L1Cap(metric) => metric.fits(p),
+        }
+    }
+
+    fn dist(&self, a: &[u32], b: &[u32]) -> u64 {
+        match self {
+            MixSpace::Plain(space) => space.dist(a, b),
+            MixSpace::Kendall(metric) => metric.dist(a, b),
+            MixSpace::Hausdorff(metric) => metric.dist(a, b),
+            MixSpace::MixSum(halves) => halves.sum().dist(a, b),
+            MixSpace::MixMax(halves) => halves.most().dist(a, b),
+            MixSpace::L1Cap(metric) => Capped::new(*metric, MOST).dist(a, b),
+        }
+    }
+}
