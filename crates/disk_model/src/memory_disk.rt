@@ -53,7 +53,15 @@ impl MemoryDisk {
     ) -> Result<MemoryDisk, Memory>
         requires { length bytes.items ≤ room }
         ensures { IfOk result (λ disk. disk ≡ record {
-            first = bytes.items; past = []; left = units; room = room; fails = fails.items; stop = stop; calls = 0; faults = 0; reads = 0
+          first = bytes.items;
+          past = [];
+          left = units;
+          room = room;
+          fails = fails.items;
+          stop = stop;
+          calls = 0;
+          faults = 0;
+          reads = 0;
         }) }
     {
         let room = room as usize;

@@ -32,7 +32,7 @@ loop-entry-preserved c =
             _,
             c.in_ok-apply.ensures.replay now.0 now.1,
             goes_on_at c.args.moment now.0 all i rest none c.count.result c.split_at.result.0.now c.split_at.result.1.now c.loop-entry-test.true (sym (c.has_begun.ensures rest) ∙ c.if-not-has_begun.false) c.count.ensures
-            c.split_at.ensures.front c.split_at.ensures.back ∙ now.2,
+                c.split_at.ensures.front c.split_at.ensures.back ∙ now.2,
           );
     }
 
