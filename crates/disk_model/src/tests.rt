@@ -147,32 +147,36 @@ fn make<D: Disk>(rt: &impl Abort, disk: &mut D, call: &Call) -> bool {
     }
 }
 
-fn image(
-    rt: &impl Abort,
-    alloc: Global,
-    disk: &MemoryDisk,
-    moment: u64,
-    pick: u64,
-) -> Result<Vec<u8>, Memory> {
-    assert!(rt; moment <= disk.moments());
-    disk.image(alloc, moment, pick)
+/// Makes the calls of a run, and compares their answers.
+fn play<D: Disk>(rt: &impl Abort, disk: &mut D, run: &Run) {
+    for (call, want) in run.calls.iter().zip(run.answers) {
+        assert_eq!(rt; make(rt, disk, call), *want);
+    }
+}
+
+/// Compares the images of a run.
+fn compare(rt: &impl Abort, alloc: Global, disk: &MemoryDisk, run: &Run) -> Result<(), Memory> {
+    for (moment, pick, want) in run.images {
+        assert!(rt; *moment <= disk.moments());
+        let image = disk.image(alloc, *moment, *pick)?;
+        assert_eq!(rt; image.as_slice(), *want, "at {moment}, pick {pick}");
+    }
+    Ok(())
+}
+
+fn check(rt: &impl Abort, alloc: Global, run: &Run) -> Result<(), Memory> {
+    let first = [1, 2, 3].to_vec(alloc)?;
+    let mut disk = MemoryDisk::new(alloc, first, 8, 20, run.fails.to_vec(alloc)?, run.stop)?;
+    play(rt, &mut disk, run);
+    assert_eq!(rt; disk.moments(), run.calls.len() as u64);
+    assert_eq!(rt; disk.bytes(), run.bytes);
+    compare(rt, alloc, &disk, run)
 }
 
 #[test]
 fn a_disk_in_memory_shows_what_a_crash_may_leave(rt: HostRuntime) -> Result<(), Fail> {
-    let alloc = rt.alloc();
     for run in &RUNS {
-        let first = [1, 2, 3].to_vec(alloc)?;
-        let mut disk = MemoryDisk::new(alloc, first, 8, 20, run.fails.to_vec(alloc)?, run.stop)?;
-        for (it, want) in run.calls.iter().zip(run.answers) {
-            assert_eq!(rt; make(&rt, &mut disk, it), *want);
-        }
-        assert_eq!(rt; disk.moments(), run.calls.len() as u64);
-        assert_eq!(rt; disk.bytes(), run.bytes);
-        for (moment, pick, want) in run.images {
-            let image = image(&rt, alloc, &disk, *moment, *pick)?;
-            assert_eq!(rt; image.as_slice(), *want, "at {moment} with {pick}");
-        }
+        check(&rt, rt.alloc(), run)?;
     }
     Ok(())
 }
