@@ -1,4 +1,4 @@
 pub mod Disk
 pub mod Moments
-pub mod Memory
 pub mod FileCounts
+pub mod Memory

@@ -18,8 +18,8 @@ pub struct Record {
 }
 
 impl Model for Record {
-    ghost use Rattle.disk_model.specs.Memory.Recorded.{Recorded};
-    ghost use Rattle.disk_model.specs.Memory.RecordInside.{recorded, IsRecord};
+    ghost use Rattle.disk_model.specs.Memory.Model.{Recorded};
+    ghost use Rattle.disk_model.specs.Memory.RecordView.{recorded, IsRecord};
 
     ghost Value = { Recorded };
 

@@ -1,8 +1,7 @@
-use Rattle.std.proofs.Common.{◌≡◌, ◌∙◌, ap, sym, arith, true, false, ℕ, List, length, length-drop, ◌+◌}
+use Rattle.std.proofs.Common.{◌∙◌, ap, sym, arith, ℕ}
 use Rattle.disk_model.specs.declared.entry.Entry.{Entry}
 use Rattle.disk_model.specs.declared.entry.Kind.TheVariants.{Look}
-use Rattle.disk_model.specs.Memory.Images.{Kept, shown}
-use Rattle.disk_model.specs.Memory.Record.{count_of, call_of}
+use Rattle.disk_model.specs.Memory.Images.{shown}
 use Rattle.disk_model.proofs.Begun.{stops_at, goes_on_at, ends_at, total_at}
 use Rattle.disk_model.proofs.record.play.Goals as goal
 
