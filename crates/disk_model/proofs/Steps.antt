@@ -7,17 +7,13 @@ use Rattle.std.proofs.lemmas.Bool.{false≢true}
 use Rattle.disk_model.specs.Disk.{DiskState, Torn, Written, MayLeave, LeavesOnly, Follows, IsOneCall, IsUnchanged}
 use Rattle.disk_model.specs.Moments.{written_torn}
 use Rattle.disk_model.specs.Memory.Files.{overwritten, overwritten-written}
-use Rattle.disk_model.specs.Memory.Model.{Call, look, sync, write, Noted, SimulatedDisk, units_of, after_call, after_answer, IsRefused}
+use Rattle.disk_model.specs.Memory.Model.{Call, look, sync, write, Noted, SimulatedDisk, units_of, fits, after_call, after_answer, IsRefused}
 use Rattle.disk_model.specs.Memory.Images.{Kept, at_rest, after, replayed, kept_by, memory_state}
 use Rattle.disk_model.proofs.Calls.{replayed_push, one_call, write_follows, nothing_follows, nothing_unchanged, nothing_one_call, look_unchanged, sync_only, sync_fewer}
 
 -- the disk that a call leaves, with this count of reads
 abbrev pub left_by : SimulatedDisk → Call → Bool → ℕ → SimulatedDisk
 left_by old call ok reads = record (after_answer (after_call old call) ok) { reads = reads }
-
--- whether the call is recorded
-abbrev pub fits : SimulatedDisk → Call → Bool
-fits old call = nat_le (units_of call) old.left
 
 -- ---- what a read gives
 

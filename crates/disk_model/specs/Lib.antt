@@ -1,3 +1,4 @@
 pub mod Disk
 pub mod Moments
+pub mod FileCounts
 pub mod Memory

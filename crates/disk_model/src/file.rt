@@ -41,4 +41,3 @@ pub fn copy_out(file: &[u8], at: usize, buf: &mut [u8])
         *place = file.get(at + i).copied().unwrap_or(0);
     }
 }
-

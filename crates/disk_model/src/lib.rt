@@ -11,5 +11,13 @@ mod record;
 mod replay;
 
 pub use disk::Disk;
+pub use file_disk::FileDisk;
+pub use laws::{
+    FileProperty, images_mix, looks_join, opening_then_stretch, read_may_be_left, stretch_goes_on,
+    stretches_join, written_is_torn,
+};
 pub use memory_disk::MemoryDisk;
 pub use outside_io::{Failed, Memory};
+
+#[cfg(test)]
+mod tests;

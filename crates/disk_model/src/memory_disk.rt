@@ -31,7 +31,7 @@ pub struct MemoryDisk {
 
 impl Model for MemoryDisk {
     ghost use Rattle.disk_model.specs.Memory.Model.{SimulatedDisk};
-    ghost use Rattle.disk_model.specs.Memory.Inside.{simulated, IsInStep};
+    ghost use Rattle.disk_model.specs.Memory.DiskView.{simulated, IsInStep};
 
     ghost Value = { SimulatedDisk };
 
@@ -53,7 +53,15 @@ impl MemoryDisk {
     ) -> Result<MemoryDisk, Memory>
         requires { length bytes.items ≤ room }
         ensures { IfOk result (λ disk. disk ≡ record {
-            first = bytes.items; past = []; left = units; room = room; fails = fails.items; stop = stop; calls = 0; faults = 0; reads = 0
+          first = bytes.items;
+          past = [];
+          left = units;
+          room = room;
+          fails = fails.items;
+          stop = stop;
+          calls = 0;
+          faults = 0;
+          reads = 0;
         }) }
     {
         let room = room as usize;
@@ -139,6 +147,7 @@ impl MemoryDisk {
         Ok(())
     }
 
+    // Counts a read.
     fn count_read(&mut self)
         ensures { self.new ≡ record self.old { reads = next_count self.old.reads } }
     {
@@ -156,6 +165,7 @@ impl MemoryDisk {
         self.answer(refused)
     }
 
+    // A write, which is done unless it is refused.
     fn write(&mut self, at: usize, bytes: &[u8]) -> Result<(), Failed>
         requires { at + length bytes.now ≤ 2 ^ 37 }
         ensures fails { IsErr result ↔ (IsRefused self.old (length bytes.now) ⊎ (self.old.room < at + length bytes.now)) }
@@ -169,6 +179,7 @@ impl MemoryDisk {
         self.answer(refused)
     }
 
+    // A sync. One that failed changes nothing.
     fn sync_all(&mut self) -> Result<(), Failed>
         ensures fails { IsErr result ↔ IsRefused self.old 0 }
         ensures next { self.new ≡ after_answer (after_call self.old (if is_ok result then sync else look)) (is_ok result) }

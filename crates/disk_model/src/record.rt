@@ -18,8 +18,8 @@ pub struct Record {
 }
 
 impl Model for Record {
-    ghost use Rattle.disk_model.specs.Memory.Recorded.{Recorded};
-    ghost use Rattle.disk_model.specs.Memory.RecordInside.{recorded, IsRecord};
+    ghost use Rattle.disk_model.specs.Memory.Model.{Recorded};
+    ghost use Rattle.disk_model.specs.Memory.RecordView.{recorded, IsRecord};
 
     ghost Value = { Recorded };
 
@@ -60,7 +60,13 @@ impl Record {
     }
 
     /// The file that a pick shows of a crash within the call of this number, or after the last call.
-    pub fn image(&self, alloc: Global, first: &[u8], moment: u64, pick: u64) -> Result<Vec<u8>, Memory>
+    pub fn image(
+        &self,
+        alloc: Global,
+        first: &[u8],
+        moment: u64,
+        pick: u64,
+    ) -> Result<Vec<u8>, Memory>
         ensures { IfOk result (λ file. file.items ≡ shown pick (replayed (at_rest first.now) (begun moment self.now.past))) }
     {
         let replay = Replay::new(alloc, first, pick)?;

@@ -1,5 +1,5 @@
 -- What a disk in memory holds, how its calls change it, and when they fail.
-use Rattle.std.specs.Prelude.{◌≡◌, ◌⊎◌, ℕ, ◌+◌, ◌-◌, ◌<◌, ◌≤◌, Bool, List, [], ◌∷◌, ◌++◌, Option, length, Contains, IsSomeAnd, if◌then◌else◌, nat_le}
+use Rattle.std.specs.Prelude.{◌⊎◌, ℕ, ◌+◌, ◌-◌, ◌<◌, ◌≤◌, Bool, List, [], ◌∷◌, ◌++◌, Option, length, Contains, IsSomeAnd, if◌then◌else◌, nat_le}
 use Rattle.outside_io.specs.Memory.{next_count}
 
 -- a call that changes nothing (a size, a read, or a sync that failed), a sync that answered Ok, and a write with its
@@ -14,9 +14,14 @@ pub record Noted : Type 0 where
   pub number : ℕ
   pub call : Call
 
--- A disk in memory: the file that it was made with, all of it synced; the calls that are recorded, the oldest first, and
--- the units of the record that are left; the greatest size; the numbers of the calls that are to fail, and the one from
--- which on all fail; and how many calls, faults and reads there were.
+-- what the record shows: the calls, the oldest first, and the units that are left
+pub record Recorded : Type 0 where
+  pub past : List Noted
+  pub left : ℕ
+
+-- A disk in memory: the file that it was made with, all of it synced; the calls that are recorded, and the units that are
+-- left for more; the greatest size; the numbers of the calls that are to fail, and the one from which on all fail; and how
+-- many calls, faults and reads there were.
 pub record SimulatedDisk : Type 0 where
   pub first : List ℕ
   pub past : List Noted
@@ -34,11 +39,15 @@ units_of look = 1
 units_of sync = 1
 units_of (write at bytes done) = length bytes + 1
 
--- The disk after a call. Where the record has too few units left, the call isn't recorded and uses none.
+-- the record has the units for the call
+abbrev pub fits : SimulatedDisk → Call → Bool
+fits disk call = nat_le (units_of call) disk.left
+
+-- the disk after a call, which is recorded where it fits
 abbrev pub after_call : SimulatedDisk → Call → SimulatedDisk
 after_call disk call = record disk {
-  past = (if nat_le (units_of call) disk.left then disk.past ++ record { number = disk.calls; call = call } ∷ [] else disk.past);
-  left = (if nat_le (units_of call) disk.left then disk.left - units_of call else disk.left);
+  past = (if fits disk call then disk.past ++ record { number = disk.calls; call = call } ∷ [] else disk.past);
+  left = (if fits disk call then disk.left - units_of call else disk.left);
   calls = next_count disk.calls;
 }
 
@@ -50,6 +59,6 @@ after_answer disk ok = record disk { faults = (if ok then disk.faults else next_
 abbrev pub IsNamed : SimulatedDisk → Type 0
 IsNamed disk = Contains disk.fails disk.calls ⊎ IsSomeAnd disk.stop (λ stop. stop ≤ disk.calls)
 
--- the next call fails, if it writes this many bytes or none
+-- the next call, which writes this many bytes or none, fails by its number, or since too few units are left
 abbrev pub IsRefused : SimulatedDisk → ℕ → Type 0
 IsRefused disk count = IsNamed disk ⊎ (disk.left < count + 1)

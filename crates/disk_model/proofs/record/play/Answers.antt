@@ -1,8 +1,7 @@
-use Rattle.std.proofs.Common.{◌≡◌, ◌∙◌, ap, sym, arith, true, false, ℕ, List, length, length-drop, ◌+◌}
+use Rattle.std.proofs.Common.{◌∙◌, ap, sym, arith, ℕ}
 use Rattle.disk_model.specs.declared.entry.Entry.{Entry}
 use Rattle.disk_model.specs.declared.entry.Kind.TheVariants.{Look}
-use Rattle.disk_model.specs.Memory.Images.{Kept, shown}
-use Rattle.disk_model.specs.Memory.Record.{count_of, call_of}
+use Rattle.disk_model.specs.Memory.Images.{shown}
 use Rattle.disk_model.proofs.Begun.{stops_at, goes_on_at, ends_at, total_at}
 use Rattle.disk_model.proofs.record.play.Goals as goal
 
@@ -32,7 +31,7 @@ loop-entry-preserved c =
             _,
             c.in_ok-apply.ensures.replay now.0 now.1,
             goes_on_at c.args.moment now.0 all i rest none c.count.result c.split_at.result.0.now c.split_at.result.1.now c.loop-entry-test.true (sym (c.has_begun.ensures rest) ∙ c.if-not-has_begun.false) c.count.ensures
-            c.split_at.ensures.front c.split_at.ensures.back ∙ now.2,
+                c.split_at.ensures.front c.split_at.ensures.back ∙ now.2,
           );
     }
 

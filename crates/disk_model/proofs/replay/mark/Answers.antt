@@ -1,4 +1,4 @@
-use Rattle.std.proofs.Common.{◌≡◌, ◌≢◌, arith}
+use Rattle.std.proofs.Common.{◌≡◌, arith}
 use Rattle.std.proofs.lemmas.Result.{on_ok_weaker}
 use Rattle.disk_model.proofs.Shown.{shown_write_zero, shown_write_one, shown_write_more}
 use Rattle.disk_model.proofs.replay.mark.Goals as goal

@@ -1,4 +1,4 @@
-use Rattle.std.proofs.Common.{arith, ap, length, ◌≡◌, ◌∙◌, ℕ, List, [], ◌+◌, ◌-◌, refl}
+use Rattle.std.proofs.Common.{arith, ap, length, ◌≡◌, ◌+◌, ◌-◌, refl}
 use Rattle.disk_model.proofs.Entries.{total_none, past_of_none}
 use Rattle.disk_model.proofs.record.Record.new.Goals as goal
 

@@ -1,8 +1,8 @@
--- How a record shows its calls.
+-- How a record keeps what it shows.
 use Rattle.std.specs.Prelude.{◌≡◌, ◌+◌, ◌-◌, ◌≤◌, length, vec_capacity}
 use Rattle.disk_model.specs.declared.record.Record.TheInside.{Inside}
 use Rattle.disk_model.specs.Memory.Record.{past_of, total}
-use Rattle.disk_model.specs.Memory.Recorded.{Recorded}
+use Rattle.disk_model.specs.Memory.Model.{Recorded}
 
 abbrev pub recorded : Inside → Recorded
 recorded r = record {
