@@ -1,7 +1,8 @@
-ghost use Rattle.std.specs.Prelude.{◌≡◌};
+ghost use Rattle.std.specs.Prelude.{◌≡◌, IfOk, IfSome};
 ghost use Rattle.std.specs.Option.{option_map};
 ghost use Rattle.job_words.specs.Found.{given_in};
 ghost use Rattle.job_words.specs.Jobs.{AnswersJob, job_in, job_named, job_of, texts_in};
+ghost use Rattle.job_words.specs.Lawful.{IsLawful};
 ghost use Rattle.job_words.specs.Words.{texts_of};
 
 use crate::command_line::command_line;
@@ -14,7 +15,8 @@ use std::alloc::Global;
 
 // The job of a command, where its row holds.
 fn job_named<'a>(matches: &ArgMatches<'a>, command: &str) -> Option<Job<&'a str>>
-    ensures { option_map texts_in result ≡ job_named (given_in matches.now) command.now }
+    ensures job { option_map texts_in result ≡ job_named (given_in matches.now) command.now }
+    ensures lawful { IfSome result IsLawful }
 {
     match command {
         "scan" => rows::scan(matches),
@@ -36,7 +38,8 @@ fn job_named<'a>(matches: &ArgMatches<'a>, command: &str) -> Option<Job<&'a str>
 
 // The job of what the words give.
 fn job_from<'a>(matches: &ArgMatches<'a>) -> Option<Job<&'a str>>
-    ensures { option_map texts_in result ≡ job_in (given_in matches.now) }
+    ensures job { option_map texts_in result ≡ job_in (given_in matches.now) }
+    ensures lawful { IfSome result IsLawful }
 {
     job_named(matches, value(matches, "COMMAND")?)
 }
@@ -45,7 +48,8 @@ fn job_from<'a>(matches: &ArgMatches<'a>) -> Option<Job<&'a str>>
 ///
 /// [`JobFault::Usage`] comes only where the words are no job, and nothing but want of memory comes beside it there.
 pub fn read_job(alloc: Global, words: &[String]) -> Result<Job<&str>, JobFault>
-    ensures { AnswersJob (job_of (texts_of words.now)) result }
+    ensures job { AnswersJob (job_of (texts_of words.now)) result }
+    ensures lawful { IfOk result IsLawful }
 {
     let Ok(command) = command_line(alloc) else {
         return Err(JobFault::Memory);

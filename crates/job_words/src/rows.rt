@@ -1,6 +1,7 @@
-ghost use Rattle.std.specs.Prelude.{◌≡◌};
+ghost use Rattle.std.specs.Prelude.{◌≡◌, IfSome};
 ghost use Rattle.std.specs.Option.{option_map};
 ghost use Rattle.job_words.specs.Found.{given_in};
+ghost use Rattle.job_words.specs.Lawful.{IsLawful};
 ghost use Rattle.job_words.specs.Jobs.{proof_in, texts_in};
 ghost use Rattle.job_words.specs.Rows.{audit_in, batch_in, carry_in, check_in, create_in, gen_in, join_in, migrate_in, prove_in, scan_in, seal_in, session_in, shape_in, verify_in};
 
@@ -13,7 +14,8 @@ use clap::ArgMatches;
 
 /// The row of `scan`.
 pub fn scan<'a>(matches: &ArgMatches<'a>) -> Option<Job<&'a str>>
-    ensures { option_map texts_in result ≡ scan_in (given_in matches.now) }
+    ensures job { option_map texts_in result ≡ scan_in (given_in matches.now) }
+    ensures lawful { IfSome result IsLawful }
 {
     if has_other(matches, &["metric", "dim", "max", "tags"]) {
         return None;
@@ -27,7 +29,8 @@ pub fn scan<'a>(matches: &ArgMatches<'a>) -> Option<Job<&'a str>>
 
 /// The row of `create`.
 pub fn create<'a>(matches: &ArgMatches<'a>) -> Option<Job<&'a str>>
-    ensures { option_map texts_in result ≡ create_in (given_in matches.now) }
+    ensures job { option_map texts_in result ≡ create_in (given_in matches.now) }
+    ensures lawful { IfSome result IsLawful }
 {
     if has_other(
         matches,
@@ -45,7 +48,8 @@ pub fn create<'a>(matches: &ArgMatches<'a>) -> Option<Job<&'a str>>
 
 /// The row of `session`.
 pub fn session<'a>(matches: &ArgMatches<'a>) -> Option<Job<&'a str>>
-    ensures { option_map texts_in result ≡ session_in (given_in matches.now) }
+    ensures job { option_map texts_in result ≡ session_in (given_in matches.now) }
+    ensures lawful { IfSome result IsLawful }
 {
     if has_other(matches, &["INDEX", "log", "workers", "tags"]) {
         return None;
@@ -60,7 +64,8 @@ pub fn session<'a>(matches: &ArgMatches<'a>) -> Option<Job<&'a str>>
 
 /// The row of `shape`.
 pub fn shape<'a>(matches: &ArgMatches<'a>) -> Option<Job<&'a str>>
-    ensures { option_map texts_in result ≡ shape_in (given_in matches.now) }
+    ensures job { option_map texts_in result ≡ shape_in (given_in matches.now) }
+    ensures lawful { IfSome result IsLawful }
 {
     if has_other(matches, &["INDEX"]) {
         return None;
@@ -72,7 +77,8 @@ pub fn shape<'a>(matches: &ArgMatches<'a>) -> Option<Job<&'a str>>
 
 /// The row of `audit`.
 pub fn audit<'a>(matches: &ArgMatches<'a>) -> Option<Job<&'a str>>
-    ensures { option_map texts_in result ≡ audit_in (given_in matches.now) }
+    ensures job { option_map texts_in result ≡ audit_in (given_in matches.now) }
+    ensures lawful { IfSome result IsLawful }
 {
     if has_other(matches, &["INDEX", "workers"]) {
         return None;
@@ -85,7 +91,8 @@ pub fn audit<'a>(matches: &ArgMatches<'a>) -> Option<Job<&'a str>>
 
 /// The row of `verify`.
 pub fn verify<'a>(matches: &ArgMatches<'a>) -> Option<Job<&'a str>>
-    ensures { option_map texts_in result ≡ verify_in (given_in matches.now) }
+    ensures job { option_map texts_in result ≡ verify_in (given_in matches.now) }
+    ensures lawful { IfSome result IsLawful }
 {
     if has_other(matches, &["INDEX", "log", "other"]) {
         return None;
@@ -99,7 +106,8 @@ pub fn verify<'a>(matches: &ArgMatches<'a>) -> Option<Job<&'a str>>
 
 /// The row of `check`.
 pub fn check<'a>(matches: &ArgMatches<'a>) -> Option<Job<&'a str>>
-    ensures { option_map texts_in result ≡ check_in (given_in matches.now) }
+    ensures job { option_map texts_in result ≡ check_in (given_in matches.now) }
+    ensures lawful { IfSome result IsLawful }
 {
     if has_other(matches, &["INDEX", "log", "other"]) {
         return None;
@@ -113,7 +121,8 @@ pub fn check<'a>(matches: &ArgMatches<'a>) -> Option<Job<&'a str>>
 
 /// The row of `join`.
 pub fn join<'a>(matches: &ArgMatches<'a>) -> Option<Job<&'a str>>
-    ensures { option_map texts_in result ≡ join_in (given_in matches.now) }
+    ensures job { option_map texts_in result ≡ join_in (given_in matches.now) }
+    ensures lawful { IfSome result IsLawful }
 {
     if has_other(matches, &["INDEX", "other", "radius", "log"]) {
         return None;
@@ -128,7 +137,8 @@ pub fn join<'a>(matches: &ArgMatches<'a>) -> Option<Job<&'a str>>
 
 /// The row of `gen`.
 pub fn generate<'a>(matches: &ArgMatches<'a>) -> Option<Job<&'a str>>
-    ensures { option_map texts_in result ≡ gen_in (given_in matches.now) }
+    ensures job { option_map texts_in result ≡ gen_in (given_in matches.now) }
+    ensures lawful { IfSome result IsLawful }
 {
     if has_other(
         matches,
@@ -150,7 +160,8 @@ pub fn generate<'a>(matches: &ArgMatches<'a>) -> Option<Job<&'a str>>
 
 /// The row of `migrate`.
 pub fn migrate<'a>(matches: &ArgMatches<'a>) -> Option<Job<&'a str>>
-    ensures { option_map texts_in result ≡ migrate_in (given_in matches.now) }
+    ensures job { option_map texts_in result ≡ migrate_in (given_in matches.now) }
+    ensures lawful { IfSome result IsLawful }
 {
     if has_other(matches, &["INDEX", "other"]) {
         return None;
@@ -163,7 +174,8 @@ pub fn migrate<'a>(matches: &ArgMatches<'a>) -> Option<Job<&'a str>>
 
 /// The row of `batch`.
 pub fn batch<'a>(matches: &ArgMatches<'a>) -> Option<Job<&'a str>>
-    ensures { option_map texts_in result ≡ batch_in (given_in matches.now) }
+    ensures job { option_map texts_in result ≡ batch_in (given_in matches.now) }
+    ensures lawful { IfSome result IsLawful }
 {
     if has_other(matches, &["INDEX", "workers", "log", "tags"]) {
         return None;
@@ -178,7 +190,8 @@ pub fn batch<'a>(matches: &ArgMatches<'a>) -> Option<Job<&'a str>>
 
 /// The row of `seal`.
 pub fn seal<'a>(matches: &ArgMatches<'a>) -> Option<Job<&'a str>>
-    ensures { option_map texts_in result ≡ seal_in (given_in matches.now) }
+    ensures job { option_map texts_in result ≡ seal_in (given_in matches.now) }
+    ensures lawful { IfSome result IsLawful }
 {
     if has_other(matches, &["INDEX"]) {
         return None;
@@ -190,7 +203,8 @@ pub fn seal<'a>(matches: &ArgMatches<'a>) -> Option<Job<&'a str>>
 
 // The row of `proof` with INDEX.
 fn carry<'a>(matches: &ArgMatches<'a>) -> Option<Job<&'a str>>
-    ensures { option_map texts_in result ≡ carry_in (given_in matches.now) }
+    ensures job { option_map texts_in result ≡ carry_in (given_in matches.now) }
+    ensures lawful { IfSome result IsLawful }
 {
     if has_other(matches, &["INDEX", "log", "proof"]) {
         return None;
@@ -204,7 +218,8 @@ fn carry<'a>(matches: &ArgMatches<'a>) -> Option<Job<&'a str>>
 
 // The row of `proof` without INDEX.
 fn prove<'a>(matches: &ArgMatches<'a>) -> Option<Job<&'a str>>
-    ensures { option_map texts_in result ≡ prove_in (given_in matches.now) }
+    ensures job { option_map texts_in result ≡ prove_in (given_in matches.now) }
+    ensures lawful { IfSome result IsLawful }
 {
     if has_other(matches, &["log", "root"]) {
         return None;
@@ -217,7 +232,8 @@ fn prove<'a>(matches: &ArgMatches<'a>) -> Option<Job<&'a str>>
 
 /// The rows of `proof`.
 pub fn proof<'a>(matches: &ArgMatches<'a>) -> Option<Job<&'a str>>
-    ensures { option_map texts_in result ≡ proof_in (given_in matches.now) }
+    ensures job { option_map texts_in result ≡ proof_in (given_in matches.now) }
+    ensures lawful { IfSome result IsLawful }
 {
     if value(matches, "INDEX").is_some() {
         carry(matches)

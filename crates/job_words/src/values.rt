@@ -3,6 +3,7 @@ ghost use Rattle.std.specs.List.{list_any};
 ghost use Rattle.std.specs.Str.{bytes_eq};
 ghost use Rattle.job_words.specs.Found.{given_in};
 ghost use Rattle.job_words.specs.Given.{is_other, has_other, number_given, limit_given, workers_given, count_given, seed_given, radius_given, show_given, space_given, generated_space_given, policies_given, digest_of, root_given, promote_or, split_or, is_lower_digit};
+ghost use Rattle.job_words.specs.Lawful.{AreWorkers, IsCount, IsLawfulSpace, IsLimit};
 ghost use Rattle.job_words.specs.Names.{is_halved, is_generated};
 
 use crate::command_line::OPTIONS;
@@ -68,7 +69,7 @@ fn number_in(
     other: Option<u64>,
 ) -> Option<u64>
     ensures value { result ≡ number_given name.now least most other (given_in matches.now) }
-    ensures within { IfSome other (λ n. n ≤ most) → IfSome result (λ n. n ≤ most) }
+    ensures within { IfSome other (λ n. (least ≤ n) × (n ≤ most)) → IfSome result (λ n. (least ≤ n) × (n ≤ most)) }
 {
     let Some(text) = value(matches, name) else {
         return other;
@@ -82,7 +83,8 @@ fn number_in(
 
 /// The most objects, `--max`.
 pub fn limit_in(matches: &ArgMatches<'_>) -> Option<u32>
-    ensures { result ≡ limit_given (given_in matches.now) }
+    ensures value { result ≡ limit_given (given_in matches.now) }
+    ensures lawful { IfSome result IsLimit }
 {
     let limit = number_in(matches, "max", 1, 16777216, Some(16777216))?;
     Some(limit as u32)
@@ -90,7 +92,8 @@ pub fn limit_in(matches: &ArgMatches<'_>) -> Option<u32>
 
 /// The number of threads, `--workers`.
 pub fn workers_in(matches: &ArgMatches<'_>) -> Option<usize>
-    ensures { result ≡ workers_given (given_in matches.now) }
+    ensures value { result ≡ workers_given (given_in matches.now) }
+    ensures lawful { IfSome result AreWorkers }
 {
     let workers = number_in(matches, "workers", 1, 64, Some(1))?;
     Some(workers as usize)
@@ -98,7 +101,8 @@ pub fn workers_in(matches: &ArgMatches<'_>) -> Option<usize>
 
 /// How many objects are generated, `--count`.
 pub fn count_in(matches: &ArgMatches<'_>) -> Option<u32>
-    ensures { result ≡ count_given (given_in matches.now) }
+    ensures value { result ≡ count_given (given_in matches.now) }
+    ensures lawful { IfSome result IsCount }
 {
     let count = number_in(matches, "count", 1, 1048576, None)?;
     Some(count as u32)
@@ -140,7 +144,8 @@ fn is_halved(metric: MetricName) -> bool
 
 /// The space of `--metric` and `--dim`.
 pub fn space_in(matches: &ArgMatches<'_>) -> Option<SpaceName>
-    ensures { result ≡ space_given (given_in matches.now) }
+    ensures value { result ≡ space_given (given_in matches.now) }
+    ensures lawful { IfSome result IsLawfulSpace }
 {
     let metric = metric_named(value(matches, "metric")?)?;
     let dim = number_in(matches, "dim", 1, 64, None)? as u8;
@@ -159,7 +164,8 @@ fn is_generated(metric: MetricName) -> bool
 
 /// The space of `--metric` and `--dim`, where the generator makes its points.
 pub fn generated_space_in(matches: &ArgMatches<'_>) -> Option<SpaceName>
-    ensures { result ≡ generated_space_given (given_in matches.now) }
+    ensures value { result ≡ generated_space_given (given_in matches.now) }
+    ensures lawful { IfSome result IsLawfulSpace }
 {
     let space = space_in(matches)?;
     if !is_generated(space.metric) {
