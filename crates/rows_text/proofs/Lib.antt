@@ -1,1 +1,5 @@
 mod RunSteps
+pub mod NumberLemmas
+pub mod RecordLemmas
+pub mod FieldsLemmas
+pub mod LoadLemmas

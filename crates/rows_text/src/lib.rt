@@ -2,13 +2,22 @@
 #![tactic(auto)]
 
 mod command;
+mod field;
 pub mod laws;
+mod load;
+mod number;
+mod points;
+mod reading;
 mod refusal;
 mod reply;
+mod script;
+mod single;
+mod state;
 
 pub use command::Command;
 pub use refusal::Refusal;
 pub use reply::Reply;
+pub use script::read_script;
 
 /// Want of memory.
 pub type Memory = std::alloc::AllocError;
