@@ -3,3 +3,4 @@ pub mod NumberLemmas
 pub mod RecordLemmas
 pub mod FieldsLemmas
 pub mod LoadLemmas
+pub mod StartLemmas

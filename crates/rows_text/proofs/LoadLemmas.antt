@@ -63,7 +63,7 @@ abbrev made_tagged : List ℕ → Table → List (ℕ × List ℕ) → Command
 made_tagged tags rows more = command.TagLoad (tags ++ map (λ row. row.0) more) (record rows { points = rows.points ++ map (λ row. row.1) more })
 
 -- the command of an open load, by its parts
-abbrev end_by : Bool → ℕ → List ℕ → Table → Option ℕ → ℕ → List Fields → Command
+abbrev pub end_by : Bool → ℕ → List ℕ → Table → Option ℕ → ℕ → List Fields → Command
 end_by tagged words tags rows bad left after =
     if tagged then goes_on (tag_row_of words) (made_tagged tags rows) bad (length rows.points) left after
     else goes_on (row_of words) (made_points rows) bad (length rows.points) left after
