@@ -4,3 +4,4 @@ pub mod RecordLemmas
 pub mod FieldsLemmas
 pub mod LoadLemmas
 pub mod StartLemmas
+pub mod ReadableLemmas

@@ -5,7 +5,7 @@ use Rattle.csv.specs.declared.reader.Trim.TheVariants as trim
 use Rattle.rows_text.specs.Records.{Fields, without_blanks}
 use Rattle.rows_text.specs.Reading.{commands_with}
 use Rattle.rows_text.specs.Script.{commands_after}
-use Rattle.rows_text.proofs.script.read_script.Given as goal
+use Rattle.rows_text.proofs.script.read_commands.Given as goal
 
 -- the records so far take the text to where the reader stands, and with those that follow they make the same commands
 abbrev pub invariant-loop-row : goal.invariant-loop-row
