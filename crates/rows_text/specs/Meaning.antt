@@ -111,22 +111,22 @@ cursor_step s state q =
 abbrev pub cursor_named : ℕ → State → Option Cursor
 cursor_named number state = find (λ c. c.number == number) state.cursors
 
--- the cursors, where the one of this number has given n hits more
-abbrev pub given_more : ℕ → ℕ → List Cursor → List Cursor
-given_more number n cursors = map {A = Cursor} (λ c. if c.number == number then record c { hits = drop n c.hits; tags = drop n c.tags } else c) cursors
+-- a cursor, where it has this number after its next n hits
+abbrev pub advanced : ℕ → ℕ → Cursor → Cursor
+advanced number n c = if c.number == number then record c { hits = drop n c.hits; tags = drop n c.tags } else c
 
-abbrev pub next_from : State → ℕ → Option Cursor → Step
-next_from state n None = refused state refusal.NoCursor
-next_from state n (Some c) = record {
+abbrev pub next_from : State → ℕ → ℕ → Option Cursor → Step
+next_from state number n None = refused state refusal.NoCursor
+next_from state number n (Some c) = record {
   reply = reply.Next (take n c.hits) (take n c.tags);
-  state = record state { cursors = given_more c.number n state.cursors };
+  state = record state { cursors = map (advanced number n) state.cursors };
 }
 
-abbrev pub close_from : State → Option Cursor → Step
-close_from state None = refused state refusal.NoCursor
-close_from state (Some c) = record {
-  reply = reply.Closed c.number;
-  state = record state { cursors = filter (λ other. not (other.number == c.number)) state.cursors };
+abbrev pub close_from : State → ℕ → Option Cursor → Step
+close_from state number None = refused state refusal.NoCursor
+close_from state number (Some c) = record {
+  reply = reply.Closed number;
+  state = record state { cursors = filter (λ other. not (other.number == number)) state.cursors };
 }
 
 -- what a command does whose points are points of the space
@@ -140,8 +140,8 @@ execute setting state (command.Nearest k q) = record { reply = hits_reply state.
 execute setting state command.Count = record { reply = reply.Count (length state.objects.points); state = state }
 execute setting state (command.Bad why) = refused state why
 execute setting state (command.Cursor q) = cursor_step setting.space state q
-execute setting state (command.Next cursor n) = next_from state n (cursor_named cursor state)
-execute setting state (command.Close cursor) = close_from state (cursor_named cursor state)
+execute setting state (command.Next cursor n) = next_from state cursor n (cursor_named cursor state)
+execute setting state (command.Close cursor) = close_from state cursor (cursor_named cursor state)
 
 -- one command: a point that is none of the space is refused before all else
 abbrev pub step : Setting → State → Command → Step

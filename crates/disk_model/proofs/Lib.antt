@@ -1,0 +1,5 @@
+pub mod Entries
+pub mod Calls
+pub mod Steps
+pub mod Shown
+pub mod Begun

@@ -1,0 +1,3 @@
+pub mod Disk
+pub mod Moments
+pub mod Memory

@@ -1,0 +1,56 @@
+ghost use Rattle.std.specs.Prelude.{◌≡◌, ◌+◌, ◌^◌, ◌<◌, ◌≤◌, ℕ, List, length, set, slice_index, IsTrue, OnOk, IfOk};
+ghost use Rattle.outside_io.specs.Causes.{HasCause};
+ghost use Rattle.disk_model.specs.Disk.{DiskState, MayLeave, LeavesOnly, Written, Torn, Follows, IsUnchanged, IsOneCall};
+
+use crate::Failed;
+
+/// One file: reads, writes and syncs. A crash may cut short what no sync has made durable.
+pub trait Disk {
+    /// What a read gives, what a crash at each moment may leave, and how often the disk failed and was read.
+    ghost state: { Self → DiskState };
+
+    /// The number of bytes.
+    fn size(&mut self) -> Result<u64, Failed>
+        ensures size { IfOk result (λ n. IsTrue (state self.old).tells → n ≡ length (state self.old).bytes) }
+        ensures same { IsUnchanged (state self.old) (state self.new) }
+        ensures reads { (state self.new).reads ≡ (state self.old).reads }
+        ensures cause { HasCause (state self.old).faults (state self.new).faults result };
+
+    /// Fills `buf` with the bytes from a place on. A place past the end reads as 0.
+    fn read_at(&mut self, at: u64, buf: &mut [u8]) -> Result<(), Failed>
+        requires { at + length buf.old ≤ 2 ^ 37 }
+        ensures read { OnOk result (IsTrue (state self.old).tells
+            → (i : ℕ) → i < length buf.old → slice_index buf.new i ≡ slice_index (state self.old).bytes (at + i)) }
+        ensures same { IsUnchanged (state self.old) (state self.new) }
+        ensures reads { (state self.new).reads ≤ (state self.old).reads + 1 }
+        ensures cause { HasCause (state self.old).faults (state self.new).faults result };
+
+    /// Writes over what is there and past the end, and fills a gap before the place with 0. Until a sync answers `Ok`
+    /// a crash may leave any bytes in the range. After `Failed` a read may give any of them too.
+    fn write_at(&mut self, at: u64, bytes: &[u8]) -> Result<(), Failed>
+        requires { at + length bytes.now ≤ 2 ^ 37 }
+        ensures written { OnOk result (IsTrue (state self.old).tells → Written at bytes.now (state self.old).bytes (state self.new).bytes) }
+        ensures others { IsTrue (state self.old).tells → Torn at (length bytes.now) (state self.old).bytes (state self.new).bytes }
+        ensures tells { (state self.new).tells ≡ (state self.old).tells }
+        ensures torn { Follows (Torn at (length bytes.now)) (state self.old) (state self.new) }
+        ensures time { IsOneCall (state self.old) (state self.new) }
+        ensures reads { (state self.new).reads ≡ (state self.old).reads }
+        ensures cause { HasCause (state self.old).faults (state self.new).faults result };
+
+    /// After `Ok` a crash leaves what a read gives. After `Failed` nothing is durable that was not before.
+    fn sync(&mut self) -> Result<(), Failed>
+        ensures durable { OnOk result (LeavesOnly (state self.new) (state self.old).bytes) }
+        ensures bytes { (state self.new).bytes ≡ (state self.old).bytes }
+        ensures tells { (state self.new).tells ≡ (state self.old).tells }
+        ensures fewer { (image : List ℕ) → MayLeave (state self.new) image → MayLeave (state self.old) image }
+        ensures time { IsOneCall (state self.old) (state self.new) }
+        ensures reads { (state self.new).reads ≡ (state self.old).reads }
+        ensures cause { HasCause (state self.old).faults (state self.new).faults result };
+
+    /// The file as a read gives it is one that a crash may leave.
+    ghost read_is_image: { (disk : Self) → IsTrue (state disk).tells → MayLeave (state disk) (state disk).bytes };
+
+    /// Images mix place by place: a crash may leave in one the byte of another.
+    ghost places_mix: { (disk : Self) (one other : List ℕ) (i : ℕ) → MayLeave (state disk) one → MayLeave (state disk) other
+        → i < length one → i < length other → MayLeave (state disk) (set one i (slice_index other i)) };
+}

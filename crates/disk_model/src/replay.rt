@@ -1,0 +1,110 @@
+ghost use Rattle.std.specs.Prelude.{◌≡◌, ◌⊎◌, ◌+◌, ◌≤◌, ◌<◌, ◌%◌, ℕ, Bool, List, length, slice_index, OnOk, IfOk};
+ghost use Rattle.disk_model.specs.Disk.{Written};
+ghost use Rattle.disk_model.specs.Memory.Model.{write};
+ghost use Rattle.disk_model.specs.Memory.Images.{Kept, at_rest, after, shown};
+ghost use Rattle.disk_model.specs.Memory.Record.{count_of, call_of};
+ghost use Rattle.disk_model.specs.Memory.Replay.{IsReplay, IsPainted};
+
+use crate::Memory;
+use crate::entry::Kind;
+use crate::file::overwrite;
+use std::alloc::{AllocError, Global};
+
+/// The calls of a disk in memory, done once more: what a read gives, and the image that a pick shows.
+#[derive(Drop)]
+pub struct Replay {
+    read: Vec<u8>,
+    image: Vec<u8>,
+    pick: u64,
+}
+
+impl Replay {
+    /// Before the first call, over this file.
+    pub fn new(alloc: Global, first: &[u8], pick: u64) -> Result<Replay, Memory>
+        ensures replay { IfOk result (λ replay. IsReplay replay (at_rest first.now)) }
+        ensures pick { IfOk result (λ replay. replay.pick ≡ pick) }
+    {
+        Ok(Replay {
+            read: first.to_vec(alloc)?,
+            image: first.to_vec(alloc)?,
+            pick,
+        })
+    }
+
+    /// The image at which the replay stands.
+    pub fn into_image(self) -> Vec<u8>
+        ensures { result.items ≡ self.image.items }
+    {
+        self.image
+    }
+
+    /// Does a call once more.
+    pub fn apply(&mut self, kind: Kind, bytes: &[u8]) -> Result<(), Memory>
+        requires { count_of kind ≡ length bytes.now }
+        ensures replay { OnOk result ((kept : Kept) → IsReplay self.old kept → IsReplay self.new (after kept (call_of kind bytes.now))) }
+        ensures pick { self.new.pick ≡ self.old.pick }
+    {
+        match kind {
+            Kind::Look => Ok(()),
+            Kind::Sync => replace(&mut self.image, &self.read),
+            Kind::Write { at, done, .. } => self.redo(at, bytes, done),
+        }
+    }
+
+    // A write, done or failed.
+    fn redo(&mut self, at: usize, bytes: &[u8], done: bool) -> Result<(), Memory>
+        ensures replay { OnOk result ((kept : Kept) → IsReplay self.old kept → IsReplay self.new (after kept (write at bytes.now done))) }
+        ensures pick { self.new.pick ≡ self.old.pick }
+    {
+        mark(&mut self.image, at, bytes, self.pick)?;
+        if !done {
+            return Ok(());
+        }
+        rewrite(&mut self.read, at, bytes)
+    }
+}
+
+// What a pick makes of a write.
+fn mark(image: &mut Vec<u8>, at: usize, bytes: &[u8], pick: u64) -> Result<(), Memory>
+    ensures { OnOk result ((kept : Kept) (done : Bool) → image.old.items ≡ shown pick kept → length kept.synced ≤ length kept.last
+        → image.new.items ≡ shown pick (after kept (write at bytes.now done))) }
+{
+    if pick == 0 {
+        return Ok(());
+    }
+    if pick == 1 {
+        return rewrite(image, at, bytes);
+    }
+    paint(image, at, bytes.len(), (pick % 256) as u8)
+}
+
+fn replace(file: &mut Vec<u8>, bytes: &[u8]) -> Result<(), Memory>
+    ensures { OnOk result (file.new.items ≡ bytes.now) }
+{
+    file.clear();
+    file.extend_from_slice(bytes)
+}
+
+// These bytes at this place. A gap before them is filled with 0.
+fn rewrite(file: &mut Vec<u8>, at: usize, bytes: &[u8]) -> Result<(), Memory>
+    ensures { OnOk result (Written at bytes.now file.old.items file.new.items) }
+{
+    let end = at.checked_add(bytes.len()).ok_or(AllocError)?;
+    if file.capacity() < end {
+        file.reserve(end - file.len())?;
+    }
+    overwrite(file, at, bytes);
+    Ok(())
+}
+
+// This byte in so many places from one on, and in a gap before them.
+fn paint(file: &mut Vec<u8>, at: usize, count: usize, value: u8) -> Result<(), Memory>
+    ensures { OnOk result (IsPainted value at count file.old.items file.new.items) }
+{
+    let end = at.checked_add(count).ok_or(AllocError)?;
+    if file.len() < end {
+        file.resize(end, value)?;
+    }
+    file[at..end].fill(value);
+    Ok(())
+}

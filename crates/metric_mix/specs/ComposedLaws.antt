@@ -1,0 +1,101 @@
+-- Composed spaces are spaces, by the axioms of their parts alone.
+use Rattle.std.specs.Prelude.{◌≡◌, ℕ, ◌+◌, ◌≤◌, ◌<◌, ◌^◌, ◌&&◌, List, ◌++◌, take, drop, length, All, IsTrue}
+use Rattle.std.proofs.Common.{arith, ap, sym, ◌∙◌, subst}
+use Rattle.std.proofs.lemmas.Bool.{and_parts}
+use Rattle.std.proofs.lemmas.List.{take-append-drop, length-append}
+use Rattle.std.proofs.lemmas.List.Elements.{All-append}
+use Rattle.metric_laws.specs.Space.{Space, IsSpace, bound}
+use Rattle.metric_mix.specs.Composed.{capped_space, fits_both, sum_space, most_space}
+
+pub capped_axioms : (s : Space) (most : ℕ) → IsSpace s → 1 ≤ most → most ≤ bound → IsSpace (capped_space s most)
+capped_axioms s most is some low = record {
+  some_words = is.some_words;
+  few_words = is.few_words;
+  long = is.long;
+  small = is.small;
+  symmetric = λ a b fa fb. omega (arith, is.symmetric a b fa fb);
+  zero_same = λ a fa. omega (arith, is.zero_same a fa);
+  same_zero = λ a b fa fb none. is.same_zero a b fa fb (omega arith);
+  triangle = λ a b c fa fb fc. omega (arith, is.triangle a b c fa fb fc);
+  bounded = λ a b fa fb. omega arith;
+}
+
+front_fits : (s t : Space) (p : List ℕ) → IsTrue (fits_both s t p) → IsTrue (s.fits (take s.words p))
+front_fits s t p fits = (and_parts (s.fits (take s.words p)) (t.fits (drop s.words p)) fits).0
+
+back_fits : (s t : Space) (p : List ℕ) → IsTrue (fits_both s t p) → IsTrue (t.fits (drop s.words p))
+back_fits s t p fits = (and_parts (s.fits (take s.words p)) (t.fits (drop s.words p)) fits).1
+
+both_long : (s t : Space) → IsSpace s → IsSpace t → (p : List ℕ) → IsTrue (fits_both s t p) → length p ≡ s.words + t.words
+both_long s t is it p fits =
+    let front = is.long (take s.words p) (front_fits s t p fits) in
+    let back = it.long (drop s.words p) (back_fits s t p fits) in
+    let whole = ap length (take-append-drop s.words p) in
+    omega (arith, length-append (take s.words p) (drop s.words p))
+
+both_small : (s t : Space) → IsSpace s → IsSpace t → (p : List ℕ) → IsTrue (fits_both s t p) → All (λ x. x < 2 ^ 32) p
+both_small s t is it p fits =
+    subst (λ (l : List ℕ). All (λ x. x < 2 ^ 32) l) (take-append-drop s.words p)
+    (All-append (λ x. x < 2 ^ 32) (take s.words p) (drop s.words p) (is.small _ (front_fits s t p fits)) (it.small _ (back_fits s t p fits)))
+
+both_same : (n : ℕ) (a b : List ℕ) → take n a ≡ take n b → drop n a ≡ drop n b → a ≡ b
+both_same n a b front back = sym (take-append-drop n a) ∙ (λ i. front i ++ back i) ∙ take-append-drop n b
+
+pub sum_axioms : (s t : Space) → IsSpace s → IsSpace t → s.words + t.words ≤ 64 → IsSpace (sum_space s t)
+sum_axioms s t is it few = record {
+  some_words = omega (arith, is.some_words);
+  few_words = few;
+  long = both_long s t is it;
+  small = both_small s t is it;
+  symmetric = λ a b fa fb.
+      omega (
+        arith,
+        is.symmetric (take s.words a) (take s.words b) (front_fits s t a fa) (front_fits s t b fb),
+        it.symmetric (drop s.words a) (drop s.words b) (back_fits s t a fa) (back_fits s t b fb),
+      );
+  zero_same = λ a fa.
+      omega (arith, is.zero_same (take s.words a) (front_fits s t a fa), it.zero_same (drop s.words a) (back_fits s t a fa));
+  same_zero = λ a b fa fb none.
+      both_same s.words a b
+      (is.same_zero (take s.words a) (take s.words b) (front_fits s t a fa) (front_fits s t b fb) (omega arith))
+      (it.same_zero (drop s.words a) (drop s.words b) (back_fits s t a fa) (back_fits s t b fb) (omega arith));
+  triangle = λ a b c fa fb fc.
+      omega (
+        arith,
+        is.triangle (take s.words a) (take s.words b) (take s.words c) (front_fits s t a fa) (front_fits s t b fb) (front_fits s t c fc),
+        it.triangle (drop s.words a) (drop s.words b) (drop s.words c) (back_fits s t a fa) (back_fits s t b fb) (back_fits s t c fc),
+      );
+  bounded = λ a b fa fb. omega arith;
+}
+
+pub most_axioms : (s t : Space) → IsSpace s → IsSpace t → s.words + t.words ≤ 64 → IsSpace (most_space s t)
+most_axioms s t is it few = record {
+  some_words = omega (arith, is.some_words);
+  few_words = few;
+  long = both_long s t is it;
+  small = both_small s t is it;
+  symmetric = λ a b fa fb.
+      omega (
+        arith,
+        is.symmetric (take s.words a) (take s.words b) (front_fits s t a fa) (front_fits s t b fb),
+        it.symmetric (drop s.words a) (drop s.words b) (back_fits s t a fa) (back_fits s t b fb),
+      );
+  zero_same = λ a fa.
+      omega (arith, is.zero_same (take s.words a) (front_fits s t a fa), it.zero_same (drop s.words a) (back_fits s t a fa));
+  same_zero = λ a b fa fb none.
+      both_same s.words a b
+      (is.same_zero (take s.words a) (take s.words b) (front_fits s t a fa) (front_fits s t b fb) (omega arith))
+      (it.same_zero (drop s.words a) (drop s.words b) (back_fits s t a fa) (back_fits s t b fb) (omega arith));
+  triangle = λ a b c fa fb fc.
+      omega (
+        arith,
+        is.triangle (take s.words a) (take s.words b) (take s.words c) (front_fits s t a fa) (front_fits s t b fb) (front_fits s t c fc),
+        it.triangle (drop s.words a) (drop s.words b) (drop s.words c) (back_fits s t a fa) (back_fits s t b fb) (back_fits s t c fc),
+      );
+  bounded = λ a b fa fb.
+      omega (
+        arith,
+        is.bounded (take s.words a) (take s.words b) (front_fits s t a fa) (front_fits s t b fb),
+        it.bounded (drop s.words a) (drop s.words b) (back_fits s t a fa) (back_fits s t b fb),
+      );
+}

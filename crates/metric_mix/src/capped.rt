@@ -1,0 +1,57 @@
+ghost use Rattle.std.specs.Prelude.{◌≡◌, ⊤, ◌≤◌, ◌^◌};
+ghost use Rattle.metric_mix.specs.Composed.{capped_space};
+ghost use Rattle.metric_mix.specs.ComposedLaws.{capped_axioms};
+
+use metric_laws::Metric;
+use std::alloc::AllocError;
+
+/// A metric of which no distance counts for more than `most`.
+#[derive(Debug)]
+pub struct Capped<M: Metric> {
+    pub metric: M,
+    pub most: u64,
+    ghost some: { 1 ≤ most },
+    ghost low: { most ≤ 2 ^ 38 },
+}
+
+impl<M: Metric> Capped<M> {
+    /// The metric, with `most` from 1 to `BOUND` in place of every greater distance.
+    pub fn new(metric: M, most: u64) -> Self
+        requires some { 1 ≤ most }
+        requires low { most ≤ 2 ^ 38 }
+        ensures metric { result.metric ≡ metric }
+        ensures most { result.most ≡ most }
+    {
+        Capped { metric, most }
+    }
+}
+
+impl<M: Metric> Clone for Capped<M> {
+    ghost is_clone = { λ x y. y ≡ x };
+
+    ghost is_infallible = { λ _. ⊤ };
+
+    fn clone(&self) -> Result<Self, AllocError> {
+        Ok(*self)
+    }
+}
+
+impl<M: Metric> Copy for Capped<M> {}
+
+impl<M: Metric> Metric for Capped<M> {
+    ghost space = { λ m. capped_space (M.space m.metric) m.most };
+
+    ghost axioms = { λ m. capped_axioms (M.space m.metric) m.most (M.axioms m.metric) m.some m.low };
+
+    fn words(&self) -> usize {
+        self.metric.words()
+    }
+
+    fn fits(&self, p: &[u32]) -> bool {
+        self.metric.fits(p)
+    }
+
+    fn dist(&self, a: &[u32], b: &[u32]) -> u64 {
+        self.metric.dist(a, b).min(self.most)
+    }
+}

@@ -1,0 +1,4 @@
+mod Numbers
+mod Closing
+mod Mapped
+pub mod WrittenLemmas

@@ -1,0 +1,20 @@
+use Rattle.std.proofs.Common.{◌≡◌, ◌≤◌, ◌<◌, ◌+◌, ◌^◌, length}
+use Rattle.std.specs.Prelude.{All, map}
+use Rattle.rows_text.specs.Meaning.{Setting, replies}
+use Rattle.rows_text.specs.Readable.{IsReadable}
+use Rattle.rows_text.specs.Texts.{text}
+use Rattle.plain_scan.specs.List.{IsListOf, state_of}
+use Rattle.plain_scan.specs.Written.{HasWritten, reply_texts}
+use Rattle.plain_scan.proofs.session.run_script.Given as goal
+
+-- the replies so far are written, and the others are those of the other commands on the list as it is
+abbrev pub invariant-loop-command : goal.invariant-loop-command
+invariant-loop-command g l = record {
+  wrote : HasWritten (g.K.Sink.written l.fn.out) (g.K.Sink.written l.out)
+      (reply_texts (record { space = g.M.Metric.space l.scan.metric; limit = l.scan.limit }) l.scan.show_tags l.fn.commands.items)
+      (map (text l.scan.show_tags) (replies (record { space = g.M.Metric.space l.scan.metric; limit = l.scan.limit }) (state_of l.list) l.command-iterator.rest.items));
+  list : IsListOf (g.M.Metric.space l.scan.metric) l.scan.limit l.list;
+  readable : All (IsReadable (g.M.Metric.space l.scan.metric).words) l.command-iterator.rest.items;
+  numbers : l.list.next + length l.command-iterator.rest.items < 2 ^ 32;
+  later : g.K.Sink.faults l.fn.out ≤ g.K.Sink.faults l.out;
+}

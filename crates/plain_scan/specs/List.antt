@@ -1,0 +1,20 @@
+-- A plain list as the meaning of commands sees it.
+use Rattle.std.specs.Prelude.{◌≡◌, ℕ, ◌+◌, ◌<◌, ◌≤◌, ◌^◌, List, length, All, IsTrue}
+use Rattle.metric_laws.specs.Space.{Space}
+use Rattle.rows_text.specs.Meaning.{State}
+use Rattle.plain_scan.specs.declared.list.PlainList.{PlainList}
+
+-- the objects and cursors of a list
+abbrev pub state_of : PlainList → State
+state_of list = record {
+  objects = record { points = list.rows.points; tags = list.tags.items };
+  cursors = list.cursors.items;
+  next = list.next;
+}
+
+-- a list of points of a space, no more than the limit, each with a tag
+pub record IsListOf (s : Space) (limit : ℕ) (list : PlainList) : Type 0 where
+  pub words : list.rows.words ≡ s.words
+  pub points : All (λ p. IsTrue (s.fits p)) list.rows.points
+  pub few : length list.rows.points ≤ limit
+  pub tagged : length list.tags.items ≡ length list.rows.points

@@ -1,0 +1,13 @@
+//! A plain list of objects with its open cursors, on which each command does what its meaning says.
+#![tactic(auto)]
+
+mod cursor;
+mod list;
+mod points;
+mod session;
+
+pub use list::PlainList;
+pub use session::{Scan, Stop, run_script};
+
+/// Want of memory.
+pub type Memory = std::alloc::AllocError;

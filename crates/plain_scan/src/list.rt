@@ -1,0 +1,250 @@
+ghost use Rattle.std.specs.Prelude.{◌≡◌, ◌≤◌, ◌<◌, ◌+◌, ◌-◌, ◌^◌, length, map, option_map, IfOk, OnErr, IsTrue, All};
+ghost use Rattle.rows_text.specs.Meaning.{nothing_yet, insert_step, load_step, hits_reply, tags_of, cursor_step, cursor_named, next_from, close_from, advanced, execute, step, has_points_of, numbers_from};
+ghost use Rattle.rows_text.specs.Readable.{IsReadable};
+ghost use Rattle.scan_model.specs.Scan.{nearest_hits};
+ghost use Rattle.plain_scan.specs.List.{state_of, IsListOf};
+
+use crate::Memory;
+use crate::cursor::OpenCursor;
+use crate::points::has_points_of;
+use metric_laws::{Listed, Metric, Point, Rows};
+use rows_text::{Command, Refusal, Reply};
+use scan_model::{Hit, scan_nearest, scan_range};
+use std::alloc::Global;
+
+const MOST_CURSORS: usize = 16;
+
+/// The objects accepted so far, and the open cursors.
+#[derive(Debug, Drop)]
+pub struct PlainList {
+    rows: Rows,
+    tags: Vec<u64>,
+    cursors: Vec<OpenCursor>,
+    next: u32,
+}
+
+// The tags of objects that are their ids.
+fn ids(alloc: Global, count: usize) -> Result<Vec<u64>, Memory>
+    ensures ids { IfOk result (λ ids. ids.items ≡ numbers_from 0 count) }
+    ensures count { IfOk result (λ ids. length ids.items ≡ count) }
+{
+    let mut ids = Vec::new(alloc);
+    for id in 0..count as u64 {
+        ids.push(id)?;
+    }
+    Ok(ids)
+}
+
+// The cursor of this number leaves out its next `n` hits.
+fn advance_cursors(cursors: &mut [OpenCursor], number: u32, n: u64)
+    ensures { cursors.new ≡ map (advanced number n) cursors.old }
+{
+    for cursor in cursors.iter_mut() {
+        cursor.advance(number, n);
+    }
+}
+
+impl PlainList {
+    /// An empty list of points of `words` coordinates.
+    pub fn new(alloc: Global, words: usize) -> Self
+        ensures state { state_of result ≡ nothing_yet }
+        ensures words { result.rows.words ≡ words }
+    {
+        PlainList {
+            rows: Rows::new(alloc, words),
+            tags: Vec::new(alloc),
+            cursors: Vec::new(alloc),
+            next: 0,
+        }
+    }
+
+    // Adds one object.
+    fn insert(&mut self, limit: u32, p: &[u32], tag: u64) -> Result<Reply, Memory>
+        requires words { length p.now ≡ self.old.rows.words }
+        requires limit { length self.old.rows.points ≤ limit }
+        ensures ok { IfOk result (λ reply. insert_step limit (state_of self.old) p.now tag ≡ record { reply = reply; state = state_of self.new }) }
+        ensures err { OnErr result (state_of self.new ≡ state_of self.old) }
+        ensures words { self.new.rows.words ≡ self.old.rows.words }
+    {
+        let id = self.rows.len();
+        if id >= limit as usize {
+            return Ok(Reply::Refused(Refusal::Full));
+        }
+        self.tags.reserve(1)?;
+        self.rows.push(p)?;
+        self.tags.push_reserved(tag);
+        Ok(Reply::Id(id as u32))
+    }
+
+    // Fills the empty list.
+    fn load(&mut self, limit: u32, rows: Rows, tags: Vec<u64>) -> Reply
+        requires { rows.words ≡ self.old.rows.words }
+        ensures step { load_step limit (state_of self.old) rows.points tags.items ≡ record { reply = result; state = state_of self.new } }
+        ensures words { self.new.rows.words ≡ self.old.rows.words }
+    {
+        if !self.rows.is_empty() {
+            return Reply::Refused(Refusal::NotEmpty);
+        }
+        let count = rows.len();
+        if count > limit as usize {
+            return Reply::Refused(Refusal::Full);
+        }
+        self.rows = rows;
+        self.tags = tags;
+        Reply::Loaded(count as u32)
+    }
+
+    // The tag of each hit.
+    fn tags_of(&self, alloc: Global, hits: &[Hit]) -> Result<Vec<u64>, Memory>
+        ensures { IfOk result (λ tags. tags.items ≡ tags_of (state_of self.now).objects hits.now) }
+    {
+        let mut tags = Vec::new(alloc);
+        for hit in hits {
+            tags.push(self.tags.get(hit.id as usize).copied().unwrap_or(0))?;
+        }
+        Ok(tags)
+    }
+
+    fn hits_reply(&self, alloc: Global, hits: Vec<Hit>) -> Result<Reply, Memory>
+        ensures { IfOk result (λ reply. reply ≡ hits_reply (state_of self.now).objects hits.items) }
+    {
+        let tags = self.tags_of(alloc, &hits)?;
+        Ok(Reply::Hits {
+            hits: Listed::new(hits),
+            tags: Listed::new(tags),
+        })
+    }
+
+    // Opens a cursor over all objects.
+    fn open<M: Metric>(&mut self, alloc: Global, metric: &M, q: &[u32]) -> Result<Reply, Memory>
+        requires few { length self.old.rows.points < 2 ^ 32 }
+        requires points { All (λ p. IsTrue ((M.space metric.now).fits p)) self.old.rows.points }
+        requires query { IsTrue ((M.space metric.now).fits q.now) }
+        requires numbers { self.old.next + 1 < 2 ^ 32 }
+        ensures ok { IfOk result (λ reply. cursor_step (M.space metric.now) (state_of self.old) q.now ≡ record { reply = reply; state = state_of self.new }) }
+        ensures err { OnErr result (state_of self.new ≡ state_of self.old) }
+        ensures rows { self.new.rows ≡ self.old.rows }
+        ensures tags { self.new.tags ≡ self.old.tags }
+    {
+        if self.cursors.len() >= MOST_CURSORS {
+            return Ok(Reply::Refused(Refusal::Cursors));
+        }
+        let hits = scan_nearest(alloc, metric, &self.rows, q, self.rows.len() as u64)?;
+        let tags = self.tags_of(alloc, &hits)?;
+        let number = self.next;
+        self.cursors.reserve(1)?;
+        self.cursors
+            .push_reserved(OpenCursor::new(number, hits, tags));
+        self.next = number + 1;
+        Ok(Reply::Cursor(number))
+    }
+
+    // The open cursor of this number.
+    fn cursor_named(&self, number: u32) -> Option<&OpenCursor>
+        ensures { option_map (λ c. c.now) result ≡ cursor_named number (state_of self.now) }
+    {
+        self.cursors.iter().find(|cursor| cursor.number() == number)
+    }
+
+    // The next hits of a cursor.
+    fn advance(&mut self, alloc: Global, number: u32, n: u64) -> Result<Reply, Memory>
+        ensures ok { IfOk result (λ reply. next_from (state_of self.old) number n (cursor_named number (state_of self.old)) ≡ record { reply = reply; state = state_of self.new }) }
+        ensures err { OnErr result (state_of self.new ≡ state_of self.old) }
+        ensures rows { self.new.rows ≡ self.old.rows }
+        ensures tags { self.new.tags ≡ self.old.tags }
+        ensures next { self.new.next ≡ self.old.next }
+    {
+        let Some(cursor) = self.cursor_named(number) else {
+            return Ok(Reply::Refused(Refusal::NoCursor));
+        };
+        let hits = cursor.next_hits(alloc, n)?;
+        let tags = cursor.next_tags(alloc, n)?;
+        advance_cursors(&mut self.cursors, number, n);
+        Ok(Reply::Next {
+            hits: Listed::new(hits),
+            tags: Listed::new(tags),
+        })
+    }
+
+    // Closes a cursor.
+    fn close(&mut self, number: u32) -> Reply
+        ensures step { close_from (state_of self.old) number (cursor_named number (state_of self.old)) ≡ record { reply = result; state = state_of self.new } }
+        ensures rows { self.new.rows ≡ self.old.rows }
+        ensures tags { self.new.tags ≡ self.old.tags }
+        ensures next { self.new.next ≡ self.old.next }
+    {
+        if self.cursor_named(number).is_none() {
+            return Reply::Refused(Refusal::NoCursor);
+        }
+        self.cursors.retain(|cursor| cursor.number() != number);
+        Reply::Closed(number)
+    }
+
+    // Does what a command asks for whose points are points of the space.
+    fn execute<M: Metric>(
+        &mut self,
+        alloc: Global,
+        metric: &M,
+        limit: u32,
+        command: Command,
+    ) -> Result<Reply, Memory>
+        requires list { IsListOf (M.space metric.now) limit self.old }
+        requires limit { limit < 2 ^ 32 - 1 }
+        requires numbers { self.old.next + 1 < 2 ^ 32 }
+        requires readable { IsReadable (M.space metric.now).words command }
+        requires points { IsTrue (has_points_of (M.space metric.now) command) }
+        ensures ok { IfOk result (λ reply. execute (record { space = M.space metric.now; limit = limit }) (state_of self.old) command ≡ record { reply = reply; state = state_of self.new }) }
+        ensures err { OnErr result (state_of self.new ≡ state_of self.old) }
+        ensures list { IsListOf (M.space metric.now) limit self.new }
+        ensures numbers { self.new.next ≤ self.old.next + 1 }
+    {
+        match command {
+            Command::Insert(p) => {
+                let id = self.rows.len() as u64;
+                self.insert(limit, p.as_slice(), id)
+            }
+            Command::TagInsert { tag, p } => self.insert(limit, p.as_slice(), tag),
+            Command::Load(rows) => {
+                let tags = ids(alloc, rows.len())?;
+                Ok(self.load(limit, rows, tags))
+            }
+            Command::TagLoad { tags, rows } => Ok(self.load(limit, rows, tags.into_vec())),
+            Command::Range { r, q } => {
+                let hits = scan_range(alloc, metric, &self.rows, q.as_slice(), r)?;
+                self.hits_reply(alloc, hits)
+            }
+            Command::Nearest { k, q } => {
+                let hits = scan_nearest(alloc, metric, &self.rows, q.as_slice(), k)?;
+                self.hits_reply(alloc, hits)
+            }
+            Command::Count => Ok(Reply::Count(self.rows.len() as u32)),
+            Command::Bad(why) => Ok(Reply::Refused(why)),
+            Command::Cursor(q) => self.open(alloc, metric, q.as_slice()),
+            Command::Next { cursor, n } => self.advance(alloc, cursor, n),
+            Command::Close(cursor) => Ok(self.close(cursor)),
+        }
+    }
+
+    /// Does what a command asks for, under a limit on the number of objects. After want of memory the list is as before.
+    pub fn step<M: Metric>(
+        &mut self,
+        alloc: Global,
+        metric: &M,
+        limit: u32,
+        command: Command,
+    ) -> Result<Reply, Memory>
+        requires list { IsListOf (M.space metric.now) limit self.old }
+        requires limit { limit < 2 ^ 32 - 1 }
+        requires numbers { self.old.next + 1 < 2 ^ 32 }
+        requires readable { IsReadable (M.space metric.now).words command }
+        ensures ok { IfOk result (λ reply. step (record { space = M.space metric.now; limit = limit }) (state_of self.old) command ≡ record { reply = reply; state = state_of self.new }) }
+        ensures err { OnErr result (state_of self.new ≡ state_of self.old) }
+        ensures list { IsListOf (M.space metric.now) limit self.new }
+        ensures numbers { self.new.next ≤ self.old.next + 1 }
+    {
+        if !has_points_of(metric, &command) {
+            return Ok(Reply::Refused(Refusal::Unfit));
+        }
+        self.execute(alloc, metric, limit, command)
+    }
+}

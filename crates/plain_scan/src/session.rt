@@ -1,0 +1,88 @@
+ghost use Rattle.std.specs.Prelude.{◌≡◌, ◌≤◌, ◌<◌, ◌+◌, ◌-◌, ◌^◌, length, OnOk, IsErrOf, All};
+ghost use Rattle.outside_io.specs.Causes.{Rose};
+ghost use Rattle.rows_text.specs.Meaning.{nothing_yet, replies, step};
+ghost use Rattle.rows_text.specs.Readable.{IsReadable};
+ghost use Rattle.rows_text.specs.Texts.{text};
+ghost use Rattle.plain_scan.specs.List.{IsListOf, state_of};
+ghost use Rattle.plain_scan.specs.Written.{Puts, Writes, reply_texts};
+
+use crate::list::PlainList;
+use metric_laws::Metric;
+use outside_io::Sink;
+use rows_text::{Command, reply_text};
+use std::alloc::Global;
+
+/// Why a run ended before its script did.
+#[derive(Clone, Copy, Debug, PartialEq, Eq)]
+pub enum Stop {
+    /// There was no memory.
+    Memory,
+    /// A reply could not be written.
+    Sink,
+}
+
+/// How a script is run on a plain list.
+#[derive(Clone, Copy, Debug)]
+pub struct Scan<M: Metric> {
+    /// The metric of the space.
+    pub metric: M,
+    /// The greatest number of objects.
+    pub limit: u32,
+    /// Whether a hit is written with its tag.
+    pub show_tags: bool,
+}
+
+// Does one command and writes its reply.
+fn answer<M: Metric, K: Sink>(
+    alloc: Global,
+    scan: &Scan<M>,
+    list: &mut PlainList,
+    command: Command,
+    out: &mut K,
+) -> Result<(), Stop>
+    requires list { IsListOf (M.space scan.now.metric) scan.now.limit list.old }
+    requires limit { scan.now.limit < 2 ^ 32 - 1 }
+    requires numbers { list.old.next + 1 < 2 ^ 32 }
+    requires readable { IsReadable (M.space scan.now.metric).words command }
+    ensures puts { Puts (K.written out.old) (K.written out.new) (text scan.now.show_tags (step (record { space = M.space scan.now.metric; limit = scan.now.limit }) (state_of list.old) command).reply) result }
+    ensures state { OnOk result (state_of list.new ≡ (step (record { space = M.space scan.now.metric; limit = scan.now.limit }) (state_of list.old) command).state) }
+    ensures list { IsListOf (M.space scan.now.metric) scan.now.limit list.new }
+    ensures numbers { list.new.next ≤ list.old.next + 1 }
+    ensures later { K.faults out.old ≤ K.faults out.new }
+    ensures rose { IsErrOf result Stop.Sink → Rose (K.faults out.old) (K.faults out.new) }
+{
+    let Ok(reply) = list.step(alloc, &scan.metric, scan.limit, command) else {
+        return Err(Stop::Memory);
+    };
+    let mut text = Vec::new(alloc);
+    if reply_text(&reply, scan.show_tags, &mut text).is_err() {
+        return Err(Stop::Memory);
+    }
+    match out.put(&text) {
+        Ok(()) => Ok(()),
+        Err(_) => Err(Stop::Sink),
+    }
+}
+
+/// Does each command of a script in turn on an empty list, and writes each reply by one put.
+///
+/// After [`Stop::Sink`] a front of the next reply may be written; [`Stop::Memory`] comes only for want of memory.
+pub fn run_script<M: Metric, K: Sink>(
+    alloc: Global,
+    scan: &Scan<M>,
+    commands: Vec<Command>,
+    out: &mut K,
+) -> Result<(), Stop>
+    requires limit { scan.now.limit < 2 ^ 32 - 1 }
+    requires few { length commands.items < 2 ^ 32 }
+    requires readable { All (IsReadable (M.space scan.now.metric).words) commands.items }
+    ensures wrote { Writes (K.written out.old) (K.written out.new) (reply_texts (record { space = M.space scan.now.metric; limit = scan.now.limit }) scan.now.show_tags commands.items) result }
+    ensures later { K.faults out.old ≤ K.faults out.new }
+    ensures rose { IsErrOf result Stop.Sink → Rose (K.faults out.old) (K.faults out.new) }
+{
+    let mut list = PlainList::new(alloc, scan.metric.words());
+    for command in commands {
+        answer(alloc, scan, &mut list, command, out)?;
+    }
+    Ok(())
+}

@@ -1,0 +1,57 @@
+//! Tests of one list, and one pass over two lists, as far as both go.
+
+ghost use Rattle.std.specs.Prelude.{◌≡◌, ◌==◌, ◌≤◌, ◌+◌, ◌-◌, ◌^◌, not, length, min, max, fold, count_by, sum_by};
+ghost use Rattle.std.specs.List.{zip};
+ghost use Rattle.metric_laws.specs.Pruning.{gap};
+ghost use Rattle.vector_kinds.specs.Vectors.{is_vector};
+
+/// Whether the list has this many places.
+pub fn has_places(p: &[u32], dim: u8) -> bool
+    ensures { result ≡ is_vector dim p.now }
+{
+    p.len() == usize::from(dim)
+}
+
+/// The number of places that differ.
+#[tactic(auto, using(crate::proofs::Counting::count_more))]
+pub fn count(a: &[u32], b: &[u32]) -> u64
+    ensures { result ≡ count_by (λ p. not (p.0 == p.1)) (zip a.now b.now) }
+{
+    // A loop and not a chain, since LLVM makes it wide.
+    let mut differing = 0u64;
+    for i in 0..a.len().min(b.len()) {
+        if a[i] != b[i] {
+            differing += 1;
+        }
+    }
+    differing
+}
+
+/// The differences together, of lists that are short enough for the sum to fit.
+pub fn sum(a: &[u32], b: &[u32]) -> u64
+    requires { length a.now ≤ 2 ^ 32 }
+    ensures { result ≡ sum_by (λ p. gap p.0 p.1) (zip a.now b.now) }
+{
+    a.iter()
+        .zip(b)
+        .map(|(x, y)| u64::from(x.abs_diff(*y)))
+        .sum()
+}
+
+/// The differences together, or the greatest `u64` where that is less.
+pub fn saturating_sum(a: &[u32], b: &[u32]) -> u64
+    ensures { result ≡ fold (λ total p. min (total + gap p.0 p.1) (2 ^ 64 - 1)) 0 (zip a.now b.now) }
+{
+    a.iter().zip(b).fold(0u64, |total, (x, y)| {
+        total.saturating_add(u64::from(x.abs_diff(*y)))
+    })
+}
+
+/// The greatest difference, 0 of empty lists.
+pub fn greatest(a: &[u32], b: &[u32]) -> u32
+    ensures { result ≡ fold (λ most p. max most (gap p.0 p.1)) 0 (zip a.now b.now) }
+{
+    a.iter()
+        .zip(b)
+        .fold(0u32, |most, (x, y)| most.max(x.abs_diff(*y)))
+}
