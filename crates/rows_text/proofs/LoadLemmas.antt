@@ -1,8 +1,7 @@
 -- The records of a load, one after another.
-use Rattle.std.proofs.Common.{◌≡◌, ◌≢◌, ◌<◌, ◌≤◌, ◌+◌, ◌-◌, ◌==◌, ◌^◌, Bool, ℕ, zero, suc, List, [], ◌∷◌, ◌++◌, length, take, drop, get_or, map, filter_map, Option, Some, None, true, false, inl, inr, refl, sym, ◌∙◌, ap, if◌then◌else◌, arith}
+use Rattle.std.proofs.Common.{◌≡◌, ◌+◌, ◌^◌, Bool, ℕ, suc, List, [], ◌∷◌, ◌++◌, length, take, map, filter_map, Option, Some, None, true, false, inl, inr, refl, sym, ◌∙◌, ap, if◌then◌else◌, arith}
 use Rattle.std.specs.Prelude.{MatchBool, nat_lt}
-use Rattle.std.specs.List.{position_from}
-use Rattle.std.specs.Option.{is_none, option_map}
+use Rattle.std.specs.Option.{option_map}
 use Rattle.std.proofs.lemmas.Bool.{cases_Bool, lt-ltb, le-ltb, ltb-true, ltb-false}
 use Rattle.std.proofs.lemmas.List.{append_assoc, length_push}
 use Rattle.std.proofs.lemmas.Option.{option_and_then_some}
@@ -11,9 +10,8 @@ use Rattle.rows_text.specs.Numbers.{number_below, coordinates}
 use Rattle.rows_text.specs.Records.{Fields}
 use Rattle.rows_text.specs.declared.command.Command.{Command}
 use Rattle.rows_text.specs.declared.command.Command.TheVariants as command
-use Rattle.rows_text.specs.declared.refusal.Refusal.TheVariants as refusal
 use Rattle.rows_text.specs.declared.load.OpenLoad.{OpenLoad}
-use Rattle.rows_text.specs.Script.{or_row, row_of, rows_from, tag_row_of}
+use Rattle.rows_text.specs.Script.{row_of, tag_row_of}
 use Rattle.rows_text.specs.Reading.{AddsPoint, AddsRow, AddsTagged, TakesRecord, goes_on, one_more}
 
 map_some : {A B P : Type 0} (f : A → B) (o : Option A) (y : B) → option_map f o ≡ Some y → ((x : A) → o ≡ Some x → f x ≡ y → P) → P
@@ -144,8 +142,8 @@ good_by old mid fields left true tag bad is same adds = by (tag_row_of old.words
     by (Some r) row add =
         takes old mid fields (old.tags.items ++ r.0 ∷ []) (one_more old.rows r.1) None None (ap (λ (n : ℕ). n + 1) same.left_is ∙ is) same.tagged same.words add.1 add.2 (same.bad ∙ bad) bad
         (λ after. (λ i. end_by (tag i) old.words (old.tags.items ++ r.0 ∷ []) (one_more old.rows r.1) None mid.left after)
-            ∙ more_tagged old.words old.tags.items old.rows r mid.left fields after row
-            ∙ (λ i. end_by (sym tag i) old.words old.tags.items old.rows None (suc mid.left) (fields ∷ after)))
+        ∙ more_tagged old.words old.tags.items old.rows r mid.left fields after row
+        ∙ (λ i. end_by (sym tag i) old.words old.tags.items old.rows None (suc mid.left) (fields ∷ after)))
 good_by old mid fields left false tag bad is same adds = by (row_of old.words fields) refl adds
   where
     by : (o : Option (List ℕ)) → row_of old.words fields ≡ o → AddsPoint o old.tags.items old.rows mid true → TakesRecord old mid fields
@@ -153,8 +151,8 @@ good_by old mid fields left false tag bad is same adds = by (row_of old.words fi
     by (Some p) row add =
         takes old mid fields old.tags.items (one_more old.rows p) None None (ap (λ (n : ℕ). n + 1) same.left_is ∙ is) same.tagged same.words add.1 add.2 (same.bad ∙ bad) bad
         (λ after. (λ i. end_by (tag i) old.words old.tags.items (one_more old.rows p) None mid.left after)
-            ∙ more_points old.words old.tags.items old.rows p mid.left fields after row
-            ∙ (λ i. end_by (sym tag i) old.words old.tags.items old.rows None (suc mid.left) (fields ∷ after)))
+        ∙ more_points old.words old.tags.items old.rows p mid.left fields after row
+        ∙ (λ i. end_by (sym tag i) old.words old.tags.items old.rows None (suc mid.left) (fields ∷ after)))
 
 -- a record that is no row leaves the tags and the table
 none_by : (old mid : OpenLoad) (fields : Fields) (tagged : Bool) → Held tagged old mid fields false →

@@ -1,20 +1,19 @@
 -- What every command of a script has.
-use Rattle.std.proofs.Common.{◌≡◌, ◌≢◌, ◌<◌, ◌≤◌, ◌+◌, ◌==◌, ◌^◌, Bool, ℕ, zero, suc, List, [], ◌∷◌, length, take, map, filter_map, get_or, Option, Some, None, Result, Ok, Err, true, false, inl, inr, refl, sym, ◌∙◌, ap, subst, if◌then◌else◌, arith}
+use Rattle.std.proofs.Common.{◌≡◌, ◌<◌, ◌≤◌, ◌+◌, ◌==◌, ◌^◌, Bool, ℕ, zero, suc, List, [], ◌∷◌, length, take, filter_map, Option, Some, None, Result, Ok, Err, true, false, refl, sym, ◌∙◌, subst, if◌then◌else◌, arith}
 use Rattle.std.specs.Prelude.{All, codes, nat_lt}
 use Rattle.std.specs.Cmp.{unsigned_Decides}
 use Rattle.std.specs.List.{position_from}
 use Rattle.std.specs.Option.{is_none}
 use Rattle.std.specs.Result.{IfOk}
 use Rattle.std.specs.Str.{bytes_eq}
-use Rattle.std.proofs.lemmas.Bool.{cases_Bool, ltb-false}
+use Rattle.std.proofs.lemmas.Bool.{ltb-false}
 use Rattle.std.proofs.lemmas.List.{length-map, length-take}
 use Rattle.rows_text.specs.Numbers.{number_below, coordinates}
 use Rattle.rows_text.specs.Records.{Fields}
 use Rattle.rows_text.specs.declared.command.Command.{Command}
 use Rattle.rows_text.specs.declared.command.Command.TheVariants as command
-use Rattle.rows_text.specs.declared.refusal.Refusal.TheVariants as refusal
 use Rattle.rows_text.specs.Readable.{IsReadable}
-use Rattle.rows_text.specs.Script.{close_of, command_of, commands_after, count_of, cursor_of, insert_of, load_from, load_of, load_points, load_tagged, nearest_from, nearest_of, next_from, next_of, or_row, range_of, row_of, rows_from, rows_used, single_of, tag_insert_of, tag_row_of, with_number}
+use Rattle.rows_text.specs.Script.{close_of, command_of, commands_after, count_of, cursor_of, insert_of, load_of, load_points, load_tagged, nearest_from, nearest_of, next_from, next_of, or_row, range_of, row_of, rows_used, single_of, tag_insert_of, tag_row_of, with_number}
 use Rattle.rows_text.proofs.LoadLemmas.{coordinates_long}
 
 by_if : (words : ℕ) (b : Bool) (c d : Command) → (b ≡ true → IsReadable words c) → (b ≡ false → IsReadable words d) → IsReadable words (if b then c else d)
@@ -121,9 +120,9 @@ command_readable words [] after = tt
 command_readable words (name ∷ fields) after =
     by_if words (bytes_eq name (codes "load")) _ _ (λ is. load_readable words (row_of words) (load_points words) after fields (λ points some. (refl, some))) (λ other.
     by_if words (bytes_eq name (codes "tload")) _ _ (λ is. load_readable words (tag_row_of words) (load_tagged words) after fields (λ rows some.
-        let tags = length-map rows (λ row. row.0) in
-        let points = length-map rows (λ row. row.1) in
-        (refl, omega arith, omega arith))) (λ other2. single_readable words (name ∷ fields)))
+    let tags = length-map rows (λ row. row.0) in
+    let points = length-map rows (λ row. row.1) in
+    (refl, omega arith, omega arith))) (λ other2. single_readable words (name ∷ fields)))
 
 all_more : {X : Type 0} (P : X → Type 0) (x : X) (xs : List X) → P x → All P xs → All P (x ∷ xs)
 all_more P x xs first rest zero d below = first

@@ -1,8 +1,7 @@
 -- A load that starts, and a script that is read record by record.
-use Rattle.std.proofs.Common.{◌≡◌, ◌≢◌, ◌^◌, ◌==◌, Bool, ℕ, zero, suc, List, [], ◌∷◌, ◌++◌, length, map, drop, get_or, Option, Some, None, Result, Ok, Err, true, false, refl, sym, ◌∙◌, ap, arith}
+use Rattle.std.proofs.Common.{◌≡◌, ◌≢◌, ◌^◌, ◌==◌, Bool, ℕ, zero, suc, List, [], ◌∷◌, ◌++◌, length, map, drop, get_or, Some, None, Result, Ok, Err, true, false, refl, sym, ◌∙◌, ap, arith}
 use Rattle.std.specs.Result.{IfOk}
 use Rattle.std.proofs.lemmas.List.{append_assoc, append-nil, map-append}
-use Rattle.metric_laws.specs.Rows.{Table}
 use Rattle.rows_text.specs.Numbers.{number_below}
 use Rattle.rows_text.specs.Records.{Fields, without_blanks}
 use Rattle.rows_text.specs.declared.command.Command.{Command}

@@ -1,5 +1,5 @@
 -- The commands of a script.
-use Rattle.std.specs.Prelude.{ℕ, zero, suc, ◌==◌, ◌^◌, Bool, List, [], ◌∷◌, length, map, take, nat_lt, ◌||◌, codes, filter_map, Option, Some, None, if◌then◌else◌}
+use Rattle.std.specs.Prelude.{ℕ, zero, suc, ◌==◌, ◌^◌, List, [], ◌∷◌, length, map, take, nat_lt, ◌||◌, codes, filter_map, Option, Some, None, if◌then◌else◌}
 use Rattle.std.specs.List.{position_from}
 use Rattle.std.specs.Option.{is_none, option_and_then, option_map}
 use Rattle.std.specs.Str.{bytes_eq}

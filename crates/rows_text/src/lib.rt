@@ -19,5 +19,8 @@ pub use refusal::Refusal;
 pub use reply::Reply;
 pub use script::read_script;
 
+#[cfg(test)]
+mod tests;
+
 /// Want of memory.
 pub type Memory = std::alloc::AllocError;

@@ -28,11 +28,7 @@ pub fn coordinates_from(
 }
 
 /// The point that the fields from a place on spell.
-pub fn point_from(
-    alloc: Global,
-    row: &ByteRecord,
-    start: usize,
-) -> Result<Option<Point>, Memory>
+pub fn point_from(alloc: Global, row: &ByteRecord, start: usize) -> Result<Option<Point>, Memory>
     ensures { IfOk result (λ p. p ≡ coordinates (drop start (fields_in row.now))) }
 {
     let Some(found) = coordinates_from(alloc, row, start)? else {

@@ -73,12 +73,7 @@ impl Reading {
     }
 
     // Reads a record of a load.
-    fn go_on(
-        &mut self,
-        alloc: Global,
-        load: OpenLoad,
-        row: &ByteRecord,
-    ) -> Result<(), Memory>
+    fn go_on(&mut self, alloc: Global, load: OpenLoad, row: &ByteRecord) -> Result<(), Memory>
         requires { 0 < load.left }
         ensures { OnOk result (GoesOn load self.old self.new (fields_in row.now)) }
     {

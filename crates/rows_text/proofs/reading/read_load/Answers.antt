@@ -1,4 +1,4 @@
-use Rattle.std.proofs.Common.{◌≡◌, ◌^◌, Some, get_or, [], ◌∙◌, sym, ap, arith}
+use Rattle.std.proofs.Common.{◌^◌, ◌∙◌, sym, ap, arith}
 use Rattle.std.proofs.lemmas.List.{length-map}
 use Rattle.csv.specs.Records.{fields_of}
 use Rattle.rows_text.specs.Numbers.{number_below}

@@ -1,4 +1,4 @@
-use Rattle.std.proofs.Common.{◌<◌, ◌^◌, List, length, map, arith}
+use Rattle.std.proofs.Common.{◌<◌, ◌^◌, length, map, arith}
 use Rattle.std.specs.Prelude.{All}
 use Rattle.std.proofs.lemmas.List.{length-map}
 use Rattle.csv.specs.Reading.{default_config, records, strip_bom}

@@ -1,6 +1,5 @@
-use Rattle.std.proofs.Common.{◌≡◌, ◌+◌, ◌-◌, None, true, false, refl, rules, arith}
+use Rattle.std.proofs.Common.{◌≡◌, ◌-◌, None, true, false, refl, rules, arith}
 use Rattle.rows_text.specs.Records.{fields_in}
-use Rattle.rows_text.specs.Reading.{AddsRow}
 use Rattle.rows_text.proofs.LoadLemmas.{takes_good, takes_bad}
 use Rattle.rows_text.proofs.load.OpenLoad.take.Goals as goal
 
