@@ -1,7 +1,6 @@
 -- What each command does to a list of objects and to the open cursors, and what it is answered.
-use Rattle.std.specs.Prelude.{◌≡◌, ℕ, zero, suc, ◌+◌, Bool, true, List, [], ◌∷◌, ◌++◌, length, map, take, drop, filter, find, not, ◌==◌, nat_lt, nat_le, slice_index_or, Option, Some, None, if◌then◌else◌}
+use Rattle.std.specs.Prelude.{◌≡◌, ℕ, zero, suc, ◌+◌, Bool, true, List, [], ◌∷◌, ◌++◌, length, map, take, drop, filter, find, not, ◌==◌, nat_lt, slice_index_or, Option, Some, None, if◌then◌else◌}
 use Rattle.std.specs.List.{list_all}
-use Rattle.metric_laws.specs.Rows.{Table}
 use Rattle.metric_laws.specs.Space.{Space}
 use Rattle.scan_model.specs.declared.hit.Hit.{Hit}
 use Rattle.scan_model.specs.Scan.{range_hits, nearest_hits}

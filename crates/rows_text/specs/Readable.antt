@@ -1,5 +1,5 @@
 -- What every command of a script has, whatever its text.
-use Rattle.std.specs.Prelude.{◌≡◌, ℕ, ◌≤◌, ◌<◌, List, length, All}
+use Rattle.std.specs.Prelude.{◌≡◌, ℕ, ◌≤◌, ◌<◌, length}
 use Rattle.rows_text.specs.declared.command.Command.{Command}
 use Rattle.rows_text.specs.declared.command.Command.TheVariants.{Insert, Load, Range, Nearest, Count, Bad, TagInsert, TagLoad, Cursor, Next, Close}
 

@@ -2,15 +2,27 @@
 #![tactic(auto)]
 
 mod command;
+mod field;
 pub mod laws;
+mod load;
+mod number;
+mod points;
+mod reading;
 mod refusal;
 mod reply;
+mod script;
+mod single;
+mod state;
 mod text;
 
 pub use command::Command;
 pub use refusal::Refusal;
 pub use reply::Reply;
+pub use script::read_script;
 pub use text::{query_text, reply_text};
 
 /// Want of memory.
 pub type Memory = std::alloc::AllocError;
+
+#[cfg(test)]
+mod tests;

@@ -1,0 +1,116 @@
+-- A script that is being read: what the records that follow make of it.
+use Rattle.std.specs.Prelude.{◌≡◌, ℕ, ◌+◌, Bool, true, false, List, [], ◌∷◌, ◌++◌, length, map, take, nat_lt, MatchBool, Option, Some, None, if◌then◌else◌}
+use Rattle.metric_laws.specs.Rows.{Table}
+use Rattle.rows_text.specs.declared.command.Command.{Command}
+use Rattle.rows_text.specs.declared.command.Command.TheVariants as command
+use Rattle.rows_text.specs.declared.refusal.Refusal.TheVariants as refusal
+use Rattle.rows_text.specs.declared.load.OpenLoad.{OpenLoad}
+use Rattle.rows_text.specs.declared.state.Reading.{Reading}
+use Rattle.rows_text.specs.declared.state.Start.{Start}
+use Rattle.rows_text.specs.declared.state.Start.TheVariants as start
+use Rattle.rows_text.specs.Records.{Fields}
+use Rattle.rows_text.specs.Script.{commands_after, load_of, load_points, load_tagged, load_uses, row_of, rows_from, tag_row_of}
+
+-- what is made of rows, or the refusal of a row that came before them
+abbrev pub unless_bad : Option ℕ → Command → Command
+unless_bad None whole = whole
+unless_bad (Some i) whole = command.Bad (refusal.Row i)
+
+-- what is made of the rows that are left of a load, where these records follow; the first of them has the number i
+abbrev pub goes_on : {R : Type 0} → (Fields → Option R) → (List R → Command) → Option ℕ → ℕ → ℕ → List Fields → Command
+goes_on row make bad i left after =
+    if nat_lt (length after) left then command.Bad refusal.Short else unless_bad bad (rows_from row make i (take left after))
+
+-- an open load, with these rows more
+abbrev pub with_points : OpenLoad → List (List ℕ) → Command
+with_points load more = command.Load (record load.rows { points = load.rows.points ++ more })
+
+abbrev pub with_tagged : OpenLoad → List (ℕ × List ℕ) → Command
+with_tagged load more =
+    command.TagLoad (load.tags.items ++ map (λ row. row.0) more) (record load.rows { points = load.rows.points ++ map (λ row. row.1) more })
+
+-- the command of an open load, where these records follow
+abbrev pub load_end : OpenLoad → List Fields → Command
+load_end load after =
+    if load.tagged then goes_on (tag_row_of load.words) (with_tagged load) load.bad (length load.rows.points) load.left after
+    else goes_on (row_of load.words) (with_points load) load.bad (length load.rows.points) load.left after
+
+-- a load of n rows of which none is read
+pub record IsNewLoad (words : ℕ) (tagged : Bool) (n : ℕ) (load : OpenLoad) : Type 0 where
+  pub words_are : load.words ≡ words
+  pub tagged_is : load.tagged ≡ tagged
+  pub left : load.left ≡ n
+  pub bad : load.bad ≡ None
+  pub tags : load.tags.items ≡ []
+  pub rows : load.rows ≡ record { words = words; points = [] }
+
+-- what reading a row leaves as it was
+pub record IsSameLoad (old new : OpenLoad) : Type 0 where
+  pub words : new.words ≡ old.words
+  pub tagged : new.tagged ≡ old.tagged
+  pub left : new.left ≡ old.left
+  pub bad : new.bad ≡ old.bad
+
+-- a table with one point more
+abbrev pub one_more : Table → List ℕ → Table
+one_more rows p = record rows { points = rows.points ++ p ∷ [] }
+
+-- besides these tags and this table the load holds the point, where there is one
+abbrev pub AddsPoint : Option (List ℕ) → List ℕ → Table → OpenLoad → Bool → Type 0
+AddsPoint None tags rows new found = (found ≡ false) × (new.tags.items ≡ tags) × (new.rows ≡ rows)
+AddsPoint (Some p) tags rows new found = (found ≡ true) × (new.tags.items ≡ tags) × (new.rows ≡ one_more rows p)
+
+-- the same with a tag and a point, where there are both
+abbrev pub AddsTagged : Option (ℕ × List ℕ) → List ℕ → Table → OpenLoad → Bool → Type 0
+AddsTagged None tags rows new found = (found ≡ false) × (new.tags.items ≡ tags) × (new.rows ≡ rows)
+AddsTagged (Some row) tags rows new found = (found ≡ true) × (new.tags.items ≡ tags ++ row.0 ∷ []) × (new.rows ≡ one_more rows row.1)
+
+-- the row of a record is held, if it is one
+abbrev pub AddsRow : OpenLoad → OpenLoad → Fields → Bool → Type 0
+AddsRow old new fields found =
+    MatchBool old.tagged (AddsTagged (tag_row_of old.words fields) old.tags.items old.rows new found)
+    (AddsPoint (row_of old.words fields) old.tags.items old.rows new found)
+
+-- one record of a load more is read
+pub record TakesRecord (old new : OpenLoad) (fields : Fields) : Type 0 where
+  pub left : new.left + 1 ≡ old.left
+  pub end : (after : List Fields) → load_end new after ≡ load_end old (fields ∷ after)
+
+-- the commands of a load's record, whose name is left out, and of the records that follow
+abbrev pub load_records : ℕ → Bool → Fields → List Fields → List Command
+load_records words tagged fields after =
+    (if tagged then load_of (tag_row_of words) (load_tagged words) after fields else load_of (row_of words) (load_points words) after fields)
+    ∷ commands_after words (load_uses fields) after
+
+-- the commands of an open load and of the records that follow
+abbrev pub load_and_after : ℕ → OpenLoad → List Fields → List Command
+load_and_after words load after = load_end load after ∷ commands_after words load.left after
+
+-- the commands of what a record starts and of the records that follow
+abbrev pub started : ℕ → Start → List Fields → List Command
+started words (start.Single c) after = c ∷ commands_after words 0 after
+started words (start.Load load) after = load_and_after words load after
+
+abbrev pub load_or_after : ℕ → Option OpenLoad → List Fields → List Command
+load_or_after words None after = commands_after words 0 after
+load_or_after words (Some load) after = load_and_after words load after
+
+-- the commands of what is read so far and of the records that follow
+abbrev pub commands_with : Reading → List Fields → List Command
+commands_with reading after = reading.commands.items ++ load_or_after reading.words reading.load after
+
+-- one record more is read
+abbrev pub Reads : Reading → Reading → Fields → Type 0
+Reads old new fields = (new.words ≡ old.words) × ((after : List Fields) → commands_with new after ≡ commands_with old (fields ∷ after))
+
+-- one record of a load more is read
+abbrev pub GoesOn : OpenLoad → Reading → Reading → Fields → Type 0
+GoesOn load old new fields =
+    (new.words ≡ old.words)
+    × ((after : List Fields) → commands_with new after ≡ old.commands.items ++ load_and_after old.words load (fields ∷ after))
+
+-- nothing is read
+pub record IsNewReading (words : ℕ) (reading : Reading) : Type 0 where
+  pub words_are : reading.words ≡ words
+  pub commands : reading.commands.items ≡ []
+  pub load : reading.load ≡ None

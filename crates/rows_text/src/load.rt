@@ -1,0 +1,135 @@
+ghost use Rattle.std.specs.Prelude.{◌≡◌};
+
+use crate::field::field;
+use crate::number::number;
+use crate::points::coordinates_from;
+use crate::{Command, Memory, Refusal};
+use csv::ByteRecord;
+use metric_laws::{Listed, Rows};
+use std::alloc::{AllocError, Global};
+
+/// A load whose rows are being read.
+#[derive(Debug, Drop)]
+pub struct OpenLoad {
+    /// The number of coordinates of a point.
+    words: usize,
+    /// Whether a tag stands before each point.
+    tagged: bool,
+    /// How many rows are still to come.
+    left: u64,
+    /// The number of the first record that is no row.
+    bad: Option<u32>,
+    tags: Vec<u64>,
+    rows: Rows,
+    ghost as_long: { rows.words ≡ words },
+}
+
+impl OpenLoad {
+    ghost use Rattle.std.specs.Prelude.{◌<◌, ◌==◌, [], IfOk, OnOk};
+    ghost use Rattle.rows_text.specs.Records.{fields_in};
+    ghost use Rattle.rows_text.specs.Script.{row_of, tag_row_of};
+    ghost use Rattle.rows_text.specs.Reading.{AddsPoint, AddsRow, AddsTagged, IsNewLoad, IsSameLoad, TakesRecord, load_end};
+
+    /// A load of `n` rows.
+    pub fn new(alloc: Global, words: usize, tagged: bool, n: u64) -> OpenLoad
+        ensures { IsNewLoad words tagged n result }
+    {
+        OpenLoad {
+            words,
+            tagged,
+            left: n,
+            bad: None,
+            tags: Vec::new(alloc),
+            rows: Rows::new(alloc, words),
+        }
+    }
+
+    /// Whether all rows are read.
+    pub fn is_full(&self) -> bool
+        ensures { result ≡ (self.now.left == 0) }
+    {
+        self.left == 0
+    }
+
+    // Holds the point of a record, if it is one.
+    fn push_point(&mut self, alloc: Global, row: &ByteRecord) -> Result<bool, Memory>
+        ensures adds { IfOk result (AddsPoint (row_of self.old.words (fields_in row.now)) self.old.tags.items self.old.rows self.new) }
+        ensures same { IsSameLoad self.old self.new }
+    {
+        if row.len() != self.words {
+            return Ok(false);
+        }
+        let Some(point) = coordinates_from(alloc, row, 0)? else {
+            return Ok(false);
+        };
+        self.rows.push(point.as_slice())?;
+        Ok(true)
+    }
+
+    // Holds the tag and the point of a record, if it has both.
+    fn push_tagged(&mut self, alloc: Global, row: &ByteRecord) -> Result<bool, Memory>
+        ensures adds { IfOk result (AddsTagged (tag_row_of self.old.words (fields_in row.now)) self.old.tags.items self.old.rows self.new) }
+        ensures same { IsSameLoad self.old self.new }
+    {
+        if row.len() == 0 || row.len() - 1 != self.words {
+            return Ok(false);
+        }
+        let Some(tag) = number(field(row, 0)) else {
+            return Ok(false);
+        };
+        let Some(point) = coordinates_from(alloc, row, 1)? else {
+            return Ok(false);
+        };
+        self.rows.push(point.as_slice())?;
+        self.tags.push(tag)?;
+        Ok(true)
+    }
+
+    // Holds the row of a record, if it is one.
+    fn push(&mut self, alloc: Global, row: &ByteRecord) -> Result<bool, Memory>
+        ensures adds { IfOk result (AddsRow self.old self.new (fields_in row.now)) }
+        ensures same { IsSameLoad self.old self.new }
+    {
+        if self.tagged {
+            self.push_tagged(alloc, row)
+        } else {
+            self.push_point(alloc, row)
+        }
+    }
+
+    /// Reads one record.
+    pub fn take(&mut self, alloc: Global, row: &ByteRecord) -> Result<(), Memory>
+        requires { 0 < self.old.left }
+        ensures { OnOk result (TakesRecord self.old self.new (fields_in row.now)) }
+    {
+        self.left -= 1;
+        if self.bad.is_some() {
+            return Ok(());
+        }
+        let place = self.rows.len();
+        if !self.push(alloc, row)? {
+            // So many rows as don't fit 32 bits don't fit the memory either.
+            self.bad = Some(u32::try_from(place).map_err(|_| AllocError)?);
+        }
+        Ok(())
+    }
+
+    /// The command, where no further record follows.
+    pub fn end(self) -> Command
+        ensures { result ≡ load_end self [] }
+    {
+        if self.left > 0 {
+            return Command::Bad(Refusal::Short);
+        }
+        if let Some(place) = self.bad {
+            return Command::Bad(Refusal::Row(place));
+        }
+        if self.tagged {
+            return Command::TagLoad {
+                tags: Listed::new(self.tags),
+                rows: self.rows,
+            };
+        }
+        Command::Load(self.rows)
+    }
+}

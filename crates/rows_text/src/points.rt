@@ -1,0 +1,38 @@
+ghost use Rattle.std.specs.Prelude.{◌≡◌, drop, option_map, IfOk};
+ghost use Rattle.rows_text.specs.Numbers.{coordinates};
+ghost use Rattle.rows_text.specs.Records.{fields_in};
+
+use crate::Memory;
+use crate::field::field;
+use crate::number::coordinate;
+use csv::ByteRecord;
+use metric_laws::Point;
+use std::alloc::Global;
+
+/// The coordinates that the fields from a place on spell.
+pub fn coordinates_from(
+    alloc: Global,
+    row: &ByteRecord,
+    start: usize,
+) -> Result<Option<Vec<u32>>, Memory>
+    ensures { IfOk result (λ found. option_map (λ v. v.items) found ≡ coordinates (drop start (fields_in row.now))) }
+{
+    let mut found = Vec::with_capacity(alloc, row.len().saturating_sub(start))?;
+    for i in start..row.len() {
+        let Some(x) = coordinate(field(row, i)) else {
+            return Ok(None);
+        };
+        found.push(x)?;
+    }
+    Ok(Some(found))
+}
+
+/// The point that the fields from a place on spell.
+pub fn point_from(alloc: Global, row: &ByteRecord, start: usize) -> Result<Option<Point>, Memory>
+    ensures { IfOk result (λ p. p ≡ coordinates (drop start (fields_in row.now))) }
+{
+    let Some(found) = coordinates_from(alloc, row, start)? else {
+        return Ok(None);
+    };
+    Ok(Some(Point::new(alloc, found.as_slice())?))
+}

@@ -1,0 +1,110 @@
+ghost use Rattle.std.specs.Prelude.{◌≡◌, ◌≤◌, ◌<◌, ◌++◌, [], ◌∷◌, None, List, drop, IfOk, OnOk};
+ghost use Rattle.rows_text.specs.Records.{Fields, fields_in};
+ghost use Rattle.rows_text.specs.Script.{commands_after};
+ghost use Rattle.rows_text.specs.Reading.{GoesOn, IsNewReading, Reads, commands_with, load_records, started};
+
+use crate::field::field;
+use crate::load::OpenLoad;
+use crate::number::number;
+use crate::single::read_single;
+use crate::state::{Reading, Start};
+use crate::{Command, Memory, Refusal};
+use csv::ByteRecord;
+use std::alloc::Global;
+
+// What `load,n` or `tload,n` starts.
+fn read_load(alloc: Global, words: usize, tagged: bool, row: &ByteRecord) -> Start
+    ensures { (after : List Fields)
+        → started words result after ≡ load_records words tagged (drop 1 (fields_in row.now)) after }
+{
+    if row.len() != 2 {
+        return Start::Single(Command::Bad(Refusal::Command));
+    }
+    let Some(n) = number(field(row, 1)) else {
+        return Start::Single(Command::Bad(Refusal::Number));
+    };
+    if n == 0 {
+        return Start::Single(Command::Bad(Refusal::Count));
+    }
+    Start::Load(OpenLoad::new(alloc, words, tagged, n))
+}
+
+// What a record starts.
+fn read_start(alloc: Global, words: usize, row: &ByteRecord) -> Result<Start, Memory>
+    requires some { 1 ≤ words }
+    requires few { words ≤ 64 }
+    ensures { IfOk result (λ start. (after : List Fields)
+        → started words start after ≡ commands_after words 0 (fields_in row.now ∷ after)) }
+{
+    let name = field(row, 0);
+    if name == b"load".as_slice() {
+        return Ok(read_load(alloc, words, false, row));
+    }
+    if name == b"tload".as_slice() {
+        return Ok(read_load(alloc, words, true, row));
+    }
+    Ok(Start::Single(read_single(alloc, words, row)?))
+}
+
+impl Reading {
+    /// Nothing is read.
+    pub fn new(alloc: Global, words: usize) -> Reading
+        requires some { 1 ≤ words }
+        requires few { words ≤ 64 }
+        ensures { IsNewReading words result }
+    {
+        Reading {
+            words,
+            commands: Vec::new(alloc),
+            load: None,
+        }
+    }
+
+    // Reads a record where no load is open.
+    fn begin(&mut self, alloc: Global, row: &ByteRecord) -> Result<(), Memory>
+        requires { self.old.load ≡ None }
+        ensures { OnOk result (Reads self.old self.new (fields_in row.now)) }
+    {
+        match read_start(alloc, self.words, row)? {
+            Start::Single(command) => self.commands.push(command)?,
+            Start::Load(load) => self.load = Some(load),
+        }
+        Ok(())
+    }
+
+    // Reads a record of a load.
+    fn go_on(&mut self, alloc: Global, load: OpenLoad, row: &ByteRecord) -> Result<(), Memory>
+        requires { 0 < load.left }
+        ensures { OnOk result (GoesOn load self.old self.new (fields_in row.now)) }
+    {
+        let mut load = load;
+        load.take(alloc, row)?;
+        self.load = Some(load);
+        Ok(())
+    }
+
+    /// Reads a record.
+    pub fn take(&mut self, alloc: Global, row: &ByteRecord) -> Result<(), Memory>
+        ensures { OnOk result (Reads self.old self.new (fields_in row.now)) }
+    {
+        if let Some(load) = self.load.take() {
+            if !load.is_full() {
+                return self.go_on(alloc, load, row);
+            }
+            self.commands.push(load.end())?;
+        }
+        self.begin(alloc, row)
+    }
+
+    /// The commands, where no further record follows.
+    pub fn finish(self) -> Result<Vec<Command>, Memory>
+        ensures { IfOk result (λ commands. commands.items ≡ commands_with self []) }
+    {
+        let Reading { commands, load, .. } = self;
+        let mut commands = commands;
+        if let Some(load) = load {
+            commands.push(load.end())?;
+        }
+        Ok(commands)
+    }
+}

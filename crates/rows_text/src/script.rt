@@ -1,0 +1,48 @@
+ghost use Rattle.std.specs.Prelude.{◌≡◌, ◌≤◌, ◌<◌, ◌^◌, length, All, IfOk};
+ghost use Rattle.rows_text.specs.Readable.{IsReadable};
+ghost use Rattle.rows_text.specs.Script.{script};
+
+use crate::state::Reading;
+use crate::{Command, Memory};
+use csv::{ErrorKind, ReaderBuilder};
+use std::alloc::{AllocError, Global};
+
+// The commands of a script over points of `words` coordinates.
+fn read_commands(alloc: Global, bytes: &[u8], words: usize) -> Result<Vec<Command>, Memory>
+    requires some { 1 ≤ words }
+    requires few { words ≤ 64 }
+    ensures { IfOk result (λ commands. commands.items ≡ script words bytes.now) }
+{
+    let reader = ReaderBuilder::new()
+        .has_headers(false)
+        .flexible(true)
+        .from_reader(alloc, bytes);
+    let mut reading = Reading::new(alloc, words);
+    for row in reader.into_byte_records() {
+        match row {
+            Ok(row) => reading.take(alloc, &row)?,
+            Err(error) => match error.kind() {
+                // A slice gives no error of reading, which no clause says.
+                ErrorKind::OutOfMemory | ErrorKind::Io(_) => return Err(AllocError),
+                _ => unreachable!(),
+            },
+        }
+    }
+    reading.finish()
+}
+
+/// The commands of a script over points of `words` coordinates. Of the space only this number matters here: whether a
+/// point is one of the space is asked when its command is executed.
+///
+/// The records are those of `csv` with commas, double quotes, no header and any number of fields, after one byte
+/// order mark, which is dropped. They are read one at a time, and a load's rows go straight into its table.
+pub fn read_script(alloc: Global, bytes: &[u8], words: usize) -> Result<Vec<Command>, Memory>
+    requires some_words { 1 ≤ words }
+    requires few_words { words ≤ 64 }
+    requires few_bytes { length bytes.now < 2 ^ 32 }
+    ensures script { IfOk result (λ commands. commands.items ≡ script words bytes.now) }
+    ensures readable { IfOk result (λ commands. All (IsReadable words) commands.items) }
+    ensures few { IfOk result (λ commands. length commands.items < 2 ^ 32) }
+{
+    read_commands(alloc, bytes, words)
+}
