@@ -1,0 +1,96 @@
+-- What a run writes, by its status.
+use Rattle.std.proofs.Common.{◌≡◌, ℕ, Bool, List, [], ◌∷◌, ◌++◌, Option, Some, None, Result, Ok, Err, refl, sym, ◌∙◌, ap, subst, arith}
+use Rattle.std.specs.Prelude.{codes, IfSome}
+use Rattle.std.specs.List.{concat}
+use Rattle.std.specs.Io.KnownBytes.{Appends, Consumes, IsAtEnd}
+use Rattle.std.proofs.KnownBytes.{Appends-nil, Consumes-all}
+use Rattle.std.proofs.lemmas.List.{append-nil}
+use Rattle.outside_io.specs.Bytes.{AppendsPrefix}
+use Rattle.job_words.specs.Jobs.{job_of}
+use Rattle.job_words.specs.Names.{kind_of}
+use Rattle.job_words.specs.declared.job.Job.{Job}
+use Rattle.job_words.specs.declared.job.Job.TheVariants as job
+use Rattle.metric_mix.specs.MixSpaces.{mix_space}
+use Rattle.plain_scan.specs.declared.session.Stop.TheVariants as stop
+use Rattle.plain_scan.specs.Written.{IsFrontOf, Writes, reply_texts}
+use Rattle.plain_scan.proofs.WrittenLemmas.{front_appended}
+use Rattle.rows_text.specs.Meaning.{Setting}
+use Rattle.rows_text.specs.Script.{script}
+use Rattle.mtree_cli.specs.Run.{Asked, IsScan, HasNoScan, WritesScan, Ends, scan_texts, setting_of}
+
+-- words ask for one scan
+
+asked_in : Asked → Option (Job (List ℕ)) → Asked
+asked_in other (Some (job.Scan space limit show)) = record { space = space; limit = limit; show = show }
+asked_in other found = other
+
+pub one_scan : (words : List (List ℕ)) (a b : Asked) → IsScan words a → IsScan words b → a ≡ b
+unfolding asked_in
+one_scan words a b first second = ap (asked_in a) (sym first ∙ second)
+
+-- what holds of all holds of what is there
+
+pub always : {A : Type 0} (o : Option A) (P : A → Type 0) → ((x : A) → P x) → IfSome o P
+always None P all = tt
+always (Some x) P all = all x
+
+pub weaker : {A : Type 0} (o : Option A) (P Q : A → Type 0) → ((x : A) → P x → Q x) → IfSome o P → IfSome o Q
+weaker None P Q step some = tt
+weaker (Some x) P Q step some = step x some
+
+-- all bytes that were left were read
+pub read_whole : (old new : Option (List ℕ)) (bs : List ℕ) → Consumes old new bs → IsAtEnd new → IfSome old (λ xs. bs ≡ xs)
+read_whole old new bs took end = Consumes-all old new bs [] bs took end refl
+
+-- faults
+
+pub fault_writes : (w0 w1 : Option (List ℕ)) (texts : List (List ℕ)) (status : ℕ) (line : List ℕ) → AppendsPrefix w0 w1 line →
+    ((front : List ℕ) → IsFrontOf front line → Ends status [] texts front) → WritesScan w0 w1 texts status
+fault_writes w0 w1 texts status line some ends =
+    let part = front_appended w0 w0 w1 [] line (Appends-nil w0) some in
+    record { acknowledged = []; more = texts; rest = part.0; whole = refl; ends = ends part.0 part.1; written = part.2 }
+
+pub input_ends : (status : ℕ) (texts : List (List ℕ)) (front : List ℕ) → status ≡ 3 → IsFrontOf front (codes "fault input\n") → Ends status [] texts front
+input_ends status texts front is line = record {
+  done = λ other. absurd (omega arith);
+  input = λ _. (refl, line);
+  output = λ other. absurd (omega arith);
+  long = λ other. absurd (omega arith);
+  memory = λ other. absurd (omega arith);
+}
+
+pub long_ends : (status : ℕ) (texts : List (List ℕ)) (front : List ℕ) → status ≡ 7 → IsFrontOf front (codes "fault long\n") → Ends status [] texts front
+long_ends status texts front is line = record {
+  done = λ other. absurd (omega arith);
+  input = λ other. absurd (omega arith);
+  output = λ other. absurd (omega arith);
+  long = λ _. (refl, line);
+  memory = λ other. absurd (omega arith);
+}
+
+pub memory_ends : (status : ℕ) (acknowledged texts : List (List ℕ)) (front : List ℕ) → status ≡ 8 → IsFrontOf front (codes "fault memory\n") →
+    Ends status acknowledged texts front
+memory_ends status acknowledged texts front is line = record {
+  done = λ other. absurd (omega arith);
+  input = λ other. absurd (omega arith);
+  output = λ other. absurd (omega arith);
+  long = λ other. absurd (omega arith);
+  memory = λ _. line;
+}
+
+-- the line of want of memory after some replies
+pub stopped : (w0 w1 w2 : Option (List ℕ)) (texts : List (List ℕ)) (status : ℕ) → status ≡ 8 →
+    Writes w0 w1 texts (Err stop.Memory) → AppendsPrefix w1 w2 (codes "fault memory\n") → WritesScan w0 w2 texts status
+stopped w0 w1 w2 texts status is wrote line =
+    let nothing : concat wrote.acknowledged ++ wrote.rest ≡ concat wrote.acknowledged = ap (λ (l : List ℕ). concat wrote.acknowledged ++ l) wrote.follows ∙ append-nil (concat wrote.acknowledged) in
+    let part = front_appended w0 w1 w2 (concat wrote.acknowledged) (codes "fault memory\n") (rw nothing at wrote.written) line in
+    record { acknowledged = wrote.acknowledged; more = wrote.more; rest = part.0; whole = wrote.whole; ends = memory_ends status wrote.acknowledged wrote.more part.0 is part.1; written = part.2 }
+
+-- the scan that the words ask for
+pub same_scan : (w0 w1 : Option (List ℕ)) (a b : Asked) (kind dim : ℕ) (xs ys : List ℕ) (status : ℕ) → a ≡ b → kind ≡ kind_of a.space.metric → dim ≡ a.space.dim → xs ≡ ys →
+    WritesScan w0 w1 (reply_texts (record { space = mix_space kind dim; limit = a.limit }) a.show (script a.space.dim xs)) status → WritesScan w0 w1 (scan_texts b ys) status
+same_scan w0 w1 a b kind dim xs ys status same kinds dims bytes wrote =
+    let P : List (List ℕ) → Type 0 = λ texts. WritesScan w0 w1 texts status in
+    let named : reply_texts (record { space = mix_space kind dim; limit = a.limit }) a.show (script a.space.dim xs) ≡ scan_texts a ys =
+    λ i. reply_texts (record { space = mix_space (kinds i) (dims i); limit = a.limit }) a.show (script a.space.dim (bytes i)) in
+    subst P (named ∙ ap (λ (x : Asked). scan_texts x ys) same) wrote

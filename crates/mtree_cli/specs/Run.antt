@@ -1,0 +1,68 @@
+-- What a run does for the words that it is given.
+use Rattle.std.specs.Prelude.{◌≡◌, ◌⊎◌, ℕ, Bool, Option, Some, List, [], ◌++◌, codes}
+use Rattle.std.specs.List.{concat}
+use Rattle.std.specs.Io.KnownBytes.{Appends}
+use Rattle.outside_io.specs.Bytes.{AppendsPrefix}
+use Rattle.job_words.specs.Jobs.{job_of}
+use Rattle.job_words.specs.Names.{kind_of}
+use Rattle.job_words.specs.declared.job.Job.TheVariants as job
+use Rattle.job_words.specs.declared.names.SpaceName.{SpaceName}
+use Rattle.metric_mix.specs.MixSpaces.{mix_space}
+use Rattle.plain_scan.specs.Written.{IsFrontOf, first_text, reply_texts}
+use Rattle.rows_text.specs.Meaning.{Setting}
+use Rattle.rows_text.specs.Script.{script}
+
+-- a scan: its space, the greatest number of objects, and whether tags are shown
+pub record Asked : Type 0 where
+  pub space : SpaceName
+  pub limit : ℕ
+  pub show : Bool
+
+-- the words ask for this scan
+abbrev pub IsScan : List (List ℕ) → Asked → Type 0
+IsScan words asked = job_of words ≡ Some (job.Scan asked.space asked.limit asked.show)
+
+-- the words ask for no scan, which is all that the program does
+abbrev pub HasNoScan : List (List ℕ) → Type 0
+HasNoScan words = (asked : Asked) → ¬ IsScan words asked
+
+-- the space and the limit of a scan
+abbrev pub setting_of : Asked → Setting
+setting_of asked = record { space = mix_space (kind_of asked.space.metric) asked.space.dim; limit = asked.limit }
+
+-- the texts of the replies to a script
+abbrev pub scan_texts : Asked → List ℕ → List (List ℕ)
+scan_texts asked bytes = reply_texts (setting_of asked) asked.show (script asked.space.dim bytes)
+
+-- What stands on out when a scan ends with a status: the acknowledged replies, and then `rest`, where `more`
+-- are the texts of the other replies.
+pub record Ends (status : ℕ) (acknowledged more : List (List ℕ)) (rest : List ℕ) : Type 0 where
+  pub done : status ≡ 0 → (more ≡ []) × (rest ≡ [])
+  pub input : status ≡ 3 → (acknowledged ≡ []) × IsFrontOf rest (codes "fault input\n")
+  pub output : status ≡ 4 → IsFrontOf rest (first_text more)
+  pub long : status ≡ 7 → (acknowledged ≡ []) × IsFrontOf rest (codes "fault long\n")
+  pub memory : status ≡ 8 → IsFrontOf rest (codes "fault memory\n")
+
+-- a scan put the first of these texts, each whole, and then what its status says
+pub record WritesScan (old new : Option (List ℕ)) (texts : List (List ℕ)) (status : ℕ) : Type 0 where
+  pub acknowledged : List (List ℕ)
+  pub more : List (List ℕ)
+  pub rest : List ℕ
+  pub whole : texts ≡ acknowledged ++ more
+  pub ends : Ends status acknowledged more rest
+  pub written : Appends old new (concat acknowledged ++ rest)
+
+-- what a run puts that was asked for nothing
+abbrev pub usage : List ℕ
+usage = codes "usage: mtree COMMAND INDEX [options]\n"
+
+-- a run without a job put the usage line, or a front of it, or met want of memory
+abbrev pub WritesUsage : Option (List ℕ) → Option (List ℕ) → ℕ → Type 0
+WritesUsage old new status =
+    ((status ≡ 2) × Appends old new usage)
+    ⊎ (((status ≡ 4) × AppendsPrefix old new usage)
+    ⊎ ((status ≡ 8) × AppendsPrefix old new (codes "fault memory\n")))
+
+-- a run ends so and in no other way
+abbrev pub IsStatus : ℕ → Type 0
+IsStatus n = (n ≡ 0) ⊎ ((n ≡ 2) ⊎ ((n ≡ 3) ⊎ ((n ≡ 4) ⊎ ((n ≡ 7) ⊎ (n ≡ 8)))))

@@ -1,0 +1,21 @@
+//! The program: reads the words of its command line and does what they ask for.
+#![tactic(auto)]
+
+mod program;
+
+use outside_io::{Status, StdSink, StdSource};
+use program::run;
+use std::process::ExitCode;
+use std::{env, io};
+
+fn main(rt: HostRuntime) -> io::Result<ExitCode> {
+    let alloc = rt.alloc();
+    let mut words = Vec::new(alloc);
+    for word in env::args(&rt)?.skip(1) {
+        words.push(word)?;
+    }
+    let mut input = StdSource::new(rt.stdin());
+    let mut out = StdSink::new(rt.stdout());
+    let Status(status) = run(alloc, &words, &mut input, &mut out);
+    Ok(ExitCode::from(status))
+}
