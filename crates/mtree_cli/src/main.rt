@@ -2,6 +2,8 @@
 #![tactic(auto)]
 
 mod program;
+#[cfg(test)]
+mod tests;
 
 use outside_io::{Status, StdSink, StdSource};
 use program::run;

@@ -140,6 +140,10 @@ pub fn run<S: Source, K: Sink>(
     // A scan that is done has taken all input.
     ensures end { result.0 ≡ 0 → IsAtEnd (S.left input.new) }
 
+    // With no fault and an input within its limit a scan is done, but for want of memory.
+    ensures complete { (asked : Asked) → IsScan (texts_of words.now) asked → IfSome (S.left input.old) (λ bytes. length bytes ≤ 2 ^ 26 →
+        ¬ Rose (S.faults input.old) (S.faults input.new) → ¬ Rose (K.faults out.old) (K.faults out.new) → (result.0 ≡ 0) ⊎ (result.0 ≡ 8)) }
+
     // There are no other answers.
     ensures statuses { IsStatus result.0 }
     ensures counts { (S.faults input.old ≤ S.faults input.new) × (K.faults out.old ≤ K.faults out.new) }
