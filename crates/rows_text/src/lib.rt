@@ -26,3 +26,5 @@ pub type Memory = std::alloc::AllocError;
 
 #[cfg(test)]
 mod tests;
+#[cfg(test)]
+mod text_tests;
