@@ -1,0 +1,16 @@
+/// The live tree of a file: what its live slot says.
+#[derive(Clone, Copy, Debug, PartialEq, Eq)]
+pub struct Live {
+    /// The side of the slot, 0 or 1.
+    pub side: u8,
+    /// The number of commits that made the tree, from 1.
+    pub generation: u64,
+    /// The root's page.
+    pub root: u32,
+    /// The root's level, at most 14.
+    pub height: u32,
+    /// The number of objects.
+    pub count: u32,
+    /// The number of pages of the file that count; nodes stand below.
+    pub pages: u32,
+}
