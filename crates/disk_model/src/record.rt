@@ -67,7 +67,8 @@ impl Record {
         moment: u64,
         pick: u64,
     ) -> Result<Vec<u8>, Memory>
-        ensures { IfOk result (λ file. file.items ≡ shown pick (replayed (at_rest first.now) (begun moment self.now.past))) }
+        ensures { IfOk result (λ file. file.items
+            ≡ shown pick (replayed (at_rest first.now) (begun moment self.now.past))) }
     {
         let replay = Replay::new(alloc, first, pick)?;
         play(&self.entries, &self.bytes, replay, moment)
