@@ -1,4 +1,4 @@
-ghost use Rattle.std.specs.Prelude.{◌≡◌, ◌⊎◌, ◌+◌, ◌-◌, ◌^◌, ◌<◌, ◌≤◌, ◌++◌, ◌∷◌, ◌↔◌, max, min, [], List, ℕ, length, slice_index, IsTrue, OnOk, IfOk, is_ok, IsErr, OnErr, not, vec_len, vec_capacity, EachIndex, if◌then◌else◌};
+ghost use Rattle.std.specs.Prelude.{◌≡◌, ◌⊎◌, ◌+◌, ◌^◌, ◌<◌, ◌≤◌, ◌↔◌, [], List, ℕ, length, slice_index, IsTrue, OnOk, IfOk, is_ok, IsErr, OnErr, vec_capacity, if◌then◌else◌};
 ghost use Rattle.outside_io.specs.Causes.{HasCause};
 ghost use Rattle.outside_io.specs.Memory.{next_count};
 ghost use Rattle.disk_model.specs.Disk.{Written, IsUnchanged, IsOneCall, MayLeave, LeavesOnly, Torn, Follows};

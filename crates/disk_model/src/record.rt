@@ -1,4 +1,4 @@
-ghost use Rattle.std.specs.Prelude.{◌≡◌, ◌+◌, ◌-◌, ◌<◌, ◌≤◌, ◌++◌, ◌∷◌, ◌↔◌, [], length, IsTrue, IfOk};
+ghost use Rattle.std.specs.Prelude.{◌≡◌, ◌+◌, ◌-◌, ◌<◌, ◌++◌, ◌∷◌, ◌↔◌, [], length, IsTrue, IfOk};
 ghost use Rattle.disk_model.specs.Memory.Record.{noted_of, count_of, past_of, total};
 ghost use Rattle.disk_model.specs.Memory.Replay.{IsReplay};
 ghost use Rattle.disk_model.specs.Memory.Images.{Kept, at_rest, replayed, shown, begun};

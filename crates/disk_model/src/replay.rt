@@ -1,4 +1,4 @@
-ghost use Rattle.std.specs.Prelude.{◌≡◌, ◌⊎◌, ◌+◌, ◌≤◌, ◌<◌, ◌%◌, ℕ, Bool, List, length, slice_index, OnOk, IfOk};
+ghost use Rattle.std.specs.Prelude.{◌≡◌, ◌≤◌, ◌<◌, ◌%◌, Bool, length, OnOk, IfOk};
 ghost use Rattle.disk_model.specs.Disk.{Written};
 ghost use Rattle.disk_model.specs.Memory.Model.{write};
 ghost use Rattle.disk_model.specs.Memory.Images.{Kept, at_rest, after, shown};
