@@ -1,12 +1,12 @@
 -- The recorded calls that have begun, one entry after another.
-use Rattle.std.specs.Prelude.{◌≡◌, ℕ, ◌+◌, ◌≤◌, ◌<◌, Bool, true, false, List, [], ◌∷◌, length, take, drop, take_while, slice_index_or}
+use Rattle.std.specs.Prelude.{◌≡◌, ℕ, ◌+◌, ◌≤◌, ◌<◌, true, false, List, [], ◌∷◌, length, take, drop, slice_index_or}
 use Rattle.std.proofs.Common.{arith, refl, sym, ap, ◌∙◌, length-drop}
 use Rattle.std.proofs.lemmas.List.{nil_from_length, drop_more, take-take}
 use Rattle.std.proofs.lemmas.List.Sums.{take_while-cons}
 use Rattle.disk_model.specs.declared.entry.Entry.{Entry}
 use Rattle.disk_model.specs.declared.entry.Kind.{Kind}
 use Rattle.disk_model.specs.declared.entry.Kind.TheVariants.{Look, Sync, Write}
-use Rattle.disk_model.specs.Memory.Model.{Call, write, Noted}
+use Rattle.disk_model.specs.Memory.Model.{Call, write}
 use Rattle.disk_model.specs.Memory.Images.{Kept, after, replayed, has_begun, begun}
 use Rattle.disk_model.specs.Memory.Record.{count_of, call_of, noted_of, past_of, total}
 

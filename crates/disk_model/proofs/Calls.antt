@@ -1,15 +1,15 @@
 -- What a call that is recorded, and one that is not, does to what a crash may leave.
-use Rattle.std.specs.Prelude.{◌≡◌, ◌⊎◌, ℕ, ◌+◌, ◌<◌, ◌≤◌, max, min, Bool, true, false, List, [], ◌∷◌, ◌++◌, length, take, slice_index, if◌then◌else◌, nat_le, nat_lt, ◌&&◌}
+use Rattle.std.specs.Prelude.{◌≡◌, ◌⊎◌, ℕ, ◌+◌, ◌<◌, ◌≤◌, max, min, Bool, true, List, [], ◌∷◌, ◌++◌, length, slice_index, if◌then◌else◌, nat_le, nat_lt, ◌&&◌}
 use Rattle.std.proofs.Common.{arith, inl, inr, refl, sym, ◌∙◌, ap, subst, ⊎_elim, length-append}
 use Rattle.std.proofs.lemmas.List.{ext_get_or, take_all, take-append-le}
 use Rattle.std.proofs.lemmas.Bool.{cases_lt}
 use Rattle.std.proofs.lemmas.Bool.Decides.{nat_tests}
-use Rattle.disk_model.specs.Disk.{DiskState, Torn, MayLeave, LeavesOnly, Follows, EachImage, IsOneCall, IsUnchanged}
+use Rattle.disk_model.specs.Disk.{DiskState, Torn, Follows, IsOneCall, IsUnchanged}
 use Rattle.disk_model.specs.Moments.{started, weakened}
 use Rattle.disk_model.specs.Memory.Files.{tabulated, length-tabulated, place-tabulated, overwritten, length-overwritten}
 use Rattle.disk_model.specs.Memory.Model.{Call, look, sync, write, Noted}
-use Rattle.disk_model.specs.Memory.Images.{Kept, at_rest, after, replayed, is_open, IsImage, LeftAt}
-use Rattle.disk_model.specs.Memory.Laws.{closed_at_rest, closed_below, same_below, same_above, closed_before, closed_outside, rests, read_is_image, left_now, now_left}
+use Rattle.disk_model.specs.Memory.Images.{Kept, at_rest, after, replayed, IsImage, LeftAt}
+use Rattle.disk_model.specs.Memory.Laws.{closed_at_rest, closed_below, same_below, same_above, rests, read_is_image, left_now, now_left}
 
 -- ---- before a write that a crash cuts short there was an image, from which the image comes
 

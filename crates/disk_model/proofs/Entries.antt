@@ -1,8 +1,7 @@
 -- The calls that the entries of a record stand for.
-use Rattle.std.specs.Prelude.{◌≡◌, ℕ, ◌+◌, ◌≤◌, ◌<◌, Bool, true, false, List, [], ◌∷◌, ◌++◌, length, take, drop, nat_lt, nat_eq, ◌&&◌, ◌||◌}
-use Rattle.std.proofs.Common.{arith, refl, sym, ap, ◌∙◌, length-append, length-drop}
+use Rattle.std.specs.Prelude.{◌≡◌, ℕ, ◌+◌, ◌≤◌, Bool, true, List, [], ◌∷◌, ◌++◌, length, take, drop, nat_lt, nat_eq, ◌&&◌, ◌||◌}
+use Rattle.std.proofs.Common.{arith, refl, sym, ap, ◌∙◌, length-drop}
 use Rattle.std.proofs.lemmas.List.{take_all, take-append-le, drop-append-le, nil_from_length}
-use Rattle.std.proofs.lemmas.Bool.Decides.{nat_tests}
 use Rattle.disk_model.specs.declared.entry.Entry.{Entry}
 use Rattle.disk_model.specs.declared.entry.Kind.{Kind}
 use Rattle.disk_model.specs.declared.entry.Kind.TheVariants.{Look, Sync, Write}

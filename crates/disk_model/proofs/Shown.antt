@@ -1,12 +1,12 @@
 -- What a pick shows is an image, and how a write changes it.
-use Rattle.std.specs.Prelude.{◌≡◌, ◌≢◌, ◌⊎◌, ℕ, zero, suc, ◌+◌, ◌-◌, ◌%◌, ◌<◌, ◌≤◌, max, Bool, true, false, List, [], ◌∷◌, length, take, slice_index, if◌then◌else◌, take_while}
+use Rattle.std.specs.Prelude.{◌≡◌, ◌≢◌, ℕ, zero, suc, ◌+◌, ◌-◌, ◌%◌, ◌<◌, ◌≤◌, max, Bool, true, false, List, [], ◌∷◌, length, take, slice_index, if◌then◌else◌, take_while}
 use Rattle.std.proofs.Common.{arith, inl, inr, refl, sym, ◌∙◌, ap, subst, ⊎_elim}
 use Rattle.std.proofs.lemmas.List.{ext_get_or}
 use Rattle.std.proofs.lemmas.List.Folds.{length-prefix_len}
 use Rattle.std.proofs.lemmas.Bool.{cases_lt}
 use Rattle.disk_model.specs.Disk.{Written}
-use Rattle.disk_model.specs.Memory.Files.{tabulated, length-tabulated, place-tabulated, overwritten, length-overwritten, overwritten-written, written_is}
-use Rattle.disk_model.specs.Memory.Model.{Call, look, sync, write, Noted, SimulatedDisk}
+use Rattle.disk_model.specs.Memory.Files.{length-tabulated, place-tabulated, overwritten, length-overwritten, overwritten-written, written_is}
+use Rattle.disk_model.specs.Memory.Model.{Call, look, sync, write, Noted}
 use Rattle.disk_model.specs.Memory.Images.{Kept, is_open, IsImage, LeftAt, at_rest, after, replayed, painted, shown}
 use Rattle.disk_model.specs.Memory.Replay.{IsPainted}
 use Rattle.disk_model.specs.Memory.Laws.{open_past, open_inside, same_below, same_above, closed_below, closed_before, closed_outside, closed_at_rest, rests, read_is_image}

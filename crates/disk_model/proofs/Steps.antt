@@ -1,19 +1,19 @@
 -- What each call of a disk in memory does to what it means, from the disk that it leaves.
-use Rattle.std.specs.Prelude.{◌≡◌, ◌⊎◌, ◌↔◌, ℕ, ◌+◌, ◌<◌, ◌≤◌, Bool, true, false, List, [], ◌∷◌, ◌++◌, length, if◌then◌else◌, nat_le, Result, Ok, Err, OnOk, OnErr, IsErr, is_ok}
+use Rattle.std.specs.Prelude.{◌≡◌, ℕ, ◌+◌, ◌<◌, Bool, true, false, List, [], length, if◌then◌else◌, nat_le, Result, Ok, Err, OnOk, OnErr, IsErr, is_ok}
 use Rattle.std.proofs.Common.{arith, inl, inr, refl, sym, ◌∙◌, ap, subst}
 use Rattle.std.proofs.lemmas.Bool.{cases_Bool, cases_lt}
 use Rattle.std.proofs.lemmas.Bool.Decides.{nat_tests}
 use Rattle.std.proofs.lemmas.Bool.{false≢true}
-use Rattle.disk_model.specs.Disk.{DiskState, Torn, Written, MayLeave, LeavesOnly, Follows, IsOneCall, IsUnchanged}
+use Rattle.disk_model.specs.Disk.{Torn, Written, MayLeave, LeavesOnly, Follows, IsOneCall, IsUnchanged}
 use Rattle.disk_model.specs.Moments.{written_torn}
 use Rattle.disk_model.specs.Memory.Files.{overwritten, overwritten-written}
-use Rattle.disk_model.specs.Memory.Model.{Call, look, sync, write, Noted, SimulatedDisk, units_of, fits, after_call, after_answer, IsRefused}
-use Rattle.disk_model.specs.Memory.Images.{Kept, at_rest, after, replayed, kept_by, memory_state}
+use Rattle.disk_model.specs.Memory.Model.{Call, look, sync, write, SimulatedDisk, fits, after_call}
+use Rattle.disk_model.specs.Memory.Images.{Kept, at_rest, after, kept_by, memory_state}
 use Rattle.disk_model.proofs.Calls.{replayed_push, one_call, write_follows, nothing_follows, nothing_unchanged, nothing_one_call, look_unchanged, sync_only, sync_fewer}
 
 -- the disk that a call leaves, with this count of reads
 abbrev pub left_by : SimulatedDisk → Call → Bool → ℕ → SimulatedDisk
-left_by old call ok reads = record (after_answer (after_call old call) ok) { reads = reads }
+left_by old call ok reads = record (after_call old call ok) { reads = reads }
 
 -- ---- what a read gives
 
@@ -61,20 +61,20 @@ module _ (old new : SimulatedDisk) where
   pub unchanged : (ok : Bool) (reads : ℕ) → new ≡ left_by old look ok reads → IsUnchanged (memory_state old) (memory_state new)
   unchanged ok reads is = subst (λ (disk : SimulatedDisk). IsUnchanged (memory_state old) (memory_state disk)) (sym is) (unchanged_of old ok reads)
 
-  pub one_call_by : (call : Call) (ok : Bool) → new ≡ after_answer (after_call old call) ok → IsOneCall (memory_state old) (memory_state new)
+  pub one_call_by : (call : Call) (ok : Bool) → new ≡ after_call old call ok → IsOneCall (memory_state old) (memory_state new)
   one_call_by call ok is = subst (λ (disk : SimulatedDisk). IsOneCall (memory_state old) (memory_state disk)) (sym is) (time_of old call ok old.reads)
 
-  pub torn_by : (at : ℕ) (wrote : List ℕ) (done ok : Bool) → new ≡ after_answer (after_call old (write at wrote done)) ok → Follows (Torn at (length wrote)) (memory_state old) (memory_state new)
+  pub torn_by : (at : ℕ) (wrote : List ℕ) (done ok : Bool) → new ≡ after_call old (write at wrote done) ok → Follows (Torn at (length wrote)) (memory_state old) (memory_state new)
   torn_by at wrote done ok is = subst (λ (disk : SimulatedDisk). Follows (Torn at (length wrote)) (memory_state old) (memory_state disk)) (sym is) (torn_of old at wrote done ok old.reads)
 
-  same_by : (call : Call) (ok : Bool) → (after (kept_by old) call).read ≡ (kept_by old).read → new ≡ after_answer (after_call old call) ok → (kept_by new).read ≡ (kept_by old).read
+  same_by : (call : Call) (ok : Bool) → (after (kept_by old) call).read ≡ (kept_by old).read → new ≡ after_call old call ok → (kept_by new).read ≡ (kept_by old).read
   same_by call ok same is = ap (λ (disk : SimulatedDisk). (kept_by disk).read) is ∙ same_read old call ok old.reads same
 
-  pub unwritten_by : {T E : Type 0} (at : ℕ) (wrote : List ℕ) (result : Result T E) → new ≡ after_answer (after_call old (write at wrote (is_ok result))) (is_ok result) → OnErr result ((kept_by new).read ≡ (kept_by old).read)
+  pub unwritten_by : {T E : Type 0} (at : ℕ) (wrote : List ℕ) (result : Result T E) → new ≡ after_call old (write at wrote (is_ok result)) (is_ok result) → OnErr result ((kept_by new).read ≡ (kept_by old).read)
   unwritten_by at wrote (Ok x) is = tt
   unwritten_by at wrote (Err e) is = same_by (write at wrote false) false refl is
 
-  pub written_by : {T E : Type 0} (at : ℕ) (wrote : List ℕ) (result : Result T E) → (old.left < length wrote + 1 → IsErr result) → new ≡ after_answer (after_call old (write at wrote (is_ok result))) (is_ok result)
+  pub written_by : {T E : Type 0} (at : ℕ) (wrote : List ℕ) (result : Result T E) → (old.left < length wrote + 1 → IsErr result) → new ≡ after_call old (write at wrote (is_ok result)) (is_ok result)
       → OnOk result (Written at wrote (kept_by old).read (kept_by new).read)
   written_by at wrote (Ok x) full is =
       let read : (kept_by new).read ≡ overwritten at wrote (kept_by old).read = ap (λ (disk : SimulatedDisk). (kept_by disk).read) is ∙ read_noted old (write at wrote true) true old.reads (noted_if_ok old.left (length wrote + 1) full) in
@@ -84,7 +84,7 @@ module _ (old new : SimulatedDisk) where
   same_torn : (at count : ℕ) (file : List ℕ) → Torn at count file file
   same_torn at count file = record { no_shorter = omega arith; no_longer = omega arith; below = λ i within lt. refl; above = λ i within le. refl }
 
-  pub others_by : {T E : Type 0} (at : ℕ) (wrote : List ℕ) (result : Result T E) → (old.left < length wrote + 1 → IsErr result) → new ≡ after_answer (after_call old (write at wrote (is_ok result))) (is_ok result)
+  pub others_by : {T E : Type 0} (at : ℕ) (wrote : List ℕ) (result : Result T E) → (old.left < length wrote + 1 → IsErr result) → new ≡ after_call old (write at wrote (is_ok result)) (is_ok result)
       → Torn at (length wrote) (kept_by old).read (kept_by new).read
   others_by {T = T} {E = E} at wrote (Ok x) full is = written_torn at wrote (kept_by old).read (kept_by new).read (written_by {T = T} {E = E} at wrote (Ok x) full is)
   others_by {T = T} {E = E} at wrote (Err e) full is = subst (λ (file : List ℕ). Torn at (length wrote) (kept_by old).read file) (sym (unwritten_by {T = T} {E = E} at wrote (Err e) is)) (same_torn at (length wrote) (kept_by old).read)
@@ -92,7 +92,7 @@ module _ (old new : SimulatedDisk) where
   -- ---- a sync
 
   abbrev IsSynced : {T E : Type 0} → Result T E → Type 0
-  IsSynced result = new ≡ after_answer (after_call old (if is_ok result then sync else look)) (is_ok result)
+  IsSynced result = new ≡ after_call old (if is_ok result then sync else look) (is_ok result)
 
   pub durable_by : {T E : Type 0} (result : Result T E) → (old.left < 1 → IsErr result) → IsSynced result → OnOk result (LeavesOnly (memory_state new) (kept_by old).read)
   durable_by (Ok x) full is =

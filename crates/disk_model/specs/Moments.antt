@@ -1,5 +1,5 @@
 -- How stretches of moments go together, for whoever makes several calls of a disk.
-use Rattle.std.specs.Prelude.{◌≡◌, ◌⊎◌, ◌↔◌, ℕ, ◌+◌, ◌<◌, ◌≤◌, List, length}
+use Rattle.std.specs.Prelude.{◌≡◌, ◌⊎◌, ℕ, ◌≤◌, List, length}
 use Rattle.std.proofs.Common.{arith, inl, inr, ◌∙◌, ⊎_elim}
 use Rattle.std.proofs.lemmas.Bool.{cases_lt}
 use Rattle.disk_model.specs.Disk.{DiskState, MayLeave, EachImage, EachImageOnce, IsOneCall, IsUnchanged, Written, Torn}

@@ -29,8 +29,10 @@ pub trait Disk {
     /// a crash may leave any bytes in the range. After `Failed` a read may give any of them too.
     fn write_at(&mut self, at: u64, bytes: &[u8]) -> Result<(), Failed>
         requires { at + length bytes.now ≤ 2 ^ 37 }
-        ensures written { OnOk result (IsTrue (state self.old).tells → Written at bytes.now (state self.old).bytes (state self.new).bytes) }
-        ensures others { IsTrue (state self.old).tells → Torn at (length bytes.now) (state self.old).bytes (state self.new).bytes }
+        ensures written { OnOk result (IsTrue (state self.old).tells
+            → Written at bytes.now (state self.old).bytes (state self.new).bytes) }
+        ensures others { IsTrue (state self.old).tells
+            → Torn at (length bytes.now) (state self.old).bytes (state self.new).bytes }
         ensures tells { (state self.new).tells ≡ (state self.old).tells }
         ensures torn { Follows (Torn at (length bytes.now)) (state self.old) (state self.new) }
         ensures time { IsOneCall (state self.old) (state self.new) }

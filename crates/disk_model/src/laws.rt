@@ -1,6 +1,6 @@
 //! What follows of disks, for whoever makes several calls. Each law is a function that does nothing: its contract is
 //! the law. The proofs stand beside the definitions, as lemmas over the states of any disk.
-ghost use Rattle.std.specs.Prelude.{◌≡◌, ◌<◌, ℕ, List, length, set, slice_index, IsTrue};
+ghost use Rattle.std.specs.Prelude.{◌<◌, ℕ, List, length, set, slice_index, IsTrue};
 ghost use Rattle.disk_model.specs.Disk.{MayLeave, EachImage, EachImageOnce, IsOneCall, IsUnchanged, Written, Torn};
 
 use crate::Disk;

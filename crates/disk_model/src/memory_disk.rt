@@ -1,8 +1,8 @@
-ghost use Rattle.std.specs.Prelude.{◌≡◌, ◌⊎◌, ◌+◌, ◌-◌, ◌^◌, ◌<◌, ◌≤◌, ◌++◌, ◌∷◌, ◌↔◌, max, min, [], List, ℕ, length, slice_index, IsTrue, OnOk, IfOk, is_ok, IsErr, OnErr, not, vec_len, vec_capacity, EachIndex, if◌then◌else◌};
+ghost use Rattle.std.specs.Prelude.{◌≡◌, ◌⊎◌, ◌+◌, ◌^◌, ◌<◌, ◌≤◌, ◌↔◌, [], List, ℕ, length, slice_index, IsTrue, OnOk, IfOk, is_ok, IsErr, OnErr, vec_capacity, if◌then◌else◌};
 ghost use Rattle.outside_io.specs.Causes.{HasCause};
 ghost use Rattle.outside_io.specs.Memory.{next_count};
 ghost use Rattle.disk_model.specs.Disk.{Written, IsUnchanged, IsOneCall, MayLeave, LeavesOnly, Torn, Follows};
-ghost use Rattle.disk_model.specs.Memory.Model.{look, sync, write, after_call, after_answer, IsNamed, IsRefused};
+ghost use Rattle.disk_model.specs.Memory.Model.{look, sync, write, with_call, with_answer, after_call, IsNamed, IsRefused};
 ghost use Rattle.disk_model.specs.Memory.Record.{count_of, call_of, end_of, IsDone};
 ghost use Rattle.disk_model.specs.Memory.Images.{Kept, after, memory_state, kept_by, clock_at, image_of};
 ghost use Rattle.disk_model.specs.Memory.Laws.{read_may_be_left, places_mix};
@@ -123,7 +123,7 @@ impl MemoryDisk {
     fn make(&mut self, kind: Kind, bytes: &[u8])
         requires count { count_of kind ≡ length bytes.now }
         requires done { IsDone kind → (end_of kind ≤ self.old.room) × (length bytes.now < self.old.left) }
-        ensures { self.new ≡ after_call self.old (call_of kind bytes.now) }
+        ensures { self.new ≡ with_call self.old (call_of kind bytes.now) }
     {
         let number = self.calls;
         self.calls = self.calls.saturating_add(1);
@@ -137,7 +137,7 @@ impl MemoryDisk {
     // Answers a call, and counts the fault where it failed.
     fn answer(&mut self, refused: bool) -> Result<(), Failed>
         ensures refused { IsErr result ↔ IsTrue refused }
-        ensures next { self.new ≡ after_answer self.old (is_ok result) }
+        ensures next { self.new ≡ with_answer self.old (is_ok result) }
         ensures cause { HasCause self.old.faults self.new.faults result }
     {
         if refused {
@@ -157,7 +157,7 @@ impl MemoryDisk {
     // A call that changes nothing.
     fn look(&mut self) -> Result<(), Failed>
         ensures fails { IsErr result ↔ IsRefused self.old 0 }
-        ensures next { self.new ≡ after_answer (after_call self.old look) (is_ok result) }
+        ensures next { self.new ≡ after_call self.old look (is_ok result) }
         ensures cause { HasCause self.old.faults self.new.faults result }
     {
         let refused = self.is_refused(0);
@@ -168,8 +168,9 @@ impl MemoryDisk {
     // A write, which is done unless it is refused.
     fn write(&mut self, at: usize, bytes: &[u8]) -> Result<(), Failed>
         requires { at + length bytes.now ≤ 2 ^ 37 }
-        ensures fails { IsErr result ↔ (IsRefused self.old (length bytes.now) ⊎ (self.old.room < at + length bytes.now)) }
-        ensures next { self.new ≡ after_answer (after_call self.old (write at bytes.now (is_ok result))) (is_ok result) }
+        ensures fails { IsErr result
+            ↔ (IsRefused self.old (length bytes.now) ⊎ (self.old.room < at + length bytes.now)) }
+        ensures next { self.new ≡ after_call self.old (write at bytes.now (is_ok result)) (is_ok result) }
         ensures cause { HasCause self.old.faults self.new.faults result }
     {
         let count = bytes.len();
@@ -182,7 +183,7 @@ impl MemoryDisk {
     // A sync. One that failed changes nothing.
     fn sync_all(&mut self) -> Result<(), Failed>
         ensures fails { IsErr result ↔ IsRefused self.old 0 }
-        ensures next { self.new ≡ after_answer (after_call self.old (if is_ok result then sync else look)) (is_ok result) }
+        ensures next { self.new ≡ after_call self.old (if is_ok result then sync else look) (is_ok result) }
         ensures cause { HasCause self.old.faults self.new.faults result }
     {
         let refused = self.is_refused(0);
@@ -195,8 +196,10 @@ impl MemoryDisk {
 fn carry_out(file: &mut Vec<u8>, kind: Kind, bytes: &[u8])
     requires count { count_of kind ≡ length bytes.now }
     requires done { IsDone kind → end_of kind ≤ vec_capacity file.old }
-    ensures read { (kept : Kept) → kept.read ≡ file.old.items → (after kept (call_of kind bytes.now)).read ≡ file.new.items }
-    ensures size { (room : ℕ) → length file.old.items ≤ room → (IsDone kind → end_of kind ≤ room) → length file.new.items ≤ room }
+    ensures read { (kept : Kept) → kept.read ≡ file.old.items
+        → (after kept (call_of kind bytes.now)).read ≡ file.new.items }
+    ensures size { (room : ℕ) → length file.old.items ≤ room → (IsDone kind → end_of kind ≤ room)
+        → length file.new.items ≤ room }
     ensures taken { vec_capacity file.old ≤ vec_capacity file.new }
 {
     if let Kind::Write { at, done: true, .. } = kind {
@@ -217,7 +220,7 @@ impl Disk for MemoryDisk {
         ensures reads { (memory_state self.new).reads ≡ (memory_state self.old).reads }
         ensures cause { HasCause (memory_state self.old).faults (memory_state self.new).faults result }
         ensures fails { IsErr result ↔ IsRefused self.old 0 }
-        ensures next { self.new ≡ after_answer (after_call self.old look) (is_ok result) }
+        ensures next { self.new ≡ after_call self.old look (is_ok result) }
     {
         self.look()?;
         Ok(self.bytes.len() as u64)
@@ -233,7 +236,7 @@ impl Disk for MemoryDisk {
         ensures fails { IsErr result ↔ IsRefused self.old 0 }
 
         // The read is counted, also where it fails.
-        ensures next { self.new ≡ record (after_answer (after_call self.old look) (is_ok result)) { reads = next_count self.old.reads } }
+        ensures next { self.new ≡ record (after_call self.old look (is_ok result)) { reads = next_count self.old.reads } }
     {
         self.count_read();
         self.look()?;
@@ -252,8 +255,9 @@ impl Disk for MemoryDisk {
         ensures time { IsOneCall (memory_state self.old) (memory_state self.new) }
         ensures reads { (memory_state self.new).reads ≡ (memory_state self.old).reads }
         ensures cause { HasCause (memory_state self.old).faults (memory_state self.new).faults result }
-        ensures fails { IsErr result ↔ (IsRefused self.old (length bytes.now) ⊎ (self.old.room < at + length bytes.now)) }
-        ensures next { self.new ≡ after_answer (after_call self.old (write at bytes.now (is_ok result))) (is_ok result) }
+        ensures fails { IsErr result
+            ↔ (IsRefused self.old (length bytes.now) ⊎ (self.old.room < at + length bytes.now)) }
+        ensures next { self.new ≡ after_call self.old (write at bytes.now (is_ok result)) (is_ok result) }
         ensures unwritten { OnErr result ((memory_state self.new).bytes ≡ (memory_state self.old).bytes) }
     {
         self.write(at as usize, bytes)
@@ -263,12 +267,13 @@ impl Disk for MemoryDisk {
         ensures durable { OnOk result (LeavesOnly (memory_state self.new) (memory_state self.old).bytes) }
         ensures bytes { (memory_state self.new).bytes ≡ (memory_state self.old).bytes }
         ensures tells { (memory_state self.new).tells ≡ (memory_state self.old).tells }
-        ensures fewer { (image : List ℕ) → MayLeave (memory_state self.new) image → MayLeave (memory_state self.old) image }
+        ensures fewer { (image : List ℕ)
+            → MayLeave (memory_state self.new) image → MayLeave (memory_state self.old) image }
         ensures time { IsOneCall (memory_state self.old) (memory_state self.new) }
         ensures reads { (memory_state self.new).reads ≡ (memory_state self.old).reads }
         ensures cause { HasCause (memory_state self.old).faults (memory_state self.new).faults result }
         ensures fails { IsErr result ↔ IsRefused self.old 0 }
-        ensures next { self.new ≡ after_answer (after_call self.old (if is_ok result then sync else look)) (is_ok result) }
+        ensures next { self.new ≡ after_call self.old (if is_ok result then sync else look) (is_ok result) }
     {
         self.sync_all()
     }

@@ -1,4 +1,4 @@
-ghost use Rattle.std.specs.Prelude.{◌≡◌, ◌+◌, ◌-◌, ◌<◌, ◌≤◌, ◌++◌, ◌∷◌, ◌↔◌, [], length, IsTrue, IfOk};
+ghost use Rattle.std.specs.Prelude.{◌≡◌, ◌+◌, ◌-◌, ◌<◌, ◌++◌, ◌∷◌, ◌↔◌, [], length, IsTrue, IfOk};
 ghost use Rattle.disk_model.specs.Memory.Record.{noted_of, count_of, past_of, total};
 ghost use Rattle.disk_model.specs.Memory.Replay.{IsReplay};
 ghost use Rattle.disk_model.specs.Memory.Images.{Kept, at_rest, replayed, shown, begun};
@@ -67,7 +67,8 @@ impl Record {
         moment: u64,
         pick: u64,
     ) -> Result<Vec<u8>, Memory>
-        ensures { IfOk result (λ file. file.items ≡ shown pick (replayed (at_rest first.now) (begun moment self.now.past))) }
+        ensures { IfOk result (λ file. file.items
+            ≡ shown pick (replayed (at_rest first.now) (begun moment self.now.past))) }
     {
         let replay = Replay::new(alloc, first, pick)?;
         play(&self.entries, &self.bytes, replay, moment)

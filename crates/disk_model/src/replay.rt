@@ -1,4 +1,4 @@
-ghost use Rattle.std.specs.Prelude.{◌≡◌, ◌⊎◌, ◌+◌, ◌≤◌, ◌<◌, ◌%◌, ℕ, Bool, List, length, slice_index, OnOk, IfOk};
+ghost use Rattle.std.specs.Prelude.{◌≡◌, ◌≤◌, ◌<◌, ◌%◌, Bool, length, OnOk, IfOk};
 ghost use Rattle.disk_model.specs.Disk.{Written};
 ghost use Rattle.disk_model.specs.Memory.Model.{write};
 ghost use Rattle.disk_model.specs.Memory.Images.{Kept, at_rest, after, shown};
@@ -41,7 +41,8 @@ impl Replay {
     /// Does a call once more.
     pub fn apply(&mut self, kind: Kind, bytes: &[u8]) -> Result<(), Memory>
         requires { count_of kind ≡ length bytes.now }
-        ensures replay { OnOk result ((kept : Kept) → IsReplay self.old kept → IsReplay self.new (after kept (call_of kind bytes.now))) }
+        ensures replay { OnOk result ((kept : Kept)
+            → IsReplay self.old kept → IsReplay self.new (after kept (call_of kind bytes.now))) }
         ensures pick { self.new.pick ≡ self.old.pick }
     {
         match kind {
@@ -53,7 +54,8 @@ impl Replay {
 
     // A write, done or failed.
     fn redo(&mut self, at: usize, bytes: &[u8], done: bool) -> Result<(), Memory>
-        ensures replay { OnOk result ((kept : Kept) → IsReplay self.old kept → IsReplay self.new (after kept (write at bytes.now done))) }
+        ensures replay { OnOk result ((kept : Kept)
+            → IsReplay self.old kept → IsReplay self.new (after kept (write at bytes.now done))) }
         ensures pick { self.new.pick ≡ self.old.pick }
     {
         mark(&mut self.image, at, bytes, self.pick)?;
@@ -66,7 +68,8 @@ impl Replay {
 
 // What a pick makes of a write.
 fn mark(image: &mut Vec<u8>, at: usize, bytes: &[u8], pick: u64) -> Result<(), Memory>
-    ensures { OnOk result ((kept : Kept) (done : Bool) → image.old.items ≡ shown pick kept → length kept.synced ≤ length kept.last
+    ensures { OnOk result ((kept : Kept) (done : Bool)
+        → image.old.items ≡ shown pick kept → length kept.synced ≤ length kept.last
         → image.new.items ≡ shown pick (after kept (write at bytes.now done))) }
 {
     if pick == 0 {

@@ -227,3 +227,24 @@ fn a_real_file_is_read_written_and_opened_again(rt: HostRuntime) -> Result<(), F
     fs::remove_file(&rt, path)?;
     Ok(())
 }
+
+/// What every file has.
+struct Any;
+
+impl FileProperty for Any {
+    ghost holds = { λ file. Unit {0} };
+}
+
+#[test]
+fn the_laws_speak_of_a_disk_in_memory(rt: HostRuntime) -> Result<(), Fail> {
+    let alloc = rt.alloc();
+    let disk = MemoryDisk::new(alloc, Vec::new(alloc), 8, 20, Vec::new(alloc), None)?;
+    images_mix(&disk);
+    read_may_be_left(&disk);
+    written_is_torn();
+    looks_join(&disk, &disk, &disk);
+    stretches_join::<MemoryDisk, Any>(&disk, &disk, &disk);
+    stretch_goes_on::<MemoryDisk, Any>(&disk, &disk, &disk);
+    opening_then_stretch::<MemoryDisk, Any>(&disk, &disk, &disk);
+    Ok(())
+}

@@ -1,11 +1,11 @@
 -- What a read gives is an image, and images mix place by place.
-use Rattle.std.specs.Prelude.{◌≡◌, ◌⊎◌, ℕ, ◌+◌, ◌<◌, ◌≤◌, max, Bool, true, false, List, [], ◌∷◌, length, take, set, slice_index, if◌then◌else◌, nat_le, nat_lt, ◌&&◌, ◌||◌}
+use Rattle.std.specs.Prelude.{◌≡◌, ◌⊎◌, ℕ, ◌+◌, ◌<◌, ◌≤◌, Bool, true, false, List, [], ◌∷◌, length, set, slice_index}
 use Rattle.std.proofs.Common.{arith, inl, inr, refl, sym, ◌∙◌, ap, subst, ⊎_elim, length-set}
 use Rattle.std.proofs.lemmas.List.{get_or-set_same, get_or-set_other, take_all}
 use Rattle.std.proofs.lemmas.Bool.{cases_eq}
 use Rattle.std.proofs.lemmas.Bool.Decides.{nat_tests}
-use Rattle.disk_model.specs.Disk.{DiskState, MayLeave}
-use Rattle.disk_model.specs.Memory.Files.{overwritten, length-overwritten, overwritten-written}
+use Rattle.disk_model.specs.Disk.{MayLeave}
+use Rattle.disk_model.specs.Memory.Files.{length-overwritten, overwritten-written}
 use Rattle.disk_model.specs.Memory.Model.{Call, look, sync, write, Noted, SimulatedDisk}
 use Rattle.disk_model.specs.Memory.Images.{Kept, at_rest, after, replayed, kept_by, is_within, is_open, IsImage, LeftAt, memory_state}
 

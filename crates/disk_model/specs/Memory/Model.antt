@@ -43,17 +43,21 @@ units_of (write at bytes done) = length bytes + 1
 abbrev pub fits : SimulatedDisk → Call → Bool
 fits disk call = nat_le (units_of call) disk.left
 
--- the disk after a call, which is recorded where it fits
-abbrev pub after_call : SimulatedDisk → Call → SimulatedDisk
-after_call disk call = record disk {
+-- the disk with a call made: the call is recorded where it fits
+abbrev pub with_call : SimulatedDisk → Call → SimulatedDisk
+with_call disk call = record disk {
   past = (if fits disk call then disk.past ++ record { number = disk.calls; call = call } ∷ [] else disk.past);
   left = (if fits disk call then disk.left - units_of call else disk.left);
   calls = next_count disk.calls;
 }
 
--- the disk once the call has answered: a fault is counted
-abbrev pub after_answer : SimulatedDisk → Bool → SimulatedDisk
-after_answer disk ok = record disk { faults = (if ok then disk.faults else next_count disk.faults) }
+-- the disk with an answer given: a fault is counted
+abbrev pub with_answer : SimulatedDisk → Bool → SimulatedDisk
+with_answer disk ok = record disk { faults = (if ok then disk.faults else next_count disk.faults) }
+
+-- the disk after a call that was answered so
+abbrev pub after_call : SimulatedDisk → Call → Bool → SimulatedDisk
+after_call disk call ok = with_answer (with_call disk call) ok
 
 -- the next call fails by its number: it is named, or is that of the stop or above
 abbrev pub IsNamed : SimulatedDisk → Type 0

@@ -1,5 +1,5 @@
 -- How the record of a disk in memory keeps its calls: an entry for each, and their bytes one after another.
-use Rattle.std.specs.Prelude.{◌≡◌, IsTrue, Bool, true, false, ℕ, ◌+◌, ◌-◌, ◌≤◌, List, [], ◌∷◌, ◌++◌, length, take, drop, vec_capacity}
+use Rattle.std.specs.Prelude.{IsTrue, Bool, true, false, ℕ, ◌+◌, List, [], ◌∷◌, take, drop}
 use Rattle.disk_model.specs.declared.entry.Entry.{Entry}
 use Rattle.disk_model.specs.declared.entry.Kind.{Kind}
 use Rattle.disk_model.specs.declared.entry.Kind.TheVariants.{Look, Sync, Write}

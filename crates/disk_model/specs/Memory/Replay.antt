@@ -1,5 +1,5 @@
 -- How the calls of a disk in memory are done once more.
-use Rattle.std.specs.Prelude.{◌≡◌, ◌⊎◌, ℕ, ◌+◌, ◌<◌, ◌≤◌, max, List, length, slice_index}
+use Rattle.std.specs.Prelude.{◌≡◌, ℕ, ◌+◌, ◌<◌, ◌≤◌, max, List, length, slice_index}
 use Rattle.disk_model.specs.declared.replay.Replay.{Replay}
 use Rattle.disk_model.specs.Memory.Images.{Kept, IsImage, shown}
 

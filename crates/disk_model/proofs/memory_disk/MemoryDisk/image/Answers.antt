@@ -1,4 +1,4 @@
-use Rattle.std.proofs.Common.{◌≡◌, ◌∙◌, List, ℕ, length, sym, ap, subst}
+use Rattle.std.proofs.Common.{◌∙◌, List, ℕ, length, sym, ap, subst}
 use Rattle.std.proofs.lemmas.Result.{IfOk-weaker}
 use Rattle.disk_model.specs.Memory.Images.{LeftAt, at_rest, replayed, begun, has_begun, shown}
 use Rattle.disk_model.proofs.Shown.{shown_left}

@@ -1,7 +1,7 @@
-use Rattle.std.proofs.Common.{◌≡◌, ◌≤◌, ◌∙◌, ap, sym, arith, List}
+use Rattle.std.proofs.Common.{◌≡◌, ◌∙◌, ap, arith, List}
 use Rattle.disk_model.specs.Memory.Model.{Noted, SimulatedDisk}
 use Rattle.disk_model.specs.Memory.Images.{Kept, at_rest, replayed}
-use Rattle.disk_model.specs.Memory.Record.{IsDone, end_of, noted_of}
+use Rattle.disk_model.specs.Memory.Record.{IsDone}
 use Rattle.disk_model.proofs.Calls.{replayed_push}
 use Rattle.disk_model.proofs.memory_disk.MemoryDisk.make.Goals as goal
 

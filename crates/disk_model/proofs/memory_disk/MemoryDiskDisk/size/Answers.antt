@@ -1,4 +1,4 @@
-use Rattle.std.proofs.Common.{false, true, length, ap, sym, ◌∙◌, List, ℕ, arith, is_ok, ◌≡◌}
+use Rattle.std.proofs.Common.{length, ap, sym, ◌∙◌, List, ℕ, arith, ◌≡◌}
 use Rattle.disk_model.specs.Memory.Model.{SimulatedDisk}
 use Rattle.disk_model.specs.Memory.Images.{kept_by}
 use Rattle.disk_model.proofs.Steps.{unchanged}

@@ -1,4 +1,4 @@
-use Rattle.std.proofs.Common.{arith, inl, inr, is_ok, ◌<◌, ◌+◌, length}
+use Rattle.std.proofs.Common.{inl, inr, is_ok, ◌<◌, ◌+◌, length}
 use Rattle.std.proofs.lemmas.Result.{on_ok_weaker}
 use Rattle.disk_model.specs.Memory.Model.{write}
 use Rattle.disk_model.proofs.Steps.{one_call_by, torn_by, written_by, others_by, unwritten_by}
