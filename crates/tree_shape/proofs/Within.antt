@@ -7,14 +7,15 @@ use Rattle.metric_laws.specs.Lists.{IsIn}
 use Rattle.metric_laws.proofs.Lists.{all_weaker, all_flat_map, in-append_left, in-append_right}
 use Rattle.tree_shape.specs.declared.entry.LeafEntry.{LeafEntry}
 use Rattle.tree_shape.specs.declared.entry.InnerEntry.{InnerEntry}
-use Rattle.tree_shape.specs.Tree.{Nodes, IsSoundAt, IsSoundObject, IsSoundEntry, objects_at, pages_at, least_of, leaf_entries, inner_entries, Covers}
+use Rattle.tree_shape.specs.Fill.{least_for, IsFilled}
+use Rattle.tree_shape.specs.Tree.{Nodes, IsSoundAt, IsSoundObject, IsSoundEntry, objects_at, pages_at, leaf_entries, inner_entries, Covers}
 
 abbrev pub Fits : Space → LeafEntry → Type 0
 Fits s o = IsTrue (s.fits o.point)
 
 -- an entry of an inner node, in a sound tree
 abbrev pub SoundSubtree : Space → Nodes → ℕ → Option (List ℕ) → InnerEntry → Type 0
-SoundSubtree s nodes h above e = IsSoundEntry s above (objects_at nodes h e.child) e × IsSoundAt s nodes h (least_of s) (Some e.point) e.child
+SoundSubtree s nodes h above e = IsSoundEntry s above (objects_at nodes h e.child) e × IsSoundAt s nodes h (least_for s.words) (Some e.point) e.child
 
 pub objects_fit : (s : Space) (nodes : Nodes) (h least : ℕ) (above : Option (List ℕ)) (page : ℕ) → IsSoundAt s nodes h least above page →
     AllByRecursion (Fits s) (objects_at nodes h page)
@@ -22,8 +23,8 @@ objects_fit s nodes zero least above page sound =
     rw sound.1 (all_weaker (IsSoundObject s above) (Fits s) sound.0 (λ o k. k.point_fits) sound.3)
 objects_fit s nodes (suc h) least above page sound =
     rw sound.1 (all_flat_map (Fits s) (λ e. objects_at nodes h e.child) sound.0
-        (all_weaker (SoundSubtree s nodes h above) (λ e. AllByRecursion (Fits s) (objects_at nodes h e.child)) sound.0
-            (λ e k. objects_fit s nodes h (least_of s) (Some e.point) e.child k.1) sound.3))
+    (all_weaker (SoundSubtree s nodes h above) (λ e. AllByRecursion (Fits s) (objects_at nodes h e.child)) sound.0
+    (λ e k. objects_fit s nodes h (least_for s.words) (Some e.point) e.child k.1) sound.3))
 
 -- two maps that agree on a list's elements
 pub flat_map_agree : {X Y : Type 0} (f g : X → List Y) (xs : List X) → ((x : X) → IsIn x xs → f x ≡ g x) → flat_map f xs ≡ flat_map g xs
@@ -33,8 +34,10 @@ flat_map_agree f g (x ∷ xs) h = ap (λ r. r ++ flat_map f xs) (h x (inl refl))
 pub in-flat_map : {X Y : Type 0} (f : X → List Y) (xs : List X) (x : X) (y : Y) → IsIn x xs → IsIn y (f x) → IsIn y (flat_map f xs)
 in-flat_map f [] x y k l = absurd k
 in-flat_map f (z ∷ xs) x y k l =
-    elim k [ inl e ↦ in-append_left (f z) (flat_map f xs) y (subst (λ (v : _). IsIn y (f v)) e l)
-           | inr w ↦ in-append_right (f z) (flat_map f xs) y (in-flat_map f xs x y w l) ]
+    elim k [
+      | inl e ↦ in-append_left (f z) (flat_map f xs) y (subst (λ (v : _). IsIn y (f v)) e l)
+      | inr w ↦ in-append_right (f z) (flat_map f xs) y (in-flat_map f xs x y w l)
+    ]
 
 pub all_within : {X : Type 0} (P Q : X → Type 0) (xs : List X) → ((x : X) → IsIn x xs → P x → Q x) → AllByRecursion P xs → AllByRecursion Q xs
 all_within P Q [] h all = tt
@@ -63,12 +66,20 @@ module _ (old new : Nodes) where
 
   pub still_sound : (s : Space) (h page : ℕ) → Agree old new (pages_at old h page) → (least : ℕ) (above : Option (List ℕ)) → IsSoundAt s old h least above page → IsSoundAt s new h least above page
   still_sound s zero page agree least above sound = (sound.0, agree page (inl refl) ∙ sound.1, sound.2, sound.3)
-  still_sound s (suc h) page agree least above sound =
-      (sound.0, agree page (inl refl) ∙ sound.1, sound.2,
-       all_within (SoundSubtree s old h above) (SoundSubtree s new h above) sound.0
-           (λ e k w. (record { point_fits = w.0.point_fits; parent_is = w.0.parent_is;
-                               covers = subst (Covers s e) (sym (same_objects h e.child (agrees e k))) w.0.covers },
-                      still_sound s h e.child (agrees e k) (least_of s) (Some e.point) w.1)) sound.3)
+  still_sound s (suc h) page agree least above sound = (
+    sound.0,
+    agree page (inl refl) ∙ sound.1,
+    sound.2,
+    all_within (SoundSubtree s old h above) (SoundSubtree s new h above) sound.0
+        (λ e k w. (
+          record {
+            point_fits = w.0.point_fits;
+            parent_is = w.0.parent_is;
+            covers = subst (Covers s e) (sym (same_objects h e.child (agrees e k))) w.0.covers;
+          },
+          still_sound s h e.child (agrees e k) (least_for s.words) (Some e.point) w.1,
+        )) sound.3,
+  )
     where
       agrees : (e : InnerEntry) → IsIn e sound.0 → Agree old new (pages_at old h e.child)
       agrees e k = child_agrees h page agree e (subst (λ (o : _). IsIn e (inner_entries o)) (sym sound.1) k)
