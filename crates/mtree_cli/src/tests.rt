@@ -1,7 +1,10 @@
 use crate::program::run;
+use metric_laws::Rows;
 use outside_io::{MemorySink, MemorySource, Status};
+use scan_model::{Pair, scan_join};
 use std::alloc::{AllocError, Global};
 use std::test::Fail;
+use vector_kinds::L1;
 
 const USAGE: &str = "usage: mtree COMMAND INDEX [options]\n";
 
@@ -124,6 +127,12 @@ fn statuses_and_texts(rt: HostRuntime) -> Result<(), Fail> {
             "insert,1,2,7,7\nrange,9,3,2,7,8\n",
             "id 0\nhits 1\n0 3\n",
         ),
+        // Sixteen cursors may be open, and no number is used again.
+        run_of(
+            LINE,
+            "cursor,0\ncursor,0\ncursor,0\ncursor,0\ncursor,0\ncursor,0\ncursor,0\ncursor,0\ncursor,0\ncursor,0\ncursor,0\ncursor,0\ncursor,0\ncursor,0\ncursor,0\ncursor,0\ncursor,0\nclose,3\ncursor,0\n",
+            "cursor 0\ncursor 1\ncursor 2\ncursor 3\ncursor 4\ncursor 5\ncursor 6\ncursor 7\ncursor 8\ncursor 9\ncursor 10\ncursor 11\ncursor 12\ncursor 13\ncursor 14\ncursor 15\nrefused cursors\nclosed 3\ncursor 16\n",
+        ),
         refused("scan --metric l2 --dim 2"),
         refused("scan --metric l1 --dim 65"),
         refused("scan --metric mixmax --dim 3"),
@@ -177,5 +186,36 @@ fn an_input_of_one_byte_too_many(rt: HostRuntime) -> Result<(), Fail> {
     let mut out = MemorySink::new(alloc, 1000, Vec::new(alloc))?;
     assert_eq!(rt; run(alloc, &words, &mut input, &mut out), Status(7));
     assert_eq!(rt; out.written(), b"fault long\n".as_slice());
+    Ok(())
+}
+
+fn rows(alloc: Global, points: &[u32]) -> Result<Rows, AllocError> {
+    let mut rows = Rows::new(alloc, 1);
+    for point in points {
+        rows.push(&[*point])?;
+    }
+    Ok(rows)
+}
+
+#[test]
+fn a_join_gives_the_pairs_within_the_radius(rt: HostRuntime) -> Result<(), Fail> {
+    let alloc = rt.alloc();
+    let left = rows(alloc, &[0, 5, 9])?;
+    let right = rows(alloc, &[4, 9])?;
+    let pairs = scan_join(alloc, &L1::new(1), &left, &right, 1)?;
+    let first = Pair {
+        left: 1,
+        right: 0,
+        dist: 1,
+    };
+    let second = Pair {
+        left: 2,
+        right: 1,
+        dist: 0,
+    };
+    assert_eq!(rt; pairs.as_slice(), [first, second].as_slice());
+    scan_model::laws::range_answers_are_all();
+    scan_model::laws::join_answers_are_all();
+    rows_text::laws::run_is_its_steps();
     Ok(())
 }
