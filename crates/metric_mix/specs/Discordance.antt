@@ -1,11 +1,11 @@
 -- Kendall's distance is a metric of permutations.
-use Rattle.std.specs.Prelude.{◌≡◌, ℕ, zero, suc, ◌+◌, ◌*◌, ◌≤◌, ◌<◌, Bool, true, false, cond, List, [], ◌∷◌, ◌++◌, length, take, map, refl, nat_lt, count_by, sum_by}
+use Rattle.std.specs.Prelude.{◌≡◌, ℕ, ◌+◌, ◌*◌, ◌≤◌, Bool, true, false, cond, List, [], ◌∷◌, length, map, refl, nat_lt, count_by}
 use Rattle.std.specs.List.{zip}
-use Rattle.std.proofs.Common.{arith, ap, sym, ◌∙◌, inl, inr, ◌⊎◌}
+use Rattle.std.proofs.Common.{arith, ap, sym, ◌∙◌, inl, inr}
 use Rattle.std.proofs.lemmas.Bool.{cases_order}
 use Rattle.std.proofs.lemmas.Bool.Decides.{nat_tests}
 use Rattle.std.proofs.lemmas.List.Sums.{sum_by-append, sum_by-cons}
-use Rattle.metric_mix.specs.Permutations.{pairs_of, exactly_one, is_discordant, kendall_distance}
+use Rattle.metric_mix.specs.Permutations.{pairs_of, exactly_one, is_discordant}
 use Rattle.metric_mix.specs.Ranks.{high, high_falls}
 
 -- 1 where just one of the two holds

@@ -1,13 +1,13 @@
 -- Hausdorff's distance is a metric of sets.
-use Rattle.std.specs.Prelude.{◌≡◌, ℕ, ◌+◌, ◌-◌, ◌≤◌, ◌<◌, ◌^◌, ◌&&◌, true, List, [], ◌∷◌, length, min, refl, IsTrue}
+use Rattle.std.specs.Prelude.{◌≡◌, ℕ, ◌+◌, ◌-◌, ◌≤◌, ◌^◌, true, List, [], ◌∷◌, length, refl, IsTrue}
 use Rattle.std.proofs.Common.{arith, ap, sym, ◌∙◌, inl, inr}
 use Rattle.std.proofs.lemmas.Bool.{and_parts, cases_order}
 use Rattle.metric_laws.specs.Lists.{IsIn}
-use Rattle.metric_laws.specs.Space.{IsSpace, bound}
+use Rattle.metric_laws.specs.Space.{IsSpace}
 use Rattle.metric_laws.specs.Pruning.{gap}
 use Rattle.vector_kinds.specs.Vectors.{is_vector}
 use Rattle.vector_kinds.specs.VectorLaws.{vector_long, vector_small}
-use Rattle.metric_mix.specs.Sets.{is_spelled, is_set, nearest, farthest, hausdorff_distance, hausdorff_space}
+use Rattle.metric_mix.specs.Sets.{is_spelled, is_set, nearest, farthest, hausdorff_space}
 use Rattle.metric_mix.specs.Spellings.{one_spelling}
 
 pub nearest_low : (x : ℕ) (b : List ℕ) → nearest x b ≤ 2 ^ 32 - 1

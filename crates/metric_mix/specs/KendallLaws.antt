@@ -1,10 +1,10 @@
 -- Kendall's space is a space.
-use Rattle.std.specs.Prelude.{◌≡◌, ℕ, ◌-◌, suc, ◌≤◌, ◌<◌, ◌^◌, List, length, take, All, IsTrue}
-use Rattle.std.proofs.Common.{arith, ap, sym, ◌∙◌}
+use Rattle.std.specs.Prelude.{◌≡◌, ℕ, ◌≤◌, List, length, take, IsTrue}
+use Rattle.std.proofs.Common.{arith, sym, ◌∙◌}
 use Rattle.std.proofs.lemmas.List.{take_all}
-use Rattle.metric_laws.specs.Space.{IsSpace, bound}
+use Rattle.metric_laws.specs.Space.{IsSpace}
 use Rattle.metric_mix.specs.Permutations.{is_permutation, kendall_distance, kendall_space}
-use Rattle.metric_mix.specs.Ranks.{high, high_is, permutation_long, permutation_below}
+use Rattle.metric_mix.specs.Ranks.{high_is, permutation_long, permutation_below}
 use Rattle.metric_mix.specs.Discordance.{discord, discord_is, discord_symmetric, discord_same, discord_triangle, discord_few, discord_apart}
 
 -- of points, all places count

@@ -3,7 +3,6 @@ use Rattle.std.specs.Prelude.{◌≡◌, ℕ, ◌≤◌, ◌%◌, ◌==◌, ◌&
 use Rattle.std.proofs.Common.{arith}
 use Rattle.std.proofs.lemmas.Bool.{and_from, eq-eqb, le-leb}
 use Rattle.metric_laws.specs.Space.{IsSpace}
-use Rattle.vector_kinds.specs.Kinds.{kind_of, dim_of}
 use Rattle.vector_kinds.specs.declared.space.Space.TheVariants.{Hamming, L1, Max}
 use Rattle.metric_mix.specs.declared.mix_space.MixSpace.{MixSpace}
 use Rattle.metric_mix.specs.declared.mix_space.MixSpace.TheVariants.{Plain, Kendall, Hausdorff, MixSum, MixMax, L1Cap}

@@ -1,5 +1,5 @@
 -- Each lawful kind and dimension has a space, and most take every list of numbers of 32 bits.
-use Rattle.std.specs.Prelude.{◌≡◌, ◌≢◌, ℕ, ◌+◌, ◌*◌, ◌/◌, ◌%◌, ◌≤◌, ◌<◌, ◌==◌, ◌&&◌, ◌^◌, ◌++◌, Bool, true, if◌then◌else◌, List, length, take, drop, refl, IsTrue, nat_le, nat_lt}
+use Rattle.std.specs.Prelude.{◌≡◌, ◌≢◌, ℕ, ◌+◌, ◌/◌, ◌%◌, ◌≤◌, ◌==◌, ◌&&◌, ◌^◌, ◌++◌, Bool, true, if◌then◌else◌, List, length, take, drop, refl, IsTrue, nat_le, nat_lt}
 use Rattle.std.specs.List.{list_all}
 use Rattle.std.proofs.Common.{arith, ap, sym, ◌∙◌, subst, inl, inr}
 use Rattle.std.proofs.lemmas.Bool.{and_parts, and_from, cases_lt, eqb-true, eq-eqb, leb-true}
@@ -8,7 +8,7 @@ use Rattle.std.proofs.lemmas.List.Folds.{list_all-append}
 use Rattle.metric_laws.specs.Space.{Space, IsSpace}
 use Rattle.vector_kinds.specs.Vectors.{is_vector, vector_space}
 use Rattle.vector_kinds.specs.VectorLaws.{hamming_axioms, l1_axioms, max_axioms}
-use Rattle.metric_mix.specs.Composed.{capped_space, sum_space, most_space}
+use Rattle.metric_mix.specs.Composed.{sum_space, most_space}
 use Rattle.metric_mix.specs.ComposedLaws.{capped_axioms, sum_axioms, most_axioms}
 use Rattle.metric_mix.specs.Permutations.{kendall_space}
 use Rattle.metric_mix.specs.KendallLaws.{kendall_axioms}

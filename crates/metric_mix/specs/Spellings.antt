@@ -1,5 +1,5 @@
 -- A set has one spelling in a number of places.
-use Rattle.std.specs.Prelude.{◌≡◌, ℕ, ◌≤◌, ◌<◌, ◌==◌, ◌&&◌, ◌||◌, Bool, true, false, List, [], ◌∷◌, length, refl, nat_lt}
+use Rattle.std.specs.Prelude.{◌≡◌, ℕ, ◌≤◌, ◌==◌, ◌&&◌, Bool, true, List, [], ◌∷◌, length, refl, nat_lt}
 use Rattle.std.specs.List.{list_all}
 use Rattle.std.proofs.Common.{arith, ap, sym, ◌∙◌, inl, inr, ◌⊎◌, subst}
 use Rattle.std.proofs.lemmas.Bool.{and_parts, or_cases, eqb-true, ltb-true}

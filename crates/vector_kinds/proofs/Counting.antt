@@ -1,5 +1,5 @@
 -- A count over two lists, from a place on.
-use Rattle.std.proofs.Common.{◌≡◌, ◌≤◌, ◌<◌, ℕ, zero, suc, ◌+◌, min, cond, Bool, List, [], ◌∷◌, length, get_or, drop, refl, ◌∙◌, ap, arith, add-one}
+use Rattle.std.proofs.Common.{◌≡◌, ◌≤◌, ◌<◌, ℕ, zero, suc, ◌+◌, min, cond, Bool, List, [], ◌∷◌, length, get_or, drop, refl, arith, add-one}
 use Rattle.std.specs.Prelude.{count_by}
 use Rattle.std.specs.List.{zip}
 use Rattle.std.proofs.lemmas.List.Sums.{sum_by-cons}

@@ -1,9 +1,8 @@
 -- What the passes over two lists have made at the end.
-use Rattle.std.proofs.Common.{◌≡◌, ◌≤◌, ◌<◌, ℕ, suc, ◌+◌, ◌-◌, ◌*◌, ◌^◌, min, max, List, [], ◌∷◌, length, get_or, refl, sym, ◌∙◌, ap, arith}
+use Rattle.std.proofs.Common.{◌≡◌, ℕ, ◌+◌, min, max, List, [], ◌∷◌, refl, sym, ◌∙◌, ap, arith}
 use Rattle.std.specs.Prelude.{fold, sum_by}
 use Rattle.std.specs.List.{zip}
 use Rattle.std.proofs.Math.Nat.{zero-min}
-use Rattle.std.proofs.lemmas.List.Sums.{sum_by-cons}
 use Rattle.metric_laws.specs.Pruning.{gap}
 use Rattle.vector_kinds.specs.Vectors.{max_distance}
 

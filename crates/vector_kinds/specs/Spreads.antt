@@ -1,5 +1,5 @@
 -- The greatest of the differences of two lists.
-use Rattle.std.specs.Prelude.{◌≡◌, ℕ, ◌+◌, ◌≤◌, ◌<◌, ◌^◌, List, [], ◌∷◌, length, refl, All}
+use Rattle.std.specs.Prelude.{◌≡◌, ℕ, ◌+◌, ◌≤◌, List, [], ◌∷◌, length, refl}
 use Rattle.std.proofs.Common.{arith}
 use Rattle.vector_kinds.specs.Vectors.{max_distance}
 

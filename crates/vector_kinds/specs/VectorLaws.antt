@@ -1,13 +1,13 @@
 -- The three distances are metrics.
-use Rattle.std.specs.Prelude.{◌≡◌, ℕ, ◌+◌, ◌*◌, ◌≤◌, ◌<◌, ◌^◌, ◌==◌, ◌&&◌, Bool, true, false, not, List, [], ◌∷◌, length, min, refl, All, IsTrue, cond, count_by, sum_by, nat_lt}
-use Rattle.std.specs.List.{list_all, zip}
+use Rattle.std.specs.Prelude.{◌≡◌, ℕ, ◌≤◌, ◌<◌, ◌^◌, ◌==◌, true, not, List, [], ◌∷◌, length, min, All, IsTrue, cond, nat_lt}
+use Rattle.std.specs.List.{list_all}
 use Rattle.std.proofs.Common.{arith, ap, sym, ◌∙◌}
 use Rattle.std.proofs.lemmas.Bool.{and_parts, eqb-true, ltb-true}
 use Rattle.std.proofs.lemmas.Bool.Decides.{nat_tests}
 use Rattle.std.proofs.lemmas.List.Sums.{AllPass-from_list_all}
 use Rattle.metric_laws.specs.Space.{IsSpace, bound}
 use Rattle.metric_laws.specs.Pruning.{gap}
-use Rattle.vector_kinds.specs.Vectors.{is_vector, hamming_distance, l1_distance, max_distance, vector_distance, vector_space}
+use Rattle.vector_kinds.specs.Vectors.{is_vector, hamming_distance, l1_distance, max_distance, vector_space}
 use Rattle.vector_kinds.specs.Totals.{IsPlaceDistance, total, total_is, total_symmetric, total_same, total_apart, total_triangle}
 use Rattle.vector_kinds.specs.Spreads.{max_symmetric, max_same, max_apart, max_triangle}
 

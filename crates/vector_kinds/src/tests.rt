@@ -28,12 +28,10 @@ fn twice<R: Ruler>(ruler: &mut R, a: &[u32], b: &[u32]) -> Option<(u64, u64)> {
 
 #[test]
 fn distances_of_worked_points(rt: HostRuntime) -> Result<(), Fail> {
-    let low = [0; 64];
-    let high = [4294967295; 64];
     let rows = [
         Row {
-            a: &low,
-            b: &high,
+            a: &[0; 64],
+            b: &[4294967295; 64],
             distances: [64, 274877906880, 4294967295],
         },
         Row {

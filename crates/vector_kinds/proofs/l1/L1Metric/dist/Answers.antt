@@ -1,4 +1,4 @@
-use Rattle.std.proofs.Common.{◌∙◌, ap, arith, ◌-◌, ◌^◌}
+use Rattle.std.proofs.Common.{◌∙◌, arith, ◌-◌, ◌^◌}
 use Rattle.std.specs.List.{zip}
 use Rattle.vector_kinds.proofs.Folds.{limited_sum}
 use Rattle.vector_kinds.proofs.l1.L1Metric.dist.Goals as goal
