@@ -1,6 +1,6 @@
 -- Texts that grow, and keep what stood before.
-use Rattle.std.proofs.Common.{◌≡◌, ℕ, zero, suc, ◌+◌, ◌<◌, ◌≤◌, List, [], ◌∷◌, ◌++◌, length, take, drop, get_or, refl, sym, ◌∙◌, ap, arith, append_assoc, length-append, length-take}
-use Rattle.std.proofs.lemmas.List.{take-append-le, take_at, take_all}
+use Rattle.std.proofs.Common.{◌≡◌, ℕ, zero, suc, ◌+◌, ◌<◌, ◌≤◌, List, [], ◌∷◌, ◌++◌, length, take, drop, get_or, refl, sym, ◌∙◌, ap, arith, append_assoc, length-append}
+use Rattle.std.proofs.lemmas.List.{take-append-le, take_at}
 use Rattle.scan_model.specs.declared.hit.Hit.{Hit}
 use Rattle.rows_text.specs.Texts.{KeepsFront, tagged_line, tagged_lines}
 
@@ -14,17 +14,18 @@ take_shorter (x ∷ xs) (suc m) (suc n) short = ap (λ (l : List ℕ). x ∷ l) 
 -- what keeps a longer text keeps its front
 pub keeps_longer : (old mid new more : List ℕ) → mid ≡ old ++ more → KeepsFront mid new → KeepsFront old new
 keeps_longer old mid new more longer kept =
-    let long : length mid ≡ length old + length more = ap length longer ∙ length-append old more in
-    (
+    let long : length mid ≡ length old + length more = ap length longer ∙ length-append old more in (
       omega (arith, kept.0),
       sym (take_shorter new (length old) (length mid) (omega arith)) ∙ ap (take (length old)) kept.1 ∙ ap (take (length old)) longer ∙ take_at old more (length old) refl,
     )
 
 -- the same, where the rest of what is to come is named
 pub keeps_within : (old mid new rest all : List ℕ) → mid ++ rest ≡ old ++ all → length old ≤ length mid → KeepsFront mid new → KeepsFront old new
-keeps_within old mid new rest all same short kept = (omega (arith, kept.0),
+keeps_within old mid new rest all same short kept = (
+  omega (arith, kept.0),
   sym (take_shorter new (length old) (length mid) short) ∙ ap (take (length old)) kept.1
-  ∙ sym (take-append-le (length old) mid rest short) ∙ ap (take (length old)) same ∙ take_at old all (length old) refl)
+      ∙ sym (take-append-le (length old) mid rest short) ∙ ap (take (length old)) same ∙ take_at old all (length old) refl,
+)
 
 -- one tagged line more
 tagged_suc : (before : List ℕ) (hits : List Hit) (tags : List ℕ) (i : ℕ) (d : Hit) → i < length hits → length tags ≡ length hits →

@@ -66,7 +66,13 @@ fn push_tagged(hits: &[Hit], tags: &[u64], out: &mut Vec<u8>) -> Result<(), Memo
 }
 
 // `WORD N` and a line for each of the N hits.
-fn push_hit_lines(word: &[u8], hits: &[Hit], tags: &[u64], show: bool, out: &mut Vec<u8>) -> Result<(), Memory>
+fn push_hit_lines(
+    word: &[u8],
+    hits: &[Hit],
+    tags: &[u64],
+    show: bool,
+    out: &mut Vec<u8>,
+) -> Result<(), Memory>
     requires { show ≡ true → length tags.now ≡ length hits.now }
     ensures ok { OnOk result (out.new.items ≡ out.old.items ++ counted word.now (length hits.now) ++ hit_lines show hits.now tags.now) }
     ensures err { KeepsFront out.old.items out.new.items }
@@ -143,7 +149,13 @@ fn push_reply(reply: &Reply, show: bool, out: &mut Vec<u8>) -> Result<(), Memory
     match reply {
         Reply::Id(id) => push_counted(b"id ", u64::from(*id), out),
         Reply::Loaded(count) => push_counted(b"loaded ", u64::from(*count), out),
-        Reply::Hits { hits, tags } => push_hit_lines(b"hits ", hits.as_slice(), tags.as_slice(), show, out),
+        Reply::Hits { hits, tags } => push_hit_lines(
+            b"hits ",
+            hits.as_slice(),
+            tags.as_slice(),
+            show,
+            out,
+        ),
         Reply::Pairs(pairs) => {
             let pairs = pairs.as_slice();
             push_counted(b"pairs ", pairs.len() as u64, out)?;
@@ -152,7 +164,13 @@ fn push_reply(reply: &Reply, show: bool, out: &mut Vec<u8>) -> Result<(), Memory
         Reply::Count(count) => push_counted(b"count ", u64::from(*count), out),
         Reply::Refused(why) => push_refused(*why, out),
         Reply::Cursor(number) => push_counted(b"cursor ", u64::from(*number), out),
-        Reply::Next { hits, tags } => push_hit_lines(b"next ", hits.as_slice(), tags.as_slice(), show, out),
+        Reply::Next { hits, tags } => push_hit_lines(
+            b"next ",
+            hits.as_slice(),
+            tags.as_slice(),
+            show,
+            out,
+        ),
         Reply::Closed(number) => push_counted(b"closed ", u64::from(*number), out),
     }
 }
