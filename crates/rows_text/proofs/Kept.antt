@@ -1,6 +1,6 @@
 -- Texts that grow, and keep what stood before.
-use Rattle.std.proofs.Common.{◌≡◌, ℕ, zero, suc, ◌+◌, ◌<◌, ◌≤◌, List, [], ◌∷◌, ◌++◌, length, take, drop, get_or, refl, sym, ◌∙◌, ap, arith, append_assoc, length-append, length-take}
-use Rattle.std.proofs.lemmas.List.{take-append-le, take_at, take_all}
+use Rattle.std.proofs.Common.{◌≡◌, ℕ, zero, suc, ◌+◌, ◌<◌, ◌≤◌, List, [], ◌∷◌, ◌++◌, length, take, drop, get_or, refl, sym, ◌∙◌, ap, arith, append_assoc, length-append}
+use Rattle.std.proofs.lemmas.List.{take-append-le, take_at}
 use Rattle.scan_model.specs.declared.hit.Hit.{Hit}
 use Rattle.rows_text.specs.Texts.{KeepsFront, tagged_line, tagged_lines}
 

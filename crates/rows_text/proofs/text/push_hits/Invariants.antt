@@ -1,6 +1,6 @@
 use Rattle.std.proofs.Common.{◌≡◌, ◌++◌, take}
 use Rattle.std.specs.Prelude.{flat_map}
-use Rattle.rows_text.specs.Texts.{hit_line, KeepsFront}
+use Rattle.rows_text.specs.Texts.{hit_line}
 use Rattle.rows_text.proofs.text.push_hits.Given as goal
 
 -- the lines of those so far are written

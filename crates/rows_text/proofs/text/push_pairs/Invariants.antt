@@ -1,6 +1,6 @@
 use Rattle.std.proofs.Common.{◌≡◌, ◌++◌, take}
 use Rattle.std.specs.Prelude.{flat_map}
-use Rattle.rows_text.specs.Texts.{pair_line, KeepsFront}
+use Rattle.rows_text.specs.Texts.{pair_line}
 use Rattle.rows_text.proofs.text.push_pairs.Given as goal
 
 -- the lines of those so far are written
