@@ -1,5 +1,5 @@
 -- A cursor that is closed.
-use Rattle.std.proofs.Common.{◌≡◌, ℕ, Bool, true, false, not, List, Option, Some, None, ◌∙◌, sym, ap, refl}
+use Rattle.std.proofs.Common.{◌≡◌, ℕ, true, not, List, Option, Some, None, sym, refl}
 use Rattle.std.specs.Prelude.{◌==◌, filter}
 use Rattle.std.specs.Option.{is_some, option_map}
 use Rattle.rows_text.specs.declared.reply.Reply.TheVariants.{Closed}

@@ -1,5 +1,5 @@
 -- A plain list as the meaning of commands sees it.
-use Rattle.std.specs.Prelude.{◌≡◌, ℕ, ◌+◌, ◌<◌, ◌≤◌, ◌^◌, List, length, All, IsTrue}
+use Rattle.std.specs.Prelude.{◌≡◌, ℕ, ◌≤◌, length, All, IsTrue}
 use Rattle.metric_laws.specs.Space.{Space}
 use Rattle.rows_text.specs.Meaning.{State}
 use Rattle.plain_scan.specs.declared.list.PlainList.{PlainList}

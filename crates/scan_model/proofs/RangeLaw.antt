@@ -1,6 +1,6 @@
 -- The answers of a range query are the objects within the radius, in order.
-use Rattle.std.proofs.Common.{◌≡◌, ◌⊎◌, ℕ, zero, suc, ◌+◌, ◌-◌, ◌<◌, ◌≤◌, Bool, true, false, cond, List, [], ◌∷◌, length, get_or, refl, sym, ap, inl, inr, arith, ◌∙◌, Ordering}
-use Rattle.std.specs.Prelude.{IsTrue, filter, nat_le, ◌↔◌}
+use Rattle.std.proofs.Common.{◌≡◌, ℕ, zero, suc, ◌+◌, ◌<◌, ◌≤◌, true, false, cond, List, [], ◌∷◌, length, get_or, ap, inl, inr, arith, ◌∙◌, Ordering}
+use Rattle.std.specs.Prelude.{IsTrue, filter, ◌↔◌}
 use Rattle.std.specs.List.{AllByRecursion}
 use Rattle.std.specs.Ordering.{is_gt}
 use Rattle.std.proofs.lemmas.Bool.{cases_Bool}

@@ -1,4 +1,4 @@
-use Rattle.std.proofs.Common.{rules, ◌≡◌, suc, [], ◌∷◌, length, sym, ◌∙◌, ap, arith, refl}
+use Rattle.std.proofs.Common.{rules, ◌≡◌, suc, [], length, ◌∙◌, ap, arith, refl}
 use Rattle.std.proofs.lemmas.Result.{err_from_is_err_and}
 use Rattle.rows_text.specs.Meaning.{State}
 use Rattle.plain_scan.proofs.WrittenLemmas.{written_more, ended, begun, finished, no_items}

@@ -1,6 +1,6 @@
-use Rattle.std.proofs.Common.{◌≡◌, ◌≤◌, ◌<◌, ◌+◌, ◌^◌, length}
+use Rattle.std.proofs.Common.{◌≤◌, ◌<◌, ◌+◌, ◌^◌, length}
 use Rattle.std.specs.Prelude.{All, map}
-use Rattle.rows_text.specs.Meaning.{Setting, replies}
+use Rattle.rows_text.specs.Meaning.{replies}
 use Rattle.rows_text.specs.Readable.{IsReadable}
 use Rattle.rows_text.specs.Texts.{text}
 use Rattle.plain_scan.specs.List.{IsListOf, state_of}

@@ -1,5 +1,4 @@
 use Rattle.scan_model.proofs.ScanLemmas.{selected_in_order}
-use Rattle.std.proofs.Common.{◌∙◌, ◌≡◌}
 use Rattle.scan_model.proofs.scan.first_in_order.Goals as goal
 
 pub returns : goal.returns

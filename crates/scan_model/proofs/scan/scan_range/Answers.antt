@@ -1,4 +1,4 @@
-use Rattle.std.proofs.Common.{sym, ◌∙◌, ap, refl}
+use Rattle.std.proofs.Common.{◌∙◌, ap}
 use Rattle.scan_model.specs.Hits.{hit_cmp}
 use Rattle.scan_model.specs.Ordered.{ordered}
 use Rattle.scan_model.proofs.OrderedLemmas.{sorted_is_ordered}
