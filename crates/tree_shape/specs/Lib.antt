@@ -1,3 +1,6 @@
 pub mod Fill
 pub mod Tree
 pub mod Laws
+pub mod Plain
+pub mod Dealing
+pub mod Insertion

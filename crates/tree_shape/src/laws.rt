@@ -1,6 +1,8 @@
-//! Laws of sound trees.
+//! Laws of trees.
 
+ghost use Rattle.tree_shape.specs.Insertion.{InsertionAddsOne};
 ghost use Rattle.tree_shape.specs.Laws.{HeightIsSmall, ObjectsFit, SameSubtree};
+ghost use Rattle.tree_shape.specs.Plain.{SameObjects};
 
 /// Each object of a sound tree is a point of the space.
 pub fn objects_fit()
@@ -17,4 +19,14 @@ pub fn same_subtree()
 /// 14 high.
 pub fn height_is_small()
     ensures { HeightIsSmall }
+{}
+
+/// The plain tree that is read from a page has the objects below the page.
+pub fn same_objects()
+    ensures { SameObjects }
+{}
+
+/// An insertion adds its object and loses none.
+pub fn insertion_adds_one()
+    ensures { InsertionAddsOne }
 {}
