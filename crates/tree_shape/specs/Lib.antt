@@ -4,3 +4,5 @@ pub mod Laws
 pub mod Plain
 pub mod Dealing
 pub mod Insertion
+pub mod Groups
+pub mod Bulk

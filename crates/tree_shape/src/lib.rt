@@ -10,7 +10,7 @@ mod rules;
 pub use entry::{InnerEntry, LeafEntry, Node};
 pub use filling::{Bounds, fill};
 pub use live::Live;
-pub use rules::{Aim, Side};
+pub use rules::{Aim, Group, Member, Side};
 
 #[cfg(test)]
 mod tests;
