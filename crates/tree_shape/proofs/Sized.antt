@@ -101,12 +101,12 @@ seeds_of-set b k [] q d low plain = absurd (omega arith)
 seeds_of-set b zero (p ∷ ps) q d low plain = rw plain (omega arith)
 seeds_of-set b (suc k) (p ∷ ps) q d low plain = let ih = seeds_of-set b k ps q d (omega arith) plain in omega arith
 
-length_set : (k : ℕ) (ps : List Member) (q : Member) → length (set ps k q) ≡ length ps
+pub length_set : (k : ℕ) (ps : List Member) (q : Member) → length (set ps k q) ≡ length ps
 length_set k [] q = refl
 length_set zero (p ∷ ps) q = refl
 length_set (suc k) (p ∷ ps) q = ap suc (length_set k ps q)
 
-low_set : (g k : ℕ) (ps : List Member) (q : Member) → q.group < g → AllByRecursion (λ p. p.group < g) ps → AllByRecursion (λ p. p.group < g) (set ps k q)
+pub low_set : (g k : ℕ) (ps : List Member) (q : Member) → q.group < g → AllByRecursion (λ p. p.group < g) ps → AllByRecursion (λ p. p.group < g) (set ps k q)
 low_set g k [] q low all = tt
 low_set g zero (p ∷ ps) q low all = (low, all.1)
 low_set g (suc k) (p ∷ ps) q low all = (all.0, low_set g k ps q low all.1)
@@ -263,7 +263,7 @@ total_more a [] low = absurd (omega arith)
 total_more zero (c ∷ cs) low = omega arith
 total_more (suc a) (c ∷ cs) low = let ih = total_more a cs (omega arith) in omega arith
 
-length_more : (a : ℕ) (cs : List ℕ) → length (one_more a cs) ≡ length cs
+pub length_more : (a : ℕ) (cs : List ℕ) → length (one_more a cs) ≡ length cs
 length_more a [] = refl
 length_more zero (c ∷ cs) = refl
 length_more (suc a) (c ∷ cs) = ap suc (length_more a cs)
@@ -282,7 +282,7 @@ pub record HasRoom (room a : ℕ) (counts : List ℕ) (b : ℕ × ℕ) : Type 0 
   pub is : b.1 ≡ a + place
   pub free : get_or counts place 0 < room
 
-nearest_some : (far : Far) (room k a : ℕ) (best : Option (ℕ × ℕ)) (counts : List ℕ) (b : ℕ × ℕ) → nearest_from far room k a best counts ≡ Some b → (best ≡ Some b) ⊎ HasRoom room a counts b
+pub nearest_some : (far : Far) (room k a : ℕ) (best : Option (ℕ × ℕ)) (counts : List ℕ) (b : ℕ × ℕ) → nearest_from far room k a best counts ≡ Some b → (best ≡ Some b) ⊎ HasRoom room a counts b
 nearest_some far room k a best [] b e = inl e
 nearest_some far room k a best (c ∷ counts) b e =
     elim (nearest_some far room k (a + 1) (nearer (nat_lt c room) (far k a) a best) counts b e) [
@@ -389,11 +389,11 @@ seeds_ascend n g i zero k some big sum low =
     let e : i * n / g ≡ n = ap (λ (x : ℕ). x * n / g) (let h : i ≡ g = omega arith in h) ∙ mul-div_cancel_left n some in omega arith
 seeds_ascend n g i (suc left) k some big sum low = (low, seeds_ascend n g (i + 1) left (i * n / g + 1) some big (omega arith) (next_seed n g i some big))
 
-length_seeds : (n g i left : ℕ) → length (seeds_from n g i left) ≡ left
+pub length_seeds : (n g i left : ℕ) → length (seeds_from n g i left) ≡ left
 length_seeds n g i zero = refl
 length_seeds n g i (suc left) = ap suc (length_seeds n g (i + 1) left)
 
-ones_long : (g : ℕ) → length {A = ℕ} (replicate g 1) ≡ g
+pub ones_long : (g : ℕ) → length {A = ℕ} (replicate g 1) ≡ g
 ones_long zero = refl
 ones_long (suc g) = ap suc (ones_long g)
 

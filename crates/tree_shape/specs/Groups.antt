@@ -111,5 +111,6 @@ pub record AreSized (least room g n : ℕ) (ps : List Member) : Type 0 where
   pub enough : (a : ℕ) → a < g → least ≤ in_group a ps
   pub few : (a : ℕ) → a < g → in_group a ps ≤ room
 
+-- where g groups can have so many objects each, they do
 abbrev pub GroupsAreSized : Type 0
 GroupsAreSized = (far : Far) (least room g n : ℕ) → 0 < least → least ≤ room → 0 < g → g * least ≤ n → n ≤ g * room → AreSized least room g n (grouped far least room g n)

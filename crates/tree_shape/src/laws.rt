@@ -1,5 +1,7 @@
 //! Laws of trees.
 
+ghost use Rattle.tree_shape.specs.Bulk.{LoadKeepsObjects};
+ghost use Rattle.tree_shape.specs.Groups.{GroupsAreSized};
 ghost use Rattle.tree_shape.specs.Insertion.{InsertionAddsOne};
 ghost use Rattle.tree_shape.specs.Laws.{HeightIsSmall, ObjectsFit, SameSubtree};
 ghost use Rattle.tree_shape.specs.Plain.{SameObjects};
@@ -29,4 +31,14 @@ pub fn same_objects()
 /// An insertion adds its object and loses none.
 pub fn insertion_adds_one()
     ensures { InsertionAddsOne }
+{}
+
+/// A bulk load keeps its objects.
+pub fn load_keeps_objects()
+    ensures { LoadKeepsObjects }
+{}
+
+/// Each group of a bulk load has as many objects as its subtree needs, and no more than it has room for.
+pub fn groups_are_sized()
+    ensures { GroupsAreSized }
 {}

@@ -11,4 +11,6 @@ fn a_node_takes_what_a_page_holds(rt: HostRuntime) {
     laws::height_is_small();
     laws::same_objects();
     laws::insertion_adds_one();
+    laws::load_keeps_objects();
+    laws::groups_are_sized();
 }
