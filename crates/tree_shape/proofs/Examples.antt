@@ -57,11 +57,14 @@ pub placed_by_hyperplane :
       tree =
           record { point = 20 ∷ []; radius = 0; below = record { point = 20 ∷ []; radius = 0; below = object_at 4 20 ∷ [] } ∷ [] }
           ∷ record {
-            point = 4 ∷ []; radius = 5;
+            point = 4 ∷ [];
+            radius = 5;
             below =
                 record { point = 0 ∷ []; radius = 1; below = object_at 0 0 ∷ object_at 3 1 ∷ [] }
                 ∷ record { point = 4 ∷ []; radius = 1; below = object_at 1 4 ∷ object_at 6 3 ∷ [] }
-                ∷ record { point = 8 ∷ []; radius = 1; below = object_at 2 9 ∷ object_at 5 7 ∷ object_at 7 8 ∷ [] } ∷ [] } ∷ [] }
+                ∷ record { point = 8 ∷ []; radius = 1; below = object_at 2 9 ∷ object_at 5 7 ∷ object_at 7 8 ∷ [] } ∷ [];
+          } ∷ [];
+    }
 placed_by_hyperplane = refl
 
 -- balanced halves; the last radius reaches from 9 to 20
@@ -72,7 +75,8 @@ pub placed_in_balance :
       tree =
           record { point = 0 ∷ []; radius = 1; below = object_at 0 0 ∷ object_at 3 1 ∷ [] }
           ∷ record { point = 4 ∷ []; radius = 3; below = object_at 1 4 ∷ object_at 5 7 ∷ object_at 6 3 ∷ [] }
-          ∷ record { point = 9 ∷ []; radius = 11; below = object_at 2 9 ∷ object_at 4 20 ∷ object_at 7 8 ∷ [] } ∷ [] }
+          ∷ record { point = 9 ∷ []; radius = 11; below = object_at 2 9 ∷ object_at 4 20 ∷ object_at 7 8 ∷ [] } ∷ [];
+    }
 placed_in_balance = refl
 
 abbrev pub load_of : List ℕ → ℕ → ℕ → Load
@@ -82,8 +86,8 @@ load_of xs most least = record { space = line; points = map (λ x. x ∷ []) xs;
 pub groups_of_numbers :
     (height_of 32 33 ≡ 1)
     × (groups_at (load_of (places_from 0 33) 32 6) true 1 (places_from 0 33)
-        ≡ record { seed = 0; members = places_from 0 6 } ∷ record { seed = 8; members = places_from 6 7 }
-            ∷ record { seed = 16; members = places_from 13 8 } ∷ record { seed = 24; members = places_from 21 12 } ∷ [])
+    ≡ record { seed = 0; members = places_from 0 6 } ∷ record { seed = 8; members = places_from 6 7 }
+    ∷ record { seed = 16; members = places_from 13 8 } ∷ record { seed = 24; members = places_from 21 12 } ∷ [])
 groups_of_numbers = (refl, refl)
 
 -- and their radii

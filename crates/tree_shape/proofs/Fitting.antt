@@ -28,6 +28,7 @@ by_parts most low room n p some wide up down many all here =
     positive : (p : ℕ) → n ≤ p * room → 0 < min most (2 * p)
     positive zero u = absurd (omega arith)
     positive (suc q) u = omega arith
+
     side : (c : Bool) → nat_le most (2 * p) ≡ c → n ≤ min most (2 * p) * room
     side true e = let h : most ≤ 2 * p = grind (arith, nat_tests) in let s : min most (2 * p) ≡ most = omega arith in subst (λ (k : ℕ). n ≤ k * room) (sym s) all
     side false e = let h : 2 * p < most = grind (arith, nat_tests) in let s : min most (2 * p) ≡ 2 * p = omega arith in subst (λ (k : ℕ). n ≤ k * room) (sym s) (omega arith)

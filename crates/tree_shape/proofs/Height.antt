@@ -51,7 +51,7 @@ pub power_rises : (n k h : ℕ) → n + k ≡ h → 3 ^ k ≤ 3 ^ h
 power_rises zero k h same = subst (λ (j : ℕ). 3 ^ k ≤ 3 ^ j) {x = k} {y = h} (omega arith) (omega arith)
 power_rises (suc n) k h same =
     subst (λ (j : ℕ). 3 ^ k ≤ 3 ^ j) {x = suc (n + k)} {y = h} (omega arith)
-        (let ih = power_rises n k (n + k) refl in let power = pow-succ' 3 (n + k) in omega arith)
+    (let ih = power_rises n k (n + k) refl in let power = pow-succ' 3 (n + k) in omega arith)
 
 -- above a height of 14 there are too many objects
 pub not_higher : (h : ℕ) → 15 ≤ h → 2 ^ 24 < 2 * 3 ^ h

@@ -23,9 +23,9 @@ chosen_low far room k g counts some long = go (nearest_from far room k 0 None co
     go : (best : Option (ℕ × ℕ)) → nearest_from far room k 0 None counts ≡ best → chosen best < g
     go None e = some
     go (Some b) e = elim (nearest_some far room k 0 None counts b e) [
-        inl other ↦ absurd (let h : None ≡ Some b = other in cc)
+      | inl other ↦ absurd (let h : None ≡ Some b = other in cc)
       | inr r ↦ (let h = r.inside in let i = r.is in omega arith)
-      ]
+    ]
 
 pub counted_long : (best : Option (ℕ × ℕ)) (counts : List ℕ) → length (counted best counts) ≡ length counts
 counted_long None counts = refl
@@ -41,12 +41,12 @@ placed_low far room g some k i [] counts (suc left) fits long =
 placed_low far room g some k i (s ∷ seeds) counts (suc left) fits long =
     let best : Option (ℕ × ℕ) = nearest_from far room k 0 None counts in
     cases (s == k) (placed_low far room g some (k + 1) (i + 1) seeds counts left (omega arith) long)
-        (placed_low far room g some (k + 1) i (s ∷ seeds) (counted best counts) left fits (counted_long best counts ∙ long))
+    (placed_low far room g some (k + 1) i (s ∷ seeds) (counted best counts) left fits (counted_long best counts ∙ long))
   where
     cases : (b : Bool) → IsLow g left (placed_from far room (k + 1) seeds (i + 1) counts left) →
         IsLow g left (placed_from far room (k + 1) (s ∷ seeds) i (counted (nearest_from far room k 0 None counts) counts) left) →
         IsLow g (suc left) (if b then seed_of i ∷ placed_from far room (k + 1) seeds (i + 1) counts left
-            else member_of (chosen (nearest_from far room k 0 None counts)) ∷ placed_from far room (k + 1) (s ∷ seeds) i (counted (nearest_from far room k 0 None counts) counts) left)
+        else member_of (chosen (nearest_from far room k 0 None counts)) ∷ placed_from far room (k + 1) (s ∷ seeds) i (counted (nearest_from far room k 0 None counts) counts) left)
     cases true now later = (ap suc now.0, (omega arith, now.1))
     cases false now later = (ap suc later.0, (chosen_low far room k g counts some long, later.1))
 
@@ -68,7 +68,7 @@ pub grouped_low : (far : Far) (least room g n : ℕ) → (0 < n → 0 < g) → I
 grouped_low far least room g zero some = filled_low far least g 0 0 g [] (omega arith) (refl, tt)
 grouped_low far least room g (suc n) some =
     filled_low far least g (suc n) 0 g (placed_from far room 0 (seeds_from (suc n) g 0 g) 0 (replicate g 1) (suc n)) (omega arith)
-        (placed_low far room g (some (omega arith)) 0 0 (seeds_from (suc n) g 0 g) (replicate g 1) (suc n) (let l = length_seeds (suc n) g 0 g in omega arith) (ones_long g))
+    (placed_low far room g (some (omega arith)) 0 0 (seeds_from (suc n) g 0 g) (replicate g 1) (suc n) (let l = length_seeds (suc n) g 0 g in omega arith) (ones_long g))
 
 pub power_some : (most h : ℕ) → 1 ≤ most → 1 ≤ most ^ h
 power_some most zero some = let z = pow-zero most in omega arith

@@ -25,6 +25,7 @@ in_groups-cons (suc g) p ps = let ih = in_groups-cons g p ps in step (one_if (p.
   where
     one : one_if (p.group == g) + one_if (nat_lt p.group g) ≡ one_if (nat_lt p.group (suc g))
     one = grind (arith, nat_tests)
+
     step : (a b c t u v : ℕ) → a + b ≡ c → u ≡ b + v → (a + t) + u ≡ c + (t + v)
     step a b c t u v e f = omega arith
 
@@ -44,6 +45,7 @@ in_groups_short (suc g) least ps a low short few = cases (a == g) refl
     most : (k : ℕ) → k ≤ suc g → in_groups k ps ≤ k * least
     most zero le = omega arith
     most (suc k) le = let ih = most k (omega arith) in let h = few k (omega arith) in omega arith
+
     below : (k : ℕ) → k ≤ suc g → a < k → in_groups k ps < k * least
     below zero le l = absurd (omega arith)
     below (suc k) le l = split (a == k) refl (below k (omega arith))
@@ -51,6 +53,7 @@ in_groups_short (suc g) least ps a low short few = cases (a == g) refl
         split : (b : Bool) → (a == k) ≡ b → (a < k → in_groups k ps < k * least) → in_groups (suc k) ps < suc k * least
         split true e ih = let s : a ≡ k = grind (arith, nat_tests) in let m = most k (omega arith) in let q : in_group k ps < least = subst (λ (j : ℕ). in_group j ps < least) s short in omega arith
         split false e ih = let s : a < k = grind (arith, nat_tests) in let h = few k (omega arith) in let m = ih s in omega arith
+
     cases : (b : Bool) → (a == g) ≡ b → in_groups (suc g) ps < suc g * least
     cases b e = below (suc g) (omega arith) low
 
@@ -73,6 +76,7 @@ no_candidate far least a all k (p ∷ ps) e = cases (is_candidate least all p) r
         go false is c near new old e = old (subst (λ b. candidate_from far least a all (k + 1) (nearer b (far k a) k (Some (d, i))) ps ≡ None) is e)
         go true is true near new old e = new (subst (λ c. candidate_from far least a all (k + 1) (if c then Some (far k a, k) else Some (d, i)) ps ≡ None) near (subst (λ b. candidate_from far least a all (k + 1) (nearer b (far k a) k (Some (d, i))) ps ≡ None) is e))
         go true is false near new old e = old (subst (λ c. candidate_from far least a all (k + 1) (if c then Some (far k a, k) else Some (d, i)) ps ≡ None) near (subst (λ b. candidate_from far least a all (k + 1) (nearer b (far k a) k (Some (d, i))) ps ≡ None) is e))
+
     cases : (b : Bool) → is_candidate least all p ≡ b → (candidate_from far least a all (k + 1) None ps ≡ None → AllByRecursion (λ p. is_candidate least all p ≡ false) ps) →
         candidate_from far least a all (k + 1) (nearer (is_candidate least all p) (far k a) k None) ps ≡ None → AllByRecursion (λ p. is_candidate least all p ≡ false) (p ∷ ps)
     cases false is ih e = (is, ih (subst (λ b. candidate_from far least a all (k + 1) (nearer b (far k a) k None) ps ≡ None) is e))
@@ -131,10 +135,10 @@ candidate_some : (far : Far) (least a : ℕ) (all : List Member) (k : ℕ) (best
 candidate_some far least a all k best [] d b e = inl e
 candidate_some far least a all k best (p ∷ ps) d b e =
     elim (candidate_some far least a all (k + 1) (nearer (is_candidate least all p) (far k a) k best) ps d b e) [
-      inr w ↦ inr (record { place = suc w.place; inside = (let h = w.inside in omega arith); is = (let h = w.is in omega arith); candidate = w.candidate })
-    | inl s ↦ elim (nearer_cases (is_candidate least all p) (far k a) k best) [
-        inl same ↦ inl (sym same ∙ s)
-      | inr new ↦ inr (record { place = 0; inside = omega arith; is = (let t : Some (far k a, k) ≡ Some b = sym new.1 ∙ s in let u : (far k a, k) ≡ b = cc in let v = ap (λ (x : ℕ × ℕ). x.1) u in omega arith); candidate = new.0 })
+      | inr w ↦ inr (record { place = suc w.place; inside = (let h = w.inside in omega arith); is = (let h = w.is in omega arith); candidate = w.candidate })
+      | inl s ↦ elim (nearer_cases (is_candidate least all p) (far k a) k best) [
+        | inl same ↦ inl (sym same ∙ s)
+        | inr new ↦ inr (record { place = 0; inside = omega arith; is = (let t : Some (far k a, k) ≡ Some b = sym new.1 ∙ s in let u : (far k a, k) ≡ b = cc in let v = ap (λ (x : ℕ × ℕ). x.1) u in omega arith); candidate = new.0 })
       ]
     ]
 
@@ -165,9 +169,9 @@ receives far least room g n a ps some fits enough holds here short = go (candida
         cases b true is none = let more : least < in_group b ps = grind (arith, nat_tests) in let h = seeds_only least b ps ps none more in let s = holds.seeds b in omega arith
         cases b false is none = grind (arith, nat_tests)
     go (Some best) e = elim (candidate_some far least a ps 0 None ps (member_of a) best e) [
-        inl other ↦ absurd (let h : None ≡ Some best = other in cc)
+      | inl other ↦ absurd (let h : None ≡ Some best = other in cc)
       | inr f ↦ put best f
-      ]
+    ]
       where
         put : (best : ℕ × ℕ) → IsFound least ps 0 ps (member_of a) best → Receives least room g n a ps (set ps best.1 (member_of a))
         put best f = subst (λ (k : ℕ). Receives least room g n a ps (set ps k (member_of a))) (let e : f.place ≡ best.1 = let h = f.is in omega arith in e) (at f.place f.inside f.candidate)
@@ -190,17 +194,21 @@ receives far least room g n a ps some fits enough holds here short = go (candida
                 second true true e t = grind (arith, nat_tests)
                 second true false e t = absurd (let h : false ≡ true = t in cc)
                 second false y e t = absurd (let h : false ≡ true = t in cc)
+
                 at_most : (b : ℕ) → in_group b ps ≤ room → (c : Bool) → (a == b) ≡ c → in_group b (set ps k (member_of a)) + one_if ((get_or ps k (member_of a)).group == b) ≡ in_group b ps + one_if (a == b) → in_group b (set ps k (member_of a)) ≤ room
                 at_most b few true e h = let same : a ≡ b = grind (arith, nat_tests) in let s : in_group b ps < least = subst (λ (j : ℕ). in_group j ps < least) same short in let o : ◌≡◌ {A = ℕ} (one_if (a == b)) 1 = ap one_if e in omega arith
                 at_most b few false e h = let o : ◌≡◌ {A = ℕ} (one_if (a == b)) 0 = ap one_if e in omega arith
+
                 grown : (q : ℕ) → least < in_group q ps → in_group a (set ps k (member_of a)) + one_if (q == a) ≡ in_group a ps + one_if (a == a) → in_group a (set ps k (member_of a)) ≡ in_group a ps + 1
                 grown q more h = turn (q == a) refl
                   where
                     itself : ◌≡◌ {A = ℕ} (one_if (a == a)) 1
                     itself = grind (arith, nat_tests)
+
                     turn : (c : Bool) → (q == a) ≡ c → in_group a (set ps k (member_of a)) ≡ in_group a ps + 1
                     turn true e = absurd (let same : q ≡ a = grind (arith, nat_tests) in let s : least < in_group a ps = subst (λ (j : ℕ). least < in_group j ps) same more in omega arith)
                     turn false e = let o : ◌≡◌ {A = ℕ} (one_if (q == a)) 0 = ap one_if e in let i = itself in omega arith
+
                 kept : (b : ℕ) → least ≤ in_group b ps → (q : ℕ) → least < in_group q ps → (c : Bool) → (q == b) ≡ c → in_group b (set ps k (member_of a)) + one_if (q == b) ≡ in_group b ps + one_if (a == b) → least ≤ in_group b (set ps k (member_of a))
                 kept b stays q more true e h = let same : q ≡ b = grind (arith, nat_tests) in let s : least < in_group b ps = subst (λ (j : ℕ). least < in_group j ps) same more in let o : ◌≡◌ {A = ℕ} (one_if (q == b)) 1 = ap one_if e in omega arith
                 kept b stays q more false e h = let o : ◌≡◌ {A = ℕ} (one_if (q == b)) 0 = ap one_if e in omega arith
@@ -220,7 +228,7 @@ received_fills far least room g n a (suc need) ps some fits enough holds here up
     let sum : in_group a ps + suc need ≡ least = exact short in
     let next : List Member = moved_to a (candidate_from far least a ps 0 None ps) ps in
     let rest : Filled least room g n a next (received far least a need next) =
-        received_fills far least room g n a need next some fits enough r.holds here (let o = r.one in omega arith) (λ s. let o = r.one in omega arith) (λ s. let o = r.one in omega arith) in
+    received_fills far least room g n a need next some fits enough r.holds here (let o = r.one in omega arith) (λ s. let o = r.one in omega arith) (λ s. let o = r.one in omega arith) in
     record { holds = rest.holds; enough = rest.enough; others = λ b low h. rest.others b low (r.others b low h) }
   where
     go : (c : Bool) → nat_lt (in_group a ps) least ≡ c → in_group a ps < least
@@ -286,10 +294,10 @@ pub nearest_some : (far : Far) (room k a : ℕ) (best : Option (ℕ × ℕ)) (co
 nearest_some far room k a best [] b e = inl e
 nearest_some far room k a best (c ∷ counts) b e =
     elim (nearest_some far room k (a + 1) (nearer (nat_lt c room) (far k a) a best) counts b e) [
-      inr w ↦ inr (record { place = suc w.place; inside = (let h = w.inside in omega arith); is = (let h = w.is in omega arith); free = w.free })
-    | inl s ↦ elim (nearer_cases (nat_lt c room) (far k a) a best) [
-        inl same ↦ inl (sym same ∙ s)
-      | inr new ↦ inr (record { place = 0; inside = omega arith; is = (let t : Some (far k a, a) ≡ Some b = sym new.1 ∙ s in let u : (far k a, a) ≡ b = cc in let v = ap (λ (x : ℕ × ℕ). x.1) u in omega arith); free = (let t = new.0 in grind (arith, nat_tests)) })
+      | inr w ↦ inr (record { place = suc w.place; inside = (let h = w.inside in omega arith); is = (let h = w.is in omega arith); free = w.free })
+      | inl s ↦ elim (nearer_cases (nat_lt c room) (far k a) a best) [
+        | inl same ↦ inl (sym same ∙ s)
+        | inr new ↦ inr (record { place = 0; inside = omega arith; is = (let t : Some (far k a, a) ≡ Some b = sym new.1 ∙ s in let u : (far k a, a) ≡ b = cc in let v = ap (λ (x : ℕ × ℕ). x.1) u in omega arith); free = (let t = new.0 in grind (arith, nat_tests)) })
       ]
     ]
 
@@ -297,8 +305,8 @@ nearest_stays : (far : Far) (room k a d i : ℕ) (counts : List ℕ) → nearest
 nearest_stays far room k a d i [] e = cc
 nearest_stays far room k a d i (c ∷ counts) e =
     elim (nearer_cases (nat_lt c room) (far k a) a (Some (d, i))) [
-      inl same ↦ nearest_stays far room k (a + 1) d i counts (subst (λ (o : Option (ℕ × ℕ)). nearest_from far room k (a + 1) o counts ≡ None) same e)
-    | inr new ↦ nearest_stays far room k (a + 1) (far k a) a counts (subst (λ (o : Option (ℕ × ℕ)). nearest_from far room k (a + 1) o counts ≡ None) new.1 e)
+      | inl same ↦ nearest_stays far room k (a + 1) d i counts (subst (λ (o : Option (ℕ × ℕ)). nearest_from far room k (a + 1) o counts ≡ None) same e)
+      | inr new ↦ nearest_stays far room k (a + 1) (far k a) a counts (subst (λ (o : Option (ℕ × ℕ)). nearest_from far room k (a + 1) o counts ≡ None) new.1 e)
     ]
 
 nearest_none : (far : Far) (room k a : ℕ) (counts : List ℕ) → nearest_from far room k a None counts ≡ None → AllByRecursion (λ c. room ≤ c) counts
@@ -325,9 +333,9 @@ member_placed far room g k i left counts rest long few spare rec = go (nearest_f
     go : (best : Option (ℕ × ℕ)) → nearest_from far room k 0 None counts ≡ best → IsPlaced room g i (suc left) counts (member_of (chosen best) ∷ rest (counted best counts))
     go None e = absurd (let f = total_full room counts (nearest_none far room k 0 counts e) in let h : length counts * room ≡ g * room = ap (λ (x : ℕ). x * room) long in omega arith)
     go (Some b) e = elim (nearest_some far room k 0 None counts b e) [
-        inl other ↦ absurd (let h : None ≡ Some b = other in cc)
+      | inl other ↦ absurd (let h : None ≡ Some b = other in cc)
       | inr r ↦ put r
-      ]
+    ]
       where
         put : HasRoom room 0 counts b → IsPlaced room g i (suc left) counts (member_of b.1 ∷ rest (one_more b.1 counts))
         put r = subst (λ (x : ℕ). IsPlaced room g i (suc left) counts (member_of x ∷ rest (one_more x counts))) (let q : r.place ≡ b.1 = let h = r.is in omega arith in q) (at r.place r.inside r.free)
@@ -362,16 +370,16 @@ pub placed_is : (far : Far) (room g end k i : ℕ) (seeds counts : List ℕ) (le
 placed_is far room g end k i seeds counts zero sum up all long few spare = record { long = refl; low = tt; few = λ a low. let h = few a low in omega arith; seeds = λ a. omega arith }
 placed_is far room g end k i [] counts (suc left) sum up all long few spare =
     member_placed far room g k i left counts (λ cs. placed_from far room (k + 1) [] i cs left) long few (omega arith)
-        (λ cs l f t. placed_is far room g end (k + 1) i [] cs left (omega arith) (omega arith) all l f (omega arith))
+    (λ cs l f t. placed_is far room g end (k + 1) i [] cs left (omega arith) (omega arith) all l f (omega arith))
 placed_is far room g end k i (s ∷ seeds) counts (suc left) sum up all long few spare =
     cases (s == k) refl
-        (λ same. placed_is far room g end (k + 1) (i + 1) seeds counts left (omega arith) (subst (λ (j : ℕ). Ascends (j + 1) end seeds) same up.1) (omega arith) long few (omega arith))
-        (λ above cs l f t. placed_is far room g end (k + 1) i (s ∷ seeds) cs left (omega arith) (omega arith, up.1) all l f (omega arith))
+    (λ same. placed_is far room g end (k + 1) (i + 1) seeds counts left (omega arith) (subst (λ (j : ℕ). Ascends (j + 1) end seeds) same up.1) (omega arith) long few (omega arith))
+    (λ above cs l f t. placed_is far room g end (k + 1) i (s ∷ seeds) cs left (omega arith) (omega arith, up.1) all l f (omega arith))
   where
     cases : (b : Bool) → (s == k) ≡ b → (s ≡ k → IsPlaced room g (i + 1) left counts (placed_from far room (k + 1) seeds (i + 1) counts left)) →
         (k + 1 ≤ s → (cs : List ℕ) → length cs ≡ g → ((a : ℕ) → a < g → get_or cs a 0 ≤ room) → total cs ≡ total counts + 1 → IsPlaced room g i left cs (placed_from far room (k + 1) (s ∷ seeds) i cs left)) →
         IsPlaced room g i (suc left) counts (if b then seed_of i ∷ placed_from far room (k + 1) seeds (i + 1) counts left
-            else member_of (chosen (nearest_from far room k 0 None counts)) ∷ placed_from far room (k + 1) (s ∷ seeds) i (counted (nearest_from far room k 0 None counts) counts) left)
+        else member_of (chosen (nearest_from far room k 0 None counts)) ∷ placed_from far room (k + 1) (s ∷ seeds) i (counted (nearest_from far room k 0 None counts) counts) left)
     cases true e now later = seed_placed room g i left counts (placed_from far room (k + 1) seeds (i + 1) counts left) (omega arith) (now (grind (arith, nat_tests)))
     cases false e now later =
         let above : k + 1 ≤ s = let h = up.0 in grind (arith, nat_tests) in
@@ -417,7 +425,7 @@ groups_are_sized far least room g n some fits groups enough spare =
     let ones = ones_total g in
     let seeds = length_seeds n g 0 g in
     let p : IsPlaced room g 0 n (replicate g 1) ps = placed_is far room g n 0 0 (seeds_from n g 0 g) (replicate g 1) n (omega arith) (seeds_ascend n g 0 g 0 groups (omega arith) (omega arith) (omega arith)) (omega arith) (ones_long g)
-        (λ a low. let o = ones_at g a low in omega arith) (omega arith) in
+    (λ a low. let o = ones_at g a low in omega arith) (omega arith) in
     let holds : Holds room g n ps = record {
       long = p.long;
       low = p.low;

@@ -150,7 +150,8 @@ abbrev pub split_at : Table → List Ball → ℕ × ℕ → List Side → Split
 split_at t bs p sides = record {
   mask = map (is_on First) sides;
   first = (point_at bs p.0, group_radius t p.0 First sides);
-  second = (point_at bs p.1, group_radius t p.1 Second sides) }
+  second = (point_at bs p.1, group_radius t p.1 Second sides);
+}
 
 -- the split of a node's entries by a promotion and a partition
 abbrev pub split_of : Space → ℕ → ℕ → ℕ → List Ball → Split
