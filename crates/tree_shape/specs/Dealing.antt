@@ -1,5 +1,5 @@
 -- How a node with one entry too many is split (VLDB 1997, section 3.3).
-use Rattle.std.specs.Prelude.{ℕ, zero, suc, ◌+◌, ◌-◌, ◌*◌, min, max, Bool, true, false, not, List, [], ◌∷◌, length, map, filter, Option, Some, None, if◌then◌else◌, nat_lt, nat_le, ◌==◌, ◌&&◌, slice_index_or, slice_set, slice_range, count_by}
+use Rattle.std.specs.Prelude.{ℕ, zero, suc, ◌+◌, ◌-◌, ◌*◌, ◌<◌, max, Bool, true, false, not, List, [], ◌∷◌, length, map, filter, Option, Some, None, if◌then◌else◌, nat_lt, nat_le, ◌==◌, ◌&&◌, slice_index_or, slice_set, slice_range, count_by}
 use Rattle.std.specs.List.{flat_map, range_with_len}
 use Rattle.metric_laws.specs.Space.{Space}
 use Rattle.metric_laws.specs.Pruning.{capped}
@@ -128,6 +128,10 @@ pairs_with n a = map (λ b. (a, b)) (range_with_len (a + 1) (n - (a + 1)))
 
 abbrev pub pairs : ℕ → List (ℕ × ℕ)
 pairs n = flat_map (pairs_with n) (range_with_len 0 n)
+
+-- two places of so many, the first below the second
+abbrev pub IsPair : ℕ → ℕ × ℕ → Type 0
+IsPair n p = (p.0 < p.1) × (p.1 < n)
 
 abbrev pub or_pair : Option (ℕ × ℕ) → ℕ × ℕ
 or_pair None = (0, 1)

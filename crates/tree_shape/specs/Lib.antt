@@ -6,3 +6,4 @@ pub mod Dealing
 pub mod Insertion
 pub mod Groups
 pub mod Bulk
+pub mod Sound

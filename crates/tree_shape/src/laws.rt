@@ -5,6 +5,7 @@ ghost use Rattle.tree_shape.specs.Groups.{GroupsAreSized};
 ghost use Rattle.tree_shape.specs.Insertion.{InsertionAddsOne};
 ghost use Rattle.tree_shape.specs.Laws.{HeightIsSmall, ObjectsFit, SameSubtree};
 ghost use Rattle.tree_shape.specs.Plain.{SameObjects};
+ghost use Rattle.tree_shape.specs.Sound.{InsertionKeepsSound, SoundHasEntries, SoundWithoutPages};
 
 /// Each object of a sound tree is a point of the space.
 pub fn objects_fit()
@@ -41,4 +42,19 @@ pub fn load_keeps_objects()
 /// Each group of a bulk load has as many objects as its subtree needs, and no more than it has room for.
 pub fn groups_are_sized()
     ensures { GroupsAreSized }
+{}
+
+/// A tree that is sound on its pages is sound without them.
+pub fn sound_without_pages()
+    ensures { SoundWithoutPages }
+{}
+
+/// Each inner node of a sound tree has an entry.
+pub fn sound_has_entries()
+    ensures { SoundHasEntries }
+{}
+
+/// An insertion keeps a tree sound: its fill, its points and its covering radii.
+pub fn insertion_keeps_sound()
+    ensures { InsertionKeepsSound }
 {}

@@ -12,5 +12,8 @@ fn a_node_takes_what_a_page_holds(rt: HostRuntime) {
     laws::same_objects();
     laws::insertion_adds_one();
     laws::load_keeps_objects();
+    laws::sound_without_pages();
+    laws::sound_has_entries();
+    laws::insertion_keeps_sound();
     laws::groups_are_sized();
 }
