@@ -6,6 +6,7 @@ use Rattle.tree_shape.specs.Fill.{IsFilled, least_for, root_least}
 use Rattle.tree_shape.specs.Tree.{Nodes, IsSoundAt}
 use Rattle.tree_shape.specs.Plain.{Object, Branch, Plain, Tall, objects_in, tree_at}
 use Rattle.tree_shape.specs.Insertion.{placed, HasEntries}
+use Rattle.tree_shape.specs.Bulk.{built}
 
 -- a point that fits
 abbrev pub ObjectFits : Space → Object → Type 0
@@ -38,3 +39,7 @@ SoundHasEntries = (s : Space) → s.words ≤ 64 → (t : Tall) → IsSoundTall 
 abbrev pub InsertionKeepsSound : Type 0
 InsertionKeepsSound =
     (s : Space) → IsSpace s → (promote split : ℕ) (o : Object) → ObjectFits s o → (t : Tall) → IsSoundTall s t → IsSoundTall s (placed s promote split o t)
+
+-- a bulk load of points that fit makes a sound tree
+abbrev pub LoadIsSound : Type 0
+LoadIsSound = (s : Space) → IsSpace s → (rows : List (List ℕ)) (tags : List ℕ) → AllByRecursion (λ p. IsTrue (s.fits p)) rows → IsSoundTall s (built s rows tags)

@@ -5,7 +5,7 @@ ghost use Rattle.tree_shape.specs.Groups.{GroupsAreSized};
 ghost use Rattle.tree_shape.specs.Insertion.{InsertionAddsOne};
 ghost use Rattle.tree_shape.specs.Laws.{HeightIsSmall, ObjectsFit, SameSubtree};
 ghost use Rattle.tree_shape.specs.Plain.{SameObjects};
-ghost use Rattle.tree_shape.specs.Sound.{InsertionKeepsSound, SoundHasEntries, SoundWithoutPages};
+ghost use Rattle.tree_shape.specs.Sound.{InsertionKeepsSound, LoadIsSound, SoundHasEntries, SoundWithoutPages};
 
 /// Each object of a sound tree is a point of the space.
 pub fn objects_fit()
@@ -57,4 +57,9 @@ pub fn sound_has_entries()
 /// An insertion keeps a tree sound: its fill, its points and its covering radii.
 pub fn insertion_keeps_sound()
     ensures { InsertionKeepsSound }
+{}
+
+/// A bulk load makes a sound tree.
+pub fn load_is_sound()
+    ensures { LoadIsSound }
 {}

@@ -12,6 +12,7 @@ fn a_node_takes_what_a_page_holds(rt: HostRuntime) {
     laws::same_objects();
     laws::insertion_adds_one();
     laws::load_keeps_objects();
+    laws::load_is_sound();
     laws::sound_without_pages();
     laws::sound_has_entries();
     laws::insertion_keeps_sound();
