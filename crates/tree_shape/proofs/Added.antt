@@ -1,5 +1,5 @@
 -- An insertion adds its object and loses none.
-use Rattle.std.proofs.Common.{◌≡◌, ℕ, zero, suc, ◌+◌, ◌<◌, ◌≤◌, Bool, true, false, cond, List, [], ◌∷◌, ◌++◌, refl, sym, ap, ◌∙◌, arith, length, inl, inr, ◌⊎◌}
+use Rattle.std.proofs.Common.{◌≡◌, ℕ, zero, suc, ◌+◌, ◌<◌, Bool, true, false, cond, List, [], ◌∷◌, ◌++◌, refl, ap, arith, length, inl, inr}
 use Rattle.std.specs.Prelude.{map, if◌then◌else◌, nat_le, nat_lt, filter, count_by}
 use Rattle.std.specs.List.{AllByRecursion, flat_map}
 use Rattle.std.proofs.lemmas.List.{length-map}
@@ -9,7 +9,7 @@ use Rattle.metric_laws.specs.Lists.{IsIn}
 use Rattle.metric_laws.proofs.Lists.{in-filter}
 use Rattle.tree_shape.specs.declared.rules.Aim.{Aim}
 use Rattle.tree_shape.specs.Plain.{Object, Branch, Plain, Tall, objects_in, objects_of}
-use Rattle.tree_shape.specs.Dealing.{Ball, Split, first_least, least_from}
+use Rattle.tree_shape.specs.Dealing.{Ball, first_least, least_from}
 use Rattle.tree_shape.specs.Insertion.{aims, is_inside, is_outside, excess, place_of, or_else, chosen, Rules, rules, Grown, One, Two, taken, left, branch, fit, with_grown, grown_at, object_ball, branch_ball, inserted, new_root, placed, HasEntries}
 
 pub least_in : {X : Type 0} (f : X → ℕ) (x : X) (xs : List X) → IsIn (least_from f x xs) (x ∷ xs)

@@ -1,15 +1,15 @@
 -- Worked examples of the rules.
-use Rattle.std.specs.Prelude.{◌≡◌, ℕ, zero, ◌+◌, ◌==◌, true, List, [], ◌∷◌, ◌++◌, length, map, replicate, refl}
+use Rattle.std.specs.Prelude.{◌≡◌, ℕ, ◌+◌, ◌==◌, true, List, [], ◌∷◌, ◌++◌, length, map, replicate, refl}
 use Rattle.std.specs.List.{range_with_len}
 use Rattle.metric_laws.specs.Space.{Space}
 use Rattle.metric_laws.specs.Pruning.{gap}
 use Rattle.tree_shape.specs.declared.rules.Side.TheVariants.{First, Second}
-use Rattle.tree_shape.specs.Fill.{most_for, least_for}
+use Rattle.tree_shape.specs.Fill.{most_for}
 use Rattle.tree_shape.specs.Plain.{Object, Tall}
-use Rattle.tree_shape.specs.Dealing.{Ball, table_of, members, partitioned, promoted}
+use Rattle.tree_shape.specs.Dealing.{Ball, table_of, members, partitioned}
 use Rattle.tree_shape.specs.Insertion.{rules_for, placed_by}
 use Rattle.tree_shape.specs.declared.rules.Group.{Group}
-use Rattle.tree_shape.specs.Bulk.{Load, groups_at, places_from, radius_of, height_of, point_of, built_of}
+use Rattle.tree_shape.specs.Bulk.{Load, groups_at, places_from, radius_of, height_of, built_of}
 
 abbrev pub total : List ℕ → List ℕ → ℕ
 total [] b = 0

@@ -1,6 +1,6 @@
 -- Both groups of a partition have their share.
-use Rattle.std.proofs.Common.{◌≡◌, ◌≢◌, ℕ, zero, suc, ◌+◌, ◌-◌, ◌*◌, ◌<◌, ◌≤◌, Bool, true, false, cond, not, ◌&&◌, List, [], ◌∷◌, ◌++◌, refl, sym, ap, arith, ◌∙◌, length, map, get_or, subst, inl, inr, ◌⊎◌}
-use Rattle.std.specs.Prelude.{filter, Option, Some, None, if◌then◌else◌, ◌==◌, slice_set, nat_lt, nat_le}
+use Rattle.std.proofs.Common.{◌≡◌, ◌≢◌, ℕ, zero, suc, ◌+◌, ◌-◌, ◌<◌, ◌≤◌, Bool, true, false, cond, not, ◌&&◌, List, [], ◌∷◌, refl, sym, ap, arith, ◌∙◌, length, map, subst, inl, inr}
+use Rattle.std.specs.Prelude.{filter, if◌then◌else◌, ◌==◌, slice_set, nat_le}
 use Rattle.std.specs.List.{range_with_len}
 use Rattle.std.proofs.lemmas.Bool.Decides.{nat_tests}
 use Rattle.std.proofs.lemmas.List.{length-set, get_or-set_other}

@@ -1,17 +1,16 @@
 -- How high a sound tree is.
-use Rattle.std.proofs.Common.{◌≡◌, ℕ, zero, suc, ◌+◌, ◌*◌, ◌/◌, ◌^◌, ◌<◌, ◌≤◌, Bool, true, false, List, [], ◌∷◌, ◌++◌, refl, sym, ap, ◌∙◌, arith, length, subst, ◌-◌, Option, Some, None}
+use Rattle.std.proofs.Common.{◌≡◌, ℕ, zero, suc, ◌+◌, ◌*◌, ◌/◌, ◌^◌, ◌<◌, ◌≤◌, Bool, true, false, List, [], ◌∷◌, refl, arith, length, subst, ◌-◌, Option, Some, None}
 use Rattle.std.specs.Prelude.{map, nat_le}
 use Rattle.std.specs.List.{AllByRecursion, flat_map}
-use Rattle.std.proofs.Math.Nat.{mul-le-mul_right, mul-le-mul_left, pow-succ'}
+use Rattle.std.proofs.Math.Nat.{mul-le-mul_right, pow-succ'}
 use Rattle.std.proofs.lemmas.Nat.{le-div}
 use Rattle.std.proofs.lemmas.List.{length-append, length-map}
 use Rattle.std.proofs.lemmas.Bool.Decides.{nat_tests}
 use Rattle.metric_laws.specs.Space.{Space}
 use Rattle.metric_laws.proofs.Lists.{all_weaker}
-use Rattle.tree_shape.specs.declared.entry.LeafEntry.{LeafEntry}
 use Rattle.tree_shape.specs.declared.entry.InnerEntry.{InnerEntry}
 use Rattle.tree_shape.specs.declared.live.Live.{Live}
-use Rattle.tree_shape.specs.Fill.{IsFilled, least_for, most_for, root_least}
+use Rattle.tree_shape.specs.Fill.{least_for, most_for, root_least}
 use Rattle.tree_shape.specs.Tree.{Nodes, IsSoundAt, IsSoundTree, IsSoundEntry, objects, objects_at}
 use Rattle.tree_shape.proofs.Counting.{each_once_back}
 

@@ -1,13 +1,13 @@
 -- An insertion keeps a tree sound.
-use Rattle.std.proofs.Common.{◌≡◌, ℕ, zero, suc, ◌+◌, ◌*◌, ◌-◌, ◌<◌, ◌≤◌, Bool, true, false, List, [], ◌∷◌, ◌++◌, refl, sym, ap, ◌∙◌, arith, length, subst, inl, inr, ◌⊎◌}
-use Rattle.std.specs.Prelude.{map, if◌then◌else◌, ◌==◌, nat_le, IsTrue, min, max}
+use Rattle.std.proofs.Common.{◌≡◌, ℕ, zero, suc, ◌+◌, ◌<◌, ◌≤◌, Bool, true, false, List, [], ◌∷◌, ◌++◌, refl, sym, ap, ◌∙◌, arith, length, subst, inl, inr}
+use Rattle.std.specs.Prelude.{map, if◌then◌else◌, nat_le, IsTrue, max}
 use Rattle.std.specs.List.{AllByRecursion, flat_map}
 use Rattle.std.proofs.lemmas.Bool.Decides.{nat_tests}
 use Rattle.metric_laws.specs.Space.{Space, IsSpace, bound}
 use Rattle.metric_laws.specs.Pruning.{capped}
 use Rattle.metric_laws.specs.Lists.{IsIn}
 use Rattle.metric_laws.proofs.Lists.{all_weaker, all_append, all_flat_map}
-use Rattle.tree_shape.specs.Fill.{IsFilled, least_for, most_for}
+use Rattle.tree_shape.specs.Fill.{least_for, most_for}
 use Rattle.tree_shape.specs.Plain.{Object, Branch, Plain, objects_in}
 use Rattle.tree_shape.specs.Insertion.{Grown, One, Two, Rules, taken, left, inserted, branch, fit, with_grown, grown_at, object_ball, branch_ball}
 use Rattle.tree_shape.specs.Dealing.{Ball, Split}

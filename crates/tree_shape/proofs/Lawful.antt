@@ -1,14 +1,14 @@
 -- The rules keep what a split has to keep.
-use Rattle.std.proofs.Common.{◌≡◌, ◌≢◌, ℕ, zero, suc, ◌+◌, ◌-◌, ◌*◌, ◌/◌, ◌<◌, ◌≤◌, Bool, true, false, cond, List, [], ◌∷◌, ◌++◌, refl, sym, ap, ◌∙◌, arith, length, map, get_or, subst, inl, inr, ◌⊎◌}
-use Rattle.std.specs.Prelude.{filter, Option, Some, None, if◌then◌else◌, max}
+use Rattle.std.proofs.Common.{◌≡◌, ℕ, zero, suc, ◌+◌, ◌-◌, ◌<◌, ◌≤◌, Bool, true, false, cond, List, [], ◌∷◌, ◌++◌, refl, sym, ap, ◌∙◌, arith, length, map, get_or, subst, inl, inr}
+use Rattle.std.specs.Prelude.{filter, if◌then◌else◌}
 use Rattle.std.specs.List.{AllByRecursion, range_with_len, flat_map}
 use Rattle.std.proofs.lemmas.List.FromFn.{fill_by_all}
 use Rattle.metric_laws.specs.Space.{Space, IsSpace}
 use Rattle.metric_laws.specs.Pruning.{capped}
 use Rattle.metric_laws.specs.Lists.{IsIn}
 use Rattle.metric_laws.proofs.Lists.{in-filter}
-use Rattle.tree_shape.specs.Fill.{least_for, most_for, root_least, IsFilled}
-use Rattle.tree_shape.specs.Dealing.{IsPair, Ball, Split, is_on, Table, size, row, apart, table_of, first_least, least_from, partitioned, promoted, split_of, point_at, side_at, members, reach, greatest, group_radius, pairs, pairs_with, pair_cost, or_pair}
+use Rattle.tree_shape.specs.Fill.{least_for, root_least}
+use Rattle.tree_shape.specs.Dealing.{IsPair, Ball, is_on, Table, size, apart, table_of, first_least, least_from, partitioned, promoted, split_of, point_at, side_at, members, reach, greatest, group_radius, pairs, pairs_with, pair_cost, or_pair}
 use Rattle.tree_shape.specs.Insertion.{taken, left, inserted, rules, Grown, One, Two, new_root, placed}
 use Rattle.tree_shape.specs.Plain.{Object, Plain, Tall}
 use Rattle.tree_shape.specs.Sound.{ObjectFits, IsSoundPlain, IsSoundTall}
@@ -18,7 +18,6 @@ use Rattle.tree_shape.specs.declared.rules.Side.TheVariants.{First, Second, Open
 use Rattle.tree_shape.proofs.Fair.{tally, IsFair, fair, in_range}
 use Rattle.tree_shape.proofs.Added.{least_in, chosen_low}
 use Rattle.tree_shape.proofs.Height.{three_at_least}
-use Rattle.tree_shape.specs.declared.rules.Aim.{Aim}
 use Rattle.tree_shape.proofs.TableRows.{row_of_table, length_map}
 
 -- shares

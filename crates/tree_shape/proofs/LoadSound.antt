@@ -1,6 +1,6 @@
 -- A bulk load makes a sound tree.
-use Rattle.std.proofs.Common.{◌≡◌, ℕ, zero, suc, ◌+◌, ◌-◌, ◌*◌, ◌/◌, ◌^◌, ◌<◌, ◌≤◌, ◌⊎◌, inl, inr, Bool, true, false, List, [], ◌∷◌, ◌++◌, refl, sym, ap, ◌∙◌, arith, length, subst, Option, Some, None, min, max}
-use Rattle.std.specs.Prelude.{◌==◌, if◌then◌else◌, nat_lt, nat_le, ◌||◌, map, slice_index, slice_index_or, IsTrue}
+use Rattle.std.proofs.Common.{◌≡◌, ℕ, zero, suc, ◌+◌, ◌*◌, ◌/◌, ◌^◌, ◌<◌, ◌≤◌, ◌⊎◌, inl, inr, Bool, true, false, List, [], ◌∷◌, refl, sym, ap, ◌∙◌, arith, length, subst, min}
+use Rattle.std.specs.Prelude.{◌==◌, if◌then◌else◌, nat_le, ◌||◌, map, slice_index, slice_index_or, IsTrue}
 use Rattle.std.specs.List.{AllByRecursion, flat_map}
 use Rattle.std.proofs.lemmas.Bool.Decides.{nat_tests}
 use Rattle.std.proofs.lemmas.List.{length-map}
@@ -10,7 +10,7 @@ use Rattle.metric_laws.proofs.Lists.{all_weaker, all_append}
 use Rattle.tree_shape.specs.declared.rules.Member.{Member}
 use Rattle.tree_shape.specs.declared.rules.Group.{Group}
 use Rattle.tree_shape.specs.Fill.{IsFilled, least_for, most_for, root_least}
-use Rattle.tree_shape.specs.Plain.{Object, Branch, Plain, Tall, objects_in}
+use Rattle.tree_shape.specs.Plain.{Object, Branch, Plain, objects_in}
 use Rattle.tree_shape.specs.Sound.{ObjectFits, BranchCovers, IsSoundPlain, IsSoundTall}
 use Rattle.tree_shape.specs.Groups.{Far, entry, group_count, parts_of, seeds_from, grouped, members_from, in_group, AreSized}
 use Rattle.tree_shape.specs.Bulk.{Load, object_at, point_of, radius_of, groups_from, groups_at, table_of, built_at, built, height_from, height_of, places_from, places}

@@ -1,13 +1,13 @@
 -- A bulk load keeps its objects.
-use Rattle.std.proofs.Common.{◌≡◌, ℕ, zero, suc, ◌+◌, ◌*◌, ◌^◌, ◌<◌, ◌≤◌, ◌⊎◌, inl, inr, Bool, true, false, List, [], ◌∷◌, ◌++◌, refl, sym, ap, ◌∙◌, arith, length, Option, Some, None, min, ◌-◌, subst}
-use Rattle.std.specs.Prelude.{◌==◌, if◌then◌else◌, nat_lt, nat_le, ◌||◌, replicate, map, slice_index, count_by}
+use Rattle.std.proofs.Common.{◌≡◌, ℕ, zero, suc, ◌+◌, ◌*◌, ◌^◌, ◌<◌, ◌≤◌, inl, inr, Bool, true, false, List, [], ◌∷◌, refl, sym, ap, ◌∙◌, arith, length, Option, Some, None, min, ◌-◌, subst}
+use Rattle.std.specs.Prelude.{◌==◌, if◌then◌else◌, nat_le, ◌||◌, replicate, map, count_by}
 use Rattle.std.specs.List.{AllByRecursion}
 use Rattle.std.proofs.lemmas.Bool.Decides.{nat_tests}
 use Rattle.std.proofs.lemmas.Grind.{div_ceil_times}
 use Rattle.std.proofs.Math.Nat.{one-le-mul, pow-suc, pow-zero}
 use Rattle.tree_shape.specs.declared.rules.Member.{Member}
 use Rattle.tree_shape.specs.declared.rules.Group.{Group}
-use Rattle.tree_shape.specs.Plain.{Object, Branch, Plain, objects_in, objects_of}
+use Rattle.tree_shape.specs.Plain.{Object, objects_in, objects_of}
 use Rattle.tree_shape.specs.Groups.{Far, nearest_from, chosen, counted, placed_from, seeds_from, seed_of, member_of, candidate_from, moved_to, received, filled_from, grouped, members_from, in_group, group_count, parts_of, entry}
 use Rattle.tree_shape.specs.Bulk.{Load, object_at, point_of, radius_of, groups_from, groups_at, table_of, built_at, built_of, height_of, places}
 use Rattle.tree_shape.proofs.Sized.{length_set, low_set, nearest_some, length_more, length_seeds, ones_long}

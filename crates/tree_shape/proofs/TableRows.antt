@@ -1,5 +1,5 @@
 -- The rows of a table.
-use Rattle.std.proofs.Common.{◌≡◌, ℕ, zero, suc, ◌+◌, ◌-◌, ◌*◌, ◌<◌, ◌≤◌, List, [], ◌∷◌, ◌++◌, refl, sym, ap, ◌∙◌, arith, length, map, get_or, take, drop}
+use Rattle.std.proofs.Common.{◌≡◌, ℕ, zero, suc, ◌+◌, ◌-◌, ◌*◌, ◌<◌, List, [], ◌∷◌, ◌++◌, refl, ap, ◌∙◌, arith, length, map, get_or, take, drop}
 use Rattle.std.specs.List.{flat_map}
 use Rattle.metric_laws.specs.Space.{Space}
 use Rattle.tree_shape.specs.Dealing.{Ball, row, table_of, point_at}

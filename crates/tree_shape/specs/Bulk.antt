@@ -4,7 +4,7 @@ use Rattle.metric_laws.specs.Space.{Space}
 use Rattle.tree_shape.specs.declared.rules.Member.{Member}
 use Rattle.tree_shape.specs.declared.rules.Group.{Group}
 use Rattle.tree_shape.specs.Fill.{most_for, least_for}
-use Rattle.tree_shape.specs.Plain.{Object, Branch, Plain, Tall, objects_of}
+use Rattle.tree_shape.specs.Plain.{Object, Plain, Tall, objects_of}
 use Rattle.tree_shape.specs.Groups.{entry, group_count, seeds_from, grouped, members_from}
 
 -- what is loaded, and the most and the least entries of a node of its tree

@@ -1,5 +1,5 @@
 -- Sound trees without pages.
-use Rattle.std.specs.Prelude.{◌≡◌, ℕ, zero, suc, ◌≤◌, List, length, IsTrue, Option}
+use Rattle.std.specs.Prelude.{ℕ, zero, suc, ◌≤◌, List, length, IsTrue, Option}
 use Rattle.std.specs.List.{AllByRecursion}
 use Rattle.metric_laws.specs.Space.{Space, IsSpace}
 use Rattle.tree_shape.specs.Fill.{IsFilled, least_for, root_least}
