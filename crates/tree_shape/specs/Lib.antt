@@ -7,3 +7,4 @@ pub mod Insertion
 pub mod Groups
 pub mod Bulk
 pub mod Sound
+pub mod Splits

@@ -6,6 +6,7 @@ ghost use Rattle.tree_shape.specs.Insertion.{InsertionAddsOne};
 ghost use Rattle.tree_shape.specs.Laws.{HeightIsSmall, ObjectsFit, SameSubtree};
 ghost use Rattle.tree_shape.specs.Plain.{SameObjects};
 ghost use Rattle.tree_shape.specs.Sound.{InsertionKeepsSound, LoadIsSound, SoundHasEntries, SoundWithoutPages};
+ghost use Rattle.tree_shape.specs.Splits.{ChosenIsPlace, PartitionIsFair, PromotedIsPair, RowHasDistances};
 
 /// Each object of a sound tree is a point of the space.
 pub fn objects_fit()
@@ -62,4 +63,24 @@ pub fn insertion_keeps_sound()
 /// A bulk load makes a sound tree.
 pub fn load_is_sound()
     ensures { LoadIsSound }
+{}
+
+/// The choice is an entry of the node.
+pub fn chosen_is_place()
+    ensures { ChosenIsPlace }
+{}
+
+/// Two entries are promoted, the first below the second.
+pub fn promoted_is_pair()
+    ensures { PromotedIsPair }
+{}
+
+/// Each entry is in one of the two groups of a partition, and each group has its least.
+pub fn partition_is_fair()
+    ensures { PartitionIsFair }
+{}
+
+/// A row of a node's table has the distances to one entry.
+pub fn row_has_distances()
+    ensures { RowHasDistances }
 {}

@@ -12,6 +12,10 @@ fn a_node_takes_what_a_page_holds(rt: HostRuntime) {
     laws::same_objects();
     laws::insertion_adds_one();
     laws::load_keeps_objects();
+    laws::chosen_is_place();
+    laws::promoted_is_pair();
+    laws::partition_is_fair();
+    laws::row_has_distances();
     laws::load_is_sound();
     laws::sound_without_pages();
     laws::sound_has_entries();
