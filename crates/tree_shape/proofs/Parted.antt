@@ -1,10 +1,10 @@
 -- A partition is fair.
-use Rattle.std.proofs.Common.{◌≡◌, ◌≢◌, ℕ, ◌*◌, ◌<◌, ◌≤◌, List, arith}
+use Rattle.std.proofs.Common.{◌≢◌, ℕ, ◌*◌, ◌<◌, ◌≤◌, List, arith}
 use Rattle.tree_shape.specs.declared.rules.Side.{Side}
 use Rattle.tree_shape.specs.declared.rules.Side.TheVariants.{First, Second, Open}
 use Rattle.tree_shape.specs.Dealing.{Table, size, partitioned}
 use Rattle.tree_shape.specs.Splits.{IsFairPartition}
-use Rattle.tree_shape.proofs.Fair.{tally, count_is_tally, IsFair, fair}
+use Rattle.tree_shape.proofs.Fair.{count_is_tally, IsFair, fair}
 
 pub partition_is_fair : (t : Table) (a b split least : ℕ) → a < size t → b < size t → a ≢ b → 1 ≤ least → 2 * least ≤ size t →
     IsFairPartition (size t) a b least (partitioned t a b split least)
