@@ -1,10 +1,10 @@
 -- The points of a tree in order of id.
-use Rattle.std.proofs.Common.{◌≡◌, ℕ, zero, suc, ◌+◌, ◌<◌, ◌≤◌, ◌≢◌, ◌⊎◌, Bool, true, false, cond, List, [], ◌∷◌, refl, sym, ap, inl, inr, arith, ◌∙◌}
+use Rattle.std.proofs.Common.{◌≡◌, ℕ, ◌+◌, ◌≤◌, Bool, true, false, List, [], ◌∷◌, refl, sym, ap, inl, inr, arith}
 use Rattle.std.specs.Prelude.{map, ◌==◌, if◌then◌else◌}
 use Rattle.std.proofs.lemmas.Bool.Decides.{nat_tests}
 use Rattle.metric_laws.specs.Lists.{IsIn}
 use Rattle.tree_shape.specs.declared.entry.LeafEntry.{LeafEntry}
-use Rattle.tree_shape.specs.Tree.{times, point_of, points_from}
+use Rattle.tree_shape.specs.Tree.{times, point_of}
 
 abbrev pub ids_of : List LeafEntry → List ℕ
 ids_of es = map (λ e. e.id) es

@@ -1,5 +1,5 @@
 -- The objects of a sound tree.
-use Rattle.std.proofs.Common.{◌≡◌, ℕ, zero, suc, List, [], ◌∷◌, ◌++◌, refl, sym, ap, ◌∙◌, subst, Option, Some, None, inl, inr, ◌⊎◌}
+use Rattle.std.proofs.Common.{◌≡◌, ℕ, zero, suc, List, [], ◌∷◌, ◌++◌, refl, sym, ap, ◌∙◌, subst, Option, Some, inl, inr}
 use Rattle.std.specs.Prelude.{IsTrue}
 use Rattle.std.specs.List.{AllByRecursion, flat_map}
 use Rattle.metric_laws.specs.Space.{Space}
@@ -7,7 +7,7 @@ use Rattle.metric_laws.specs.Lists.{IsIn}
 use Rattle.metric_laws.proofs.Lists.{all_weaker, all_flat_map, in-append_left, in-append_right}
 use Rattle.tree_shape.specs.declared.entry.LeafEntry.{LeafEntry}
 use Rattle.tree_shape.specs.declared.entry.InnerEntry.{InnerEntry}
-use Rattle.tree_shape.specs.Fill.{least_for, IsFilled}
+use Rattle.tree_shape.specs.Fill.{least_for}
 use Rattle.tree_shape.specs.Tree.{Nodes, IsSoundAt, IsSoundObject, IsSoundEntry, objects_at, pages_at, leaf_entries, inner_entries, Covers}
 
 abbrev pub Fits : Space → LeafEntry → Type 0

@@ -1,0 +1,41 @@
+use metric_laws::Listed;
+
+/// The group of an entry while a node is split (VLDB 1997, section 3.3).
+#[derive(Clone, Copy, Debug, PartialEq, Eq)]
+pub enum Side {
+    /// The group of the first promoted point.
+    First,
+    /// The group of the second promoted point.
+    Second,
+    /// Neither group as yet.
+    Open,
+}
+
+/// An entry of an inner node as a new point sees it (VLDB 1997, section 3.2).
+#[derive(Clone, Copy, Debug, PartialEq, Eq)]
+pub struct Aim {
+    /// The entry's place in its node, from 0.
+    pub place: usize,
+    /// The entry's covering radius.
+    pub radius: u64,
+    /// The distance from the new point to the routing point.
+    pub dist: u64,
+}
+
+/// An object's group while a set is parted by a bulk load (Ciaccia and Patella 1998).
+#[derive(Clone, Copy, Debug, PartialEq, Eq)]
+pub struct Member {
+    /// The group's number, from 0.
+    pub group: u32,
+    /// Whether the object is the group's seed, which stays in its group.
+    pub is_seed: bool,
+}
+
+/// A group of a bulk load, by the places of its objects.
+#[derive(Debug, Drop)]
+pub struct Group {
+    /// The seed's place, whose point is the routing point.
+    pub seed: u32,
+    /// The places of all its objects, the seed's among them.
+    pub members: Listed<u32>,
+}
