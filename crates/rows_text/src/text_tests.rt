@@ -31,54 +31,55 @@ fn pairs(alloc: Global) -> Result<Listed<Pair>, AllocError> {
     Ok(Listed::new(pairs))
 }
 
-// Each reply, whether its tags are shown, and its text.
+// Each reply and its text, where tags are hidden.
 #[test]
 fn replies_are_written(rt: HostRuntime) -> Result<(), Fail> {
     let alloc = rt.alloc();
-    let cases: [(Reply, bool, &str); 11] = [
-        (Reply::Id(7), false, "id 7\n"),
-        (Reply::Loaded(4), true, "loaded 4\n"),
+    let cases: [(Reply, &str); 9] = [
+        (Reply::Id(7), "id 7\n"),
+        (Reply::Loaded(4), "loaded 4\n"),
         (
             Reply::Hits {
                 hits: hits(alloc)?,
                 tags: tags(alloc)?,
             },
-            false,
             "hits 2\n3 0\n4294967295 274877906944\n",
-        ),
-        (
-            Reply::Hits {
-                hits: hits(alloc)?,
-                tags: tags(alloc)?,
-            },
-            true,
-            "hits 2\n3 18446744073709551615 0\n4294967295 0 274877906944\n",
         ),
         (
             Reply::Next {
                 hits: hits(alloc)?,
                 tags: tags(alloc)?,
             },
-            false,
             "next 2\n3 0\n4294967295 274877906944\n",
         ),
-        (Reply::Pairs(pairs(alloc)?), false, "pairs 1\n1 0 1\n"),
-        (Reply::Count(0), false, "count 0\n"),
-        (Reply::Cursor(2), false, "cursor 2\n"),
-        (Reply::Closed(2), false, "closed 2\n"),
-        (Reply::Refused(Refusal::Row(12)), false, "refused row 12\n"),
-        (
-            Reply::Refused(Refusal::NotEmpty),
-            true,
-            "refused notempty\n",
-        ),
+        (Reply::Pairs(pairs(alloc)?), "pairs 1\n1 0 1\n"),
+        (Reply::Count(0), "count 0\n"),
+        (Reply::Cursor(2), "cursor 2\n"),
+        (Reply::Closed(2), "closed 2\n"),
+        (Reply::Refused(Refusal::Row(12)), "refused row 12\n"),
     ];
-    for (reply, show, text) in &cases {
+    for (reply, text) in &cases {
         let mut out = Vec::new(alloc);
-        out.push(b'>')?;
-        reply_text(reply, *show, &mut out)?;
-        assert_eq!(rt; &out[1..], text.as_bytes());
+        reply_text(reply, false, &mut out)?;
+        assert_eq!(rt; out.as_slice(), text.as_bytes());
     }
+    Ok(())
+}
+
+#[test]
+fn tags_are_shown(rt: HostRuntime) -> Result<(), Fail> {
+    let alloc = rt.alloc();
+    let hits = hits(alloc)?;
+    let tags = tags(alloc)?;
+    if tags.as_slice().len() != hits.as_slice().len() {
+        return Err("a tag for each hit".into());
+    }
+    let mut out = Vec::new(alloc);
+    reply_text(&Reply::Hits { hits, tags }, true, &mut out)?;
+    assert_eq!(rt;
+        out.as_slice(),
+        b"hits 2\n3 18446744073709551615 0\n4294967295 0 274877906944\n".as_slice()
+    );
     Ok(())
 }
 
@@ -91,6 +92,7 @@ fn each_refusal_has_its_word(rt: HostRuntime) -> Result<(), Fail> {
         (Refusal::Number, "number"),
         (Refusal::Count, "count"),
         (Refusal::Short, "short"),
+        (Refusal::NotEmpty, "notempty"),
         (Refusal::Full, "full"),
         (Refusal::Worn, "worn"),
         (Refusal::NoRoom, "noroom"),
