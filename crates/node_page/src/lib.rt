@@ -1,0 +1,10 @@
+//! The head, the slots and the nodes of an index file as pages of 4096 bytes. All numbers are big-endian, and a byte that
+//! no field takes is 0.
+#![tactic(auto)]
+
+mod bytes;
+mod head;
+mod slot;
+
+pub use head::{Head, HeadFault, decode_head, encode_head};
+pub use slot::{Slot, decode_slot, encode_slot};
