@@ -2,3 +2,5 @@ pub mod Numbers
 pub mod Rest
 pub mod HeadLaws
 pub mod SlotLaws
+pub mod OneSpelling
+pub mod Opened

@@ -14,7 +14,8 @@ pub gate_closed : (byte : ℕ) (gate : Bool) → byte ≡ (if gate then 165 else
 gate_closed byte true is shut = absurd cc
 gate_closed byte false is shut = is
 
-both : (a b : Bool) → (a && b) ≡ true → (a ≡ true) × (b ≡ true)
+-- two tests that both hold
+pub both : (a b : Bool) → (a && b) ≡ true → (a ≡ true) × (b ≡ true)
 both true true is = (refl, refl)
 both true false is = absurd cc
 both false b is = absurd cc

@@ -4,7 +4,11 @@
 
 mod bytes;
 mod head;
+pub mod laws;
 mod slot;
 
 pub use head::{Head, HeadFault, decode_head, encode_head};
 pub use slot::{Slot, decode_slot, encode_slot};
+
+#[cfg(test)]
+mod tests;

@@ -1,0 +1,82 @@
+use crate::{Head, HeadFault, Slot, decode_head, decode_slot, encode_head, encode_slot};
+use std::test::Fail;
+
+// The head of a small index of points of two coordinates under L1.
+const HEAD: Head = Head {
+    version: 2,
+    kind: 2,
+    dim: 2,
+    promote: 2,
+    split: 1,
+    limit: 16_777_216,
+};
+
+const HEAD_BYTES: [u8; 20] = [
+    0x4d, 0x54, 0x52, 0x45, 0x45, 0x49, 0x44, 0x58, 0, 2, 2, 2, 2, 1, 0, 0, 1, 0, 0, 0,
+];
+
+#[test]
+fn the_head_of_a_small_index(rt: HostRuntime) -> Result<(), Fail> {
+    let mut page = [0xffu8; 4096];
+    encode_head(&HEAD, &mut page);
+    assert_eq!(rt; &page[..20], HEAD_BYTES.as_slice());
+    assert_eq!(rt; page[20..].iter().all(|byte| *byte == 0), true);
+    assert_eq!(rt; decode_head(&page), Ok(HEAD));
+    page[9] = 1;
+    assert_eq!(rt; decode_head(&page), Ok(Head { version: 1, ..HEAD }));
+    Ok(())
+}
+
+// Heads with faults, each made of a sound one by bytes that are changed from the first fault to the last.
+#[test]
+fn a_head_is_refused_for_its_first_fault(rt: HostRuntime) -> Result<(), Fail> {
+    let faults = [
+        (4095, 1, HeadFault::Tail),
+        (14, 1, HeadFault::Tail),
+        (19, 1, HeadFault::Limit),
+        (13, 3, HeadFault::Policy),
+        (10, 9, HeadFault::Space),
+        (9, 3, HeadFault::Version),
+        (0, b'm', HeadFault::Magic),
+    ];
+    let mut page = [0u8; 4096];
+    encode_head(&HEAD, &mut page);
+    for (at, byte, fault) in &faults {
+        page[*at] = *byte;
+        assert_eq!(rt; decode_head(&page), Err(*fault));
+    }
+    Ok(())
+}
+
+// The two slots of the small index after one commit.
+#[test]
+fn the_slots_of_a_small_index(rt: HostRuntime) -> Result<(), Fail> {
+    let slot = Slot {
+        gate: true,
+        generation: 2,
+        root: 4,
+        height: 0,
+        count: 1,
+        pages: 5,
+    };
+    let bytes = [
+        0xa5, 0, 0, 0, 0, 0, 0, 0, 0, 0, 0, 0, 0, 0, 0, 2, 0, 0, 0, 4, 0, 0, 0, 0, 0, 0, 0, 1, 0,
+        0, 0, 5,
+    ];
+    let mut page = [0xffu8; 4096];
+    encode_slot(&slot, &mut page);
+    assert_eq!(rt; &page[..32], bytes.as_slice());
+    assert_eq!(rt; decode_slot(&page), Some(slot));
+    // Each other byte is a closed gate.
+    page[0] = 0xa4;
+    assert_eq!(rt;
+        decode_slot(&page),
+        Some(Slot {
+            gate: false,
+            ..slot
+        })
+    );
+    page[4095] = 1;
+    assert_eq!(rt; decode_slot(&page), None);
+    Ok(())
+}
