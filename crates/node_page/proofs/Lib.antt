@@ -4,3 +4,5 @@ pub mod HeadLaws
 pub mod SlotLaws
 pub mod OneSpelling
 pub mod Opened
+pub mod Listing
+pub mod NodeLaws

@@ -4,6 +4,8 @@ use Rattle.tree_shape.specs.declared.live.Live.{Live}
 use Rattle.node_page.specs.Heads.{SpellsHead, head_fault}
 use Rattle.node_page.specs.Slots.{SpellsSlot}
 use Rattle.node_page.specs.Opening.{OpensTo, open_fault, live_of}
+use Rattle.node_page.specs.Nodes.{SpellsNode, node_fault}
+use Rattle.tree_shape.specs.declared.entry.Node.{Node}
 use Rattle.node_page.specs.declared.head.Head.{Head}
 use Rattle.node_page.specs.declared.slot.Slot.{Slot}
 
@@ -35,3 +37,7 @@ abbrev pub OneLiveSlot : Type 0
 OneLiveSlot =
     (file : List ℕ) (head head2 : Head) (live live2 : Live) → OpensTo file head live → OpensTo file head2 live2 →
     ((head ≡ head2) × (live ≡ live2) × (live ≡ live_of file))
+
+-- a page has no fault exactly where it spells some node
+abbrev pub FaultIsNoNode : Type 0
+FaultIsNoNode = (dim : ℕ) (page : List ℕ) → (node_fault dim page ≡ None) ↔ ((node : Node) × SpellsNode dim page node)

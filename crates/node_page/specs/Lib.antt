@@ -3,3 +3,4 @@ pub mod Heads
 pub mod Slots
 pub mod Opening
 pub mod Laws
+pub mod Nodes

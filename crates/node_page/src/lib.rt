@@ -5,9 +5,11 @@
 mod bytes;
 mod head;
 pub mod laws;
+mod node;
 mod slot;
 
 pub use head::{Head, HeadFault, decode_head, encode_head};
+pub use node::{NodeFault, decode_node};
 pub use slot::{Slot, decode_slot, encode_slot};
 
 #[cfg(test)]

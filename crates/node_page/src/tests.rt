@@ -1,5 +1,9 @@
-use crate::{Head, HeadFault, Slot, decode_head, decode_slot, encode_head, encode_slot};
+use crate::{
+    Head, HeadFault, NodeFault, Slot, decode_head, decode_node, decode_slot, encode_head,
+    encode_slot,
+};
 use std::test::Fail;
+use tree_shape::Node;
 
 // The head of a small index of points of two coordinates under L1.
 const HEAD: Head = Head {
@@ -78,5 +82,36 @@ fn the_slots_of_a_small_index(rt: HostRuntime) -> Result<(), Fail> {
     );
     page[4095] = 1;
     assert_eq!(rt; decode_slot(&page), None);
+    Ok(())
+}
+
+// The root of the small index: one object with id 0, tag 0 and the point (3, 4); and pages with faults, each made by
+// bytes that are changed from the first fault to the last.
+#[test]
+fn a_leaf_is_read_or_refused_for_its_first_fault(rt: HostRuntime) -> Result<(), Fail> {
+    let mut page = [0u8; 4096];
+    page[3] = 1;
+    page[39] = 3;
+    page[43] = 4;
+    let node = decode_node(rt.alloc(), &page, 2).ok().ok_or("a leaf")?;
+    let Node::Leaf(entries) = node else {
+        return Err("an inner node".into());
+    };
+    assert_eq!(rt; entries.as_slice().len(), 1);
+    assert_eq!(rt; entries.as_slice()[0].id, 0);
+    assert_eq!(rt;
+        entries.as_slice()[0].point.as_slice(),
+        [3u32, 4].as_slice()
+    );
+    let faults = [
+        (44, 1, NodeFault::Tail),
+        (30, 0x41, NodeFault::Distance),
+        (3, 33, NodeFault::Count),
+        (0, 15, NodeFault::Kind),
+    ];
+    for (at, byte, fault) in &faults {
+        page[*at] = *byte;
+        assert_eq!(rt; decode_node(rt.alloc(), &page, 2).err(), Some(*fault));
+    }
     Ok(())
 }
