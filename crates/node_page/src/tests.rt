@@ -19,12 +19,35 @@ const HEAD_BYTES: [u8; 20] = [
     0x4d, 0x54, 0x52, 0x45, 0x45, 0x49, 0x44, 0x58, 0, 2, 2, 2, 2, 1, 0, 0, 1, 0, 0, 0,
 ];
 
-#[test]
-fn the_head_of_a_small_index(rt: HostRuntime) -> Result<(), Fail> {
+// The page of that head.
+fn head_page() -> [u8; 4096] {
     let mut page = [0xffu8; 4096];
     encode_head(&HEAD, &mut page);
-    assert_eq!(rt; &page[..20], HEAD_BYTES.as_slice());
-    assert_eq!(rt; page[20..].iter().all(|byte| *byte == 0), true);
+    page
+}
+
+// The page of a slot.
+fn slot_page(slot: &Slot) -> [u8; 4096] {
+    let mut page = [0xffu8; 4096];
+    encode_slot(slot, &mut page);
+    page
+}
+
+// The first bytes of a page.
+fn front(page: &[u8; 4096], count: usize) -> &[u8] {
+    &page[..count.min(4096)]
+}
+
+// Whether the bytes from a place on are 0.
+fn is_zero_from(page: &[u8; 4096], from: usize) -> bool {
+    page.iter().skip(from).all(|byte| *byte == 0)
+}
+
+#[test]
+fn the_head_of_a_small_index(rt: HostRuntime) -> Result<(), Fail> {
+    let mut page = head_page();
+    assert_eq!(rt; front(&page, 20), HEAD_BYTES.as_slice());
+    assert_eq!(rt; is_zero_from(&page, 20), true);
     assert_eq!(rt; decode_head(&page), Ok(HEAD));
     page[9] = 1;
     assert_eq!(rt; decode_head(&page), Ok(Head { version: 1, ..HEAD }));
@@ -43,8 +66,7 @@ fn a_head_is_refused_for_its_first_fault(rt: HostRuntime) -> Result<(), Fail> {
         (9, 3, HeadFault::Version),
         (0, b'm', HeadFault::Magic),
     ];
-    let mut page = [0u8; 4096];
-    encode_head(&HEAD, &mut page);
+    let mut page = head_page();
     for (at, byte, fault) in &faults {
         page[*at] = *byte;
         assert_eq!(rt; decode_head(&page), Err(*fault));
@@ -67,9 +89,8 @@ fn the_slots_of_a_small_index(rt: HostRuntime) -> Result<(), Fail> {
         0xa5, 0, 0, 0, 0, 0, 0, 0, 0, 0, 0, 0, 0, 0, 0, 2, 0, 0, 0, 4, 0, 0, 0, 0, 0, 0, 0, 1, 0,
         0, 0, 5,
     ];
-    let mut page = [0xffu8; 4096];
-    encode_slot(&slot, &mut page);
-    assert_eq!(rt; &page[..32], bytes.as_slice());
+    let mut page = slot_page(&slot);
+    assert_eq!(rt; front(&page, 32), bytes.as_slice());
     assert_eq!(rt; decode_slot(&page), Some(slot));
     // Each other byte is a closed gate.
     page[0] = 0xa4;
