@@ -6,3 +6,5 @@ pub mod OneSpelling
 pub mod Opened
 pub mod Listing
 pub mod NodeLaws
+pub mod Putting
+pub mod Written

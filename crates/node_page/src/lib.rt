@@ -7,10 +7,12 @@ mod head;
 pub mod laws;
 mod node;
 mod slot;
+mod writing;
 
 pub use head::{Head, HeadFault, decode_head, encode_head};
 pub use node::{NodeFault, decode_node};
 pub use slot::{Slot, decode_slot, encode_slot};
+pub use writing::encode_node;
 
 #[cfg(test)]
 mod tests;

@@ -35,7 +35,7 @@ const ENTRIES: usize = 16;
 const FIELDS: usize = 20;
 
 // The place of an entry.
-fn place_of(dim: u8, index: usize) -> usize
+pub fn place_of(dim: u8, index: usize) -> usize
     requires few { dim ≤ 64 }
     requires small { index ≤ 32 }
     ensures { result ≡ place_of dim index }
