@@ -1,5 +1,5 @@
 -- The first fault of a page is none exactly where the page spells a node.
-use Rattle.std.proofs.Common.{◌≡◌, ℕ, zero, suc, ◌+◌, ◌-◌, ◌≤◌, ◌==◌, ◌&&◌, not, nat_lt, nat_le, Bool, true, false, List, [], ◌∷◌, ◌++◌, length, slice_index, Option, Some, None, if◌then◌else◌, refl, sym, ◌∙◌, ap, subst, arith, eq-eqb}
+use Rattle.std.proofs.Common.{◌≡◌, ℕ, zero, suc, ◌+◌, ◌*◌, ◌-◌, ◌≤◌, ◌==◌, ◌&&◌, not, nat_lt, nat_le, Bool, true, false, List, [], ◌∷◌, ◌++◌, length, slice_index, Option, Some, None, if◌then◌else◌, refl, sym, ◌∙◌, ap, subst, arith, eq-eqb}
 use Rattle.std.specs.List.{AllByRecursion}
 use Rattle.std.proofs.lemmas.Bool.{eqb-true, eqb-false, leb-true, ltb-true, lt-ltb}
 use Rattle.std.proofs.lemmas.Bool.Decides.{nat_tests}
@@ -12,7 +12,7 @@ use Rattle.tree_shape.specs.declared.entry.Node.TheVariants.{Leaf, Inner}
 use Rattle.node_page.specs.Bytes.{number_at, are_zero}
 use Rattle.node_page.specs.declared.node.NodeFault.{NodeFault}
 use Rattle.node_page.specs.declared.node.NodeFault.TheVariants.{Kind, Count, Distance, Tail, Memory}
-use Rattle.node_page.specs.Nodes.{firsts, all_of, leaf_at, inner_at, place_of, count_of, HasCount, SpellsNode, near_at, is_count, are_near, is_rest_zero, node_fault, node_of}
+use Rattle.node_page.specs.Nodes.{firsts, all_of, leaf_at, inner_at, place_of, count_of, HasCount, SpellsNode, IsLawfulNode, near_at, is_count, are_near, is_rest_zero, node_fault, node_of}
 use Rattle.node_page.proofs.Rest.{zero_by_test, test_by_zero}
 use Rattle.node_page.proofs.SlotLaws.{both}
 use Rattle.node_page.proofs.Listing.{length-firsts, count_few, within_page}
@@ -227,3 +227,43 @@ unfolding node_fault
 few_by_none dim page none =
     let tests = all_pass (nat_le (slice_index page 0) 14) (is_count dim (slice_index page 0 == 0) (count_of page)) (are_near dim (slice_index page 0 == 0) page (count_of page)) (is_rest_zero dim page (count_of page)) none in
     count_few dim (slice_index page 0 == 0) (count_of page) tests.1
+
+-- ---- a spelled node is lawful
+
+all_firsts : {E : Type 0} (P : E → Type 0) (f : ℕ → E) → ((i : ℕ) → P (f i)) → (n : ℕ) → AllByRecursion P (firsts f n)
+unfolding firsts
+all_firsts P f each zero = tt
+all_firsts P f each (suc n) = all_one P (firsts f n) (f n) (all_firsts P f each n) (each n)
+
+both_all : {E : Type 0} (P Q R : E → Type 0) → ((e : E) → P e → Q e → R e) → (xs : List E) → AllByRecursion P xs → AllByRecursion Q xs → AllByRecursion R xs
+both_all P Q R implies [] ps qs = tt
+both_all P Q R implies (x ∷ xs) ps qs = (implies x ps.0 qs.0, both_all P Q R implies xs ps.1 qs.1)
+
+leaf_long : (dim : ℕ) (page : List ℕ) (at : ℕ) → length (leaf_at dim page at).point ≡ dim
+unfolding leaf_at
+leaf_long dim page at = length-firsts (λ j. number_at (at + 20 + 4 * j) 4 page) dim
+
+inner_long : (dim : ℕ) (page : List ℕ) (at : ℕ) → length (inner_at dim page at).point ≡ dim
+unfolding inner_at
+inner_long dim page at = length-firsts (λ j. number_at (at + 20 + 4 * j) 4 page) dim
+
+-- a node that a page spells is one that a page can hold
+pub lawful_by_spells : (dim : ℕ) (page : List ℕ) (node : Node) → SpellsNode dim page node → IsLawfulNode dim node
+lawful_by_spells dim page (Leaf es) (level, has, are, near) = (
+  has.at_most,
+  both_all (λ (e : LeafEntry). length e.point ≡ dim) (λ (e : LeafEntry). e.parent ≤ bound) (λ (e : LeafEntry). (length e.point ≡ dim) × (e.parent ≤ bound)) (λ e long le. (long, le)) es
+      (subst (AllByRecursion (λ (e : LeafEntry). length e.point ≡ dim)) (sym are)
+      (all_firsts (λ (e : LeafEntry). length e.point ≡ dim) (λ i. leaf_at dim page (place_of dim i)) (λ i. leaf_long dim page (place_of dim i)) (length es)))
+      near,
+)
+lawful_by_spells dim page (Inner level es) (told, low, high, has, some, are, near) = (
+  low,
+  high,
+  some,
+  has.at_most,
+  both_all (λ (e : InnerEntry). length e.point ≡ dim) (λ (e : InnerEntry). (e.radius ≤ bound) × (e.parent ≤ bound)) (λ (e : InnerEntry). (length e.point ≡ dim) × (e.radius ≤ bound) × (e.parent ≤ bound))
+      (λ e long le. (long, le.0, le.1)) es
+      (subst (AllByRecursion (λ (e : InnerEntry). length e.point ≡ dim)) (sym are)
+      (all_firsts (λ (e : InnerEntry). length e.point ≡ dim) (λ i. inner_at dim page (place_of dim i)) (λ i. inner_long dim page (place_of dim i)) (length es)))
+      near,
+)

@@ -1,6 +1,6 @@
 ghost use Rattle.std.specs.Prelude.{◌≡◌, ◌≢◌, ◌⊎◌, ◌+◌, ◌*◌, ◌≤◌, ◌<◌, ◌==◌, length, IfOk, IfErr, Ok, Err, Some, None, slice_index};
 ghost use Rattle.tree_shape.specs.Fill.{most_for};
-ghost use Rattle.node_page.specs.Nodes.{SpellsNode, firsts, point_at, leaf_at, inner_at, place_of, count_of, near_at, are_near, is_count, is_rest_zero, node_fault, node_of};
+ghost use Rattle.node_page.specs.Nodes.{SpellsNode, IsLawfulNode, firsts, point_at, leaf_at, inner_at, place_of, count_of, near_at, are_near, is_count, is_rest_zero, node_fault, node_of};
 
 use crate::bytes::{are_zero, get_u16, get_u32, get_u64};
 use metric_laws::{BOUND, Listed, Point};
@@ -223,6 +223,8 @@ pub fn decode_node(alloc: Global, page: &[u8; 4096], dim: u8) -> Result<Node, No
     requires few { dim ≤ 64 }
     // What is read is spelled so.
     ensures ok { IfOk result (λ node. SpellsNode dim page.now node) }
+    // What is read can be written.
+    ensures lawful { IfOk result (λ node. IsLawfulNode dim node) }
     // What is spelled so is read, unless memory runs out.
     ensures only { (node : Node) → SpellsNode dim page.now node → (result ≡ Ok node) ⊎ (result ≡ Err NodeFault.Memory) }
     ensures fault { IfErr result (λ fault. (fault ≡ NodeFault.Memory) ⊎ (node_fault dim page.now ≡ Some fault)) }

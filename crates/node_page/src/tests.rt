@@ -1,6 +1,6 @@
 use crate::{
     Head, HeadFault, NodeFault, Slot, decode_head, decode_node, decode_slot, encode_head,
-    encode_slot,
+    encode_node, encode_slot,
 };
 use std::test::Fail;
 use tree_shape::Node;
@@ -134,5 +134,18 @@ fn a_leaf_is_read_or_refused_for_its_first_fault(rt: HostRuntime) -> Result<(), 
         page[*at] = *byte;
         assert_eq!(rt; decode_node(rt.alloc(), &page, 2).err(), Some(*fault));
     }
+    Ok(())
+}
+
+#[test]
+fn a_leaf_that_was_read_is_written_again(rt: HostRuntime) -> Result<(), Fail> {
+    let mut page = [0u8; 4096];
+    page[3] = 1;
+    page[39] = 3;
+    page[43] = 4;
+    let node = decode_node(rt.alloc(), &page, 2).ok().ok_or("a leaf")?;
+    let mut written = [0xffu8; 4096];
+    encode_node(&node, 2, &mut written);
+    assert_eq!(rt; written, page);
     Ok(())
 }
