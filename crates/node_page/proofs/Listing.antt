@@ -1,0 +1,90 @@
+-- Entries one after the other.
+use Rattle.std.proofs.Common.{◌≡◌, inl, inr, ℕ, zero, suc, ◌+◌, ◌*◌, ◌/◌, ◌<◌, ◌≤◌, ◌&&◌, ◌||◌, nat_le, nat_lt, Result, Ok, Err, IfOk, Bool, true, false, List, [], ◌∷◌, ◌++◌, length, take, get_or, refl, sym, ◌∙◌, ap, arith, length-append, mul-le-mul_left}
+use Rattle.std.proofs.lemmas.Bool.{cases_lt, leb-true}
+use Rattle.std.proofs.lemmas.List.{ext_get_or, length-take-le, get_or-take, get_or_append_left, get_or-append-add}
+use Rattle.std.proofs.Math.Nat.{mul-div-le}
+use Rattle.tree_shape.specs.Fill.{most_for}
+use Rattle.node_page.specs.Nodes.{firsts, all_of, place_of, is_count}
+
+-- one more
+pub firsts_more : {E : Type 0} (f : ℕ → E) (n : ℕ) → firsts f (n + 1) ≡ firsts f n ++ f n ∷ []
+unfolding firsts
+firsts_more f n = ap (firsts f) (let e : n + 1 ≡ suc n = omega arith in e)
+
+pub firsts_none : {E : Type 0} (f : ℕ → E) → firsts f 0 ≡ []
+unfolding firsts
+firsts_none f = refl
+
+pub length-firsts : {E : Type 0} (f : ℕ → E) (n : ℕ) → length (firsts f n) ≡ n
+unfolding firsts
+length-firsts f zero = refl
+length-firsts f (suc n) = length-append (firsts f n) (f n ∷ []) ∙ omega (arith, length-firsts f n)
+
+pub place-firsts : {E : Type 0} (f : ℕ → E) (n k : ℕ) (d : E) → k < n → get_or (firsts f n) k d ≡ f k
+unfolding firsts
+place-firsts f zero k d below = absurd (let e : ⊥ = omega arith in e)
+place-firsts f (suc n) k d below = elim (cases_lt k n) [
+  | inl lt ↦ get_or_append_left (firsts f n) (f n ∷ []) d k (omega (arith, length-firsts f n)) ∙ place-firsts f n k d lt
+  | inr le ↦
+      (let e : k ≡ length (firsts f n) + 0 = omega (arith, length-firsts f n) in
+      let last : n ≡ k = omega arith in
+      ap (λ (m : ℕ). get_or (firsts f n ++ f n ∷ []) m d) e ∙ get_or-append-add (firsts f n) (f n ∷ []) 0 d ∙ ap f last)
+]
+
+-- the front of a list whose places are known
+pub firsts_by : (f : ℕ → ℕ) (n : ℕ) (xs : List ℕ) → n ≤ length xs → ((k : ℕ) → k < n → get_or xs k 0 ≡ f k) → take n xs ≡ firsts f n
+firsts_by f n xs within places =
+    ext_get_or 0 (take n xs) (firsts f n) (length-take-le n xs within ∙ sym (length-firsts f n)) (λ k below. same k (omega (arith, below, length-take-le n xs within)))
+  where
+    same : (k : ℕ) → k < n → get_or (take n xs) k 0 ≡ get_or (firsts f n) k 0
+    same k below = get_or-take n xs k 0 below ∙ places k below ∙ sym (place-firsts f n k 0 below)
+
+-- one more that holds
+pub all_more : (f : ℕ → Bool) (n : ℕ) → all_of f n ≡ true → f n ≡ true → all_of f (n + 1) ≡ true
+unfolding all_of
+all_more f n so_far here = ap (all_of f) (let e : n + 1 ≡ suc n = omega arith in e) ∙ rw (so_far, here) refl
+
+pub all_none : (f : ℕ → Bool) → all_of f 0 ≡ true
+unfolding all_of
+all_none f = refl
+
+-- one that fails
+pub not_all : (f : ℕ → Bool) (n k : ℕ) → k < n → f k ≡ false → all_of f n ≡ false
+unfolding all_of
+not_all f zero k below fails = absurd (let e : ⊥ = omega arith in e)
+not_all f (suc n) k below fails = elim (cases_lt k n) [
+  | inl lt ↦ rw (not_all f n k lt fails) refl
+  | inr le ↦ (let e : n ≡ k = omega arith in and_false (all_of f n) (f n) (ap f e ∙ fails))
+]
+  where
+    and_false : (a b : Bool) → b ≡ false → (a && b) ≡ false
+    and_false true b is = is
+    and_false false b is = refl
+
+-- as many entries as a node may have end within the page
+pub within_page : (dim i : ℕ) → i ≤ most_for dim → place_of dim i ≤ 4096
+within_page dim i few =
+    let quotient = mul-div-le 4080 (20 + 4 * dim) in
+    let most : most_for dim ≤ 4080 / (20 + 4 * dim) = omega arith in
+    let product : (20 + 4 * dim) * i ≤ (20 + 4 * dim) * (4080 / (20 + 4 * dim)) = mul-le-mul_left (20 + 4 * dim) (omega arith) in
+    omega (arith, quotient, product)
+
+-- an entry before that lies within the page
+pub entry_within : (dim i count : ℕ) → i < count → count ≤ most_for dim → place_of dim i + 20 + 4 * dim ≤ 4096
+entry_within dim i count below few =
+    let next = within_page dim (i + 1) (omega arith) in
+    omega (arith, next)
+
+first_test : (a b : Bool) → (a && b) ≡ true → a ≡ true
+first_test true b is = refl
+first_test false b is = is
+
+-- a number of entries that a node may have is at most the most
+pub count_few : (dim : ℕ) (leaf : Bool) (count : ℕ) → is_count dim leaf count ≡ true → count ≤ most_for dim
+unfolding is_count
+count_few dim leaf count is = leb-true count (most_for dim) (first_test (nat_le count (most_for dim)) (leaf || nat_lt 0 count) is)
+
+-- what holds of an `Ok` implies more
+pub if_ok : {A E : Type 0} (r : Result A E) (P Q : A → Type 0) → IfOk r P → ((x : A) → P x → Q x) → IfOk r Q
+if_ok (Ok x) P Q p implies = implies x p
+if_ok (Err e) P Q p implies = p

@@ -1,0 +1,18 @@
+//! The head, the slots and the nodes of an index file as pages of 4096 bytes. All numbers are big-endian, and a byte that
+//! no field takes is 0.
+#![tactic(auto)]
+
+mod bytes;
+mod head;
+pub mod laws;
+mod node;
+mod slot;
+mod writing;
+
+pub use head::{Head, HeadFault, decode_head, encode_head};
+pub use node::{NodeFault, decode_node};
+pub use slot::{Slot, decode_slot, encode_slot};
+pub use writing::encode_node;
+
+#[cfg(test)]
+mod tests;

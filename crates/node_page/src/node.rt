@@ -1,0 +1,240 @@
+ghost use Rattle.std.specs.Prelude.{◌≡◌, ◌≢◌, ◌⊎◌, ◌+◌, ◌*◌, ◌≤◌, ◌<◌, ◌==◌, length, IfOk, IfErr, Ok, Err, Some, None, slice_index};
+ghost use Rattle.tree_shape.specs.Fill.{most_for};
+ghost use Rattle.node_page.specs.Nodes.{SpellsNode, IsLawfulNode, firsts, point_at, leaf_at, inner_at, place_of, count_of, near_at, are_near, is_count, is_rest_zero, node_fault, node_of};
+
+use crate::bytes::{are_zero, get_u16, get_u32, get_u64};
+use metric_laws::{BOUND, Listed, Point};
+use std::alloc::{AllocError, Global};
+use thiserror::Error;
+use tree_shape::{InnerEntry, LeafEntry, Node, fill};
+
+/// Why there is no node of a page.
+#[derive(Clone, Copy, Debug, PartialEq, Eq, Error)]
+pub enum NodeFault {
+    /// The level is above 14.
+    #[error("a node of no known level")]
+    Kind,
+    /// There are more entries than a node may have, or none in an inner node.
+    #[error("a node with too many entries or too few")]
+    Count,
+    /// A distance is above the bound of all distances.
+    #[error("a node with a distance out of range")]
+    Distance,
+    /// A byte that no field takes is not 0.
+    #[error("a node with more in it than its fields")]
+    Tail,
+    /// There was no memory for the node.
+    #[error("out of memory")]
+    Memory,
+}
+
+/// The bytes before the first entry.
+const ENTRIES: usize = 16;
+
+/// The bytes of an entry besides its coordinates.
+const FIELDS: usize = 20;
+
+// The place of an entry.
+pub fn place_of(dim: u8, index: usize) -> usize
+    requires few { dim ≤ 64 }
+    requires small { index ≤ 32 }
+    ensures { result ≡ place_of dim index }
+{
+    ENTRIES + (FIELDS + 4 * usize::from(dim)) * index
+}
+
+// Whether the distances of an entry are within the bound.
+#[tactic(auto, unfolding(crate::specs::Nodes::near_at))]
+fn is_near(page: &[u8; 4096], at: usize, leaf: bool) -> bool
+    requires { at + 20 ≤ 4096 }
+    ensures { result ≡ near_at leaf page.now at }
+{
+    get_u64(page, at + 12) <= BOUND && (leaf || get_u64(page, at + 4) <= BOUND)
+}
+
+// Whether the distances of so many entries are within the bound.
+fn are_near(page: &[u8; 4096], dim: u8, leaf: bool, count: usize) -> bool
+    requires few { dim ≤ 64 }
+    requires most { count ≤ most_for dim }
+    ensures { result ≡ are_near dim leaf page.now count }
+{
+    for index in 0..count {
+        if !is_near(page, place_of(dim, index), leaf) {
+            return false;
+        }
+    }
+    true
+}
+
+// Whether a node may have so many entries.
+#[tactic(auto, unfolding(crate::specs::Nodes::is_count))]
+fn is_count(dim: u8, leaf: bool, count: usize) -> bool
+    requires some { 1 ≤ dim }
+    requires few { dim ≤ 64 }
+    ensures { result ≡ is_count dim leaf count }
+{
+    count <= fill(dim).most && (leaf || count > 0)
+}
+
+// The number of entries that a page tells.
+#[tactic(auto, unfolding(crate::specs::Nodes::count_of))]
+fn count_of(page: &[u8; 4096]) -> usize
+    ensures { result ≡ count_of page.now }
+{
+    usize::from(get_u16(page, 2))
+}
+
+// Whether each byte that no field takes is 0.
+#[tactic(auto, unfolding(crate::specs::Nodes::is_rest_zero))]
+fn is_rest_zero(page: &[u8; 4096], dim: u8, count: usize) -> bool
+    requires few { dim ≤ 64 }
+    requires most { count ≤ most_for dim }
+    ensures { result ≡ is_rest_zero dim page.now count }
+{
+    are_zero(page, 1, 2) && are_zero(page, 4, 16) && are_zero(page, place_of(dim, count), 4096)
+}
+
+// The first fault of a page.
+#[tactic(auto, unfolding(crate::specs::Nodes::node_fault))]
+fn fault_of(page: &[u8; 4096], dim: u8) -> Option<NodeFault>
+    requires some { 1 ≤ dim }
+    requires few { dim ≤ 64 }
+    ensures { result ≡ node_fault dim page.now }
+{
+    if page[0] > 14 {
+        return Some(NodeFault::Kind);
+    }
+    let leaf = page[0] == 0;
+    let count = count_of(page);
+    if !is_count(dim, leaf, count) {
+        return Some(NodeFault::Count);
+    }
+    if !are_near(page, dim, leaf, count) {
+        return Some(NodeFault::Distance);
+    }
+    if !is_rest_zero(page, dim, count) {
+        return Some(NodeFault::Tail);
+    }
+    None
+}
+
+// The coordinates from a place on.
+fn point_at(alloc: Global, page: &[u8; 4096], at: usize, dim: u8) -> Result<Point, AllocError>
+    requires few { dim ≤ 64 }
+    requires within { at + 4 * dim ≤ 4096 }
+    ensures { IfOk result (λ p. p ≡ point_at dim page.now at) }
+{
+    let dim = usize::from(dim);
+    let mut coordinates = [0u32; 64];
+    for place in 0..dim {
+        coordinates[place] = get_u32(page, at + 4 * place);
+    }
+    Point::new(alloc, &coordinates[..dim])
+}
+
+// The leaf entry from a place on.
+#[tactic(auto, unfolding(crate::specs::Nodes::leaf_at))]
+fn leaf_at(alloc: Global, page: &[u8; 4096], at: usize, dim: u8) -> Result<LeafEntry, AllocError>
+    requires few { dim ≤ 64 }
+    requires within { at + 20 + 4 * dim ≤ 4096 }
+    ensures { IfOk result (λ e. e ≡ leaf_at dim page.now at) }
+{
+    Ok(LeafEntry {
+        id: get_u32(page, at),
+        tag: get_u64(page, at + 4),
+        parent: get_u64(page, at + 12),
+        point: point_at(alloc, page, at + 20, dim)?,
+    })
+}
+
+// The inner entry from a place on.
+#[tactic(auto, unfolding(crate::specs::Nodes::inner_at))]
+fn inner_at(alloc: Global, page: &[u8; 4096], at: usize, dim: u8) -> Result<InnerEntry, AllocError>
+    requires few { dim ≤ 64 }
+    requires within { at + 20 + 4 * dim ≤ 4096 }
+    ensures { IfOk result (λ e. e ≡ inner_at dim page.now at) }
+{
+    Ok(InnerEntry {
+        child: get_u32(page, at),
+        radius: get_u64(page, at + 4),
+        parent: get_u64(page, at + 12),
+        point: point_at(alloc, page, at + 20, dim)?,
+    })
+}
+
+// The entries of a leaf.
+fn leaf_entries(
+    alloc: Global,
+    page: &[u8; 4096],
+    dim: u8,
+    count: usize,
+) -> Result<Listed<LeafEntry>, AllocError>
+    requires few { dim ≤ 64 }
+    requires most { count ≤ most_for dim }
+    ensures { IfOk result (λ es. es ≡ firsts (λ i. leaf_at dim page.now (place_of dim i)) count) }
+{
+    let mut entries = Vec::with_capacity(alloc, count)?;
+    for index in 0..count {
+        entries.push(leaf_at(alloc, page, place_of(dim, index), dim)?)?;
+    }
+    Ok(Listed::new(entries))
+}
+
+// The entries of an inner node.
+fn inner_entries(
+    alloc: Global,
+    page: &[u8; 4096],
+    dim: u8,
+    count: usize,
+) -> Result<Listed<InnerEntry>, AllocError>
+    requires few { dim ≤ 64 }
+    requires most { count ≤ most_for dim }
+    ensures { IfOk result (λ es. es ≡ firsts (λ i. inner_at dim page.now (place_of dim i)) count) }
+{
+    let mut entries = Vec::with_capacity(alloc, count)?;
+    for index in 0..count {
+        entries.push(inner_at(alloc, page, place_of(dim, index), dim)?)?;
+    }
+    Ok(Listed::new(entries))
+}
+
+// The node of a page.
+#[tactic(auto, unfolding(crate::specs::Nodes::node_of))]
+fn node_of(alloc: Global, page: &[u8; 4096], dim: u8) -> Result<Node, AllocError>
+    requires few { dim ≤ 64 }
+    requires most { count_of page.now ≤ most_for dim }
+    ensures { IfOk result (λ node. node ≡ node_of dim page.now) }
+{
+    let count = count_of(page);
+    let level = page[0];
+    if level == 0 {
+        return Ok(Node::Leaf(leaf_entries(alloc, page, dim, count)?));
+    }
+    Ok(Node::Inner {
+        level,
+        entries: inner_entries(alloc, page, dim, count)?,
+    })
+}
+
+/// Reads a node over points of `dim` coordinates from a page of a file of version 2, or names the first fault in the
+/// order of `NodeFault`. A page of zeros is an empty leaf.
+pub fn decode_node(alloc: Global, page: &[u8; 4096], dim: u8) -> Result<Node, NodeFault>
+    requires some { 1 ≤ dim }
+    requires few { dim ≤ 64 }
+    // What is read is spelled so.
+    ensures ok { IfOk result (λ node. SpellsNode dim page.now node) }
+    // What is read can be written.
+    ensures lawful { IfOk result (λ node. IsLawfulNode dim node) }
+    // What is spelled so is read, unless memory runs out.
+    ensures only { (node : Node) → SpellsNode dim page.now node → (result ≡ Ok node) ⊎ (result ≡ Err NodeFault.Memory) }
+    ensures fault { IfErr result (λ fault. (fault ≡ NodeFault.Memory) ⊎ (node_fault dim page.now ≡ Some fault)) }
+    ensures memory { IfErr result (λ fault. fault ≡ NodeFault.Memory → node_fault dim page.now ≡ None) }
+{
+    if let Some(fault) = fault_of(page, dim) {
+        return Err(fault);
+    }
+    match node_of(alloc, page, dim) {
+        Ok(node) => Ok(node),
+        Err(_) => Err(NodeFault::Memory),
+    }
+}
