@@ -1,0 +1,42 @@
+-- Which logs have a spelling.
+use Rattle.std.specs.Prelude.{◌≡◌, ◌⊎◌, ℕ, ◌^◌, ◌<◌, ◌≤◌, List, length}
+use Rattle.std.specs.List.{AllByRecursion}
+use Rattle.scan_model.specs.declared.hit.Pair.{Pair}
+use Rattle.scan_model.specs.declared.query.Query.{Query}
+use Rattle.scan_model.specs.declared.query.Query.TheVariants.{Range, Nearest}
+use Rattle.scan_model.specs.Laws.{Ascends, HitBefore}
+use Rattle.log_model.specs.declared.logs.Log.{Log}
+use Rattle.log_model.specs.declared.logs.JoinLog.{JoinLog}
+
+-- the query's point
+abbrev pub query_point : Query → List ℕ
+query_point (Range q r) = q
+query_point (Nearest q k) = q
+
+-- a point of 1 to 64 coordinates; of nearest objects at least one is asked for
+pub record IsLawfulPoint (q : List ℕ) : Type 0 where
+  pub some : 1 ≤ length q
+  pub few : length q ≤ 64
+
+abbrev pub IsLawfulQuery : Query → Type 0
+IsLawfulQuery (Range q r) = IsLawfulPoint q
+IsLawfulQuery (Nearest q k) = IsLawfulPoint q × (1 ≤ k)
+
+-- a log that has a spelling: its answers ascend by distance and id, and each number of things has its room
+pub record IsLawfulLog (log : Log) : Type 0 where
+  pub query : IsLawfulQuery log.query
+  pub answers_ascend : Ascends HitBefore log.answers
+  pub few_answers : length log.answers < 2 ^ 32
+  pub few_records : length log.records < 2 ^ 32
+  pub few_marks : AllByRecursion (λ r. length r.marks ≤ 32) log.records
+
+-- by the left id, then by the right, then by the distance
+abbrev pub JoinedBefore : Pair → Pair → Type 0
+JoinedBefore a b = (a.left < b.left) ⊎ ((a.left ≡ b.left) × ((a.right < b.right) ⊎ ((a.right ≡ b.right) × (a.dist < b.dist))))
+
+-- a join's log that has a spelling
+pub record IsLawfulJoinLog (log : JoinLog) : Type 0 where
+  pub answers_ascend : Ascends JoinedBefore log.answers
+  pub few_answers : length log.answers < 2 ^ 64
+  pub few_records : length log.records < 2 ^ 64
+  pub few_marks : AllByRecursion (λ r. length r.marks ≤ 32) log.records
