@@ -225,6 +225,8 @@ pub fn decode_node(alloc: Global, page: &[u8; 4096], dim: u8) -> Result<Node, No
     ensures ok { IfOk result (λ node. SpellsNode dim page.now node) }
     // What is read can be written.
     ensures lawful { IfOk result (λ node. IsLawfulNode dim node) }
+    // What is read is the page's node, and the page has no fault.
+    ensures told { IfOk result (λ node. (node_fault dim page.now ≡ None) × (node ≡ node_of dim page.now)) }
     // What is spelled so is read, unless memory runs out.
     ensures only { (node : Node) → SpellsNode dim page.now node → (result ≡ Ok node) ⊎ (result ≡ Err NodeFault.Memory) }
     ensures fault { IfErr result (λ fault. (fault ≡ NodeFault.Memory) ⊎ (node_fault dim page.now ≡ Some fault)) }
