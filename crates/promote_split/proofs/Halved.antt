@@ -1,8 +1,8 @@
 -- A split by the table is the split of the rules, and both groups have their least.
-use Rattle.std.proofs.Common.{◌≡◌, ◌≢◌, ℕ, zero, suc, ◌+◌, ◌*◌, ◌<◌, ◌≤◌, Bool, true, false, List, [], ◌∷◌, refl, sym, ap, arith, ◌∙◌, length, map, subst}
+use Rattle.std.proofs.Common.{◌≡◌, ◌≢◌, ℕ, ◌+◌, ◌*◌, ◌<◌, ◌≤◌, Bool, true, false, List, [], ◌∷◌, refl, sym, ap, arith, ◌∙◌, length, map, subst}
 use Rattle.std.specs.Prelude.{if◌then◌else◌}
 use Rattle.metric_laws.specs.Space.{Space}
-use Rattle.tree_shape.specs.Dealing.{Ball, Table, size, row, table_of, is_on, count_on, members, partitioned, promoted, split_of, point_at, IsPair}
+use Rattle.tree_shape.specs.Dealing.{Ball, Table, size, table_of, is_on, count_on, members, partitioned, promoted, point_at, IsPair}
 use Rattle.tree_shape.specs.Insertion.{taken, left}
 use Rattle.tree_shape.specs.Splits.{IsFairPartition}
 use Rattle.tree_shape.specs.declared.rules.Side.{Side}
@@ -12,10 +12,9 @@ use Rattle.tree_shape.proofs.Lawful.{taken_tally, left_tally}
 use Rattle.tree_shape.proofs.Kept.{parts_long}
 use Rattle.tree_shape.proofs.Parted.{partition_is_fair}
 use Rattle.tree_shape.proofs.TableRows.{row_of_table, length_map}
-use Rattle.promote_split.specs.declared.halves.Half.{Half}
 use Rattle.promote_split.specs.declared.halves.Halves.{Halves}
 use Rattle.promote_split.specs.Steps.{half_entries}
-use Rattle.promote_split.specs.Halves.{IsHalfBy, IsSplitBy, IsHalf, IsSplit}
+use Rattle.promote_split.specs.Halves.{IsSplitBy, IsSplit}
 
 -- as many places on a side as entries
 pub members_count : (on : Side) (ss : List Side) → length (members on ss) ≡ count_on on ss
@@ -57,20 +56,31 @@ half_left set ball g (Open ∷ sides) (e ∷ es) long none = absurd (omega arith
 pub split_is : {E : Type 0} (s : Space) (ball : E → Ball) (set : E → ℕ → E) (promote split least : ℕ) (es : List E) (h : Halves E) → 1 ≤ least → 2 * least ≤ length es →
     IsPair (length es) (promoted (table_of s (map ball es)) promote split least) →
     IsSplitBy ball set (table_of s (map ball es)) promote split least es h → IsSplit s ball set promote split least es h
-split_is {E} s ball set promote split least es h some room pair by =
-    (record { point_is = by.0.point_is; radius_is = by.0.radius_is;
-              entries_are = by.0.entries_are ∙ ap (λ (ds : List ℕ). half_entries set First ds sides es) (row_of_table s bs p.0 (let m = length_map ball es in let l = pair.0 in let h = pair.1 in omega arith)) ∙ half_taken set ball (λ q. s.dist q.0 (point_at bs p.0)) First sides es },
-     record { point_is = by.1.point_is; radius_is = by.1.radius_is;
-              entries_are = by.1.entries_are ∙ ap (λ (ds : List ℕ). half_entries set Second ds sides es) (row_of_table s bs p.1 (let m = length_map ball es in let h = pair.1 in omega arith)) ∙ half_left set ball (λ q. s.dist q.0 (point_at bs p.1)) sides es (f.holds.long ∙ n) f.none_open })
+split_is {E} s ball set promote split least es h some room pair by = (
+  record {
+    point_is = by.0.point_is;
+    radius_is = by.0.radius_is;
+    entries_are = by.0.entries_are ∙ ap (λ (ds : List ℕ). half_entries set First ds sides es) (row_of_table s bs p.0 (let m = length_map ball es in let l = pair.0 in let h = pair.1 in omega arith)) ∙ half_taken set ball (λ q. s.dist q.0 (point_at bs p.0)) First sides es;
+  },
+  record {
+    point_is = by.1.point_is;
+    radius_is = by.1.radius_is;
+    entries_are = by.1.entries_are ∙ ap (λ (ds : List ℕ). half_entries set Second ds sides es) (row_of_table s bs p.1 (let m = length_map ball es in let h = pair.1 in omega arith)) ∙ half_left set ball (λ q. s.dist q.0 (point_at bs p.1)) sides es (f.holds.long ∙ n) f.none_open;
+  },
+)
   where
     bs : List Ball
     bs = map ball es
+
     p : ℕ × ℕ
     p = promoted (table_of s (map ball es)) promote split least
+
     sides : List Side
     sides = partitioned (table_of s (map ball es)) (promoted (table_of s (map ball es)) promote split least).0 (promoted (table_of s (map ball es)) promote split least).1 split least
+
     n : size (table_of s (map ball es)) ≡ length es
     n = length_map (λ (b : Ball). b.1) (map ball es) ∙ length_map ball es
+
     f : IsFair (size (table_of s (map ball es))) (promoted (table_of s (map ball es)) promote split least).0 (promoted (table_of s (map ball es)) promote split least).1 least
         (partitioned (table_of s (map ball es)) (promoted (table_of s (map ball es)) promote split least).0 (promoted (table_of s (map ball es)) promote split least).1 split least)
     f = fair (table_of s (map ball es)) (promoted (table_of s (map ball es)) promote split least).0 (promoted (table_of s (map ball es)) promote split least).1 split least
@@ -88,7 +98,7 @@ pub split_at_table : {E : Type 0} (s : Space) (ball : E → Ball) (set : E → �
     IsSplitBy ball set t promote split least es h → IsSplit s ball set promote split least es h
 split_at_table s ball set promote split least es fs t h some room same is pair by =
     split_is s ball set promote split least es h some room (pair_at_table s ball promote split least es fs t same is pair)
-        (subst (λ (u : Table). IsSplitBy ball set u promote split least es h) (is ∙ ap (λ (gs : List _). table_of s (map ball gs)) same) by)
+    (subst (λ (u : Table). IsSplitBy ball set u promote split least es h) (is ∙ ap (λ (gs : List _). table_of s (map ball gs)) same) by)
 
 -- each half has its least, and the halves have all entries
 pub shares : {E : Type 0} (s : Space) (ball : E → Ball) (set : E → ℕ → E) (promote split least : ℕ) (es : List E) (h : Halves E) → 1 ≤ least → 2 * least ≤ length es →
@@ -104,8 +114,10 @@ shares {E} s ball set promote split least es h some room pair is =
   where
     sides : List Side
     sides = partitioned (table_of s (map ball es)) (promoted (table_of s (map ball es)) promote split least).0 (promoted (table_of s (map ball es)) promote split least).1 split least
+
     n : size (table_of s (map ball es)) ≡ length es
     n = length_map (λ (b : Ball). b.1) (map ball es) ∙ length_map ball es
+
     f : IsFair (size (table_of s (map ball es))) (promoted (table_of s (map ball es)) promote split least).0 (promoted (table_of s (map ball es)) promote split least).1 least
         (partitioned (table_of s (map ball es)) (promoted (table_of s (map ball es)) promote split least).0 (promoted (table_of s (map ball es)) promote split least).1 split least)
     f = fair (table_of s (map ball es)) (promoted (table_of s (map ball es)) promote split least).0 (promoted (table_of s (map ball es)) promote split least).1 split least

@@ -1,8 +1,8 @@
 -- Steps of the loops.
-use Rattle.std.proofs.Common.{◌≡◌, ℕ, zero, suc, ◌+◌, ◌-◌, ◌<◌, ◌≤◌, Bool, true, false, cond, List, [], ◌∷◌, ◌++◌, refl, sym, ap, arith, ◌∙◌, length, sub-one, subst, ◌*◌, drop, map, append_assoc, get_or, drop-cons, add-one}
+use Rattle.std.proofs.Common.{◌≡◌, ℕ, zero, suc, ◌+◌, ◌-◌, ◌<◌, ◌≤◌, Bool, true, false, cond, List, [], ◌∷◌, ◌++◌, refl, sym, ap, arith, ◌∙◌, length, ◌*◌, drop, map, append_assoc, get_or, drop-cons, add-one}
 use Rattle.metric_laws.specs.Space.{Space}
 use Rattle.std.specs.Prelude.{filter, Option, Some, None, if◌then◌else◌, nat_lt, max}
-use Rattle.std.specs.List.{range_with_len, flat_map}
+use Rattle.std.specs.List.{range_with_len, flat_map, AllByRecursion}
 use Rattle.tree_shape.specs.declared.rules.Side.{Side}
 use Rattle.tree_shape.specs.Dealing.{Ball, is_on, first_least, least_from, in_turn, greatest, pairs, pairs_with, or_pair}
 use Rattle.promote_split.specs.Steps.{kept, kept_if, later, half_entries}
@@ -32,7 +32,7 @@ pub row_more : {E : Type 0} (s t : Space) (ball : E → Ball) (es : List E) (i :
     new ++ flat_map (λ (p : Ball). map (λ (q : Ball). t.dist q.0 p.0) (map ball es)) (map ball (drop (i + 1) es)) ≡ whole
 row_more s t ball es i e p old new whole next same point is before =
     rw (is, same, point) (append_assoc old (map (λ (q : Ball). t.dist q.0 (ball e).0) (map ball es)) (flat_map (λ (p : Ball). map (λ (q : Ball). t.dist q.0 p.0) (map ball es)) (map ball (drop (i + 1) es)))
-        ∙ (rw next at before))
+    ∙ (rw next at before))
 
 pub item_next : {E : Type 0} (es : List E) (i : ℕ) (e : E) → i < length es → e ≡ get_or es i e → drop i es ≡ e ∷ drop (i + 1) es
 item_next es i e low is = rw add-one (drop-cons es i e low ∙ ap (λ (x : _). x ∷ drop (suc i) es) (sym is))
@@ -61,7 +61,7 @@ pub greatest_more : (f : ℕ → ℕ) (p : ℕ → Bool) (i n old new whole : �
     max old (greatest (map f (filter p (range_with_len i (n - i))))) ≡ whole → max new (greatest (map f (filter p (range_with_len (i + 1) (n - (i + 1)))))) ≡ whole
 greatest_more f p i n old new whole low is before =
     rw is (cases (p i) (greatest (map f (filter p (range_with_len (i + 1) (n - (i + 1)))))) (λ b. greatest (map f (cond b (i ∷ filter p (range_with_len (i + 1) (n - (i + 1)))) (filter p (range_with_len (i + 1) (n - (i + 1))))))) refl refl
-        ∙ ap (λ (xs : List ℕ). max old (greatest (map f (filter p xs)))) (sym (range_more i n low)) ∙ before)
+    ∙ ap (λ (xs : List ℕ). max old (greatest (map f (filter p xs)))) (sym (range_more i n low)) ∙ before)
   where
     cases : (b : Bool) (rest : ℕ) (all : Bool → ℕ) → all true ≡ max (f i) rest → all false ≡ rest → max (if b then max old (f i) else old) rest ≡ max old (all b)
     cases true rest all t e = rw t (omega arith)
@@ -121,7 +121,7 @@ pub half_more : {E : Type 0} (set : E → ℕ → E) (on : Side) (ds : List ℕ)
     new ++ half_entries set on (drop (i + 1) ds) (drop (i + 1) sides) es ≡ whole
 half_more {E} set on ds sides z i e es all old new whole low low' next is before =
     rw is (cases (is_on on (get_or sides i z)) (half_entries set on (drop (i + 1) ds) (drop (i + 1) sides) es)
-        ∙ (let b = rw (next, drop_next ds i 0 low, drop_next sides i z low') at before in b))
+    ∙ (let b = rw (next, drop_next ds i 0 low, drop_next sides i z low') at before in b))
   where
     cases : (b : Bool) (rest : List E) → (if b then old ++ set e (get_or ds i 0) ∷ [] else old) ++ rest ≡ old ++ (if b then set e (get_or ds i 0) ∷ rest else rest)
     cases true rest = append_assoc old (set e (get_or ds i 0) ∷ []) rest
@@ -144,3 +144,7 @@ filter_more p i n old new whole low is before =
     cases : (b : Bool) (rest : List ℕ) → (if b then old ++ i ∷ [] else old) ++ rest ≡ old ++ cond b (i ∷ rest) rest
     cases true rest = append_assoc old (i ∷ []) rest
     cases false rest = refl
+
+pub all_of : {X : Type 0} (P : X → Type 0) (xs : List X) → ((x : X) → P x) → AllByRecursion P xs
+all_of P [] each = tt
+all_of P (x ∷ xs) each = (each x, all_of P xs each)

@@ -44,13 +44,7 @@ fn closer(row: &[u64], best: Option<usize>, i: usize) -> Option<usize>
     ensures low { IfSome result (λ j. j < length row.now) }
 {
     match best {
-        Some(j) => {
-            if row[i] < row[j] {
-                Some(i)
-            } else {
-                Some(j)
-            }
-        }
+        Some(j) => { if row[i] < row[j] { Some(i) } else { Some(j) } }
         None => Some(i),
     }
 }

@@ -47,7 +47,11 @@ fn push_row<R: Ruler, E: Entry>(
 
 impl Matrix {
     /// Measures the entries of a node of n entries, by n * n distances.
-    pub fn of<R: Ruler, E: Entry>(alloc: Global, ruler: &mut R, entries: &[E]) -> Result<Self, Memory>
+    pub fn of<R: Ruler, E: Entry>(
+        alloc: Global,
+        ruler: &mut R,
+        entries: &[E],
+    ) -> Result<Self, Memory>
         requires { AllByRecursion (λ e. (E.ball e).1 ≤ bound) entries.now }
         ensures metric { R.metric ruler.new ≡ R.metric ruler.old }
         ensures counted { OnOk result (HasCounted (length entries.now * length entries.now) (R.used ruler.old) (R.used ruler.new)) }

@@ -21,7 +21,13 @@ struct Groups<E: Entry> {
 }
 
 // Puts an entry at the end of its group.
-fn put<E: Entry>(mut entry: E, side: Side, first: u64, second: u64, groups: &mut Groups<E>) -> Result<(), Memory>
+fn put<E: Entry>(
+    mut entry: E,
+    side: Side,
+    first: u64,
+    second: u64,
+    groups: &mut Groups<E>,
+) -> Result<(), Memory>
     ensures first { OnOk result (groups.new.first.items ≡ (if is_on Side.First side then groups.old.first.items ++ E.with_parent entry first ∷ [] else groups.old.first.items)) }
     ensures second { OnOk result (groups.new.second.items ≡ (if is_on Side.Second side then groups.old.second.items ++ E.with_parent entry second ∷ [] else groups.old.second.items)) }
 {
@@ -40,7 +46,13 @@ fn put<E: Entry>(mut entry: E, side: Side, first: u64, second: u64, groups: &mut
 }
 
 // Parts the entries, which are handed in backward.
-fn part<E: Entry>(entries: &mut Vec<E>, sides: &[Side], first: &[u64], second: &[u64], groups: &mut Groups<E>) -> Result<(), Memory>
+fn part<E: Entry>(
+    entries: &mut Vec<E>,
+    sides: &[Side],
+    first: &[u64],
+    second: &[u64],
+    groups: &mut Groups<E>,
+) -> Result<(), Memory>
     requires sides { length sides.now ≡ length entries.old.items }
     requires first { length first.now ≡ length entries.old.items }
     requires second { length second.now ≡ length entries.old.items }
@@ -57,7 +69,13 @@ fn part<E: Entry>(entries: &mut Vec<E>, sides: &[Side], first: &[u64], second: &
 }
 
 // The entries on the sides, each half in the old order.
-fn groups_of<E: Entry>(alloc: Global, entries: Vec<E>, sides: &[Side], first: &[u64], second: &[u64]) -> Result<Groups<E>, Memory>
+fn groups_of<E: Entry>(
+    alloc: Global,
+    entries: Vec<E>,
+    sides: &[Side],
+    first: &[u64],
+    second: &[u64],
+) -> Result<Groups<E>, Memory>
     requires sides { length sides.now ≡ length entries.items }
     requires first { length first.now ≡ length entries.items }
     requires second { length second.now ≡ length entries.items }
@@ -75,7 +93,13 @@ fn groups_of<E: Entry>(alloc: Global, entries: Vec<E>, sides: &[Side], first: &[
 }
 
 // Splits a node by the table of its entries.
-fn split_by<E: Entry>(alloc: Global, matrix: &Matrix, entries: Vec<E>, policy: Policy, least: usize) -> Result<Halves<E>, Memory>
+fn split_by<E: Entry>(
+    alloc: Global,
+    matrix: &Matrix,
+    entries: Vec<E>,
+    policy: Policy,
+    least: usize,
+) -> Result<Halves<E>, Memory>
     requires two { 2 ≤ size matrix.now }
     requires long { length entries.items ≡ size matrix.now }
     ensures halves { IfOk result (λ h. IsSplitBy E.ball E.with_parent matrix.now policy.promote policy.split least entries.items h) }

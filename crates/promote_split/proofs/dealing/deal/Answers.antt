@@ -1,4 +1,4 @@
-use Rattle.std.proofs.Common.{◌≡◌, rules}
+use Rattle.std.proofs.Common.{rules}
 use Rattle.tree_shape.specs.declared.rules.Side.TheVariants.{Open}
 use Rattle.tree_shape.specs.Dealing.{size}
 use Rattle.tree_shape.specs.Dealing.{received}
@@ -11,5 +11,6 @@ loop-turn-preserved c = record {
   other = search rules;
   dealt = rw (c.swap.ensures.x_after, c.swap.ensures.y_after, c.swap-in-loop-turn.ensures.x_after, c.swap-in-loop-turn.ensures.y_after)
       (turn_next (size c.args.matrix.now) c.loop-turn._turn
-          (received c.args.matrix.now c.args.pair.a c.args.pair.b c.loop-turn.own Open c.loop-turn.side) (received c.args.matrix.now c.args.pair.a c.args.pair.b c.loop-turn.other Open c.loop-turn.next)
-          c.loop-turn.sides _ _ (search rules) c.receive.ensures c.loop-turn.invariant.dealt) }
+      (received c.args.matrix.now c.args.pair.a c.args.pair.b c.loop-turn.own Open c.loop-turn.side) (received c.args.matrix.now c.args.pair.a c.args.pair.b c.loop-turn.other Open c.loop-turn.next)
+      c.loop-turn.sides _ _ (search rules) c.receive.ensures c.loop-turn.invariant.dealt);
+}

@@ -9,4 +9,5 @@ loop-i-preserved c =
     let pushed : c.push.new.self.items ≡ c.loop-i.sides.items ++ nearer c.args.matrix.now c.args.pair.a c.args.pair.b c.loop-i.i ∷ [] = search rules in
     record {
       sides = map_more (nearer c.args.matrix.now c.args.pair.a c.args.pair.b) c.loop-i.i (size c.args.matrix.now) c.loop-i.sides.items _ _ (search rules) pushed c.loop-i.invariant.sides;
-      long = search rules }
+      long = search rules;
+    }

@@ -1,4 +1,4 @@
-use Rattle.std.proofs.Common.{◌≡◌, ◌≤◌, ◌-◌, ◌+◌, map, length}
+use Rattle.std.proofs.Common.{◌≡◌, ◌-◌, map}
 use Rattle.std.specs.List.{range_with_len}
 use Rattle.tree_shape.specs.Dealing.{size, least_from}
 use Rattle.tree_shape.specs.Dealing.{pair_cost, pairs_with, IsPair}

@@ -10,4 +10,5 @@ loop-i-preserved g c =
     record {
       rest = search rules;
       first = half_more g.E.Entry.with_parent First c.args.first.now c.args.sides.now _ c.loop-i.i c.in-Some.entry _ _ _ _ _ (search rules) (search rules) next c.in_ok-put.ensures.first c.loop-i.invariant.first;
-      second = half_more g.E.Entry.with_parent Second c.args.second.now c.args.sides.now _ c.loop-i.i c.in-Some.entry _ _ _ _ _ (search rules) (search rules) next c.in_ok-put.ensures.second c.loop-i.invariant.second }
+      second = half_more g.E.Entry.with_parent Second c.args.second.now c.args.sides.now _ c.loop-i.i c.in-Some.entry _ _ _ _ _ (search rules) (search rules) next c.in_ok-put.ensures.second c.loop-i.invariant.second;
+    }

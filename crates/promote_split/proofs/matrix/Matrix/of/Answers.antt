@@ -10,4 +10,5 @@ loop-center-preserved g c = record {
       (item_next c.args.entries.now c.loop-center.center-index c.center-item.result c.loop-center-test.true c.center-item.is)
       (ap g.R.M.Metric.space c.loop-center.invariant.metric) c.point.ensures c.in_ok-push_row.ensures.row c.loop-center.invariant.rows;
   square = square_more c.loop-center.center-index (length c.args.entries.now) (length c.loop-center.distances.items) _ c.loop-center.invariant.square c.in_ok-push_row.ensures.long;
-  within = search rules }
+  within = search rules;
+}

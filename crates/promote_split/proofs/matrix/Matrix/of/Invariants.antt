@@ -1,4 +1,4 @@
-use Rattle.std.proofs.Common.{◌≡◌, ◌++◌, ◌≤◌, ◌+◌, ◌*◌, map, drop, length}
+use Rattle.std.proofs.Common.{◌≡◌, ◌++◌, ◌≤◌, ◌*◌, map, drop, length}
 use Rattle.std.specs.List.{AllByRecursion, flat_map}
 use Rattle.metric_laws.specs.Space.{bound}
 use Rattle.tree_shape.specs.Dealing.{Ball}
