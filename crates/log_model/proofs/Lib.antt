@@ -6,3 +6,6 @@ pub mod Walk
 pub mod Least
 pub mod ByScan
 pub mod LeastLog
+pub mod JoinNames
+pub mod JoinScan
+pub mod JoinLeast

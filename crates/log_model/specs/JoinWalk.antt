@@ -1,5 +1,5 @@
 -- The walk of a join through two trees, and its marks.
-use Rattle.std.specs.Prelude.{◌≡◌, ℕ, ◌+◌, Bool, true, false, not, List, [], ◌∷◌, ◌++◌, map, filter, Option, Some, None, IsTrue, if◌then◌else◌, nat_lt, nat_le, ◌==◌, ◌&&◌}
+use Rattle.std.specs.Prelude.{◌≡◌, ℕ, ◌+◌, Bool, true, false, not, List, [], ◌∷◌, ◌++◌, map, filter, Option, Some, None, IsTrue, if◌then◌else◌, nat_lt, nat_le, ◌&&◌}
 use Rattle.std.specs.List.{AllZip}
 use Rattle.metric_laws.specs.Space.{Space}
 use Rattle.metric_laws.specs.Pruning.{pair_rules_out, parent_rules_out}
@@ -81,9 +81,17 @@ with_entry s n e =
     then record { left = n.left; right = e.item; apart = apart_of s (centre_of n.left) (centre_of e.item) }
     else record { left = e.item; right = n.right; apart = apart_of s (centre_of e.item) (centre_of n.right) }
 
+abbrev pub is_object : Item → Bool
+is_object (Subtree page rank centre radius) = false
+is_object (Object id point) = true
+
 -- two objects, which are an answer
 abbrev pub is_hit : JoinNeed → Bool
-is_hit n = (rank_of n.left == 0) && (rank_of n.right == 0)
+is_hit n = is_object n.left && is_object n.right
+
+-- a pair that has still to be opened
+abbrev pub is_need : JoinNeed → Bool
+is_need n = not (is_hit n)
 
 -- the pair test, the parent test and the radius itself, by a distance that is known where both items have a centre
 abbrev pub far_apart : Option ℕ → ℕ → ℕ → ℕ → Bool
@@ -131,7 +139,7 @@ abbrev pub near_pairs : JoinSearch → JoinNeed → Node → List Mark → List 
 near_pairs j n node marks = map (with_entry j.space n) (near_ones (entries_of node) marks)
 
 abbrev pub join_needs : JoinSearch → JoinNeed → Node → List Mark → List JoinNeed
-join_needs j n node marks = filter (λ m. not (is_hit m)) (near_pairs j n node marks)
+join_needs j n node marks = filter is_need (near_pairs j n node marks)
 
 abbrev pub dist_of : Option ℕ → ℕ
 dist_of None = 0
