@@ -2,3 +2,5 @@ pub mod Torn
 pub mod Apart
 pub mod Phases
 pub mod Run
+pub mod Opened
+pub mod Causes

@@ -2,6 +2,10 @@
 #![tactic(auto)]
 
 mod committing;
+mod faults;
+mod opening;
 
 pub use committing::commit;
+pub use faults::{CreateFault, OpenFault};
+pub use opening::{LAST_GENERATION, MOST_PAGES};
 
