@@ -9,6 +9,7 @@ mod node;
 mod slot;
 mod writing;
 
+pub use bytes::clear;
 pub use head::{Head, HeadFault, decode_head, encode_head};
 pub use node::{NodeFault, decode_node, decode_old_node};
 pub use slot::{Gate, Slot, decode_slot, encode_slot, read_gate};

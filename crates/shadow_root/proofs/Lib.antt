@@ -4,3 +4,4 @@ pub mod Phases
 pub mod Run
 pub mod Opened
 pub mod Causes
+pub mod Made

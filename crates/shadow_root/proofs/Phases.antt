@@ -232,7 +232,7 @@ fields_of_slot page live spells = record {
   rest = spells.rest;
 }
 
-slot_by_fields : (page : List ℕ) (live : Live) → HasFields page live → (slice_index page 0 == 165) ≡ true → SpellsSlot page (slot_of_live live)
+pub slot_by_fields : (page : List ℕ) (live : Live) → HasFields page live → (slice_index page 0 == 165) ≡ true → SpellsSlot page (slot_of_live live)
 slot_by_fields page live has is = record {
   gate = is;
   generation = has.generation;

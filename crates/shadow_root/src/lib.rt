@@ -3,9 +3,11 @@
 
 mod committing;
 mod faults;
+mod making;
 mod opening;
 
 pub use committing::commit;
 pub use faults::{CreateFault, OpenFault};
+pub use making::create;
 pub use opening::{LAST_GENERATION, MOST_PAGES};
 
