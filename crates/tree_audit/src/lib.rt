@@ -3,6 +3,7 @@
 
 mod faults;
 pub mod laws;
+mod met;
 mod walking;
 
 pub use faults::AuditFault;
