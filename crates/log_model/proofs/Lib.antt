@@ -9,3 +9,5 @@ pub mod LeastLog
 pub mod JoinNames
 pub mod JoinScan
 pub mod JoinLeast
+pub mod Sorting
+pub mod Examples

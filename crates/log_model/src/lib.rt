@@ -2,11 +2,16 @@
 //! of the plain scan.
 #![tactic(auto)]
 
+mod answering;
 pub mod laws;
 mod logs;
 mod marks;
 mod pairs;
 
+pub use answering::{put_hits_in_order, put_pairs_in_order, radius_of, select};
 pub use logs::{Found, JoinLog, Joined, Log};
 pub use marks::{JoinRecord, Mark, Need, Record};
 pub use pairs::{Item, JoinNeed};
+
+#[cfg(test)]
+mod tests;
