@@ -4,7 +4,9 @@ use Rattle.std.proofs.lemmas.Bool.{cases_lt, leb-true}
 use Rattle.std.proofs.lemmas.List.{ext_get_or, length-take-le, get_or-take, get_or_append_left, get_or-append-add}
 use Rattle.std.proofs.Math.Nat.{mul-div-le}
 use Rattle.tree_shape.specs.Fill.{most_for}
-use Rattle.node_page.specs.Nodes.{firsts, all_of, place_of, is_count}
+use Rattle.node_page.specs.declared.node.Version.{Version}
+use Rattle.node_page.specs.declared.node.Version.TheVariants.{First, Second}
+use Rattle.node_page.specs.Nodes.{firsts, all_of, parent_place, place_of, place_in, is_count}
 
 -- one more
 pub firsts_more : {E : Type 0} (f : ℕ → E) (n : ℕ) → firsts f (n + 1) ≡ firsts f n ++ f n ∷ []
@@ -61,19 +63,32 @@ not_all f (suc n) k below fails = elim (cases_lt k n) [
     and_false true b is = is
     and_false false b is = refl
 
--- as many entries as a node may have end within the page
-pub within_page : (dim i : ℕ) → i ≤ most_for dim → place_of dim i ≤ 4096
-within_page dim i few =
+-- as many entries of the second version as a node may have end within the page
+second_within : (dim i : ℕ) → i ≤ most_for dim → place_of dim i ≤ 4096
+second_within dim i few =
     let quotient = mul-div-le 4080 (20 + 4 * dim) in
     let most : most_for dim ≤ 4080 / (20 + 4 * dim) = omega arith in
     let product : (20 + 4 * dim) * i ≤ (20 + 4 * dim) * (4080 / (20 + 4 * dim)) = mul-le-mul_left (20 + 4 * dim) (omega arith) in
     omega (arith, quotient, product)
 
+-- an entry of the first version is no longer
+place_low : (version : Version) (leaf : Bool) (dim i : ℕ) → place_in version leaf dim i ≤ place_of dim i
+place_low First true dim i = omega arith
+place_low First false dim i = omega arith
+place_low Second leaf dim i = omega arith
+
+-- as many entries as a node may have end within the page
+pub within_page : (version : Version) (leaf : Bool) (dim i : ℕ) → i ≤ most_for dim → place_in version leaf dim i ≤ 4096
+within_page version leaf dim i few = omega (arith, second_within dim i few, place_low version leaf dim i)
+
 -- an entry before that lies within the page
-pub entry_within : (dim i count : ℕ) → i < count → count ≤ most_for dim → place_of dim i + 20 + 4 * dim ≤ 4096
-entry_within dim i count below few =
-    let next = within_page dim (i + 1) (omega arith) in
+pub entry_in : (version : Version) (leaf : Bool) (dim i count : ℕ) → i < count → count ≤ most_for dim → place_in version leaf dim i + (parent_place version leaf + 8) + 4 * dim ≤ 4096
+entry_in version leaf dim i count below few =
+    let next = within_page version leaf dim (i + 1) (omega arith) in
     omega (arith, next)
+
+pub entry_within : (dim i count : ℕ) → i < count → count ≤ most_for dim → place_of dim i + 20 + 4 * dim ≤ 4096
+entry_within dim i count below few = omega (arith, entry_in Second true dim i count below few)
 
 first_test : (a b : Bool) → (a && b) ≡ true → a ≡ true
 first_test true b is = refl

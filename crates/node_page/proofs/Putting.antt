@@ -6,7 +6,7 @@ use Rattle.std.proofs.lemmas.Bool.{cases_lt}
 use Rattle.tree_shape.specs.declared.entry.LeafEntry.{LeafEntry}
 use Rattle.tree_shape.specs.declared.entry.InnerEntry.{InnerEntry}
 use Rattle.node_page.specs.Bytes.{number_at}
-use Rattle.node_page.specs.Nodes.{firsts, point_at, leaf_at, inner_at, place_of}
+use Rattle.node_page.specs.Nodes.{firsts, point_at, leaf_in, leaf_at, inner_at, place_of}
 use Rattle.node_page.proofs.Numbers.{number_kept}
 use Rattle.node_page.proofs.Listing.{firsts_more}
 
@@ -33,7 +33,7 @@ point_same dim xs ys at same = firsts_same (λ j. number_at (at + 4 * j) 4 xs) (
     (λ j below. number_kept (at + 4 * j) 4 xs ys (λ k from to. same k (omega arith) (omega arith)))
 
 pub leaf_same : (dim : ℕ) (xs ys : List ℕ) (at : ℕ) → ((k : ℕ) → at ≤ k → k < at + 20 + 4 * dim → slice_index xs k ≡ slice_index ys k) → leaf_at dim xs at ≡ leaf_at dim ys at
-unfolding leaf_at
+unfolding leaf_in
 leaf_same dim xs ys at same = λ i. record {
   id = number_kept at 4 xs ys (λ k from to. same k (omega arith) (omega arith)) i;
   tag = number_kept (at + 4) 8 xs ys (λ k from to. same k (omega arith) (omega arith)) i;
@@ -53,7 +53,7 @@ inner_same dim xs ys at same = λ i. record {
 -- a leaf entry by its fields
 pub leaf_by : (dim : ℕ) (page : List ℕ) (at : ℕ) (entry : LeafEntry) → number_at at 4 page ≡ entry.id → number_at (at + 4) 8 page ≡ entry.tag → number_at (at + 12) 8 page ≡ entry.parent
     → point_at dim page (at + 20) ≡ entry.point → leaf_at dim page at ≡ entry
-unfolding leaf_at
+unfolding leaf_in
 leaf_by dim page at entry id tag parent point = λ i. record { id = id i; tag = tag i; parent = parent i; point = point i }
 
 -- an inner entry by its fields

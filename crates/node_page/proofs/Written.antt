@@ -1,11 +1,12 @@
 -- Pages that nodes were written into.
-use Rattle.std.proofs.Common.{◌≡◌, ◌⊎◌, inl, inr, ℕ, ◌<◌, ◌≤◌, List, [], ◌∷◌, length, slice_index, sym, ◌∙◌, arith}
+use Rattle.std.proofs.Common.{Bool, true, false, ◌≡◌, ◌⊎◌, inl, inr, ℕ, ◌<◌, ◌≤◌, List, [], ◌∷◌, length, slice_index, sym, ◌∙◌, arith}
 use Rattle.std.specs.List.{AllByRecursion}
 use Rattle.metric_laws.specs.Space.{bound}
 use Rattle.tree_shape.specs.Fill.{most_for}
 use Rattle.tree_shape.specs.declared.entry.LeafEntry.{LeafEntry}
 use Rattle.tree_shape.specs.declared.entry.InnerEntry.{InnerEntry}
 use Rattle.tree_shape.specs.declared.entry.Node.TheVariants.{Leaf, Inner}
+use Rattle.node_page.specs.declared.node.Version.TheVariants.{Second}
 use Rattle.node_page.specs.Bytes.{number_at}
 use Rattle.node_page.specs.Nodes.{firsts, leaf_at, inner_at, place_of, count_of, HasCount, SpellsNode}
 use Rattle.node_page.proofs.Numbers.{number_kept}
@@ -15,10 +16,10 @@ weaker P Q implies [] all = tt
 weaker P Q implies (x ∷ xs) all = (implies x all.0, weaker P Q implies xs all.1)
 
 -- the count and the rest of a page whose first byte may be anything
-has_count : (dim n : ℕ) (zeros counted new : List ℕ) → n ≤ most_for dim → ((k : ℕ) → 1 ≤ k → slice_index zeros k ≡ 0) → number_at 2 2 counted ≡ n
-    → ((k : ℕ) → (k < 2) ⊎ (4 ≤ k) → slice_index counted k ≡ slice_index zeros k) → ((k : ℕ) → (k < 16) ⊎ (place_of dim n ≤ k) → slice_index new k ≡ slice_index counted k) → HasCount dim new n
+has_count : (leaf : Bool) (dim n : ℕ) (zeros counted new : List ℕ) → n ≤ most_for dim → ((k : ℕ) → 1 ≤ k → slice_index zeros k ≡ 0) → number_at 2 2 counted ≡ n
+    → ((k : ℕ) → (k < 2) ⊎ (4 ≤ k) → slice_index counted k ≡ slice_index zeros k) → ((k : ℕ) → (k < 16) ⊎ (place_of dim n ≤ k) → slice_index new k ≡ slice_index counted k) → HasCount Second leaf dim new n
 unfolding count_of
-has_count dim n zeros counted new few zero told kept others = record {
+has_count leaf dim n zeros counted new few zero told kept others = record {
   told = number_kept 2 2 new counted (λ k from to. others k (inl (omega arith))) ∙ told;
   at_most = few;
   first = λ k from to. others k (inl (omega arith)) ∙ kept k (inl (omega arith)) ∙ zero k (omega arith);
@@ -32,7 +33,7 @@ pub leaf_written : (dim : ℕ) (zeros counted new : List ℕ) (es : List LeafEnt
     → firsts (λ i. leaf_at dim new (place_of dim i)) (length es) ≡ es → AllByRecursion (λ e. (length e.point ≡ dim) × (e.parent ≤ bound)) es → SpellsNode dim new (Leaf es)
 leaf_written dim zeros counted new es few zero told kept others are all = (
   others 0 (inl (omega arith)) ∙ kept 0 (inl (omega arith)) ∙ zero 0,
-  has_count dim (length es) zeros counted new few (λ k from. zero k) told kept others,
+  has_count true dim (length es) zeros counted new few (λ k from. zero k) told kept others,
   sym are,
   weaker (λ (e : LeafEntry). (length e.point ≡ dim) × (e.parent ≤ bound)) (λ (e : LeafEntry). e.parent ≤ bound) (λ e both. both.1) es all,
 )
@@ -46,7 +47,7 @@ inner_written dim level leveled counted new es low high some few is zero told ke
   others 0 (inl (omega arith)) ∙ kept 0 (inl (omega arith)) ∙ is,
   low,
   high,
-  has_count dim (length es) leveled counted new few zero told kept others,
+  has_count false dim (length es) leveled counted new few zero told kept others,
   some,
   sym are,
   weaker (λ (e : InnerEntry). (length e.point ≡ dim) × (e.radius ≤ bound) × (e.parent ≤ bound)) (λ (e : InnerEntry). (e.radius ≤ bound) × (e.parent ≤ bound)) (λ e both. (both.1, both.2)) es all,

@@ -4,7 +4,7 @@ use Rattle.tree_shape.specs.declared.live.Live.{Live}
 use Rattle.node_page.specs.Heads.{SpellsHead, head_fault}
 use Rattle.node_page.specs.Slots.{SpellsSlot}
 use Rattle.node_page.specs.Opening.{OpensTo, open_fault, live_of}
-use Rattle.node_page.specs.Nodes.{SpellsNode, node_fault}
+use Rattle.node_page.specs.Nodes.{SpellsNode, node_fault, SpellsOldNode, old_node_fault}
 use Rattle.tree_shape.specs.declared.entry.Node.{Node}
 use Rattle.node_page.specs.declared.head.Head.{Head}
 use Rattle.node_page.specs.declared.slot.Slot.{Slot}
@@ -41,3 +41,7 @@ OneLiveSlot =
 -- a page has no fault exactly where it spells some node
 abbrev pub FaultIsNoNode : Type 0
 FaultIsNoNode = (dim : ℕ) (page : List ℕ) → (node_fault dim page ≡ None) ↔ ((node : Node) × SpellsNode dim page node)
+
+-- a page of the first version has no fault exactly where it spells some node
+abbrev pub FaultIsNoOldNode : Type 0
+FaultIsNoOldNode = (dim : ℕ) (page : List ℕ) → (old_node_fault dim page ≡ None) ↔ ((node : Node) × SpellsOldNode dim page node)

@@ -10,7 +10,7 @@ mod slot;
 mod writing;
 
 pub use head::{Head, HeadFault, decode_head, encode_head};
-pub use node::{NodeFault, decode_node};
+pub use node::{NodeFault, decode_node, decode_old_node};
 pub use slot::{Slot, decode_slot, encode_slot};
 pub use writing::encode_node;
 

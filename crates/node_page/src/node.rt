@@ -1,6 +1,6 @@
-ghost use Rattle.std.specs.Prelude.{◌≡◌, ◌≢◌, ◌⊎◌, ◌+◌, ◌*◌, ◌≤◌, ◌<◌, ◌==◌, length, IfOk, IfErr, Ok, Err, Some, None, slice_index};
+ghost use Rattle.std.specs.Prelude.{◌≡◌, ◌≢◌, ◌⊎◌, ◌+◌, ◌*◌, ◌≤◌, ◌<◌, ◌==◌, length, true, IfOk, IfErr, Ok, Err, Some, None, slice_index};
 ghost use Rattle.tree_shape.specs.Fill.{most_for};
-ghost use Rattle.node_page.specs.Nodes.{SpellsNode, IsLawfulNode, firsts, point_at, leaf_at, inner_at, place_of, count_of, near_at, are_near, is_count, is_rest_zero, node_fault, node_of};
+ghost use Rattle.node_page.specs.Nodes.{SpellsIn, SpellsNode, SpellsOldNode, IsLawfulNode, firsts, point_at, parent_place, tag_at, leaf_in, inner_at, place_of, place_in, count_of, near_at, are_near, is_count, is_rest_zero, fault_in, node_in, node_fault, node_of, old_node_fault, old_node_of};
 
 use crate::bytes::{are_zero, get_u16, get_u32, get_u64};
 use metric_laws::{BOUND, Listed, Point};
@@ -28,38 +28,69 @@ pub enum NodeFault {
     Memory,
 }
 
+/// A version of the format of nodes.
+#[derive(Clone, Copy)]
+pub enum Version {
+    /// A leaf entry has no tag, which is its id then.
+    First,
+    /// A leaf entry has a tag.
+    Second,
+}
+
 /// The bytes before the first entry.
 const ENTRIES: usize = 16;
 
-/// The bytes of an entry besides its coordinates.
-const FIELDS: usize = 20;
+/// The bytes of a distance.
+const DISTANCE: usize = 8;
+
+// The bytes of an entry before its parent distance, which its coordinates follow.
+fn parent_place(version: Version, leaf: bool) -> usize
+    ensures value { result ≡ parent_place version leaf }
+    ensures low { 4 ≤ result }
+    ensures high { result ≤ 12 }
+{
+    match version {
+        Version::First => { if leaf { 4 } else { 12 } }
+        Version::Second => 12,
+    }
+}
 
 // The place of an entry.
+fn place_in(version: Version, leaf: bool, dim: u8, index: usize) -> usize
+    requires few { dim ≤ 64 }
+    requires small { index ≤ 32 }
+    ensures { result ≡ place_in version leaf dim index }
+{
+    ENTRIES + (parent_place(version, leaf) + DISTANCE + 4 * usize::from(dim)) * index
+}
+
+// The place of an entry of the second version.
 pub fn place_of(dim: u8, index: usize) -> usize
     requires few { dim ≤ 64 }
     requires small { index ≤ 32 }
     ensures { result ≡ place_of dim index }
 {
-    ENTRIES + (FIELDS + 4 * usize::from(dim)) * index
+    place_in(Version::Second, false, dim, index)
 }
 
 // Whether the distances of an entry are within the bound.
 #[tactic(auto, unfolding(crate::specs::Nodes::near_at))]
-fn is_near(page: &[u8; 4096], at: usize, leaf: bool) -> bool
-    requires { at + 20 ≤ 4096 }
-    ensures { result ≡ near_at leaf page.now at }
+fn is_near(page: &[u8; 4096], at: usize, version: Version, leaf: bool) -> bool
+    requires { at + parent_place version leaf + 8 ≤ 4096 }
+    ensures { result ≡ near_at version leaf page.now at }
 {
-    get_u64(page, at + 12) <= BOUND && (leaf || get_u64(page, at + 4) <= BOUND)
+    get_u64(page, at + parent_place(version, leaf)) <= BOUND
+        && (leaf || get_u64(page, at + 4) <= BOUND)
 }
 
 // Whether the distances of so many entries are within the bound.
-fn are_near(page: &[u8; 4096], dim: u8, leaf: bool, count: usize) -> bool
+fn are_near(page: &[u8; 4096], dim: u8, version: Version, leaf: bool, count: usize) -> bool
     requires few { dim ≤ 64 }
     requires most { count ≤ most_for dim }
-    ensures { result ≡ are_near dim leaf page.now count }
+    ensures { result ≡ are_near version dim leaf page.now count }
 {
     for index in 0..count {
-        if !is_near(page, place_of(dim, index), leaf) {
+        if !is_near(page, place_in(version, leaf, dim, index), version, leaf) {
             return false;
         }
     }
@@ -86,20 +117,21 @@ fn count_of(page: &[u8; 4096]) -> usize
 
 // Whether each byte that no field takes is 0.
 #[tactic(auto, unfolding(crate::specs::Nodes::is_rest_zero))]
-fn is_rest_zero(page: &[u8; 4096], dim: u8, count: usize) -> bool
+fn is_rest_zero(page: &[u8; 4096], dim: u8, version: Version, leaf: bool, count: usize) -> bool
     requires few { dim ≤ 64 }
     requires most { count ≤ most_for dim }
-    ensures { result ≡ is_rest_zero dim page.now count }
+    ensures { result ≡ is_rest_zero version dim leaf page.now count }
 {
-    are_zero(page, 1, 2) && are_zero(page, 4, 16) && are_zero(page, place_of(dim, count), 4096)
+    let end = place_in(version, leaf, dim, count);
+    are_zero(page, 1, 2) && are_zero(page, 4, 16) && are_zero(page, end, 4096)
 }
 
 // The first fault of a page.
-#[tactic(auto, unfolding(crate::specs::Nodes::node_fault))]
-fn fault_of(page: &[u8; 4096], dim: u8) -> Option<NodeFault>
+#[tactic(auto, unfolding(crate::specs::Nodes::fault_in))]
+fn fault_of(page: &[u8; 4096], dim: u8, version: Version) -> Option<NodeFault>
     requires some { 1 ≤ dim }
     requires few { dim ≤ 64 }
-    ensures { result ≡ node_fault dim page.now }
+    ensures { result ≡ fault_in version dim page.now }
 {
     if page[0] > 14 {
         return Some(NodeFault::Kind);
@@ -109,10 +141,10 @@ fn fault_of(page: &[u8; 4096], dim: u8) -> Option<NodeFault>
     if !is_count(dim, leaf, count) {
         return Some(NodeFault::Count);
     }
-    if !are_near(page, dim, leaf, count) {
+    if !are_near(page, dim, version, leaf, count) {
         return Some(NodeFault::Distance);
     }
-    if !is_rest_zero(page, dim, count) {
+    if !is_rest_zero(page, dim, version, leaf, count) {
         return Some(NodeFault::Tail);
     }
     None
@@ -132,18 +164,36 @@ fn point_at(alloc: Global, page: &[u8; 4096], at: usize, dim: u8) -> Result<Poin
     Point::new(alloc, &coordinates[..dim])
 }
 
-// The leaf entry from a place on.
-#[tactic(auto, unfolding(crate::specs::Nodes::leaf_at))]
-fn leaf_at(alloc: Global, page: &[u8; 4096], at: usize, dim: u8) -> Result<LeafEntry, AllocError>
-    requires few { dim ≤ 64 }
-    requires within { at + 20 + 4 * dim ≤ 4096 }
-    ensures { IfOk result (λ e. e ≡ leaf_at dim page.now at) }
+// The tag of the leaf entry from a place on.
+fn tag_at(page: &[u8; 4096], at: usize, version: Version) -> u64
+    requires { at + 12 ≤ 4096 }
+    ensures { result ≡ tag_at version page.now at }
 {
+    match version {
+        Version::First => u64::from(get_u32(page, at)),
+        Version::Second => get_u64(page, at + 4),
+    }
+}
+
+// The leaf entry from a place on.
+#[tactic(auto, unfolding(crate::specs::Nodes::leaf_in))]
+fn leaf_in(
+    alloc: Global,
+    page: &[u8; 4096],
+    at: usize,
+    dim: u8,
+    version: Version,
+) -> Result<LeafEntry, AllocError>
+    requires few { dim ≤ 64 }
+    requires within { at + (parent_place version true + 8) + 4 * dim ≤ 4096 }
+    ensures { IfOk result (λ e. e ≡ leaf_in version dim page.now at) }
+{
+    let parent = at + parent_place(version, true);
     Ok(LeafEntry {
         id: get_u32(page, at),
-        tag: get_u64(page, at + 4),
-        parent: get_u64(page, at + 12),
-        point: point_at(alloc, page, at + 20, dim)?,
+        tag: tag_at(page, at, version),
+        parent: get_u64(page, parent),
+        point: point_at(alloc, page, parent + DISTANCE, dim)?,
     })
 }
 
@@ -167,15 +217,17 @@ fn leaf_entries(
     alloc: Global,
     page: &[u8; 4096],
     dim: u8,
+    version: Version,
     count: usize,
 ) -> Result<Listed<LeafEntry>, AllocError>
     requires few { dim ≤ 64 }
     requires most { count ≤ most_for dim }
-    ensures { IfOk result (λ es. es ≡ firsts (λ i. leaf_at dim page.now (place_of dim i)) count) }
+    ensures { IfOk result (λ es. es ≡ firsts (λ i. leaf_in version dim page.now (place_in version true dim i)) count) }
 {
     let mut entries = Vec::with_capacity(alloc, count)?;
     for index in 0..count {
-        entries.push(leaf_at(alloc, page, place_of(dim, index), dim)?)?;
+        let at = place_in(version, true, dim, index);
+        entries.push(leaf_in(alloc, page, at, dim, version)?)?;
     }
     Ok(Listed::new(entries))
 }
@@ -199,21 +251,41 @@ fn inner_entries(
 }
 
 // The node of a page.
-#[tactic(auto, unfolding(crate::specs::Nodes::node_of))]
-fn node_of(alloc: Global, page: &[u8; 4096], dim: u8) -> Result<Node, AllocError>
+#[tactic(auto, unfolding(crate::specs::Nodes::node_in))]
+fn node_in(alloc: Global, page: &[u8; 4096], dim: u8, version: Version) -> Result<Node, AllocError>
     requires few { dim ≤ 64 }
     requires most { count_of page.now ≤ most_for dim }
-    ensures { IfOk result (λ node. node ≡ node_of dim page.now) }
+    ensures { IfOk result (λ node. node ≡ node_in version dim page.now) }
 {
     let count = count_of(page);
     let level = page[0];
     if level == 0 {
-        return Ok(Node::Leaf(leaf_entries(alloc, page, dim, count)?));
+        return Ok(Node::Leaf(leaf_entries(alloc, page, dim, version, count)?));
     }
     Ok(Node::Inner {
         level,
         entries: inner_entries(alloc, page, dim, count)?,
     })
+}
+
+// Reads a node of a version, or names the first fault.
+fn decode(alloc: Global, page: &[u8; 4096], dim: u8, version: Version) -> Result<Node, NodeFault>
+    requires some { 1 ≤ dim }
+    requires few { dim ≤ 64 }
+    ensures ok { IfOk result (λ node. SpellsIn version dim page.now node) }
+    ensures lawful { IfOk result (λ node. IsLawfulNode dim node) }
+    ensures told { IfOk result (λ node. (fault_in version dim page.now ≡ None) × (node ≡ node_in version dim page.now)) }
+    ensures only { (node : Node) → SpellsIn version dim page.now node → (result ≡ Ok node) ⊎ (result ≡ Err NodeFault.Memory) }
+    ensures fault { IfErr result (λ fault. (fault ≡ NodeFault.Memory) ⊎ (fault_in version dim page.now ≡ Some fault)) }
+    ensures memory { IfErr result (λ fault. fault ≡ NodeFault.Memory → fault_in version dim page.now ≡ None) }
+{
+    if let Some(fault) = fault_of(page, dim, version) {
+        return Err(fault);
+    }
+    match node_in(alloc, page, dim, version) {
+        Ok(node) => Ok(node),
+        Err(_) => Err(NodeFault::Memory),
+    }
 }
 
 /// Reads a node over points of `dim` coordinates from a page of a file of version 2, or names the first fault in the
@@ -225,16 +297,31 @@ pub fn decode_node(alloc: Global, page: &[u8; 4096], dim: u8) -> Result<Node, No
     ensures ok { IfOk result (λ node. SpellsNode dim page.now node) }
     // What is read can be written.
     ensures lawful { IfOk result (λ node. IsLawfulNode dim node) }
+    // What is read is the page's node, and the page has no fault.
+    ensures told { IfOk result (λ node. (node_fault dim page.now ≡ None) × (node ≡ node_of dim page.now)) }
     // What is spelled so is read, unless memory runs out.
     ensures only { (node : Node) → SpellsNode dim page.now node → (result ≡ Ok node) ⊎ (result ≡ Err NodeFault.Memory) }
     ensures fault { IfErr result (λ fault. (fault ≡ NodeFault.Memory) ⊎ (node_fault dim page.now ≡ Some fault)) }
     ensures memory { IfErr result (λ fault. fault ≡ NodeFault.Memory → node_fault dim page.now ≡ None) }
 {
-    if let Some(fault) = fault_of(page, dim) {
-        return Err(fault);
-    }
-    match node_of(alloc, page, dim) {
-        Ok(node) => Ok(node),
-        Err(_) => Err(NodeFault::Memory),
-    }
+    decode(alloc, page, dim, Version::Second)
+}
+
+/// Reads a node over points of `dim` coordinates from a page of a file of version 1, whose leaf entries have no tags: the
+/// tag of an object is its id. It names the same faults in the same order as `decode_node`.
+pub fn decode_old_node(alloc: Global, page: &[u8; 4096], dim: u8) -> Result<Node, NodeFault>
+    requires some { 1 ≤ dim }
+    requires few { dim ≤ 64 }
+    // What is read is spelled so.
+    ensures ok { IfOk result (λ node. SpellsOldNode dim page.now node) }
+    // What is read can be written.
+    ensures lawful { IfOk result (λ node. IsLawfulNode dim node) }
+    // What is read is the page's node, and the page has no fault.
+    ensures told { IfOk result (λ node. (old_node_fault dim page.now ≡ None) × (node ≡ old_node_of dim page.now)) }
+    // What is spelled so is read, unless memory runs out.
+    ensures only { (node : Node) → SpellsOldNode dim page.now node → (result ≡ Ok node) ⊎ (result ≡ Err NodeFault.Memory) }
+    ensures fault { IfErr result (λ fault. (fault ≡ NodeFault.Memory) ⊎ (old_node_fault dim page.now ≡ Some fault)) }
+    ensures memory { IfErr result (λ fault. fault ≡ NodeFault.Memory → old_node_fault dim page.now ≡ None) }
+{
+    decode(alloc, page, dim, Version::First)
 }

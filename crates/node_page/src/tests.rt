@@ -1,6 +1,6 @@
 use crate::{
-    Head, HeadFault, NodeFault, Slot, decode_head, decode_node, decode_slot, encode_head,
-    encode_node, encode_slot,
+    Head, HeadFault, NodeFault, Slot, decode_head, decode_node, decode_old_node, decode_slot,
+    encode_head, encode_node, encode_slot,
 };
 use std::test::Fail;
 use tree_shape::Node;
@@ -147,5 +147,30 @@ fn a_leaf_that_was_read_is_written_again(rt: HostRuntime) -> Result<(), Fail> {
     let mut written = [0xffu8; 4096];
     encode_node(&node, 2, &mut written);
     assert_eq!(rt; written, page);
+    Ok(())
+}
+
+// The root of the small index as the first version of the format has it: no tag, which is the id.
+#[test]
+fn a_leaf_of_the_first_version(rt: HostRuntime) -> Result<(), Fail> {
+    let mut page = [0u8; 4096];
+    page[3] = 1;
+    page[31] = 3;
+    page[35] = 4;
+    let node = decode_old_node(rt.alloc(), &page, 2).ok().ok_or("a leaf")?;
+    let Node::Leaf(entries) = node else {
+        return Err("an inner node".into());
+    };
+    assert_eq!(rt; entries.as_slice().len(), 1);
+    assert_eq!(rt; entries.as_slice()[0].tag, 0);
+    assert_eq!(rt;
+        entries.as_slice()[0].point.as_slice(),
+        [3u32, 4].as_slice()
+    );
+    page[36] = 1;
+    assert_eq!(rt;
+        decode_old_node(rt.alloc(), &page, 2).err(),
+        Some(NodeFault::Tail)
+    );
     Ok(())
 }
