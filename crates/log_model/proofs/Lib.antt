@@ -11,3 +11,5 @@ pub mod JoinScan
 pub mod JoinLeast
 pub mod Sorting
 pub mod Examples
+pub mod OneEntry
+pub mod Reached
