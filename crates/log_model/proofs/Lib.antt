@@ -13,3 +13,4 @@ pub mod Sorting
 pub mod Examples
 pub mod OneEntry
 pub mod Reached
+pub mod Lawful
