@@ -1,4 +1,4 @@
-ghost use Rattle.std.specs.Prelude.{◌≡◌, ◌<◌, ◌++◌, [], ◌∷◌, length, slice_get, MatchOption, Some, None, OnOk, OnErr};
+ghost use Rattle.std.specs.Prelude.{◌≡◌, ◌<◌, ◌++◌, ◌==◌, [], ◌∷◌, length, slice_get, MatchOption, Some, None, OnOk, OnErr};
 ghost use Rattle.page_store.specs.Staging.{IsFree, staged_for, AreApart};
 ghost use Rattle.page_store.specs.declared.staging.StagedNode.{StagedNode};
 
