@@ -54,7 +54,8 @@ HasWalkCause f live old new Memory = Unit {0}
 HasWalkCause f live old new (Bad page fault) =
     (fault ≢ NodeMemory) × IsWithin old.pages page
     × (IsTrue old.tells → (old.read page ≡ Err (Bad page fault)) × NeedsInside f (nodes_of old.read) live page)
-HasWalkCause f live old new (Outside page) = (is_within old.pages page ≡ false) × (IsTrue old.tells → NeedsInside f (nodes_of old.read) live page)
+HasWalkCause f live old new (Outside page) =
+    (is_within old.pages page ≡ false) × (IsTrue old.tells → (old.read page ≡ Err (Outside page)) × NeedsInside f (nodes_of old.read) live page)
 HasWalkCause f live old new (Repeats page) = (new.asked ≡ count_up old.asked live.pages) × (IsTrue old.tells → Needs f (nodes_of old.read) live.root live.pages page)
 HasWalkCause f live old new (Level page) = ⊥
 
@@ -68,10 +69,10 @@ IsPassing _ = ⊥
 -- Where the pages tell what they hold, it is the least log of the query. One page was asked for per record, and one
 -- distance was computed per entry that isn't marked Skip.
 pub record IsFound (s : Space) (live : Live) (query : Query) (old new : Shelf) (used_old used_new : ℕ) (found : Found) : Type 0 where
-  pub hits : found.hits ≡ found.log.answers
-  pub generation : found.log.generation ≡ live.generation
-  pub root : found.log.root ≡ live.root
-  pub query : found.log.query ≡ query
+  pub hits_are : found.hits ≡ found.log.answers
+  pub generation_is : found.log.generation ≡ live.generation
+  pub root_is : found.log.root ≡ live.root
+  pub query_is : found.log.query ≡ query
   pub lawful : IsLawfulLog found.log
   pub least : IsTrue old.tells → IsLeastLog s (nodes_of old.read) live query found.log
   pub few : length found.log.records ≤ live.pages

@@ -108,7 +108,10 @@ pub fn range<P: Pages, R: Ruler>(
         q,
         rho: r.min(BOUND),
     };
-    let walk = follow(alloc, pages, ruler, probe, live)?;
+    let walk = match follow(alloc, pages, ruler, probe, live) {
+        Ok(walk) => walk,
+        Err(fault) => return Err(fault),
+    };
     let query = Query::Range { q: point, r };
     match Found::of(alloc, live, query, walk) {
         Ok(found) => Ok(found),
