@@ -1,12 +1,18 @@
 -- The logs of walks have a spelling.
-use Rattle.std.proofs.Common.{◌≡◌, ℕ, zero, suc, ◌+◌, ◌<◌, ◌≤◌, ◌^◌, Bool, true, false, List, [], ◌∷◌, arith, length, take, length-take, subst, sym}
-use Rattle.std.specs.Prelude.{IsTrue, if◌then◌else◌}
+use Rattle.std.proofs.Common.{◌≡◌, ℕ, zero, suc, ◌+◌, ◌<◌, ◌≤◌, ◌^◌, Bool, true, false, List, [], ◌∷◌, arith, length, take, length-take, subst, sym, refl, ap, Option}
+use Rattle.std.specs.Prelude.{IsTrue, if◌then◌else◌, map}
 use Rattle.std.specs.List.{AllByRecursion}
 use Rattle.scan_model.specs.declared.hit.Hit.{Hit}
 use Rattle.scan_model.specs.declared.query.Query.{Query}
 use Rattle.scan_model.specs.declared.query.Query.TheVariants.{Range, Nearest}
 use Rattle.scan_model.specs.Laws.{Ascends, HitBefore}
+use Rattle.tree_shape.specs.declared.entry.Node.{Node}
+use Rattle.tree_shape.specs.declared.entry.Node.TheVariants.{Leaf, Inner}
 use Rattle.log_model.specs.declared.logs.Log.{Log}
+use Rattle.log_model.specs.declared.marks.Mark.{Mark}
+use Rattle.log_model.specs.declared.marks.Mark.TheVariants.{Skip, Far, Near}
+use Rattle.log_model.specs.Counts.{entry_count}
+use Rattle.log_model.specs.Walk.{Search, near_ones, least_for_object, least_for_subtree, least_marks, hits_of, hit_of}
 use Rattle.log_model.specs.Grammar.{IsLawfulQuery, IsLawfulLog}
 use Rattle.log_model.specs.InOrder.{put_once, in_order, hit_before}
 use Rattle.log_model.specs.Sound.{selected}
@@ -50,3 +56,27 @@ lawful_log log hits query is few_hits few_records marks = record {
   few_records = few_records;
   few_marks = marks;
 }
+
+-- as many marks as entries, and no more hits
+
+map_long : {X Y : Type 0} (g : X → Y) (xs : List X) → length (map g xs) ≡ length xs
+map_long g [] = refl
+map_long g (x ∷ xs) = ap suc (map_long g xs)
+
+near_few : {X : Type 0} (es : List X) (ms : List Mark) → length (near_ones es ms) ≤ length es
+near_few [] ms = omega arith
+near_few (e ∷ es) [] = omega arith
+near_few (e ∷ es) (Skip ∷ ms) = let ih = near_few es ms in omega arith
+near_few (e ∷ es) (Far ∷ ms) = let ih = near_few es ms in omega arith
+near_few (e ∷ es) (Near ∷ ms) = let ih = near_few es ms in omega arith
+
+pub marks_long : (f : Search) (above : Option ℕ) (node : Node) → length (least_marks f above node) ≡ entry_count node
+marks_long f above (Leaf es) = map_long (least_for_object f above) es
+marks_long f above (Inner level es) = map_long (least_for_subtree f above) es
+
+pub hits_few : (f : Search) (node : Node) (marks : List Mark) → length (hits_of f node marks) ≤ entry_count node
+hits_few f (Leaf es) marks =
+    let n = near_few es marks in
+    let l = map_long (hit_of f) (near_ones es marks) in
+    omega arith
+hits_few f (Inner level es) marks = omega arith

@@ -1,6 +1,8 @@
 -- What a walk costs.
-use Rattle.std.specs.Prelude.{ℕ, zero, suc, ◌+◌, List, [], ◌∷◌}
+use Rattle.std.specs.Prelude.{ℕ, zero, suc, ◌+◌, List, [], ◌∷◌, length}
 use Rattle.metric_laws.specs.Counts.{next_count}
+use Rattle.tree_shape.specs.declared.entry.Node.{Node}
+use Rattle.tree_shape.specs.declared.entry.Node.TheVariants.{Leaf, Inner}
 use Rattle.log_model.specs.declared.marks.Mark.{Mark}
 use Rattle.log_model.specs.declared.marks.Mark.TheVariants.{Skip, Far, Near}
 use Rattle.log_model.specs.declared.marks.Record.{Record}
@@ -20,3 +22,8 @@ measured_by (Near ∷ marks) = suc (measured_by marks)
 abbrev pub measured : List Record → ℕ
 measured [] = 0
 measured (r ∷ rs) = measured_by r.marks + measured rs
+
+-- the number of a node's entries
+abbrev pub entry_count : Node → ℕ
+entry_count (Leaf es) = length es
+entry_count (Inner level es) = length es

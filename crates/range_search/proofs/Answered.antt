@@ -12,7 +12,7 @@ use Rattle.tree_shape.specs.Tree.{Nodes, IsSoundTree, points_by_id}
 use Rattle.page_store.specs.declared.pages.PageFault.{PageFault}
 use Rattle.page_store.specs.declared.pages.PageFault.TheVariants.{Disk, Bad, Outside, Memory, Repeats, Level}
 use Rattle.page_store.specs.Reading.{nodes_of, node_or_none}
-use Rattle.page_store.specs.Shelf.{Shelf}
+use Rattle.page_store.specs.Shelf.{Shelf, IsPassing}
 use Rattle.log_model.specs.declared.logs.Found.{Found}
 use Rattle.log_model.specs.declared.marks.Record.{Record}
 use Rattle.log_model.specs.declared.marks.Need.{Need}
@@ -23,7 +23,7 @@ use Rattle.log_model.specs.Laws.{scan_answers}
 use Rattle.log_model.proofs.Lawful.{lawful_log}
 use Rattle.log_model.proofs.LeastLog.{sound_complete, least_sound}
 use Rattle.log_model.proofs.Reached.{reached_inside, walks_whole}
-use Rattle.range_search.specs.Searched.{IsUnderWay, IsFound, Needs, HasWalkCause, IsPassing}
+use Rattle.range_search.specs.Searched.{IsUnderWay, IsFound, Needs, HasWalkCause}
 
 -- a log of the least walk is the least log of a range
 pub range_found : (s : Space) → IsSpace s → (live : Live) (q : List ℕ) (r : ℕ) → IsTrue (s.fits q) → live.pages ≤ 2 ^ 24 → (old new : Shelf) (u v : ℕ) (records : List Record) (hits : List Hit) →
@@ -33,12 +33,14 @@ pub range_found : (s : Space) → IsSpace s → (live : Live) (q : List ℕ) (r 
 range_found s axioms live q r fits few old new u v records hits way fewer found generation root query are answers same =
     let few_hits = way.few_hits in
     record {
-      hits_are = same;
-      generation_is = generation;
-      root_is = root;
-      query_is = query;
-      lawful = lawful_log found.log hits (subst IsLawfulQuery (sym query) (record { some = rw (axioms.long q fits) axioms.some_words; few = rw (axioms.long q fits) axioms.few_words }))
+      log = record {
+        hits_are = same;
+        generation_is = generation;
+        root_is = root;
+        query_is = query;
+        lawful = lawful_log found.log hits (subst IsLawfulQuery (sym query) (record { some = rw (axioms.long q fits) axioms.some_words; few = rw (axioms.long q fits) axioms.few_words }))
           (rw query answers) (omega arith) (rw are (omega arith)) (rw are way.few_marks);
+      };
       least = λ tells. (
         query,
         record {

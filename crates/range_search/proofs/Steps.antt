@@ -20,9 +20,10 @@ use Rattle.log_model.specs.declared.marks.Mark.TheVariants.{Skip, Far, Near}
 use Rattle.log_model.specs.declared.marks.Record.{Record}
 use Rattle.log_model.specs.declared.marks.Need.{Need}
 use Rattle.log_model.specs.declared.traversal.Traversal.{Traversal}
-use Rattle.log_model.specs.Counts.{count_up, measured, measured_by}
+use Rattle.log_model.specs.Counts.{count_up, measured, measured_by, entry_count}
 use Rattle.log_model.specs.Steps.{TakesNode}
 use Rattle.log_model.specs.Walk.{Search, AreLeast, ReachesBy, least_marks, least_for_object, least_for_subtree, near_ones, hits_of, hit_of, record_of, root_need}
+use Rattle.log_model.proofs.Lawful.{marks_long, hits_few}
 use Rattle.log_model.proofs.Reached.{reaches_more, count_up_more, count_up_both, measured-append}
 use Rattle.range_search.specs.Searched.{IsUnderWay, Needs, NeedsInside, HasWalkCause}
 
@@ -35,35 +36,10 @@ same_trans a b c h k = record {
   faults = (let x = h.faults in let y = k.faults in omega arith);
 }
 
-near_few : {X : Type 0} (es : List X) (ms : List Mark) → length (near_ones es ms) ≤ length es
-near_few [] ms = omega arith
-near_few (e ∷ es) [] = omega arith
-near_few (e ∷ es) (Skip ∷ ms) = let ih = near_few es ms in omega arith
-near_few (e ∷ es) (Far ∷ ms) = let ih = near_few es ms in omega arith
-near_few (e ∷ es) (Near ∷ ms) = let ih = near_few es ms in omega arith
-
-map_long : {X Y : Type 0} (g : X → Y) (xs : List X) → length (map g xs) ≡ length xs
-map_long g [] = refl
-map_long g (x ∷ xs) = ap suc (map_long g xs)
-
 -- a node has at most 32 entries
-marks_few : (dim : ℕ) (f : Search) (above : Option ℕ) (node : Node) → IsLawfulNode dim node → length (least_marks f above node) ≤ 32
-marks_few dim f above (Leaf es) lawful =
-    let few = lawful.0 in
-    let l = map_long (least_for_object f above) es in
-    omega arith
-marks_few dim f above (Inner level es) lawful =
-    let few = lawful.3 in
-    let l = map_long (least_for_subtree f above) es in
-    omega arith
-
-hits_few : (dim : ℕ) (f : Search) (node : Node) (marks : List Mark) → IsLawfulNode dim node → length (hits_of f node marks) ≤ 32
-hits_few dim f (Leaf es) marks lawful =
-    let few = lawful.0 in
-    let n = near_few es marks in
-    let l = map_long (hit_of f) (near_ones es marks) in
-    omega arith
-hits_few dim f (Inner level es) marks lawful = omega arith
+entries_few : (dim : ℕ) (node : Node) → IsLawfulNode dim node → entry_count node ≤ 32
+entries_few dim (Leaf es) lawful = let few = lawful.0 in omega arith
+entries_few dim (Inner level es) lawful = let few = lawful.3 in omega arith
 
 -- what the pages held at the start is what they hold
 told_then : (old now : Shelf) (page : ℕ) (node : Node) → HoldsSame old now → IsNodeOf now page node → IsTrue old.tells → nodes_of old.read page ≡ Some node
@@ -79,7 +55,9 @@ step_on f old now next u v w root n node rs hits left needs is same asked reads 
     let r : Record = record_of f n node in
     let long = length-append rs (r ∷ []) in
     let more = length-append hits (hits_of f node (least_marks f n.above node)) in
-    let few = hits_few now.dim f node (least_marks f n.above node) is.lawful in
+    let entries = entries_few now.dim node is.lawful in
+    let few = hits_few f node (least_marks f n.above node) in
+    let many = marks_long f n.above node in
     record {
       holds = same_trans old now next before.holds same;
       asked =
@@ -89,7 +67,7 @@ step_on f old now next u v w root n node rs hits left needs is same asked reads 
       used =
           used ∙ ap (λ (x : ℕ). count_up x (measured_by r.marks)) before.used ∙ count_up_both u (measured rs) (measured_by r.marks)
           ∙ ap (count_up u) (sym (measured-append rs r));
-      few_marks = all_append (λ (q : Record). length q.marks ≤ 32) rs (r ∷ []) before.few_marks (marks_few now.dim f n.above node is.lawful, tt);
+      few_marks = all_append (λ (q : Record). length q.marks ≤ 32) rs (r ∷ []) before.few_marks ((omega arith), tt);
       few_hits = (let b = before.few_hits in omega arith);
       walk = walk;
     }

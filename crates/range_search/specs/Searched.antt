@@ -16,8 +16,7 @@ use Rattle.log_model.specs.declared.logs.Found.{Found}
 use Rattle.log_model.specs.declared.marks.Record.{Record}
 use Rattle.log_model.specs.declared.marks.Need.{Need}
 use Rattle.log_model.specs.Counts.{count_up, measured}
-use Rattle.log_model.specs.Grammar.{IsLawfulLog}
-use Rattle.log_model.specs.Sound.{IsLeastLog}
+use Rattle.log_model.specs.Sound.{IsLogOf, IsLeastLog}
 use Rattle.log_model.specs.Walk.{Search, ReachesBy, AreLeast, root_need}
 
 -- A walk from the root with the least marks has opened the pages of these records, named these hits and needs these pages.
@@ -59,21 +58,10 @@ HasWalkCause f live old new (Outside page) =
 HasWalkCause f live old new (Repeats page) = (new.asked ≡ count_up old.asked live.pages) × (IsTrue old.tells → Needs f (nodes_of old.read) live.root live.pages page)
 HasWalkCause f live old new (Level page) = ⊥
 
--- what may come at any time: the disk failed, or memory ran out
-abbrev pub IsPassing : PageFault → Type 0
-IsPassing Disk = Unit {0}
-IsPassing Memory = Unit {0}
-IsPassing _ = ⊥
-
--- What a search answers: a log that has a spelling and names the live tree and the query, with the log's answers as hits.
--- Where the pages tell what they hold, it is the least log of the query. One page was asked for per record, and one
--- distance was computed per entry that isn't marked Skip.
+-- What a range search answers: where the pages tell what they hold, the least log of the query. One page was asked for per
+-- record, and one distance was computed per entry that isn't marked Skip.
 pub record IsFound (s : Space) (live : Live) (query : Query) (old new : Shelf) (used_old used_new : ℕ) (found : Found) : Type 0 where
-  pub hits_are : found.hits ≡ found.log.answers
-  pub generation_is : found.log.generation ≡ live.generation
-  pub root_is : found.log.root ≡ live.root
-  pub query_is : found.log.query ≡ query
-  pub lawful : IsLawfulLog found.log
+  pub log : IsLogOf live query found
   pub least : IsTrue old.tells → IsLeastLog s (nodes_of old.read) live query found.log
   pub few : length found.log.records ≤ live.pages
   pub asked : new.asked ≡ count_up old.asked (length found.log.records)

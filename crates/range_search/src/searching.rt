@@ -4,9 +4,9 @@ ghost use Rattle.scan_model.specs.Scan.{range_hits};
 ghost use Rattle.scan_model.specs.declared.query.Query.TheVariants.{Range};
 ghost use Rattle.tree_shape.specs.Tree.{IsSoundTree, points_by_id};
 ghost use Rattle.page_store.specs.Reading.{nodes_of};
-ghost use Rattle.page_store.specs.Shelf.{Shelf, HoldsSame, HasPageCause};
+ghost use Rattle.page_store.specs.Shelf.{Shelf, HoldsSame, HasPageCause, IsPassing};
 ghost use Rattle.log_model.specs.Walk.{search_at, root_need};
-ghost use Rattle.range_search.specs.Searched.{IsUnderWay, HasWalkCause, IsPassing, IsFound};
+ghost use Rattle.range_search.specs.Searched.{IsUnderWay, HasWalkCause, IsFound};
 
 use log_model::{Found, Need, Probe, Traversal};
 use metric_laws::{BOUND, Point, Ruler};

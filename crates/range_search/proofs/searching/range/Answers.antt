@@ -28,4 +28,4 @@ pub returns-in-Ok-of-clause-scanned : goal.returns-in-Ok-of-clause-scanned
 returns-in-Ok-of-clause-scanned g c tells sound =
     let found = returns-in-Ok-of-clause-found g c in
     found_scanned (g.R.M.Metric.space (g.R.Ruler.metric c.args.ruler.now)) (g.met.R.Ruler.axioms c.args.ruler.now) c.args.live.now (Range c.args.q.now c.args.r)
-    (nodes_of (g.P.Pages.shelf c.args.pages.now).read) c.in-Ok-of.found found.hits_are (found.least tells) sound
+    (nodes_of (g.P.Pages.shelf c.args.pages.now).read) c.in-Ok-of.found found.log.hits_are (found.least tells) sound
