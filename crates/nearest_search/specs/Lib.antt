@@ -1,0 +1,5 @@
+pub mod Counts
+pub mod Queue
+pub mod Keeping
+pub mod Machine
+pub mod Opened
