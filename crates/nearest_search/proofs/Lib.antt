@@ -4,3 +4,6 @@ pub mod Arithmetic
 pub mod Pops
 pub mod Waits
 pub mod Steps
+pub mod Radius
+pub mod Fuel
+pub mod KeptWalk

@@ -3,3 +3,4 @@ pub mod Queue
 pub mod Keeping
 pub mod Machine
 pub mod Opened
+pub mod Relog
