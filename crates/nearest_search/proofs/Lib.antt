@@ -7,3 +7,5 @@ pub mod Steps
 pub mod Radius
 pub mod Fuel
 pub mod KeptWalk
+pub mod Ends
+pub mod Explored

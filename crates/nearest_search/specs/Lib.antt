@@ -4,3 +4,4 @@ pub mod Keeping
 pub mod Machine
 pub mod Opened
 pub mod Relog
+pub mod Searched
