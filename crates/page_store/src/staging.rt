@@ -81,6 +81,14 @@ impl Staged {
         self.nodes.is_empty()
     }
 
+    /// What was staged as number `i`, from 0.
+    pub fn at(&self, i: usize) -> &StagedNode
+        requires { i < length self.now }
+        ensures { slice_get self.now i ≡ Some result.now }
+    {
+        &self.nodes[i]
+    }
+
     /// The page of the node that was staged as number `i`, from 0.
     pub fn page_at(&self, i: usize) -> u32
         requires { i < length self.now }
