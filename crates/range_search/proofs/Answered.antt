@@ -1,13 +1,11 @@
 -- What a whole walk answers, and why it may refuse on a sound tree.
-use Rattle.std.proofs.Common.{◌≡◌, ◌≢◌, ℕ, ◌+◌, ◌*◌, ◌<◌, ◌≤◌, ◌^◌, List, [], ◌∷◌, refl, sym, ap, ◌∙◌, Option, Some, None, Err, arith, length, subst, min}
+use Rattle.std.proofs.Common.{◌≡◌, ℕ, ◌≤◌, ◌^◌, List, [], ◌∷◌, sym, ap, ◌∙◌, Some, None, Err, arith, length, subst, min}
 use Rattle.std.specs.Prelude.{IsTrue}
 use Rattle.metric_laws.specs.Space.{Space, IsSpace, bound}
 use Rattle.scan_model.specs.declared.hit.Hit.{Hit}
 use Rattle.scan_model.specs.declared.query.Query.{Query}
 use Rattle.scan_model.specs.declared.query.Query.TheVariants.{Range}
-use Rattle.scan_model.specs.Scan.{range_hits}
 use Rattle.tree_shape.specs.declared.live.Live.{Live}
-use Rattle.tree_shape.specs.declared.entry.Node.{Node}
 use Rattle.tree_shape.specs.Tree.{Nodes, IsSoundTree, points_by_id}
 use Rattle.page_store.specs.declared.pages.PageFault.{PageFault}
 use Rattle.page_store.specs.declared.pages.PageFault.TheVariants.{Disk, Bad, Outside, Memory, Repeats, Level}
@@ -15,9 +13,8 @@ use Rattle.page_store.specs.Reading.{nodes_of, node_or_none}
 use Rattle.page_store.specs.Shelf.{Shelf, IsPassing}
 use Rattle.log_model.specs.declared.logs.Found.{Found}
 use Rattle.log_model.specs.declared.marks.Record.{Record}
-use Rattle.log_model.specs.declared.marks.Need.{Need}
-use Rattle.log_model.specs.Grammar.{IsLawfulQuery, query_point}
-use Rattle.log_model.specs.Walk.{Search, AreLeast, ReachesBy, WalksBy, search_at, root_need}
+use Rattle.log_model.specs.Grammar.{IsLawfulQuery}
+use Rattle.log_model.specs.Walk.{Search, AreLeast, WalksBy, search_at, root_need}
 use Rattle.log_model.specs.Sound.{IsLeastLog, search_for, selected}
 use Rattle.log_model.specs.Laws.{scan_answers}
 use Rattle.log_model.proofs.Lawful.{lawful_log}
@@ -39,7 +36,7 @@ range_found s axioms live q r fits few old new u v records hits way fewer found 
         root_is = root;
         query_is = query;
         lawful = lawful_log found.log hits (subst IsLawfulQuery (sym query) (record { some = rw (axioms.long q fits) axioms.some_words; few = rw (axioms.long q fits) axioms.few_words }))
-          (rw query answers) (omega arith) (rw are (omega arith)) (rw are way.few_marks);
+            (rw query answers) (omega arith) (rw are (omega arith)) (rw are way.few_marks);
       };
       least = λ tells. (
         query,

@@ -1,13 +1,10 @@
 -- The steps of a search.
-use Rattle.std.proofs.Common.{◌≡◌, ◌≢◌, ℕ, zero, suc, ◌+◌, ◌*◌, ◌<◌, ◌≤◌, ◌^◌, Bool, true, false, List, [], ◌∷◌, ◌++◌, refl, sym, ap, ◌∙◌, Option, Some, None, Result, Ok, Err, arith, length, length-append, subst, min, reverse}
-use Rattle.std.specs.Prelude.{IsTrue, map}
-use Rattle.std.specs.List.{AllByRecursion}
+use Rattle.std.proofs.Common.{◌≡◌, ℕ, suc, ◌+◌, ◌<◌, ◌≤◌, false, List, [], ◌∷◌, ◌++◌, refl, sym, ap, ◌∙◌, Some, Err, arith, length, length-append, subst, reverse}
+use Rattle.std.specs.Prelude.{IsTrue}
 use Rattle.metric_laws.specs.Counts.{next_count}
 use Rattle.metric_laws.proofs.Lists.{all_append}
 use Rattle.scan_model.specs.declared.hit.Hit.{Hit}
 use Rattle.tree_shape.specs.declared.live.Live.{Live}
-use Rattle.tree_shape.specs.declared.entry.LeafEntry.{LeafEntry}
-use Rattle.tree_shape.specs.declared.entry.InnerEntry.{InnerEntry}
 use Rattle.tree_shape.specs.declared.entry.Node.{Node}
 use Rattle.tree_shape.specs.declared.entry.Node.TheVariants.{Leaf, Inner}
 use Rattle.node_page.specs.Nodes.{IsLawfulNode}
@@ -15,17 +12,15 @@ use Rattle.page_store.specs.declared.pages.PageFault.{PageFault}
 use Rattle.page_store.specs.declared.pages.PageFault.TheVariants.{Disk, Bad, Outside, Memory, Repeats, Level}
 use Rattle.page_store.specs.Reading.{Read, nodes_of, node_or_none, IsWithin, is_within}
 use Rattle.page_store.specs.Shelf.{Shelf, HoldsSame, IsNodeOf, HasPageCause}
-use Rattle.log_model.specs.declared.marks.Mark.{Mark}
-use Rattle.log_model.specs.declared.marks.Mark.TheVariants.{Skip, Far, Near}
 use Rattle.log_model.specs.declared.marks.Record.{Record}
 use Rattle.log_model.specs.declared.marks.Need.{Need}
 use Rattle.log_model.specs.declared.traversal.Traversal.{Traversal}
 use Rattle.log_model.specs.Counts.{count_up, measured, measured_by, entry_count}
 use Rattle.log_model.specs.Steps.{TakesNode}
-use Rattle.log_model.specs.Walk.{Search, AreLeast, ReachesBy, least_marks, least_for_object, least_for_subtree, near_ones, hits_of, hit_of, record_of, root_need}
+use Rattle.log_model.specs.Walk.{Search, AreLeast, ReachesBy, least_marks, hits_of, record_of, root_need}
 use Rattle.log_model.proofs.Lawful.{marks_long, hits_few}
 use Rattle.log_model.proofs.Reached.{reaches_more, count_up_more, count_up_both, measured-append}
-use Rattle.range_search.specs.Searched.{IsUnderWay, Needs, NeedsInside, HasWalkCause}
+use Rattle.range_search.specs.Searched.{IsUnderWay, Needs, HasWalkCause}
 
 pub same_trans : (a b c : Shelf) → HoldsSame a b → HoldsSame b c → HoldsSame a c
 same_trans a b c h k = record {
@@ -81,8 +76,8 @@ step f old now next u v w root n node one other is same asked reads used takes b
     rw (takes.records, takes.hits)
     (step_on f old now next u v w root n node one.records.items one.hits.items (n ∷ reverse one.stack.items) (reverse other.stack.items) is same asked reads used
     (λ tells. subst (λ (ns : List Need). ReachesBy AreLeast f (nodes_of old.read) (root_need root ∷ []) (one.records.items ++ record_of f n node ∷ []) (one.hits.items ++ hits_of f node (least_marks f n.above node)) ns) (sym takes.needs)
-        (reaches_more AreLeast f (nodes_of old.read) (root_need root ∷ []) one.records.items one.hits.items n (reverse one.stack.items) node (least_marks f n.above node)
-        (told_then old now n.page node before.holds is tells) refl (before.walk tells)))
+    (reaches_more AreLeast f (nodes_of old.read) (root_need root ∷ []) one.records.items one.hits.items n (reverse one.stack.items) node (least_marks f n.above node)
+    (told_then old now n.page node before.holds is tells) refl (before.walk tells)))
     before)
 
 -- a walk begins
@@ -111,8 +106,8 @@ module _ (f : Search) (live : Live) (old now next : Shelf) (u v : ℕ) (n : Need
     subst (λ (p : ℕ). IsWithin p page) way.holds.pages (subst (λ (p : ℕ). IsWithin now.pages p) (sym cause.0) cause.2),
     λ tells. (
       subst (λ (p : ℕ). old.read p ≡ Err (Bad page fault)) (sym cause.0)
-      (subst (λ (p : ℕ). old.read n.page ≡ Err (Bad p fault)) (sym cause.0)
-      (ap (λ (r : Read). r n.page) (sym way.holds.read) ∙ cause.3 (rw way.holds.tells tells))),
+          (subst (λ (p : ℕ). old.read n.page ≡ Err (Bad p fault)) (sym cause.0)
+          (ap (λ (r : Read). r n.page) (sym way.holds.read) ∙ cause.3 (rw way.holds.tells tells))),
       (length rs, low, needs_here (length rs) page (sym cause.0) refl tells),
     ),
   )
@@ -120,8 +115,8 @@ module _ (f : Search) (live : Live) (old now next : Shelf) (u v : ℕ) (n : Need
     subst (λ (p : ℕ). is_within p page ≡ false) way.holds.pages (subst (λ (p : ℕ). is_within now.pages p ≡ false) (sym cause.0) cause.1),
     λ tells. (
       subst (λ (p : ℕ). old.read p ≡ Err (Outside page)) (sym cause.0)
-      (subst (λ (p : ℕ). old.read n.page ≡ Err (Outside p)) (sym cause.0)
-      (ap (λ (r : Read). r n.page) (sym way.holds.read) ∙ cause.2 (rw way.holds.tells tells))),
+          (subst (λ (p : ℕ). old.read n.page ≡ Err (Outside p)) (sym cause.0)
+          (ap (λ (r : Read). r n.page) (sym way.holds.read) ∙ cause.2 (rw way.holds.tells tells))),
       (length rs, low, needs_here (length rs) page (sym cause.0) refl tells),
     ),
   )

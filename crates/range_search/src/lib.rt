@@ -4,3 +4,6 @@
 mod searching;
 
 pub use searching::range;
+
+#[cfg(test)]
+mod tests;

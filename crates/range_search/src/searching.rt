@@ -29,9 +29,9 @@ fn open_page<P: Pages, R: Ruler>(
     ensures keeps { P.keeps pages.old pages.new }
     ensures opened { OnOk result ((old : Shelf) (used root : ℕ) →
         IsUnderWay (search_at (R.M.space (R.metric ruler.old)) probe.entry.q.now probe.entry.rho) old (P.shelf pages.old) used (R.used ruler.old) root
-            walk.old.records.items walk.old.hits.items (need ∷ reverse walk.old.stack.items) →
+        walk.old.records.items walk.old.hits.items (need ∷ reverse walk.old.stack.items) →
         IsUnderWay (search_at (R.M.space (R.metric ruler.old)) probe.entry.q.now probe.entry.rho) old (P.shelf pages.new) used (R.used ruler.new) root
-            walk.new.records.items walk.new.hits.items (reverse walk.new.stack.items)) }
+        walk.new.records.items walk.new.hits.items (reverse walk.new.stack.items)) }
     ensures longer { OnOk result (length walk.new.records.items ≡ length walk.old.records.items + 1) }
     ensures cause { IfErr result (HasPageCause (P.shelf pages.old) (P.shelf pages.new) need.page) }
 {

@@ -1,4 +1,4 @@
-use Rattle.std.proofs.Common.{◌≡◌, ◌∙◌, ◌+◌, ◌∷◌, ap, arith, reverse, length}
+use Rattle.std.proofs.Common.{◌≡◌, ◌∙◌, ◌∷◌, ap, arith, reverse}
 use Rattle.std.proofs.lemmas.Grind.{common_steps}
 use Rattle.log_model.specs.Walk.{search_at}
 use Rattle.range_search.proofs.Steps.{goes_on}

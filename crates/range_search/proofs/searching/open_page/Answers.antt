@@ -1,4 +1,3 @@
-use Rattle.std.proofs.Common.{◌≡◌, ◌∷◌, reverse}
 use Rattle.log_model.specs.Walk.{search_at}
 use Rattle.range_search.proofs.Steps.{step}
 use Rattle.range_search.proofs.searching.open_page.Goals as goal

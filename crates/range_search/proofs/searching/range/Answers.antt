@@ -1,10 +1,8 @@
-use Rattle.std.proofs.Common.{◌≡◌, ◌∙◌, ap, subst, ℕ, List, [], sym, min}
-use Rattle.metric_laws.specs.Space.{bound}
-use Rattle.scan_model.specs.declared.query.Query.{Query}
+use Rattle.std.proofs.Common.{◌∙◌, ap, subst, ℕ, List, []}
 use Rattle.scan_model.specs.declared.query.Query.TheVariants.{Range}
 use Rattle.page_store.specs.Reading.{nodes_of}
 use Rattle.log_model.specs.Walk.{search_at}
-use Rattle.range_search.specs.Searched.{IsUnderWay, HasWalkCause}
+use Rattle.range_search.specs.Searched.{IsUnderWay}
 use Rattle.range_search.proofs.Answered.{range_found, found_scanned, passes}
 use Rattle.range_search.proofs.searching.range.Goals as goal
 
@@ -20,7 +18,7 @@ returns-in-Ok-of-clause-found g c =
     c.requires.point c.requires.few_pages (g.P.Pages.shelf c.args.pages.now) (g.P.Pages.shelf c.follow.new.pages) (g.R.Ruler.used c.args.ruler.now) (g.R.Ruler.used c.follow.new.ruler)
     c.in-Ok-follow.walk.records.items c.in-Ok-follow.walk.hits.items
     (subst (λ (rho : ℕ). IsUnderWay (search_at (g.R.M.Metric.space (g.R.Ruler.metric c.args.ruler.now)) c.args.q.now rho) (g.P.Pages.shelf c.args.pages.now) (g.P.Pages.shelf c.follow.new.pages)
-        (g.R.Ruler.used c.args.ruler.now) (g.R.Ruler.used c.follow.new.ruler) c.args.live.now.root c.in-Ok-follow.walk.records.items c.in-Ok-follow.walk.hits.items []) c.min.ensures c.in-Ok-follow.ensures.ok)
+    (g.R.Ruler.used c.args.ruler.now) (g.R.Ruler.used c.follow.new.ruler) c.args.live.now.root c.in-Ok-follow.walk.records.items c.in-Ok-follow.walk.hits.items []) c.min.ensures c.in-Ok-follow.ensures.ok)
     c.in-Ok-follow.ensures.few c.in-Ok-of.found c.in-Ok-of.ensures.generation c.in-Ok-of.ensures.root query c.in-Ok-of.ensures.records
     c.in-Ok-of.ensures.answers c.in-Ok-of.ensures.hits
 
