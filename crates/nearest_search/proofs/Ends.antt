@@ -1,9 +1,9 @@
 -- The beginning and the end of the machine, on a sound tree.
-use Rattle.std.proofs.Common.{◌≡◌, ℕ, zero, suc, ◌+◌, ◌-◌, ◌<◌, ◌≤◌, ◌⊎◌, Bool, true, false, cond, List, [], ◌∷◌, ◌++◌, refl, sym, ap, inl, inr, arith, ◌∙◌, length, min, take, subst, Option, Some, None}
-use Rattle.std.specs.Prelude.{IsTrue, map, filter, nat_le, nat_lt, if◌then◌else◌, IsPermutation}
-use Rattle.std.specs.List.{AllByRecursion, flat_map}
+use Rattle.std.proofs.Common.{◌≡◌, ℕ, zero, suc, ◌+◌, ◌<◌, ◌≤◌, true, false, List, [], ◌∷◌, refl, sym, ap, inl, inr, arith, ◌∙◌, length, take, subst, Some, None}
+use Rattle.std.specs.Prelude.{IsTrue, nat_le, IsPermutation}
+use Rattle.std.specs.List.{AllByRecursion}
 use Rattle.std.proofs.lemmas.Bool.Decides.{nat_tests}
-use Rattle.metric_laws.specs.Space.{Space, IsSpace, bound}
+use Rattle.metric_laws.specs.Space.{Space, IsSpace}
 use Rattle.metric_laws.specs.Lists.{IsIn}
 use Rattle.metric_laws.proofs.Lists.{all_weaker}
 use Rattle.scan_model.specs.declared.hit.Hit.{Hit}
@@ -23,10 +23,10 @@ use Rattle.log_model.proofs.Walk.{Spot, answers_in}
 use Rattle.log_model.proofs.Least.{walks_wider, least_allowed}
 use Rattle.log_model.proofs.LeastLog.{root_names}
 use Rattle.nearest_search.specs.declared.pending.Pending.{Pending}
-use Rattle.nearest_search.specs.Counts.{total, one_within, within, IsRadius}
-use Rattle.nearest_search.specs.Machine.{level_of, objects_below, count_near, count_below, pending_of, pending_root, reaches, opens, opens_of, IsFinal, IsPending, IsKept, IsClosed, Holds}
+use Rattle.nearest_search.specs.Counts.{IsRadius}
+use Rattle.nearest_search.specs.Machine.{level_of, objects_below, count_near, pending_of, pending_root, reaches, opens, opens_of, IsFinal, IsPending, IsKept, Holds}
 use Rattle.nearest_search.specs.Relog.{IsRelogged}
-use Rattle.nearest_search.proofs.Totals.{total-none, total-permutation, in-permutation_back}
+use Rattle.nearest_search.proofs.Totals.{total-none, total-permutation}
 use Rattle.nearest_search.proofs.Near.{level_is}
 use Rattle.nearest_search.proofs.Steps.{final_at_end, next_low}
 use Rattle.nearest_search.proofs.Radius.{radius_at}

@@ -1,11 +1,9 @@
 -- A search between two steps, over pages that may tell a sound tree or not.
-use Rattle.std.proofs.Common.{◌≡◌, ◌≢◌, ℕ, zero, suc, ◌+◌, ◌*◌, ◌<◌, ◌≤◌, ◌^◌, Bool, true, false, List, [], ◌∷◌, ◌++◌, refl, sym, ap, arith, ◌∙◌, length, length-append, take, subst, Option, Some, None, Result, Ok, Err, inl, inr, reverse}
-use Rattle.std.specs.Prelude.{IsTrue, IsPermutation, ◌==◌}
-use Rattle.std.specs.List.{AllByRecursion}
+use Rattle.std.proofs.Common.{◌≡◌, ℕ, zero, suc, ◌+◌, ◌<◌, ◌≤◌, ◌^◌, Bool, true, false, List, [], ◌∷◌, ◌++◌, refl, sym, ap, arith, ◌∙◌, length, length-append, subst, Option, Some, None, Err, inl, reverse}
+use Rattle.std.specs.Prelude.{IsTrue, ◌==◌}
 use Rattle.std.proofs.lemmas.Bool.Decides.{nat_tests}
-use Rattle.metric_laws.specs.Space.{Space, IsSpace, bound}
+use Rattle.metric_laws.specs.Space.{Space, IsSpace}
 use Rattle.metric_laws.specs.Counts.{next_count}
-use Rattle.metric_laws.specs.Lists.{IsIn}
 use Rattle.metric_laws.proofs.Lists.{all_append}
 use Rattle.scan_model.specs.declared.hit.Hit.{Hit}
 use Rattle.scan_model.specs.declared.query.Query.{Query}
@@ -25,8 +23,7 @@ use Rattle.log_model.specs.declared.marks.Need.{Need}
 use Rattle.log_model.specs.declared.traversal.Traversal.{Traversal}
 use Rattle.log_model.specs.Counts.{count_up, entry_count}
 use Rattle.log_model.specs.Grammar.{IsLawfulQuery}
-use Rattle.log_model.specs.InOrder.{in_order, hit_before}
-use Rattle.log_model.specs.Sound.{IsLogOf, IsLeastLog, selected, search_for, pruning_radius}
+use Rattle.log_model.specs.Sound.{IsLogOf, IsLeastLog, selected, search_for}
 use Rattle.log_model.specs.Laws.{scan_answers}
 use Rattle.log_model.specs.Steps.{TakesNode}
 use Rattle.log_model.specs.Walk.{Search, search_at, AreLeast, WalksBy, ReachesBy, least_marks, hits_of, needs_of, record_of, root_need}
@@ -37,7 +34,7 @@ use Rattle.nearest_search.specs.declared.pending.Pending.{Pending}
 use Rattle.nearest_search.specs.Counts.{IsRadius}
 use Rattle.nearest_search.specs.Queue.{IsNext}
 use Rattle.nearest_search.specs.Keeping.{kept_node}
-use Rattle.nearest_search.specs.Machine.{pending_root, Holds}
+use Rattle.nearest_search.specs.Machine.{pending_root}
 use Rattle.nearest_search.specs.Opened.{State, IsOpened}
 use Rattle.nearest_search.specs.Relog.{IsRelogging, IsRelogged}
 use Rattle.nearest_search.specs.Searched.{KeepsFew, IsExploring, IsExplored, HasNearestCause, IsNearest}
@@ -93,8 +90,8 @@ module _ (s : Space) (axioms : IsSpace s) (old : Shelf) (live : Live) (q : List 
         new.asked ≡ next_count now.asked → new.reads ≤ now.reads + 1 → opened < live.pages → IsExploring s old new live q k after (opened + 1)
     explore_steps f j new after is_search is_k does same asked reads low =
         let done : IsOpened (search_at s q rho) now k next (record { queue = rest; best = state.best; kept = state.kept }) after =
-                subst (λ (n : ℕ). IsOpened (search_at s q rho) now n next (record { queue = rest; best = state.best; kept = state.kept }) after) is_k
-                (subst (λ (g : Search). IsOpened g now j next (record { queue = rest; best = state.best; kept = state.kept }) after) is_search does) in
+        subst (λ (n : ℕ). IsOpened (search_at s q rho) now n next (record { queue = rest; best = state.best; kept = state.kept }) after) is_k
+        (subst (λ (g : Search). IsOpened g now j next (record { queue = rest; best = state.best; kept = state.kept }) after) is_search does) in
         record {
           same = same_trans old now new before.same same;
           asked = asked ∙ ap next_count before.asked ∙ count_up_more old.asked opened ∙ ap (count_up old.asked) (let e : suc opened ≡ opened + 1 = omega arith in e);
@@ -179,19 +176,19 @@ module _ (s : Space) (axioms : IsSpace s) (old : Shelf) (live : Live) (q : List 
       let end = ends s axioms (nodes_of old.read) live q q_fits k sound some state.kept state.queue state.best opened (explored.exploring.holds tells sound) rho explored.radius explored.beyond hits records logged in
       let long : length found.log.records ≡ opened = ap length are ∙ end.1 in
       let search : search_at s q rho ≡ search_for s found.log.query found.log.answers =
-              ap (search_at s q) (sym end.2) ∙ (λ i. search_for s (sym named.query_is i) (sym answers i)) in
+      ap (search_at s q) (sym end.2) ∙ (λ i. search_for s (sym named.query_is i) (sym answers i)) in
       let least : IsLeastLog s (nodes_of old.read) live (Nearest q k) found.log = (
-            named.query_is,
-            record {
-              generation_is = named.generation_is;
-              root_is = named.root_is;
-              point_fits = rw named.query_is q_fits;
-              hits = hits;
-              walk = subst (λ (g : Search). WalksBy AreLeast g (nodes_of old.read) (root_need live.root ∷ []) found.log.records hits) search
-                  (subst (λ (rs : List Record). WalksBy AreLeast (search_at s q rho) (nodes_of old.read) (root_need live.root ∷ []) rs hits) (sym are) end.0);
-              answers_are = rw named.query_is answers;
-            },
-          ) in
+        named.query_is,
+        record {
+          generation_is = named.generation_is;
+          root_is = named.root_is;
+          point_fits = rw named.query_is q_fits;
+          hits = hits;
+          walk = subst (λ (g : Search). WalksBy AreLeast g (nodes_of old.read) (root_need live.root ∷ []) found.log.records hits) search
+              (subst (λ (rs : List Record). WalksBy AreLeast (search_at s q rho) (nodes_of old.read) (root_need live.root ∷ []) rs hits) (sym are) end.0);
+          answers_are = rw named.query_is answers;
+        },
+      ) in
       record {
         scanned =
             named.hits_are ∙ sound_complete s (nodes_of old.read) live found.log axioms sound (least_sound s (nodes_of old.read) live (Nearest q k) found.log least)

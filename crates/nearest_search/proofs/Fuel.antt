@@ -1,25 +1,24 @@
 -- How many pages the final walk opens, and that there is a final radius.
-use Rattle.std.proofs.Common.{◌≡◌, ℕ, zero, suc, ◌+◌, ◌-◌, ◌<◌, ◌≤◌, Bool, true, false, cond, List, [], ◌∷◌, ◌++◌, refl, sym, ap, ◌∙◌, Result, Ok, Err, arith, length, subst, append_assoc, Option, Some, None, inl, inr, ◌⊎◌}
+use Rattle.std.proofs.Common.{◌≡◌, ℕ, zero, suc, ◌+◌, ◌<◌, ◌≤◌, Bool, true, false, cond, List, [], ◌∷◌, ◌++◌, refl, ap, ◌∙◌, arith, length, subst, Option, Some, inl, inr, ◌⊎◌}
 use Rattle.std.specs.Prelude.{IsTrue, map, filter, nat_le, nat_lt, if◌then◌else◌}
 use Rattle.std.specs.List.{AllByRecursion, flat_map}
 use Rattle.std.proofs.lemmas.Bool.Decides.{nat_tests}
 use Rattle.std.proofs.Common.{length-append}
-use Rattle.metric_laws.specs.Space.{Space, IsSpace, bound}
+use Rattle.metric_laws.specs.Space.{IsSpace, bound}
 use Rattle.metric_laws.proofs.Lists.{all_append}
 use Rattle.scan_model.specs.declared.hit.Hit.{Hit}
 use Rattle.tree_shape.specs.declared.entry.Node.{Node}
 use Rattle.tree_shape.specs.declared.entry.Node.TheVariants.{Leaf, Inner}
 use Rattle.tree_shape.specs.declared.entry.InnerEntry.{InnerEntry}
 use Rattle.tree_shape.specs.Tree.{Nodes, IsSoundAt, pages_at, inner_entries}
-use Rattle.tree_shape.proofs.Within.{SoundSubtree}
 use Rattle.log_model.specs.declared.marks.Record.{Record}
 use Rattle.log_model.specs.declared.marks.Need.{Need}
-use Rattle.log_model.specs.Walk.{Search, WalksBy, AreLeast, least_for_subtree, least_marks, needs_of, need_of, hits_of, near_ones}
+use Rattle.log_model.specs.Walk.{Search, WalksBy, AreLeast, least_for_subtree, least_marks, needs_of, near_ones}
 use Rattle.log_model.proofs.Pruned.{FitsAbove, point_above}
 use Rattle.log_model.proofs.Walk.{Spot, need_at, spot_of, IsSoundSpot, needs_from_spots, near_of_sound, same_node}
 use Rattle.nearest_search.specs.Counts.{total}
 use Rattle.nearest_search.specs.Machine.{reaches, opens, IsFinal}
-use Rattle.nearest_search.proofs.Totals.{total-append, total-map}
+use Rattle.nearest_search.proofs.Totals.{total-append}
 use Rattle.nearest_search.proofs.Near.{near_reaches}
 
 -- no more pages than there are
@@ -40,9 +39,10 @@ opens_few f nodes (suc h) page = (let e = each (λ p. opens_few f nodes h p) (in
 -- some radius is the final one
 pub final_below : (k : ℕ) (count : ℕ → ℕ) (n : ℕ) → ((r : ℕ) × (r < n) × (k ≤ count r) × ((t : ℕ) → t < r → count t < k)) ⊎ ((t : ℕ) → t < n → count t < k)
 final_below k count zero = inr (λ t low. absurd (omega arith))
-final_below k count (suc n) = elim (final_below k count n)
-    [ inl w ↦ inl (w.0, (omega (arith, w.1)), w.2, w.3)
-    | inr none ↦ cases none (nat_le k (count n)) refl ]
+final_below k count (suc n) = elim (final_below k count n) [
+  | inl w ↦ inl (w.0, (omega (arith, w.1)), w.2, w.3)
+  | inr none ↦ cases none (nat_le k (count n)) refl
+]
   where
     next : ((t : ℕ) → t < n → count t < k) → count n < k → (t : ℕ) → t < suc n → count t < k
     next none here t low = split (nat_lt t n) refl
@@ -50,14 +50,16 @@ final_below k count (suc n) = elim (final_below k count n)
         split : (b : Bool) → nat_lt t n ≡ b → count t < k
         split true e = none t (let l : t < n = grind (arith, nat_tests) in l)
         split false e = let same : t ≡ n = grind (arith, nat_tests) in rw same here
+
     cases : ((t : ℕ) → t < n → count t < k) → (b : Bool) → nat_le k (count n) ≡ b → ((r : ℕ) × (r < suc n) × (k ≤ count r) × ((t : ℕ) → t < r → count t < k)) ⊎ ((t : ℕ) → t < suc n → count t < k)
     cases none true e = inl (n, (omega arith), (let l : k ≤ count n = grind (arith, nat_tests) in l), none)
     cases none false e = inr (next none (let l : count n < k = grind (arith, nat_tests) in l))
 
 pub has_final : (k : ℕ) (count : ℕ → ℕ) → (rho : ℕ) × IsFinal k count rho
-has_final k count = elim (final_below k count bound)
-    [ inl w ↦ (w.0, (record { bounded = (let l = w.1 in omega arith); fewer = w.3; enough = λ less. w.2 }))
-    | inr none ↦ (bound, (record { bounded = (omega arith); fewer = none; enough = λ less. absurd (omega arith) })) ]
+has_final k count = elim (final_below k count bound) [
+  | inl w ↦ (w.0, (record { bounded = (let l = w.1 in omega arith); fewer = w.3; enough = λ less. w.2 }))
+  | inr none ↦ (bound, (record { bounded = (omega arith); fewer = none; enough = λ less. absurd (omega arith) }))
+]
 
 module _ (f : Search) (axioms : IsSpace f.space) (q_fits : IsTrue (f.space.fits f.point)) (nodes : Nodes) where
   abbrev pub opens_all : List Spot → ℕ
@@ -90,14 +92,14 @@ module _ (f : Search) (axioms : IsSpace f.space) (q_fits : IsTrue (f.space.fits 
       let kids : List Spot = map (spot_of f.space height) (near_ones es (map (least_for_subtree f (point_above f above)) es)) in
       let least_ones : marks ≡ map (least_for_subtree f (point_above f above)) es = marked ∙ ap (λ (m : Node). least_marks f (point_above f above) m) inner in
       let needed : needs_of f node marks ++ map (need_at f) ps ≡ map (need_at f) (kids ++ ps) =
-              (λ i. needs_of f (inner i) (least_ones i) ++ map (need_at f) ps)
-              ∙ needs_from_spots f f.space height (near_ones es (map (least_for_subtree f (point_above f above)) es)) ps in
+      (λ i. needs_of f (inner i) (least_ones i) ++ map (need_at f) ps)
+      ∙ needs_from_spots f f.space height (near_ones es (map (least_for_subtree f (point_above f above)) es)) ps in
       let deep = ih (kids ++ ps)
-              (all_append (IsSoundSpot f.space nodes) kids ps (near_of_sound f.space nodes height above es (map (least_for_subtree f (point_above f above)) es) fit sound.3) sounds) hits
-              (subst (λ (ns : List Need). WalksBy AreLeast f nodes ns rs hits) needed walk) in
+      (all_append (IsSoundSpot f.space nodes) kids ps (near_of_sound f.space nodes height above es (map (least_for_subtree f (point_above f above)) es) fit sound.3) sounds) hits
+      (subst (λ (ns : List Need). WalksBy AreLeast f nodes ns rs hits) needed walk) in
       let a = total-append (λ p. opens f nodes p.height p.page) kids ps in
       let near : opens_all kids ≡ opens_all (map (spot_of f.space height) (filter (reaches f) es)) =
-              ap (λ (xs : List InnerEntry). opens_all (map (spot_of f.space height) xs)) (near_reaches f axioms q_fits nodes height above fit es sound.3) in
+      ap (λ (xs : List InnerEntry). opens_all (map (spot_of f.space height) xs)) (near_reaches f axioms q_fits nodes height above fit es sound.3) in
       let b = opens_near height es in
       let here : opens f nodes (suc height) page ≡ suc (total (λ e. if reaches f e then opens f nodes height e.child else 0) es) = rw sound.1 refl in
       omega arith

@@ -1,6 +1,6 @@
 -- The walk with the least marks over kept nodes.
-use Rattle.std.proofs.Common.{◌≡◌, ℕ, ◌+◌, ◌<◌, ◌≤◌, ◌⊎◌, Bool, true, false, List, [], ◌∷◌, ◌++◌, refl, sym, ap, inl, inr, arith, ◌∙◌, length, subst, Option, Some, None}
-use Rattle.std.specs.Prelude.{IsTrue, map, nat_le, if◌then◌else◌}
+use Rattle.std.proofs.Common.{◌≡◌, ℕ, Bool, true, false, List, [], ◌∷◌, ◌++◌, refl, sym, inl, inr, arith, subst, Option, Some, None}
+use Rattle.std.specs.Prelude.{IsTrue, map, if◌then◌else◌}
 use Rattle.std.specs.List.{AllByRecursion}
 use Rattle.std.proofs.lemmas.Bool.Decides.{nat_tests}
 use Rattle.metric_laws.specs.Pruning.{centre_rules_out}
@@ -16,7 +16,7 @@ use Rattle.log_model.specs.declared.marks.Mark.{Mark}
 use Rattle.log_model.specs.declared.marks.Mark.TheVariants.{Skip, Far, Near}
 use Rattle.log_model.specs.declared.marks.Record.{Record}
 use Rattle.log_model.specs.declared.marks.Need.{Need}
-use Rattle.log_model.specs.Walk.{Search, Rule, ReachesBy, WalksBy, AreLeast, away, is_skipped, least_for_subtree, least_marks, near_ones, need_of, needs_of, hits_of, root_need}
+use Rattle.log_model.specs.Walk.{Search, Rule, ReachesBy, WalksBy, AreLeast, away, is_skipped, least_for_subtree, least_marks, near_ones, need_of, needs_of, root_need}
 use Rattle.log_model.proofs.Reached.{reached_inside, walks_whole}
 use Rattle.nearest_search.specs.Machine.{reaches, IsKept}
 use Rattle.nearest_search.specs.Relog.{IsRelogged, IsStopped}
@@ -30,8 +30,10 @@ near_reach f above (e ∷ es) = cases (is_skipped f above e.parent e.radius) (ce
     later : AllByRecursion (λ x. IsIn x es × IsTrue (reaches f x)) (near_ones es (map (least_for_subtree f above) es)) → AllByRecursion (λ x. IsIn x (e ∷ es) × IsTrue (reaches f x)) (near_ones es (map (least_for_subtree f above) es))
     later rest = all_weaker (λ x. IsIn x es × IsTrue (reaches f x)) (λ x. IsIn x (e ∷ es) × IsTrue (reaches f x)) (near_ones es (map (least_for_subtree f above) es))
         (λ x w. (inr w.0, w.1)) rest
+
     near : centre_rules_out (away f e.point) f.rho e.radius ≡ false → IsTrue (reaches f e)
     near c = grind (arith, nat_tests)
+
     cases : (s c : Bool) → centre_rules_out (away f e.point) f.rho e.radius ≡ c →
         AllByRecursion (λ x. IsIn x (e ∷ es) × IsTrue (reaches f x)) (near_ones es (map (least_for_subtree f above) es)) →
         AllByRecursion (λ x. IsIn x (e ∷ es) × IsTrue (reaches f x)) (near_ones (e ∷ es) ((if s then Skip else (if c then Far else Near)) ∷ map (least_for_subtree f above) es))
@@ -44,14 +46,13 @@ pub agrees_reach : (rule : Rule) (f : Search) (nodes kept : Nodes) → ((page : 
     ReachesBy rule f kept ns rs hits left → ReachesBy rule f nodes ns rs hits left
 agrees_reach rule f nodes kept agrees ns [] hits left walk = walk
 agrees_reach rule f nodes kept agrees [] (r ∷ rs) hits left walk = absurd walk
-agrees_reach rule f nodes kept agrees (n ∷ ns) (r ∷ rs) hits left walk =
-    (
-      walk.0,
-      agrees n.page walk.0 walk.1,
-      walk.2,
-      walk.3,
-      (walk.4.0, agrees_reach rule f nodes kept agrees (needs_of f walk.0 r.marks ++ ns) rs walk.4.0 left walk.4.1, walk.4.2),
-    )
+agrees_reach rule f nodes kept agrees (n ∷ ns) (r ∷ rs) hits left walk = (
+  walk.0,
+  agrees n.page walk.0 walk.1,
+  walk.2,
+  walk.3,
+  (walk.4.0, agrees_reach rule f nodes kept agrees (needs_of f walk.0 r.marks ++ ns) rs walk.4.0 left walk.4.1, walk.4.2),
+)
 
 module _ (f : Search) (nodes kept : Nodes) (agrees : (page : ℕ) (node : Node) → kept page ≡ Some node → nodes page ≡ Some node)
     (closed : (page : ℕ) (node : Node) → kept page ≡ Some node → (e : InnerEntry) → IsIn e (inner_entries (Some node)) → IsTrue (reaches f e) → IsKept kept e.child) where

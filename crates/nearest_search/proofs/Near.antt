@@ -1,28 +1,22 @@
 -- What is near in an opened node.
-use Rattle.std.proofs.Common.{◌≡◌, ℕ, zero, suc, ◌+◌, ◌-◌, ◌<◌, ◌≤◌, ◌⊎◌, Bool, true, false, cond, List, [], ◌∷◌, ◌++◌, refl, sym, ap, inl, inr, arith, ◌∙◌, length, min, subst, Option, Some, None}
+use Rattle.std.proofs.Common.{◌≡◌, ℕ, zero, suc, ◌+◌, ◌-◌, ◌≤◌, Bool, true, false, cond, List, [], ◌∷◌, refl, ap, arith, Option, Some, None}
 use Rattle.std.specs.Prelude.{IsTrue, map, filter, nat_le, if◌then◌else◌}
-use Rattle.std.specs.List.{AllByRecursion, AllZip, flat_map}
+use Rattle.std.specs.List.{AllByRecursion}
 use Rattle.std.proofs.lemmas.Bool.Decides.{nat_tests}
-use Rattle.metric_laws.specs.Space.{Space, IsSpace, bound}
+use Rattle.metric_laws.specs.Space.{Space, IsSpace}
 use Rattle.metric_laws.specs.Pruning.{parent_rules_out, centre_rules_out}
-use Rattle.metric_laws.specs.Lists.{IsIn}
-use Rattle.metric_laws.proofs.Lists.{all_weaker, in-filter, filter-in, in-map, map-in}
 use Rattle.tree_shape.specs.declared.entry.LeafEntry.{LeafEntry}
 use Rattle.tree_shape.specs.declared.entry.InnerEntry.{InnerEntry}
-use Rattle.tree_shape.specs.declared.entry.Node.{Node}
-use Rattle.tree_shape.specs.declared.entry.Node.TheVariants.{Leaf, Inner}
-use Rattle.tree_shape.specs.Tree.{Nodes, IsSoundAt, IsSoundObject, objects_at, inner_entries, parent_distance}
+use Rattle.tree_shape.specs.declared.entry.Node.TheVariants.{Leaf}
+use Rattle.tree_shape.specs.Tree.{Nodes, IsSoundAt, IsSoundObject, objects_at, parent_distance}
 use Rattle.tree_shape.specs.Fill.{least_for}
 use Rattle.tree_shape.proofs.Within.{SoundSubtree}
-use Rattle.log_model.specs.declared.marks.Mark.{Mark}
 use Rattle.log_model.specs.declared.marks.Mark.TheVariants.{Skip, Far, Near}
-use Rattle.log_model.specs.Walk.{Search, away, search_at, is_skipped, allows_object, least_for_object, least_for_subtree, least_marks, near_ones, hits_of, hit_of}
+use Rattle.log_model.specs.Walk.{Search, away, is_skipped, allows_object, least_for_object, least_for_subtree, near_ones, hit_of}
 use Rattle.log_model.proofs.Pruned.{is_answer, FitsAbove, point_above, leaf_near, held}
 use Rattle.log_model.proofs.Least.{object_allowed, zip-map}
-use Rattle.nearest_search.specs.declared.pending.Pending.{Pending}
 use Rattle.nearest_search.specs.Counts.{total, one_within, within}
-use Rattle.nearest_search.specs.Machine.{level_of, objects_below, count_near, count_below, pending_of, dists_of, pendings_of, reaches, opens, opens_of}
-use Rattle.nearest_search.proofs.Totals.{total-append, total-map, total-flat_map, total-agree, total-none}
+use Rattle.nearest_search.specs.Machine.{level_of, count_near, count_below, pending_of, reaches, opens, opens_of}
 
 -- the parent test never says more than the centre test would
 pub skip_far : (dp de dq stored rho radius : ℕ) → stored ≡ de → parent_rules_out dp stored rho radius ≡ true → dp ≤ de + dq → de ≤ dq + dp → nat_le dq (rho + radius) ≡ false
@@ -49,12 +43,15 @@ module _ (f : Search) (axioms : IsSpace f.space) (q_fits : IsTrue (f.space.fits 
       skipped None fit is test = absurd (cc)
       skipped (Some u) fit is test =
           skip_far (away f u) (f.space.dist e.point u) (away f e.point) e.parent f.rho e.radius is test
-              (rw (axioms.symmetric e.point u sound.0.0.point_fits fit) (axioms.triangle u e.point f.point fit sound.0.0.point_fits q_fits))
-              (rw (axioms.symmetric u f.point fit q_fits) (axioms.triangle e.point f.point u sound.0.0.point_fits q_fits fit))
+          (rw (axioms.symmetric e.point u sound.0.0.point_fits fit) (axioms.triangle u e.point f.point fit sound.0.0.point_fits q_fits))
+          (rw (axioms.symmetric u f.point fit q_fits) (axioms.triangle e.point f.point u sound.0.0.point_fits q_fits fit))
+
       far : centre_rules_out (away f e.point) f.rho e.radius ≡ true → reaches f e ≡ false
       far c = grind (arith, nat_tests)
+
       near : centre_rules_out (away f e.point) f.rho e.radius ≡ false → reaches f e ≡ true
       near c = grind (arith, nat_tests)
+
       cases : (s c : Bool) → is_skipped f (point_above f above) e.parent e.radius ≡ s → centre_rules_out (away f e.point) f.rho e.radius ≡ c →
           near_ones es (map (least_for_subtree f (point_above f above)) es) ≡ filter (reaches f) es →
           near_ones (e ∷ es) ((if s then Skip else (if c then Far else Near)) ∷ map (least_for_subtree f (point_above f above)) es)
@@ -68,7 +65,7 @@ module _ (f : Search) (axioms : IsSpace f.space) (q_fits : IsTrue (f.space.fits 
       near_ones es (map (least_for_object f (point_above f above)) es) ≡ filter (is_answer f) es
   leaf_answers above fit es sound =
       leaf_near f axioms q_fits above fit es (map (least_for_object f (point_above f above)) es) sound
-          (zip-map (allows_object f (point_above f above)) (least_for_object f (point_above f above)) (object_allowed f (point_above f above)) es)
+      (zip-map (allows_object f (point_above f above)) (least_for_object f (point_above f above)) (object_allowed f (point_above f above)) es)
 
   -- no object of a sphere that doesn't reach is within the radius
   pub out_of_reach : (nodes : Nodes) (h : ℕ) (above : Option (List ℕ)) (e : InnerEntry) → SoundSubtree f.space nodes h above e → reaches f e ≡ false →
@@ -80,6 +77,7 @@ module _ (f : Search) (axioms : IsSpace f.space) (q_fits : IsTrue (f.space.fits 
           let t = axioms.triangle e.point o.point f.point sound.0.point_fits o_fits q_fits in
           let y = axioms.symmetric e.point o.point sound.0.point_fits o_fits in
           grind (arith, nat_tests)
+
       none : (os : List LeafEntry) → AllByRecursion (λ o. IsTrue (f.space.fits o.point) × (f.space.dist o.point e.point ≤ e.radius)) os → count_near f r os ≡ 0
       none [] all = refl
       none (o ∷ os) all = let i = one o all.0.0 all.0.1 in let ih = none os all.1 in omega arith
@@ -116,9 +114,11 @@ opens_covered f g same nodes h above (e ∷ es) sound measure low = cases (reach
   where
     wider : reaches g e ≡ true → reaches f e ≡ true
     wider i = let m = measure e.point in grind (arith, nat_tests)
+
     lower : (b : Bool) → reaches g e ≡ b → nat_le (away f e.point - e.radius) g.rho ≡ b
     lower true i = let m = measure e.point in grind (arith, nat_tests)
     lower false i = let m = measure e.point in grind (arith, nat_tests)
+
     cases : (b c : Bool) → reaches f e ≡ b → reaches g e ≡ c →
         total (λ e. if reaches g e then opens g nodes h e.child else 0) es ≡ total (opens_of g nodes) (map (pending_of f) (filter (reaches f) es)) →
         (if c then opens g nodes h e.child else 0) + total (λ e. if reaches g e then opens g nodes h e.child else 0) es

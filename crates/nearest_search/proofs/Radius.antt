@@ -1,30 +1,29 @@
 -- The final radius is the radius that the answers give.
-use Rattle.std.proofs.Common.{◌≡◌, ℕ, zero, suc, ◌+◌, ◌-◌, ◌<◌, ◌≤◌, ◌⊎◌, Bool, true, false, cond, List, [], ◌∷◌, ◌++◌, refl, sym, ap, inl, inr, arith, ◌∙◌, length, min, take, subst, Option, Some, None, sub-one, length-take}
-use Rattle.std.specs.Prelude.{IsTrue, map, filter, nat_le, nat_lt, if◌then◌else◌, ◌==◌, slice_get}
+use Rattle.std.proofs.Common.{◌≡◌, ℕ, zero, suc, ◌+◌, ◌-◌, ◌<◌, ◌≤◌, Bool, true, false, cond, List, [], ◌∷◌, refl, sym, ap, inl, inr, arith, ◌∙◌, length, min, take, subst, Option, Some, sub-one, length-take}
+use Rattle.std.specs.Prelude.{IsTrue, map, filter, nat_lt, if◌then◌else◌, ◌==◌, slice_get}
 use Rattle.std.specs.List.{AllByRecursion}
 use Rattle.std.specs.Option.{option_map_or}
 use Rattle.std.proofs.lemmas.Bool.Decides.{nat_tests}
 use Rattle.metric_laws.specs.Space.{Space, IsSpace, bound}
 use Rattle.metric_laws.specs.Lists.{IsIn}
-use Rattle.metric_laws.proofs.Lists.{in-filter, filter-in, in-map, map-in, all_in}
+use Rattle.metric_laws.proofs.Lists.{in-filter, in-map}
 use Rattle.scan_model.specs.declared.hit.Hit.{Hit}
-use Rattle.scan_model.specs.declared.query.Query.{Query}
-use Rattle.scan_model.specs.declared.query.Query.TheVariants.{Range, Nearest}
+use Rattle.scan_model.specs.declared.query.Query.TheVariants.{Nearest}
 use Rattle.log_model.specs.InOrder.{put_once, in_order, hit_before}
 use Rattle.log_model.specs.Sound.{last_dist, pruning_radius}
 use Rattle.log_model.proofs.Order.{before_all, rising-in_order, in-in_order}
 use Rattle.log_model.proofs.Orders.{hit_order}
 use Rattle.log_model.proofs.Hits.{Rising}
 use Rattle.tree_shape.specs.declared.entry.LeafEntry.{LeafEntry}
-use Rattle.tree_shape.specs.Tree.{times, points_from}
+use Rattle.tree_shape.specs.Tree.{times}
 use Rattle.tree_shape.proofs.ById.{ids_of}
-use Rattle.log_model.specs.Walk.{Search, away, search_at, hit_of}
+use Rattle.log_model.specs.Walk.{Search, search_at, hit_of}
 use Rattle.log_model.proofs.Pruned.{is_answer}
 use Rattle.log_model.proofs.Walk.{answers_in}
 use Rattle.log_model.proofs.ByScan.{AreIds}
-use Rattle.nearest_search.specs.Counts.{total, one_within, within}
+use Rattle.nearest_search.specs.Counts.{one_within, within}
 use Rattle.nearest_search.specs.Machine.{count_near, IsFinal}
-use Rattle.nearest_search.proofs.Totals.{within_all, within_few}
+use Rattle.nearest_search.proofs.Totals.{within_all}
 use Rattle.nearest_search.proofs.Near.{leaf_covered}
 
 abbrev pub dists : List Hit → List ℕ
@@ -145,7 +144,7 @@ module _ (s : Space) (axioms : IsSpace s) (q : List ℕ) (q_fits : IsTrue (s.fit
       let all : within last.0.dist (dists (x ∷ xs)) ≡ length (dists (x ∷ xs)) = within_all last.0.dist (dists (x ∷ xs)) last.1.2 in
       let long2 = length-dists (x ∷ xs) in
       let few : within last.0.dist (dists (x ∷ xs)) ≤ within last.0.dist (dists found) =
-              subst (λ (ys : List Hit). within last.0.dist (dists ys) ≤ within last.0.dist (dists found)) (sym is) (within-take last.0.dist k found) in
+      subst (λ (ys : List Hit). within last.0.dist (dists ys) ≤ within last.0.dist (dists found)) (sym is) (within-take last.0.dist k found) in
       let value : last_dist (x ∷ xs) ≡ min last.0.dist bound = ap (λ (o : Option Hit). option_map_or (λ h. min h.dist bound) o bound) last.1.0 in
       value ∙ equal last.0.dist near (let c = found_count last.0.dist near in omega arith)
     where

@@ -1,10 +1,9 @@
 -- The order of the queue.
-use Rattle.std.proofs.Common.{◌≡◌, Option, drop, drop-cons, add-one, get_or, ℕ, zero, suc, ◌+◌, ◌-◌, ◌<◌, ◌≤◌, ◌⊎◌, inl, inr, Bool, true, false, cond, List, [], ◌∷◌, ◌++◌, refl, sym, ap, ◌∙◌, arith, length, subst, min}
-use Rattle.std.specs.Prelude.{IsTrue, map, IsPermutation}
+use Rattle.std.proofs.Common.{◌≡◌, Option, drop, drop-cons, add-one, get_or, ℕ, zero, suc, ◌+◌, ◌<◌, ◌≤◌, inl, inr, true, false, List, [], ◌∷◌, ◌++◌, refl, sym, ap, arith, length, min}
+use Rattle.std.specs.Prelude.{map, IsPermutation}
 use Rattle.std.specs.Ordering.{nat_cmp, ordering_then, is_lt}
 use Rattle.std.specs.Option.{option_cmp}
 use Rattle.std.specs.declared.cmp.Ordering.{Ordering}
-use Rattle.std.specs.declared.cmp.Ordering.TheVariants.{Less, Equal, Greater}
 use Rattle.std.specs.BinaryHeap.{IsUpperBound}
 use Rattle.std.specs.declared.cmp.Reverse.{Reverse}
 use Rattle.std.proofs.lemmas.Bool.Decides.{nat_tests}
@@ -12,7 +11,7 @@ use Rattle.std.proofs.lemmas.List.Sorted.{IsPermutation-map, IsPermutation-trans
 use Rattle.metric_laws.specs.Lists.{IsIn}
 use Rattle.nearest_search.specs.declared.pending.Pending.{Pending}
 use Rattle.nearest_search.specs.Queue.{pending_order, IsNext, AllBeyond}
-use Rattle.nearest_search.proofs.Totals.{in-at, in-permutation}
+use Rattle.nearest_search.proofs.Totals.{in-permutation}
 use Rattle.metric_laws.specs.Pruning.{centre_rules_out}
 use Rattle.tree_shape.specs.declared.entry.InnerEntry.{InnerEntry}
 use Rattle.log_model.specs.Walk.{Search, away, is_skipped}
@@ -29,8 +28,10 @@ not_before a b o h = grind (arith, nat_tests)
 pub first_of : (top : Reverse Pending) (xs : List (Reverse Pending)) → IsUpperBound (λ x y. pending_order y.0 x.0) top xs → (y : Pending) → IsIn y (waiting xs) → top.0.low ≤ y.low
 first_of top [] up y i = absurd i
 first_of top (x ∷ xs) up y i =
-    elim i [ inl e ↦ rw e (not_before x.0.low top.0.low (ordering_then (nat_cmp x.0.page top.0.page) (option_cmp nat_cmp x.0.above top.0.above)) up.0)
-           | inr w ↦ first_of top xs up.1 y w ]
+    elim i [
+      | inl e ↦ rw e (not_before x.0.low top.0.low (ordering_then (nat_cmp x.0.page top.0.page) (option_cmp nat_cmp x.0.above top.0.above)) up.0)
+      | inr w ↦ first_of top xs up.1 y w
+    ]
 
 pub waits-at : (xs : List (Reverse Pending)) (k : ℕ) (x : Reverse Pending) → k < length xs → get_or xs k x ≡ x → IsIn x.0 (waiting xs)
 waits-at [] k x low is = absurd (omega arith)
@@ -55,8 +56,8 @@ waits_pushed x xs ys pushed = IsPermutation-map (λ (r : Reverse Pending). r.0) 
 pub moved_one : (all P cur cur' : List Pending) (x : Pending) → IsPermutation all (x ∷ P ++ cur) → IsPermutation (x ∷ cur) cur' → IsPermutation all (P ++ cur')
 moved_one all P cur cur' x before pushed =
     IsPermutation-trans all (x ∷ (P ++ cur)) (P ++ cur') before
-        (IsPermutation-trans (x ∷ (P ++ cur)) (P ++ x ∷ cur) (P ++ cur') (IsPermutation-sym (P ++ x ∷ cur) (x ∷ (P ++ cur)) (IsPermutation-middle P x cur))
-            (IsPermutation-append_right P (x ∷ cur) cur' pushed))
+    (IsPermutation-trans (x ∷ (P ++ cur)) (P ++ x ∷ cur) (P ++ cur') (IsPermutation-sym (P ++ x ∷ cur) (x ∷ (P ++ cur)) (IsPermutation-middle P x cur))
+    (IsPermutation-append_right P (x ∷ cur) cur' pushed))
 
 -- what the rest will queue, after an entry that reaches
 pub pendings_drop : (f : Search) (above : Option ℕ) (es : List InnerEntry) (i : ℕ) (e : InnerEntry) → i < length es → e ≡ get_or es i e →

@@ -1,9 +1,8 @@
 -- The queue of subtrees that aren't opened yet.
-use Rattle.std.specs.Prelude.{◌≡◌, ℕ, ◌≤◌, ◌<◌, List, ◌∷◌, map, IsPermutation}
+use Rattle.std.specs.Prelude.{ℕ, ◌≤◌, ◌<◌, List, ◌∷◌, IsPermutation}
 use Rattle.std.specs.declared.cmp.Ordering.{Ordering}
 use Rattle.std.specs.Ordering.{nat_cmp, ordering_then}
 use Rattle.std.specs.Option.{option_cmp}
-use Rattle.std.specs.declared.cmp.Reverse.{Reverse}
 use Rattle.metric_laws.specs.Lists.{IsIn}
 use Rattle.nearest_search.specs.declared.pending.Pending.{Pending}
 

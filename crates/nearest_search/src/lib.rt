@@ -12,3 +12,6 @@ mod pending;
 mod searching;
 
 pub use searching::nearest;
+
+#[cfg(test)]
+mod tests;

@@ -1,9 +1,8 @@
-use Rattle.std.proofs.Common.{◌≡◌, ◌∙◌, ◌+◌, ◌∷◌, [], ℕ, ap, subst, refl, arith, rules}
+use Rattle.std.proofs.Common.{◌∙◌, ℕ, ap, subst, refl, arith}
 use Rattle.std.specs.BinaryHeap.{heap_items}
 use Rattle.log_model.specs.Walk.{search_at}
 use Rattle.nearest_search.specs.Counts.{IsRadius}
 use Rattle.nearest_search.specs.Keeping.{kept_node}
-use Rattle.nearest_search.specs.Opened.{State}
 use Rattle.nearest_search.proofs.Explored.{explore_begins, explore_steps, explore_room, explore_passes}
 use Rattle.nearest_search.proofs.exploring.explore.Goals as goal
 

@@ -1,6 +1,6 @@
-use Rattle.std.proofs.Common.{◌≡◌, ◌∙◌, ◌+◌, ◌∷◌, [], ap, sym, refl, arith, rules, reverse, length, length-append}
+use Rattle.std.proofs.Common.{◌≡◌, ◌∙◌, ◌∷◌, ap, refl, arith, rules, reverse, length, length-append}
 use Rattle.std.proofs.lemmas.Grind.{common_steps}
-use Rattle.log_model.specs.Walk.{search_at, record_of}
+use Rattle.log_model.specs.Walk.{search_at}
 use Rattle.nearest_search.specs.Keeping.{kept_node}
 use Rattle.nearest_search.proofs.Explored.{relog_steps}
 use Rattle.nearest_search.proofs.logging.relog.Goals as goal

@@ -1,4 +1,4 @@
-use Rattle.std.proofs.Common.{◌≡◌, ◌∷◌, List, [], subst}
+use Rattle.std.proofs.Common.{◌∷◌, List, subst}
 use Rattle.std.specs.Prelude.{IsPermutation}
 use Rattle.nearest_search.specs.Machine.{pending_root}
 use Rattle.nearest_search.specs.declared.pending.Pending.{Pending}

@@ -1,8 +1,5 @@
-use Rattle.std.proofs.Common.{rules, ◌∷◌, List, subst}
-use Rattle.std.specs.Prelude.{IsPermutation}
 use Rattle.std.specs.BinaryHeap.{heap_items}
-use Rattle.nearest_search.specs.declared.pending.Pending.{Pending}
-use Rattle.nearest_search.proofs.Waits.{waits_pushed, waiting}
+use Rattle.nearest_search.proofs.Waits.{waits_pushed}
 use Rattle.nearest_search.proofs.frontier.Frontier.add.Goals as goal
 
 pub returns : goal.returns
