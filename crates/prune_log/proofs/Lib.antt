@@ -1,1 +1,5 @@
 pub mod Loop
+pub mod Exact
+pub mod Things
+pub mod Ordering
+pub mod Logs

@@ -95,11 +95,15 @@ pair_at bytes = do
   dist ← number_at 8 right.1
   Ok (record { left = left.0; right = right.0; dist = dist.0 }, dist.1)
 
+-- a number of things in a byte, where that number passes the test, and the things
+abbrev pub short_at : {X : Type 0} → (ℕ → Bool) → LogFault → (List ℕ → Result (X × List ℕ) LogFault) → List ℕ → Result (List X × List ℕ) LogFault
+short_at test fault reads bytes = do
+  count ← byte_at bytes
+  if test count.0 then many reads always count.0 None count.1 else Err fault
+
 -- as many marks as a node may have entries
 unfoldable pub marks_at : List ℕ → Result (List Mark × List ℕ) LogFault
-marks_at bytes = do
-  count ← byte_at bytes
-  if nat_le count.0 32 then many mark_at always count.0 None count.1 else Err faults.Mark
+marks_at bytes = short_at (λ n. nat_le n 32) faults.Mark mark_at bytes
 
 unfoldable pub record_at : List ℕ → Result (Record × List ℕ) LogFault
 record_at bytes = do
@@ -159,9 +163,7 @@ query_of asked.Nearest k q = Nearest q k
 
 -- a point of 1 to 64 coordinates
 unfoldable pub point_at : List ℕ → Result (List ℕ × List ℕ) LogFault
-point_at bytes = do
-  dim ← byte_at bytes
-  if nat_le 1 dim.0 && nat_le dim.0 64 then many (number_at 4) always dim.0 None dim.1 else Err faults.Kind
+point_at bytes = short_at (λ n. nat_le 1 n && nat_le n 64) faults.Kind (number_at 4) bytes
 
 -- the radius or number, and the point
 unfoldable pub query_at : Asked → List ℕ → Result (Query × List ℕ) LogFault
@@ -182,23 +184,29 @@ log_at bytes = do
   records ← listed_at 4 record_at always answers.1
   Ok (record { generation = tree.0.0; root = tree.0.1; query = query.0; answers = answers.0; records = records.0 }, records.1)
 
--- the kind of a join's log
-unfoldable pub join_kind_at : List ℕ → Result (List ℕ) LogFault
-join_kind_at bytes = do
-  b ← byte_at bytes
+-- the letters, the version and the kind of a join's log
+unfoldable pub join_opening_at : List ℕ → Result (List ℕ) LogFault
+join_opening_at bytes = do
+  next ← opening_at bytes
+  b ← byte_at next
   if b.0 == 3 then Ok b.1 else Err faults.Kind
+
+-- the left tree and the right
+unfoldable pub trees_at : List ℕ → Result (((ℕ × ℕ) × (ℕ × ℕ)) × List ℕ) LogFault
+trees_at bytes = do
+  left ← tree_at bytes
+  right ← tree_at left.1
+  Ok ((left.0, right.0), right.1)
 
 -- a join's log
 unfoldable pub join_log_at : List ℕ → Result (JoinLog × List ℕ) LogFault
 join_log_at bytes = do
-  opened ← opening_at bytes
-  behind ← join_kind_at opened
-  left ← tree_at behind
-  right ← tree_at left.1
-  r ← number_at 8 right.1
+  opened ← join_opening_at bytes
+  trees ← trees_at opened
+  r ← number_at 8 trees.1
   answers ← listed_at 8 pair_at pair_follows r.1
   records ← listed_at 8 join_record_at always answers.1
-  Ok (record { left = left.0; right = right.0; r = r.0; answers = answers.0; records = records.0 }, records.1)
+  Ok (record { left = trees.0.0; right = trees.0.1; r = r.0; answers = answers.0; records = records.0 }, records.1)
 
 -- all of the bytes
 abbrev pub whole : {L : Type 0} → (List ℕ → Result (L × List ℕ) LogFault) → List ℕ → Result L LogFault

@@ -81,11 +81,19 @@ log_bytes log =
     opening_bytes ++ (kind_bytes log.query ++ (tree_bytes log.generation log.root ++ (query_bytes log.query
     ++ (listed 4 hit_bytes log.answers ++ listed 4 record_bytes log.records))))
 
+-- the letters, the version and the kind of a join's log
+abbrev pub join_opening_bytes : List ℕ
+join_opening_bytes = opening_bytes ++ 3 ∷ []
+
+-- the left tree and the right
+abbrev pub trees_bytes : ℕ × ℕ → ℕ × ℕ → List ℕ
+trees_bytes left right = tree_bytes left.0 left.1 ++ tree_bytes right.0 right.1
+
 -- a join's log
 abbrev pub join_log_bytes : JoinLog → List ℕ
 join_log_bytes log =
-    opening_bytes ++ (3 ∷ [] ++ (tree_bytes log.left.0 log.left.1 ++ (tree_bytes log.right.0 log.right.1 ++ (big_bytes 8 log.r
-    ++ (listed 8 pair_bytes log.answers ++ listed 8 join_record_bytes log.records)))))
+    join_opening_bytes ++ (trees_bytes log.left log.right ++ (big_bytes 8 log.r
+    ++ (listed 8 pair_bytes log.answers ++ listed 8 join_record_bytes log.records)))
 
 -- a frame: the length, and the bytes
 abbrev pub frame_bytes : List ℕ → List ℕ
