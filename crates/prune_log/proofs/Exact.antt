@@ -10,16 +10,14 @@ use Rattle.byteorder.specs.Endian.{big_number, big_bytes}
 use Rattle.byteorder.specs.Numbers.{big_from-take, big_from-lt, big_number-reads_back, length-bytes_high_first}
 use Rattle.prune_log.specs.declared.fault.LogFault.{LogFault}
 use Rattle.prune_log.specs.declared.fault.LogFault.TheVariants as faults
+use Rattle.prune_log.specs.Ranges.{IsBytes}
 use Rattle.prune_log.specs.Spelling.{listed}
 use Rattle.prune_log.specs.Reading.{◌>>=◌, byte_at, number_at, may_stand, next_at, many, always, listed_at}
 
-abbrev pub IsBytes : List ℕ → Type 0
-IsBytes bytes = (i : ℕ) → get_or bytes i 0 < 256
-
-IsBytes-drop : (n : ℕ) (bytes : List ℕ) → IsBytes bytes → IsBytes (drop n bytes)
+pub IsBytes-drop : (n : ℕ) (bytes : List ℕ) → IsBytes bytes → IsBytes (drop n bytes)
 IsBytes-drop n bytes h i = rw get_or-drop (h (n + i))
 
-IsBytes-take : (n : ℕ) (bytes : List ℕ) → IsBytes bytes → IsBytes (take n bytes)
+pub IsBytes-take : (n : ℕ) (bytes : List ℕ) → IsBytes bytes → IsBytes (take n bytes)
 IsBytes-take n bytes h i =
     elim (cases_lt i n) [
       | inl lt ↦ rw (get_or-take n bytes i 0 lt) (h i)
@@ -91,7 +89,7 @@ number_takes n limit wide bytes x rest fits e =
     let x-is : big_number n bytes ≡ x = ap (λ (p : ℕ × List ℕ). p.0) g.1 in
     let rest-is : drop n bytes ≡ rest = ap (λ (p : ℕ × List ℕ). p.1) g.1 in
     let front : big_bytes n x ≡ take n bytes =
-        ap (big_bytes n) (sym x-is ∙ sym (big_from-take 0 n n bytes (omega arith))) ∙ wide.back (take n bytes) (omega (arith, length-take n bytes)) (IsBytes-take n bytes fits) in (
+    ap (big_bytes n) (sym x-is ∙ sym (big_from-take 0 n n bytes (omega arith))) ∙ wide.back (take n bytes) (omega (arith, length-take n bytes)) (IsBytes-take n bytes fits) in (
       record {
         parts = sym (take-append-drop n bytes) ∙ ap (λ (t : List ℕ). t ++ drop n bytes) (sym front) ∙ ap (λ (t : List ℕ). big_bytes n x ++ t) rest-is;
         rest_bytes = subst IsBytes rest-is (IsBytes-drop n bytes fits);
@@ -155,7 +153,7 @@ unfolding many
 many_again Fits spelled reads reader follows [] last rest fits chain = refl
 many_again Fits spelled reads reader follows (x ∷ xs) last rest fits chain =
     let regrouped : flat_map spelled (x ∷ xs) ++ rest ≡ spelled x ++ (flat_map spelled xs ++ rest) =
-        ap (λ (t : List ℕ). t ++ rest) (flat_map-cons spelled x xs) ∙ append_assoc (spelled x) (flat_map spelled xs) rest in
+    ap (λ (t : List ℕ). t ++ rest) (flat_map-cons spelled x xs) ∙ append_assoc (spelled x) (flat_map spelled xs) rest in
     ap (many reads follows (suc (length xs)) last) regrouped
     ∙ rw (reader.again x (flat_map spelled xs ++ rest) fits.0, chain.0, many_again Fits spelled reads reader follows xs (Some x) rest fits.1 chain.1) refl
 

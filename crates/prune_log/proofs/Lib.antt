@@ -3,3 +3,5 @@ pub mod Exact
 pub mod Things
 pub mod Ordering
 pub mod Logs
+pub mod Whole
+pub mod Framing

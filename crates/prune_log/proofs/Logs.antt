@@ -18,10 +18,10 @@ use Rattle.prune_log.specs.declared.fault.LogFault.{LogFault}
 use Rattle.prune_log.specs.declared.fault.LogFault.TheVariants as faults
 use Rattle.prune_log.specs.declared.query_log.Asked.{Asked}
 use Rattle.prune_log.specs.declared.query_log.Asked.TheVariants as asked
-use Rattle.prune_log.specs.Ranges.{QueryInRange, HitInRange, PairInRange, LogInRange, JoinLogInRange}
+use Rattle.prune_log.specs.Ranges.{IsBytes, QueryInRange, HitInRange, PairInRange, LogInRange, JoinLogInRange}
 use Rattle.prune_log.specs.Spelling.{magic, listed, coordinate_bytes, hit_bytes, pair_bytes, record_bytes, join_record_bytes, kind_bytes, amount_of, query_bytes, opening_bytes, tree_bytes, log_bytes, join_opening_bytes, trees_bytes, join_log_bytes}
 use Rattle.prune_log.specs.Reading.{◌>>=◌, byte_at, number_at, listed_at, always, hit_at, hit_follows, pair_at, pair_follows, record_at, join_record_at, opening_at, kind_at, tree_at, is_amount, query_of, point_at, query_at, log_at, join_opening_at, trees_at, join_log_at}
-use Rattle.prune_log.proofs.Exact.{IsBytes, bind_ok, guard_ok, ok_is, Takes, Takes-then, IsReader, wide32, wide64, number_reader, byte_takes, IsListed, listed_reader, chain_always}
+use Rattle.prune_log.proofs.Exact.{bind_ok, guard_ok, ok_is, Takes, Takes-then, IsReader, wide32, wide64, number_reader, byte_takes, IsListed, listed_reader, chain_always}
 use Rattle.prune_log.proofs.Things.{IsShort, short_reader, IsRecord, IsJoinRecord, hit_reader, pair_reader, record_reader, join_record_reader}
 use Rattle.prune_log.proofs.Ordering.{hits_ascend, hits_chain, pairs_ascend, pairs_chain}
 
@@ -41,7 +41,7 @@ opening_takes bytes rest fits e =
     let took_version = byte_takes next.0 version.0.0 version.0.1 behind.rest_bytes version.1 in
     let both = Takes-then bytes (big_bytes 4 letters.0.0) next.0 (version.0.0 ∷ []) version.0.1 behind took_version.0 in
     let front : big_bytes 4 letters.0.0 ++ version.0.0 ∷ [] ≡ opening_bytes =
-        ap (λ (n : ℕ). big_bytes 4 n ++ version.0.0 ∷ []) (eqb-true letters.0.0 magic right_letters.0) ∙ ap (λ (n : ℕ). big_bytes 4 magic ++ n ∷ []) (eqb-true version.0.0 1 right_version.0) in
+    ap (λ (n : ℕ). big_bytes 4 n ++ version.0.0 ∷ []) (eqb-true letters.0.0 magic right_letters.0) ∙ ap (λ (n : ℕ). big_bytes 4 magic ++ n ∷ []) (eqb-true version.0.0 1 right_version.0) in
     subst (Takes bytes opening_bytes) (ok_is version.0.1 rest right_version.1) (subst (λ (t : List ℕ). Takes bytes t version.0.1) front both)
 
 opening_again : (rest : List ℕ) → opening_at (opening_bytes ++ rest) ≡ Ok rest
@@ -98,10 +98,10 @@ point_reader =
     let short = short_reader (λ x. x < 2 ^ 32) coordinate_bytes (number_at 4) (number_reader 4 (2 ^ 32) wide32) (λ n. nat_le 1 n && nat_le n 64) faults.Kind in
     record {
       takes = λ bytes q rest fits e. (
-        let took = short.takes bytes q rest fits e in
-        let passes = is_both (nat_le 1 (length q)) (nat_le (length q) 64) took.1.passes in
-        (took.0, record { lawful = record { some = leb-true 1 (length q) passes.0; few = leb-true (length q) 64 passes.1 }; coordinates = took.1.each })
-      );
+          let took = short.takes bytes q rest fits e in
+          let passes = is_both (nat_le 1 (length q)) (nat_le (length q) 64) took.1.passes in
+          (took.0, record { lawful = record { some = leb-true 1 (length q) passes.0; few = leb-true (length q) 64 passes.1 }; coordinates = took.1.each })
+          );
       again = λ q rest is. short.again q rest (record { passes = point_passes (length q) is.lawful.some is.lawful.few; few = omega (arith, is.lawful.few); each = is.coordinates });
     }
   where
@@ -194,11 +194,11 @@ hits_reader = listed_reader HitInRange hit_bytes hit_at hit_reader hit_follows 4
 records_reader : IsReader (IsListed IsRecord always (2 ^ 32)) (listed 4 record_bytes) (listed_at 4 record_at always)
 records_reader = listed_reader IsRecord record_bytes record_at record_reader always 4 (2 ^ 32) wide32
 
-each : {X : Type 0} (P Q : X → Type 0) → ((x : X) → P x → Q x) → (xs : List X) → AllByRecursion P xs → AllByRecursion Q xs
+pub each : {X : Type 0} (P Q : X → Type 0) → ((x : X) → P x → Q x) → (xs : List X) → AllByRecursion P xs → AllByRecursion Q xs
 each P Q implies [] all = tt
 each P Q implies (x ∷ xs) all = (implies x all.0, each P Q implies xs all.1)
 
-each_both : {X : Type 0} (P Q R : X → Type 0) → ((x : X) → P x → Q x → R x) → (xs : List X) → AllByRecursion P xs → AllByRecursion Q xs → AllByRecursion R xs
+pub each_both : {X : Type 0} (P Q R : X → Type 0) → ((x : X) → P x → Q x → R x) → (xs : List X) → AllByRecursion P xs → AllByRecursion Q xs → AllByRecursion R xs
 each_both P Q R implies [] ps qs = tt
 each_both P Q R implies (x ∷ xs) ps qs = (implies x ps.0 qs.0, each_both P Q R implies xs ps.1 qs.1)
 
@@ -228,23 +228,25 @@ log_takes bytes x rest fits e =
     let from_kind = Takes-then opened.0 (kind_bytes query.0.0) kind.0.1 (tree_bytes tree.0.0.0 tree.0.0.1 ++ (query_bytes query.0.0 ++ (listed 4 hit_bytes answers.0.0 ++ (listed 4 record_bytes records.0.0)))) records.0.1 (subst (λ (t : List ℕ). Takes opened.0 t kind.0.1) (sym took_query.1.kind) took_kind.0) from_tree in
     let from_opened = Takes-then bytes (opening_bytes) opened.0 (kind_bytes query.0.0 ++ (tree_bytes tree.0.0.0 tree.0.0.1 ++ (query_bytes query.0.0 ++ (listed 4 hit_bytes answers.0.0 ++ (listed 4 record_bytes records.0.0))))) records.0.1 took_opened from_kind in
     let made : Log = record { generation = tree.0.0.0; root = tree.0.0.1; query = query.0.0; answers = answers.0.0; records = records.0.0 } in
-    subst (λ (y : Log × List ℕ). Takes bytes (log_bytes y.0) y.1 × IsLog y.0) (ok_is (made, records.0.1) (x, rest) records.2)
-    (from_opened, record {
-      lawful = record {
-        query = took_query.1.lawful;
-        answers_ascend = hits_ascend answers.0.0 took_answers.1.chain;
-        few_answers = took_answers.1.few;
-        few_records = took_records.1.few;
-        few_marks = each IsRecord (λ r. length r.marks ≤ 32) (λ r is. is.few) records.0.0 took_records.1.each;
-      };
-      in_range = record {
-        generation = took_tree.1.generation;
-        root = took_tree.1.root;
-        query = took_query.1.in_range;
-        answers = took_answers.1.each;
-        pages = each IsRecord (λ r. r.page < 2 ^ 32) (λ r is. is.page) records.0.0 took_records.1.each;
-      };
-    })
+    subst (λ (y : Log × List ℕ). Takes bytes (log_bytes y.0) y.1 × IsLog y.0) (ok_is (made, records.0.1) (x, rest) records.2) (
+      from_opened,
+      record {
+        lawful = record {
+          query = took_query.1.lawful;
+          answers_ascend = hits_ascend answers.0.0 took_answers.1.chain;
+          few_answers = took_answers.1.few;
+          few_records = took_records.1.few;
+          few_marks = each IsRecord (λ r. length r.marks ≤ 32) (λ r is. is.few) records.0.0 took_records.1.each;
+        };
+        in_range = record {
+          generation = took_tree.1.generation;
+          root = took_tree.1.root;
+          query = took_query.1.in_range;
+          answers = took_answers.1.each;
+          pages = each IsRecord (λ r. r.page < 2 ^ 32) (λ r is. is.page) records.0.0 took_records.1.each;
+        };
+      },
+    )
 
 log_again : (x : Log) (rest : List ℕ) → IsLog x → log_at (log_bytes x ++ rest) ≡ Ok (x, rest)
 unfolding log_at
@@ -330,24 +332,26 @@ join_log_takes bytes x rest fits e =
     let from_trees = Takes-then opened.0 (trees_bytes trees.0.0.0 trees.0.0.1) trees.0.1 (big_bytes 8 r.0.0 ++ (listed 8 pair_bytes answers.0.0 ++ (listed 8 join_record_bytes records.0.0))) records.0.1 took_trees.0 from_r in
     let from_opened = Takes-then bytes (join_opening_bytes) opened.0 (trees_bytes trees.0.0.0 trees.0.0.1 ++ (big_bytes 8 r.0.0 ++ (listed 8 pair_bytes answers.0.0 ++ (listed 8 join_record_bytes records.0.0)))) records.0.1 took_opened from_trees in
     let made : JoinLog = record { left = trees.0.0.0; right = trees.0.0.1; r = r.0.0; answers = answers.0.0; records = records.0.0 } in
-    subst (λ (y : JoinLog × List ℕ). Takes bytes (join_log_bytes y.0) y.1 × IsJoinLog y.0) (ok_is (made, records.0.1) (x, rest) records.2)
-    (from_opened, record {
-      lawful = record {
-        answers_ascend = pairs_ascend answers.0.0 took_answers.1.chain;
-        few_answers = took_answers.1.few;
-        few_records = took_records.1.few;
-        few_marks = each IsJoinRecord (λ s. length s.marks ≤ 32) (λ s is. is.few) records.0.0 took_records.1.each;
-      };
-      in_range = record {
-        left_generation = took_trees.1.left.generation;
-        left_root = took_trees.1.left.root;
-        right_generation = took_trees.1.right.generation;
-        right_root = took_trees.1.right.root;
-        r = took_r.1;
-        answers = took_answers.1.each;
-        pages = each IsJoinRecord (λ s. s.page < 2 ^ 32) (λ s is. is.page) records.0.0 took_records.1.each;
-      };
-    })
+    subst (λ (y : JoinLog × List ℕ). Takes bytes (join_log_bytes y.0) y.1 × IsJoinLog y.0) (ok_is (made, records.0.1) (x, rest) records.2) (
+      from_opened,
+      record {
+        lawful = record {
+          answers_ascend = pairs_ascend answers.0.0 took_answers.1.chain;
+          few_answers = took_answers.1.few;
+          few_records = took_records.1.few;
+          few_marks = each IsJoinRecord (λ s. length s.marks ≤ 32) (λ s is. is.few) records.0.0 took_records.1.each;
+        };
+        in_range = record {
+          left_generation = took_trees.1.left.generation;
+          left_root = took_trees.1.left.root;
+          right_generation = took_trees.1.right.generation;
+          right_root = took_trees.1.right.root;
+          r = took_r.1;
+          answers = took_answers.1.each;
+          pages = each IsJoinRecord (λ s. s.page < 2 ^ 32) (λ s is. is.page) records.0.0 took_records.1.each;
+        };
+      },
+    )
 
 join_log_again : (x : JoinLog) (rest : List ℕ) → IsJoinLog x → join_log_at (join_log_bytes x ++ rest) ≡ Ok (x, rest)
 unfolding join_log_at

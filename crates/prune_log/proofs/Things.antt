@@ -13,10 +13,10 @@ use Rattle.log_model.specs.declared.marks.Record.{Record}
 use Rattle.log_model.specs.declared.marks.JoinRecord.{JoinRecord}
 use Rattle.prune_log.specs.declared.fault.LogFault.{LogFault}
 use Rattle.prune_log.specs.declared.fault.LogFault.TheVariants as faults
-use Rattle.prune_log.specs.Ranges.{HitInRange, PairInRange}
+use Rattle.prune_log.specs.Ranges.{IsBytes, HitInRange, PairInRange}
 use Rattle.prune_log.specs.Spelling.{listed, coordinate_bytes, hit_bytes, pair_bytes, mark_bytes, side_bytes, record_bytes, join_record_bytes}
 use Rattle.prune_log.specs.Reading.{◌>>=◌, byte_at, number_at, many, always, hit_at, pair_at, mark_at, marks_at, side_at, record_at, join_record_at, short_at}
-use Rattle.prune_log.proofs.Exact.{IsBytes, bind_ok, guard_ok, ok_is, Takes, Takes-then, IsReader, wide32, wide64, number_reader, byte_takes, many_take, many_again, chain_always}
+use Rattle.prune_log.proofs.Exact.{bind_ok, guard_ok, ok_is, Takes, Takes-then, IsReader, wide32, wide64, number_reader, byte_takes, many_take, many_again, chain_always}
 
 hit_takes : (bytes : List ℕ) (x : Hit) (rest : List ℕ) → IsBytes bytes → hit_at bytes ≡ Ok (x, rest) → Takes bytes (hit_bytes x) rest × HitInRange x
 unfolding hit_at
@@ -169,7 +169,7 @@ short_reader {X} Fits spelled reads reader test fault = record { takes = taken; 
     read : (xs : List X) (rest : List ℕ) → IsShort Fits test xs → short_at test fault reads (listed 1 spelled xs ++ rest) ≡ Ok (xs, rest)
     read xs rest fits =
         let regrouped : listed 1 spelled xs ++ rest ≡ length xs ∷ (flat_map spelled xs ++ rest) =
-            ap (λ (t : List ℕ). (t ++ flat_map spelled xs) ++ rest) (one_byte (length xs) fits.few) in
+        ap (λ (t : List ℕ). (t ++ flat_map spelled xs) ++ rest) (one_byte (length xs) fits.few) in
         ap (short_at test fault reads) regrouped ∙ rw (fits.passes) (many_again Fits spelled reads reader always xs None rest fits.each (chain_always None xs))
 
 le_test : (m n : ℕ) → m ≤ n → nat_le m n ≡ true

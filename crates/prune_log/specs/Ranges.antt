@@ -1,5 +1,5 @@
 -- The fields of a log in the ranges of their types, which each log of the code keeps.
-use Rattle.std.specs.Prelude.{ℕ, ◌<◌, ◌^◌}
+use Rattle.std.specs.Prelude.{ℕ, ◌<◌, ◌^◌, List, slice_index}
 use Rattle.std.specs.List.{AllByRecursion}
 use Rattle.scan_model.specs.declared.hit.Hit.{Hit}
 use Rattle.scan_model.specs.declared.hit.Pair.{Pair}
@@ -8,6 +8,10 @@ use Rattle.log_model.specs.declared.logs.Log.{Log}
 use Rattle.log_model.specs.declared.logs.JoinLog.{JoinLog}
 use Rattle.log_model.specs.Grammar.{query_point}
 use Rattle.prune_log.specs.Spelling.{amount_of}
+
+-- each number of the list is a byte
+abbrev pub IsBytes : List ℕ → Type 0
+IsBytes bytes = (i : ℕ) → slice_index bytes i < 256
 
 -- a query's number is a u64 and its coordinates are u32
 pub record QueryInRange (query : Query) : Type 0 where

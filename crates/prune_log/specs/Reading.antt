@@ -213,3 +213,52 @@ abbrev pub whole : {L : Type 0} → (List ℕ → Result (L × List ℕ) LogFaul
 whole reads bytes = do
   log ← reads bytes
   if length log.1 == 0 then Ok log.0 else Err faults.Tail
+
+-- ---- frames
+
+-- so many bytes, and the bytes behind them
+abbrev pub front_at : ℕ → List ℕ → Result (List ℕ × List ℕ) LogFault
+front_at n bytes = if nat_lt (length bytes) n then Err faults.Cut else Ok (take n bytes, drop n bytes)
+
+-- a frame: the length, and so many bytes, all of which are one log
+unfoldable pub frame_at : {L : Type 0} → (List ℕ → Result (L × List ℕ) LogFault) → List ℕ → Result (L × List ℕ) LogFault
+frame_at reads bytes = do
+  size ← number_at 8 bytes
+  body ← front_at size.0 size.1
+  log ← whole reads body.0
+  Ok (log, body.1)
+
+-- the logs of so many frames at most; no bytes are no frames
+unfoldable pub frames_within : {L : Type 0} → (List ℕ → Result (L × List ℕ) LogFault) → ℕ → List ℕ → Result (List L) LogFault
+frames_within reads zero bytes = Ok []
+frames_within reads (suc n) [] = Ok []
+frames_within reads (suc n) (b ∷ bytes) = do
+  first ← frame_at reads (b ∷ bytes)
+  others ← frames_within reads n first.1
+  Ok (first.0 ∷ others)
+
+-- the logs of all frames, of which there are at most as many as bytes
+abbrev pub frames_at : {L : Type 0} → (List ℕ → Result (L × List ℕ) LogFault) → List ℕ → Result (List L) LogFault
+frames_at reads bytes = frames_within reads (length bytes) bytes
+
+-- ---- the first fault
+
+abbrev pub fault_of : {Y : Type 0} → Result Y LogFault → Option LogFault
+fault_of (Ok y) = None
+fault_of (Err fault) = Some fault
+
+-- of a query's log
+abbrev pub log_fault : List ℕ → Option LogFault
+log_fault bytes = fault_of (whole log_at bytes)
+
+-- of a join's log
+abbrev pub join_log_fault : List ℕ → Option LogFault
+join_log_fault bytes = fault_of (whole join_log_at bytes)
+
+-- of frames of queries' logs
+abbrev pub frames_fault : List ℕ → Option LogFault
+frames_fault bytes = fault_of (frames_at log_at bytes)
+
+-- of frames of joins' logs
+abbrev pub join_frames_fault : List ℕ → Option LogFault
+join_frames_fault bytes = fault_of (frames_at join_log_at bytes)

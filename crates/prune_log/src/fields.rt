@@ -1,11 +1,11 @@
 // Numbers, read from the front of bytes and written behind others.
-ghost use Rattle.std.specs.Prelude.{◌≡◌, ◌++◌, ◌∷◌, [], OnOk};
+ghost use Rattle.std.specs.Prelude.{◌≡◌, ◌++◌, ◌∷◌, [], OnOk, OnErr};
 ghost use Rattle.byteorder.specs.Endian.{big_bytes};
 ghost use Rattle.prune_log.specs.Reading.{Gives, byte_at, number_at};
 
 use crate::fault::LogFault;
 use byteorder::{BigEndian, ByteOrder};
-use std::alloc::AllocError;
+use metric_laws::Memory;
 
 // The byte in front, and the bytes behind it.
 pub fn byte_at(bytes: &[u8]) -> Result<(u8, &[u8]), LogFault>
@@ -38,7 +38,7 @@ pub fn u64_at(bytes: &[u8]) -> Result<(u64, &[u8]), LogFault>
 }
 
 // Writes a number of four bytes at the end.
-pub fn put_u32(out: &mut Vec<u8>, n: u32) -> Result<(), AllocError>
+pub fn put_u32(out: &mut Vec<u8>, n: u32) -> Result<(), Memory>
     ensures { OnOk result (out.new.items ≡ out.old.items ++ big_bytes 4 n) }
 {
     let mut bytes = [0u8; 4];
@@ -47,8 +47,9 @@ pub fn put_u32(out: &mut Vec<u8>, n: u32) -> Result<(), AllocError>
 }
 
 // Writes a number of eight bytes at the end.
-pub fn put_u64(out: &mut Vec<u8>, n: u64) -> Result<(), AllocError>
-    ensures { OnOk result (out.new.items ≡ out.old.items ++ big_bytes 8 n) }
+pub fn put_u64(out: &mut Vec<u8>, n: u64) -> Result<(), Memory>
+    ensures ok { OnOk result (out.new.items ≡ out.old.items ++ big_bytes 8 n) }
+    ensures err { OnErr result (out.new.items ≡ out.old.items) }
 {
     let mut bytes = [0u8; 8];
     BigEndian::write_u64(&mut bytes, n);

@@ -9,9 +9,9 @@ ghost use Rattle.prune_log.specs.Reading.{Gives, number_at, next_at, many, alway
 use crate::fault::LogFault;
 use crate::fields::{byte_at, put_u32, put_u64, u32_at, u64_at};
 use log_model::{JoinRecord, Mark, Record};
-use metric_laws::Listed;
+use metric_laws::{Listed, Memory};
 use scan_model::{Hit, Pair};
-use std::alloc::{AllocError, Global};
+use std::alloc::Global;
 
 /// The most entries of a node.
 const ENTRIES: u8 = 32;
@@ -31,7 +31,7 @@ pub trait Piece: Drop {
     ghost follows: { Self → Self → Bool };
 
     /// Writes the piece at the end.
-    fn put(&self, out: &mut Vec<u8>) -> Result<(), AllocError>
+    fn put(&self, out: &mut Vec<u8>) -> Result<(), Memory>
         requires { can_put self.now }
         ensures { OnOk result (out.new.items ≡ out.old.items ++ spelled self.now) };
 
@@ -53,7 +53,7 @@ impl Piece for u32 {
 
     ghost follows = { always };
 
-    fn put(&self, out: &mut Vec<u8>) -> Result<(), AllocError> {
+    fn put(&self, out: &mut Vec<u8>) -> Result<(), Memory> {
         put_u32(out, *self)
     }
 
@@ -75,7 +75,7 @@ impl Piece for Hit {
 
     ghost follows = { hit_follows };
 
-    fn put(&self, out: &mut Vec<u8>) -> Result<(), AllocError> {
+    fn put(&self, out: &mut Vec<u8>) -> Result<(), Memory> {
         put_u32(out, self.id)?;
         put_u64(out, self.dist)
     }
@@ -101,7 +101,7 @@ impl Piece for Mark {
 
     ghost follows = { always };
 
-    fn put(&self, out: &mut Vec<u8>) -> Result<(), AllocError> {
+    fn put(&self, out: &mut Vec<u8>) -> Result<(), Memory> {
         let byte = match self {
             Mark::Skip => 0,
             Mark::Far => 1,
@@ -136,7 +136,7 @@ impl Piece for Pair {
 
     ghost follows = { pair_follows };
 
-    fn put(&self, out: &mut Vec<u8>) -> Result<(), AllocError> {
+    fn put(&self, out: &mut Vec<u8>) -> Result<(), Memory> {
         put_u32(out, self.left)?;
         put_u32(out, self.right)?;
         put_u64(out, self.dist)
@@ -171,7 +171,7 @@ fn marks_at(alloc: Global, bytes: &[u8]) -> Result<(Listed<Mark>, &[u8]), LogFau
 }
 
 // Writes the marks of a node at the end.
-fn put_marks(out: &mut Vec<u8>, marks: &[Mark]) -> Result<(), AllocError>
+fn put_marks(out: &mut Vec<u8>, marks: &[Mark]) -> Result<(), Memory>
     requires { length marks.now ≤ 32 }
     ensures { OnOk result (out.new.items ≡ out.old.items ++ listed 1 mark_bytes marks.now) }
 {
@@ -188,7 +188,7 @@ impl Piece for Record {
 
     ghost follows = { always };
 
-    fn put(&self, out: &mut Vec<u8>) -> Result<(), AllocError> {
+    fn put(&self, out: &mut Vec<u8>) -> Result<(), Memory> {
         put_u32(out, self.page)?;
         put_marks(out, self.marks.as_slice())
     }
@@ -227,7 +227,7 @@ impl Piece for JoinRecord {
 
     ghost follows = { always };
 
-    fn put(&self, out: &mut Vec<u8>) -> Result<(), AllocError> {
+    fn put(&self, out: &mut Vec<u8>) -> Result<(), Memory> {
         out.push(u8::from(self.right))?;
         put_u32(out, self.page)?;
         put_marks(out, self.marks.as_slice())
@@ -282,7 +282,7 @@ pub fn read_all<P: Piece>(
 }
 
 // Writes pieces at the end.
-pub fn put_all<P: Piece>(out: &mut Vec<u8>, pieces: &[P]) -> Result<(), AllocError>
+pub fn put_all<P: Piece>(out: &mut Vec<u8>, pieces: &[P]) -> Result<(), Memory>
     requires { AllByRecursion P.can_put pieces.now }
     ensures { OnOk result (out.new.items ≡ out.old.items ++ flat_map P.spelled pieces.now) }
 {
@@ -313,7 +313,7 @@ pub fn long_list_at<P: Piece>(alloc: Global, bytes: &[u8]) -> Result<(Listed<P>,
 }
 
 // Writes a number of pieces in four bytes, and the pieces.
-pub fn put_short_list<P: Piece>(out: &mut Vec<u8>, pieces: &[P]) -> Result<(), AllocError>
+pub fn put_short_list<P: Piece>(out: &mut Vec<u8>, pieces: &[P]) -> Result<(), Memory>
     requires few { length pieces.now < 2 ^ 32 }
     requires each { AllByRecursion P.can_put pieces.now }
     ensures { OnOk result (out.new.items ≡ out.old.items ++ listed 4 P.spelled pieces.now) }
@@ -323,7 +323,7 @@ pub fn put_short_list<P: Piece>(out: &mut Vec<u8>, pieces: &[P]) -> Result<(), A
 }
 
 // Writes a number of pieces in eight bytes, and the pieces.
-pub fn put_long_list<P: Piece>(out: &mut Vec<u8>, pieces: &[P]) -> Result<(), AllocError>
+pub fn put_long_list<P: Piece>(out: &mut Vec<u8>, pieces: &[P]) -> Result<(), Memory>
     requires { AllByRecursion P.can_put pieces.now }
     ensures { OnOk result (out.new.items ≡ out.old.items ++ listed 8 P.spelled pieces.now) }
 {

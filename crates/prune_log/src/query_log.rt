@@ -1,16 +1,19 @@
 // The log of a query.
-ghost use Rattle.std.specs.Prelude.{◌≡◌, ◌++◌, ◌<◌, ◌≤◌, ◌^◌, length, OnOk, IfOk};
-ghost use Rattle.log_model.specs.Grammar.{IsLawfulLog, IsLawfulQuery, query_point};
-ghost use Rattle.prune_log.specs.Spelling.{opening_bytes, tree_bytes, kind_bytes, query_bytes, log_bytes};
-ghost use Rattle.prune_log.specs.Reading.{Gives, opening_at, tree_at, kind_at, point_at, is_amount, query_of, query_at, log_at, whole};
+ghost use Rattle.std.specs.Prelude.{◌≡◌, ◌++◌, ◌⊎◌, ◌≤◌, length, OnOk, IfOk, IfErr, Ok, Err, Some};
+ghost use Rattle.byteorder.specs.Endian.{big_bytes};
+ghost use Rattle.log_model.specs.Grammar.{IsLawfulLog, IsLawfulQuery};
+ghost use Rattle.log_model.specs.declared.logs.Log.{Log};
+ghost use Rattle.prune_log.specs.Ranges.{LogInRange};
+ghost use Rattle.prune_log.specs.Spelling.{opening_bytes, tree_bytes, kind_bytes, query_bytes, log_bytes, listed, coordinate_bytes};
+ghost use Rattle.prune_log.specs.Reading.{Gives, opening_at, tree_at, kind_at, point_at, is_amount, query_of, query_at, log_at, whole, log_fault};
 
 use crate::fault::LogFault;
 use crate::fields::{byte_at, put_u32, put_u64, u32_at, u64_at};
 use crate::pieces::{put_all, put_short_list, read_all, short_list_at};
 use log_model::Log;
-use metric_laws::Point;
+use metric_laws::{Memory, Point};
 use scan_model::Query;
-use std::alloc::{AllocError, Global};
+use std::alloc::Global;
 
 /// The letters `MTLG`, the first of them highest.
 const MAGIC: u32 = 0x4d54_4c47;
@@ -143,8 +146,8 @@ fn log_at(alloc: Global, bytes: &[u8]) -> Result<(Log, &[u8]), LogFault>
     Ok((log, rest))
 }
 
-// A log that takes all bytes.
-fn whole(alloc: Global, bytes: &[u8]) -> Result<Log, LogFault>
+// The log that takes all bytes.
+pub fn whole_log(alloc: Global, bytes: &[u8]) -> Result<Log, LogFault>
     ensures { Gives (λ log. log) result (whole log_at bytes.now) }
 {
     let (log, rest) = log_at(alloc, bytes)?;
@@ -152,4 +155,84 @@ fn whole(alloc: Global, bytes: &[u8]) -> Result<Log, LogFault>
         return Err(LogFault::Tail);
     }
     Ok(log)
+}
+
+/// Reads the log that the bytes spell, or names the first fault from left to right. It asks for no more memory than the
+/// bytes that are left can fill.
+pub fn decode_log(alloc: Global, bytes: &[u8]) -> Result<Log, LogFault>
+    // What is read is spelled so.
+    ensures ok { IfOk result (λ log. log_bytes log ≡ bytes.now) }
+    // What is read can be written.
+    ensures lawful { IfOk result (λ log. IsLawfulLog log) }
+    ensures in_range { IfOk result (λ log. LogInRange log) }
+    // What is spelled so is read, unless memory runs out.
+    ensures only { (log : Log) → IsLawfulLog log → LogInRange log → log_bytes log ≡ bytes.now → (result ≡ Ok log) ⊎ (result ≡ Err LogFault.Memory) }
+    ensures fault { IfErr result (λ fault. (fault ≡ LogFault.Memory) ⊎ (log_fault bytes.now ≡ Some fault)) }
+{
+    whole_log(alloc, bytes)
+}
+
+// Writes the letters and the version at the end.
+pub fn put_opening(out: &mut Vec<u8>) -> Result<(), Memory>
+    ensures { OnOk result (out.new.items ≡ out.old.items ++ opening_bytes) }
+{
+    put_u32(out, MAGIC)?;
+    out.push(VERSION)?;
+    Ok(())
+}
+
+// Writes the generation of a tree and the page of its root at the end.
+pub fn put_tree(out: &mut Vec<u8>, generation: u64, root: u32) -> Result<(), Memory>
+    ensures { OnOk result (out.new.items ≡ out.old.items ++ tree_bytes generation root) }
+{
+    put_u64(out, generation)?;
+    put_u32(out, root)
+}
+
+// Writes the kind of a query at the end.
+fn put_kind(out: &mut Vec<u8>, query: &Query) -> Result<(), Memory>
+    ensures { OnOk result (out.new.items ≡ out.old.items ++ kind_bytes query.now) }
+{
+    let kind = match query {
+        Query::Range { .. } => 1,
+        Query::Nearest { .. } => 2,
+    };
+    out.push(kind)?;
+    Ok(())
+}
+
+// Writes a number and a point at the end.
+fn put_asked(out: &mut Vec<u8>, amount: u64, point: &[u32]) -> Result<(), Memory>
+    requires { length point.now ≤ 64 }
+    ensures { OnOk result (out.new.items ≡ out.old.items ++ (big_bytes 8 amount ++ listed 1 coordinate_bytes point.now)) }
+{
+    put_u64(out, amount)?;
+    out.push(point.len() as u8)?;
+    put_all(out, point)
+}
+
+// Writes the radius or number of a query and its point at the end.
+fn put_query(out: &mut Vec<u8>, query: &Query) -> Result<(), Memory>
+    requires { IsLawfulQuery query.now }
+    ensures { OnOk result (out.new.items ≡ out.old.items ++ query_bytes query.now) }
+{
+    match query {
+        Query::Range { q, r } => put_asked(out, *r, q.as_slice()),
+        Query::Nearest { q, k } => put_asked(out, *k, q.as_slice()),
+    }
+}
+
+/// The one spelling of a log.
+pub fn encode_log(alloc: Global, log: &Log) -> Result<Vec<u8>, Memory>
+    requires { IsLawfulLog log.now }
+    ensures { IfOk result (λ bytes. bytes.items ≡ log_bytes log.now) }
+{
+    let mut out = Vec::new(alloc);
+    put_opening(&mut out)?;
+    put_kind(&mut out, &log.query)?;
+    put_tree(&mut out, log.generation, log.root)?;
+    put_query(&mut out, &log.query)?;
+    put_short_list(&mut out, log.answers.as_slice())?;
+    put_short_list(&mut out, log.records.as_slice())?;
+    Ok(out)
 }
