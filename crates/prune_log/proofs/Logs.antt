@@ -1,28 +1,23 @@
 -- Logs: what is read is spelled so, and what was spelled is read again.
-use Rattle.std.proofs.Common.{◌≡◌, ◌⊎◌, inl, inr, ℕ, zero, suc, ◌+◌, ◌^◌, ◌<◌, ◌≤◌, ◌==◌, ◌&&◌, Bool, true, false, cond, nat_le, nat_lt, List, [], ◌∷◌, ◌++◌, length, Option, Some, None, Result, Ok, Err, refl, sym, ap, subst, ◌∙◌, append_assoc, arith}
+use Rattle.std.proofs.Common.{◌≡◌, ℕ, ◌^◌, ◌<◌, ◌≤◌, ◌==◌, ◌&&◌, Bool, true, false, cond, nat_le, List, [], ◌∷◌, ◌++◌, length, None, Result, Ok, Err, refl, sym, ap, subst, ◌∙◌, append_assoc, arith}
 use Rattle.std.specs.List.{AllByRecursion}
 use Rattle.std.proofs.lemmas.Bool.{eqb-true, leb-true, ltb-true, lt-ltb}
 use Rattle.std.proofs.lemmas.Bool.Decides.{nat_tests}
-use Rattle.std.proofs.lemmas.List.{append-nil, nil_from_length}
 use Rattle.byteorder.specs.Endian.{big_bytes}
-use Rattle.scan_model.specs.declared.hit.Hit.{Hit}
-use Rattle.scan_model.specs.declared.hit.Pair.{Pair}
 use Rattle.scan_model.specs.declared.query.Query.{Query}
 use Rattle.scan_model.specs.declared.query.Query.TheVariants.{Range, Nearest}
-use Rattle.log_model.specs.declared.marks.Record.{Record}
-use Rattle.log_model.specs.declared.marks.JoinRecord.{JoinRecord}
 use Rattle.log_model.specs.declared.logs.Log.{Log}
 use Rattle.log_model.specs.declared.logs.JoinLog.{JoinLog}
-use Rattle.log_model.specs.Grammar.{query_point, IsLawfulPoint, IsLawfulQuery, IsLawfulLog, IsLawfulJoinLog}
+use Rattle.log_model.specs.Grammar.{IsLawfulPoint, IsLawfulQuery, IsLawfulLog, IsLawfulJoinLog}
 use Rattle.prune_log.specs.declared.fault.LogFault.{LogFault}
 use Rattle.prune_log.specs.declared.fault.LogFault.TheVariants as faults
 use Rattle.prune_log.specs.declared.query_log.Asked.{Asked}
 use Rattle.prune_log.specs.declared.query_log.Asked.TheVariants as asked
 use Rattle.prune_log.specs.Ranges.{IsBytes, QueryInRange, HitInRange, PairInRange, LogInRange, JoinLogInRange}
-use Rattle.prune_log.specs.Spelling.{magic, listed, coordinate_bytes, hit_bytes, pair_bytes, record_bytes, join_record_bytes, kind_bytes, amount_of, query_bytes, opening_bytes, tree_bytes, log_bytes, join_opening_bytes, trees_bytes, join_log_bytes}
+use Rattle.prune_log.specs.Spelling.{magic, listed, coordinate_bytes, hit_bytes, pair_bytes, record_bytes, join_record_bytes, kind_bytes, query_bytes, opening_bytes, tree_bytes, log_bytes, join_opening_bytes, trees_bytes, join_log_bytes}
 use Rattle.prune_log.specs.Reading.{◌>>=◌, byte_at, number_at, listed_at, always, hit_at, hit_follows, pair_at, pair_follows, record_at, join_record_at, opening_at, kind_at, tree_at, is_amount, query_of, point_at, query_at, log_at, join_opening_at, trees_at, join_log_at}
 use Rattle.prune_log.proofs.Exact.{bind_ok, guard_ok, ok_is, Takes, Takes-then, IsReader, wide32, wide64, number_reader, byte_takes, IsListed, listed_reader, chain_always}
-use Rattle.prune_log.proofs.Things.{IsShort, short_reader, IsRecord, IsJoinRecord, hit_reader, pair_reader, record_reader, join_record_reader}
+use Rattle.prune_log.proofs.Things.{short_reader, IsRecord, IsJoinRecord, hit_reader, pair_reader, record_reader, join_record_reader}
 use Rattle.prune_log.proofs.Ordering.{hits_ascend, hits_chain, pairs_ascend, pairs_chain}
 
 -- ---- the opening

@@ -1,11 +1,10 @@
 -- Reading things one after the other, as a loop does.
-use Rattle.std.proofs.Common.{◌≡◌, ◌≢◌, ℕ, zero, suc, ◌-◌, ◌+◌, ◌≤◌, ◌<◌, Bool, List, [], ◌∷◌, ◌++◌, length, Option, Some, None, Result, Ok, Err, refl, sym, ap, ◌∙◌, append_assoc, arith}
+use Rattle.std.proofs.Common.{◌≡◌, ℕ, suc, ◌-◌, ◌+◌, ◌≤◌, ◌<◌, Bool, List, [], ◌∷◌, ◌++◌, length, Option, Some, Result, Ok, Err, refl, sym, ap, ◌∙◌, append_assoc, arith}
 use Rattle.std.specs.Prelude.{slice_get}
 use Rattle.std.proofs.lemmas.List.{append-nil, length-append}
 use Rattle.std.proofs.lemmas.Option.{slice_get_read}
 use Rattle.std.proofs.Math.Seq.{get_or-append_seam}
 use Rattle.prune_log.specs.declared.fault.LogFault.{LogFault}
-use Rattle.prune_log.specs.declared.fault.LogFault.TheVariants as faults
 use Rattle.prune_log.specs.Reading.{◌>>=◌, Fails, next_at, many}
 
 -- the last thing of a list

@@ -1,5 +1,5 @@
 -- The things that a log lists: what is read is spelled so, and what was spelled is read again.
-use Rattle.std.proofs.Common.{◌≡◌, ℕ, zero, suc, ◌+◌, ◌^◌, ◌<◌, ◌≤◌, ◌==◌, ◌&&◌, Bool, true, false, cond, nat_le, List, [], ◌∷◌, ◌++◌, length, Option, Some, None, Result, Ok, Err, refl, sym, ap, subst, ◌∙◌, append_assoc, arith}
+use Rattle.std.proofs.Common.{◌≡◌, ℕ, ◌^◌, ◌<◌, ◌≤◌, ◌==◌, Bool, true, false, cond, nat_le, List, [], ◌∷◌, ◌++◌, length, None, Result, Ok, Err, refl, sym, ap, subst, ◌∙◌, append_assoc, arith}
 use Rattle.std.specs.List.{flat_map, AllByRecursion}
 use Rattle.std.proofs.lemmas.Bool.{eqb-true, leb-true}
 use Rattle.std.proofs.lemmas.Bool.Decides.{nat_tests}
@@ -14,7 +14,7 @@ use Rattle.log_model.specs.declared.marks.JoinRecord.{JoinRecord}
 use Rattle.prune_log.specs.declared.fault.LogFault.{LogFault}
 use Rattle.prune_log.specs.declared.fault.LogFault.TheVariants as faults
 use Rattle.prune_log.specs.Ranges.{IsBytes, HitInRange, PairInRange}
-use Rattle.prune_log.specs.Spelling.{listed, coordinate_bytes, hit_bytes, pair_bytes, mark_bytes, side_bytes, record_bytes, join_record_bytes}
+use Rattle.prune_log.specs.Spelling.{listed, hit_bytes, pair_bytes, mark_bytes, side_bytes, record_bytes, join_record_bytes}
 use Rattle.prune_log.specs.Reading.{◌>>=◌, byte_at, number_at, many, always, hit_at, pair_at, mark_at, marks_at, side_at, record_at, join_record_at, short_at}
 use Rattle.prune_log.proofs.Exact.{bind_ok, guard_ok, ok_is, Takes, Takes-then, IsReader, wide32, wide64, number_reader, byte_takes, many_take, many_again, chain_always}
 

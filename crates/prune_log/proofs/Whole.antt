@@ -1,12 +1,12 @@
 -- What a call answered, from what reading gives.
-use Rattle.std.proofs.Common.{◌≡◌, ◌≢◌, ◌⊎◌, inl, inr, ℕ, ◌==◌, cond, List, [], ◌++◌, length, Option, Some, None, Result, Ok, Err, refl, sym, ap, subst, ◌∙◌}
+use Rattle.std.proofs.Common.{◌≡◌, ◌≢◌, ◌⊎◌, inl, inr, ℕ, ◌==◌, cond, List, [], ◌++◌, length, None, Result, Ok, Err, refl, sym, ap, subst, ◌∙◌}
 use Rattle.std.specs.Prelude.{IfOk, MatchResult}
 use Rattle.std.proofs.lemmas.Bool.{eqb-true}
 use Rattle.std.proofs.lemmas.List.{append-nil, nil_from_length}
 use Rattle.prune_log.specs.declared.fault.LogFault.{LogFault}
 use Rattle.prune_log.specs.declared.fault.LogFault.TheVariants as faults
 use Rattle.prune_log.specs.Ranges.{IsBytes}
-use Rattle.prune_log.specs.Reading.{◌>>=◌, Gives, whole, fault_of}
+use Rattle.prune_log.specs.Reading.{Gives, whole, fault_of}
 use Rattle.prune_log.proofs.Exact.{bind_ok, guard_ok, ok_is, IsReader}
 
 is_memory : (fault : LogFault) → (fault ≡ faults.Memory) ⊎ (fault ≢ faults.Memory)

@@ -1,6 +1,5 @@
 -- The laws of the spellings of logs.
 use Rattle.std.specs.Prelude.{◌≡◌, ◌↔◌, ℕ, List, None}
-use Rattle.std.specs.List.{AllByRecursion}
 use Rattle.log_model.specs.declared.logs.Log.{Log}
 use Rattle.log_model.specs.declared.logs.JoinLog.{JoinLog}
 use Rattle.log_model.specs.Grammar.{IsLawfulLog, IsLawfulJoinLog}

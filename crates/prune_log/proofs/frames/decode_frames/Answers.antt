@@ -1,9 +1,7 @@
-use Rattle.std.proofs.Common.{◌≡◌, List, arith}
+use Rattle.std.proofs.Common.{◌≡◌, arith}
 use Rattle.std.specs.Prelude.{All}
-use Rattle.std.specs.Global.{Vec}
 use Rattle.std.specs.List.{AllByRecursion}
 use Rattle.std.proofs.lemmas.List.Elements.{All-from_recursion, recursion_from_All}
-use Rattle.log_model.specs.declared.logs.Log.{Log}
 use Rattle.log_model.specs.Grammar.{IsLawfulLog}
 use Rattle.prune_log.specs.Ranges.{LogInRange}
 use Rattle.prune_log.specs.Spelling.{log_bytes, frames_bytes}

@@ -1,9 +1,7 @@
-use Rattle.std.proofs.Common.{◌≡◌, List, arith}
+use Rattle.std.proofs.Common.{◌≡◌, arith}
 use Rattle.std.specs.Prelude.{All}
-use Rattle.std.specs.Global.{Vec}
 use Rattle.std.specs.List.{AllByRecursion}
 use Rattle.std.proofs.lemmas.List.Elements.{All-from_recursion, recursion_from_All}
-use Rattle.log_model.specs.declared.logs.JoinLog.{JoinLog}
 use Rattle.log_model.specs.Grammar.{IsLawfulJoinLog}
 use Rattle.prune_log.specs.Ranges.{JoinLogInRange}
 use Rattle.prune_log.specs.Spelling.{join_log_bytes, frames_bytes}

@@ -1,6 +1,5 @@
-use Rattle.std.proofs.Common.{◌≡◌, ◌<◌, length, ap, arith, length-append, ◌++◌, ◌∷◌, []}
+use Rattle.std.proofs.Common.{length, ap, arith, length-append, ◌∷◌, []}
 use Rattle.std.proofs.lemmas.Result.{err_from_is_err_and}
-use Rattle.std.proofs.lemmas.Bool.{eqb-true, eqb-false}
 use Rattle.prune_log.specs.Reading.{frames_at}
 use Rattle.prune_log.proofs.Framing.{goes_on, ends, is_done, some_left, none_left}
 use Rattle.prune_log.proofs.frames.frames.Goals as goal

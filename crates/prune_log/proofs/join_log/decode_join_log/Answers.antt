@@ -1,5 +1,4 @@
 use Rattle.std.proofs.Common.{◌≡◌, arith}
-use Rattle.log_model.specs.declared.logs.JoinLog.{JoinLog}
 use Rattle.log_model.specs.Grammar.{IsLawfulJoinLog}
 use Rattle.prune_log.specs.Ranges.{JoinLogInRange}
 use Rattle.prune_log.specs.Spelling.{join_log_bytes}

@@ -1,4 +1,4 @@
-use Rattle.std.proofs.Common.{◌≡◌, sym, ap, ◌∙◌}
+use Rattle.std.proofs.Common.{sym, ap, ◌∙◌}
 use Rattle.prune_log.specs.Spelling.{log_bytes}
 use Rattle.prune_log.specs.Reading.{log_at, whole, fault_of}
 use Rattle.prune_log.proofs.Whole.{whole_takes, whole_again, no_fault}

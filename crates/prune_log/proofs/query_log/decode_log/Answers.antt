@@ -1,5 +1,4 @@
 use Rattle.std.proofs.Common.{◌≡◌, arith}
-use Rattle.log_model.specs.declared.logs.Log.{Log}
 use Rattle.log_model.specs.Grammar.{IsLawfulLog}
 use Rattle.prune_log.specs.Ranges.{LogInRange}
 use Rattle.prune_log.specs.Spelling.{log_bytes}
