@@ -2,8 +2,11 @@
 //! of the plain scan.
 #![tactic(auto)]
 
+pub mod laws;
 mod logs;
 mod marks;
+mod pairs;
 
 pub use logs::{Found, JoinLog, Joined, Log};
 pub use marks::{JoinRecord, Mark, Need, Record};
+pub use pairs::{Item, JoinNeed};

@@ -1,6 +1,6 @@
 ghost use Rattle.std.specs.Prelude.{◌≡◌, ◌≢◌, ◌⊎◌, ◌+◌, ◌*◌, ◌≤◌, ◌<◌, ◌==◌, length, true, IfOk, IfErr, Ok, Err, Some, None, slice_index};
 ghost use Rattle.tree_shape.specs.Fill.{most_for};
-ghost use Rattle.node_page.specs.Nodes.{SpellsIn, SpellsNode, SpellsOldNode, IsLawfulNode, firsts, point_at, parent_place, tag_at, leaf_in, inner_at, place_of, place_in, count_of, near_at, are_near, is_count, is_rest_zero, fault_in, node_in, node_fault, old_node_fault};
+ghost use Rattle.node_page.specs.Nodes.{SpellsIn, SpellsNode, SpellsOldNode, IsLawfulNode, firsts, point_at, parent_place, tag_at, leaf_in, inner_at, place_of, place_in, count_of, near_at, are_near, is_count, is_rest_zero, fault_in, node_in, node_fault, node_of, old_node_fault, old_node_of};
 
 use crate::bytes::{are_zero, get_u16, get_u32, get_u64};
 use metric_laws::{BOUND, Listed, Point};
@@ -274,6 +274,7 @@ fn decode(alloc: Global, page: &[u8; 4096], dim: u8, version: Version) -> Result
     requires few { dim ≤ 64 }
     ensures ok { IfOk result (λ node. SpellsIn version dim page.now node) }
     ensures lawful { IfOk result (λ node. IsLawfulNode dim node) }
+    ensures told { IfOk result (λ node. (fault_in version dim page.now ≡ None) × (node ≡ node_in version dim page.now)) }
     ensures only { (node : Node) → SpellsIn version dim page.now node → (result ≡ Ok node) ⊎ (result ≡ Err NodeFault.Memory) }
     ensures fault { IfErr result (λ fault. (fault ≡ NodeFault.Memory) ⊎ (fault_in version dim page.now ≡ Some fault)) }
     ensures memory { IfErr result (λ fault. fault ≡ NodeFault.Memory → fault_in version dim page.now ≡ None) }
@@ -296,6 +297,8 @@ pub fn decode_node(alloc: Global, page: &[u8; 4096], dim: u8) -> Result<Node, No
     ensures ok { IfOk result (λ node. SpellsNode dim page.now node) }
     // What is read can be written.
     ensures lawful { IfOk result (λ node. IsLawfulNode dim node) }
+    // What is read is the page's node, and the page has no fault.
+    ensures told { IfOk result (λ node. (node_fault dim page.now ≡ None) × (node ≡ node_of dim page.now)) }
     // What is spelled so is read, unless memory runs out.
     ensures only { (node : Node) → SpellsNode dim page.now node → (result ≡ Ok node) ⊎ (result ≡ Err NodeFault.Memory) }
     ensures fault { IfErr result (λ fault. (fault ≡ NodeFault.Memory) ⊎ (node_fault dim page.now ≡ Some fault)) }
@@ -313,6 +316,8 @@ pub fn decode_old_node(alloc: Global, page: &[u8; 4096], dim: u8) -> Result<Node
     ensures ok { IfOk result (λ node. SpellsOldNode dim page.now node) }
     // What is read can be written.
     ensures lawful { IfOk result (λ node. IsLawfulNode dim node) }
+    // What is read is the page's node, and the page has no fault.
+    ensures told { IfOk result (λ node. (old_node_fault dim page.now ≡ None) × (node ≡ old_node_of dim page.now)) }
     // What is spelled so is read, unless memory runs out.
     ensures only { (node : Node) → SpellsOldNode dim page.now node → (result ≡ Ok node) ⊎ (result ≡ Err NodeFault.Memory) }
     ensures fault { IfErr result (λ fault. (fault ≡ NodeFault.Memory) ⊎ (old_node_fault dim page.now ≡ Some fault)) }

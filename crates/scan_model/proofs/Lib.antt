@@ -2,4 +2,4 @@ mod OrderedLemmas
 mod ScanLemmas
 mod JoinLemmas
 pub mod RangeLaw
-mod JoinLaw
+pub mod JoinLaw

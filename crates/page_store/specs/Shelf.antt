@@ -1,0 +1,43 @@
+-- What pages mean to those who ask for them.
+use Rattle.std.specs.Prelude.{◌≡◌, ◌≢◌, ℕ, ◌≤◌, Bool, false, IsTrue, Ok, Err}
+use Rattle.outside_io.specs.Causes.{Rose}
+use Rattle.tree_shape.specs.declared.entry.Node.{Node}
+use Rattle.node_page.specs.Nodes.{IsLawfulNode}
+use Rattle.node_page.specs.declared.node.NodeFault.TheVariants.{Memory as NodeMemory}
+use Rattle.page_store.specs.declared.pages.PageFault.{PageFault}
+use Rattle.page_store.specs.declared.pages.PageFault.TheVariants.{Disk, Bad, Outside, Memory, Repeats, Level}
+use Rattle.page_store.specs.Reading.{Read, IsWithin, is_within}
+
+-- What pages mean: how many coordinates their points have, and how many pages there are; what each page holds, where
+-- they tell it; and how often they were asked, their disk was read, and it failed.
+pub record Shelf : Type 0 where
+  pub dim : ℕ
+  pub pages : ℕ
+  pub tells : Bool
+  pub read : Read
+  pub asked : ℕ
+  pub reads : ℕ
+  pub faults : ℕ
+
+-- the pages hold what they held
+pub record HoldsSame (old new : Shelf) : Type 0 where
+  pub dim : new.dim ≡ old.dim
+  pub pages : new.pages ≡ old.pages
+  pub tells : new.tells ≡ old.tells
+  pub read : new.read ≡ old.read
+  pub faults : old.faults ≤ new.faults
+
+-- what a page gave is its node, which can be written
+pub record IsNodeOf (shelf : Shelf) (page : ℕ) (node : Node) : Type 0 where
+  pub within : IsWithin shelf.pages page
+  pub lawful : IsLawfulNode shelf.dim node
+  pub told : IsTrue shelf.tells → shelf.read page ≡ Ok node
+
+-- why a page gave no node: its disk failed, its bytes are no node, it is none of the pages, or memory ran out
+abbrev pub HasPageCause : Shelf → Shelf → ℕ → PageFault → Type 0
+HasPageCause old new page Disk = Rose old.faults new.faults
+HasPageCause old new page (Bad p fault) = (p ≡ page) × (fault ≢ NodeMemory) × IsWithin old.pages page × (IsTrue old.tells → old.read page ≡ Err (Bad page fault))
+HasPageCause old new page (Outside p) = (p ≡ page) × (is_within old.pages page ≡ false) × (IsTrue old.tells → old.read page ≡ Err (Outside page))
+HasPageCause old new page Memory = Unit {0}
+HasPageCause old new page (Repeats p) = ⊥
+HasPageCause old new page (Level p) = ⊥

@@ -1,0 +1,102 @@
+ghost use Rattle.std.specs.Prelude.{◌≡◌, ◌≤◌, ◌^◌, true, false, IsTrue};
+ghost use Rattle.disk_model.specs.Disk.{IsUnchanged};
+ghost use Rattle.page_store.specs.Reading.{reading};
+
+use crate::reading::{is_within, node_on, read_page};
+use crate::{PageFault, Pages};
+use disk_model::Disk;
+use std::alloc::Global;
+use tree_shape::Node;
+
+/// The pages of a file on a disk.
+#[derive(Drop)]
+pub struct DiskPages<'a, D: Disk> {
+    /// The disk.
+    pub disk: &'a mut D,
+    /// How many coordinates a point has.
+    pub dim: u8,
+    /// The number of pages: nodes stand on those from 3 up and below it.
+    pub pages: u32,
+    /// How often a page was asked for. The count stands still at the greatest `u64`.
+    pub asked: u64,
+    /// Whether the file is of version 1.
+    pub first_version: bool,
+    ghost some: { 1 ≤ dim },
+    ghost few: { dim ≤ 64 },
+    ghost small: { pages ≤ 2 ^ 24 },
+}
+
+impl<'a, D: Disk> DiskPages<'a, D> {
+    /// The pages of a file of version 2. Of them none has been asked for.
+    pub fn new(disk: &'a mut D, dim: u8, pages: u32) -> Self
+        requires some { 1 ≤ dim }
+        requires few { dim ≤ 64 }
+        requires small { pages ≤ 2 ^ 24 }
+        ensures same_reference { result.disk.ghost_name ≡ disk.entry.ghost_name }
+        ensures same { result.disk.now ≡ disk.old }
+        ensures dim { result.dim ≡ dim }
+        ensures pages { result.pages ≡ pages }
+        ensures asked { result.asked ≡ 0 }
+        ensures version { result.first_version ≡ false }
+    {
+        DiskPages {
+            disk,
+            dim,
+            pages,
+            asked: 0,
+            first_version: false,
+        }
+    }
+
+    /// The pages of a file of version 1. Of them none has been asked for.
+    pub fn old(disk: &'a mut D, dim: u8, pages: u32) -> Self
+        requires some { 1 ≤ dim }
+        requires few { dim ≤ 64 }
+        requires small { pages ≤ 2 ^ 24 }
+        ensures same_reference { result.disk.ghost_name ≡ disk.entry.ghost_name }
+        ensures same { result.disk.now ≡ disk.old }
+        ensures dim { result.dim ≡ dim }
+        ensures pages { result.pages ≡ pages }
+        ensures asked { result.asked ≡ 0 }
+        ensures version { result.first_version ≡ true }
+    {
+        DiskPages {
+            disk,
+            dim,
+            pages,
+            asked: 0,
+            first_version: true,
+        }
+    }
+}
+
+impl<D: Disk> Pages for DiskPages<'_, D> {
+    ghost use Rattle.std.specs.Prelude.{◌≡◌};
+    ghost use Rattle.disk_model.specs.Disk.{IsUnchanged};
+    ghost use Rattle.page_store.specs.Shelves.{disk_shelf};
+
+    ghost shelf = { λ p. disk_shelf p.first_version p.dim p.pages (D.state p.disk.now) p.asked };
+
+    ghost keeps = { λ p q. (q.disk.ghost_name ≡ p.disk.ghost_name) × IsUnchanged (D.state p.disk.now) (D.state q.disk.now) };
+
+    ghost use Rattle.std.specs.Prelude.{refl};
+    ghost use Rattle.std.proofs.Common.{◌∙◌};
+    ghost use Rattle.disk_model.specs.Moments.{then_unchanged};
+    ghost use Rattle.page_store.specs.Kept.{unchanged_by_none};
+
+    ghost keeps_none = { λ p. (refl, unchanged_by_none (D.state p.disk.now)) };
+
+    ghost keeps_both = { λ p q r first second. (second.0 ∙ first.0, then_unchanged (D.state p.disk.now) (D.state q.disk.now) (D.state r.disk.now) first.1 second.1) };
+
+    fn node(&mut self, alloc: Global, page: u32) -> Result<Node, PageFault> {
+        self.asked = self.asked.saturating_add(1);
+        if !is_within(self.pages, page) {
+            return Err(PageFault::Outside(page));
+        }
+        let mut bytes = [0; 4096];
+        if read_page(self.disk, page, &mut bytes).is_err() {
+            return Err(PageFault::Disk);
+        }
+        node_on(alloc, page, &bytes, self.dim, self.first_version)
+    }
+}

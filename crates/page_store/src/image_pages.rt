@@ -1,0 +1,68 @@
+ghost use Rattle.std.specs.Prelude.{◌≡◌, ◌≤◌, ◌^◌};
+
+use crate::reading::{copy_page, is_within, node_on};
+use crate::{PageFault, Pages};
+use std::alloc::Global;
+use tree_shape::Node;
+
+/// The pages of a file of version 2 whose bytes are in memory: those that a disk with these bytes has.
+#[derive(Drop)]
+pub struct ImagePages<'a> {
+    /// The file.
+    pub bytes: &'a [u8],
+    /// How many coordinates a point has.
+    pub dim: u8,
+    /// The number of pages: nodes stand on those from 3 up and below it.
+    pub pages: u32,
+    /// How often a page was asked for. The count stands still at the greatest `u64`.
+    pub asked: u64,
+    ghost some: { 1 ≤ dim },
+    ghost few: { dim ≤ 64 },
+    ghost small: { pages ≤ 2 ^ 24 },
+}
+
+impl<'a> ImagePages<'a> {
+    /// The pages of these bytes. Of them none has been asked for.
+    pub fn new(bytes: &'a [u8], dim: u8, pages: u32) -> Self
+        requires some { 1 ≤ dim }
+        requires few { dim ≤ 64 }
+        requires small { pages ≤ 2 ^ 24 }
+        ensures bytes { result.bytes.now ≡ bytes.now }
+        ensures dim { result.dim ≡ dim }
+        ensures pages { result.pages ≡ pages }
+        ensures asked { result.asked ≡ 0 }
+    {
+        ImagePages {
+            bytes,
+            dim,
+            pages,
+            asked: 0,
+        }
+    }
+}
+
+impl Pages for ImagePages<'_> {
+    ghost use Rattle.std.specs.Prelude.{◌≡◌, true};
+    ghost use Rattle.page_store.specs.Shelves.{image_shelf};
+
+    ghost shelf = { λ p. image_shelf p.dim p.pages p.bytes.now p.asked };
+
+    ghost keeps = { λ p q. q.bytes.now ≡ p.bytes.now };
+
+    ghost use Rattle.std.specs.Prelude.{refl};
+    ghost use Rattle.std.proofs.Common.{◌∙◌};
+
+    ghost keeps_none = { λ p. refl };
+
+    ghost keeps_both = { λ p q r first second. second ∙ first };
+
+    fn node(&mut self, alloc: Global, page: u32) -> Result<Node, PageFault> {
+        self.asked = self.asked.saturating_add(1);
+        if !is_within(self.pages, page) {
+            return Err(PageFault::Outside(page));
+        }
+        let mut bytes = [0; 4096];
+        copy_page(self.bytes, page, &mut bytes);
+        node_on(alloc, page, &bytes, self.dim, false)
+    }
+}

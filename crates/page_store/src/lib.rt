@@ -1,0 +1,17 @@
+//! The pages of an index file: asked for one at a time as nodes, and staged anew for the next commit.
+#![tactic(auto)]
+
+mod disk_pages;
+mod image_pages;
+mod pages;
+mod reading;
+mod staging;
+
+pub use disk_pages::DiskPages;
+pub use image_pages::ImagePages;
+pub use pages::{PageFault, Pages};
+pub use reading::read_page;
+pub use staging::{Placed, Staged, StagedNode};
+
+/// Want of memory.
+pub type Memory = std::alloc::AllocError;

@@ -1,0 +1,61 @@
+ghost use Rattle.std.specs.Prelude.{◌≡◌, ◌+◌, ◌≤◌, IfOk, IfErr, Err, IsTrue, false};
+ghost use Rattle.metric_laws.specs.Counts.{next_count};
+ghost use Rattle.page_store.specs.Reading.{is_within};
+ghost use Rattle.page_store.specs.Shelf.{Shelf, HoldsSame, IsNodeOf, HasPageCause};
+ghost use Rattle.page_store.specs.declared.pages.PageFault.TheVariants.{Outside};
+
+use node_page::NodeFault;
+use std::alloc::Global;
+use thiserror::Error;
+use tree_shape::Node;
+
+/// Why a page gave no node, or why a walk over pages stopped.
+#[derive(Clone, Copy, Debug, PartialEq, Eq, Error)]
+pub enum PageFault {
+    /// The disk failed.
+    #[error("a page could not be read")]
+    Disk,
+    /// The bytes of this page are no node. The fault is never `NodeFault::Memory`.
+    #[error("page {0} holds no node")]
+    Bad(u32, NodeFault),
+    /// This page is below 3 or not below the live slot's number of pages.
+    #[error("page {0} is none of the file's")]
+    Outside(u32),
+    /// There was no memory for the node.
+    #[error("out of memory")]
+    Memory,
+    /// A walk had opened as many nodes as there are pages, and named this page besides. No single page is refused so.
+    #[error("page {0} is reached twice")]
+    Repeats(u32),
+    /// A descent met this page at a level that its depth does not ask for. No single page is refused so.
+    #[error("page {0} stands at another level")]
+    Level(u32),
+}
+
+/// Pages that give their nodes one at a time, and count how often they are asked. Searches, walks, auditors and verifiers
+/// have no other way to a page.
+pub trait Pages {
+    /// What the pages hold and what was asked of them.
+    ghost shelf: { Self → Shelf };
+
+    /// What every call keeps: whoever lends a disk to pages learns by it what happened to the disk.
+    ghost keeps: { Self → Self → Type 0 };
+
+    /// The node of a page. `Outside` comes before the other refusals, and without a read. `Repeats` and `Level` never
+    /// come.
+    fn node(&mut self, alloc: Global, page: u32) -> Result<Node, PageFault>
+        ensures ok { IfOk result (IsNodeOf (shelf self.old) page) }
+        ensures cause { IfErr result (HasPageCause (shelf self.old) (shelf self.new) page) }
+        ensures outside { is_within (shelf self.old).pages page ≡ false → result ≡ Err (Outside page) }
+        ensures unread { is_within (shelf self.old).pages page ≡ false → (shelf self.new).reads ≡ (shelf self.old).reads }
+        ensures same { HoldsSame (shelf self.old) (shelf self.new) }
+        ensures asked { (shelf self.new).asked ≡ next_count (shelf self.old).asked }
+        ensures reads { (shelf self.new).reads ≤ (shelf self.old).reads + 1 }
+        ensures keeps { keeps self.old self.new };
+
+    /// What is kept by no call is kept.
+    ghost keeps_none: { (p : Self) → keeps p p };
+
+    /// What is kept by one call and by the next is kept by both.
+    ghost keeps_both: { (p q r : Self) → keeps p q → keeps q r → keeps p r };
+}

@@ -1,0 +1,93 @@
+ghost use Rattle.std.specs.Prelude.{◌≡◌, ◌⊎◌, ◌+◌, ◌^◌, ◌<◌, ◌≤◌, IsTrue, OnOk, IfOk, IfErr, slice_index};
+ghost use Rattle.page_store.specs.Reading.{is_within, version_of, IsBytesFault};
+ghost use Rattle.node_page.specs.Nodes.{IsLawfulNode, fault_in, node_in};
+ghost use Rattle.outside_io.specs.Causes.{HasCause};
+ghost use Rattle.disk_model.specs.Disk.{IsUnchanged};
+ghost use Rattle.node_page.specs.Opening.{page_of};
+
+use crate::PageFault;
+use disk_model::{Disk, Failed};
+use node_page::{NodeFault, decode_node, decode_old_node};
+use std::alloc::Global;
+use tree_shape::Node;
+
+/// The bytes in a page.
+const PAGE: u64 = 4096;
+
+/// Reads the bytes of a page, of which those past the end of the file are 0. After `Failed` the buffer may hold anything.
+pub fn read_page<D: Disk>(disk: &mut D, page: u32, bytes: &mut [u8; 4096]) -> Result<(), Failed>
+    requires { page < 2 ^ 24 }
+    ensures read { OnOk result (IsTrue (D.state disk.old).tells → bytes.new ≡ page_of (D.state disk.old).bytes page) }
+    ensures same { IsUnchanged (D.state disk.old) (D.state disk.new) }
+    ensures reads { (D.state disk.new).reads ≤ (D.state disk.old).reads + 1 }
+    ensures cause { HasCause (D.state disk.old).faults (D.state disk.new).faults result }
+{
+    disk.read_at(PAGE * u64::from(page), bytes)
+}
+
+// The byte at a place of a file in memory; past its end it is 0.
+fn byte_at(file: &[u8], place: usize) -> u8
+    ensures { result ≡ slice_index file.now place }
+{
+    if place < file.len() { file[place] } else { 0 }
+}
+
+// Copies a page of a file in memory.
+pub fn copy_page(file: &[u8], page: u32, bytes: &mut [u8; 4096])
+    ensures { bytes.new ≡ page_of file.now page }
+{
+    let from = PAGE as usize * page as usize;
+    for at in 0..bytes.len() {
+        bytes[at] = byte_at(file, from + at);
+    }
+}
+
+// Whether nodes may stand on a page.
+#[tactic(auto, unfolding(crate::specs::Reading::is_within))]
+pub fn is_within(pages: u32, page: u32) -> bool
+    ensures test { result ≡ is_within pages page }
+    ensures below { IsTrue result → page < pages }
+{
+    page >= 3 && page < pages
+}
+
+// The node that the bytes of a page spell, in a file of version 1 or 2.
+pub fn node_on(
+    alloc: Global,
+    page: u32,
+    bytes: &[u8; 4096],
+    dim: u8,
+    first_version: bool,
+) -> Result<Node, PageFault>
+    requires some { 1 ≤ dim }
+    requires few { dim ≤ 64 }
+    ensures lawful { IfOk result (IsLawfulNode dim) }
+    ensures told { IfOk result (λ node. (fault_in (version_of first_version) dim bytes.now ≡ None) × (node ≡ node_in (version_of first_version) dim bytes.now)) }
+    ensures fault { IfErr result (IsBytesFault (version_of first_version) dim bytes.now page) }
+{
+    match decode(alloc, bytes, dim, first_version) {
+        Ok(node) => Ok(node),
+        Err(NodeFault::Memory) => Err(PageFault::Memory),
+        Err(fault) => Err(PageFault::Bad(page, fault)),
+    }
+}
+
+// Reads a node as the version has it.
+fn decode(
+    alloc: Global,
+    bytes: &[u8; 4096],
+    dim: u8,
+    first_version: bool,
+) -> Result<Node, NodeFault>
+    requires some { 1 ≤ dim }
+    requires few { dim ≤ 64 }
+    ensures lawful { IfOk result (IsLawfulNode dim) }
+    ensures told { IfOk result (λ node. (fault_in (version_of first_version) dim bytes.now ≡ None) × (node ≡ node_in (version_of first_version) dim bytes.now)) }
+    ensures fault { IfErr result (λ fault. (fault ≡ NodeFault.Memory) ⊎ (fault_in (version_of first_version) dim bytes.now ≡ Some fault)) }
+{
+    if first_version {
+        decode_old_node(alloc, bytes, dim)
+    } else {
+        decode_node(alloc, bytes, dim)
+    }
+}

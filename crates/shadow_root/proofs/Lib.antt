@@ -1,0 +1,4 @@
+pub mod Torn
+pub mod Apart
+pub mod Phases
+pub mod Run
