@@ -1,0 +1,8 @@
+//! The verifier of logs: it accepts exactly the sound ones, and names the first fault of the others.
+#![tactic(auto)]
+
+mod checking;
+mod faults;
+pub mod laws;
+
+pub use faults::{Accepted, Verdict};
