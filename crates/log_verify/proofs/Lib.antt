@@ -1,2 +1,4 @@
 pub mod Soundness
 pub mod Differences
+pub mod Counting
+pub mod OneMark

@@ -3,6 +3,7 @@
 
 mod checking;
 mod faults;
+mod judging;
 pub mod laws;
 
 pub use faults::{Accepted, Verdict};
