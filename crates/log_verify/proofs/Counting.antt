@@ -41,3 +41,7 @@ next_counted start used now marks i m low is so_far one =
 -- so far it cost no more than all marks
 pub so_far_counted : (start now : ℕ) (marks : List Mark) (n : ℕ) → now ≡ count_up start (measured_by (take n marks)) → CountsUpTo start now (measured_by marks)
 so_far_counted start now marks n is = (measured_by (take n marks), measured_take marks n, is)
+
+-- it rose once
+pub once_counted : (old new : ℕ) → new ≡ next_count old → CountsUpTo old new 1
+once_counted old new is = (1, omega arith, is)

@@ -2,3 +2,4 @@ pub mod Soundness
 pub mod Differences
 pub mod Counting
 pub mod OneMark
+pub mod Ways

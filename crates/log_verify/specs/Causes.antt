@@ -1,5 +1,5 @@
 -- Why a verdict is given, and what it cost.
-use Rattle.std.specs.Prelude.{◌≡◌, ◌≢◌, ℕ, ◌≤◌, false, IsTrue}
+use Rattle.std.specs.Prelude.{◌≡◌, ◌≢◌, ℕ, ◌≤◌, false, IsTrue, Err}
 use Rattle.outside_io.specs.Causes.{Rose}
 use Rattle.node_page.specs.declared.node.NodeFault.TheVariants.{Memory as NodeMemory}
 use Rattle.page_store.specs.declared.pages.PageFault.{PageFault}
@@ -25,6 +25,12 @@ abbrev pub HasCause : Shelf → Shelf → Verdict → Type 0 → Type 0
 HasCause old new Memory Fault = Unit {0}
 HasCause old new (Page fault) Fault = HasRefusal old new fault Fault
 HasCause old new _ Fault = IsTrue old.tells → Fault
+
+-- why a page that the walk needs is refused
+abbrev pub IsPageVerdict : Shelf → Shelf → ℕ → Verdict → Type 0
+IsPageVerdict old new page Memory = Unit {0}
+IsPageVerdict old new page (Page fault) = HasRefusal old new fault (old.read page ≡ Err fault)
+IsPageVerdict old new page _ = ⊥
 
 -- a count rose by one so many times, at most as often as is said
 abbrev pub CountsUpTo : ℕ → ℕ → ℕ → Type 0

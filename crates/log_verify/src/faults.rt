@@ -1,4 +1,8 @@
+ghost use Rattle.std.specs.Prelude.{◌≡◌};
+ghost use Rattle.log_verify.specs.declared.faults.Verdict.TheVariants.{Memory};
+
 use page_store::PageFault;
+use std::alloc::AllocError;
 use thiserror::Error;
 
 /// What the verifier says of a log that it accepts.
@@ -38,4 +42,12 @@ pub enum Verdict {
     /// There was no memory for the walk.
     #[error("out of memory")]
     Memory,
+}
+
+impl From<AllocError> for Verdict {
+    ghost from_gives = { λ _ e. e ≡ Memory };
+
+    fn from(_error: AllocError) -> Verdict {
+        Verdict::Memory
+    }
 }

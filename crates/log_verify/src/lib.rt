@@ -5,5 +5,6 @@ mod checking;
 mod faults;
 mod judging;
 pub mod laws;
+mod walking;
 
 pub use faults::{Accepted, Verdict};
