@@ -3,3 +3,4 @@ pub mod Differences
 pub mod Counting
 pub mod OneMark
 pub mod Ways
+pub mod Verdicts

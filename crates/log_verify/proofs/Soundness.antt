@@ -154,7 +154,7 @@ no_difference i (x ∷ xs) = rw (hit_itself x) (no_difference (i + 1) xs)
 same_both : (a b c d : ℕ) → ((a == b) && (c == d)) ≡ true → (a ≡ b) × (c ≡ d)
 same_both a b c d is = (let e : a ≡ b = grind (arith, nat_tests) in e, let e : c ≡ d = grind (arith, nat_tests) in e)
 
-both_same : (a b c d : ℕ) → a ≡ b → c ≡ d → ((a == b) && (c == d)) ≡ true
+pub both_same : (a b c d : ℕ) → a ≡ b → c ≡ d → ((a == b) && (c == d)) ≡ true
 both_same a b c d one two = grind (arith, nat_tests)
 
 pub sound_from_none : (s : Space) (read : Read) (live : Live) (log : Log) → log_fault s read live log ≡ None → IsSoundLog s (nodes_of read) live log

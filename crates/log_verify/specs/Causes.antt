@@ -32,6 +32,12 @@ IsPageVerdict old new page Memory = Unit {0}
 IsPageVerdict old new page (Page fault) = HasRefusal old new fault (old.read page ≡ Err fault)
 IsPageVerdict old new page _ = ⊥
 
+-- what may come at any time: the disk failed, or memory ran out
+abbrev pub IsPassing : Verdict → Type 0
+IsPassing Memory = Unit {0}
+IsPassing (Page pages.Disk) = Unit {0}
+IsPassing _ = ⊥
+
 -- a count rose by one so many times, at most as often as is said
 abbrev pub CountsUpTo : ℕ → ℕ → ℕ → Type 0
 CountsUpTo old new most = (n : ℕ) × (n ≤ most) × (new ≡ count_up old n)

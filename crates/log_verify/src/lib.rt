@@ -5,6 +5,8 @@ mod checking;
 mod faults;
 mod judging;
 pub mod laws;
+mod verifying;
 mod walking;
 
 pub use faults::{Accepted, Verdict};
+pub use verifying::verify;
