@@ -10,3 +10,6 @@ mod walking;
 
 pub use faults::{Accepted, Verdict};
 pub use verifying::verify;
+
+#[cfg(test)]
+mod tests;
