@@ -3,5 +3,8 @@
 #![tactic(auto)]
 
 mod choice;
+mod grew;
+mod staging;
+mod task;
 
 pub use choice::choose;
