@@ -93,6 +93,11 @@ regrown far par i g [] = []
 regrown far par zero g (e ∷ es) = with_child (far e.point) par e g es
 regrown far par (suc i) g (e ∷ es) = e ∷ regrown far par i g es
 
+-- no radius is above the bound
+abbrev pub IsSmall : Grew → Type 0
+IsSmall (One page) = Unit {0}
+IsSmall (Two c f) = (c.radius ≤ bound) × (f.radius ≤ bound)
+
 -- the entry of the new object
 abbrev pub new_entry : Plan → Option (List ℕ) → LeafEntry
 new_entry P above = record { id = P.object.id; tag = P.object.tag; parent = parent_distance P.space above P.object.point; point = P.object.point }

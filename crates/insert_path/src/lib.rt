@@ -3,6 +3,7 @@
 #![tactic(auto)]
 
 mod choice;
+mod descent;
 mod grew;
 mod staging;
 mod task;
