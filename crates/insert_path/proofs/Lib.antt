@@ -1,3 +1,4 @@
 pub mod Seen
 pub mod Back
 pub mod Staged
+pub mod Level

@@ -106,8 +106,9 @@ fn at_leaf<R: Ruler>(
     Ok(grew)
 }
 
-// What the subtree at a place has grown to.
-struct Child {
+// The entries of a node, and what the subtree at a place has grown to.
+struct Regrowth {
+    entries: Vec<InnerEntry>,
     place: usize,
     grew: Grew,
 }
@@ -118,22 +119,25 @@ fn back_at<R: Ruler>(
     ruler: &mut R,
     task: &Task<'_>,
     spot: &Spot<'_>,
-    mut entries: Vec<InnerEntry>,
-    child: Child,
+    regrowth: Regrowth,
     nodes: &mut Vec<Node>,
 ) -> Result<Grew, Memory>
     requires first { task.now.first ≤ 2 ^ 24 }
     requires few { length nodes.old.items + 2 < 2 ^ 10 }
     requires some { 1 ≤ task.now.bounds.least }
     requires room { 2 * task.now.bounds.least ≤ task.now.bounds.most }
-    requires place { child.place < length entries.items }
-    requires radii { AllByRecursion (λ e. e.radius ≤ bound) entries.items }
-    requires small { IsSmall child.grew }
+    requires place { regrowth.place < length regrowth.entries.items }
+    requires radii { AllByRecursion (λ e. e.radius ≤ bound) regrowth.entries.items }
+    requires small { IsSmall regrowth.grew }
     ensures metric { R.metric ruler.new ≡ R.metric ruler.old }
     ensures count { OnOk result (length nodes.new.items ≤ length nodes.old.items + 2) }
-    ensures staged { IfOk result (λ g. let P = plan_of (R.M.space (R.metric ruler.old)) task.now.policy task.now.bounds (number_at task.now.numbers.now task.now.first) (record { id = task.now.object.id; tag = task.now.object.tag; point = task.now.object.point.now }) in IsStaged P inner_ball inner_with (Inner spot.now.level) (regrown (P.space.dist P.object.point) (parent_distance P.space (above_of spot.now.root spot.now.above.now)) child.place child.grew entries.items) nodes.old.items nodes.new.items g) }
+    ensures staged { IfOk result (λ g. let P = plan_of (R.M.space (R.metric ruler.old)) task.now.policy task.now.bounds (number_at task.now.numbers.now task.now.first) (record { id = task.now.object.id; tag = task.now.object.tag; point = task.now.object.point.now }) in IsStaged P inner_ball inner_with (Inner spot.now.level) (regrown (P.space.dist P.object.point) (parent_distance P.space (above_of spot.now.root spot.now.above.now)) regrowth.place regrowth.grew regrowth.entries.items) nodes.old.items nodes.new.items g) }
 {
-    let Child { place, grew } = child;
+    let Regrowth {
+        mut entries,
+        place,
+        grew,
+    } = regrowth;
     regrow(ruler, task, spot, place, grew, &mut entries)?;
     let grew = stage(alloc, ruler, task, spot.level, entries, nodes)?;
     Ok(grew)
@@ -189,8 +193,12 @@ pub fn descend<P: Pages, R: Ruler>(
                 above: child.point.as_slice(),
             };
             let grew = descend(alloc, pages, ruler, task, &below, written)?;
-            let child = Child { place, grew };
-            match back_at(alloc, ruler, task, spot, entries, child, &mut written.nodes) {
+            let regrowth = Regrowth {
+                entries,
+                place,
+                grew,
+            };
+            match back_at(alloc, ruler, task, spot, regrowth, &mut written.nodes) {
                 Ok(grew) => Ok(grew),
                 Err(_) => Err(PageFault::Memory),
             }
