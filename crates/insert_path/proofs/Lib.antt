@@ -2,3 +2,4 @@ pub mod Seen
 pub mod Back
 pub mod Staged
 pub mod Level
+pub mod Holding
