@@ -3,3 +3,4 @@ pub mod Back
 pub mod Staged
 pub mod Level
 pub mod Holding
+pub mod Walked

@@ -1,3 +1,4 @@
 pub mod Walk
 pub mod Descent
 pub mod Causes
+pub mod Placing

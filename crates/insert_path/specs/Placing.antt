@@ -1,0 +1,78 @@
+-- What an insertion makes of the tree of a file.
+use Rattle.std.specs.Prelude.{◌≡◌, ◌≢◌, ◌↔◌, ◌⊎◌, ℕ, zero, suc, ◌+◌, ◌-◌, ◌*◌, ◌<◌, ◌≤◌, Bool, true, false, List, [], ◌∷◌, ◌++◌, length, map, Option, Some, None, IsTrue, if◌then◌else◌, ◌==◌, ◌&&◌}
+use Rattle.std.specs.List.{AllByRecursion, range_with_len}
+use Rattle.metric_laws.specs.Space.{Space}
+use Rattle.metric_laws.specs.Lists.{IsIn}
+use Rattle.tree_shape.specs.declared.live.Live.{Live}
+use Rattle.tree_shape.specs.declared.entry.Node.{Node}
+use Rattle.tree_shape.specs.declared.entry.Node.TheVariants.{Leaf, Inner}
+use Rattle.tree_shape.specs.declared.entry.InnerEntry.{InnerEntry}
+use Rattle.tree_shape.specs.Tree.{Nodes, inner_entries, pages_at, times, IsSoundTree, points_by_id, tags_by_id}
+use Rattle.tree_shape.specs.Plain.{Object, Branch, Plain, Tall, tree_at, tree_of}
+use Rattle.tree_shape.specs.Insertion.{Rules, Grown, One, Two, inserted, branch_ball, rules, placed}
+use Rattle.node_page.specs.Nodes.{IsLawfulNode}
+use Rattle.node_page.specs.Opening.{IsLawfulLive}
+use Rattle.node_page.specs.declared.head.Head.{Head}
+use Rattle.page_store.specs.declared.pages.PageFault.{PageFault}
+use Rattle.page_store.specs.declared.pages.PageFault.TheVariants.{Level}
+use Rattle.page_store.specs.declared.staging.Placed.{Placed}
+use Rattle.page_store.specs.declared.staging.StagedNode.{StagedNode}
+use Rattle.page_store.specs.Reading.{Read, IsWithin, nodes_of}
+use Rattle.page_store.specs.Staging.{pages_of, staged_for}
+use Rattle.insert_path.specs.Walk.{chosen_child, walk_fault}
+use Rattle.insert_path.specs.Descent.{number_at}
+
+-- the pages of the live tree
+abbrev pub live_pages : Nodes → Live → List ℕ
+live_pages nodes t = pages_at nodes t.height t.root
+
+-- the pages that a point's walk opens, from a page of this height down
+abbrev pub walk_pages : Space → Nodes → List ℕ → ℕ → ℕ → List ℕ
+walk_pages s nodes p zero page = page ∷ []
+walk_pages s nodes p (suc h) page = page ∷ walk_pages s nodes p h (chosen_child s p (inner_entries (nodes page)))
+
+-- whether a node has grown to two halves
+abbrev pub is_split : {X : Type 0} → Grown X → Bool
+is_split (One t) = false
+is_split (Two c d) = true
+
+-- the first fault of an insertion: one of the walk, or a root that would be split at height 14
+abbrev pub or_level : Option PageFault → Bool → ℕ → Option PageFault
+or_level (Some fault) b root = Some fault
+or_level None true root = Some (Level root)
+or_level None false root = None
+
+abbrev pub place_fault : Space → Rules → Read → Live → Object → Option PageFault
+place_fault s R read t o =
+    or_level (walk_fault s read o.point t.height t.root) ((t.height == 14) && is_split (inserted R o t.height (tree_at (nodes_of read) t.height t.root))) t.root
+
+-- the new subtrees where a node has grown: its halves, the first before the second
+abbrev pub parts : (h : ℕ) → Grown (Plain h) → List Tall
+parts h (One t) = record { height = h; tree = t } ∷ []
+parts h (Two c d) = record { height = h; tree = c.below } ∷ record { height = h; tree = d.below } ∷ []
+
+abbrev pub fresh_in : {X : Type 0} → (X → List Tall) → ℕ → List (Branch X) → List Tall
+fresh_in f i [] = []
+fresh_in f zero (b ∷ bs) = f b.below
+fresh_in f (suc i) (b ∷ bs) = fresh_in f i bs
+
+-- the new subtrees of an insertion, from the leaf upward
+abbrev pub fresh : Rules → Object → (h : ℕ) → Plain h → List Tall
+fresh R o zero os = parts zero (inserted R o zero os)
+fresh R o (suc h) bs = fresh_in (fresh R o h) (R.choose (map branch_ball bs) o.point) bs ++ parts (suc h) (inserted R o (suc h) bs)
+
+-- a new root, if there is one
+abbrev pub fresh_root : (h : ℕ) → Grown (Plain h) → List Tall
+fresh_root h (One t) = []
+fresh_root h (Two c d) = record { height = suc h; tree = c ∷ d ∷ [] } ∷ []
+
+abbrev pub fresh_of : Rules → Object → Tall → List Tall
+fresh_of R o t = fresh R o t.height t.tree ++ fresh_root t.height (inserted R o t.height t.tree)
+
+abbrev pub level_of : Node → ℕ
+level_of (Leaf es) = 0
+level_of (Inner level es) = level
+
+-- the subtree of a staged node, as a file shows it
+abbrev pub staged_tree : Nodes → StagedNode → Tall
+staged_tree nodes s = record { height = level_of s.node; tree = tree_at nodes (level_of s.node) s.page }
