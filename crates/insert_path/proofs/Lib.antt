@@ -4,3 +4,4 @@ pub mod Staged
 pub mod Level
 pub mod Holding
 pub mod Walked
+pub mod Stored
