@@ -5,3 +5,4 @@ pub mod Level
 pub mod Holding
 pub mod Walked
 pub mod Stored
+pub mod Paged
