@@ -26,7 +26,7 @@ use Rattle.insert_path.specs.declared.grew.Grew.{Grew}
 use Rattle.insert_path.specs.declared.grew.Grew.TheVariants.{One, Two}
 use Rattle.insert_path.specs.Walk.{inner_ball, chosen_child, walk_fault, leaf_fault, inner_fault}
 use Rattle.insert_path.specs.Causes.{HasWalkCause}
-use Rattle.insert_path.specs.Descent.{Plan, plan_of, leaf_ball, leaf_with, inner_with, new_entry, regrown, IsSmall, IsWhole, IsHalved, IsStaged, Descends}
+use Rattle.insert_path.specs.Descent.{Plan, plan_of, leaf_ball, leaf_with, inner_with, new_entry, regrown, IsNear, IsSmall, IsWhole, IsHalved, IsStaged, Descends}
 
 -- a page that gives no node is the walk's fault
 pub fault_here : (s : Space) (read : Read) (p : List ℕ) (h page : ℕ) (f : PageFault) → read page ≡ Err f → walk_fault s read p h page ≡ Some f
@@ -83,10 +83,10 @@ cause_below old mid new first first' Memory same is cause = tt
 cause_below old mid new first first' (Repeats q) same is cause = cause
 cause_below old mid new first first' (Level q) same is cause = λ tells. is tells ∙ cause (subst IsTrue (sym same.tells) tells)
 
--- no radius of a node that was read is above the bound
-pub read_radii : (dim own : ℕ) (node : Node) (es fs : List InnerEntry) → IsLawfulNode dim node → node ≡ Inner own es → fs ≡ es → AllByRecursion (λ e. e.radius ≤ bound) fs
-read_radii dim own node es fs lawful inner is =
-    rw is (all_weaker (λ (e : InnerEntry). (length e.point ≡ dim) × (e.radius ≤ bound) × (e.parent ≤ bound)) (λ (e : InnerEntry). e.radius ≤ bound) es (λ e h. h.1) (subst (IsLawfulNode dim) inner lawful).4)
+-- no radius and no distance of a node that was read is above the bound
+pub read_near : (dim own : ℕ) (node : Node) (es fs : List InnerEntry) → IsLawfulNode dim node → node ≡ Inner own es → fs ≡ es → AllByRecursion IsNear fs
+read_near dim own node es fs lawful inner is =
+    rw is (all_weaker (λ (e : InnerEntry). (length e.point ≡ dim) × (e.radius ≤ bound) × (e.parent ≤ bound)) IsNear es (λ e h. (h.1, h.2)) (subst (IsLawfulNode dim) inner lawful).4)
 
 pub level_above : (dim own h : ℕ) (node : Node) (es : List InnerEntry) → IsLawfulNode dim node → node ≡ Inner own es → own ≡ h → h ≡ suc (h - 1)
 level_above dim own h node es lawful inner same = let l : 1 ≤ own = (subst (IsLawfulNode dim) inner lawful).0 in omega arith
@@ -107,26 +107,27 @@ node_same a b page node same is = record {
 
 pub descends_same : (P : Plan) (a b : Shelf) (h page : ℕ) (above : Option (List ℕ)) (left0 : List ℕ) (old : List Node) (left1 : List ℕ) (new : List Node) (g : Grew) → HoldsSame a b →
     Descends P b h page above left0 old left1 new g → Descends P a h page above left0 old left1 new g
-descends_same P a b zero page above left0 old left1 new g same d = (d.0, node_same a b page (Leaf d.0) same d.1, d.2, d.3)
+descends_same P a b zero page above left0 old left1 new g same d = (d.0, node_same a b page (Leaf d.0) same d.1, d.2, d.3, d.4)
 descends_same P a b (suc h) page above left0 old left1 new g same d =
-    (d.0, d.1, d.2, d.3, node_same a b page (Inner (suc h) d.0) same d.4, d.5, d.6, descends_same P a b h d.1.child (Some d.1.point) (left0 ++ page ∷ []) old left1 d.2 d.3 same d.7, d.8)
+    (d.0, d.1, d.2, d.3, node_same a b page (Inner (suc h) d.0) same d.4, d.5, d.6, descends_same P a b h d.1.child (Some d.1.point) (left0 ++ page ∷ []) old left1 d.2 d.3 same d.7, d.8, d.9)
 
 module _ (policy : Policy) (bounds : Bounds) (number : ℕ → ℕ) (o : Object) where
   abbrev pub by : Space → Plan
   by s = plan_of s policy bounds number o
 
   pub leaf_step : (s : Space) (a : Shelf) (h page : ℕ) (above : Option (List ℕ)) (node : Node) (es fs : List LeafEntry) (left0 left1 : List ℕ) (old new : List Node) (g : Grew) →
-      h ≡ 0 → IsNodeOf a page node → node ≡ Leaf es → fs ≡ es → left1 ≡ left0 ++ page ∷ [] → IsStaged (by s) leaf_ball leaf_with Leaf (fs ++ new_entry (by s) above ∷ []) old new g →
+      h ≡ 0 → IsNodeOf a page node → node ≡ Leaf es → fs ≡ es → left1 ≡ left0 ++ page ∷ [] → IsStaged (by s) leaf_ball leaf_with Leaf (fs ++ new_entry (by s) above ∷ []) old new g → parent_distance s above o.point ≤ bound →
       Descends (by s) a h page above left0 old left1 new g
-  leaf_step s a h page above node es fs left0 left1 old new g low is leaf fe left staged =
-      rw low (es, subst (IsNodeOf a page) leaf is, left, subst (λ (xs : List LeafEntry). IsStaged (by s) leaf_ball leaf_with Leaf (xs ++ new_entry (by s) above ∷ []) old new g) fe staged)
+  leaf_step s a h page above node es fs left0 left1 old new g low is leaf fe left staged within =
+      rw low (es, subst (IsNodeOf a page) leaf is, left, subst (λ (xs : List LeafEntry). IsStaged (by s) leaf_ball leaf_with Leaf (xs ++ new_entry (by s) above ∷ []) old new g) fe staged, within)
 
   pub inner_step : (s t u : Space) (a b : Shelf) (h k page own : ℕ) (above : Option (List ℕ)) (node : Node) (es fs ds : List InnerEntry) (place : ℕ) (c : InnerEntry) (left0 left1 left2 : List ℕ) (old mid new : List Node) (below g : Grew) →
       t ≡ s → u ≡ t → HoldsSame a b → h ≡ suc k → own ≡ h → IsNodeOf a page node → node ≡ Inner own es → fs ≡ es → ds ≡ fs → place ≡ chosen s (map inner_ball ds) o.point → place < length ds → c ≡ get_or fs place c →
       left1 ≡ left0 ++ page ∷ [] → (q : List ℕ) → q ≡ c.point → Descends (by t) b k c.child (Some q) left1 old left2 mid below →
       IsStaged (by u) inner_ball inner_with (Inner h) (regrown (u.dist o.point) (parent_distance u above) place below fs) mid new g →
+      AllByRecursion IsNear (regrown (u.dist o.point) (parent_distance u above) place below fs) →
       Descends (by s) a h page above left0 old left2 new g
-  inner_step s t u a b h k page own above node es fs ds place c left0 left1 left2 old mid new below g ts ut same hk oh is inner fe df chose low isc left q at_q deep staged =
+  inner_step s t u a b h k page own above node es fs ds place c left0 left1 left2 old mid new below g ts ut same hk oh is inner fe df chose low isc left q at_q deep staged near =
       subst (λ (n : ℕ). Descends (by s) a n page above left0 old left2 new g) (sym hk)
         (es, c, mid, below,
          subst (IsNodeOf a page) (inner ∙ ap (λ (n : ℕ). Inner n es) (oh ∙ hk)) is,
@@ -139,7 +140,10 @@ module _ (policy : Policy) (bounds : Bounds) (number : ℕ → ℕ) (o : Object)
          subst (λ (i : ℕ). IsStaged (by s) inner_ball inner_with (Inner (suc k)) (regrown (s.dist o.point) (parent_distance s above) i below es) mid new g) at
              (subst (λ (n : ℕ). IsStaged (by s) inner_ball inner_with (Inner n) (regrown (s.dist o.point) (parent_distance s above) place below es) mid new g) hk
                  (subst (λ (xs : List InnerEntry). IsStaged (by s) inner_ball inner_with (Inner h) (regrown (s.dist o.point) (parent_distance s above) place below xs) mid new g) fe
-                     (subst (λ (x : Space). IsStaged (by x) inner_ball inner_with (Inner h) (regrown (x.dist o.point) (parent_distance x above) place below fs) mid new g) (ut ∙ ts) staged))))
+                     (subst (λ (x : Space). IsStaged (by x) inner_ball inner_with (Inner h) (regrown (x.dist o.point) (parent_distance x above) place below fs) mid new g) (ut ∙ ts) staged))),
+         subst (λ (i : ℕ). AllByRecursion IsNear (regrown (s.dist o.point) (parent_distance s above) i below es)) at
+             (subst (λ (xs : List InnerEntry). AllByRecursion IsNear (regrown (s.dist o.point) (parent_distance s above) place below xs)) fe
+                 (subst (λ (x : Space). AllByRecursion IsNear (regrown (x.dist o.point) (parent_distance x above) place below fs)) (ut ∙ ts) near)))
     where
       de : ds ≡ es
       de = df ∙ fe

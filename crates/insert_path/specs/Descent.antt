@@ -93,6 +93,10 @@ regrown far par i g [] = []
 regrown far par zero g (e ∷ es) = with_child (far e.point) par e g es
 regrown far par (suc i) g (e ∷ es) = e ∷ regrown far par i g es
 
+-- neither the radius nor the stored distance is above the bound
+abbrev pub IsNear : InnerEntry → Type 0
+IsNear e = (e.radius ≤ bound) × (e.parent ≤ bound)
+
 -- no radius is above the bound
 abbrev pub IsSmall : Grew → Type 0
 IsSmall (One page) = Unit {0}
@@ -113,6 +117,7 @@ abbrev pub Descends : Plan → Shelf → ℕ → ℕ → Option (List ℕ) → L
 Descends P shelf zero page above left_old old left_new new g =
     (es : List LeafEntry) × IsNodeOf shelf page (Leaf es) × (left_new ≡ left_old ++ page ∷ [])
     × IsStaged P leaf_ball leaf_with Leaf (es ++ new_entry P above ∷ []) old new g
+    × (parent_distance P.space above P.object.point ≤ bound)
 Descends P shelf (suc h) page above left_old old left_new new g =
     (es : List InnerEntry) × (c : InnerEntry) × (mid : List Node) × (below : Grew)
     × IsNodeOf shelf page (Inner (suc h) es)
@@ -121,3 +126,4 @@ Descends P shelf (suc h) page above left_old old left_new new g =
     × Descends P shelf h c.child (Some c.point) (left_old ++ page ∷ []) old left_new mid below
     × IsStaged P inner_ball inner_with (Inner (suc h))
         (regrown (P.space.dist P.object.point) (parent_distance P.space above) (chosen P.space (map inner_ball es) P.object.point) below es) mid new g
+    × AllByRecursion IsNear (regrown (P.space.dist P.object.point) (parent_distance P.space above) (chosen P.space (map inner_ball es) P.object.point) below es)

@@ -5,7 +5,7 @@ ghost use Rattle.tree_shape.specs.Tree.{parent_distance};
 ghost use Rattle.tree_shape.specs.declared.entry.Node.TheVariants.{Leaf, Inner};
 ghost use Rattle.insert_path.specs.Walk.{walk_fault, inner_ball};
 ghost use Rattle.insert_path.specs.Causes.{HasAsked, HasWalkCause};
-ghost use Rattle.insert_path.specs.Descent.{number_at, plan_of, above_of, leaf_ball, leaf_with, inner_with, new_entry, entry_of, regrown, IsSmall, IsStaged, Descends};
+ghost use Rattle.insert_path.specs.Descent.{number_at, plan_of, above_of, leaf_ball, leaf_with, inner_with, new_entry, entry_of, regrown, IsNear, IsSmall, IsStaged, Descends};
 
 use crate::choice::choose;
 use crate::grew::{Grew, Stem};
@@ -32,6 +32,7 @@ fn parent_of<R: Ruler>(ruler: &mut R, spot: &Spot<'_>, p: &[u32]) -> u64
 // The entry of a new page.
 fn entry_from<R: Ruler>(ruler: &mut R, spot: &Spot<'_>, stem: Stem) -> InnerEntry
     ensures metric { R.metric ruler.new ≡ R.metric ruler.old }
+    ensures within { result.parent ≤ bound }
     ensures entry { result ≡ entry_of (parent_distance (R.M.space (R.metric ruler.old)) (above_of spot.now.root spot.now.above.now)) stem }
 {
     let parent = parent_of(ruler, spot, stem.point.as_slice());
@@ -54,10 +55,10 @@ fn regrow<R: Ruler>(
     entries: &mut Vec<InnerEntry>,
 ) -> Result<(), Memory>
     requires place { place < length entries.old.items }
-    requires radii { AllByRecursion (λ e. e.radius ≤ bound) entries.old.items }
+    requires near { AllByRecursion IsNear entries.old.items }
     requires small { IsSmall grew }
     ensures metric { R.metric ruler.new ≡ R.metric ruler.old }
-    ensures radii { OnOk result (AllByRecursion (λ e. e.radius ≤ bound) entries.new.items) }
+    ensures near { OnOk result (AllByRecursion IsNear entries.new.items) }
     ensures entries { OnOk result (entries.new.items ≡ regrown ((R.M.space (R.metric ruler.old)).dist task.now.object.point.now) (parent_distance (R.M.space (R.metric ruler.old)) (above_of spot.now.root spot.now.above.now)) place grew entries.old.items) }
 {
     match grew {
@@ -92,6 +93,7 @@ fn at_leaf<R: Ruler>(
     requires room { 2 * task.now.bounds.least ≤ task.now.bounds.most }
     ensures metric { R.metric ruler.new ≡ R.metric ruler.old }
     ensures count { OnOk result (length nodes.new.items ≤ length nodes.old.items + 2) }
+    ensures within { parent_distance (R.M.space (R.metric ruler.old)) (above_of spot.now.root spot.now.above.now) task.now.object.point.now ≤ bound }
     ensures staged { IfOk result (λ g. let P = plan_of (R.M.space (R.metric ruler.old)) task.now.policy task.now.bounds (number_at task.now.numbers.now task.now.first) (record { id = task.now.object.id; tag = task.now.object.tag; point = task.now.object.point.now }) in IsStaged P leaf_ball leaf_with Leaf (entries.items ++ new_entry P (above_of spot.now.root spot.now.above.now) ∷ []) nodes.old.items nodes.new.items g) }
 {
     let parent = parent_of(ruler, spot, task.object.point);
@@ -127,10 +129,11 @@ fn back_at<R: Ruler>(
     requires some { 1 ≤ task.now.bounds.least }
     requires room { 2 * task.now.bounds.least ≤ task.now.bounds.most }
     requires place { regrowth.place < length regrowth.entries.items }
-    requires radii { AllByRecursion (λ e. e.radius ≤ bound) regrowth.entries.items }
+    requires near { AllByRecursion IsNear regrowth.entries.items }
     requires small { IsSmall regrowth.grew }
     ensures metric { R.metric ruler.new ≡ R.metric ruler.old }
     ensures count { OnOk result (length nodes.new.items ≤ length nodes.old.items + 2) }
+    ensures near { OnOk result (AllByRecursion IsNear (regrown ((R.M.space (R.metric ruler.old)).dist task.now.object.point.now) (parent_distance (R.M.space (R.metric ruler.old)) (above_of spot.now.root spot.now.above.now)) regrowth.place regrowth.grew regrowth.entries.items)) }
     ensures staged { IfOk result (λ g. let P = plan_of (R.M.space (R.metric ruler.old)) task.now.policy task.now.bounds (number_at task.now.numbers.now task.now.first) (record { id = task.now.object.id; tag = task.now.object.tag; point = task.now.object.point.now }) in IsStaged P inner_ball inner_with (Inner spot.now.level) (regrown (P.space.dist P.object.point) (parent_distance P.space (above_of spot.now.root spot.now.above.now)) regrowth.place regrowth.grew regrowth.entries.items) nodes.old.items nodes.new.items g) }
 {
     let Regrowth {

@@ -3,7 +3,7 @@ use Rattle.std.proofs.lemmas.Result.{err_from_is_err_and}
 use Rattle.metric_laws.specs.Space.{Space}
 use Rattle.tree_shape.specs.Plain.{Object}
 use Rattle.insert_path.specs.Descent.{number_at, above_of}
-use Rattle.insert_path.proofs.Level.{cause_here, leaf_high, inner_other, fault_below, cause_below, level_above, read_radii, small_descends, leaf_step, inner_step}
+use Rattle.insert_path.proofs.Level.{cause_here, leaf_high, inner_other, fault_below, cause_below, level_above, read_near, small_descends, leaf_step, inner_step}
 use Rattle.insert_path.proofs.descent.+descend.Goals as goal
 
 pub returns-in_err-node-clause-cause : goal.returns-in_err-node-clause-cause
@@ -32,9 +32,9 @@ returns-in_err-grew-in-Inner-clause-cause g t c =
             c.deref.ensures.value c.choose-place.ensures.chosen c.choose-place.ensures.place c.index-child.ensures (c.in_ok-node.ensures.ok.told tells))
         c.in_err-grew-in-Inner.ensures.cause)
 
-pub back_at-requires-clause-radii : goal.back_at-requires-clause-radii
-back_at-requires-clause-radii g t c κs within =
-    read_radii (g.P.Pages.shelf c.args.pages.now).dim c.in-Inner.level c.in_ok-node.node c.in-Inner.entries _ c.in_ok-node.ensures.ok.lawful c.in-Inner.is c.into_vec-entries-in-Inner.ensures
+pub back_at-requires-clause-near : goal.back_at-requires-clause-near
+back_at-requires-clause-near g t c κs within =
+    read_near (g.P.Pages.shelf c.args.pages.now).dim c.in-Inner.level c.in_ok-node.node c.in-Inner.entries _ c.in_ok-node.ensures.ok.lawful c.in-Inner.is c.into_vec-entries-in-Inner.ensures
 
 pub back_at-requires-clause-small : goal.back_at-requires-clause-small
 back_at-requires-clause-small g t c κs within =
@@ -45,7 +45,7 @@ returns-in-Ok-clause-descends g t c =
     leaf_step c.args.task.now.policy c.args.task.now.bounds (number_at c.args.task.now.numbers.now c.args.task.now.first) (record { id = c.args.task.now.object.id; tag = c.args.task.now.object.tag; point = c.args.task.now.object.point.now })
         (g.R.M.Metric.space (g.R.Ruler.metric c.args.ruler.now)) (g.P.Pages.shelf c.args.pages.now) c.args.spot.now.level c.args.spot.now.page (above_of c.args.spot.now.root c.args.spot.now.above.now)
         c.in_ok-node.node c.in-Leaf.entries c.into_vec-entries.result.items c.args.written.now.left.items _ c.args.written.now.nodes.items _ _
-        c.if-spot-ne0.false c.in_ok-node.ensures.ok c.in-Leaf.is c.into_vec-entries.ensures (search rules) c.in-Ok.ensures.staged
+        c.if-spot-ne0.false c.in_ok-node.ensures.ok c.in-Leaf.is c.into_vec-entries.ensures (search rules) c.in-Ok.ensures.staged c.in-Ok.ensures.within
 
 pub returns-in-Ok-back_at-clause-descends : goal.returns-in-Ok-back_at-clause-descends
 returns-in-Ok-back_at-clause-descends g t c =
@@ -59,4 +59,4 @@ returns-in-Ok-back_at-clause-descends g t c =
         (level_above (g.P.Pages.shelf c.args.pages.now).dim c.in-Inner.level c.args.spot.now.level c.in_ok-node.node c.in-Inner.entries c.in_ok-node.ensures.ok.lawful c.in-Inner.is c.if-level-spot.false)
         c.if-level-spot.false
         c.in_ok-node.ensures.ok c.in-Inner.is c.into_vec-entries-in-Inner.ensures c.deref.ensures.value c.choose-place.ensures.chosen c.choose-place.ensures.place c.index-child.ensures (search rules)
-        c.as_slice.result.now c.as_slice.ensures c.in_ok-grew-in-Inner.ensures.descends c.in-Ok-back_at.ensures.staged
+        c.as_slice.result.now c.as_slice.ensures c.in_ok-grew-in-Inner.ensures.descends c.in-Ok-back_at.ensures.staged c.in-Ok-back_at.ensures.near
