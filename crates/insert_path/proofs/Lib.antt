@@ -6,3 +6,4 @@ pub mod Holding
 pub mod Walked
 pub mod Stored
 pub mod Paged
+pub mod Writable
