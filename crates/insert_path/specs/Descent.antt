@@ -7,6 +7,7 @@ use Rattle.tree_shape.specs.declared.entry.InnerEntry.{InnerEntry}
 use Rattle.tree_shape.specs.declared.entry.Node.{Node}
 use Rattle.tree_shape.specs.declared.entry.Node.TheVariants.{Leaf, Inner}
 use Rattle.tree_shape.specs.declared.filling.Bounds.{Bounds}
+use Rattle.tree_shape.specs.declared.live.Live.{Live}
 use Rattle.tree_shape.specs.Tree.{parent_distance}
 use Rattle.tree_shape.specs.Plain.{Object}
 use Rattle.tree_shape.specs.Dealing.{Ball}
@@ -15,6 +16,7 @@ use Rattle.promote_split.specs.declared.halves.Half.{Half}
 use Rattle.promote_split.specs.declared.halves.Halves.{Halves}
 use Rattle.promote_split.specs.declared.promoting.Policy.{Policy}
 use Rattle.promote_split.specs.Halves.{IsSplit, AreNear}
+use Rattle.page_store.specs.declared.staging.StagedNode.{StagedNode}
 use Rattle.page_store.specs.Shelf.{Shelf, IsNodeOf}
 use Rattle.insert_path.specs.declared.grew.Stem.{Stem}
 use Rattle.insert_path.specs.declared.grew.Grew.{Grew}
@@ -127,3 +129,23 @@ Descends P shelf (suc h) page above left_old old left_new new g =
     × IsStaged P inner_ball inner_with (Inner (suc h))
         (regrown (P.space.dist P.object.point) (parent_distance P.space above) (chosen P.space (map inner_ball es) P.object.point) below es) mid new g
     × AllByRecursion IsNear (regrown (P.space.dist P.object.point) (parent_distance P.space above) (chosen P.space (map inner_ball es) P.object.point) below es)
+
+-- the entry of a half in a new root
+abbrev pub root_entry : Stem → InnerEntry
+root_entry c = entry_of (λ p. 0) c
+
+-- the root after others were staged: where the old root has grown to two halves, a new node is staged above them
+abbrev pub Roots : (ℕ → ℕ) → ℕ → Grew → List Node → List Node → ℕ → ℕ → Type 0
+Roots number h (One page) old new root height = (new ≡ old) × (root ≡ page) × (height ≡ h)
+Roots number h (Two c d) old new root height =
+    (h < 14) × (new ≡ old ++ Inner (h + 1) (root_entry c ∷ root_entry d ∷ []) ∷ []) × (root ≡ number (length old)) × (height ≡ h + 1)
+
+-- the walk of an insertion from the live root, which stages these nodes and leaves these pages, and the new root
+abbrev pub Walks : Plan → Shelf → Live → List ℕ → List Node → ℕ → ℕ → Type 0
+Walks P shelf t left nodes root height =
+    (mid : List Node) × (g : Grew) × Descends P shelf t.height t.root None [] [] left mid g × Roots P.number t.height g mid nodes root height
+
+-- nodes with their pages, from this number on
+abbrev pub numbered : (ℕ → ℕ) → ℕ → List Node → List StagedNode
+numbered number i [] = []
+numbered number i (n ∷ ns) = record { page = number i; node = n } ∷ numbered number (i + 1) ns

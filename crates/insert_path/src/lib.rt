@@ -4,8 +4,10 @@
 
 mod choice;
 mod descent;
+mod faults;
 mod grew;
 mod staging;
 mod task;
 
 pub use choice::choose;
+pub use faults::PlaceFault;
