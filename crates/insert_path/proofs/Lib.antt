@@ -7,3 +7,4 @@ pub mod Walked
 pub mod Stored
 pub mod Paged
 pub mod Writable
+pub mod Rooted

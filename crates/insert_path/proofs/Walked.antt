@@ -23,7 +23,7 @@ use Rattle.insert_path.specs.declared.grew.Grew.{Grew}
 use Rattle.insert_path.specs.declared.grew.Grew.TheVariants.{One, Two}
 use Rattle.insert_path.specs.Walk.{inner_ball, chosen_child, walk_fault, leaf_fault, inner_fault}
 use Rattle.insert_path.specs.Placing.{walk_pages, is_split, parts, fresh_in, fresh, level_of}
-use Rattle.insert_path.specs.Descent.{Plan, rules_of, leaf_ball, leaf_with, inner_with, new_entry, entry_of, with_child, regrown, IsStaged, Descends}
+use Rattle.insert_path.specs.Descent.{Plan, rules_of, leaf_ball, leaf_with, inner_with, new_entry, entry_of, with_child, regrown, is_two, IsStaged, Descends}
 use Rattle.insert_path.proofs.Level.{child_page}
 use Rattle.insert_path.proofs.Holding.{HoldsFrom, grown_tree, branch_at, holds_staged, inner_balls, leaf_shown, inner_shown, regrown_shown, tree_same, map_more, agree_below, chosen_in}
 
@@ -132,10 +132,6 @@ nodes_for b = if b then 2 else 1
 
 abbrev pub one_more : Bool → ℕ
 one_more b = if b then 1 else 0
-
-abbrev pub is_two : Grew → Bool
-is_two (One page) = false
-is_two (Two c d) = true
 
 pub fit_parity : {X : Type 0} (R : Rules) (ball : X → Ball) (xs : List X) → is_split (fit R ball xs) ≡ not (nat_le (length xs) R.most)
 fit_parity {X} R ball xs = cases (nat_le (length xs) R.most) _ _

@@ -23,8 +23,8 @@ use Rattle.insert_path.specs.declared.grew.Stem.{Stem}
 use Rattle.insert_path.specs.declared.grew.Grew.{Grew}
 use Rattle.insert_path.specs.declared.grew.Grew.TheVariants.{One, Two}
 use Rattle.insert_path.specs.Walk.{inner_ball}
-use Rattle.insert_path.specs.Descent.{Plan, leaf_ball, leaf_with, inner_with, stem_of, new_entry, entry_of, with_child, regrown, IsNear, AreHalves, IsStaged, Descends}
-use Rattle.insert_path.proofs.Walked.{is_two, one_more, regrown_long}
+use Rattle.insert_path.specs.Descent.{Plan, leaf_ball, leaf_with, inner_with, stem_of, new_entry, entry_of, with_child, regrown, IsNear, AreHalves, is_two, IsStaged, Descends}
+use Rattle.insert_path.proofs.Walked.{one_more, regrown_long}
 
 -- the points of two halves have so many coordinates
 abbrev pub IsLong : ℕ → Grew → Type 0

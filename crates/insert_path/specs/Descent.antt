@@ -130,6 +130,10 @@ Descends P shelf (suc h) page above left_old old left_new new g =
         (regrown (P.space.dist P.object.point) (parent_distance P.space above) (chosen P.space (map inner_ball es) P.object.point) below es) mid new g
     × AllByRecursion IsNear (regrown (P.space.dist P.object.point) (parent_distance P.space above) (chosen P.space (map inner_ball es) P.object.point) below es)
 
+abbrev pub is_two : Grew → Bool
+is_two (One page) = false
+is_two (Two c d) = true
+
 -- the entry of a half in a new root
 abbrev pub root_entry : Stem → InnerEntry
 root_entry c = entry_of (λ p. 0) c

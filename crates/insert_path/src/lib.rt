@@ -6,6 +6,7 @@ mod choice;
 mod descent;
 mod faults;
 mod grew;
+mod growth;
 mod staging;
 mod task;
 
