@@ -8,3 +8,4 @@ pub mod Stored
 pub mod Paged
 pub mod Writable
 pub mod Rooted
+pub mod Numbers

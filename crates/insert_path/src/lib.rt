@@ -7,6 +7,7 @@ mod descent;
 mod faults;
 mod grew;
 mod growth;
+mod settling;
 mod staging;
 mod task;
 

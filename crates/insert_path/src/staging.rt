@@ -42,6 +42,19 @@ impl NodeEntry for InnerEntry {
     }
 }
 
+// The page of the new node at a place.
+pub fn page_at(task: &Task<'_>, place: usize) -> u32
+    requires first { task.now.first ≤ 2 ^ 24 }
+    requires few { place < 2 ^ 10 }
+    ensures { result ≡ number_at task.now.numbers.now task.now.first place }
+{
+    if place < task.numbers.len() {
+        task.numbers[place]
+    } else {
+        task.first + (place - task.numbers.len()) as u32
+    }
+}
+
 // Stages a node after the others, and gives its page.
 pub fn stage_node(task: &Task<'_>, node: Node, nodes: &mut Vec<Node>) -> Result<u32, Memory>
     requires first { task.now.first ≤ 2 ^ 24 }
@@ -50,12 +63,7 @@ pub fn stage_node(task: &Task<'_>, node: Node, nodes: &mut Vec<Node>) -> Result<
     ensures staged { OnOk result (nodes.new.items ≡ nodes.old.items ++ node ∷ []) }
     ensures count { OnOk result (length nodes.new.items ≡ length nodes.old.items + 1) }
 {
-    let place = nodes.len();
-    let page = if place < task.numbers.len() {
-        task.numbers[place]
-    } else {
-        task.first + (place - task.numbers.len()) as u32
-    };
+    let page = page_at(task, nodes.len());
     nodes.push(node)?;
     Ok(page)
 }
