@@ -9,3 +9,4 @@ pub mod Paged
 pub mod Writable
 pub mod Rooted
 pub mod Numbers
+pub mod Listing
