@@ -10,3 +10,4 @@ pub mod Writable
 pub mod Rooted
 pub mod Numbers
 pub mod Listing
+pub mod Top
