@@ -11,3 +11,4 @@ pub mod Rooted
 pub mod Numbers
 pub mod Listing
 pub mod Top
+pub mod Final

@@ -7,9 +7,11 @@ mod descent;
 mod faults;
 mod grew;
 mod growth;
+mod placing;
 mod settling;
 mod staging;
 mod task;
 
 pub use choice::choose;
 pub use faults::PlaceFault;
+pub use placing::place;
