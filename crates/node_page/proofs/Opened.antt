@@ -32,7 +32,7 @@ nine_back a b c d e f g h i ea eb ec ed ee ef eg eh ei = rw (ea, eb, ec, ed, ee,
 le_test : (m n : ℕ) → m ≤ n → nat_le m n ≡ true
 le_test m n le = grind (arith, nat_tests)
 
-lawful_by_test : (limit size : ℕ) (live : Live) → is_lawful_live limit size live ≡ true → IsLawfulLive limit size live
+pub lawful_by_test : (limit size : ℕ) (live : Live) → is_lawful_live limit size live ≡ true → IsLawfulLive limit size live
 unfolding is_lawful_live
 lawful_by_test limit size live is =
     let each = nine (nat_le 1 live.generation) (nat_le live.generation (2 ^ 48 - 1)) (nat_le 3 live.root) (nat_lt live.root live.pages) (nat_le live.height 14)
@@ -58,11 +58,11 @@ test_by_lawful limit size live lawful =
     (lt-ltb live.root live.pages lawful.high_root) (le_test live.height 14 lawful.height) (le_test live.count limit lawful.count)
     (le_test 4 live.pages lawful.low_pages) (le_test live.pages (2 ^ 24) lawful.high_pages) (le_test (live.pages * 4096) size lawful.room)
 
-rest_by_clear : (page : List ℕ) → is_clear page ≡ true → HasSlotRest page
+pub rest_by_clear : (page : List ℕ) → is_clear page ≡ true → HasSlotRest page
 unfolding is_clear
 rest_by_clear page is = rest_by_test page is
 
-clear_by_rest : (page : List ℕ) → HasSlotRest page → is_clear page ≡ true
+pub clear_by_rest : (page : List ℕ) → HasSlotRest page → is_clear page ≡ true
 unfolding is_clear
 clear_by_rest page rest = test_by_rest page rest
 

@@ -4,7 +4,7 @@ ghost use Rattle.node_page.specs.Bytes.{number_at, are_zero};
 
 use byteorder::{BigEndian, ByteOrder};
 
-// Writes 0 into each byte.
+/// Writes 0 into each byte: a page of zeros is an empty leaf.
 pub fn clear(page: &mut [u8])
     ensures { (k : ℕ) → slice_index page.new k ≡ 0 }
 {

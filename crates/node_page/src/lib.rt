@@ -9,9 +9,10 @@ mod node;
 mod slot;
 mod writing;
 
+pub use bytes::clear;
 pub use head::{Head, HeadFault, decode_head, encode_head};
 pub use node::{NodeFault, decode_node, decode_old_node};
-pub use slot::{Slot, decode_slot, encode_slot};
+pub use slot::{Gate, Slot, decode_slot, encode_slot, read_gate};
 pub use writing::encode_node;
 
 #[cfg(test)]

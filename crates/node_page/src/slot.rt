@@ -1,5 +1,5 @@
-ghost use Rattle.std.specs.Prelude.{◌≡◌, ◌↔◌, ◌&&◌, if◌then◌else◌, IfSome, IsNone, IsTrue, Some, false, slice_index};
-ghost use Rattle.node_page.specs.Bytes.{are_zero};
+ghost use Rattle.std.specs.Prelude.{◌≡◌, ◌↔◌, ◌&&◌, ◌==◌, if◌then◌else◌, IfSome, IsNone, IsTrue, Some, false, slice_index};
+ghost use Rattle.node_page.specs.Bytes.{are_zero, number_at};
 ghost use Rattle.node_page.specs.Slots.{SpellsSlot, HasSlotRest, slot_of};
 
 use crate::bytes::{are_zero, clear, get_u32, get_u64, put_u8, put_u32, put_u64};
@@ -79,4 +79,24 @@ pub fn decode_slot(page: &[u8; 4096]) -> Option<Slot>
         return None;
     }
     Some(fields_of(page))
+}
+
+/// What is looked at of a slot before it is known which of the two is live.
+#[derive(Clone, Copy, Debug, PartialEq, Eq)]
+pub struct Gate {
+    /// Whether the slot counts.
+    pub open: bool,
+    /// The number of commits that made its tree.
+    pub generation: u64,
+}
+
+/// Reads the gate and the generation of a slot, whatever stands in the rest of its page.
+pub fn read_gate(page: &[u8; 4096]) -> Gate
+    ensures open { result.open ≡ (slice_index page.now 0 == 165) }
+    ensures generation { result.generation ≡ number_at 8 8 page.now }
+{
+    Gate {
+        open: page[0] == OPEN,
+        generation: get_u64(page, 8),
+    }
 }

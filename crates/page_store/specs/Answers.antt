@@ -1,7 +1,6 @@
 -- How a page's bytes give the answer to whoever asked for the page.
-use Rattle.std.specs.Prelude.{◌≡◌, ◌≢◌, ℕ, ◌≤◌, ◌<◌, Bool, true, false, IsTrue, List, Option, Some, None, Result, Ok, Err, IfOk, IfErr, refl, if◌then◌else◌}
-use Rattle.std.proofs.Common.{◌∙◌, ap, arith, sym, subst}
-use Rattle.std.proofs.lemmas.Bool.{cases_lt, leb-true, ltb-true, true≢false}
+use Rattle.std.specs.Prelude.{◌≡◌, ℕ, true, false, IsTrue, List, Option, Some, None, Result, Ok, Err, IfOk, IfErr, refl}
+use Rattle.std.proofs.Common.{◌∙◌, ap, arith, sym}
 use Rattle.std.proofs.lemmas.Bool.Decides.{nat_tests}
 use Rattle.tree_shape.specs.declared.entry.Node.{Node}
 use Rattle.node_page.specs.Nodes.{IsLawfulNode, fault_in, node_in}

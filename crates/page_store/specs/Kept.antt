@@ -1,5 +1,5 @@
 -- What calls that only read keep of a disk.
-use Rattle.std.specs.Prelude.{◌≡◌, ◌↔◌, ℕ, List, refl}
+use Rattle.std.specs.Prelude.{refl}
 use Rattle.disk_model.specs.Disk.{DiskState, MayLeave, IsUnchanged}
 use Rattle.disk_model.specs.Moments.{started}
 

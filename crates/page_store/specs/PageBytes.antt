@@ -1,6 +1,6 @@
 -- The bytes of a file, page by page.
-use Rattle.std.specs.Prelude.{◌≡◌, ℕ, ◌+◌, ◌*◌, ◌<◌, ◌≤◌, List, length, slice_index}
-use Rattle.std.proofs.Common.{sym, ◌∙◌, arith, zero-add}
+use Rattle.std.specs.Prelude.{◌≡◌, ℕ, ◌+◌, ◌*◌, ◌<◌, List, length, slice_index}
+use Rattle.std.proofs.Common.{sym, ◌∙◌, arith}
 use Rattle.std.proofs.lemmas.List.{ext_get_or}
 use Rattle.disk_model.specs.Memory.Files.{tabulated, length-tabulated, place-tabulated}
 use Rattle.node_page.specs.Opening.{page_of}

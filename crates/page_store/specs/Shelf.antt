@@ -1,9 +1,8 @@
 -- What pages mean to those who ask for them.
-use Rattle.std.specs.Prelude.{◌≡◌, ◌≢◌, ℕ, ◌≤◌, Bool, true, false, IsTrue, Ok, Err}
+use Rattle.std.specs.Prelude.{◌≡◌, ◌≢◌, ℕ, ◌≤◌, Bool, false, IsTrue, Ok, Err}
 use Rattle.outside_io.specs.Causes.{Rose}
 use Rattle.tree_shape.specs.declared.entry.Node.{Node}
 use Rattle.node_page.specs.Nodes.{IsLawfulNode}
-use Rattle.node_page.specs.declared.node.NodeFault.{NodeFault}
 use Rattle.node_page.specs.declared.node.NodeFault.TheVariants.{Memory as NodeMemory}
 use Rattle.page_store.specs.declared.pages.PageFault.{PageFault}
 use Rattle.page_store.specs.declared.pages.PageFault.TheVariants.{Disk, Bad, Outside, Memory, Repeats, Level}

@@ -1,5 +1,5 @@
 -- The new nodes of a commit.
-use Rattle.std.specs.Prelude.{◌≡◌, ◌≢◌, ℕ, ◌<◌, List, [], ◌∷◌, length, map, Option, Some, None, if◌then◌else◌, ◌==◌, slice_index_or}
+use Rattle.std.specs.Prelude.{◌≢◌, ℕ, List, [], ◌∷◌, map, Option, Some, None, if◌then◌else◌, ◌==◌}
 use Rattle.std.specs.List.{AllByRecursion}
 use Rattle.tree_shape.specs.declared.entry.Node.{Node}
 use Rattle.page_store.specs.declared.staging.StagedNode.{StagedNode}

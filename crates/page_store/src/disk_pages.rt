@@ -33,7 +33,7 @@ impl<'a, D: Disk> DiskPages<'a, D> {
         requires few { dim ≤ 64 }
         requires small { pages ≤ 2 ^ 24 }
         ensures same_reference { result.disk.ghost_name ≡ disk.entry.ghost_name }
-        ensures same { D.state result.disk.now ≡ D.state disk.old }
+        ensures same { result.disk.now ≡ disk.old }
         ensures dim { result.dim ≡ dim }
         ensures pages { result.pages ≡ pages }
         ensures asked { result.asked ≡ 0 }
@@ -54,7 +54,7 @@ impl<'a, D: Disk> DiskPages<'a, D> {
         requires few { dim ≤ 64 }
         requires small { pages ≤ 2 ^ 24 }
         ensures same_reference { result.disk.ghost_name ≡ disk.entry.ghost_name }
-        ensures same { D.state result.disk.now ≡ D.state disk.old }
+        ensures same { result.disk.now ≡ disk.old }
         ensures dim { result.dim ≡ dim }
         ensures pages { result.pages ≡ pages }
         ensures asked { result.asked ≡ 0 }

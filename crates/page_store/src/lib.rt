@@ -15,6 +15,3 @@ pub use staging::{Placed, Staged, StagedNode};
 
 /// Want of memory.
 pub type Memory = std::alloc::AllocError;
-
-
-

@@ -45,7 +45,8 @@ pub fn copy_page(file: &[u8], page: u32, bytes: &mut [u8; 4096])
 // Whether nodes may stand on a page.
 #[tactic(auto, unfolding(crate::specs::Reading::is_within))]
 pub fn is_within(pages: u32, page: u32) -> bool
-    ensures { result ≡ is_within pages page }
+    ensures test { result ≡ is_within pages page }
+    ensures below { IsTrue result → page < pages }
 {
     page >= 3 && page < pages
 }

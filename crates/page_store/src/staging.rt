@@ -1,4 +1,4 @@
-ghost use Rattle.std.specs.Prelude.{◌≡◌, ◌<◌, ◌++◌, [], ◌∷◌, length, slice_get, MatchOption, Some, None, OnOk, OnErr};
+ghost use Rattle.std.specs.Prelude.{◌≡◌, ◌<◌, ◌++◌, ◌==◌, [], ◌∷◌, length, slice_get, MatchOption, Some, None, OnOk, OnErr};
 ghost use Rattle.page_store.specs.Staging.{IsFree, staged_for, AreApart};
 ghost use Rattle.page_store.specs.declared.staging.StagedNode.{StagedNode};
 
@@ -79,6 +79,14 @@ impl Staged {
         ensures { result ≡ (length self.now == 0) }
     {
         self.nodes.is_empty()
+    }
+
+    /// What was staged as number `i`, from 0.
+    pub fn at(&self, i: usize) -> &StagedNode
+        requires { i < length self.now }
+        ensures { slice_get self.now i ≡ Some result.now }
+    {
+        &self.nodes[i]
     }
 
     /// The page of the node that was staged as number `i`, from 0.

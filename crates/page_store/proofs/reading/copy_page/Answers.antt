@@ -1,4 +1,4 @@
-use Rattle.std.proofs.Common.{◌≡◌, ◌∙◌, ℕ, ◌+◌, ◌*◌, ◌<◌, ◌≤◌, sym, ap, arith, slice_index, length}
+use Rattle.std.proofs.Common.{sym, arith}
 use Rattle.page_store.specs.PageBytes.{page_is}
 use Rattle.page_store.proofs.reading.copy_page.Goals as goal
 

@@ -1,7 +1,6 @@
-use Rattle.std.proofs.Common.{ℕ, refl, sym, ◌∙◌}
+use Rattle.std.proofs.Common.{refl, sym, ◌∙◌}
 use Rattle.page_store.specs.Answers.{answers_node, answers_fault, answers_outside, not_outside}
 use Rattle.node_page.specs.declared.node.Version.TheVariants.{Second}
-use Rattle.page_store.specs.Shelf.{Shelf}
 use Rattle.page_store.specs.Shelves.{image_shelf}
 use Rattle.page_store.proofs.image_pages.ImagePagesPages.node.Goals as goal
 
@@ -9,19 +8,19 @@ pub returns-then-not-is_within-clause-cause : goal.returns-then-not-is_within-cl
 returns-then-not-is_within-clause-cause c =
     let p = c.args.self.now in
     answers_outside Second (image_shelf p.dim p.pages p.bytes.now p.asked) (image_shelf p.dim p.pages p.bytes.now p.asked) c.args.page p.bytes.now
-    (sym c.is_within.ensures ∙ c.if-not-is_within.true) (λ tells. refl)
+    (sym c.is_within.ensures.test ∙ c.if-not-is_within.true) (λ tells. refl)
 
 pub returns-clause-ok : goal.returns-clause-ok
 returns-clause-ok c =
     let p = c.args.self.now in
     answers_node Second c.node_on.result (image_shelf p.dim p.pages p.bytes.now p.asked) c.args.page c.copy_page.new.bytes p.bytes.now
-    (sym c.is_within.ensures ∙ c.if-not-is_within.false) c.node_on.ensures.lawful c.node_on.ensures.told (λ tells. c.copy_page.ensures) (λ tells. refl)
+    (sym c.is_within.ensures.test ∙ c.if-not-is_within.false) c.node_on.ensures.lawful c.node_on.ensures.told (λ tells. c.copy_page.ensures) (λ tells. refl)
 
 pub returns-clause-cause : goal.returns-clause-cause
 returns-clause-cause c =
     let p = c.args.self.now in
     answers_fault Second c.node_on.result (image_shelf p.dim p.pages p.bytes.now p.asked) (image_shelf p.dim p.pages p.bytes.now p.asked) c.args.page c.copy_page.new.bytes p.bytes.now
-    (sym c.is_within.ensures ∙ c.if-not-is_within.false) c.node_on.ensures.fault (λ tells. c.copy_page.ensures) (λ tells. refl)
+    (sym c.is_within.ensures.test ∙ c.if-not-is_within.false) c.node_on.ensures.fault (λ tells. c.copy_page.ensures) (λ tells. refl)
 
 pub returns-clause-outside : goal.returns-clause-outside
-returns-clause-outside c = not_outside c.args.self.now.pages c.args.page (sym c.is_within.ensures ∙ c.if-not-is_within.false)
+returns-clause-outside c = not_outside c.args.self.now.pages c.args.page (sym c.is_within.ensures.test ∙ c.if-not-is_within.false)

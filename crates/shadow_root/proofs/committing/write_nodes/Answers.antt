@@ -1,0 +1,47 @@
+use Rattle.std.proofs.Common.{arith, length, ap, sym, ◌∙◌, ◌≡◌, ℕ, ◌*◌, subst, IsTrue, Bool}
+use Rattle.shadow_root.proofs.Torn.{one_rewritten, rewritten_torn, rewritten_then, in_place_more, long_more}
+use Rattle.shadow_root.proofs.Apart.{apart_at, staged_below}
+use Rattle.shadow_root.proofs.committing.write_nodes.Goals as goal
+
+pub loop-i-preserved : goal.loop-i-preserved
+loop-i-preserved g c =
+    let staged = c.args.staged.now in
+    let start = g.D.Disk.state c.args.disk.now in
+    let mid = g.D.Disk.state c.loop-i.disk in
+    let new = g.D.Disk.state c.write_at.new.self in
+    let here = c.at-new.result.now in
+    let stands = c.at-new.ensures in
+    let place : 4096 * c.from.result ≡ 4096 * here.page = ap (λ (n : ℕ). 4096 * n) c.from.ensures in
+    let size : length c.encode_node.new.page ≡ 4096 = c.encode_node.array_long in
+    let i = c.loop-i.invariant in
+    let told : IsTrue start.tells → IsTrue mid.tells = subst (λ (b : Bool). IsTrue b) (sym i.tells) in
+    let written = c.in_ok-write_at.ensures.written in
+    record {
+      images = one_rewritten staged start mid new c.loop-i.i here (4096 * c.from.result) (length c.encode_node.new.page) stands place size i.images c.write_at.ensures.time c.write_at.ensures.torn;
+      tells = c.write_at.ensures.tells ∙ i.tells;
+      bytes = λ tells. rewritten_then staged start.bytes mid.bytes new.bytes (i.bytes tells)
+          (rewritten_torn staged mid.bytes new.bytes c.loop-i.i here (4096 * c.from.result) (length c.encode_node.new.page) stands place size (c.write_at.ensures.others (told tells)));
+      in_place = λ tells.
+          in_place_more c.args.dim staged c.loop-i.i here (4096 * c.from.result) c.encode_node.new.page mid.bytes new.bytes place size c.encode_node.ensures stands
+          (apart_at staged c.are_apart.ensures) (written (told tells)) (i.in_place tells);
+      long = λ tells. long_more staged c.loop-i.i here (4096 * c.from.result) c.encode_node.new.page mid.bytes new.bytes stands place size (written (told tells)) (i.long tells);
+      reads = c.write_at.ensures.reads ∙ i.reads;
+      faults = omega (arith, i.faults, c.write_at.ensures.cause.later);
+    }
+
+pub returns-in_err-write_at-clause-images : goal.returns-in_err-write_at-clause-images
+returns-in_err-write_at-clause-images g c =
+    let here = c.at-new.result.now in
+    let place : 4096 * c.from.result ≡ 4096 * here.page = ap (λ (n : ℕ). 4096 * n) c.from.ensures in
+    one_rewritten c.args.staged.now (g.D.Disk.state c.args.disk.now) (g.D.Disk.state c.loop-i.disk) (g.D.Disk.state c.write_at.new.self) c.loop-i.i here (4096 * c.from.result) (length c.encode_node.new.page)
+    c.at-new.ensures place c.encode_node.array_long c.loop-i.invariant.images c.write_at.ensures.time c.write_at.ensures.torn
+
+pub returns-clause-in_place : goal.returns-clause-in_place
+returns-clause-in_place g c = λ tells k s stands.
+    let below = staged_below c.args.staged.now k s stands in
+    c.loop-i.invariant.in_place tells k s (omega (arith, below)) stands
+
+pub returns-clause-long : goal.returns-clause-long
+returns-clause-long g c = λ tells k s stands.
+    let below = staged_below c.args.staged.now k s stands in
+    c.loop-i.invariant.long tells k s (omega (arith, below)) stands

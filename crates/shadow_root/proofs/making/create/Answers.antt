@@ -1,0 +1,7 @@
+use Rattle.std.proofs.Common.{◌≡◌, sym, ◌∙◌, subst, IsTrue, Bool}
+use Rattle.page_store.proofs.Results.{holds_at_ok}
+use Rattle.shadow_root.proofs.making.create.Goals as goal
+
+pub returns-clause-made : goal.returns-clause-made
+returns-clause-made g c = λ tells.
+    holds_at_ok c.make.result (sym c.is_err.ensures.value ∙ c.if-is_err.false) c.make.ensures.made (subst (λ (b : Bool). IsTrue b) (sym c.size.ensures.same.same_tells) tells)

@@ -1,0 +1,4 @@
+pub mod Live
+pub mod Commit
+pub mod Opening
+pub mod Making

@@ -1,0 +1,13 @@
+//! The file as such: made, opened, and changed in one atomic step whatever crash comes.
+#![tactic(auto)]
+
+mod committing;
+mod faults;
+mod making;
+mod opening;
+
+pub use committing::commit;
+pub use faults::{CreateFault, OpenFault};
+pub use making::create;
+pub use opening::{LAST_GENERATION, MOST_PAGES};
+

@@ -1,0 +1,182 @@
+// Which of the two slots is live.
+ghost use Rattle.std.specs.Prelude.{◌≡◌, ◌+◌, ◌≤◌, ◌==◌, ◌&&◌, ℕ, List, false, length, IsTrue, IfOk, IfErr};
+ghost use Rattle.disk_model.specs.Disk.{IsUnchanged};
+ghost use Rattle.node_page.specs.Bytes.{number_at};
+ghost use Rattle.node_page.specs.Heads.{IsLawfulHead, SpellsHead};
+ghost use Rattle.node_page.specs.Slots.{SpellsSlot, slot_of};
+ghost use Rattle.node_page.specs.Opening.{page_of, IsLawfulLive, OpensTo, is_lawful_live, is_clear, live_at, slot_fault};
+ghost use Rattle.node_page.specs.declared.slot.Slot.{Slot};
+ghost use Rattle.shadow_root.specs.Opening.{HasOpenCause, told_as, side_of, number_of, HasSlots, LeadsTo, IsSlotFault, IsOf, HasSlotCause, HasHeadCause};
+
+use crate::OpenFault;
+use disk_model::Disk;
+use node_page::{Gate, Head, Slot, decode_head, decode_slot, read_gate};
+use page_store::read_page;
+use tree_shape::Live;
+
+/// The bytes of the head and the two slots.
+const LEAST_SIZE: u64 = 12_288;
+
+/// The greatest generation, 2^48 - 1.
+pub const LAST_GENERATION: u64 = 281_474_976_710_655;
+
+/// The most pages of a file, 2^24, which are 64 GiB.
+pub const MOST_PAGES: u32 = 16_777_216;
+
+// One of the two slots.
+enum Side {
+    First,
+    Second,
+}
+
+// The side of the live slot.
+fn live_side(first: &Gate, second: &Gate) -> Result<Side, OpenFault>
+    ensures { result ≡ side_of first.now.open second.now.open first.now.generation second.now.generation }
+{
+    if !first.open && !second.open {
+        return Err(OpenFault::Unfinished);
+    }
+    if first.open && second.open && first.generation == second.generation {
+        return Err(OpenFault::TwoRoots);
+    }
+    if first.open && (!second.open || second.generation < first.generation) {
+        return Ok(Side::First);
+    }
+    Ok(Side::Second)
+}
+
+// The live tree of a slot.
+fn live_at(side: u8, slot: &Slot) -> Live
+    ensures { result ≡ live_at side slot.now }
+{
+    Live {
+        side,
+        generation: slot.generation,
+        root: slot.root,
+        height: slot.height,
+        count: slot.count,
+        pages: slot.pages,
+    }
+}
+
+// Whether a live slot keeps the bounds of a file of this size whose head has this limit.
+#[tactic(auto, unfolding(node_page::specs::Opening::is_lawful_live))]
+fn is_lawful(limit: u32, size: u64, live: &Live) -> bool
+    ensures { result ≡ is_lawful_live limit size live.now }
+{
+    live.generation >= 1
+        && live.generation <= LAST_GENERATION
+        && live.root >= 3
+        && live.root < live.pages
+        && live.height <= 14
+        && live.count <= limit
+        && live.pages >= 4
+        && live.pages <= MOST_PAGES
+        && u64::from(live.pages) * 4096 <= size
+}
+
+// The live tree of the slot on this page, which is open.
+fn live_in(page: &[u8; 4096], side: u8, limit: u32, size: u64) -> Result<Live, OpenFault>
+    ensures spelled { IfOk result (λ live. (slot : Slot) × SpellsSlot page.now slot × (live ≡ live_at side slot)) }
+    ensures lawful { IfOk result (IsLawfulLive limit size) }
+    ensures fault { IfErr result (λ fault. (fault ≡ OpenFault.Slot) × ((is_clear page.now && is_lawful_live limit size (live_at side (slot_of page.now))) ≡ false)) }
+{
+    let slot = match decode_slot(page) {
+        Some(slot) => slot,
+        None => return Err(OpenFault::Slot),
+    };
+    let live = live_at(side, &slot);
+    if !is_lawful(limit, size, &live) {
+        return Err(OpenFault::Slot);
+    }
+    Ok(live)
+}
+
+// The live tree of a file with these slots.
+fn live_of(
+    first: &[u8; 4096],
+    second: &[u8; 4096],
+    limit: u32,
+    size: u64,
+) -> Result<Live, OpenFault>
+    ensures lawful { IfOk result (IsLawfulLive limit size) }
+    ensures side { IfOk result (λ live. live.side ≤ 1) }
+    ensures ok { IfOk result (λ live. (file : List ℕ) → HasSlots first.now second.now limit size file → LeadsTo limit size live file) }
+    ensures kind { IfErr result IsSlotFault }
+    ensures fault { IfErr result (λ fault. (file : List ℕ) → HasSlots first.now second.now limit size file → slot_fault file ≡ told_as fault) }
+{
+    match live_side(&read_gate(first), &read_gate(second)) {
+        Err(fault) => Err(fault),
+        Ok(Side::First) => live_in(first, 0, limit, size),
+        Ok(Side::Second) => live_in(second, 1, limit, size),
+    }
+}
+
+// The live tree of a file of this size whose head has this limit.
+fn read_live<D: Disk>(disk: &mut D, limit: u32, size: u64) -> Result<Live, OpenFault>
+    ensures lawful { IfOk result (IsLawfulLive limit size) }
+    ensures side { IfOk result (λ live. live.side ≤ 1) }
+    ensures ok { IfOk result (λ live. IsTrue (D.state disk.old).tells → IsOf limit size (D.state disk.old).bytes → LeadsTo limit size live (D.state disk.old).bytes) }
+    ensures fault { IfErr result (HasSlotCause limit size (D.state disk.old) (D.state disk.new)) }
+    ensures same { IsUnchanged (D.state disk.old) (D.state disk.new) }
+    ensures reads { (D.state disk.new).reads ≤ (D.state disk.old).reads + 2 }
+    ensures later { (D.state disk.old).faults ≤ (D.state disk.new).faults }
+{
+    let mut first = [0; 4096];
+    if read_page(disk, 1, &mut first).is_err() {
+        return Err(OpenFault::Disk);
+    }
+    let mut second = [0; 4096];
+    if read_page(disk, 2, &mut second).is_err() {
+        return Err(OpenFault::Disk);
+    }
+    live_of(&first, &second, limit, size)
+}
+
+// The head of a file.
+fn read_head<D: Disk>(disk: &mut D) -> Result<Head, OpenFault>
+    ensures lawful { IfOk result IsLawfulHead }
+    ensures ok { IfOk result (λ head. IsTrue (D.state disk.old).tells → SpellsHead (page_of (D.state disk.old).bytes 0) head) }
+    ensures fault { IfErr result (HasHeadCause (D.state disk.old) (D.state disk.new)) }
+    ensures same { IsUnchanged (D.state disk.old) (D.state disk.new) }
+    ensures reads { (D.state disk.new).reads ≤ (D.state disk.old).reads + 1 }
+    ensures later { (D.state disk.old).faults ≤ (D.state disk.new).faults }
+{
+    let mut page = [0; 4096];
+    if read_page(disk, 0, &mut page).is_err() {
+        return Err(OpenFault::Disk);
+    }
+    match decode_head(&page) {
+        Ok(head) => Ok(head),
+        Err(fault) => Err(OpenFault::Head(fault)),
+    }
+}
+
+/// The head of an index file and its live tree, or the first of the faults in the order of `OpenFault`; `Disk` comes only
+/// where the disk failed. The head may be of version 1 or 2. Nothing is written, and at most three pages are read.
+pub fn open<D: Disk>(disk: &mut D) -> Result<(Head, Live), OpenFault>
+    ensures ok { IfOk result (λ opened. IsTrue (D.state disk.old).tells → OpensTo (D.state disk.old).bytes opened.0 opened.1) }
+    // Also of a disk that does not tell its bytes what is answered is lawful.
+    ensures head { IfOk result (λ opened. IsLawfulHead opened.0) }
+    ensures live { IfOk result (λ opened. (opened.1.side ≤ 1) × ((size : ℕ) × IsLawfulLive opened.0.limit size opened.1)) }
+    ensures fault { IfErr result (HasOpenCause (D.state disk.old) (D.state disk.new)) }
+    ensures same { IsUnchanged (D.state disk.old) (D.state disk.new) }
+    ensures reads { (D.state disk.new).reads ≤ (D.state disk.old).reads + 3 }
+    ensures later { (D.state disk.old).faults ≤ (D.state disk.new).faults }
+{
+    let size = match disk.size() {
+        Ok(size) => size,
+        Err(_) => return Err(OpenFault::Disk),
+    };
+    if size < LEAST_SIZE {
+        return Err(OpenFault::Short);
+    }
+    let head = match read_head(disk) {
+        Ok(head) => head,
+        Err(fault) => return Err(fault),
+    };
+    match read_live(disk, head.limit, size) {
+        Ok(live) => Ok((head, live)),
+        Err(fault) => Err(fault),
+    }
+}

@@ -1,0 +1,9 @@
+//! The auditor: whether a whole tree is sound, and if not, its first fault in a fixed order.
+#![tactic(auto)]
+
+mod faults;
+pub mod laws;
+mod met;
+mod walking;
+
+pub use faults::AuditFault;
