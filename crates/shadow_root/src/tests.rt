@@ -1,4 +1,5 @@
-ghost use Rattle.std.specs.Prelude.{◌≡◌, IsTrue};
+ghost use Rattle.std.specs.Prelude.{◌≡◌, IsTrue, IfOk, OnOk};
+ghost use Rattle.node_page.specs.Nodes.{IsLawfulNode};
 ghost use Rattle.disk_model.specs.Disk.{LeavesOnly};
 ghost use Rattle.shadow_root.specs.Making.{IsMade};
 
@@ -47,8 +48,19 @@ fn disk_of(alloc: Global, bytes: Vec<u8>, stop: Option<u64>) -> Result<MemoryDis
     MemoryDisk::new(alloc, bytes, room, 1_000_000, Vec::new(alloc), stop)
 }
 
+// Makes a new file.
+fn make<D: Disk>(disk: &mut D) -> Result<Live, CreateFault>
+    ensures made { OnOk result (IsTrue (D.state disk.old).tells → IsMade HEAD (D.state disk.new).bytes) }
+    ensures only { OnOk result (LeavesOnly (D.state disk.new) (D.state disk.new).bytes) }
+    ensures tells { (D.state disk.new).tells ≡ (D.state disk.old).tells }
+{
+    create(disk, &HEAD)
+}
+
 // A leaf with one object.
-fn leaf(alloc: Global) -> Result<Node, AllocError> {
+fn leaf(alloc: Global) -> Result<Node, AllocError>
+    ensures { IfOk result (IsLawfulNode 2) }
+{
     let mut entries = Vec::new(alloc);
     entries.push(LeafEntry {
         id: 0,
@@ -71,7 +83,7 @@ fn opens_to_either(alloc: Global, bytes: Vec<u8>) -> Result<bool, AllocError> {
 // The fault of a new file in which a byte is changed.
 fn fault_with(alloc: Global, at: usize, byte: u8) -> Result<Option<OpenFault>, Fail> {
     let mut disk = disk_of(alloc, Vec::new(alloc), None)?;
-    create(&mut disk, &HEAD)?;
+    make(&mut disk)?;
     let mut bytes = disk.bytes().to_vec(alloc)?;
     if at < bytes.len() {
         bytes[at] = byte;
@@ -84,13 +96,13 @@ fn fault_with(alloc: Global, at: usize, byte: u8) -> Result<Option<OpenFault>, F
 fn a_new_file_opens(rt: HostRuntime) -> Result<(), Fail> {
     let alloc = rt.alloc();
     let mut disk = disk_of(alloc, Vec::new(alloc), None)?;
-    assert_eq!(rt; create(&mut disk, &HEAD), Ok(FIRST));
+    assert_eq!(rt; make(&mut disk), Ok(FIRST));
     assert_eq!(rt; open(&mut disk), Ok((HEAD, FIRST)));
-    assert_eq!(rt; create(&mut disk, &HEAD), Err(CreateFault::NotEmpty));
+    assert_eq!(rt; make(&mut disk), Err(CreateFault::NotEmpty));
     let mut short = disk_of(alloc, vec![in alloc; 0; 100]?, None)?;
     assert_eq!(rt; open(&mut short), Err(OpenFault::Short));
     let mut failing = disk_of(alloc, Vec::new(alloc), Some(3))?;
-    assert_eq!(rt; create(&mut failing, &HEAD), Err(CreateFault::Disk));
+    assert_eq!(rt; make(&mut failing), Err(CreateFault::Disk));
     Ok(())
 }
 
@@ -110,7 +122,8 @@ fn add_one<D: Disk>(alloc: Global, disk: &mut D) -> Result<Result<(), Failed>, A
     requires only { LeavesOnly (D.state disk.old) (D.state disk.old).bytes }
 {
     let mut staged = Staged::new(alloc);
-    staged.stage(4, leaf(alloc)?)?;
+    let node = leaf(alloc)?;
+    staged.stage(4, node)?;
     Ok(commit(disk, 2, &FIRST, &NEXT, &staged))
 }
 
@@ -118,7 +131,7 @@ fn add_one<D: Disk>(alloc: Global, disk: &mut D) -> Result<Result<(), Failed>, A
 fn check_stop<R: AllocGlobal + Abort>(rt: &R, stop: u64) -> Result<(), Fail> {
     let alloc = rt.alloc();
     let mut disk = disk_of(alloc, Vec::new(alloc), Some(stop))?;
-    create(&mut disk, &HEAD)?;
+    make(&mut disk)?;
     let done = add_one(alloc, &mut disk)?.is_ok();
     assert_eq!(rt; done, stop > 14);
     for moment in 8..=disk.moments() {

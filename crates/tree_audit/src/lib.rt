@@ -9,3 +9,6 @@ mod walking;
 
 pub use auditing::{Audited, audit};
 pub use faults::AuditFault;
+
+#[cfg(test)]
+mod tests;
