@@ -1,0 +1,130 @@
+ghost use Rattle.std.specs.Prelude.{◌≡◌, ◌⊎◌, ◌++◌, ◌≤◌, codes, decimal, OnOk, IfOk};
+ghost use Rattle.std.specs.Io.KnownBytes.{Appends};
+ghost use Rattle.outside_io.specs.Bytes.{AppendsPrefix};
+ghost use Rattle.outside_io.specs.Causes.{Rose};
+ghost use Rattle.rows_text.specs.Texts.{counted, space, line_end};
+ghost use Rattle.file_jobs.specs.Lines.{node_fault_name, head_fault_name, page_fault_text, audit_fault_text, sound_text, rejected_text, not_index_text, numbered};
+
+use itoa::Buffer;
+use node_page::{HeadFault, NodeFault};
+use outside_io::{Memory, Sink, Status};
+use page_store::PageFault;
+use std::alloc::Global;
+use tree_audit::{AuditFault, Audited};
+
+/// Ends with a status, after a line that says why where it can be written.
+pub fn end_with<K: Sink>(out: &mut K, line: &[u8], status: u8) -> Status
+    ensures status { result.0 ≡ status }
+    ensures line { AppendsPrefix (K.written out.old) (K.written out.new) line.now }
+    ensures later { K.faults out.old ≤ K.faults out.new }
+{
+    let _ = out.put(line);
+    Status(status)
+}
+
+/// Puts lines, and ends with this status, or with status 4 where they can't be written.
+pub fn put_line<K: Sink>(out: &mut K, line: &[u8], status: u8) -> Status
+    ensures statuses { (result.0 ≡ status) ⊎ (result.0 ≡ 4) }
+    ensures done { result.0 ≡ 4 ⊎ Appends (K.written out.old) (K.written out.new) line.now }
+    ensures part { AppendsPrefix (K.written out.old) (K.written out.new) line.now }
+    ensures later { K.faults out.old ≤ K.faults out.new }
+    ensures rose { result.0 ≡ 4 → (status ≡ 4) ⊎ Rose (K.faults out.old) (K.faults out.new) }
+{
+    match out.put(line) {
+        Ok(()) => Status(status),
+        Err(_) => Status(4),
+    }
+}
+
+// A word and a number.
+fn push_numbered(word: &[u8], n: u64, out: &mut Vec<u8>) -> Result<(), Memory>
+    ensures { OnOk result (out.new.items ≡ out.old.items ++ numbered word.now n) }
+{
+    out.extend_from_slice(word)?;
+    let mut buffer = Buffer::new();
+    out.extend_from_slice(buffer.format(n).as_bytes())
+}
+
+fn node_fault_name(fault: NodeFault) -> &'static [u8]
+    ensures { result.now ≡ node_fault_name fault }
+{
+    match fault {
+        NodeFault::Kind => b"kind",
+        NodeFault::Count => b"count",
+        NodeFault::Distance => b"distance",
+        NodeFault::Tail => b"tail",
+        NodeFault::Memory => b"memory",
+    }
+}
+
+fn push_page_fault(fault: PageFault, out: &mut Vec<u8>) -> Result<(), Memory>
+    ensures { OnOk result (out.new.items ≡ out.old.items ++ page_fault_text fault) }
+{
+    match fault {
+        PageFault::Bad(page, fault) => {
+            push_numbered(b"bad ", u64::from(page), out)?;
+            out.extend_from_slice(b" ")?;
+            out.extend_from_slice(node_fault_name(fault))
+        }
+        PageFault::Outside(page) => push_numbered(b"outside ", u64::from(page), out),
+        PageFault::Repeats(page) => push_numbered(b"repeats ", u64::from(page), out),
+        PageFault::Level(page) => push_numbered(b"level ", u64::from(page), out),
+        PageFault::Disk => out.extend_from_slice(b"disk"),
+        PageFault::Memory => out.extend_from_slice(b"memory"),
+    }
+}
+
+fn push_audit_fault(fault: AuditFault, out: &mut Vec<u8>) -> Result<(), Memory>
+    ensures { OnOk result (out.new.items ≡ out.old.items ++ audit_fault_text fault) }
+{
+    match fault {
+        AuditFault::Page(fault) => {
+            out.extend_from_slice(b"page ")?;
+            push_page_fault(fault, out)
+        }
+        AuditFault::Fill(page) => push_numbered(b"fill ", u64::from(page), out),
+        AuditFault::Twice(page) => push_numbered(b"twice ", u64::from(page), out),
+        AuditFault::Unfit(page, place) => {
+            push_numbered(b"unfit ", u64::from(page), out)?;
+            push_numbered(b" ", u64::from(place), out)
+        }
+        AuditFault::ParentDistance(page, place) => {
+            push_numbered(b"parentdistance ", u64::from(page), out)?;
+            push_numbered(b" ", u64::from(place), out)
+        }
+        AuditFault::Radius(page, place, id) => {
+            push_numbered(b"radius ", u64::from(page), out)?;
+            push_numbered(b" ", u64::from(place), out)?;
+            push_numbered(b" ", u64::from(id), out)
+        }
+        AuditFault::Id(id) => push_numbered(b"id ", u64::from(id), out),
+        AuditFault::Count { slot, found } => {
+            push_numbered(b"count ", u64::from(slot), out)?;
+            push_numbered(b" ", u64::from(found), out)
+        }
+        AuditFault::Memory => out.extend_from_slice(b"memory"),
+    }
+}
+
+/// The line of an index that is not sound.
+pub fn rejected_text(alloc: Global, fault: AuditFault) -> Result<Vec<u8>, Memory>
+    ensures { IfOk result (λ text. text.items ≡ rejected_text fault) }
+{
+    let mut text = Vec::new(alloc);
+    text.extend_from_slice(b"rejected ")?;
+    push_audit_fault(fault, &mut text)?;
+    text.extend_from_slice(b"\n")?;
+    Ok(text)
+}
+
+/// The lines of a sound index.
+pub fn sound_text(alloc: Global, audited: &Audited) -> Result<Vec<u8>, Memory>
+    ensures { IfOk result (λ text. text.items ≡ sound_text audited.now.objects audited.now.nodes) }
+{
+    let mut text = Vec::new(alloc);
+    text.extend_from_slice(b"sound\n")?;
+    push_numbered(b"objects ", u64::from(audited.objects), &mut text)?;
+    push_numbered(b"\nnodes ", u64::from(audited.nodes), &mut text)?;
+    text.extend_from_slice(b"\n")?;
+    Ok(text)
+}
