@@ -62,8 +62,9 @@ IsGiven number many (Two c d) = Unit {0}
 
 pub staged_given : {E : Type 0} (P : Plan) (ball : E → _) (set : E → ℕ → E) (make : List E → Node) (es : List E) (old new : List Node) (g : Grew) → IsStaged P ball set make es old new g → IsGiven P.number (length new) g
 staged_given P ball set make es old new g staged = elim staged [
-  inl w ↦ subst (IsGiven P.number (length new)) (sym w.grew) (length old, (let n = ap length w.staged ∙ length-append old (make es ∷ []) in omega (arith, n)), refl)
-  | inr k ↦ subst (IsGiven P.number (length new)) (sym k.1.grew) tt ]
+  | inl w ↦ subst (IsGiven P.number (length new)) (sym w.grew) (length old, (let n = ap length w.staged ∙ length-append old (make es ∷ []) in omega (arith, n)), refl)
+  | inr k ↦ subst (IsGiven P.number (length new)) (sym k.1.grew) tt
+]
 
 pub descends_given : (P : Plan) (shelf : Shelf) (h page : ℕ) (above : Option (List ℕ)) (l0 : List ℕ) (old : List Node) (l1 : List ℕ) (nodes : List Node) (g : Grew) → Descends P shelf h page above l0 old l1 nodes g → IsGiven P.number (length nodes) g
 descends_given P shelf zero page above l0 old l1 nodes g d = staged_given P leaf_ball leaf_with _ _ old nodes g d.3
@@ -94,7 +95,7 @@ pub walks_long : (P : Plan) (shelf : Shelf) → IsTrue shelf.tells → (t : Live
 walks_long P shelf tells t left nodes root height w =
     let deep = descends_long P shelf tells t.height t.root None [] [] left w.0 w.1 w.2 in
     let top = root_long P.number t.height w.1 w.0 nodes root height w.3 (inserted (rules_of P) P.object t.height (tree_at (nodes_of shelf.read) t.height t.root))
-        (descends_parity P shelf tells t.height t.root None [] [] left w.0 w.1 w.2) in
+    (descends_parity P shelf tells t.height t.root None [] [] left w.0 w.1 w.2) in
     let all = length-append (fresh (rules_of P) P.object t.height (tree_at (nodes_of shelf.read) t.height t.root)) (fresh_root t.height (inserted (rules_of P) P.object t.height (tree_at (nodes_of shelf.read) t.height t.root))) in
     omega (arith, deep, top, all)
 
@@ -105,10 +106,14 @@ room_cause P old new R numbers t left nodes root height (Page fault) same w caus
 room_cause P old new R numbers t left nodes root height Full same w cause = absurd cause
 room_cause P old new R numbers t left nodes root height Worn same w cause = absurd cause
 room_cause P old new R numbers t left nodes root height Memory same w cause = tt
-room_cause P old new R numbers t left nodes root height (NoRoom pages needed) same w cause =
-    (cause.0, cause.2, λ tells.
-        (ap (λ (Q : Rules). place_fault P.space Q old.read t P.object) (sym same) ∙ root_faultless P old tells t left w.0 nodes w.1 root height w.2 w.3,
-         cause.1 ∙ ap (λ (k : ℕ). k - length numbers) (walks_long P old tells t left nodes root height w ∙ ap (λ (Q : Rules). length (fresh_of Q P.object (tree_of (nodes_of old.read) t))) same)))
+room_cause P old new R numbers t left nodes root height (NoRoom pages needed) same w cause = (
+  cause.0,
+  cause.2,
+  λ tells. (
+    ap (λ (Q : Rules). place_fault P.space Q old.read t P.object) (sym same) ∙ root_faultless P old tells t left w.0 nodes w.1 root height w.2 w.3,
+    cause.1 ∙ ap (λ (k : ℕ). k - length numbers) (walks_long P old tells t left nodes root height w ∙ ap (λ (Q : Rules). length (fresh_of Q P.object (tree_of (nodes_of old.read) t))) same),
+  ),
+)
 
 -- what the walk made
 pub has_walked : (P : Plan) (shelf : Shelf) (R : Rules) → IsTrue shelf.tells → (t : Live) (nodes : List Node) (root height : ℕ) (placed : Placed) → rules_of P ≡ R → placed.staged ≡ numbered P.number 0 nodes → Walks P shelf t placed.left nodes root height →
@@ -124,7 +129,7 @@ pub staged_out : (nodes : Nodes) (t : Live) (numbers : List ℕ) (ns : List Node
     AreOutside nodes t (pages_of staged)
 staged_out nodes t numbers ns staged is outside within =
     subst (AreOutside nodes t) (sym (ap pages_of is ∙ pages_numbered (number_at numbers t.pages) 0 ns))
-        (given_each (λ n. times n (live_pages nodes t) ≡ 0) (number_at numbers t.pages) 0 (length ns) ns (omega arith) (λ j low. given_out nodes t numbers outside within j))
+    (given_each (λ n. times n (live_pages nodes t) ≡ 0) (number_at numbers t.pages) 0 (length ns) ns (omega arith) (λ j low. given_out nodes t numbers outside within j))
 
 all_numbered : (Q : ℕ → Type 0) (R : Node → Type 0) (number : ℕ → ℕ) (i k : ℕ) (ns : List Node) → k ≡ i + length ns → ((j : ℕ) → j < k → Q (number j)) → AllByRecursion R ns → AllByRecursion (λ s. Q s.page × R s.node) (numbered number i ns)
 all_numbered Q R number i k [] e each all = tt
@@ -155,13 +160,14 @@ is_placement head t numbers nodes root height placed staged next room live count
   numbered = ap pages_of staged ∙ pages_numbered (number_at numbers t.pages) 0 nodes ∙ pages_range (number_at numbers t.pages) 0 nodes ∙ ap (λ (k : ℕ). map (number_at numbers t.pages) (range_with_len 0 k)) (sym long);
   nodes = subst (λ (k : ℕ). AllByRecursion (λ s. IsWithin k s.page × IsLawfulNode head.dim s.node) placed.staged) (sym (ap (λ (n : Live). n.pages) next))
       (subst (AllByRecursion (λ s. IsWithin (t.pages + (length nodes - length numbers)) s.page × IsLawfulNode head.dim s.node)) (sym staged)
-          (all_numbered (IsWithin (t.pages + (length nodes - length numbers))) (IsLawfulNode head.dim) (number_at numbers t.pages) 0 (length nodes) nodes (omega arith) within writable));
+      (all_numbered (IsWithin (t.pages + (length nodes - length numbers))) (IsLawfulNode head.dim) (number_at numbers t.pages) 0 (length nodes) nodes (omega arith) within writable));
   new_pages = λ page low below. subst (IsIn page) (sym (ap pages_of staged ∙ pages_numbered (number_at numbers t.pages) 0 nodes))
       (end_given numbers t.pages nodes page low (let e = ap (λ (n : Live). n.pages) next in omega (arith, below, e)));
 }
   where
     long : length placed.staged ≡ length nodes
     long = ap length staged ∙ numbered_long (number_at numbers t.pages) 0 nodes
+
     within : (i : ℕ) → i < length nodes → IsWithin (t.pages + (length nodes - length numbers)) (number_at numbers t.pages i)
     within i low = number_within numbers t.pages are (let p = live.low_pages in omega (arith, p)) i (length nodes) low
 

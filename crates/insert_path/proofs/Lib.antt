@@ -12,3 +12,4 @@ pub mod Numbers
 pub mod Listing
 pub mod Top
 pub mod Final
+pub mod Tested

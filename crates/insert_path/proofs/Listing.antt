@@ -43,6 +43,7 @@ ids_more id count o old new is before more =
   where
     sums : (new old n one : ℕ) → new ≡ n + one → old ≡ n → old ≡ (if nat_lt id count then 1 else 0) → (if nat_lt id count then 1 else 0) + one ≡ (if nat_lt id (count + 1) then 1 else 0) → new ≡ (if nat_lt id (count + 1) then 1 else 0)
     sums new old n one a b c d = omega (arith, a, b, c, d)
+
     step : (b : Bool) → (o.id == id) ≡ b → (if nat_lt id count then 1 else 0) + (if b then 1 else 0) ≡ (if nat_lt id (count + 1) then 1 else 0)
     step true e =
         let same : o.id ≡ id = grind (arith, nat_tests) in
@@ -96,14 +97,16 @@ pub old_one : (count : ℕ) (o : Object) (old new : List LeafEntry) → o.id ≡
 old_one count o old new is before after all id low =
     let found = object_with new id (there_counted new (count + 1) id after (omega arith)) in
     elim (all_in (λ (x : Object). IsIn x (map object_of old) ⊎ (x ≡ o)) (map object_of new) (object_of found.0) all (map-in object_of new found.0 found.1)) [
-      inl k ↦ (let was = in-map object_of old (object_of found.0) k in both found.0 found.1 found.2 was.0 was.1 was.2)
-      | inr e ↦ absurd (let i : found.0.id ≡ o.id = ap (λ (x : Object). x.id) e in let j = found.2 in omega (arith, i, j, is)) ]
+      | inl k ↦ (let was = in-map object_of old (object_of found.0) k in both found.0 found.1 found.2 was.0 was.1 was.2)
+      | inr e ↦ absurd (let i : found.0.id ≡ o.id = ap (λ (x : Object). x.id) e in let j = found.2 in omega (arith, i, j, is))
+    ]
   where
     both : (e : LeafEntry) → IsIn e new → e.id ≡ id → (f : LeafEntry) → IsIn f old → object_of e ≡ object_of f → (point_of id new ≡ point_of id old) × (tag_of id new ≡ tag_of id old)
     both e k at f l same =
-        let fid : f.id ≡ id = ap (λ (x : Object). x.id) (sym same) ∙ at in
-        (ap (λ (i : ℕ). point_of i new) (sym at) ∙ point_of-in new e k (once_counted new (count + 1) e.id after) ∙ ap (λ (x : Object). x.point) same ∙ sym (point_of-in old f l (once_counted old count f.id before)) ∙ ap (λ (i : ℕ). point_of i old) fid,
-         ap (λ (i : ℕ). tag_of i new) (sym at) ∙ tag_of-in new e k (once_counted new (count + 1) e.id after) ∙ ap (λ (x : Object). x.tag) same ∙ sym (tag_of-in old f l (once_counted old count f.id before)) ∙ ap (λ (i : ℕ). tag_of i old) fid)
+        let fid : f.id ≡ id = ap (λ (x : Object). x.id) (sym same) ∙ at in (
+          ap (λ (i : ℕ). point_of i new) (sym at) ∙ point_of-in new e k (once_counted new (count + 1) e.id after) ∙ ap (λ (x : Object). x.point) same ∙ sym (point_of-in old f l (once_counted old count f.id before)) ∙ ap (λ (i : ℕ). point_of i old) fid,
+          ap (λ (i : ℕ). tag_of i new) (sym at) ∙ tag_of-in new e k (once_counted new (count + 1) e.id after) ∙ ap (λ (x : Object). x.tag) same ∙ sym (tag_of-in old f l (once_counted old count f.id before)) ∙ ap (λ (i : ℕ). tag_of i old) fid,
+        )
 
 -- the one with the count as its id is the new one
 pub new_one : (count : ℕ) (o : Object) (old new : List LeafEntry) → o.id ≡ count → AreCounted old count → AreCounted new (count + 1) → AllByRecursion (λ x. IsIn x (map object_of old) ⊎ (x ≡ o)) (map object_of new) →
@@ -111,12 +114,15 @@ pub new_one : (count : ℕ) (o : Object) (old new : List LeafEntry) → o.id ≡
 new_one count o old new is before after all =
     let found = object_with new count (there_counted new (count + 1) count after (omega arith)) in
     elim (all_in (λ (x : Object). IsIn x (map object_of old) ⊎ (x ≡ o)) (map object_of new) (object_of found.0) all (map-in object_of new found.0 found.1)) [
-      inl k ↦ absurd (let was = in-map object_of old (object_of found.0) k in
+      | inl k ↦ absurd (let was = in-map object_of old (object_of found.0) k in
           let i : was.0.id ≡ count = ap (λ (x : Object). x.id) (sym was.2) ∙ found.2 in
           let here = times-in old was.0 was.1 in
           let none = ap (λ (n : ℕ). times n (ids_of old)) i ∙ none_counted old count count before (omega arith) in omega (arith, here, none))
-      | inr e ↦ (ap (λ (i : ℕ). point_of i new) (sym found.2) ∙ point_of-in new found.0 found.1 (once_counted new (count + 1) found.0.id after) ∙ ap (λ (x : Object). x.point) e,
-                 ap (λ (i : ℕ). tag_of i new) (sym found.2) ∙ tag_of-in new found.0 found.1 (once_counted new (count + 1) found.0.id after) ∙ ap (λ (x : Object). x.tag) e) ]
+      | inr e ↦ (
+        ap (λ (i : ℕ). point_of i new) (sym found.2) ∙ point_of-in new found.0 found.1 (once_counted new (count + 1) found.0.id after) ∙ ap (λ (x : Object). x.point) e,
+        ap (λ (i : ℕ). tag_of i new) (sym found.2) ∙ tag_of-in new found.0 found.1 (once_counted new (count + 1) found.0.id after) ∙ ap (λ (x : Object). x.tag) e,
+      )
+    ]
 
 pub points_more : (as_new bs : List LeafEntry) (p : List ℕ) (i n : ℕ) → ((id : ℕ) → i ≤ id → id < i + n → point_of id as_new ≡ point_of id bs) → point_of (i + n) as_new ≡ p → points_from as_new i (suc n) ≡ points_from bs i n ++ p ∷ []
 points_more as_new bs p i zero same last = let e : i + 0 ≡ i = omega arith in ap (λ (x : List ℕ). x ∷ []) (ap (λ (k : ℕ). point_of k as_new) (sym e) ∙ last)
