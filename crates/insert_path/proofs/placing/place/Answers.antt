@@ -4,11 +4,13 @@ use Rattle.std.specs.List.{AllByRecursion}
 use Rattle.tree_shape.specs.Fill.{most_for}
 use Rattle.node_page.specs.Nodes.{IsLawfulNode}
 use Rattle.tree_shape.specs.declared.live.Live.{Live}
-use Rattle.tree_shape.specs.Insertion.{rules}
+use Rattle.tree_shape.specs.Insertion.{Rules, rules}
 use Rattle.page_store.specs.Reading.{nodes_of}
 use Rattle.insert_path.specs.Descent.{plan_of, number_at, Walks}
 use Rattle.insert_path.proofs.Final.{count_small, rules_same, fill_room, walks_given, walks_height, walks_writable, room_cause, has_walked, staged_out, is_placement}
 use Rattle.insert_path.proofs.Numbers.{number_up, number_within}
+use Rattle.insert_path.specs.Placing.{place_fault}
+use Rattle.insert_path.proofs.Undamaged.{sound_faultless, tree_undamaged}
 use Rattle.insert_path.proofs.Top.{given_out, has_inserted}
 use Rattle.insert_path.proofs.placing.place.Goals as goal
 
@@ -53,3 +55,12 @@ returns-clause-inserted g c = λ tells sound new over.
     (given_out (nodes_of (g.P.Pages.shelf c.args.pages.now).read) c.args.live.now c.args.numbers.now (c.requires.outside tells) sound.within)
     (λ i less. (let w = number_within c.args.numbers.now c.args.live.now.pages c.requires.numbers (omega (arith, low)) i (length c.in_ok-grown.grown.written.nodes.items) less in let a = w.0 in let b = w.1 in (a, omega (arith, b, wide))))
     (omega (arith, wide)) new over
+
+pub returns-in_err-grown-clause-sound : goal.returns-in_err-grown-clause-sound
+returns-in_err-grown-clause-sound g c =
+    let p = err_from_is_err_and c.from_residual.result c.from_residual.ensures.1 in
+    rw (p.1, p.2) (λ tells sound.
+        tree_undamaged (g.P.Pages.shelf c.args.pages.now) (g.P.Pages.shelf c.grow.new.pages) _ c.in_err-grown.field-0.0 c.in_err-grown.ensures.cause tells
+            (ap (λ (R : Rules). place_fault (g.R.M.Metric.space (g.R.Ruler.metric c.args.ruler.now)) R (g.P.Pages.shelf c.args.pages.now).read c.args.live.now (record { id = c.args.live.now.count; tag = c.args.tag; point = c.args.p.now })) (rules_same (g.R.M.Metric.space (g.R.Ruler.metric c.args.ruler.now)) c.args.head.now.promote c.args.head.now.split c.fill.result.most c.fill.result.least c.args.head.now.dim c.fill.ensures.most c.fill.ensures.least c.requires.words)
+             ∙ sound_faultless (g.R.M.Metric.space (g.R.Ruler.metric c.args.ruler.now)) (g.R.M.Metric.axioms (g.R.Ruler.metric c.args.ruler.now)) c.args.head.now.promote c.args.head.now.split (g.P.Pages.shelf c.args.pages.now).read c.args.live.now (record { id = c.args.live.now.count; tag = c.args.tag; point = c.args.p.now }) c.requires.fits sound
+                 (count_small c.args.head.now c.args.live.now.count c.requires.head c.requires.live.count c.if-live-head.false)))
