@@ -1,6 +1,6 @@
 -- What an insertion places.
-use Rattle.std.proofs.Common.{◌≡◌, ◌≢◌, ℕ, zero, suc, ◌+◌, ◌-◌, ◌*◌, ◌/◌, ◌^◌, ◌<◌, ◌≤◌, Bool, true, false, List, [], ◌∷◌, ◌++◌, refl, sym, ap, ◌∙◌, arith, length, map, subst, inl, inr, length-append}
-use Rattle.std.specs.Prelude.{Option, Some, None, IsTrue, nat_le, min, ◌&&◌}
+use Rattle.std.proofs.Common.{◌≡◌, ◌≢◌, ℕ, zero, suc, ◌+◌, ◌-◌, ◌*◌, ◌^◌, ◌<◌, ◌≤◌, Bool, true, false, List, [], ◌∷◌, refl, sym, ap, ◌∙◌, arith, length, map, subst, inl, inr, length-append}
+use Rattle.std.specs.Prelude.{Option, None, IsTrue, nat_le, ◌&&◌}
 use Rattle.std.specs.List.{AllByRecursion, range_with_len}
 use Rattle.std.proofs.lemmas.Bool.Decides.{nat_tests}
 use Rattle.metric_laws.specs.Space.{Space, IsSpace}
@@ -8,8 +8,8 @@ use Rattle.metric_laws.specs.Lists.{IsIn}
 use Rattle.tree_shape.specs.declared.live.Live.{Live}
 use Rattle.tree_shape.specs.declared.entry.Node.{Node}
 use Rattle.tree_shape.specs.Fill.{most_for, least_for}
-use Rattle.tree_shape.specs.Tree.{Nodes, times, IsNodePage, IsSoundTree}
-use Rattle.tree_shape.specs.Plain.{Object, Plain, Tall, tree_at, tree_of}
+use Rattle.tree_shape.specs.Tree.{Nodes, times, IsNodePage}
+use Rattle.tree_shape.specs.Plain.{tree_at, tree_of}
 use Rattle.tree_shape.proofs.Height.{three_at_least}
 use Rattle.tree_shape.specs.Insertion.{Rules, rules, rules_for, inserted}
 use Rattle.node_page.specs.Heads.{is_limit, IsLawfulHead}
@@ -28,11 +28,10 @@ use Rattle.insert_path.specs.declared.grew.Grew.TheVariants.{One, Two}
 use Rattle.insert_path.specs.Walk.{inner_ball}
 use Rattle.insert_path.specs.Roots.{HasRoomCause}
 use Rattle.insert_path.specs.Causes.{HasPlaceCause}
-use Rattle.insert_path.specs.Placing.{live_pages, walk_pages, place_fault, fresh, fresh_root, fresh_of, AreNumbers, AreOutside, IsPlacement, HasWalked}
+use Rattle.insert_path.specs.Placing.{live_pages, place_fault, fresh, fresh_root, fresh_of, AreNumbers, AreOutside, IsPlacement, HasWalked}
 use Rattle.insert_path.specs.Descent.{Plan, rules_of, leaf_ball, leaf_with, inner_with, number_at, numbered, IsStaged, Descends, Roots, Walks}
 use Rattle.insert_path.proofs.Level.{small_descends}
 use Rattle.insert_path.proofs.Walked.{descends_parity, descends_long, descends_left}
-use Rattle.insert_path.proofs.Paged.{pages_from}
 use Rattle.insert_path.proofs.Rooted.{root_faultless, root_long, root_writable}
 use Rattle.insert_path.proofs.Writable.{descends_writable}
 use Rattle.insert_path.proofs.Numbers.{number_within, pages_numbered, numbered_long, pages_range, end_given}

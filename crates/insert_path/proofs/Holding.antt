@@ -1,6 +1,6 @@
 -- What a file with staged nodes shows: the tree of what has grown.
-use Rattle.std.proofs.Common.{◌≡◌, ℕ, zero, suc, ◌+◌, ◌<◌, ◌≤◌, Bool, true, false, List, [], ◌∷◌, ◌++◌, refl, sym, ap, ◌∙◌, arith, length, map, subst, get_or, inl, inr}
-use Rattle.std.specs.Prelude.{Option, Some, None, max, nat_le, slice_index_or}
+use Rattle.std.proofs.Common.{◌≡◌, ℕ, zero, suc, ◌+◌, ◌<◌, ◌≤◌, true, false, List, [], ◌∷◌, ◌++◌, refl, sym, ap, ◌∙◌, arith, length, map, subst, get_or, inl, inr}
+use Rattle.std.specs.Prelude.{Option, Some, max, nat_le, slice_index_or}
 use Rattle.std.proofs.lemmas.Bool.Decides.{nat_tests}
 use Rattle.metric_laws.specs.Space.{Space}
 use Rattle.metric_laws.specs.Lists.{IsIn}
@@ -11,19 +11,17 @@ use Rattle.tree_shape.specs.declared.entry.Node.TheVariants.{Leaf, Inner}
 use Rattle.tree_shape.specs.Tree.{Nodes, leaf_entries, inner_entries, pages_at}
 use Rattle.tree_shape.specs.Plain.{Object, Branch, Plain, object_of, tree_at}
 use Rattle.tree_shape.specs.Dealing.{Ball, split_of}
-use Rattle.tree_shape.specs.Insertion.{Grown, One as Whole, Two as Halves2, taken, left, branch, fit, object_ball, branch_ball, with_grown, grown_at, inserted, chosen}
+use Rattle.tree_shape.specs.Insertion.{Grown, One as Whole, Two as Halves2, taken, left, branch, fit, object_ball, branch_ball, with_grown, grown_at}
 use Rattle.tree_shape.proofs.Kept.{taken_map, left_map, length_map}
 use Rattle.tree_shape.proofs.Within.{Agree, child_agrees}
 use Rattle.promote_split.specs.declared.halves.Half.{Half}
 use Rattle.promote_split.specs.declared.halves.Halves.{Halves}
 use Rattle.promote_split.specs.Halves.{IsHalf, IsSplit}
-use Rattle.page_store.specs.Shelf.{Shelf}
-use Rattle.page_store.specs.Reading.{nodes_of, node_or_none}
 use Rattle.insert_path.specs.declared.grew.Stem.{Stem}
 use Rattle.insert_path.specs.declared.grew.Grew.{Grew}
 use Rattle.insert_path.specs.declared.grew.Grew.TheVariants.{One, Two}
 use Rattle.insert_path.specs.Walk.{inner_ball}
-use Rattle.insert_path.specs.Descent.{Plan, rules_of, leaf_ball, leaf_with, inner_with, stem_of, new_entry, entry_of, with_child, regrown, IsWhole, IsHalved, IsStaged, Descends}
+use Rattle.insert_path.specs.Descent.{Plan, rules_of, leaf_ball, leaf_with, inner_with, stem_of, entry_of, with_child, regrown, IsStaged}
 
 -- the nodes stand on their pages, from this number on
 abbrev pub HoldsFrom : Nodes → (ℕ → ℕ) → ℕ → List Node → Type 0

@@ -1,6 +1,6 @@
 -- One level of a descent.
-use Rattle.std.proofs.Common.{◌≡◌, ◌≢◌, ℕ, zero, suc, ◌+◌, ◌-◌, ◌<◌, ◌≤◌, Bool, true, false, List, [], ◌∷◌, ◌++◌, refl, sym, ap, ◌∙◌, arith, length, map, subst, get_or, inl, inr}
-use Rattle.std.specs.Prelude.{Option, Some, None, Result, Ok, Err, IsTrue, ◌==◌, if◌then◌else◌, slice_index}
+use Rattle.std.proofs.Common.{◌≡◌, ◌≢◌, ℕ, zero, suc, ◌-◌, ◌<◌, ◌≤◌, Bool, true, false, List, [], ◌∷◌, ◌++◌, refl, sym, ap, ◌∙◌, arith, length, map, subst, get_or, inl, inr}
+use Rattle.std.specs.Prelude.{Option, Some, Ok, Err, IsTrue, ◌==◌, if◌then◌else◌, slice_index}
 use Rattle.std.specs.List.{AllByRecursion}
 use Rattle.std.proofs.lemmas.Bool.Decides.{nat_tests}
 use Rattle.metric_laws.specs.Space.{Space, bound}
@@ -17,16 +17,14 @@ use Rattle.tree_shape.specs.Insertion.{chosen}
 use Rattle.tree_shape.proofs.Lawful.{get_map}
 use Rattle.node_page.specs.Nodes.{IsLawfulNode}
 use Rattle.promote_split.specs.declared.promoting.Policy.{Policy}
-use Rattle.promote_split.specs.declared.halves.Halves.{Halves}
 use Rattle.page_store.specs.declared.pages.PageFault.{PageFault}
 use Rattle.page_store.specs.declared.pages.PageFault.TheVariants.{Disk, Bad, Outside, Memory, Repeats, Level}
 use Rattle.page_store.specs.Reading.{Read, IsWithin, is_within}
 use Rattle.page_store.specs.Shelf.{Shelf, IsNodeOf, HoldsSame, HasPageCause}
 use Rattle.insert_path.specs.declared.grew.Grew.{Grew}
-use Rattle.insert_path.specs.declared.grew.Grew.TheVariants.{One, Two}
 use Rattle.insert_path.specs.Walk.{inner_ball, chosen_child, walk_fault, leaf_fault, inner_fault}
 use Rattle.insert_path.specs.Causes.{HasWalkCause}
-use Rattle.insert_path.specs.Descent.{Plan, plan_of, leaf_ball, leaf_with, inner_with, new_entry, regrown, IsNear, IsSmall, IsWhole, IsHalved, IsStaged, Descends}
+use Rattle.insert_path.specs.Descent.{Plan, plan_of, leaf_ball, leaf_with, inner_with, new_entry, regrown, IsNear, IsSmall, IsStaged, Descends}
 
 -- a page that gives no node is the walk's fault
 pub fault_here : (s : Space) (read : Read) (p : List ℕ) (h page : ℕ) (f : PageFault) → read page ≡ Err f → walk_fault s read p h page ≡ Some f

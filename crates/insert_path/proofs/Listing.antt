@@ -1,15 +1,14 @@
 -- The objects of a tree with one object more, in order of id.
-use Rattle.std.proofs.Common.{◌≡◌, ◌≢◌, ◌⊎◌, ℕ, zero, suc, ◌+◌, ◌<◌, ◌≤◌, Bool, true, false, cond, List, [], ◌∷◌, ◌++◌, refl, sym, ap, ◌∙◌, arith, length, map, subst, inl, inr}
+use Rattle.std.proofs.Common.{◌≡◌, ◌≢◌, ◌⊎◌, ℕ, zero, suc, ◌+◌, ◌<◌, ◌≤◌, Bool, true, false, cond, List, [], ◌∷◌, ◌++◌, refl, sym, ap, ◌∙◌, arith, map, inl, inr}
 use Rattle.std.specs.Prelude.{if◌then◌else◌, ◌==◌, nat_lt, count_by}
-use Rattle.std.specs.List.{AllByRecursion, flat_map}
+use Rattle.std.specs.List.{AllByRecursion}
 use Rattle.std.proofs.lemmas.Bool.Decides.{nat_tests}
 use Rattle.std.proofs.lemmas.List.Recursion.{is_count_by}
-use Rattle.metric_laws.specs.Space.{Space}
 use Rattle.metric_laws.specs.Lists.{IsIn}
-use Rattle.metric_laws.proofs.Lists.{all_append, all_in, in-map, map-in, all_weaker}
+use Rattle.metric_laws.proofs.Lists.{all_append, all_in, in-map, map-in}
 use Rattle.tree_shape.specs.declared.entry.LeafEntry.{LeafEntry}
 use Rattle.tree_shape.specs.Tree.{times, point_of, points_from, tag_of, tags_from}
-use Rattle.tree_shape.specs.Plain.{Object, Branch, Plain, Tall, objects_in, objects_of, object_of}
+use Rattle.tree_shape.specs.Plain.{Object, Plain, Tall, objects_in, objects_of, object_of}
 use Rattle.tree_shape.specs.Insertion.{Rules, Grown, One, Two, inserted, new_root, placed_by}
 use Rattle.tree_shape.proofs.Kept.{GrownAll, inserted_all}
 use Rattle.tree_shape.proofs.ById.{ids_of, times-in, object_of as object_with, point_of-in}

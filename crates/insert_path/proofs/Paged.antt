@@ -1,10 +1,9 @@
 -- The pages of a file with staged nodes.
-use Rattle.std.proofs.Common.{◌≡◌, ◌⊎◌, ℕ, zero, suc, ◌+◌, ◌<◌, ◌≤◌, Bool, true, false, List, [], ◌∷◌, ◌++◌, refl, sym, ap, ◌∙◌, arith, length, map, subst, get_or, inl, inr}
-use Rattle.std.specs.Prelude.{Option, Some, None, IsTrue}
+use Rattle.std.proofs.Common.{◌≡◌, ◌⊎◌, ℕ, zero, suc, ◌+◌, ◌<◌, Bool, true, false, List, [], ◌∷◌, ◌++◌, refl, sym, ap, ◌∙◌, arith, length, map, subst, get_or, inl, inr}
+use Rattle.std.specs.Prelude.{Option, Some, IsTrue}
 use Rattle.std.specs.List.{flat_map}
-use Rattle.metric_laws.specs.Space.{Space}
 use Rattle.metric_laws.specs.Lists.{IsIn}
-use Rattle.metric_laws.proofs.Lists.{flat_map-append, flat_map-map, in-append}
+use Rattle.metric_laws.proofs.Lists.{flat_map-append, in-append}
 use Rattle.tree_shape.specs.declared.entry.LeafEntry.{LeafEntry}
 use Rattle.tree_shape.specs.declared.entry.InnerEntry.{InnerEntry}
 use Rattle.tree_shape.specs.declared.entry.Node.{Node}
@@ -15,14 +14,13 @@ use Rattle.tree_shape.specs.Insertion.{taken, left, chosen}
 use Rattle.tree_shape.proofs.Counting.{times-append}
 use Rattle.tree_shape.proofs.Within.{Agree, same_pages, flat_map_agree, in-flat_map}
 use Rattle.promote_split.specs.declared.halves.Half.{Half}
-use Rattle.promote_split.specs.declared.halves.Halves.{Halves}
-use Rattle.promote_split.specs.Halves.{IsHalf, IsSplit}
+use Rattle.promote_split.specs.Halves.{IsHalf}
 use Rattle.page_store.specs.Shelf.{Shelf}
 use Rattle.page_store.specs.Reading.{nodes_of}
 use Rattle.insert_path.specs.declared.grew.Grew.{Grew}
 use Rattle.insert_path.specs.declared.grew.Grew.TheVariants.{One, Two}
 use Rattle.insert_path.specs.Walk.{inner_ball}
-use Rattle.insert_path.specs.Descent.{Plan, leaf_ball, leaf_with, inner_with, stem_of, new_entry, entry_of, with_child, regrown, IsStaged, Descends}
+use Rattle.insert_path.specs.Descent.{Plan, leaf_ball, leaf_with, inner_with, new_entry, entry_of, regrown, IsStaged, Descends}
 use Rattle.insert_path.proofs.Holding.{HoldsFrom, holds_after, holds_staged, agree_below, chosen_in}
 use Rattle.insert_path.proofs.Walked.{told_node}
 

@@ -1,22 +1,21 @@
 -- The new root.
-use Rattle.std.proofs.Common.{◌≡◌, ℕ, zero, suc, ◌+◌, ◌<◌, ◌≤◌, Bool, true, false, List, [], ◌∷◌, ◌++◌, refl, sym, ap, ◌∙◌, arith, length, map, subst, inl, inr, append-nil, length-append}
+use Rattle.std.proofs.Common.{◌≡◌, ℕ, suc, ◌+◌, ◌≤◌, Bool, true, false, List, [], ◌∷◌, ◌++◌, refl, sym, ap, ◌∙◌, arith, length, map, subst, append-nil, length-append}
 use Rattle.std.specs.Prelude.{Option, Some, None, IsTrue, ◌==◌, ◌&&◌}
 use Rattle.std.specs.List.{AllByRecursion, flat_map}
 use Rattle.std.proofs.lemmas.Bool.Decides.{nat_tests}
-use Rattle.metric_laws.specs.Space.{Space, bound}
+use Rattle.metric_laws.specs.Space.{Space}
 use Rattle.metric_laws.proofs.Lists.{all_append}
 use Rattle.tree_shape.specs.declared.live.Live.{Live}
 use Rattle.tree_shape.specs.declared.entry.Node.{Node}
-use Rattle.tree_shape.specs.declared.entry.Node.TheVariants.{Leaf, Inner}
+use Rattle.tree_shape.specs.declared.entry.Node.TheVariants.{Inner}
 use Rattle.tree_shape.specs.declared.entry.InnerEntry.{InnerEntry}
 use Rattle.tree_shape.specs.Fill.{most_for}
-use Rattle.tree_shape.specs.Tree.{Nodes, inner_entries, pages_at, times, parent_distance}
+use Rattle.tree_shape.specs.Tree.{Nodes, inner_entries, pages_at, times}
 use Rattle.tree_shape.specs.Plain.{Plain, Tall, Branch, tree_at}
 use Rattle.tree_shape.specs.Insertion.{Grown, One as Whole, Two as Halves2, inserted, new_root}
 use Rattle.tree_shape.proofs.Counting.{times-append}
 use Rattle.node_page.specs.Nodes.{IsLawfulNode}
 use Rattle.page_store.specs.declared.pages.PageFault.{PageFault}
-use Rattle.page_store.specs.declared.pages.PageFault.TheVariants.{Level}
 use Rattle.page_store.specs.Reading.{nodes_of}
 use Rattle.page_store.specs.Shelf.{Shelf}
 use Rattle.insert_path.specs.declared.faults.PlaceFault.{PlaceFault}
@@ -24,12 +23,11 @@ use Rattle.insert_path.specs.declared.faults.PlaceFault.TheVariants.{Page, Full,
 use Rattle.insert_path.specs.declared.grew.Stem.{Stem}
 use Rattle.insert_path.specs.declared.grew.Grew.{Grew}
 use Rattle.insert_path.specs.declared.grew.Grew.TheVariants.{One, Two}
-use Rattle.insert_path.specs.Walk.{walk_fault}
 use Rattle.insert_path.specs.Placing.{place_fault, or_level, is_split, fresh_root}
-use Rattle.insert_path.specs.Causes.{HasWalkCause, HasTreeCause}
+use Rattle.insert_path.specs.Causes.{HasTreeCause}
 use Rattle.insert_path.specs.Roots.{HasRootCause}
 use Rattle.insert_path.specs.Descent.{Plan, rules_of, root_entry, is_two, IsSmall, Roots, Descends}
-use Rattle.insert_path.proofs.Holding.{HoldsFrom, holds_after, grown_tree, branch_at, stem_branch}
+use Rattle.insert_path.proofs.Holding.{HoldsFrom, holds_after, grown_tree, branch_at}
 use Rattle.insert_path.proofs.Walked.{descends_parity, descends_faultless, trees_from, trees_more}
 use Rattle.insert_path.proofs.Stored.{IsStoredAt, GrownStored}
 use Rattle.insert_path.proofs.Paged.{pages_from, pages_more, grown_pages}

@@ -1,19 +1,18 @@
 -- The file with the nodes of an insertion has the tree of the insertion.
-use Rattle.std.proofs.Common.{◌≡◌, ◌⊎◌, ℕ, zero, suc, ◌+◌, ◌-◌, ◌*◌, ◌<◌, ◌≤◌, ◌≢◌, Bool, true, false, List, [], ◌∷◌, ◌++◌, refl, sym, ap, ◌∙◌, arith, length, map, subst, inl, inr, get_or}
-use Rattle.std.specs.Prelude.{◌↔◌, Option, Some, None, IsTrue, if◌then◌else◌, ◌==◌, nat_lt, count_by}
+use Rattle.std.proofs.Common.{◌≡◌, ◌⊎◌, ℕ, zero, suc, ◌+◌, ◌<◌, ◌≤◌, Bool, true, false, List, [], ◌∷◌, ◌++◌, refl, sym, ap, ◌∙◌, arith, length, map, subst, inl, inr, get_or}
+use Rattle.std.specs.Prelude.{◌↔◌, Some, None, IsTrue, if◌then◌else◌, ◌==◌, nat_lt, count_by}
 use Rattle.std.specs.List.{AllByRecursion}
 use Rattle.std.proofs.lemmas.Bool.Decides.{nat_tests}
-use Rattle.metric_laws.specs.Space.{Space, IsSpace}
+use Rattle.metric_laws.specs.Space.{IsSpace}
 use Rattle.metric_laws.specs.Lists.{IsIn}
 use Rattle.metric_laws.proofs.Lists.{all_in, all_weaker}
 use Rattle.tree_shape.specs.declared.live.Live.{Live}
 use Rattle.tree_shape.specs.declared.entry.Node.{Node}
-use Rattle.tree_shape.specs.declared.entry.LeafEntry.{LeafEntry}
 use Rattle.tree_shape.specs.Fill.{root_least}
 use Rattle.tree_shape.specs.Tree.{Nodes, pages_at, times, objects, IsNodePage, IsSoundTree, points_by_id, points_from, tags_by_id, tags_from}
 use Rattle.tree_shape.specs.Plain.{Object, Plain, Tall, objects_of, object_of, tree_at, tree_of}
-use Rattle.tree_shape.specs.Sound.{ObjectFits, IsSoundTall, IsSoundPlain}
-use Rattle.tree_shape.specs.Insertion.{Rules, Grown, inserted, new_root, rules, placed_by}
+use Rattle.tree_shape.specs.Sound.{ObjectFits, IsSoundTall}
+use Rattle.tree_shape.specs.Insertion.{Rules, Grown, new_root, rules, placed_by}
 use Rattle.tree_shape.proofs.Added.{insertion_adds_one}
 use Rattle.tree_shape.proofs.Bare.{sound_without_pages, sound_has_entries}
 use Rattle.tree_shape.proofs.Counting.{times-in as times-out}
@@ -25,13 +24,12 @@ use Rattle.page_store.specs.declared.staging.Placed.{Placed}
 use Rattle.page_store.specs.Shelf.{Shelf}
 use Rattle.page_store.specs.Reading.{nodes_of}
 use Rattle.page_store.specs.Staging.{IsFree, staged_for}
-use Rattle.insert_path.specs.declared.grew.Grew.{Grew}
-use Rattle.insert_path.specs.Placing.{live_pages, fresh, fresh_root, fresh_of, staged_tree, AreNumbers, AreOutside, IsOver, HasInserted}
-use Rattle.insert_path.specs.Descent.{Plan, rules_of, number_at, numbered, Roots, Walks}
+use Rattle.insert_path.specs.Placing.{live_pages, fresh, fresh_root, fresh_of, staged_tree, AreOutside, IsOver, HasInserted}
+use Rattle.insert_path.specs.Descent.{Plan, rules_of, number_at, numbered, Walks}
 use Rattle.insert_path.proofs.Holding.{HoldsFrom, grown_tree}
 use Rattle.insert_path.proofs.Walked.{descends_shown, descends_fresh, trees_from}
 use Rattle.insert_path.proofs.Stored.{IsStoredAt, stored_of_sound, sound_of_stored, descends_stored}
-use Rattle.insert_path.proofs.Paged.{pages_from, grown_pages, descends_pages, descends_in}
+use Rattle.insert_path.proofs.Paged.{pages_from, descends_pages, descends_in}
 use Rattle.insert_path.proofs.Rooted.{tall, root_holds, root_tree, root_stored, root_pages, root_fresh}
 use Rattle.insert_path.proofs.Numbers.{lower_or, number_in, number_out, given_once, stand_holds, free_none}
 use Rattle.insert_path.proofs.Listing.{with_id, AreCounted, ids_more, placed_all, old_one, new_one, points_more, tags_more}

@@ -1,29 +1,24 @@
 -- What a descent over told pages makes: the rules' tree, its new subtrees in order, and their number.
-use Rattle.std.proofs.Common.{◌≡◌, ℕ, zero, suc, ◌+◌, ◌-◌, ◌<◌, ◌≤◌, Bool, true, false, not, List, [], ◌∷◌, ◌++◌, refl, sym, ap, ◌∙◌, arith, length, map, subst, get_or, inl, inr, append_assoc, length-append}
-use Rattle.std.specs.Prelude.{Option, Some, None, Ok, IsTrue, nat_le, if◌then◌else◌, ◌==◌, slice_index}
+use Rattle.std.proofs.Common.{◌≡◌, ℕ, zero, suc, ◌+◌, ◌<◌, Bool, true, false, not, List, [], ◌∷◌, ◌++◌, refl, sym, ap, ◌∙◌, arith, length, map, get_or, inl, inr, append_assoc, length-append}
+use Rattle.std.specs.Prelude.{Option, Some, None, Ok, IsTrue, nat_le, if◌then◌else◌, ◌==◌}
 use Rattle.std.proofs.lemmas.Bool.Decides.{nat_tests}
-use Rattle.metric_laws.specs.Space.{Space}
-use Rattle.metric_laws.specs.Lists.{IsIn}
-use Rattle.tree_shape.specs.declared.entry.LeafEntry.{LeafEntry}
 use Rattle.tree_shape.specs.declared.entry.InnerEntry.{InnerEntry}
 use Rattle.tree_shape.specs.declared.entry.Node.{Node}
 use Rattle.tree_shape.specs.declared.entry.Node.TheVariants.{Leaf, Inner}
 use Rattle.tree_shape.specs.Tree.{Nodes, leaf_entries, inner_entries, pages_at, parent_distance}
-use Rattle.tree_shape.specs.Plain.{Object, Branch, Plain, Tall, object_of, tree_at}
+use Rattle.tree_shape.specs.Plain.{Branch, Plain, Tall, object_of, tree_at}
 use Rattle.tree_shape.specs.Dealing.{Ball}
-use Rattle.tree_shape.specs.Insertion.{Rules, Grown, One as Whole, Two as Halves2, branch, fit, object_ball, branch_ball, with_grown, grown_at, inserted, chosen}
+use Rattle.tree_shape.specs.Insertion.{Rules, Grown, One as Whole, Two as Halves2, fit, object_ball, branch_ball, with_grown, grown_at, inserted, chosen}
 use Rattle.tree_shape.proofs.Kept.{length_map}
 use Rattle.tree_shape.proofs.Within.{Agree}
-use Rattle.page_store.specs.declared.pages.PageFault.{PageFault}
 use Rattle.page_store.specs.declared.pages.PageFault.TheVariants.{Level}
 use Rattle.page_store.specs.Shelf.{Shelf}
-use Rattle.page_store.specs.Reading.{Read, nodes_of, node_or_none}
-use Rattle.insert_path.specs.declared.grew.Stem.{Stem}
+use Rattle.page_store.specs.Reading.{nodes_of, node_or_none}
 use Rattle.insert_path.specs.declared.grew.Grew.{Grew}
 use Rattle.insert_path.specs.declared.grew.Grew.TheVariants.{One, Two}
 use Rattle.insert_path.specs.Walk.{inner_ball, chosen_child, walk_fault, leaf_fault, inner_fault}
 use Rattle.insert_path.specs.Placing.{walk_pages, is_split, parts, fresh_in, fresh, level_of}
-use Rattle.insert_path.specs.Descent.{Plan, rules_of, leaf_ball, leaf_with, inner_with, new_entry, entry_of, with_child, regrown, is_two, IsStaged, Descends}
+use Rattle.insert_path.specs.Descent.{Plan, rules_of, leaf_ball, leaf_with, inner_with, new_entry, entry_of, regrown, is_two, IsStaged, Descends}
 use Rattle.insert_path.proofs.Level.{child_page}
 use Rattle.insert_path.proofs.Holding.{HoldsFrom, grown_tree, branch_at, holds_staged, inner_balls, leaf_shown, inner_shown, regrown_shown, tree_same, map_more, agree_below, chosen_in}
 

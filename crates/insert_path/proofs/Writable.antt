@@ -1,29 +1,28 @@
 -- Staged nodes can be written.
-use Rattle.std.proofs.Common.{◌≡◌, ℕ, zero, suc, ◌+◌, ◌*◌, ◌<◌, ◌≤◌, Bool, List, [], ◌∷◌, ◌++◌, refl, sym, ap, ◌∙◌, arith, length, map, subst, get_or, inl, inr, length-append}
-use Rattle.std.specs.Prelude.{Option, Some, None, slice_index_or}
+use Rattle.std.proofs.Common.{◌≡◌, ℕ, zero, suc, ◌+◌, ◌<◌, ◌≤◌, List, [], ◌∷◌, ◌++◌, ap, ◌∙◌, arith, length, map, subst, inl, inr, length-append}
+use Rattle.std.specs.Prelude.{Option, Some}
 use Rattle.std.specs.List.{AllByRecursion}
 use Rattle.metric_laws.specs.Space.{Space, bound}
-use Rattle.metric_laws.proofs.Lists.{all_append, all_weaker, all_in}
+use Rattle.metric_laws.proofs.Lists.{all_append, all_weaker}
 use Rattle.tree_shape.specs.declared.entry.LeafEntry.{LeafEntry}
 use Rattle.tree_shape.specs.declared.entry.InnerEntry.{InnerEntry}
 use Rattle.tree_shape.specs.declared.entry.Node.{Node}
 use Rattle.tree_shape.specs.declared.entry.Node.TheVariants.{Leaf, Inner}
 use Rattle.tree_shape.specs.Fill.{most_for}
 use Rattle.tree_shape.specs.Tree.{parent_distance}
-use Rattle.tree_shape.specs.Dealing.{Ball, Table, size, table_of, promoted, point_at, split_of, IsPair}
+use Rattle.tree_shape.specs.Dealing.{Ball, size, table_of, promoted, point_at, split_of, IsPair}
 use Rattle.tree_shape.specs.Insertion.{taken, left, chosen}
 use Rattle.tree_shape.proofs.Kept.{all_taken, all_left, length_map}
 use Rattle.tree_shape.proofs.Lawful.{promoted_pair}
 use Rattle.node_page.specs.Nodes.{IsLawfulNode}
 use Rattle.promote_split.specs.declared.halves.Half.{Half}
 use Rattle.promote_split.specs.declared.halves.Halves.{Halves}
-use Rattle.promote_split.specs.Halves.{IsHalf, IsSplit, AreNear}
-use Rattle.page_store.specs.Shelf.{Shelf, IsNodeOf}
-use Rattle.insert_path.specs.declared.grew.Stem.{Stem}
+use Rattle.promote_split.specs.Halves.{IsHalf}
+use Rattle.page_store.specs.Shelf.{Shelf}
 use Rattle.insert_path.specs.declared.grew.Grew.{Grew}
 use Rattle.insert_path.specs.declared.grew.Grew.TheVariants.{One, Two}
 use Rattle.insert_path.specs.Walk.{inner_ball}
-use Rattle.insert_path.specs.Descent.{Plan, leaf_ball, leaf_with, inner_with, stem_of, new_entry, entry_of, with_child, regrown, IsNear, AreHalves, is_two, IsStaged, Descends}
+use Rattle.insert_path.specs.Descent.{Plan, leaf_ball, leaf_with, inner_with, new_entry, entry_of, regrown, IsNear, AreHalves, is_two, IsStaged, Descends}
 use Rattle.insert_path.proofs.Walked.{one_more, regrown_long}
 
 -- the points of two halves have so many coordinates

@@ -1,7 +1,5 @@
-use Rattle.std.proofs.Common.{false, ◌≡◌, ◌∙◌, ◌-◌, sym, ap, suc, rules, arith}
+use Rattle.std.proofs.Common.{false, ◌-◌, ap, rules}
 use Rattle.std.proofs.lemmas.Result.{err_from_is_err_and}
-use Rattle.metric_laws.specs.Space.{Space}
-use Rattle.tree_shape.specs.Plain.{Object}
 use Rattle.insert_path.specs.Descent.{number_at, above_of}
 use Rattle.insert_path.proofs.Level.{cause_here, leaf_high, inner_other, fault_below, cause_below, level_above, read_near, small_descends, leaf_step, inner_step}
 use Rattle.insert_path.proofs.descent.+descend.Goals as goal

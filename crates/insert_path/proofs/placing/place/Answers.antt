@@ -1,4 +1,4 @@
-use Rattle.std.proofs.Common.{◌≡◌, ◌∙◌, ◌+◌, ◌-◌, ◌≤◌, ◌<◌, ℕ, List, refl, sym, ap, subst, arith, length}
+use Rattle.std.proofs.Common.{◌≡◌, ◌∙◌, ◌+◌, ◌-◌, ℕ, List, refl, sym, ap, subst, arith, length}
 use Rattle.std.proofs.lemmas.Result.{err_from_is_err_and}
 use Rattle.std.specs.List.{AllByRecursion}
 use Rattle.tree_shape.specs.Fill.{most_for}
@@ -60,7 +60,7 @@ pub returns-in_err-grown-clause-sound : goal.returns-in_err-grown-clause-sound
 returns-in_err-grown-clause-sound g c =
     let p = err_from_is_err_and c.from_residual.result c.from_residual.ensures.1 in
     rw (p.1, p.2) (λ tells sound.
-        tree_undamaged (g.P.Pages.shelf c.args.pages.now) (g.P.Pages.shelf c.grow.new.pages) _ c.in_err-grown.field-0.0 c.in_err-grown.ensures.cause tells
-            (ap (λ (R : Rules). place_fault (g.R.M.Metric.space (g.R.Ruler.metric c.args.ruler.now)) R (g.P.Pages.shelf c.args.pages.now).read c.args.live.now (record { id = c.args.live.now.count; tag = c.args.tag; point = c.args.p.now })) (rules_same (g.R.M.Metric.space (g.R.Ruler.metric c.args.ruler.now)) c.args.head.now.promote c.args.head.now.split c.fill.result.most c.fill.result.least c.args.head.now.dim c.fill.ensures.most c.fill.ensures.least c.requires.words)
-             ∙ sound_faultless (g.R.M.Metric.space (g.R.Ruler.metric c.args.ruler.now)) (g.R.M.Metric.axioms (g.R.Ruler.metric c.args.ruler.now)) c.args.head.now.promote c.args.head.now.split (g.P.Pages.shelf c.args.pages.now).read c.args.live.now (record { id = c.args.live.now.count; tag = c.args.tag; point = c.args.p.now }) c.requires.fits sound
-                 (count_small c.args.head.now c.args.live.now.count c.requires.head c.requires.live.count c.if-live-head.false)))
+    tree_undamaged (g.P.Pages.shelf c.args.pages.now) (g.P.Pages.shelf c.grow.new.pages) _ c.in_err-grown.field-0.0 c.in_err-grown.ensures.cause tells
+    (ap (λ (R : Rules). place_fault (g.R.M.Metric.space (g.R.Ruler.metric c.args.ruler.now)) R (g.P.Pages.shelf c.args.pages.now).read c.args.live.now (record { id = c.args.live.now.count; tag = c.args.tag; point = c.args.p.now })) (rules_same (g.R.M.Metric.space (g.R.Ruler.metric c.args.ruler.now)) c.args.head.now.promote c.args.head.now.split c.fill.result.most c.fill.result.least c.args.head.now.dim c.fill.ensures.most c.fill.ensures.least c.requires.words)
+    ∙ sound_faultless (g.R.M.Metric.space (g.R.Ruler.metric c.args.ruler.now)) (g.R.M.Metric.axioms (g.R.Ruler.metric c.args.ruler.now)) c.args.head.now.promote c.args.head.now.split (g.P.Pages.shelf c.args.pages.now).read c.args.live.now (record { id = c.args.live.now.count; tag = c.args.tag; point = c.args.p.now }) c.requires.fits sound
+    (count_small c.args.head.now c.args.live.now.count c.requires.head c.requires.live.count c.if-live-head.false)))
