@@ -1,5 +1,5 @@
 -- What an insertion places.
-use Rattle.std.proofs.Common.{◌≡◌, ◌≢◌, ℕ, zero, suc, ◌+◌, ◌-◌, ◌*◌, ◌^◌, ◌<◌, ◌≤◌, Bool, true, false, List, [], ◌∷◌, refl, sym, ap, ◌∙◌, arith, length, map, subst, inl, inr, length-append}
+use Rattle.std.proofs.Common.{◌≡◌, ◌≢◌, ◌⊎◌, ℕ, zero, suc, ◌+◌, ◌-◌, ◌*◌, ◌^◌, ◌<◌, ◌≤◌, Bool, true, false, List, [], ◌∷◌, refl, sym, ap, ◌∙◌, arith, length, map, subst, inl, inr, length-append}
 use Rattle.std.specs.Prelude.{Option, None, IsTrue, nat_le, ◌&&◌}
 use Rattle.std.specs.List.{AllByRecursion, range_with_len}
 use Rattle.std.proofs.lemmas.Bool.Decides.{nat_tests}
@@ -34,7 +34,8 @@ use Rattle.insert_path.proofs.Level.{small_descends}
 use Rattle.insert_path.proofs.Walked.{descends_parity, descends_long, descends_left}
 use Rattle.insert_path.proofs.Rooted.{root_faultless, root_long, root_writable}
 use Rattle.insert_path.proofs.Writable.{descends_writable}
-use Rattle.insert_path.proofs.Numbers.{number_within, pages_numbered, numbered_long, pages_range, end_given}
+use Rattle.insert_path.proofs.Numbers.{lower_or, number_in, number_out, number_within, pages_numbered, numbered_long, pages_range, end_given}
+use Rattle.insert_path.proofs.Holding.{in_get}
 use Rattle.insert_path.proofs.Top.{given_out, given_each}
 
 pub limit_small : (limit : ℕ) → IsTrue (is_limit limit) → limit ≤ 2 ^ 24
@@ -134,6 +135,16 @@ all_numbered : (Q : ℕ → Type 0) (R : Node → Type 0) (number : ℕ → ℕ)
 all_numbered Q R number i k [] e each all = tt
 all_numbered Q R number i k (n ∷ ns) e each all = ((each i (omega (arith, e)), all.0), all_numbered Q R number (i + 1) k ns (omega (arith, e)) each all.1)
 
+-- each page is one that was handed in, or one after the end
+all_given : (numbers : List ℕ) (first i : ℕ) (ns : List Node) → AllByRecursion (λ (s : StagedNode). IsIn s.page numbers ⊎ (first ≤ s.page)) (numbered (number_at numbers first) i ns)
+all_given numbers first i [] = tt
+all_given numbers first i (n ∷ ns) = (
+  lower_or i (length numbers)
+      (λ l. inl (subst (λ (p : ℕ). IsIn p numbers) (sym (number_in numbers first i l)) (in_get numbers i 0 l)))
+      (λ h. inr (let a = number_out numbers first i h in omega (arith, a))),
+  all_given numbers first (i + 1) ns,
+)
+
 -- what is placed can be committed
 pub is_placement : (head : Head) (t : Live) (numbers : List ℕ) (nodes : List Node) (root height : ℕ) (placed : Placed) →
     placed.staged ≡ numbered (number_at numbers t.pages) 0 nodes →
@@ -160,6 +171,7 @@ is_placement head t numbers nodes root height placed staged next room live count
   nodes = subst (λ (k : ℕ). AllByRecursion (λ s. IsWithin k s.page × IsLawfulNode head.dim s.node) placed.staged) (sym (ap (λ (n : Live). n.pages) next))
       (subst (AllByRecursion (λ s. IsWithin (t.pages + (length nodes - length numbers)) s.page × IsLawfulNode head.dim s.node)) (sym staged)
       (all_numbered (IsWithin (t.pages + (length nodes - length numbers))) (IsLawfulNode head.dim) (number_at numbers t.pages) 0 (length nodes) nodes (omega arith) within writable));
+  given = subst (AllByRecursion (λ s. IsIn s.page numbers ⊎ (t.pages ≤ s.page))) (sym staged) (all_given numbers t.pages 0 nodes);
   new_pages = λ page low below. subst (IsIn page) (sym (ap pages_of staged ∙ pages_numbered (number_at numbers t.pages) 0 nodes))
       (end_given numbers t.pages nodes page low (let e = ap (λ (n : Live). n.pages) next in omega (arith, below, e)));
 }

@@ -1,5 +1,5 @@
 -- What an insertion makes of the tree of a file.
-use Rattle.std.specs.Prelude.{◌≡◌, ◌↔◌, ℕ, zero, suc, ◌+◌, ◌-◌, ◌*◌, ◌<◌, ◌≤◌, Bool, true, false, List, [], ◌∷◌, ◌++◌, length, map, Option, Some, None, ◌==◌, ◌&&◌}
+use Rattle.std.specs.Prelude.{◌⊎◌, ◌≡◌, ◌↔◌, ℕ, zero, suc, ◌+◌, ◌-◌, ◌*◌, ◌<◌, ◌≤◌, Bool, true, false, List, [], ◌∷◌, ◌++◌, length, map, Option, Some, None, ◌==◌, ◌&&◌}
 use Rattle.std.specs.List.{AllByRecursion, range_with_len}
 use Rattle.metric_laws.specs.Space.{Space}
 use Rattle.metric_laws.specs.Lists.{IsIn}
@@ -105,6 +105,7 @@ pub record IsPlacement (head : Head) (t : Live) (numbers : List ℕ) (placed : P
   pub lawful : IsLawfulLive head.limit (placed.next.pages * 4096) placed.next
   pub numbered : pages_of placed.staged ≡ map (number_at numbers t.pages) (range_with_len 0 (length placed.staged))
   pub nodes : AllByRecursion (λ s. IsWithin placed.next.pages s.page × IsLawfulNode head.dim s.node) placed.staged
+  pub given : AllByRecursion (λ s. IsIn s.page numbers ⊎ (t.pages ≤ s.page)) placed.staged
   pub new_pages : (page : ℕ) → t.pages ≤ page → page < placed.next.pages → IsIn page (pages_of placed.staged)
 
 -- what the walk made: there is no fault, as many nodes are staged as there are new subtrees, and the pages of the walk are left

@@ -42,7 +42,7 @@ pub fn place<P: Pages, R: Ruler>(
     requires dim { (P.shelf pages.old).dim ≡ head.now.dim }
     requires pages { (P.shelf pages.old).pages ≡ live.now.pages }
     requires numbers { AreNumbers live.now.pages numbers.now }
-    requires outside { IsTrue (P.shelf pages.old).tells → AreOutside (nodes_of (P.shelf pages.old).read) live.now numbers.now }
+    requires outside { IsTrue (P.shelf pages.old).tells → IsSoundTree (R.M.space (R.metric ruler.old)) (nodes_of (P.shelf pages.old).read) live.now → AreOutside (nodes_of (P.shelf pages.old).read) live.now numbers.now }
 
     ensures metric { R.metric ruler.new ≡ R.metric ruler.old }
     ensures asked { HasAsked (live.now.height + 1) (P.shelf pages.old) (P.shelf pages.new) }

@@ -36,7 +36,7 @@ returns-clause-placement g c =
 
 pub returns-clause-apart : goal.returns-clause-apart
 returns-clause-apart g c = λ tells sound.
-    staged_out (nodes_of (g.P.Pages.shelf c.args.pages.now).read) c.args.live.now c.args.numbers.now c.in_ok-grown.grown.written.nodes.items c.in_ok-placed.placed.staged c.in_ok-placed.ensures.staged (c.requires.outside tells) sound.within
+    staged_out (nodes_of (g.P.Pages.shelf c.args.pages.now).read) c.args.live.now c.args.numbers.now c.in_ok-grown.grown.written.nodes.items c.in_ok-placed.placed.staged c.in_ok-placed.ensures.staged (c.requires.outside tells sound) sound.within
 
 pub returns-clause-walked : goal.returns-clause-walked
 returns-clause-walked g c = λ tells.
@@ -52,7 +52,7 @@ returns-clause-inserted g c = λ tells sound new over.
     c.in_ok-placed.ensures.staged (ap (λ (n : Live). n.root) c.in_ok-placed.ensures.next) (ap (λ (n : Live). n.height) c.in_ok-placed.ensures.next) (ap (λ (n : Live). n.count) c.in_ok-placed.ensures.next)
     (g.R.M.Metric.axioms (g.R.Ruler.metric c.args.ruler.now)) c.requires.fits (rules_same (g.R.M.Metric.space (g.R.Ruler.metric c.args.ruler.now)) c.args.head.now.promote c.args.head.now.split c.fill.result.most c.fill.result.least c.args.head.now.dim c.fill.ensures.most c.fill.ensures.least c.requires.words) refl sound
     (number_up c.args.numbers.now c.args.live.now.pages c.requires.numbers)
-    (given_out (nodes_of (g.P.Pages.shelf c.args.pages.now).read) c.args.live.now c.args.numbers.now (c.requires.outside tells) sound.within)
+    (given_out (nodes_of (g.P.Pages.shelf c.args.pages.now).read) c.args.live.now c.args.numbers.now (c.requires.outside tells sound) sound.within)
     (λ i less. (let w = number_within c.args.numbers.now c.args.live.now.pages c.requires.numbers (omega (arith, low)) i (length c.in_ok-grown.grown.written.nodes.items) less in let a = w.0 in let b = w.1 in (a, omega (arith, b, wide))))
     (omega (arith, wide)) new over
 
