@@ -1,6 +1,6 @@
 -- The answers among a tree's objects are those of the scan of its points.
-use Rattle.std.proofs.Common.{◌≡◌, ℕ, zero, suc, ◌+◌, ◌<◌, ◌≤◌, Bool, true, false, List, [], ◌∷◌, refl, sym, ap, inl, inr, arith, ◌∙◌, length, take, min, length-take, get_or, subst}
-use Rattle.std.specs.Prelude.{IsTrue, nat_le, nat_lt, filter, if◌then◌else◌, ◌==◌}
+use Rattle.std.proofs.Common.{◌≡◌, ℕ, zero, suc, ◌+◌, ◌<◌, ◌≤◌, Bool, true, false, List, [], ◌∷◌, refl, sym, ap, inl, inr, arith, ◌∙◌, length, take, min, length-take, get_or}
+use Rattle.std.specs.Prelude.{IsTrue, nat_lt, filter, if◌then◌else◌, ◌==◌}
 use Rattle.std.specs.List.{AllByRecursion}
 use Rattle.std.proofs.lemmas.Bool.Decides.{nat_tests}
 use Rattle.metric_laws.specs.Space.{Space, IsSpace, bound}
@@ -110,9 +110,9 @@ module _ (es : List LeafEntry) (count : ℕ) (ids : AreIds es count) where
         (rising_hits (range_hits s points q rho) (range_answers s points q rho).0)
         (rising-filter hit_before hit_order (is_within rho) all (rising_hits all (range_answers s points q bound).0))
         (λ z k. let a = ((range_answers s points q rho).1 z).0 k in
-            filter-in (is_within rho) all z (((range_answers s points q bound).1 z).1 (wider z a)) (near z a.within))
+        filter-in (is_within rho) all z (((range_answers s points q bound).1 z).1 (wider z a)) (near z a.within))
         (λ z k. let w = in-filter (is_within rho) all z k in
-            ((range_answers s points q rho).1 z).1 (nearer z (((range_answers s points q bound).1 z).0 w.0) w.1))
+        ((range_answers s points q rho).1 z).1 (nearer z (((range_answers s points q bound).1 z).0 w.0) w.1))
       where
         wider : (z : Hit) → IsRangeAnswer s points q rho z → IsRangeAnswer s points q bound z
         wider z a = record { object = a.object; dist = a.dist; within = (let w = a.within in omega arith) }
@@ -142,7 +142,7 @@ module _ (es : List LeafEntry) (count : ℕ) (ids : AreIds es count) where
     short_list k rho answers low full is =
         let near : answers ≡ take k (filter (is_within rho) (range_hits s points q bound)) = is ∙ ap (take k) (named_near rho low) in
         let long : k ≤ length (filter (is_within rho) (range_hits s points q bound)) =
-                (let e = ap length near in omega (arith, length-take k (filter (is_within rho) (range_hits s points q bound)))) in
+        (let e = ap length near in omega (arith, length-take k (filter (is_within rho) (range_hits s points q bound)))) in
         near ∙ take-near rho k (range_hits s points q bound) scan_rises long
 
     pub whole_list : (k : ℕ) → take k (in_order hit_before (answers_in (search_at s q bound) es)) ≡ nearest_hits s points q k

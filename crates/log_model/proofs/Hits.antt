@@ -1,6 +1,6 @@
 -- Lists of hits in order: their near part, their first k, and the last of them.
-use Rattle.std.proofs.Common.{◌≡◌, ℕ, zero, suc, ◌+◌, ◌-◌, ◌<◌, ◌≤◌, Bool, true, false, cond, List, [], ◌∷◌, ◌++◌, refl, sym, ap, inl, inr, arith, ◌∙◌, length, min, take, drop, subst, Option, Some, None, sub-one, length-take}
-use Rattle.std.specs.Prelude.{IsTrue, filter, nat_le, slice_get}
+use Rattle.std.proofs.Common.{◌≡◌, ℕ, zero, suc, ◌-◌, ◌≤◌, Bool, true, false, cond, List, [], ◌∷◌, refl, ap, inl, inr, arith, ◌∙◌, length, min, take, Option, Some, None, sub-one}
+use Rattle.std.specs.Prelude.{IsTrue, filter, slice_get}
 use Rattle.std.specs.List.{AllByRecursion}
 use Rattle.std.specs.Option.{option_map_or}
 use Rattle.std.proofs.lemmas.Bool.Decides.{nat_tests}
@@ -12,7 +12,7 @@ use Rattle.scan_model.specs.Scan.{is_within}
 use Rattle.scan_model.specs.Laws.{Ascends}
 use Rattle.log_model.specs.InOrder.{hit_before}
 use Rattle.log_model.specs.Sound.{last_dist}
-use Rattle.log_model.proofs.Order.{IsRising, before_all, all_before}
+use Rattle.log_model.proofs.Order.{IsRising, before_all}
 use Rattle.log_model.proofs.Orders.{hit_order}
 
 abbrev pub Rising : List Hit → Type 0
@@ -36,7 +36,7 @@ take-near r (suc k) (x ∷ xs) up many = cases (is_within r x) refl (take-near r
     cases true e ih many = ap (λ t. x ∷ t) (ih (omega arith))
     cases false e ih many =
         let none : filter (is_within r) xs ≡ [] =
-                filter_none (is_within r) xs (all_weaker (λ y. IsTrue (hit_before x y)) (λ y. is_within r y ≡ false) xs (λ y b. before_within r x y b e) up.0) in
+        filter_none (is_within r) xs (all_weaker (λ y. IsTrue (hit_before x y)) (λ y. is_within r y ≡ false) xs (λ y b. before_within r x y b e) up.0) in
         let short : suc k ≤ 0 = rw none at many in
         absurd (omega arith)
 

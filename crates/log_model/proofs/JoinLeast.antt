@@ -1,7 +1,7 @@
 -- Two sound trees have exactly one least log of a join.
-use Rattle.std.proofs.Common.{◌≡◌, ℕ, zero, suc, ◌+◌, ◌<◌, ◌≤◌, Bool, true, false, cond, List, [], ◌∷◌, ◌++◌, refl, sym, ap, subst, ◌∙◌, Option, Some, None, arith}
-use Rattle.std.specs.Prelude.{IsTrue, not, map, filter, if◌then◌else◌, nat_le, nat_lt, ◌&&◌}
-use Rattle.std.specs.List.{AllByRecursion, AllZip}
+use Rattle.std.proofs.Common.{◌≡◌, ℕ, zero, suc, ◌+◌, ◌<◌, Bool, true, false, cond, List, [], ◌∷◌, ◌++◌, refl, sym, ap, subst, ◌∙◌, Option, Some, arith}
+use Rattle.std.specs.Prelude.{IsTrue, not, map, filter, if◌then◌else◌, nat_le, ◌&&◌}
+use Rattle.std.specs.List.{AllByRecursion}
 use Rattle.std.proofs.lemmas.Bool.Decides.{nat_tests}
 use Rattle.metric_laws.specs.Space.{Space, IsSpace}
 use Rattle.metric_laws.specs.Pruning.{pair_rules_out}
@@ -23,12 +23,12 @@ use Rattle.log_model.specs.declared.pairs.Item.TheVariants.{Subtree, Object}
 use Rattle.log_model.specs.declared.pairs.JoinNeed.{JoinNeed}
 use Rattle.log_model.specs.InOrder.{in_order, pair_before}
 use Rattle.log_model.specs.Walk.{near_ones}
-use Rattle.log_model.specs.JoinWalk.{JoinSearch, JoinRule, JoinAllowed, JoinLeast, JoinWalksBy, Entry, object_entry, subtree_entry, entries_of, rank_of, centre_of, radius_of, page_of, apart_of, opens_right, opened, other, with_entry, is_object, is_hit, is_need, far_apart, within_apart, join_skips, join_far, allows_entry, least_for_entry, join_needs, join_hits, side_of}
-use Rattle.log_model.specs.SoundJoin.{IsJoinLogBy, IsSoundJoinLog, IsLeastJoinLog, join_at, root_pair}
+use Rattle.log_model.specs.JoinWalk.{JoinSearch, JoinRule, JoinAllowed, JoinLeast, JoinWalksBy, Entry, object_entry, subtree_entry, entries_of, rank_of, centre_of, radius_of, page_of, apart_of, opens_right, opened, with_entry, is_object, is_hit, is_need, far_apart, within_apart, join_skips, join_far, allows_entry, least_for_entry, join_needs, join_hits, side_of}
+use Rattle.log_model.specs.SoundJoin.{IsLeastJoinLog, join_at, root_pair}
 use Rattle.log_model.specs.Laws.{LeastJoinLogsAreSound, LeastJoinLogIsOne}
 use Rattle.log_model.proofs.Least.{zip-map}
 use Rattle.log_model.proofs.Walk.{same_node}
-use Rattle.log_model.proofs.JoinNames.{IsSoundItem, IsSoundNeed, IsGood, Member, with_side, opened_side, other_side, near_good, item_opens, opens_some}
+use Rattle.log_model.proofs.JoinNames.{IsSoundItem, IsGood, with_side, opened_side, other_side, near_good, item_opens, opens_some}
 use Rattle.log_model.proofs.JoinScan.{join_complete, roots_sound}
 
 -- the least mark is allowed
@@ -116,7 +116,7 @@ join_least_same j left right (n ∷ ns) (r ∷ rs) (r' ∷ rs') hits hits' walk 
     let page : r.page ≡ r'.page = walk.3 ∙ sym walk'.3 in
     let needs : join_needs j n walk'.0 r'.marks ++ ns ≡ join_needs j n walk.0 r.marks ++ ns = (λ i. join_needs j n (sym node i) (sym marks i) ++ ns) in
     let rest = join_least_same j left right (join_needs j n walk.0 r.marks ++ ns) rs rs' walk.5.0 walk'.5.0 walk.5.1
-            (subst (λ (ms : List JoinNeed). JoinWalksBy JoinLeast j left right ms rs' walk'.5.0) needs walk'.5.1) in
+    (subst (λ (ms : List JoinNeed). JoinWalksBy JoinLeast j left right ms rs' walk'.5.0) needs walk'.5.1) in
     λ i. record { right = side i; page = page i; marks = marks i } ∷ rest i
 
 -- a walk with the least marks ends on two sound trees: the ranks of a pair that is needed are less than those of the pair
@@ -243,7 +243,7 @@ module _ (s : Space) (left right : Nodes) (l r : Live) (radius : ℕ) (axioms : 
       let two = join_complete s left right l r b axioms lsound rsound (join_least_sound s left right l r radius b second) in
       let answers_same : a.answers ≡ b.answers = one ∙ ap (λ (d : ℕ). join_pairs s (points_by_id left l) (points_by_id right r) d) radius_same ∙ sym two in
       let records_same = join_least_same (join_at s b.r) left right (root_pair l r ∷ []) a.records b.records first.1.hits second.1.hits
-              (subst (λ (d : ℕ). JoinWalksBy JoinLeast (join_at s d) left right (root_pair l r ∷ []) a.records first.1.hits) radius_same first.1.walk) second.1.walk in
+      (subst (λ (d : ℕ). JoinWalksBy JoinLeast (join_at s d) left right (root_pair l r ∷ []) a.records first.1.hits) radius_same first.1.walk) second.1.walk in
       let left_generation : a.left.0 ≡ b.left.0 = first.1.left_generation_is ∙ sym second.1.left_generation_is in
       let left_root : a.left.1 ≡ b.left.1 = first.1.left_root_is ∙ sym second.1.left_root_is in
       let right_generation : a.right.0 ≡ b.right.0 = first.1.right_generation_is ∙ sym second.1.right_generation_is in

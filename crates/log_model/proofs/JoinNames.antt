@@ -1,17 +1,17 @@
 -- A sound join walk names the pairs within the radius.
-use Rattle.std.proofs.Common.{◌≡◌, ℕ, zero, suc, ◌+◌, ◌-◌, ◌<◌, ◌≤◌, ◌⊎◌, Bool, true, false, cond, List, [], ◌∷◌, ◌++◌, refl, sym, ap, inl, inr, arith, ◌∙◌, subst, Option, Some, None}
-use Rattle.std.specs.Prelude.{IsTrue, not, map, filter, nat_le, nat_lt, if◌then◌else◌, ◌==◌, ◌&&◌}
+use Rattle.std.proofs.Common.{◌≡◌, ℕ, zero, suc, ◌+◌, ◌<◌, ◌≤◌, ◌⊎◌, Bool, true, false, cond, List, [], ◌∷◌, ◌++◌, refl, sym, ap, inl, inr, arith, ◌∙◌, subst, Option, Some, None}
+use Rattle.std.specs.Prelude.{IsTrue, not, map, filter, nat_le, nat_lt, if◌then◌else◌, ◌&&◌}
 use Rattle.std.specs.List.{AllByRecursion, AllZip, flat_map}
 use Rattle.std.proofs.lemmas.Bool.Decides.{nat_tests}
 use Rattle.metric_laws.specs.Space.{Space, IsSpace}
 use Rattle.metric_laws.specs.Pruning.{pair_rules_out, parent_rules_out}
 use Rattle.metric_laws.specs.Lists.{IsIn}
-use Rattle.metric_laws.proofs.Lists.{all_weaker, all_in, in-append_left, in-append_right, in-append, in-map, map-in}
+use Rattle.metric_laws.proofs.Lists.{all_in, in-append_left, in-append_right, in-append}
 use Rattle.tree_shape.specs.declared.entry.LeafEntry.{LeafEntry}
 use Rattle.tree_shape.specs.declared.entry.InnerEntry.{InnerEntry}
 use Rattle.tree_shape.specs.declared.entry.Node.{Node}
 use Rattle.tree_shape.specs.declared.entry.Node.TheVariants.{Leaf, Inner}
-use Rattle.tree_shape.specs.Tree.{Nodes, IsSoundAt, IsSoundObject, objects_at, parent_distance, leaf_entries, inner_entries}
+use Rattle.tree_shape.specs.Tree.{Nodes, IsSoundAt, IsSoundObject, objects_at, parent_distance}
 use Rattle.tree_shape.specs.Fill.{least_for}
 use Rattle.tree_shape.proofs.Within.{SoundSubtree, objects_fit}
 use Rattle.log_model.specs.declared.marks.Mark.{Mark}
@@ -23,7 +23,7 @@ use Rattle.log_model.specs.declared.pairs.Item.{Item}
 use Rattle.log_model.specs.declared.pairs.Item.TheVariants.{Subtree, Object}
 use Rattle.log_model.specs.declared.pairs.JoinNeed.{JoinNeed}
 use Rattle.log_model.specs.declared.marks.JoinRecord.{JoinRecord}
-use Rattle.log_model.specs.JoinWalk.{JoinSearch, rank_of, centre_of, radius_of, page_of, apart_of, Entry, object_entry, subtree_entry, entries_of, opens_right, opened, other, with_entry, is_object, is_hit, is_need, far_apart, far_stored, within_apart, id_of, dist_of, join_far, join_skips, allows_entry, JoinAllowed, pair_of, join_needs, join_hits, side_of, JoinWalksBy}
+use Rattle.log_model.specs.JoinWalk.{JoinSearch, rank_of, centre_of, radius_of, page_of, apart_of, Entry, object_entry, subtree_entry, entries_of, opens_right, with_entry, is_object, is_hit, is_need, far_apart, far_stored, within_apart, id_of, dist_of, join_far, join_skips, allows_entry, JoinAllowed, pair_of, join_needs, join_hits, side_of, JoinWalksBy}
 
 -- an object by its id and its point
 pub record Thing : Type 0 where
@@ -104,7 +104,7 @@ module _ (s : Space) (axioms : IsSpace s) where
       let x = all_in (IsHeld s c (radius_of a)) (item_things left a) p.x (held_item left a c a_sound a_is) p.x_in in
       let y = all_in (IsHeld s d (radius_of b)) (item_things right b) p.y (held_item right b d b_sound b_is) p.y_in in
       numbers (s.dist c d) (s.dist c p.x.point) (s.dist p.x.point d) (s.dist p.x.point p.y.point) (s.dist p.y.point d) (s.dist p.x.point c) (radius_of a) (radius_of b)
-          (axioms.triangle c p.x.point d c_fits x.0 d_fits) (axioms.triangle p.x.point p.y.point d x.0 y.0 d_fits) (axioms.symmetric c p.x.point c_fits x.0) x.1 y.1 p.near far
+      (axioms.triangle c p.x.point d c_fits x.0 d_fits) (axioms.triangle p.x.point p.y.point d x.0 y.0 d_fits) (axioms.symmetric c p.x.point c_fits x.0) x.1 y.1 p.near far
     where
       numbers : (cd cx xd xy yd xc ra rb : ℕ) → cd ≤ cx + xd → xd ≤ xy + yd → cx ≡ xc → xc ≤ ra → yd ≤ rb → xy ≤ rho → rho + ra + rb < cd → ⊥
       numbers cd cx xd xy yd xc ra rb t1 t2 e a b n f = omega arith
@@ -117,9 +117,16 @@ module _ (s : Space) (axioms : IsSpace s) where
   pub inner_members : (nodes : Nodes) (h : ℕ) (above : Option (List ℕ)) (es : List InnerEntry) → AllByRecursion (SoundSubtree s nodes h above) es →
       AllByRecursion (IsSoundMember s nodes above) (map (subtree_entry (suc h)) es)
   inner_members nodes h above [] all = tt
-  inner_members nodes h above (e ∷ es) all =
-      (record { centre = e.point; centre_is = refl; fits = all.0.0.point_fits; stored_is = all.0.0.parent_is;
-          item = record { height = h; least = least_for s.words; rank_is = refl; sound = all.0.1; fits = all.0.0.point_fits; covers = all.0.0.covers } }, inner_members nodes h above es all.1)
+  inner_members nodes h above (e ∷ es) all = (
+    record {
+      centre = e.point;
+      centre_is = refl;
+      fits = all.0.0.point_fits;
+      stored_is = all.0.0.parent_is;
+      item = record { height = h; least = least_for s.words; rank_is = refl; sound = all.0.1; fits = all.0.0.point_fits; covers = all.0.0.covers };
+    },
+    inner_members nodes h above es all.1,
+  )
 
   -- the entries of a sound page
   pub members : (nodes : Nodes) (h least : ℕ) (above : Option (List ℕ)) (page : ℕ) (node : Node) → IsSoundAt s nodes h least above page → nodes page ≡ Some node →
@@ -157,13 +164,15 @@ pub in_split : (nodes : Nodes) (es : List Entry) (x : Thing) → IsIn x (flat_ma
 in_split nodes [] x i = absurd i
 in_split nodes (e ∷ es) x i =
     elim (in-append (item_things nodes e.item) (flat_map (λ e. item_things nodes e.item) es) x i)
-        [ inl k ↦ (e, inl refl, k) | inr k ↦ (let deep = in_split nodes es x k in (deep.0, inr deep.1, deep.2)) ]
+    [ inl k ↦ (e, inl refl, k) | inr k ↦ (let deep = in_split nodes es x k in (deep.0, inr deep.1, deep.2)) ]
 
 pub split_in : (nodes : Nodes) (es : List Entry) (e : Entry) (x : Thing) → IsIn e es → IsIn x (item_things nodes e.item) → IsIn x (flat_map (λ e. item_things nodes e.item) es)
 split_in nodes [] e x k i = absurd k
 split_in nodes (d ∷ es) e x k i =
-    elim k [ inl same ↦ in-append_left (item_things nodes d.item) (flat_map (λ e. item_things nodes e.item) es) x (subst (λ (v : Entry). IsIn x (item_things nodes v.item)) same i)
-           | inr w ↦ in-append_right (item_things nodes d.item) (flat_map (λ e. item_things nodes e.item) es) x (split_in nodes es e x w i) ]
+    elim k [
+      | inl same ↦ in-append_left (item_things nodes d.item) (flat_map (λ e. item_things nodes e.item) es) x (subst (λ (v : Entry). IsIn x (item_things nodes v.item)) same i)
+      | inr w ↦ in-append_right (item_things nodes d.item) (flat_map (λ e. item_things nodes e.item) es) x (split_in nodes es e x w i)
+    ]
 
 -- a pair among those of these needs
 abbrev pub AnyPair : Space → ℕ → Nodes → Nodes → List JoinNeed → Pair → Type 0
@@ -232,16 +241,16 @@ module _ (j : JoinSearch) (axioms : IsSpace j.space) (left right : Nodes) where
           let d_fits = item_fits j.space right n.right d sound.right_sound k in
           let stored : e.stored ≡ j.space.dist m.centre d = m.stored_is ∙ ap (λ (o : Option (List ℕ)). parent_distance j.space o m.centre) k in
           let far = skip_numbers (j.space.dist c d) (j.space.dist m.centre d) (j.space.dist c m.centre) e.stored j.rho (radius_of e.item + radius_of n.left) stored t
-                  (let u = axioms.triangle c m.centre d c_fits m.fits d_fits in omega arith)
-                  (let u = axioms.triangle m.centre c d m.fits c_fits d_fits in let v = axioms.symmetric m.centre c m.fits c_fits in omega arith) in
+          (let u = axioms.triangle c m.centre d c_fits m.fits d_fits in omega arith)
+          (let u = axioms.triangle m.centre c d m.fits c_fits d_fits in let v = axioms.symmetric m.centre c m.fits c_fits in omega arith) in
           far_none j.space axioms j.rho left right n.left e.item c m.centre sound.left_sound m.item i m.centre_is c_fits m.fits (omega arith) z p
       sides false (Some c) (Some d) i k m t p =
           let c_fits = item_fits j.space left n.left c sound.left_sound i in
           let d_fits = item_fits j.space right n.right d sound.right_sound k in
           let stored : e.stored ≡ j.space.dist m.centre c = m.stored_is ∙ ap (λ (o : Option (List ℕ)). parent_distance j.space o m.centre) i in
           let far = skip_numbers (j.space.dist c d) (j.space.dist m.centre c) (j.space.dist m.centre d) e.stored j.rho (radius_of e.item + radius_of n.right) stored t
-                  (let u = axioms.triangle c m.centre d c_fits m.fits d_fits in let v = axioms.symmetric c m.centre c_fits m.fits in omega arith)
-                  (let u = axioms.triangle m.centre d c m.fits d_fits c_fits in let v = axioms.symmetric d c d_fits c_fits in omega arith) in
+          (let u = axioms.triangle c m.centre d c_fits m.fits d_fits in let v = axioms.symmetric c m.centre c_fits m.fits in omega arith)
+          (let u = axioms.triangle m.centre d c m.fits d_fits c_fits in let v = axioms.symmetric d c d_fits c_fits in omega arith) in
           far_none j.space axioms j.rho left right e.item n.right m.centre d m.item sound.right_sound m.centre_is k m.fits d_fits (omega arith) z p
 
   -- the pair with an entry is sound
@@ -279,6 +288,7 @@ module _ (j : JoinSearch) (axioms : IsSpace j.space) (left right : Nodes) where
         where
           only : (x y : Thing) → IsIn x (y ∷ []) → x ≡ y
           only x y w = elim w [ inl e ↦ e | inr f ↦ absurd f ]
+
           same : p.x ≡ record { id = i; point = u } → p.y ≡ record { id = k; point = v } →
               ◌≡◌ {A = Pair} (record { left = p.x.id; right = p.y.id; dist = j.space.dist p.x.point p.y.point }) (record { left = i; right = k; dist = j.space.dist u v })
           same f g = cc
@@ -327,14 +337,20 @@ module _ (j : JoinSearch) (axioms : IsSpace j.space) (left right : Nodes) where
     entries_named [] ms members allowed z e k p = absurd k
     entries_named (d ∷ es) [] members allowed z e k p = absurd allowed
     entries_named (d ∷ es) (Skip ∷ ms) members allowed z e k p =
-        elim k [ inl same ↦ absurd (skip_pair n sound d members.0 allowed.0 z (subst (λ (v : Entry). PairIn (with_entry j.space n v) z) same p))
-               | inr w ↦ entries_named es ms members.1 allowed.1 z e w p ]
+        elim k [
+          | inl same ↦ absurd (skip_pair n sound d members.0 allowed.0 z (subst (λ (v : Entry). PairIn (with_entry j.space n v) z) same p))
+          | inr w ↦ entries_named es ms members.1 allowed.1 z e w p
+        ]
     entries_named (d ∷ es) (Far ∷ ms) members allowed z e k p =
-        elim k [ inl same ↦ absurd (far_pair n sound d members.0 allowed.0 z (subst (λ (v : Entry). PairIn (with_entry j.space n v) z) same p))
-               | inr w ↦ entries_named es ms members.1 allowed.1 z e w p ]
+        elim k [
+          | inl same ↦ absurd (far_pair n sound d members.0 allowed.0 z (subst (λ (v : Entry). PairIn (with_entry j.space n v) z) same p))
+          | inr w ↦ entries_named es ms members.1 allowed.1 z e w p
+        ]
     entries_named (d ∷ es) (Near ∷ ms) members allowed z e k p =
-        elim k [ inl same ↦ named_here (with_entry j.space n d) (near_of es ms) (next_sound n sound d members.0) z (subst (λ (v : Entry). PairIn (with_entry j.space n v) z) same p)
-               | inr w ↦ named_more (with_entry j.space n d) (near_of es ms) z (entries_named es ms members.1 allowed.1 z e w p) ]
+        elim k [
+          | inl same ↦ named_here (with_entry j.space n d) (near_of es ms) (next_sound n sound d members.0) z (subst (λ (v : Entry). PairIn (with_entry j.space n v) z) same p)
+          | inr w ↦ named_more (with_entry j.space n d) (near_of es ms) z (entries_named es ms members.1 allowed.1 z e w p)
+        ]
 
     abbrev pub EntryPair : List Entry → Pair → Type 0
     EntryPair es z = (e : Entry) × IsIn e es × PairIn (with_entry j.space n e) z
@@ -349,7 +365,7 @@ module _ (j : JoinSearch) (axioms : IsSpace j.space) (left right : Nodes) where
     named_entries (d ∷ es) (Far ∷ ms) members allowed z named = later d es z (named_entries es ms members.1 allowed.1 z named)
     named_entries (d ∷ es) (Near ∷ ms) members allowed z named =
         elim (unnamed (with_entry j.space n d) (near_of es ms) (next_sound n sound d members.0) allowed.0 z named)
-            [ inl p ↦ (d, inl refl, p) | inr w ↦ later d es z (named_entries es ms members.1 allowed.1 z w) ]
+        [ inl p ↦ (d, inl refl, p) | inr w ↦ later d es z (named_entries es ms members.1 allowed.1 z w) ]
 
   -- needed pairs are sound, and not of two objects
   abbrev pub IsGood : JoinNeed → Type 0
@@ -371,9 +387,10 @@ module _ (j : JoinSearch) (axioms : IsSpace j.space) (left right : Nodes) where
   pub item_opens : (nodes : Nodes) (it : Item) → IsSoundItem j.space nodes it → (rank_of it ≡ 0 → ⊥) → (node : Node) → nodes (page_of it) ≡ Some node →
       AllByRecursion (IsSoundMember j.space nodes (centre_of it)) (entries_of node) × (item_things nodes it ≡ flat_map (λ e. item_things nodes e.item) (entries_of node))
   item_opens nodes (Object id point) sound some node is = absurd (some refl)
-  item_opens nodes (Subtree page rank centre radius) sound some node is =
-      (members j.space axioms nodes sound.height sound.least centre page node sound.sound is,
-       rw sound.rank_is (split j.space axioms nodes sound.height sound.least centre page node sound.sound is))
+  item_opens nodes (Subtree page rank centre radius) sound some node is = (
+    members j.space axioms nodes sound.height sound.least centre page node sound.sound is,
+    rw sound.rank_is (split j.space axioms nodes sound.height sound.least centre page node sound.sound is),
+  )
 
   -- the item that is opened is none of rank 0
   pub opens_some : (n : JoinNeed) → IsSoundNeed j.space left right n → is_hit n ≡ false → rank_of (opened_side n (opens_right n)) ≡ 0 → ⊥
@@ -435,24 +452,31 @@ module _ (j : JoinSearch) (axioms : IsSpace j.space) (left right : Nodes) where
       let es : List Entry = entries_of node in
       let ms : List Mark = r.marks in
       let rest = join_names rs (join_needs j n node r.marks ++ ns) walk.5.0
-              (both (join_needs j n node r.marks) (near_good n good.0.0 es ms opens.0) good.1) walk.5.1 z in
-      (λ k. elim (in-append (join_hits j n node r.marks) walk.5.0 z (subst (λ (hs : List Pair). IsIn z hs) walk.5.2 k))
-           [ inl h ↦ inl (up opens.1 (named_entries n good.0.0 es ms opens.0 walk.4 z (inl h)))
-           | inr h ↦ elim (any_append (join_needs j n node r.marks) ns z (rest.0 h))
-                 [ inl u ↦ inl (up opens.1 (named_entries n good.0.0 es ms opens.0 walk.4 z (inr u))) | inr u ↦ inr u ] ],
-       λ k. subst (λ (hs : List Pair). IsIn z hs) (sym walk.5.2)
-           (elim k [ inl p ↦ (let e = to_entry n es z opens.1 p in
-                 elim (entries_named n good.0.0 es ms opens.0 walk.4 z e.0 e.1 e.2)
-                     [ inl h ↦ in-append_left (join_hits j n node r.marks) walk.5.0 z h
-                     | inr u ↦ in-append_right (join_hits j n node r.marks) walk.5.0 z (rest.1 (append_left (join_needs j n node r.marks) ns z u)) ])
-             | inr w ↦ in-append_right (join_hits j n node r.marks) walk.5.0 z (rest.1 (append_right (join_needs j n node r.marks) ns z w)) ]))
+      (both (join_needs j n node r.marks) (near_good n good.0.0 es ms opens.0) good.1) walk.5.1 z in (
+        λ k. elim (in-append (join_hits j n node r.marks) walk.5.0 z (subst (λ (hs : List Pair). IsIn z hs) walk.5.2 k)) [
+          | inl h ↦ inl (up opens.1 (named_entries n good.0.0 es ms opens.0 walk.4 z (inl h)))
+          | inr h ↦ elim (any_append (join_needs j n node r.marks) ns z (rest.0 h))
+              [ inl u ↦ inl (up opens.1 (named_entries n good.0.0 es ms opens.0 walk.4 z (inr u))) | inr u ↦ inr u ]
+        ],
+        λ k. subst (λ (hs : List Pair). IsIn z hs) (sym walk.5.2)
+            (elim k [
+              | inl p ↦ (let e = to_entry n es z opens.1 p in
+                  elim (entries_named n good.0.0 es ms opens.0 walk.4 z e.0 e.1 e.2) [
+                    | inl h ↦ in-append_left (join_hits j n node r.marks) walk.5.0 z h
+                    | inr u ↦ in-append_right (join_hits j n node r.marks) walk.5.0 z (rest.1 (append_left (join_needs j n node r.marks) ns z u))
+                  ])
+              | inr w ↦ in-append_right (join_hits j n node r.marks) walk.5.0 z (rest.1 (append_right (join_needs j n node r.marks) ns z w))
+            ]),
+      )
     where
       item_sound : (b : Bool) → IsSoundItem j.space (side_of left right b) (opened_side n b)
       item_sound true = good.0.0.right_sound
       item_sound false = good.0.0.left_sound
+
       both : (xs : List JoinNeed) → AllByRecursion IsGood xs → AllByRecursion IsGood ns → AllByRecursion IsGood (xs ++ ns)
       both [] a b = b
       both (x ∷ xs) a b = (a.0, both xs a.1 b)
+
       up : item_things (side_of left right (opens_right n)) (opened_side n (opens_right n)) ≡ flat_map (λ e. item_things (side_of left right (opens_right n)) e.item) (entries_of walk.0) →
           (e : Entry) × IsIn e (entries_of walk.0) × PairIn (with_entry j.space n e) z → PairIn n z
       up whole e = from_entry n (entries_of walk.0) z whole e.0 e.1 e.2

@@ -1,8 +1,7 @@
 -- On two sound trees a sound join log names the double loop's answers, and there is one least log.
-use Rattle.std.proofs.Common.{◌≡◌, ℕ, zero, suc, ◌+◌, ◌<◌, ◌≤◌, Bool, true, false, cond, List, [], ◌∷◌, ◌++◌, refl, sym, ap, inl, inr, arith, ◌∙◌, subst, min, Option, Some, None, get_or}
-use Rattle.std.specs.Prelude.{IsTrue, not, map, filter, nat_lt, ◌==◌, ◌&&◌}
+use Rattle.std.proofs.Common.{◌≡◌, ℕ, suc, ◌+◌, ◌<◌, List, [], ◌∷◌, refl, sym, inl, inr, arith, ◌∙◌, subst, min, None, get_or}
+use Rattle.std.specs.Prelude.{IsTrue, map}
 use Rattle.std.specs.List.{AllByRecursion}
-use Rattle.std.proofs.lemmas.Bool.Decides.{nat_tests}
 use Rattle.metric_laws.specs.Space.{Space, IsSpace, bound}
 use Rattle.metric_laws.specs.Lists.{IsIn}
 use Rattle.metric_laws.proofs.Lists.{all_in, in-map, map-in}
@@ -15,10 +14,8 @@ use Rattle.tree_shape.specs.declared.entry.LeafEntry.{LeafEntry}
 use Rattle.tree_shape.specs.Fill.{root_least}
 use Rattle.tree_shape.specs.Tree.{Nodes, IsSoundTree, objects, points_from, points_by_id}
 use Rattle.tree_shape.proofs.Within.{objects_fit}
-use Rattle.log_model.specs.declared.pairs.JoinNeed.{JoinNeed}
 use Rattle.log_model.specs.InOrder.{in_order, pair_before}
-use Rattle.log_model.specs.JoinWalk.{JoinSearch, JoinAllowed, JoinWalksBy}
-use Rattle.log_model.specs.SoundJoin.{IsJoinLogBy, IsSoundJoinLog, join_at, root_pair}
+use Rattle.log_model.specs.SoundJoin.{join_at, root_pair}
 use Rattle.log_model.specs.Laws.{SoundJoinLogsAreComplete}
 use Rattle.log_model.proofs.Order.{rising_same, rising-in_order, in-in_order, in_order-keeps}
 use Rattle.log_model.proofs.Orders.{pair_order, rising_pairs}
@@ -41,8 +38,7 @@ point_thing : (s : Space) (es : List LeafEntry) (count : ℕ) → AreIds es coun
     IsIn (record { id = id; point = get_or (points_from es 0 count) id [] }) (map thing_of es) × IsTrue (s.fits (get_or (points_from es 0 count) id []))
 point_thing s es count ids fit id low =
     let here = at_id es count ids id low in
-    let same : ◌≡◌ {A = Thing} (thing_of here.0) (record { id = id; point = get_or (points_from es 0 count) id [] }) = (λ i. record { id = here.2 i; point = sym here.3 i }) in
-    (
+    let same : ◌≡◌ {A = Thing} (thing_of here.0) (record { id = id; point = get_or (points_from es 0 count) id [] }) = (λ i. record { id = here.2 i; point = sym here.3 i }) in (
       subst (λ (y : Thing). IsIn y (map thing_of es)) same (map-in thing_of es here.0 here.1),
       subst (λ (p : List ℕ). IsTrue (s.fits p)) (sym here.3) (all_in (λ o. IsTrue (s.fits o.point)) es here.0 fit here.1),
     )
@@ -94,10 +90,10 @@ join_complete s left right l r log axioms lsound rsound wise =
     (rising-in_order pair_before pair_order wise.hits)
     (rising_pairs (join_pairs s (points_by_id left l) (points_by_id right r) log.r) (join_answers s (points_by_id left l) (points_by_id right r) log.r).0)
     (λ z k. ((join_answers s (points_by_id left l) (points_by_id right r) log.r).1 z).1
-        (answer_from_pair s axioms (objects left l) (objects right r) l.count r.count log.r lsound.ids rsound.ids fit git z (named z (in-in_order pair_before pair_order wise.hits z k))))
+    (answer_from_pair s axioms (objects left l) (objects right r) l.count r.count log.r lsound.ids rsound.ids fit git z (named z (in-in_order pair_before pair_order wise.hits z k))))
     (λ z k. in_order-keeps pair_before pair_order wise.hits z
-        (names z (pair_from_answer s axioms (objects left l) (objects right r) l.count r.count log.r lsound.ids rsound.ids fit git z
-            (((join_answers s (points_by_id left l) (points_by_id right r) log.r).1 z).0 k))))
+    (names z (pair_from_answer s axioms (objects left l) (objects right r) l.count r.count log.r lsound.ids rsound.ids fit git z
+    (((join_answers s (points_by_id left l) (points_by_id right r) log.r).1 z).0 k))))
   where
     fit : AllFit s (objects left l)
     fit = objects_fit s left l.height (root_least l.height) None l.root lsound.parts
@@ -115,7 +111,7 @@ join_complete s left right l r log axioms lsound rsound wise =
     named : (z : Pair) → IsIn z wise.hits → IsPairIn s (min log.r bound) (map thing_of (objects left l)) (map thing_of (objects right r)) z
     named z k =
         elim ((join_names (join_at s log.r) axioms left right log.records (root_pair l r ∷ []) wise.hits
-            ((roots_sound s left right l r lsound rsound, refl), tt) wise.walk z).0 k) [
+        ((roots_sound s left right l r lsound rsound, refl), tt) wise.walk z).0 k) [
           | inl p ↦ subst (λ (T : Type 0). T) (same z) p
           | inr w ↦ absurd w
         ]
@@ -123,4 +119,4 @@ join_complete s left right l r log axioms lsound rsound wise =
     names : (z : Pair) → IsPairIn s (min log.r bound) (map thing_of (objects left l)) (map thing_of (objects right r)) z → IsIn z wise.hits
     names z p =
         (join_names (join_at s log.r) axioms left right log.records (root_pair l r ∷ []) wise.hits
-            ((roots_sound s left right l r lsound rsound, refl), tt) wise.walk z).1 (inl (subst (λ (T : Type 0). T) (sym (same z)) p))
+        ((roots_sound s left right l r lsound rsound, refl), tt) wise.walk z).1 (inl (subst (λ (T : Type 0). T) (sym (same z)) p))

@@ -1,5 +1,5 @@
 -- The least marks are allowed, and there is one walk with them.
-use Rattle.std.proofs.Common.{◌≡◌, ℕ, zero, suc, ◌+◌, ◌<◌, ◌≤◌, Bool, true, false, List, [], ◌∷◌, ◌++◌, refl, sym, ap, ◌∙◌, Option, Some, None, arith, subst}
+use Rattle.std.proofs.Common.{◌≡◌, ℕ, Bool, true, false, List, [], ◌∷◌, ◌++◌, refl, sym, ap, ◌∙◌, Option, arith, subst}
 use Rattle.std.specs.Prelude.{IsTrue, map, if◌then◌else◌, nat_le}
 use Rattle.std.specs.List.{AllZip}
 use Rattle.std.proofs.lemmas.Bool.Decides.{nat_tests}
@@ -73,5 +73,5 @@ least_same f nodes (n ∷ ns) (r ∷ rs) (r' ∷ rs') hits hits' walk walk' =
     let needs : needs_of f walk'.0 r'.marks ++ ns ≡ needs_of f walk.0 r.marks ++ ns = cc in
     let named : hits_of f walk'.0 r'.marks ≡ hits_of f walk.0 r.marks = cc in
     let ih = least_same f nodes (needs_of f walk.0 r.marks ++ ns) rs rs' walk.4.0 walk'.4.0 walk.4.1
-            (subst (λ (ms : List Need). WalksBy AreLeast f nodes ms rs' walk'.4.0) needs walk'.4.1) in
+    (subst (λ (ms : List Need). WalksBy AreLeast f nodes ms rs' walk'.4.0) needs walk'.4.1) in
     (same_list r r' rs rs' page marks ih.0, walk.4.2 ∙ ap (λ t. hits_of f walk.0 r.marks ++ t) ih.1 ∙ ap (λ t. t ++ walk'.4.0) (sym named) ∙ sym walk'.4.2)

@@ -8,12 +8,11 @@ use Rattle.metric_laws.proofs.Lists.{all_weaker}
 use Rattle.scan_model.specs.declared.hit.Hit.{Hit}
 use Rattle.scan_model.specs.declared.query.Query.{Query}
 use Rattle.tree_shape.specs.declared.live.Live.{Live}
-use Rattle.tree_shape.specs.declared.entry.LeafEntry.{LeafEntry}
 use Rattle.tree_shape.specs.declared.entry.InnerEntry.{InnerEntry}
 use Rattle.tree_shape.specs.declared.entry.Node.{Node}
 use Rattle.tree_shape.specs.declared.entry.Node.TheVariants.{Leaf, Inner}
 use Rattle.tree_shape.specs.Fill.{least_for, root_least}
-use Rattle.tree_shape.specs.Tree.{Nodes, IsSoundAt, IsSoundTree, objects, objects_at, points_by_id}
+use Rattle.tree_shape.specs.Tree.{Nodes, IsSoundAt, IsSoundTree, objects, points_by_id}
 use Rattle.tree_shape.proofs.Within.{SoundSubtree, objects_fit}
 use Rattle.log_model.specs.declared.logs.Log.{Log}
 use Rattle.log_model.specs.declared.marks.Mark.{Mark}
@@ -22,7 +21,7 @@ use Rattle.log_model.specs.declared.marks.Record.{Record}
 use Rattle.log_model.specs.declared.marks.Need.{Need}
 use Rattle.log_model.specs.Grammar.{query_point}
 use Rattle.log_model.specs.Walk.{Search, WalksBy, AreAllowed, AreLeast, least_marks, near_ones, need_of, needs_of, hits_of, root_need}
-use Rattle.log_model.specs.Sound.{IsLogBy, IsSoundLog, IsLeastLog, search_for, selected}
+use Rattle.log_model.specs.Sound.{IsLeastLog, search_for, selected}
 use Rattle.log_model.specs.Laws.{SoundLogsAreComplete, LeastLogsAreSound, LeastLogIsOne, scan_answers}
 use Rattle.log_model.proofs.Walk.{walk_names, answers_in}
 use Rattle.log_model.proofs.ByScan.{complete, scan_selected}
@@ -128,7 +127,7 @@ module _ (s : Space) (nodes : Nodes) (live : Live) (query : Query) (axioms : IsS
       let answers_same : a.answers ≡ b.answers = first ∙ ap (λ (u : Query). scan_answers s u (points_by_id nodes live)) query_same ∙ sym second in
       let search_same : search_for s a.query a.answers ≡ search_for s b.query b.answers = (λ i. search_for s (query_same i) (answers_same i)) in
       let records_same = (least_same (search_for s b.query b.answers) nodes (root_need live.root ∷ []) a.records b.records left.1.hits right.1.hits
-              (subst (λ (g : Search). WalksBy AreLeast g nodes (root_need live.root ∷ []) a.records left.1.hits) search_same left.1.walk) right.1.walk).0 in
+      (subst (λ (g : Search). WalksBy AreLeast g nodes (root_need live.root ∷ []) a.records left.1.hits) search_same left.1.walk) right.1.walk).0 in
       let generation_same : a.generation ≡ b.generation = left.1.generation_is ∙ sym right.1.generation_is in
       let root_same : a.root ≡ b.root = left.1.root_is ∙ sym right.1.root_is in
       λ i. record { generation = generation_same i; root = root_same i; query = query_same i; answers = answers_same i; records = records_same i }

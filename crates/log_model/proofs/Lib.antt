@@ -9,3 +9,8 @@ pub mod LeastLog
 pub mod JoinNames
 pub mod JoinScan
 pub mod JoinLeast
+pub mod Sorting
+pub mod Examples
+pub mod OneEntry
+pub mod Reached
+pub mod Lawful

@@ -1,5 +1,5 @@
 -- Lists in ascending order are determined by their members.
-use Rattle.std.proofs.Common.{◌≡◌, ◌⊎◌, Bool, true, false, cond, List, [], ◌∷◌, refl, sym, inl, inr, ◌∙◌, take}
+use Rattle.std.proofs.Common.{◌≡◌, ◌⊎◌, Bool, true, false, cond, List, [], ◌∷◌, refl, sym, inl, inr, ◌∙◌}
 use Rattle.std.specs.Prelude.{IsTrue, if◌then◌else◌, filter}
 use Rattle.std.specs.List.{AllByRecursion}
 use Rattle.metric_laws.specs.Lists.{IsIn}
@@ -96,14 +96,28 @@ module _ {X : Type 0} (before : X → X → Bool) (order : IsOrder X before) whe
       λ i. head i ∷ tails i
     where
       heads : IsIn x (y ∷ ys) → IsIn y (x ∷ xs) → x ≡ y
-      heads k m = elim k [ inl e ↦ e | inr w ↦ elim m [ inl e ↦ sym e | inr u ↦
-          absurd (order.irreflexive x (order.trans x y x (before_all x xs up.0 y u) (before_all y ys vp.0 x w))) ] ]
+      heads k m = elim k [
+        | inl e ↦ e
+        | inr w ↦ elim m [
+          | inl e ↦ sym e
+          | inr u ↦
+              absurd (order.irreflexive x (order.trans x y x (before_all x xs up.0 y u) (before_all y ys vp.0 x w)))
+        ]
+      ]
+
       onward : x ≡ y → (z : X) → IsIn z xs → IsIn z ys
-      onward e z k = elim (to z (inr k)) [ inr w ↦ w | inl f ↦
-          absurd (order.irreflexive x (let g : z ≡ x = f ∙ sym e in rw g at (before_all x xs up.0 z k))) ]
+      onward e z k = elim (to z (inr k)) [
+        | inr w ↦ w
+        | inl f ↦
+            absurd (order.irreflexive x (let g : z ≡ x = f ∙ sym e in rw g at (before_all x xs up.0 z k)))
+      ]
+
       back : x ≡ y → (z : X) → IsIn z ys → IsIn z xs
-      back e z k = elim (from z (inr k)) [ inr w ↦ w | inl f ↦
-          absurd (order.irreflexive y (let g : z ≡ y = f ∙ e in rw g at (before_all y ys vp.0 z k))) ]
+      back e z k = elim (from z (inr k)) [
+        | inr w ↦ w
+        | inl f ↦
+            absurd (order.irreflexive y (let g : z ≡ y = f ∙ e in rw g at (before_all y ys vp.0 z k)))
+      ]
 
   pub rising-filter : (p : X → Bool) (xs : List X) → IsRising xs → IsRising (filter p xs)
   rising-filter p [] up = tt

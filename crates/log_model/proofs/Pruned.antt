@@ -1,5 +1,5 @@
 -- Entries that are not marked Near hold no answer.
-use Rattle.std.proofs.Common.{◌≡◌, ℕ, zero, suc, ◌+◌, ◌≤◌, ◌<◌, Bool, true, false, List, [], ◌∷◌, ◌++◌, refl, sym, ap, ◌∙◌, Option, Some, None, arith}
+use Rattle.std.proofs.Common.{◌≡◌, ℕ, ◌+◌, ◌≤◌, Bool, true, false, List, [], ◌∷◌, ◌++◌, refl, ap, Option, Some, None, arith}
 use Rattle.std.specs.Prelude.{IsTrue, nat_le, filter}
 use Rattle.std.specs.List.{AllByRecursion, AllZip, flat_map}
 use Rattle.std.proofs.lemmas.Bool.Decides.{nat_tests}
@@ -8,7 +8,7 @@ use Rattle.metric_laws.specs.Pruning.{parent_rules_out, centre_rules_out}
 use Rattle.metric_laws.proofs.Lists.{filter_none, all_weaker, all_both}
 use Rattle.tree_shape.specs.declared.entry.LeafEntry.{LeafEntry}
 use Rattle.tree_shape.specs.declared.entry.InnerEntry.{InnerEntry}
-use Rattle.tree_shape.specs.Tree.{Nodes, IsSoundAt, IsSoundObject, IsSoundEntry, objects_at, parent_distance, Covers}
+use Rattle.tree_shape.specs.Tree.{Nodes, IsSoundObject, objects_at, parent_distance}
 use Rattle.tree_shape.specs.Fill.{least_for}
 use Rattle.tree_shape.proofs.Within.{objects_fit, Fits, SoundSubtree}
 use Rattle.log_model.specs.declared.marks.Mark.{Mark}
@@ -48,9 +48,9 @@ module _ (f : Search) (axioms : IsSpace f.space) (q_fits : IsTrue (f.space.fits 
   skipped_far None fit e o e_fits o_fits stored radius is near skip = absurd (cc)
   skipped_far (Some u) fit e o e_fits o_fits stored radius is near skip =
       parent_far (away f o) (away f u) (f.space.dist e u) (away f e) (f.space.dist o e) stored f.rho radius is skip near
-          (rw (axioms.symmetric e u e_fits fit) (axioms.triangle u e f.point fit e_fits q_fits))
-          (rw (axioms.symmetric u f.point fit q_fits) (axioms.triangle e f.point u e_fits q_fits fit))
-          (rw (axioms.symmetric o e o_fits e_fits) (axioms.triangle e o f.point e_fits o_fits q_fits))
+      (rw (axioms.symmetric e u e_fits fit) (axioms.triangle u e f.point fit e_fits q_fits))
+      (rw (axioms.symmetric u f.point fit q_fits) (axioms.triangle e f.point u e_fits q_fits fit))
+      (rw (axioms.symmetric o e o_fits e_fits) (axioms.triangle e o f.point e_fits o_fits q_fits))
 
   -- the same of the centre test
   pub far_off : (e o : List ℕ) → IsTrue (f.space.fits e) → IsTrue (f.space.fits o) → (radius : ℕ) → f.space.dist o e ≤ radius →
@@ -92,15 +92,15 @@ module _ (f : Search) (axioms : IsSpace f.space) (q_fits : IsTrue (f.space.fits 
   inner_near nodes h above fit (e ∷ es) [] sound allowed = absurd allowed
   inner_near nodes h above fit (e ∷ es) (Skip ∷ ms) sound allowed =
       let none = filter_none (is_answer f) (objects_at nodes h e.child)
-              (all_weaker _ (λ o. is_answer f o ≡ false) (objects_at nodes h e.child)
-                  (λ o k. skipped_far above fit e.point o.point sound.0.0.point_fits k.0 e.parent e.radius sound.0.0.parent_is k.1 allowed.0)
-                  (held f.space nodes h above e sound.0)) in
+      (all_weaker _ (λ o. is_answer f o ≡ false) (objects_at nodes h e.child)
+      (λ o k. skipped_far above fit e.point o.point sound.0.0.point_fits k.0 e.parent e.radius sound.0.0.parent_is k.1 allowed.0)
+      (held f.space nodes h above e sound.0)) in
       rw none (inner_near nodes h above fit es ms sound.1 allowed.1)
   inner_near nodes h above fit (e ∷ es) (Far ∷ ms) sound allowed =
       let none = filter_none (is_answer f) (objects_at nodes h e.child)
-              (all_weaker _ (λ o. is_answer f o ≡ false) (objects_at nodes h e.child)
-                  (λ o k. far_off e.point o.point sound.0.0.point_fits k.0 e.radius k.1 allowed.0)
-                  (held f.space nodes h above e sound.0)) in
+      (all_weaker _ (λ o. is_answer f o ≡ false) (objects_at nodes h e.child)
+      (λ o k. far_off e.point o.point sound.0.0.point_fits k.0 e.radius k.1 allowed.0)
+      (held f.space nodes h above e sound.0)) in
       rw none (inner_near nodes h above fit es ms sound.1 allowed.1)
   inner_near nodes h above fit (e ∷ es) (Near ∷ ms) sound allowed =
       ap (λ r. filter (is_answer f) (objects_at nodes h e.child) ++ r) (inner_near nodes h above fit es ms sound.1 allowed.1)

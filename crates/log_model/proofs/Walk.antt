@@ -1,16 +1,16 @@
 -- A sound walk names the answers in its pages.
-use Rattle.std.proofs.Common.{◌≡◌, ℕ, zero, suc, List, [], ◌∷◌, ◌++◌, refl, sym, ap, subst, ◌∙◌, Option, Some, None, append_assoc}
+use Rattle.std.proofs.Common.{◌≡◌, ℕ, zero, suc, List, [], ◌∷◌, ◌++◌, refl, sym, ap, subst, ◌∙◌, Option, Some}
 use Rattle.std.specs.Prelude.{IsTrue, filter, map}
-use Rattle.std.specs.List.{AllByRecursion, AllZip, flat_map}
+use Rattle.std.specs.List.{AllByRecursion, flat_map}
 use Rattle.std.proofs.lemmas.List.Elements.{filter-append}
 use Rattle.metric_laws.specs.Space.{Space, IsSpace}
-use Rattle.metric_laws.proofs.Lists.{all_weaker, all_append, flat_map-append, flat_map-map, filter-flat_map}
+use Rattle.metric_laws.proofs.Lists.{all_append, flat_map-append, flat_map-map, filter-flat_map}
 use Rattle.scan_model.specs.declared.hit.Hit.{Hit}
 use Rattle.tree_shape.specs.declared.entry.LeafEntry.{LeafEntry}
 use Rattle.tree_shape.specs.declared.entry.InnerEntry.{InnerEntry}
 use Rattle.tree_shape.specs.declared.entry.Node.{Node}
 use Rattle.tree_shape.specs.declared.entry.Node.TheVariants.{Leaf, Inner}
-use Rattle.tree_shape.specs.Tree.{Nodes, IsSoundAt, IsSoundObject, objects_at, leaf_entries, inner_entries}
+use Rattle.tree_shape.specs.Tree.{Nodes, IsSoundAt, IsSoundObject, objects_at}
 use Rattle.log_model.specs.declared.marks.Mark.{Mark}
 use Rattle.log_model.specs.declared.marks.Mark.TheVariants.{Skip, Far, Near}
 use Rattle.log_model.specs.declared.marks.Record.{Record}
@@ -98,7 +98,7 @@ module _ (f : Search) (axioms : IsSpace f.space) (q_fits : IsTrue (f.space.fits 
   inner_step h above ps marks rs hits es names sounds subtrees fit step =
       let kids : List Spot = map (spot_of f.space h) (near_ones es marks) in
       let walk : WalksBy AreAllowed f nodes (map (need_at f) (kids ++ ps)) rs step.1.0 =
-              subst (λ (ns : List Need). WalksBy AreAllowed f nodes ns rs step.1.0) (needs_from_spots f f.space h (near_ones es marks) ps) step.1.1 in
+      subst (λ (ns : List Need). WalksBy AreAllowed f nodes ns rs step.1.0) (needs_from_spots f f.space h (near_ones es marks) ps) step.1.1 in
       let found = names (kids ++ ps) step.1.0 (all_append (IsSoundSpot f.space nodes) kids ps (near_of_sound f.space nodes h above es marks fit subtrees) sounds) walk in
       let below = flat_map-append (λ p. objects_at nodes p.height p.page) kids ps in
       let within = flat_map-map (λ p. objects_at nodes p.height p.page) (spot_of f.space h) (near_ones es marks) in
@@ -108,9 +108,9 @@ module _ (f : Search) (axioms : IsSpace f.space) (q_fits : IsTrue (f.space.fits 
       let parts = answers_in-append f (flat_map (λ e. objects_at nodes h e.child) (near_ones es marks)) (objects_of nodes ps) in
       let whole = answers_in-append f (flat_map (λ e. objects_at nodes h e.child) es) (objects_of nodes ps) in
       let joined : objects_of nodes (kids ++ ps) ≡ flat_map (λ e. objects_at nodes h e.child) (near_ones es marks) ++ objects_of nodes ps =
-              below ∙ ap (λ r. r ++ objects_of nodes ps) within in
+      below ∙ ap (λ r. r ++ objects_of nodes ps) within in
       step.1.2 ∙ found ∙ ap (answers_in f) joined ∙ parts
-        ∙ ap (λ r. map (hit_of f) r ++ answers_in f (objects_of nodes ps)) kept ∙ sym whole
+      ∙ ap (λ r. map (hit_of f) r ++ answers_in f (objects_of nodes ps)) kept ∙ sym whole
 
   pub spot_step : (h least : ℕ) (above : Option (List ℕ)) (page : ℕ) (ps : List Spot) (marks : List Mark) (rs : List Record) (hits : List Hit) (node : Node) →
       Names rs → AllByRecursion (IsSoundSpot f.space nodes) ps → IsSoundAt f.space nodes h least above page → FitsAbove f.space above →
@@ -118,10 +118,10 @@ module _ (f : Search) (axioms : IsSpace f.space) (q_fits : IsTrue (f.space.fits 
       hits ≡ answers_in f (objects_at nodes h page ++ objects_of nodes ps)
   spot_step zero least above page ps marks rs hits node names sounds sound fit is step =
       rw sound.1 (leaf_step above ps marks rs hits sound.0 names sounds sound.3 fit
-          (subst (StepAt f nodes (point_above f above) (map (need_at f) ps) marks rs hits) (same_node (nodes page) node (Leaf sound.0) is sound.1) step))
+      (subst (StepAt f nodes (point_above f above) (map (need_at f) ps) marks rs hits) (same_node (nodes page) node (Leaf sound.0) is sound.1) step))
   spot_step (suc h) least above page ps marks rs hits node names sounds sound fit is step =
       rw sound.1 (inner_step h above ps marks rs hits sound.0 names sounds sound.3 fit
-          (subst (StepAt f nodes (point_above f above) (map (need_at f) ps) marks rs hits) (same_node (nodes page) node (Inner (suc h) sound.0) is sound.1) step))
+      (subst (StepAt f nodes (point_above f above) (map (need_at f) ps) marks rs hits) (same_node (nodes page) node (Inner (suc h) sound.0) is sound.1) step))
 
   -- the walk names the answers in the needed pages
   pub walk_names : (rs : List Record) → Names rs

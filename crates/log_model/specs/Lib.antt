@@ -1,6 +1,8 @@
 pub mod Grammar
 pub mod InOrder
 pub mod Walk
+pub mod Counts
+pub mod Steps
 pub mod Sound
 pub mod JoinWalk
 pub mod SoundJoin

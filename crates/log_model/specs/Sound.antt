@@ -8,7 +8,8 @@ use Rattle.scan_model.specs.declared.query.Query.TheVariants.{Range, Nearest}
 use Rattle.tree_shape.specs.declared.live.Live.{Live}
 use Rattle.tree_shape.specs.Tree.{Nodes}
 use Rattle.log_model.specs.declared.logs.Log.{Log}
-use Rattle.log_model.specs.Grammar.{query_point}
+use Rattle.log_model.specs.declared.logs.Found.{Found}
+use Rattle.log_model.specs.Grammar.{query_point, IsLawfulLog}
 use Rattle.log_model.specs.InOrder.{in_order, hit_before}
 use Rattle.log_model.specs.Walk.{Search, search_at, Rule, AreAllowed, AreLeast, WalksBy, root_need}
 
@@ -49,3 +50,11 @@ IsSoundLog s nodes live log = IsLogBy AreAllowed s nodes live log
 -- the log of this query whose marks are the least
 abbrev pub IsLeastLog : Space → Nodes → Live → Query → Log → Type 0
 IsLeastLog s nodes live query log = (log.query ≡ query) × IsLogBy AreLeast s nodes live log
+
+-- the log has a spelling, and names the live tree and this query; the hits are the log's answers
+pub record IsLogOf (live : Live) (query : Query) (found : Found) : Type 0 where
+  pub hits_are : found.hits ≡ found.log.answers
+  pub generation_is : found.log.generation ≡ live.generation
+  pub root_is : found.log.root ≡ live.root
+  pub query_is : found.log.query ≡ query
+  pub lawful : IsLawfulLog found.log

@@ -29,9 +29,12 @@ away f p = f.space.dist p f.point
 
 -- the parent test of an entry, by the distance of the routing point above from the query's point; no entry of the root
 -- passes it
+abbrev pub parent_skips : Option ℕ → ℕ → ℕ → ℕ → Bool
+parent_skips None stored rho radius = false
+parent_skips (Some above) stored rho radius = parent_rules_out above stored rho radius
+
 abbrev pub is_skipped : Search → Option ℕ → ℕ → ℕ → Bool
-is_skipped f None stored radius = false
-is_skipped f (Some above) stored radius = parent_rules_out above stored f.rho radius
+is_skipped f above stored radius = parent_skips above stored f.rho radius
 
 -- the marks that are allowed of an object, whose radius is 0, and of a subtree
 abbrev pub allows_object : Search → Option ℕ → LeafEntry → Mark → Bool
@@ -60,9 +63,15 @@ least_for_object f above e = if is_skipped f above e.parent 0 then Skip else (if
 abbrev pub least_for_subtree : Search → Option ℕ → InnerEntry → Mark
 least_for_subtree f above e = if is_skipped f above e.parent e.radius then Skip else (if centre_rules_out (away f e.point) f.rho e.radius then Far else Near)
 
+abbrev pub leaf_marks : Search → Option ℕ → List LeafEntry → List Mark
+leaf_marks f above es = map (least_for_object f above) es
+
+abbrev pub inner_marks : Search → Option ℕ → List InnerEntry → List Mark
+inner_marks f above es = map (least_for_subtree f above) es
+
 abbrev pub least_marks : Search → Option ℕ → Node → List Mark
-least_marks f above (Leaf es) = map (least_for_object f above) es
-least_marks f above (Inner level es) = map (least_for_subtree f above) es
+least_marks f above (Leaf es) = leaf_marks f above es
+least_marks f above (Inner level es) = inner_marks f above es
 
 abbrev pub AreLeast : Rule
 AreLeast f above node marks = marks ≡ least_marks f above node
@@ -93,6 +102,13 @@ abbrev pub hits_of : Search → Node → List Mark → List Hit
 hits_of f (Leaf es) marks = map (hit_of f) (near_ones es marks)
 hits_of f (Inner level es) marks = []
 
+-- the hits of a leaf, and the pages needed of an inner node, by the least marks
+abbrev pub leaf_hits : Search → Option ℕ → List LeafEntry → List Hit
+leaf_hits f above es = map (hit_of f) (near_ones es (leaf_marks f above es))
+
+abbrev pub inner_needs : Search → Option ℕ → List InnerEntry → List Need
+inner_needs f above es = map (need_of f) (near_ones es (inner_marks f above es))
+
 -- the walk of the needed pages takes exactly these records, in pre-order; each names the next needed page, which holds a
 -- node, and its marks keep the rule; the walk names these hits
 abbrev pub WalksBy : Rule → Search → Nodes → List Need → List Record → List Hit → Type 0
@@ -102,3 +118,15 @@ WalksBy rule f nodes (n ∷ ns) [] hits = ⊥
 WalksBy rule f nodes (n ∷ ns) (r ∷ rs) hits =
     (node : Node) × (nodes n.page ≡ Some node) × (r.page ≡ n.page) × rule f n.above node r.marks
     × ((rest : List Hit) × WalksBy rule f nodes (needs_of f node r.marks ++ ns) rs rest × (hits ≡ hits_of f node r.marks ++ rest))
+
+-- the record of a node with the least marks
+abbrev pub record_of : Search → Need → Node → Record
+record_of f n node = record { page = n.page; marks = least_marks f n.above node }
+
+-- the walk of the needed pages took these records, named these hits and has still to open these pages
+abbrev pub ReachesBy : Rule → Search → Nodes → List Need → List Record → List Hit → List Need → Type 0
+ReachesBy rule f nodes ns [] hits left = (hits ≡ []) × (left ≡ ns)
+ReachesBy rule f nodes [] (r ∷ rs) hits left = ⊥
+ReachesBy rule f nodes (n ∷ ns) (r ∷ rs) hits left =
+    (node : Node) × (nodes n.page ≡ Some node) × (r.page ≡ n.page) × rule f n.above node r.marks
+    × ((rest : List Hit) × ReachesBy rule f nodes (needs_of f node r.marks ++ ns) rs rest left × (hits ≡ hits_of f node r.marks ++ rest))

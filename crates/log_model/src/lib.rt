@@ -2,11 +2,23 @@
 //! of the plain scan.
 #![tactic(auto)]
 
+mod answering;
 pub mod laws;
 mod logs;
+mod marking;
 mod marks;
 mod pairs;
+mod traversal;
 
+pub use answering::{put_hits_in_order, put_pairs_in_order, radius_of, select};
 pub use logs::{Found, JoinLog, Joined, Log};
+pub use marking::{Probe, is_ruled_out, mark_inner, mark_leaf};
 pub use marks::{JoinRecord, Mark, Need, Record};
 pub use pairs::{Item, JoinNeed};
+pub use traversal::Traversal;
+
+/// Want of memory.
+pub type Memory = std::alloc::AllocError;
+
+#[cfg(test)]
+mod tests;

@@ -1,6 +1,11 @@
-use crate::{JoinRecord, Record};
+ghost use Rattle.std.specs.Prelude.{◌≡◌, IfOk};
+ghost use Rattle.log_model.specs.Sound.{selected};
+
+use crate::{JoinRecord, Memory, Record, Traversal, select};
 use metric_laws::Listed;
 use scan_model::{Hit, Pair, Query};
+use std::alloc::Global;
+use tree_shape::Live;
 
 /// A query, its answers, and every decision that was made on the way to them.
 #[derive(Debug, Drop)]
@@ -48,4 +53,30 @@ pub struct Joined {
     pub pairs: Listed<Pair>,
     /// The log of the join.
     pub log: JoinLog,
+}
+
+impl Found {
+    /// What a walk of the live tree that is whole answers to the query that it was made for.
+    pub fn of(alloc: Global, live: &Live, query: Query, walk: Traversal) -> Result<Self, Memory>
+        ensures generation { IfOk result (λ found. found.log.generation ≡ live.now.generation) }
+        ensures root { IfOk result (λ found. found.log.root ≡ live.now.root) }
+        ensures query { IfOk result (λ found. found.log.query ≡ query) }
+        ensures records { IfOk result (λ found. found.log.records ≡ walk.records.items) }
+        ensures answers { IfOk result (λ found. found.log.answers ≡ selected query walk.hits.items) }
+        ensures hits { IfOk result (λ found. found.hits ≡ found.log.answers) }
+    {
+        let mut answers = walk.hits;
+        select(&query, &mut answers);
+        let hits = answers.iter().copied().collect(alloc)?;
+        Ok(Found {
+            hits: Listed::new(hits),
+            log: Log {
+                generation: live.generation,
+                root: live.root,
+                query,
+                answers: Listed::new(answers),
+                records: Listed::new(walk.records),
+            },
+        })
+    }
 }

@@ -1,5 +1,6 @@
 ghost use Rattle.std.specs.Prelude.{◌≡◌, ◌≤◌, ℕ};
 ghost use Rattle.metric_laws.specs.Counts.{next_count};
+ghost use Rattle.metric_laws.specs.Space.{IsSpace};
 
 use crate::{BOUND, Metric};
 
@@ -24,6 +25,9 @@ pub trait Ruler {
         ensures bounded { result ≤ BOUND }
         ensures counted { used self.new ≡ next_count (used self.old) }
         ensures same { metric self.new ≡ metric self.old };
+
+    /// The axioms of a metric space, which the metric proves.
+    ghost axioms: { (r : Self) → IsSpace (Self.M.space (metric r)) };
 }
 
 /// A metric with a count of the distances that it gave.
@@ -57,6 +61,7 @@ impl<M: Metric> Ruler for Meter<M> {
 
     ghost used = { λ m. m.used };
 
+
     fn fits(&self, p: &[u32]) -> bool {
         self.metric.fits(p)
     }
@@ -65,4 +70,6 @@ impl<M: Metric> Ruler for Meter<M> {
         self.used = self.used.saturating_add(1);
         self.metric.dist(a, b)
     }
+
+    ghost axioms = { λ m. M.axioms m.metric };
 }

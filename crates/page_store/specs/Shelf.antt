@@ -41,3 +41,9 @@ HasPageCause old new page (Outside p) = (p ≡ page) × (is_within old.pages pag
 HasPageCause old new page Memory = Unit {0}
 HasPageCause old new page (Repeats p) = ⊥
 HasPageCause old new page (Level p) = ⊥
+
+-- what may come at any time: the disk failed, or memory ran out
+abbrev pub IsPassing : PageFault → Type 0
+IsPassing Disk = Unit {0}
+IsPassing Memory = Unit {0}
+IsPassing _ = ⊥

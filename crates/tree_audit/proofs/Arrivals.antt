@@ -1,5 +1,6 @@
 -- What a walk tells of a page to which it comes.
-use Rattle.std.proofs.Common.{◌≡◌, ◌≢◌, ℕ, zero, suc, ◌+◌, ◌<◌, ◌≤◌, ◌==◌, ◌&&◌, not, nat_le, Bool, true, false, List, [], ◌∷◌, ◌++◌, length, drop, Result, Ok, Err, IsTrue, min, ◌-◌, ◌^◌, if◌then◌else◌, refl, sym, ◌∙◌, ap, subst, arith}
+use Rattle.std.proofs.Common.{◌≡◌, ◌≢◌, ℕ, zero, suc, ◌+◌, ◌<◌, ◌≤◌, ◌==◌, ◌&&◌, not, nat_le, Bool, true, false, List, [], ◌∷◌, ◌++◌, length, drop, Result, Ok, Err, IfErr, IsTrue, min, ◌-◌, ◌^◌, if◌then◌else◌, refl, sym, ◌∙◌, ap, subst, arith}
+use Rattle.std.proofs.lemmas.Bool.{true≢false}
 use Rattle.std.proofs.lemmas.Bool.Decides.{nat_tests}
 use Rattle.outside_io.specs.Causes.{Rose}
 use Rattle.metric_laws.specs.Space.{Space}
@@ -81,8 +82,14 @@ some_met n is = cases (n == 0) is
     cases false is = refl
 
 pub zero_met : (n : ℕ) → not (n == 0) ≡ false → n ≡ 0
-zero_met zero is = refl
-zero_met (suc n) is = absurd cc
+zero_met n is = cases (n == 0) refl is
+  where
+    cases : (b : Bool) → (n == 0) ≡ b → not b ≡ false → n ≡ 0
+    cases true test is = grind (arith, nat_tests, test)
+    cases false test is = absurd (true≢false is)
+
+high : (h : ℕ) → (suc h == 0) ≡ false
+high h = grind (arith, nat_tests)
 
 -- a page that was met
 pub met_twice : (s : Space) (read : Read) (count h least : ℕ) (path : List Step) (page : ℕ) (seen : Seen) → not (times page seen.pages == 0) ≡ true → audited_at s read count h least path page seen ≡ Err (Twice page)
@@ -118,7 +125,7 @@ of_open old new s count h least path page seen (Count a b) fresh fault = absurd 
 pub leaf_page : (s : Space) (read : Read) (count h least : ℕ) (path : List Step) (page : ℕ) (es : List LeafEntry) (seen : Seen) → times page seen.pages ≡ 0 → read page ≡ Ok (Leaf es)
     → audited_at s read count h least path page seen ≡ leaf_told s count h least path page es (arrived seen page)
 leaf_page s read count zero least path page es seen new is = rw (none_met (times page seen.pages) new, is) refl
-leaf_page s read count (suc h) least path page es seen new is = rw (none_met (times page seen.pages) new, is) refl
+leaf_page s read count (suc h) least path page es seen new is = rw (none_met (times page seen.pages) new, is, high h) refl
 
 pub leaf_told_fine : (s : Space) (count h least : ℕ) (path : List Step) (page : ℕ) (es : List LeafEntry) (seen : Seen) → h ≡ 0 → is_filled s least (length es) ≡ true
     → each_entry (check_object s count (last_point path) path page) 0 es seen ≡ leaf_told s count h least path page es seen
@@ -126,9 +133,21 @@ leaf_told_fine s count zero least path page es seen low full = rw full refl
 leaf_told_fine s count (suc h) least path page es seen low full = absurd (omega arith)
 
 pub leaf_told_high : (s : Space) (count h least : ℕ) (path : List Step) (page : ℕ) (es : List LeafEntry) (seen : Seen) → h ≢ 0 → leaf_told s count h least path page es seen ≡ Err (Fill page)
-leaf_told_high s count zero least path page es seen high = absurd (high refl)
-leaf_told_high s count (suc h) least path page es seen high = refl
+leaf_told_high s count zero least path page es seen above = absurd (above refl)
+leaf_told_high s count (suc h) least path page es seen above = rw (high h) refl
 
 pub leaf_told_fill : (s : Space) (count h least : ℕ) (path : List Step) (page : ℕ) (es : List LeafEntry) (seen : Seen) → is_filled s least (length es) ≡ false → leaf_told s count h least path page es seen ≡ Err (Fill page)
 leaf_told_fill s count zero least path page es seen full = rw full refl
-leaf_told_fill s count (suc h) least path page es seen full = refl
+leaf_told_fill s count (suc h) least path page es seen full = rw (high h) refl
+
+-- what is told of one walk is told of another
+pub told_if_err : {T : Type 0} (r : Result T AuditFault) (told told2 : List ℕ → Result Seen AuditFault) → ((ps : List ℕ) → told ps ≡ told2 ps)
+    → IfErr r (λ v. (ps : List ℕ) → IsEntryFault (told ps) v) → IfErr r (λ v. (ps : List ℕ) → IsEntryFault (told2 ps) v)
+told_if_err (Ok x) told told2 same fault = tt
+told_if_err (Err v) told told2 same fault = λ ps. subst (λ (t : Result Seen AuditFault). IsEntryFault t v) (same ps) (fault ps)
+
+-- an entry's fault, as one of the walk that tells the same
+pub walk_if_err : {T : Type 0} (r : Result T AuditFault) (old new : Shelf) (told : List ℕ → Result Seen AuditFault) (told2 : Result Seen AuditFault) (met : List ℕ) → (IsTrue old.tells → told met ≡ told2)
+    → IfErr r (λ v. (ps : List ℕ) → IsEntryFault (told ps) v) → IfErr r (IsWalkFault old new told2)
+walk_if_err (Ok x) old new told told2 met same fault = tt
+walk_if_err (Err v) old new told told2 met same fault = walk_same old new (told met) told2 v same (of_entry old new (told met) v (fault met))

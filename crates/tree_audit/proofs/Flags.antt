@@ -7,7 +7,7 @@ use Rattle.std.proofs.lemmas.Bool.Decides.{nat_tests}
 use Rattle.std.proofs.lemmas.List.{length-set, get_or-set_same, get_or-set_other, get_or-replicate, length-replicate}
 use Rattle.metric_laws.proofs.Lists.{all_weaker, all_append}
 use Rattle.tree_shape.specs.Tree.{times}
-use Rattle.tree_shape.proofs.Counting.{times-append, times-in}
+use Rattle.tree_shape.proofs.Counting.{times-append, times-in, few}
 use Rattle.tree_audit.specs.Met.{IsFlagged}
 
 -- some or none, as a test
@@ -24,13 +24,17 @@ none_is : (k n : ℕ) → k ≢ n → times k (n ∷ []) ≡ 0
 none_is k n differ = let other : (n == k) ≡ false = grind (arith, nat_tests) in rw other refl
 
 pub flagged_none : (n : ℕ) → n < 2 ^ 32 → IsFlagged (replicate n false) []
-flagged_none n few = record { few = omega (arith, few, length-replicate n false); small = tt; told = λ k lt. get_or-replicate n k false false (omega (arith, length-replicate n false, lt)) }
+flagged_none n few = record { few = omega (arith, few, length-replicate n false); small = tt; once = λ k. omega arith; told = λ k lt. get_or-replicate n k false false (omega (arith, length-replicate n false, lt)) }
 
-pub flagged_add : (flags : List Bool) (met : List ℕ) (n : ℕ) → n < length flags → IsFlagged flags met → IsFlagged (set flags n true) (met ++ n ∷ [])
-flagged_add flags met n within flagged = record {
+pub flagged_add : (flags : List Bool) (met : List ℕ) (n : ℕ) → n < length flags → times n met ≡ 0 → IsFlagged flags met → IsFlagged (set flags n true) (met ++ n ∷ [])
+flagged_add flags met n within fresh flagged = record {
   few = omega (arith, flagged.few, length-set flags n true);
   small = all_append (λ k. k < length (set flags n true)) met (n ∷ [])
       (all_weaker (λ k. k < length flags) (λ k. k < length (set flags n true)) met (λ k lt. omega (arith, lt, length-set flags n true)) flagged.small) (omega (arith, within, length-set flags n true), tt);
+  once = λ k. elim (cases_eq k n) [
+    | inl same ↦ subst (λ (j : ℕ). times j (met ++ n ∷ []) ≤ 1) (sym same) (omega (arith, times-append n met (n ∷ []), one_is n, fresh))
+    | inr differ ↦ omega (arith, times-append k met (n ∷ []), none_is k n differ, flagged.once k)
+  ];
   told = λ k lt. elim (cases_eq k n) [
     | inl same ↦
         subst (λ (j : ℕ). slice_index_or (set flags n true) j false ≡ is_some (times j (met ++ n ∷ []))) (sym same)
@@ -44,3 +48,7 @@ flagged_add flags met n within flagged = record {
 -- a number that is not below the limit was not met
 pub not_met : (flags : List Bool) (met : List ℕ) (n : ℕ) → length flags ≤ n → IsFlagged flags met → is_some (times n met) ≡ false
 not_met flags met n past flagged = ap is_some (times-in met n (length flags) flagged.small past)
+
+-- there are no more of them than the limit
+pub few_met : (flags : List Bool) (met : List ℕ) → IsFlagged flags met → length met ≤ length flags
+few_met flags met flagged = few (length flags) met flagged.small flagged.once

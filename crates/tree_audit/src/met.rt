@@ -49,9 +49,10 @@ impl Met {
         number < self.flags.len() && self.flags[number]
     }
 
-    /// Notes that the number is met.
+    /// Notes that the number, which was not met before, is met.
     pub fn add(&mut self, number: u32) -> Result<(), Memory>
-        requires { number < self.old.limit }
+        requires small { number < self.old.limit }
+        requires new { times number self.old.met ≡ 0 }
         ensures ok { OnOk result (self.new ≡ record self.old { met = self.old.met ++ number ∷ [] }) }
         ensures err { OnErr result (self.new ≡ self.old) }
     {
@@ -61,9 +62,9 @@ impl Met {
     }
 
     /// How many numbers were met.
-    pub fn len(&self) -> usize
+    pub fn len(&self) -> u32
         ensures { result ≡ length self.now.met }
     {
-        self.numbers.len()
+        self.numbers.len() as u32
     }
 }

@@ -6,13 +6,13 @@ ghost use Rattle.metric_laws.specs.Space.{Space};
 ghost use Rattle.tree_shape.specs.Tree.{parent_distance, times};
 ghost use Rattle.tree_audit.specs.declared.walking.Step.{Step};
 ghost use Rattle.page_store.specs.Shelf.{HoldsSame, IsNodeOf};
-ghost use Rattle.tree_audit.specs.Audited.{Seen, first_outside, if_inside, check_object, check_entry, each_entry, last_point, audited_at, is_filled, IsWalkFault};
+ghost use Rattle.tree_audit.specs.Audited.{Seen, first_outside, if_inside, check_object, check_entry, each_entry, last_point, audited_at, is_filled, step, IsWalkFault};
 ghost use Rattle.tree_audit.specs.Visits.{seen_of, leaf_told, IsEntryFault, IsOpenFault};
 
 use crate::AuditFault;
 use crate::met::Met;
 use metric_laws::{Point, Ruler};
-use page_store::{PageFault, Pages};
+use page_store::{Memory, PageFault, Pages};
 use std::alloc::Global;
 use tree_shape::{InnerEntry, LeafEntry, Node, fill};
 
@@ -235,4 +235,95 @@ fn arrive<P: Pages>(
         return Err(AuditFault::Memory);
     }
     Ok(node)
+}
+
+// The step to a child.
+fn step_to(alloc: Global, page: u32, place: u32, entry: &InnerEntry) -> Result<Step, Memory>
+    ensures { IfOk result (λ t. t ≡ step page place entry.now) }
+{
+    Ok(Step {
+        page,
+        place,
+        radius: entry.radius,
+        point: Point::new(alloc, entry.point.as_slice())?,
+    })
+}
+
+// Whether an inner node has this level and a lawful number of entries.
+fn is_inner(at: &Spot, level: u8, count: usize) -> bool
+    requires some { 1 ≤ at.now.dim }
+    requires few { at.now.dim ≤ 64 }
+    ensures { result ≡ ((level == at.now.level) && (nat_le at.now.least count && nat_le count (most_for at.now.dim))) }
+{
+    u32::from(level) == at.level && is_filled(at, count)
+}
+
+/// Walks the subtree of a page in pre-order.
+pub fn walk<P: Pages, R: Ruler>(
+    alloc: Global,
+    pages: &mut P,
+    ruler: &mut R,
+    visits: &mut Visits,
+    path: &mut Vec<Step>,
+    at: Spot,
+) -> Result<(), AuditFault>
+    requires some { 1 ≤ at.dim }
+    requires few { at.dim ≤ 64 }
+    requires dim { (P.shelf pages.old).dim ≡ at.dim }
+    requires words { (R.M.space (R.metric ruler.old)).words ≡ at.dim }
+    requires limit { visits.old.pages.limit ≡ (P.shelf pages.old).pages }
+    ensures metric { R.metric ruler.new ≡ R.metric ruler.old }
+    ensures same { HoldsSame (P.shelf pages.old) (P.shelf pages.new) }
+    ensures keeps { P.keeps pages.old pages.new }
+    ensures pages_limit { visits.new.pages.limit ≡ visits.old.pages.limit }
+    ensures ids_limit { visits.new.ids.limit ≡ visits.old.ids.limit }
+    ensures path { OnOk result (path.new.items ≡ path.old.items) }
+    ensures ok { OnOk result (IsTrue (P.shelf pages.old).tells
+        → audited_at (R.M.space (R.metric ruler.old)) (P.shelf pages.old).read visits.old.ids.limit at.level at.least path.old.items at.page (seen_of visits.old) ≡ Ok (seen_of visits.new)) }
+    ensures err { IfErr result (IsWalkFault (P.shelf pages.old) (P.shelf pages.new)
+        (audited_at (R.M.space (R.metric ruler.old)) (P.shelf pages.old).read visits.old.ids.limit at.level at.least path.old.items at.page (seen_of visits.old))) }
+    ensures asked { OnOk result ((P.shelf pages.new).asked + length visits.old.pages.met ≤ (P.shelf pages.old).asked + length visits.new.pages.met) }
+    ensures reads { OnOk result ((P.shelf pages.new).reads + length visits.old.pages.met ≤ (P.shelf pages.old).reads + length visits.new.pages.met) }
+{
+    let node = match arrive(alloc, pages, &mut visits.pages, at.page) {
+        Ok(node) => node,
+        Err(fault) => return Err(fault),
+    };
+    let (level, entries) = match node {
+        Node::Leaf(objects) => {
+            return audit_leaf(ruler, path.as_slice(), &at, objects.as_slice(), &mut visits.ids);
+        }
+        Node::Inner { level, entries } => (level, entries),
+    };
+    let entries = entries.as_slice();
+    if at.level == 0 {
+        return Err(AuditFault::Fill(at.page));
+    }
+    if !is_inner(&at, level, entries.len()) {
+        return Err(AuditFault::Fill(at.page));
+    }
+    for place in 0..entries.len() {
+        let entry = &entries[place];
+        if let Err(fault) = audit_entry(ruler, path.as_slice(), at.page, place as u32, entry) {
+            return Err(fault);
+        }
+        let step = match step_to(alloc, at.page, place as u32, entry) {
+            Ok(step) => step,
+            Err(_) => return Err(AuditFault::Memory),
+        };
+        if path.push(step).is_err() {
+            return Err(AuditFault::Memory);
+        }
+        let child = Spot {
+            page: entry.child,
+            level: at.level - 1,
+            least: fill(at.dim).least,
+            dim: at.dim,
+        };
+        if let Err(fault) = walk(alloc, pages, ruler, visits, path, child) {
+            return Err(fault);
+        }
+        let _ = path.pop();
+    }
+    Ok(())
 }

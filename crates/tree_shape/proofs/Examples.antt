@@ -7,7 +7,7 @@ use Rattle.tree_shape.specs.declared.rules.Side.TheVariants.{First, Second}
 use Rattle.tree_shape.specs.Fill.{most_for}
 use Rattle.tree_shape.specs.Plain.{Object, Tall}
 use Rattle.tree_shape.specs.Dealing.{Ball, table_of, members, partitioned}
-use Rattle.tree_shape.specs.Insertion.{rules_for, placed_by}
+use Rattle.tree_shape.specs.Insertion.{Rules, rules_for, rules, placed_by}
 use Rattle.tree_shape.specs.declared.rules.Group.{Group}
 use Rattle.tree_shape.specs.Bulk.{Load, groups_at, places_from, radius_of, height_of, built_of}
 
@@ -41,17 +41,24 @@ balance_of_numbers = (refl, refl)
 abbrev pub object_at : ℕ → ℕ → Object
 object_at id x = record { id = id; tag = 0; point = x ∷ [] }
 
--- these numbers one after another, in nodes of one to three entries
-abbrev pub all_placed : ℕ → ℕ → ℕ → List ℕ → Tall → Tall
-all_placed promote split id [] t = t
-all_placed promote split id (x ∷ xs) t = all_placed promote split (id + 1) xs (placed_by (rules_for line promote split 3 1) (object_at id x) t)
+-- these numbers one after another
+abbrev pub all_placed : Rules → ℕ → List ℕ → Tall → Tall
+all_placed R id [] t = t
+all_placed R id (x ∷ xs) t = all_placed R (id + 1) xs (placed_by R (object_at id x) t)
+
+-- in nodes of one to three entries, and in those of a page
+abbrev pub narrow : ℕ → ℕ → Rules
+narrow promote split = rules_for line promote split 3 1
+
+abbrev pub whole : ℕ → ℕ → Rules
+whole promote split = rules line promote split
 
 abbrev pub empty : Tall
 empty = record { height = 0; tree = [] }
 
 -- by the lesser greatest radius and the hyperplane; the root is split, too
 pub placed_by_hyperplane :
-    all_placed 2 1 0 (0 ∷ 4 ∷ 9 ∷ 1 ∷ 20 ∷ 7 ∷ 3 ∷ 8 ∷ []) empty
+    all_placed (narrow 2 1) 0 (0 ∷ 4 ∷ 9 ∷ 1 ∷ 20 ∷ 7 ∷ 3 ∷ 8 ∷ []) empty
     ≡ record {
       height = 2;
       tree =
@@ -69,7 +76,7 @@ placed_by_hyperplane = refl
 
 -- balanced halves; the last radius reaches from 9 to 20
 pub placed_in_balance :
-    all_placed 2 2 0 (0 ∷ 4 ∷ 9 ∷ 1 ∷ 20 ∷ 7 ∷ 3 ∷ 8 ∷ []) empty
+    all_placed (narrow 2 2) 0 (0 ∷ 4 ∷ 9 ∷ 1 ∷ 20 ∷ 7 ∷ 3 ∷ 8 ∷ []) empty
     ≡ record {
       height = 1;
       tree =
@@ -78,6 +85,17 @@ pub placed_in_balance :
           ∷ record { point = 9 ∷ []; radius = 11; below = object_at 2 9 ∷ object_at 4 20 ∷ object_at 7 8 ∷ [] } ∷ [];
     }
 placed_in_balance = refl
+
+-- the numbers 0 to 32: the last one splits the leaf
+pub split_of_numbers :
+    all_placed (whole 2 1) 0 (places_from 0 33) empty
+    ≡ record {
+      height = 1;
+      tree =
+          record { point = 7 ∷ []; radius = 8; below = map (λ i. object_at i i) (places_from 0 16) }
+          ∷ record { point = 24 ∷ []; radius = 8; below = map (λ i. object_at i i) (places_from 16 17) } ∷ [];
+    }
+split_of_numbers = refl
 
 abbrev pub load_of : List ℕ → ℕ → ℕ → Load
 load_of xs most least = record { space = line; points = map (λ x. x ∷ []) xs; tags = xs; most = most; least = least }

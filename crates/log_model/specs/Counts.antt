@@ -1,0 +1,29 @@
+-- What a walk costs.
+use Rattle.std.specs.Prelude.{ℕ, zero, suc, ◌+◌, List, [], ◌∷◌, length}
+use Rattle.metric_laws.specs.Counts.{next_count}
+use Rattle.tree_shape.specs.declared.entry.Node.{Node}
+use Rattle.tree_shape.specs.declared.entry.Node.TheVariants.{Leaf, Inner}
+use Rattle.log_model.specs.declared.marks.Mark.{Mark}
+use Rattle.log_model.specs.declared.marks.Mark.TheVariants.{Skip, Far, Near}
+use Rattle.log_model.specs.declared.marks.Record.{Record}
+
+-- a count that rose so many times by one, each time up to the greatest `u64`
+abbrev pub count_up : ℕ → ℕ → ℕ
+count_up count zero = count
+count_up count (suc n) = count_up (next_count count) n
+
+-- the distances that a node's marks cost: one for each entry that isn't skipped
+abbrev pub measured_by : List Mark → ℕ
+measured_by [] = 0
+measured_by (Skip ∷ marks) = measured_by marks
+measured_by (Far ∷ marks) = suc (measured_by marks)
+measured_by (Near ∷ marks) = suc (measured_by marks)
+
+abbrev pub measured : List Record → ℕ
+measured [] = 0
+measured (r ∷ rs) = measured_by r.marks + measured rs
+
+-- the number of a node's entries
+abbrev pub entry_count : Node → ℕ
+entry_count (Leaf es) = length es
+entry_count (Inner level es) = length es

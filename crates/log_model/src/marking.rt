@@ -1,0 +1,93 @@
+//! The least marks of a node, one distance for each entry that the parent test leaves.
+
+ghost use Rattle.std.specs.Prelude.{◌≡◌, ◌++◌, OnOk};
+ghost use Rattle.log_model.specs.Counts.{count_up, measured_by};
+ghost use Rattle.log_model.specs.Walk.{search_at, parent_skips, leaf_marks, inner_marks, leaf_hits, inner_needs};
+
+use crate::{Mark, Memory, Need};
+use metric_laws::{Ruler, centre_test, parent_test};
+use scan_model::Hit;
+use tree_shape::{InnerEntry, LeafEntry};
+
+/// What a walk prunes by.
+#[derive(Clone, Copy, Debug)]
+pub struct Probe<'a> {
+    /// The query's point.
+    pub q: &'a [u32],
+    /// The radius that prunes.
+    pub rho: u64,
+}
+
+/// Whether the parent test rules an entry out (VLDB 1997, section 4.1), by the distance of the query to the routing point
+/// above. None stands above an entry of the root, which is never ruled out so.
+pub fn is_ruled_out(above: Option<u64>, stored: u64, rho: u64, radius: u64) -> bool
+    ensures { result ≡ parent_skips above stored rho radius }
+{
+    match above {
+        None => false,
+        Some(dist) => parent_test(dist, stored, rho, radius),
+    }
+}
+
+/// Appends the least marks of a leaf's entries, and the objects that are marked Near to the hits.
+pub fn mark_leaf<R: Ruler>(
+    ruler: &mut R,
+    probe: Probe,
+    above: Option<u64>,
+    entries: &[LeafEntry],
+    marks: &mut Vec<Mark>,
+    hits: &mut Vec<Hit>,
+) -> Result<(), Memory>
+    ensures metric { R.metric ruler.new ≡ R.metric ruler.old }
+    ensures counted { OnOk result (R.used ruler.new ≡ count_up (R.used ruler.old) (measured_by (leaf_marks (search_at (R.M.space (R.metric ruler.old)) probe.entry.q.now probe.entry.rho) above entries.now))) }
+    ensures marks { OnOk result (marks.new.items ≡ marks.old.items ++ leaf_marks (search_at (R.M.space (R.metric ruler.old)) probe.entry.q.now probe.entry.rho) above entries.now) }
+    ensures hits { OnOk result (hits.new.items ≡ hits.old.items ++ leaf_hits (search_at (R.M.space (R.metric ruler.old)) probe.entry.q.now probe.entry.rho) above entries.now) }
+{
+    for entry in entries {
+        if is_ruled_out(above, entry.parent, probe.rho, 0) {
+            marks.push(Mark::Skip)?;
+            continue;
+        }
+        let dist = ruler.dist(entry.point.as_slice(), probe.q);
+        if centre_test(dist, probe.rho, 0) {
+            marks.push(Mark::Far)?;
+            continue;
+        }
+        marks.push(Mark::Near)?;
+        hits.push(Hit { id: entry.id, dist })?;
+    }
+    Ok(())
+}
+
+/// Appends the least marks of an inner node's entries, and the subtrees that are marked Near to the needs.
+pub fn mark_inner<R: Ruler>(
+    ruler: &mut R,
+    probe: Probe,
+    above: Option<u64>,
+    entries: &[InnerEntry],
+    marks: &mut Vec<Mark>,
+    needs: &mut Vec<Need>,
+) -> Result<(), Memory>
+    ensures metric { R.metric ruler.new ≡ R.metric ruler.old }
+    ensures counted { OnOk result (R.used ruler.new ≡ count_up (R.used ruler.old) (measured_by (inner_marks (search_at (R.M.space (R.metric ruler.old)) probe.entry.q.now probe.entry.rho) above entries.now))) }
+    ensures marks { OnOk result (marks.new.items ≡ marks.old.items ++ inner_marks (search_at (R.M.space (R.metric ruler.old)) probe.entry.q.now probe.entry.rho) above entries.now) }
+    ensures needs { OnOk result (needs.new.items ≡ needs.old.items ++ inner_needs (search_at (R.M.space (R.metric ruler.old)) probe.entry.q.now probe.entry.rho) above entries.now) }
+{
+    for entry in entries {
+        if is_ruled_out(above, entry.parent, probe.rho, entry.radius) {
+            marks.push(Mark::Skip)?;
+            continue;
+        }
+        let dist = ruler.dist(entry.point.as_slice(), probe.q);
+        if centre_test(dist, probe.rho, entry.radius) {
+            marks.push(Mark::Far)?;
+            continue;
+        }
+        marks.push(Mark::Near)?;
+        needs.push(Need {
+            page: entry.child,
+            above: Some(dist),
+        })?;
+    }
+    Ok(())
+}

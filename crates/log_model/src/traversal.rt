@@ -1,0 +1,94 @@
+//! The walk of a search that marks each node with the least marks.
+
+ghost use Rattle.std.specs.Prelude.{◌≡◌, ◌++◌, [], ◌∷◌, reverse, IfOk, OnOk};
+ghost use Rattle.log_model.specs.Counts.{count_up, measured_by};
+ghost use Rattle.log_model.specs.Walk.{search_at, least_marks, root_need};
+ghost use Rattle.log_model.specs.Steps.{TakesNode};
+
+use crate::marking::{mark_inner, mark_leaf};
+use crate::{Memory, Need, Probe, Record};
+use metric_laws::{Listed, Ruler};
+use scan_model::Hit;
+use std::alloc::Global;
+use tree_shape::Node;
+
+/// What a walk named and recorded so far, and what it has still to open.
+#[derive(Debug, Drop)]
+pub struct Traversal {
+    /// The objects that are marked Near, in the order of the walk.
+    pub hits: Vec<Hit>,
+    /// The opened nodes, in the order of the walk.
+    pub records: Vec<Record>,
+    /// The pages that the walk needs, the next one last.
+    pub stack: Vec<Need>,
+}
+
+// Puts the needs on the stack, so that the first of them is on top.
+fn put_on_top(stack: &mut Vec<Need>, needs: &mut Vec<Need>) -> Result<(), Memory>
+    ensures { OnOk result (reverse stack.new.items ≡ needs.old.items ++ reverse stack.old.items) }
+{
+    while let Some(need) = needs.pop() {
+        stack.push(need)?;
+    }
+    Ok(())
+}
+
+impl Traversal {
+    /// A walk that needs the root.
+    pub fn begin(alloc: Global, root: u32) -> Result<Self, Memory>
+        ensures hits { IfOk result (λ t. t.hits.items ≡ []) }
+        ensures records { IfOk result (λ t. t.records.items ≡ []) }
+        ensures stack { IfOk result (λ t. t.stack.items ≡ root_need root ∷ []) }
+    {
+        let stack = vec![in alloc; Need { page: root, above: None }]?;
+        Ok(Traversal {
+            hits: Vec::new(alloc),
+            records: Vec::new(alloc),
+            stack,
+        })
+    }
+
+    /// Takes in the node of a page that was needed: its record with the least marks, the hits that these name, and the
+    /// pages that they need, which come next.
+    pub fn take_node<R: Ruler>(
+        &mut self,
+        alloc: Global,
+        ruler: &mut R,
+        probe: Probe,
+        need: Need,
+        node: &Node,
+    ) -> Result<(), Memory>
+        ensures metric { R.metric ruler.new ≡ R.metric ruler.old }
+        ensures counted { OnOk result (R.used ruler.new ≡ count_up (R.used ruler.old) (measured_by (least_marks (search_at (R.M.space (R.metric ruler.old)) probe.entry.q.now probe.entry.rho) need.above node.now))) }
+        ensures taken { OnOk result (TakesNode (search_at (R.M.space (R.metric ruler.old)) probe.entry.q.now probe.entry.rho) need node.now self.old self.new) }
+    {
+        let mut marks = Vec::new(alloc);
+        match node {
+            Node::Leaf(entries) => mark_leaf(
+                ruler,
+                probe,
+                need.above,
+                entries.as_slice(),
+                &mut marks,
+                &mut self.hits,
+            )?,
+            Node::Inner { entries, .. } => {
+                let mut needs = Vec::new(alloc);
+                mark_inner(
+                    ruler,
+                    probe,
+                    need.above,
+                    entries.as_slice(),
+                    &mut marks,
+                    &mut needs,
+                )?;
+                put_on_top(&mut self.stack, &mut needs)?;
+            }
+        }
+        self.records.push(Record {
+            page: need.page,
+            marks: Listed::new(marks),
+        })?;
+        Ok(())
+    }
+}

@@ -1,0 +1,149 @@
+-- The beginning and the end of the machine, on a sound tree.
+use Rattle.std.proofs.Common.{◌≡◌, ℕ, zero, suc, ◌+◌, ◌<◌, ◌≤◌, true, false, List, [], ◌∷◌, refl, sym, ap, inl, inr, arith, ◌∙◌, length, take, subst, Some, None}
+use Rattle.std.specs.Prelude.{IsTrue, nat_le, IsPermutation}
+use Rattle.std.specs.List.{AllByRecursion}
+use Rattle.std.proofs.lemmas.Bool.Decides.{nat_tests}
+use Rattle.metric_laws.specs.Space.{Space, IsSpace}
+use Rattle.metric_laws.specs.Lists.{IsIn}
+use Rattle.metric_laws.proofs.Lists.{all_weaker}
+use Rattle.scan_model.specs.declared.hit.Hit.{Hit}
+use Rattle.scan_model.specs.declared.query.Query.TheVariants.{Nearest}
+use Rattle.tree_shape.specs.declared.live.Live.{Live}
+use Rattle.tree_shape.specs.declared.entry.LeafEntry.{LeafEntry}
+use Rattle.tree_shape.specs.declared.entry.InnerEntry.{InnerEntry}
+use Rattle.tree_shape.specs.declared.entry.Node.{Node}
+use Rattle.tree_shape.specs.Fill.{root_least}
+use Rattle.tree_shape.specs.Tree.{Nodes, IsSoundTree, IsNodePage, objects_at, objects, pages_at, inner_entries}
+use Rattle.tree_shape.proofs.Counting.{few}
+use Rattle.log_model.specs.declared.marks.Record.{Record}
+use Rattle.log_model.specs.InOrder.{in_order, hit_before}
+use Rattle.log_model.specs.Sound.{pruning_radius}
+use Rattle.log_model.specs.Walk.{Search, away, search_at, WalksBy, AreLeast, AreAllowed, root_need}
+use Rattle.log_model.proofs.Walk.{Spot, answers_in}
+use Rattle.log_model.proofs.Least.{walks_wider, least_allowed}
+use Rattle.log_model.proofs.LeastLog.{root_names}
+use Rattle.nearest_search.specs.declared.pending.Pending.{Pending}
+use Rattle.nearest_search.specs.Counts.{IsRadius}
+use Rattle.nearest_search.specs.Machine.{level_of, objects_below, count_near, pending_of, pending_root, reaches, opens, opens_of, IsFinal, IsPending, IsKept, Holds}
+use Rattle.nearest_search.specs.Relog.{IsRelogged}
+use Rattle.nearest_search.proofs.Totals.{total-none, total-permutation}
+use Rattle.nearest_search.proofs.Near.{level_is}
+use Rattle.nearest_search.proofs.Steps.{final_at_end, next_low}
+use Rattle.nearest_search.proofs.Radius.{radius_at}
+use Rattle.nearest_search.proofs.KeptWalk.{relog_whole}
+use Rattle.nearest_search.proofs.Fuel.{opens_few, has_final, records_of}
+
+pub all_low : (f : Search) (os : List LeafEntry) → AllByRecursion (λ o. 0 ≤ away f o.point) os
+all_low f [] = tt
+all_low f (o ∷ os) = (omega arith, all_low f os)
+
+pub opens_some : (f : Search) (nodes : Nodes) (h page : ℕ) → 1 ≤ opens f nodes h page
+opens_some f nodes zero page = omega arith
+opens_some f nodes (suc h) page = omega arith
+
+module _ (s : Space) (axioms : IsSpace s) (nodes : Nodes) (live : Live) (q : List ℕ) (q_fits : IsTrue (s.fits q)) (k : ℕ) (sound : IsSoundTree s nodes live) where
+  abbrev pub root : ℕ
+  root = live.root
+
+  pub level : level_of (nodes root) ≡ live.height
+  level = level_is s nodes live.height (root_least live.height) None live.root sound.parts
+
+  pub begins : Holds s nodes q k root (λ page. None) (pending_root root ∷ []) [] 0
+  begins = record {
+    queued = λ x i. elim i [ inl e ↦ subst (λ (y : Pending). IsPending (search_at s q 0) nodes y) (sym e) whole | inr w ↦ absurd w ];
+    counts = λ r low. omega arith;
+    agrees = λ page node is. absurd (cc);
+    closed = λ rho final. record {
+      begun = inr (inl refl);
+      reached = λ page node is e i far. absurd (cc);
+      counted = (let z : nat_le 0 rho ≡ true = grind (arith, nat_tests) in rw z (omega arith));
+    };
+  }
+    where
+      whole : IsPending (search_at s q 0) nodes (pending_root root)
+      whole = record {
+        height = live.height;
+        least = root_least live.height;
+        above = None;
+        sound = sound.parts;
+        fits = tt;
+        above_is = refl;
+        low_is = all_low (search_at s q 0) (objects_at nodes live.height root);
+      }
+
+  -- no more pages than the limit
+  pub opens_low : (f : Search) → opens f nodes (level_of (nodes root)) root ≤ live.pages
+  opens_low f =
+      let pages = few live.pages (pages_at nodes live.height live.root) (all_weaker (IsNodePage live) (λ p. p < live.pages) (pages_at nodes live.height live.root) (λ p k. k.1) sound.within) sound.once in
+      let o = opens_few f nodes live.height live.root in
+      rw level (omega arith)
+
+  -- the search never comes to the limit
+  pub room : (kept : Nodes) (queue : List Pending) (best : List ℕ) (opened : ℕ) → Holds s nodes q k root kept queue best opened → (rho : ℕ) → IsRadius k best rho →
+      (x : Pending) (rest : List Pending) → IsPermutation queue (x ∷ rest) → x.low ≤ rho → ((y : Pending) → IsIn y queue → x.low ≤ y.low) → opened < live.pages
+  room kept queue best opened holds rho radius x rest popped low first =
+      let final = has_final k (λ r. count_near (search_at s q 0) r (objects_below nodes root)) in
+      let reach = next_low s axioms q q_fits nodes k root kept queue best opened holds rho radius x low first final.0 final.1 in
+      let is_low : nat_le x.low final.0 ≡ true = grind (arith, nat_tests) in
+      let counted = (holds.closed final.0 final.1).counted in
+      let all = opens_low (search_at s q final.0) in
+      let split = total-permutation (opens_of (search_at s q final.0) nodes) queue (x ∷ rest) popped in
+      let some = opens_some (search_at s q final.0) nodes (level_of (nodes x.page)) x.page in
+      let here : opens_of (search_at s q final.0) nodes x ≡ opens (search_at s q final.0) nodes (level_of (nodes x.page)) x.page = rw is_low refl in
+      omega arith
+
+  module _ (some : 1 ≤ k) (kept : Nodes) (queue : List Pending) (best : List ℕ) (opened : ℕ) (holds : Holds s nodes q k root kept queue best opened) (rho : ℕ) (radius : IsRadius k best rho)
+      (beyond : (x : Pending) → IsIn x queue → rho < x.low) where
+    abbrev pub f : Search
+    f = search_at s q rho
+
+    pub final : IsFinal k (λ r. count_near (search_at s q 0) r (objects_below nodes root)) rho
+    final = final_at_end s axioms q q_fits nodes k root kept queue best opened holds rho radius beyond
+
+    pub not_queued : (e : InnerEntry) → IsTrue (reaches f e) → IsIn (pending_of f e) queue → ⊥
+    not_queued e far i = let b = beyond (pending_of f e) i in let l : away f e.point ≤ rho + e.radius = grind (arith, nat_tests) in omega arith
+
+    pub children_kept : (page : ℕ) (node : Node) → kept page ≡ Some node → (e : InnerEntry) → IsIn e (inner_entries (Some node)) → IsTrue (reaches f e) → IsKept kept e.child
+    children_kept page node is e i far = elim ((holds.closed rho final).reached page node is e i far) [ inl w ↦ w | inr w ↦ absurd (not_queued e far w) ]
+
+    pub root_kept : IsKept kept root
+    root_kept = elim (holds.closed rho final).begun [ inl w ↦ w | inr w ↦ absurd (let b = beyond (pending_root root) w in low b) ]
+      where
+        low : rho < 0 → ⊥
+        low b = omega arith
+
+    pub opened_all : opened ≡ opens f nodes live.height live.root
+    opened_all =
+        let c = (holds.closed rho final).counted in
+        let z = total-none (opens_of f nodes) queue (λ x i. none x (beyond x i)) in
+        let l : opens f nodes (level_of (nodes root)) root ≡ opens f nodes live.height live.root = rw level refl in
+        omega arith
+      where
+        none : (x : Pending) → rho < x.low → opens_of f nodes x ≡ 0
+        none x far = let n : nat_le x.low rho ≡ false = grind (arith, nat_tests) in rw n refl
+
+    pub final_objects : IsFinal k (λ r. count_near (search_at s q 0) r (objects nodes live)) rho
+    final_objects = subst (λ (os : List LeafEntry). IsFinal k (λ r. count_near (search_at s q 0) r os) rho) (ap (λ l. objects_at nodes l root) level) final
+
+    -- the log that is written of the kept nodes is the least one, and its answers are the scan's
+    pub ends : (hits : List Hit) (records : List Record) → IsRelogged f kept live records hits →
+        WalksBy AreLeast f nodes (root_need live.root ∷ []) records hits × (length records ≡ opened) × (pruning_radius (Nearest q k) (take k (in_order hit_before hits)) ≡ rho)
+    ends hits records logged = (walk, long, prunes)
+      where
+        walk : WalksBy AreLeast f nodes (root_need live.root ∷ []) records hits
+        walk = relog_whole f nodes kept holds.agrees children_kept live sound root_kept records hits logged
+
+        named : hits ≡ answers_in f (objects nodes live)
+        named = root_names s axioms nodes live sound f refl q_fits records hits (walks_wider AreLeast AreAllowed f nodes (least_allowed f) (root_need live.root ∷ []) records hits walk)
+
+        long : length records ≡ opened
+        long =
+            let spot : Spot = record { height = live.height; least = root_least live.height; above = None; page = live.root } in
+            let r = records_of f axioms q_fits nodes records (spot ∷ []) ((sound.parts, tt), tt) hits walk in
+            let o = opened_all in
+            omega arith
+
+        prunes : pruning_radius (Nearest q k) (take k (in_order hit_before hits)) ≡ rho
+        prunes =
+            ap (λ (hs : List Hit). pruning_radius (Nearest q k) (take k (in_order hit_before hs))) named
+            ∙ radius_at s axioms q q_fits (objects nodes live) live.count k rho sound.ids some final_objects

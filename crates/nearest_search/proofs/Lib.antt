@@ -1,0 +1,11 @@
+pub mod Totals
+pub mod Near
+pub mod Arithmetic
+pub mod Pops
+pub mod Waits
+pub mod Steps
+pub mod Radius
+pub mod Fuel
+pub mod KeptWalk
+pub mod Ends
+pub mod Explored

@@ -1,0 +1,17 @@
+use Rattle.std.proofs.Common.{◌≡◌, ◌-◌}
+use Rattle.std.specs.BinaryHeap.{heap_items}
+use Rattle.nearest_search.specs.Keeping.{kept_node}
+use Rattle.nearest_search.specs.Searched.{IsExploring}
+use Rattle.nearest_search.proofs.exploring.explore.Given as goal
+
+abbrev pub invariant-loop-next : goal.invariant-loop-next
+invariant-loop-next g l = record {
+  metric : g.R.Ruler.metric l.ruler ≡ g.R.Ruler.metric l.fn.ruler;
+  keeps : g.P.Pages.keeps l.fn.pages l.pages;
+  count : l.machine.best.k ≡ l.fn.machine.best.k;
+  exploring : IsExploring (g.R.M.Metric.space (g.R.Ruler.metric l.fn.ruler)) (g.P.Pages.shelf l.fn.pages) (g.P.Pages.shelf l.pages) l.live l.q l.fn.machine.best.k
+      (record { queue = l.machine.frontier; best = heap_items l.machine.best.heap; kept = kept_node l.machine.kept }) l.opened;
+}
+
+abbrev pub decreases-loop-next : goal.decreases-loop-next
+decreases-loop-next g l = l.live.pages - l.opened

@@ -1,0 +1,7 @@
+pub mod Counts
+pub mod Queue
+pub mod Keeping
+pub mod Machine
+pub mod Opened
+pub mod Relog
+pub mod Searched

@@ -1,0 +1,59 @@
+-- What a search for the nearest objects explores, what it answers, and why it may refuse.
+use Rattle.std.specs.Prelude.{◌≡◌, ◌≢◌, ℕ, ◌+◌, ◌≤◌, ◌<◌, false, List, length, IsTrue, Some, Err}
+use Rattle.metric_laws.specs.Space.{Space}
+use Rattle.metric_laws.specs.Lists.{IsIn}
+use Rattle.outside_io.specs.Causes.{Rose}
+use Rattle.scan_model.specs.declared.query.Query.TheVariants.{Nearest}
+use Rattle.scan_model.specs.Scan.{nearest_hits}
+use Rattle.tree_shape.specs.declared.live.Live.{Live}
+use Rattle.tree_shape.specs.declared.entry.Node.{Node}
+use Rattle.tree_shape.specs.Tree.{Nodes, IsSoundTree, points_by_id}
+use Rattle.node_page.specs.declared.node.NodeFault.TheVariants.{Memory as NodeMemory}
+use Rattle.page_store.specs.declared.pages.PageFault.{PageFault}
+use Rattle.page_store.specs.declared.pages.PageFault.TheVariants.{Disk, Bad, Outside, Memory, Repeats, Level}
+use Rattle.page_store.specs.Reading.{IsWithin, is_within, nodes_of}
+use Rattle.page_store.specs.Shelf.{Shelf, HoldsSame}
+use Rattle.log_model.specs.declared.logs.Found.{Found}
+use Rattle.log_model.specs.Counts.{count_up, entry_count}
+use Rattle.log_model.specs.Sound.{IsLeastLog}
+use Rattle.nearest_search.specs.declared.pending.Pending.{Pending}
+use Rattle.nearest_search.specs.Counts.{IsRadius}
+use Rattle.nearest_search.specs.Machine.{Holds}
+use Rattle.nearest_search.specs.Opened.{State}
+
+-- each kept node has at most 32 entries
+abbrev pub KeepsFew : Nodes → Type 0
+KeepsFew kept = (page : ℕ) (node : Node) → kept page ≡ Some node → entry_count node ≤ 32
+
+-- A search has opened so many pages, and asked for each of them once. Where the pages tell a sound tree, what it knows is
+-- true of that tree.
+pub record IsExploring (s : Space) (old now : Shelf) (live : Live) (q : List ℕ) (k : ℕ) (state : State) (opened : ℕ) : Type 0 where
+  pub same : HoldsSame old now
+  pub asked : now.asked ≡ count_up old.asked opened
+  pub reads : now.reads ≤ old.reads + opened
+  pub few : opened ≤ live.pages
+  pub keeps_few : KeepsFew state.kept
+  pub holds : IsTrue old.tells → IsSoundTree s (nodes_of old.read) live → Holds s (nodes_of old.read) q k live.root state.kept state.queue state.best opened
+
+-- nothing within the radius waits
+pub record IsExplored (s : Space) (old now : Shelf) (live : Live) (q : List ℕ) (k : ℕ) (state : State) (rho opened : ℕ) : Type 0 where
+  pub radius : IsRadius k state.best rho
+  pub beyond : (x : Pending) → IsIn x state.queue → rho < x.low
+  pub exploring : IsExploring s old now live q k state opened
+
+-- why a search refuses: the disk failed or memory ran out; or a page that it asked for holds no node, or is none of the
+-- file's; or it has opened as many pages as there are, and was to open this one besides
+abbrev pub HasNearestCause : Live → Shelf → Shelf → PageFault → Type 0
+HasNearestCause live old new Disk = Rose old.faults new.faults
+HasNearestCause live old new Memory = Unit {0}
+HasNearestCause live old new (Bad page fault) = (fault ≢ NodeMemory) × IsWithin old.pages page × (IsTrue old.tells → old.read page ≡ Err (Bad page fault))
+HasNearestCause live old new (Outside page) = (is_within old.pages page ≡ false) × (IsTrue old.tells → old.read page ≡ Err (Outside page))
+HasNearestCause live old new (Repeats page) = new.asked ≡ count_up old.asked live.pages
+HasNearestCause live old new (Level page) = ⊥
+
+-- On a sound tree: the scan's first k, the least log of the query, and one page asked for per record of it.
+pub record IsNearest (s : Space) (nodes : Nodes) (live : Live) (q : List ℕ) (k : ℕ) (old new : Shelf) (found : Found) : Type 0 where
+  pub scanned : found.hits ≡ nearest_hits s (points_by_id nodes live) q k
+  pub least : IsLeastLog s nodes live (Nearest q k) found.log
+  pub asked : new.asked ≡ count_up old.asked (length found.log.records)
+  pub reads : new.reads ≤ old.reads + length found.log.records

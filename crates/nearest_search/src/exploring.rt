@@ -1,0 +1,66 @@
+//! Opens subtrees by least possible distance.
+
+ghost use Rattle.std.specs.Prelude.{◌≡◌, ◌≤◌, [], ◌∷◌, IsTrue, IfOk, IfErr};
+ghost use Rattle.std.specs.BinaryHeap.{heap_items};
+ghost use Rattle.tree_shape.specs.Tree.{IsSoundTree};
+ghost use Rattle.page_store.specs.Reading.{nodes_of};
+ghost use Rattle.page_store.specs.Shelf.{HoldsSame, IsPassing};
+ghost use Rattle.nearest_search.specs.Machine.{pending_root};
+ghost use Rattle.nearest_search.specs.Keeping.{kept_node};
+ghost use Rattle.nearest_search.specs.Searched.{IsExplored, HasNearestCause};
+
+use crate::machine::Machine;
+use crate::opening::open_page;
+use log_model::Probe;
+use metric_laws::Ruler;
+use page_store::{PageFault, Pages};
+use std::alloc::Global;
+use tree_shape::Live;
+
+/// What was explored.
+#[derive(Clone, Copy, Debug)]
+pub struct Explored {
+    /// The final radius: nothing that is not opened is nearer.
+    pub rho: u64,
+    /// How many pages were opened.
+    pub opened: u32,
+}
+
+/// Opens subtrees by least possible distance until none is within the radius of the k least distances (VLDB 1997,
+/// section 4.2).
+pub fn explore<P: Pages, R: Ruler>(
+    alloc: Global,
+    pages: &mut P,
+    ruler: &mut R,
+    q: &[u32],
+    live: &Live,
+    machine: &mut Machine,
+) -> Result<Explored, PageFault>
+    requires point { IsTrue ((R.M.space (R.metric ruler.old)).fits q.now) }
+    requires queue { machine.old.frontier ≡ pending_root live.now.root ∷ [] }
+    requires best { heap_items machine.old.best.heap ≡ [] }
+    requires kept { machine.old.kept ≡ [] }
+    ensures metric { R.metric ruler.new ≡ R.metric ruler.old }
+    ensures same { HoldsSame (P.shelf pages.old) (P.shelf pages.new) }
+    ensures keeps { P.keeps pages.old pages.new }
+    ensures ok { IfOk result (λ e. IsExplored (R.M.space (R.metric ruler.old)) (P.shelf pages.old) (P.shelf pages.new) live.now q.now machine.old.best.k
+        (record { queue = machine.new.frontier; best = heap_items machine.new.best.heap; kept = kept_node machine.new.kept }) e.rho e.opened) }
+    ensures cause { IfErr result (HasNearestCause live.now (P.shelf pages.old) (P.shelf pages.new)) }
+    ensures sound { IfErr result (λ fault. IsTrue (P.shelf pages.old).tells → IsSoundTree (R.M.space (R.metric ruler.old)) (nodes_of (P.shelf pages.old).read) live.now → IsPassing fault) }
+{
+    let mut opened = 0u32;
+    loop {
+        let rho = machine.best.radius();
+        let Some(next) = machine.frontier.take_next(rho) else {
+            return Ok(Explored { rho, opened });
+        };
+        if opened == live.pages {
+            return Err(PageFault::Repeats(next.page));
+        }
+        match open_page(alloc, pages, ruler, Probe { q, rho }, next, machine) {
+            Ok(()) => {}
+            Err(fault) => return Err(fault),
+        }
+        opened += 1;
+    }
+}

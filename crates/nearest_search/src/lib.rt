@@ -1,0 +1,17 @@
+//! The k nearest objects over the pages of a tree, with the log that shows each decision.
+#![tactic(auto)]
+
+mod exploring;
+mod frontier;
+mod kept;
+mod kth;
+mod logging;
+mod machine;
+mod opening;
+mod pending;
+mod searching;
+
+pub use searching::nearest;
+
+#[cfg(test)]
+mod tests;

@@ -1,0 +1,51 @@
+ghost use Rattle.std.specs.Prelude.{◌≡◌, ◌≤◌, [], ◌∷◌, IfOk};
+ghost use Rattle.std.specs.BinaryHeap.{heap_items};
+ghost use Rattle.nearest_search.specs.Machine.{pending_root};
+
+use crate::frontier::Frontier;
+use crate::kept::Kept;
+use crate::kth::Best;
+use crate::pending::Pending;
+use std::alloc::{AllocError, Global};
+
+/// What a search knows in the middle.
+#[derive(Drop)]
+pub struct Machine {
+    /// The subtrees that are not opened yet.
+    pub frontier: Frontier,
+    /// The least distances so far.
+    pub best: Best,
+    /// The nodes of the opened pages.
+    pub kept: Kept,
+}
+
+// The root waits.
+fn waiting_root(alloc: Global, root: u32) -> Result<Frontier, AllocError>
+    ensures { IfOk result (λ f. f ≡ pending_root root ∷ []) }
+{
+    let mut frontier = Frontier::new(alloc);
+    frontier.add(Pending {
+        low: 0,
+        page: root,
+        above: None,
+    })?;
+    Ok(frontier)
+}
+
+impl Machine {
+    /// A search for the `k` nearest objects that has only to open the root.
+    pub fn begin(alloc: Global, k: u64, root: u32) -> Result<Self, AllocError>
+        requires { 1 ≤ k }
+        ensures queue { IfOk result (λ m. m.frontier ≡ pending_root root ∷ []) }
+        ensures count { IfOk result (λ m. m.best.k ≡ k) }
+        ensures best { IfOk result (λ m. heap_items m.best.heap ≡ []) }
+        ensures kept { IfOk result (λ m. m.kept ≡ []) }
+    {
+        let frontier = waiting_root(alloc, root)?;
+        Ok(Machine {
+            frontier,
+            best: Best::new(alloc, k),
+            kept: Kept::new(alloc),
+        })
+    }
+}

@@ -1,0 +1,68 @@
+ghost use Rattle.std.specs.Prelude.{◌≡◌, ◌≤◌, ◌^◌, IsTrue, IfOk, IfErr};
+ghost use Rattle.scan_model.specs.declared.query.Query.TheVariants.{Nearest};
+ghost use Rattle.tree_shape.specs.Tree.{IsSoundTree};
+ghost use Rattle.page_store.specs.Reading.{nodes_of};
+ghost use Rattle.page_store.specs.Shelf.{HoldsSame, IsPassing};
+ghost use Rattle.log_model.specs.Sound.{IsLogOf};
+ghost use Rattle.nearest_search.specs.Searched.{HasNearestCause, IsNearest};
+
+use crate::exploring::explore;
+use crate::logging::relog;
+use crate::machine::Machine;
+use log_model::{Found, Probe};
+use metric_laws::{Point, Ruler};
+use page_store::{PageFault, Pages};
+use scan_model::Query;
+use std::alloc::Global;
+use tree_shape::Live;
+
+/// The `k` objects nearest to `q`, by distance, then by id (VLDB 1997, section 4.2), and the log that shows it: subtrees are
+/// opened by their least possible distance, also those that are as far as the `k`-th object, and the log is that of a
+/// range search at the `k`-th object's distance.
+///
+/// A page that holds no node is `Bad`, one below 3 or not below the number of pages is `Outside`; where as many nodes were
+/// opened as the file has pages and a further one is to be opened, that one is `Repeats`. None of these comes on a sound
+/// tree. `Disk` comes where the disk failed.
+pub fn nearest<P: Pages, R: Ruler>(
+    alloc: Global,
+    pages: &mut P,
+    ruler: &mut R,
+    live: &Live,
+    q: &[u32],
+    k: u64,
+) -> Result<Found, PageFault>
+    requires point { IsTrue ((R.M.space (R.metric ruler.old)).fits q.now) }
+    requires few_pages { live.now.pages ≤ 2 ^ 24 }
+    requires some { 1 ≤ k }
+    ensures metric { R.metric ruler.new ≡ R.metric ruler.old }
+    ensures same { HoldsSame (P.shelf pages.old) (P.shelf pages.new) }
+    ensures keeps { P.keeps pages.old pages.new }
+    ensures log { IfOk result (IsLogOf live.now (Nearest q.now k)) }
+    ensures nearest { IfOk result (λ found. IsTrue (P.shelf pages.old).tells → IsSoundTree (R.M.space (R.metric ruler.old)) (nodes_of (P.shelf pages.old).read) live.now →
+        IsNearest (R.M.space (R.metric ruler.old)) (nodes_of (P.shelf pages.old).read) live.now q.now k (P.shelf pages.old) (P.shelf pages.new) found) }
+    ensures cause { IfErr result (HasNearestCause live.now (P.shelf pages.old) (P.shelf pages.new)) }
+    ensures sound { IfErr result (λ fault. IsTrue (P.shelf pages.old).tells → IsSoundTree (R.M.space (R.metric ruler.old)) (nodes_of (P.shelf pages.old).read) live.now → IsPassing fault) }
+{
+    let Ok(point) = Point::new(alloc, q) else {
+        return Err(PageFault::Memory);
+    };
+    let Ok(mut machine) = Machine::begin(alloc, k, live.root) else {
+        return Err(PageFault::Memory);
+    };
+    let explored = match explore(alloc, pages, ruler, q, live, &mut machine) {
+        Ok(explored) => explored,
+        Err(fault) => return Err(fault),
+    };
+    let probe = Probe {
+        q,
+        rho: explored.rho,
+    };
+    let Ok(walk) = relog(alloc, ruler, probe, live, &machine.kept) else {
+        return Err(PageFault::Memory);
+    };
+    let query = Query::Nearest { q: point, k };
+    match Found::of(alloc, live, query, walk) {
+        Ok(found) => Ok(found),
+        Err(_) => Err(PageFault::Memory),
+    }
+}

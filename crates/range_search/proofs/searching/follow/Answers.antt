@@ -1,0 +1,23 @@
+use Rattle.std.proofs.Common.{◌≡◌, ◌∙◌, ◌∷◌, ap, arith, reverse}
+use Rattle.std.proofs.lemmas.Grind.{common_steps}
+use Rattle.log_model.specs.Walk.{search_at}
+use Rattle.range_search.proofs.Steps.{goes_on}
+use Rattle.range_search.proofs.searching.follow.Goals as goal
+
+pub loop-need-preserved : goal.loop-need-preserved
+loop-need-preserved g c =
+    let stack : reverse c.loop-need.walk.stack.items ≡ c.in-Some.need ∷ reverse c.pop.new.self.items = grind (arith, common_steps, c.in-Some.ensures.items) in
+    record {
+      metric = c.open_page.ensures.metric ∙ c.loop-need.invariant.metric;
+      keeps = g.met.P.Pages.keeps_both c.args.pages.now c.loop-need.pages c.open_page.new.pages c.loop-need.invariant.keeps c.open_page.ensures.keeps;
+      count = (let l = c.in-Ok-open_page.ensures.longer in let n = c.loop-need.invariant.count in omega arith);
+      low = omega arith;
+      way = goes_on (search_at (g.R.M.Metric.space (g.R.Ruler.metric c.args.ruler.now)) c.args.probe.q.now c.args.probe.rho)
+          (search_at (g.R.M.Metric.space (g.R.Ruler.metric c.loop-need.ruler)) c.args.probe.q.now c.args.probe.rho)
+          (g.P.Pages.shelf c.args.pages.now) (g.P.Pages.shelf c.loop-need.pages) (g.P.Pages.shelf c.open_page.new.pages)
+          (g.R.Ruler.used c.args.ruler.now) (g.R.Ruler.used c.loop-need.ruler) (g.R.Ruler.used c.open_page.new.ruler) c.args.live.now.root c.in-Some.need
+          (reverse c.loop-need.walk.stack.items) (reverse c.pop.new.self.items) (reverse c.open_page.new.walk.stack.items)
+          c.loop-need.walk.records.items c.open_page.new.walk.records.items c.loop-need.walk.hits.items c.open_page.new.walk.hits.items
+          (ap (λ m. search_at (g.R.M.Metric.space m) c.args.probe.q.now c.args.probe.rho) c.loop-need.invariant.metric) stack
+          (c.in-Ok-open_page.ensures.opened (g.P.Pages.shelf c.args.pages.now) (g.R.Ruler.used c.args.ruler.now) c.args.live.now.root) c.loop-need.invariant.way;
+    }

@@ -1,0 +1,69 @@
+-- What a search walks, what it answers, and why it may refuse.
+use Rattle.std.specs.Prelude.{◌≡◌, ◌≢◌, ℕ, ◌+◌, ◌*◌, ◌≤◌, ◌<◌, false, List, [], ◌∷◌, length, IsTrue, Err}
+use Rattle.std.specs.List.{AllByRecursion}
+use Rattle.metric_laws.specs.Space.{Space}
+use Rattle.outside_io.specs.Causes.{Rose}
+use Rattle.scan_model.specs.declared.hit.Hit.{Hit}
+use Rattle.scan_model.specs.declared.query.Query.{Query}
+use Rattle.tree_shape.specs.declared.live.Live.{Live}
+use Rattle.tree_shape.specs.Tree.{Nodes}
+use Rattle.node_page.specs.declared.node.NodeFault.TheVariants.{Memory as NodeMemory}
+use Rattle.page_store.specs.declared.pages.PageFault.{PageFault}
+use Rattle.page_store.specs.declared.pages.PageFault.TheVariants.{Disk, Bad, Outside, Memory, Repeats, Level}
+use Rattle.page_store.specs.Reading.{IsWithin, is_within, nodes_of}
+use Rattle.page_store.specs.Shelf.{Shelf, HoldsSame}
+use Rattle.log_model.specs.declared.logs.Found.{Found}
+use Rattle.log_model.specs.declared.marks.Record.{Record}
+use Rattle.log_model.specs.declared.marks.Need.{Need}
+use Rattle.log_model.specs.Counts.{count_up, measured}
+use Rattle.log_model.specs.Sound.{IsLogOf, IsLeastLog}
+use Rattle.log_model.specs.Walk.{Search, ReachesBy, AreLeast, root_need}
+
+-- A walk from the root with the least marks has opened the pages of these records, named these hits and needs these pages.
+-- One page was asked for per record, and one distance was computed per entry that wasn't skipped. What the walk is, is
+-- said of pages that tell what they hold.
+pub record IsUnderWay (f : Search) (old now : Shelf) (used_old used_now root : ℕ) (records : List Record) (hits : List Hit) (left : List Need) : Type 0 where
+  pub holds : HoldsSame old now
+  pub asked : now.asked ≡ count_up old.asked (length records)
+  pub reads : now.reads ≤ old.reads + length records
+  pub used : used_now ≡ count_up used_old (measured records)
+  pub few_marks : AllByRecursion (λ r. length r.marks ≤ 32) records
+  pub few_hits : length hits ≤ 32 * length records
+  pub walk : IsTrue old.tells → ReachesBy AreLeast f (nodes_of old.read) (root_need root ∷ []) records hits left
+
+-- the walk with the least marks opens so many pages and then needs this one
+pub record Needs (f : Search) (nodes : Nodes) (root opened page : ℕ) : Type 0 where
+  pub records : List Record
+  pub hits : List Hit
+  pub next : Need
+  pub rest : List Need
+  pub walk : ReachesBy AreLeast f nodes (root_need root ∷ []) records hits (next ∷ rest)
+  pub is : next.page ≡ page
+  pub count : length records ≡ opened
+
+-- the same, where it has opened fewer pages than there are
+abbrev pub NeedsInside : Search → Nodes → Live → ℕ → Type 0
+NeedsInside f nodes live page = (opened : ℕ) × (opened < live.pages) × Needs f nodes live.root opened page
+
+-- why a search refuses: the disk failed or memory ran out; or the walk with the least marks came to a page that holds no
+-- node, or that is none of the file's; or it has opened as many pages as there are, and needs this one besides
+abbrev pub HasWalkCause : Search → Live → Shelf → Shelf → PageFault → Type 0
+HasWalkCause f live old new Disk = Rose old.faults new.faults
+HasWalkCause f live old new Memory = Unit {0}
+HasWalkCause f live old new (Bad page fault) =
+    (fault ≢ NodeMemory) × IsWithin old.pages page
+    × (IsTrue old.tells → (old.read page ≡ Err (Bad page fault)) × NeedsInside f (nodes_of old.read) live page)
+HasWalkCause f live old new (Outside page) =
+    (is_within old.pages page ≡ false) × (IsTrue old.tells → (old.read page ≡ Err (Outside page)) × NeedsInside f (nodes_of old.read) live page)
+HasWalkCause f live old new (Repeats page) = (new.asked ≡ count_up old.asked live.pages) × (IsTrue old.tells → Needs f (nodes_of old.read) live.root live.pages page)
+HasWalkCause f live old new (Level page) = ⊥
+
+-- What a range search answers: where the pages tell what they hold, the least log of the query. One page was asked for per
+-- record, and one distance was computed per entry that isn't marked Skip.
+pub record IsFound (s : Space) (live : Live) (query : Query) (old new : Shelf) (used_old used_new : ℕ) (found : Found) : Type 0 where
+  pub log : IsLogOf live query found
+  pub least : IsTrue old.tells → IsLeastLog s (nodes_of old.read) live query found.log
+  pub few : length found.log.records ≤ live.pages
+  pub asked : new.asked ≡ count_up old.asked (length found.log.records)
+  pub reads : new.reads ≤ old.reads + length found.log.records
+  pub used : used_new ≡ count_up used_old (measured found.log.records)

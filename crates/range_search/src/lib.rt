@@ -1,0 +1,9 @@
+//! Range search over the pages of a tree, with the log that shows each decision.
+#![tactic(auto)]
+
+mod searching;
+
+pub use searching::range;
+
+#[cfg(test)]
+mod tests;

@@ -1,0 +1,120 @@
+ghost use Rattle.std.specs.Prelude.{◌≡◌, ◌≤◌, ◌<◌, ◌^◌, ◌+◌, ℕ, List, [], ◌∷◌, length, reverse, min, IsTrue, IfOk, IfErr, OnOk};
+ghost use Rattle.metric_laws.specs.Space.{bound};
+ghost use Rattle.scan_model.specs.Scan.{range_hits};
+ghost use Rattle.scan_model.specs.declared.query.Query.TheVariants.{Range};
+ghost use Rattle.tree_shape.specs.Tree.{IsSoundTree, points_by_id};
+ghost use Rattle.page_store.specs.Reading.{nodes_of};
+ghost use Rattle.page_store.specs.Shelf.{Shelf, HoldsSame, HasPageCause, IsPassing};
+ghost use Rattle.log_model.specs.Walk.{search_at, root_need};
+ghost use Rattle.range_search.specs.Searched.{IsUnderWay, HasWalkCause, IsFound};
+
+use log_model::{Found, Need, Probe, Traversal};
+use metric_laws::{BOUND, Point, Ruler};
+use page_store::{PageFault, Pages};
+use scan_model::Query;
+use std::alloc::Global;
+use tree_shape::Live;
+
+// Opens a page that the walk needs, and takes its node in.
+fn open_page<P: Pages, R: Ruler>(
+    alloc: Global,
+    pages: &mut P,
+    ruler: &mut R,
+    probe: Probe,
+    need: Need,
+    walk: &mut Traversal,
+) -> Result<(), PageFault>
+    ensures metric { R.metric ruler.new ≡ R.metric ruler.old }
+    ensures same { HoldsSame (P.shelf pages.old) (P.shelf pages.new) }
+    ensures keeps { P.keeps pages.old pages.new }
+    ensures opened { OnOk result ((old : Shelf) (used root : ℕ) →
+        IsUnderWay (search_at (R.M.space (R.metric ruler.old)) probe.entry.q.now probe.entry.rho) old (P.shelf pages.old) used (R.used ruler.old) root
+        walk.old.records.items walk.old.hits.items (need ∷ reverse walk.old.stack.items) →
+        IsUnderWay (search_at (R.M.space (R.metric ruler.old)) probe.entry.q.now probe.entry.rho) old (P.shelf pages.new) used (R.used ruler.new) root
+        walk.new.records.items walk.new.hits.items (reverse walk.new.stack.items)) }
+    ensures longer { OnOk result (length walk.new.records.items ≡ length walk.old.records.items + 1) }
+    ensures cause { IfErr result (HasPageCause (P.shelf pages.old) (P.shelf pages.new) need.page) }
+{
+    let node = pages.node(alloc, need.page)?;
+    match walk.take_node(alloc, ruler, probe, need, &node) {
+        Ok(()) => Ok(()),
+        Err(_) => Err(PageFault::Memory),
+    }
+}
+
+// Walks the live tree with the least marks. After the last page that the file has, a further one is refused unasked.
+fn follow<P: Pages, R: Ruler>(
+    alloc: Global,
+    pages: &mut P,
+    ruler: &mut R,
+    probe: Probe,
+    live: &Live,
+) -> Result<Traversal, PageFault>
+    ensures metric { R.metric ruler.new ≡ R.metric ruler.old }
+    ensures same { HoldsSame (P.shelf pages.old) (P.shelf pages.new) }
+    ensures keeps { P.keeps pages.old pages.new }
+    ensures ok { IfOk result (λ walk. IsUnderWay (search_at (R.M.space (R.metric ruler.old)) probe.entry.q.now probe.entry.rho) (P.shelf pages.old) (P.shelf pages.new)
+        (R.used ruler.old) (R.used ruler.new) live.now.root walk.records.items walk.hits.items []) }
+    ensures few { IfOk result (λ walk. length walk.records.items ≤ live.now.pages) }
+    ensures cause { IfErr result (HasWalkCause (search_at (R.M.space (R.metric ruler.old)) probe.entry.q.now probe.entry.rho) live.now (P.shelf pages.old) (P.shelf pages.new)) }
+{
+    let Ok(mut walk) = Traversal::begin(alloc, live.root) else {
+        return Err(PageFault::Memory);
+    };
+    let mut opened = 0u32;
+    while let Some(need) = walk.stack.pop() {
+        if opened == live.pages {
+            return Err(PageFault::Repeats(need.page));
+        }
+        match open_page(alloc, pages, ruler, probe, need, &mut walk) {
+            Ok(()) => {}
+            Err(fault) => return Err(fault),
+        }
+        opened += 1;
+    }
+    Ok(walk)
+}
+
+/// Every object within `r` of `q`, by distance, then by id (VLDB 1997, section 4.1), and the log that shows it: the live
+/// tree is walked from its root, a subtree or an object is skipped where the distances to the routing point above rule it
+/// out, and left out where its own distance does.
+///
+/// A page that holds no node is `Bad`, one below 3 or not below the number of pages is `Outside`; where the walk has opened
+/// as many nodes as the file has pages and needs a further one, that one is `Repeats`. None of these comes on a sound tree.
+/// `Disk` comes where the disk failed.
+pub fn range<P: Pages, R: Ruler>(
+    alloc: Global,
+    pages: &mut P,
+    ruler: &mut R,
+    live: &Live,
+    q: &[u32],
+    r: u64,
+) -> Result<Found, PageFault>
+    requires point { IsTrue ((R.M.space (R.metric ruler.old)).fits q.now) }
+    requires few_pages { live.now.pages ≤ 2 ^ 24 }
+    ensures metric { R.metric ruler.new ≡ R.metric ruler.old }
+    ensures same { HoldsSame (P.shelf pages.old) (P.shelf pages.new) }
+    ensures keeps { P.keeps pages.old pages.new }
+    ensures found { IfOk result (IsFound (R.M.space (R.metric ruler.old)) live.now (Range q.now r) (P.shelf pages.old) (P.shelf pages.new) (R.used ruler.old) (R.used ruler.new)) }
+    ensures cause { IfErr result (HasWalkCause (search_at (R.M.space (R.metric ruler.old)) q.now (min r bound)) live.now (P.shelf pages.old) (P.shelf pages.new)) }
+    ensures scanned { IfOk result (λ found. IsTrue (P.shelf pages.old).tells → IsSoundTree (R.M.space (R.metric ruler.old)) (nodes_of (P.shelf pages.old).read) live.now →
+        found.hits ≡ range_hits (R.M.space (R.metric ruler.old)) (points_by_id (nodes_of (P.shelf pages.old).read) live.now) q.now r) }
+    ensures sound { IfErr result (λ fault. IsTrue (P.shelf pages.old).tells → IsSoundTree (R.M.space (R.metric ruler.old)) (nodes_of (P.shelf pages.old).read) live.now → IsPassing fault) }
+{
+    let Ok(point) = Point::new(alloc, q) else {
+        return Err(PageFault::Memory);
+    };
+    let probe = Probe {
+        q,
+        rho: r.min(BOUND),
+    };
+    let walk = match follow(alloc, pages, ruler, probe, live) {
+        Ok(walk) => walk,
+        Err(fault) => return Err(fault),
+    };
+    let query = Query::Range { q: point, r };
+    match Found::of(alloc, live, query, walk) {
+        Ok(found) => Ok(found),
+        Err(_) => Err(PageFault::Memory),
+    }
+}
