@@ -1,6 +1,6 @@
 -- What an insertion places.
-use Rattle.std.proofs.Common.{◌≡◌, ◌≢◌, ℕ, zero, suc, ◌+◌, ◌-◌, ◌*◌, ◌/◌, ◌^◌, ◌<◌, ◌≤◌, Bool, true, false, List, [], ◌∷◌, ◌++◌, refl, sym, ap, ◌∙◌, arith, length, map, subst, inl, inr, length-append}
-use Rattle.std.specs.Prelude.{Option, Some, None, IsTrue, nat_le, min, ◌&&◌}
+use Rattle.std.proofs.Common.{◌≡◌, ◌≢◌, ◌⊎◌, ℕ, zero, suc, ◌+◌, ◌-◌, ◌*◌, ◌^◌, ◌<◌, ◌≤◌, Bool, true, false, List, [], ◌∷◌, refl, sym, ap, ◌∙◌, arith, length, map, subst, inl, inr, length-append}
+use Rattle.std.specs.Prelude.{Option, None, IsTrue, nat_le, ◌&&◌}
 use Rattle.std.specs.List.{AllByRecursion, range_with_len}
 use Rattle.std.proofs.lemmas.Bool.Decides.{nat_tests}
 use Rattle.metric_laws.specs.Space.{Space, IsSpace}
@@ -8,8 +8,8 @@ use Rattle.metric_laws.specs.Lists.{IsIn}
 use Rattle.tree_shape.specs.declared.live.Live.{Live}
 use Rattle.tree_shape.specs.declared.entry.Node.{Node}
 use Rattle.tree_shape.specs.Fill.{most_for, least_for}
-use Rattle.tree_shape.specs.Tree.{Nodes, times, IsNodePage, IsSoundTree}
-use Rattle.tree_shape.specs.Plain.{Object, Plain, Tall, tree_at, tree_of}
+use Rattle.tree_shape.specs.Tree.{Nodes, times, IsNodePage}
+use Rattle.tree_shape.specs.Plain.{tree_at, tree_of}
 use Rattle.tree_shape.proofs.Height.{three_at_least}
 use Rattle.tree_shape.specs.Insertion.{Rules, rules, rules_for, inserted}
 use Rattle.node_page.specs.Heads.{is_limit, IsLawfulHead}
@@ -28,14 +28,14 @@ use Rattle.insert_path.specs.declared.grew.Grew.TheVariants.{One, Two}
 use Rattle.insert_path.specs.Walk.{inner_ball}
 use Rattle.insert_path.specs.Roots.{HasRoomCause}
 use Rattle.insert_path.specs.Causes.{HasPlaceCause}
-use Rattle.insert_path.specs.Placing.{live_pages, walk_pages, place_fault, fresh, fresh_root, fresh_of, AreNumbers, AreOutside, IsPlacement, HasWalked}
+use Rattle.insert_path.specs.Placing.{live_pages, place_fault, fresh, fresh_root, fresh_of, AreNumbers, AreOutside, IsPlacement, HasWalked}
 use Rattle.insert_path.specs.Descent.{Plan, rules_of, leaf_ball, leaf_with, inner_with, number_at, numbered, IsStaged, Descends, Roots, Walks}
 use Rattle.insert_path.proofs.Level.{small_descends}
 use Rattle.insert_path.proofs.Walked.{descends_parity, descends_long, descends_left}
-use Rattle.insert_path.proofs.Paged.{pages_from}
 use Rattle.insert_path.proofs.Rooted.{root_faultless, root_long, root_writable}
 use Rattle.insert_path.proofs.Writable.{descends_writable}
-use Rattle.insert_path.proofs.Numbers.{number_within, pages_numbered, numbered_long, pages_range, end_given}
+use Rattle.insert_path.proofs.Numbers.{lower_or, number_in, number_out, number_within, pages_numbered, numbered_long, pages_range, end_given}
+use Rattle.insert_path.proofs.Holding.{in_get}
 use Rattle.insert_path.proofs.Top.{given_out, given_each}
 
 pub limit_small : (limit : ℕ) → IsTrue (is_limit limit) → limit ≤ 2 ^ 24
@@ -62,8 +62,9 @@ IsGiven number many (Two c d) = Unit {0}
 
 pub staged_given : {E : Type 0} (P : Plan) (ball : E → _) (set : E → ℕ → E) (make : List E → Node) (es : List E) (old new : List Node) (g : Grew) → IsStaged P ball set make es old new g → IsGiven P.number (length new) g
 staged_given P ball set make es old new g staged = elim staged [
-  inl w ↦ subst (IsGiven P.number (length new)) (sym w.grew) (length old, (let n = ap length w.staged ∙ length-append old (make es ∷ []) in omega (arith, n)), refl)
-  | inr k ↦ subst (IsGiven P.number (length new)) (sym k.1.grew) tt ]
+  | inl w ↦ subst (IsGiven P.number (length new)) (sym w.grew) (length old, (let n = ap length w.staged ∙ length-append old (make es ∷ []) in omega (arith, n)), refl)
+  | inr k ↦ subst (IsGiven P.number (length new)) (sym k.1.grew) tt
+]
 
 pub descends_given : (P : Plan) (shelf : Shelf) (h page : ℕ) (above : Option (List ℕ)) (l0 : List ℕ) (old : List Node) (l1 : List ℕ) (nodes : List Node) (g : Grew) → Descends P shelf h page above l0 old l1 nodes g → IsGiven P.number (length nodes) g
 descends_given P shelf zero page above l0 old l1 nodes g d = staged_given P leaf_ball leaf_with _ _ old nodes g d.3
@@ -94,7 +95,7 @@ pub walks_long : (P : Plan) (shelf : Shelf) → IsTrue shelf.tells → (t : Live
 walks_long P shelf tells t left nodes root height w =
     let deep = descends_long P shelf tells t.height t.root None [] [] left w.0 w.1 w.2 in
     let top = root_long P.number t.height w.1 w.0 nodes root height w.3 (inserted (rules_of P) P.object t.height (tree_at (nodes_of shelf.read) t.height t.root))
-        (descends_parity P shelf tells t.height t.root None [] [] left w.0 w.1 w.2) in
+    (descends_parity P shelf tells t.height t.root None [] [] left w.0 w.1 w.2) in
     let all = length-append (fresh (rules_of P) P.object t.height (tree_at (nodes_of shelf.read) t.height t.root)) (fresh_root t.height (inserted (rules_of P) P.object t.height (tree_at (nodes_of shelf.read) t.height t.root))) in
     omega (arith, deep, top, all)
 
@@ -105,10 +106,14 @@ room_cause P old new R numbers t left nodes root height (Page fault) same w caus
 room_cause P old new R numbers t left nodes root height Full same w cause = absurd cause
 room_cause P old new R numbers t left nodes root height Worn same w cause = absurd cause
 room_cause P old new R numbers t left nodes root height Memory same w cause = tt
-room_cause P old new R numbers t left nodes root height (NoRoom pages needed) same w cause =
-    (cause.0, cause.2, λ tells.
-        (ap (λ (Q : Rules). place_fault P.space Q old.read t P.object) (sym same) ∙ root_faultless P old tells t left w.0 nodes w.1 root height w.2 w.3,
-         cause.1 ∙ ap (λ (k : ℕ). k - length numbers) (walks_long P old tells t left nodes root height w ∙ ap (λ (Q : Rules). length (fresh_of Q P.object (tree_of (nodes_of old.read) t))) same)))
+room_cause P old new R numbers t left nodes root height (NoRoom pages needed) same w cause = (
+  cause.0,
+  cause.2,
+  λ tells. (
+    ap (λ (Q : Rules). place_fault P.space Q old.read t P.object) (sym same) ∙ root_faultless P old tells t left w.0 nodes w.1 root height w.2 w.3,
+    cause.1 ∙ ap (λ (k : ℕ). k - length numbers) (walks_long P old tells t left nodes root height w ∙ ap (λ (Q : Rules). length (fresh_of Q P.object (tree_of (nodes_of old.read) t))) same),
+  ),
+)
 
 -- what the walk made
 pub has_walked : (P : Plan) (shelf : Shelf) (R : Rules) → IsTrue shelf.tells → (t : Live) (nodes : List Node) (root height : ℕ) (placed : Placed) → rules_of P ≡ R → placed.staged ≡ numbered P.number 0 nodes → Walks P shelf t placed.left nodes root height →
@@ -124,11 +129,21 @@ pub staged_out : (nodes : Nodes) (t : Live) (numbers : List ℕ) (ns : List Node
     AreOutside nodes t (pages_of staged)
 staged_out nodes t numbers ns staged is outside within =
     subst (AreOutside nodes t) (sym (ap pages_of is ∙ pages_numbered (number_at numbers t.pages) 0 ns))
-        (given_each (λ n. times n (live_pages nodes t) ≡ 0) (number_at numbers t.pages) 0 (length ns) ns (omega arith) (λ j low. given_out nodes t numbers outside within j))
+    (given_each (λ n. times n (live_pages nodes t) ≡ 0) (number_at numbers t.pages) 0 (length ns) ns (omega arith) (λ j low. given_out nodes t numbers outside within j))
 
 all_numbered : (Q : ℕ → Type 0) (R : Node → Type 0) (number : ℕ → ℕ) (i k : ℕ) (ns : List Node) → k ≡ i + length ns → ((j : ℕ) → j < k → Q (number j)) → AllByRecursion R ns → AllByRecursion (λ s. Q s.page × R s.node) (numbered number i ns)
 all_numbered Q R number i k [] e each all = tt
 all_numbered Q R number i k (n ∷ ns) e each all = ((each i (omega (arith, e)), all.0), all_numbered Q R number (i + 1) k ns (omega (arith, e)) each all.1)
+
+-- each page is one that was handed in, or one after the end
+all_given : (numbers : List ℕ) (first i : ℕ) (ns : List Node) → AllByRecursion (λ (s : StagedNode). IsIn s.page numbers ⊎ (first ≤ s.page)) (numbered (number_at numbers first) i ns)
+all_given numbers first i [] = tt
+all_given numbers first i (n ∷ ns) = (
+  lower_or i (length numbers)
+      (λ l. inl (subst (λ (p : ℕ). IsIn p numbers) (sym (number_in numbers first i l)) (in_get numbers i 0 l)))
+      (λ h. inr (let a = number_out numbers first i h in omega (arith, a))),
+  all_given numbers first (i + 1) ns,
+)
 
 -- what is placed can be committed
 pub is_placement : (head : Head) (t : Live) (numbers : List ℕ) (nodes : List Node) (root height : ℕ) (placed : Placed) →
@@ -155,13 +170,15 @@ is_placement head t numbers nodes root height placed staged next room live count
   numbered = ap pages_of staged ∙ pages_numbered (number_at numbers t.pages) 0 nodes ∙ pages_range (number_at numbers t.pages) 0 nodes ∙ ap (λ (k : ℕ). map (number_at numbers t.pages) (range_with_len 0 k)) (sym long);
   nodes = subst (λ (k : ℕ). AllByRecursion (λ s. IsWithin k s.page × IsLawfulNode head.dim s.node) placed.staged) (sym (ap (λ (n : Live). n.pages) next))
       (subst (AllByRecursion (λ s. IsWithin (t.pages + (length nodes - length numbers)) s.page × IsLawfulNode head.dim s.node)) (sym staged)
-          (all_numbered (IsWithin (t.pages + (length nodes - length numbers))) (IsLawfulNode head.dim) (number_at numbers t.pages) 0 (length nodes) nodes (omega arith) within writable));
+      (all_numbered (IsWithin (t.pages + (length nodes - length numbers))) (IsLawfulNode head.dim) (number_at numbers t.pages) 0 (length nodes) nodes (omega arith) within writable));
+  given = subst (AllByRecursion (λ s. IsIn s.page numbers ⊎ (t.pages ≤ s.page))) (sym staged) (all_given numbers t.pages 0 nodes);
   new_pages = λ page low below. subst (IsIn page) (sym (ap pages_of staged ∙ pages_numbered (number_at numbers t.pages) 0 nodes))
       (end_given numbers t.pages nodes page low (let e = ap (λ (n : Live). n.pages) next in omega (arith, below, e)));
 }
   where
     long : length placed.staged ≡ length nodes
     long = ap length staged ∙ numbered_long (number_at numbers t.pages) 0 nodes
+
     within : (i : ℕ) → i < length nodes → IsWithin (t.pages + (length nodes - length numbers)) (number_at numbers t.pages i)
     within i low = number_within numbers t.pages are (let p = live.low_pages in omega (arith, p)) i (length nodes) low
 

@@ -1,6 +1,6 @@
 -- What a file with staged nodes shows: the tree of what has grown.
-use Rattle.std.proofs.Common.{◌≡◌, ℕ, zero, suc, ◌+◌, ◌<◌, ◌≤◌, Bool, true, false, List, [], ◌∷◌, ◌++◌, refl, sym, ap, ◌∙◌, arith, length, map, subst, get_or, inl, inr}
-use Rattle.std.specs.Prelude.{Option, Some, None, max, nat_le, slice_index_or}
+use Rattle.std.proofs.Common.{◌≡◌, ℕ, zero, suc, ◌+◌, ◌<◌, ◌≤◌, true, false, List, [], ◌∷◌, ◌++◌, refl, sym, ap, ◌∙◌, arith, length, map, subst, get_or, inl, inr}
+use Rattle.std.specs.Prelude.{Option, Some, max, nat_le, slice_index_or}
 use Rattle.std.proofs.lemmas.Bool.Decides.{nat_tests}
 use Rattle.metric_laws.specs.Space.{Space}
 use Rattle.metric_laws.specs.Lists.{IsIn}
@@ -11,19 +11,17 @@ use Rattle.tree_shape.specs.declared.entry.Node.TheVariants.{Leaf, Inner}
 use Rattle.tree_shape.specs.Tree.{Nodes, leaf_entries, inner_entries, pages_at}
 use Rattle.tree_shape.specs.Plain.{Object, Branch, Plain, object_of, tree_at}
 use Rattle.tree_shape.specs.Dealing.{Ball, split_of}
-use Rattle.tree_shape.specs.Insertion.{Grown, One as Whole, Two as Halves2, taken, left, branch, fit, object_ball, branch_ball, with_grown, grown_at, inserted, chosen}
+use Rattle.tree_shape.specs.Insertion.{Grown, One as Whole, Two as Halves2, taken, left, branch, fit, object_ball, branch_ball, with_grown, grown_at}
 use Rattle.tree_shape.proofs.Kept.{taken_map, left_map, length_map}
 use Rattle.tree_shape.proofs.Within.{Agree, child_agrees}
 use Rattle.promote_split.specs.declared.halves.Half.{Half}
 use Rattle.promote_split.specs.declared.halves.Halves.{Halves}
 use Rattle.promote_split.specs.Halves.{IsHalf, IsSplit}
-use Rattle.page_store.specs.Shelf.{Shelf}
-use Rattle.page_store.specs.Reading.{nodes_of, node_or_none}
 use Rattle.insert_path.specs.declared.grew.Stem.{Stem}
 use Rattle.insert_path.specs.declared.grew.Grew.{Grew}
 use Rattle.insert_path.specs.declared.grew.Grew.TheVariants.{One, Two}
 use Rattle.insert_path.specs.Walk.{inner_ball}
-use Rattle.insert_path.specs.Descent.{Plan, rules_of, leaf_ball, leaf_with, inner_with, stem_of, new_entry, entry_of, with_child, regrown, IsWhole, IsHalved, IsStaged, Descends}
+use Rattle.insert_path.specs.Descent.{Plan, rules_of, leaf_ball, leaf_with, inner_with, stem_of, entry_of, with_child, regrown, IsStaged}
 
 -- the nodes stand on their pages, from this number on
 abbrev pub HoldsFrom : Nodes → (ℕ → ℕ) → ℕ → List Node → Type 0
@@ -59,18 +57,20 @@ holds_after file number old more new is holds =
 pub holds_staged : {E : Type 0} (P : Plan) (ball : E → Ball) (set : E → ℕ → E) (make : List E → Node) (es : List E) (file : Nodes) (old new : List Node) (g : Grew) →
     IsStaged P ball set make es old new g → HoldsFrom file P.number 0 new → HoldsFrom file P.number 0 old
 holds_staged P ball set make es file old new g staged holds = elim staged [
-  inl w ↦ (holds_after file P.number old _ new w.staged holds).0
-  | inr h ↦ (holds_after file P.number old _ new h.1.staged holds).0 ]
+  | inl w ↦ (holds_after file P.number old _ new w.staged holds).0
+  | inr h ↦ (holds_after file P.number old _ new h.1.staged holds).0
+]
 
 -- what holds of the grown tree of whole nodes and of halves holds of all
 pub by_staged : {E : Type 0} (P : Plan) (ball : E → Ball) (set : E → ℕ → E) (make : List E → Node) (es : List E) (file : Nodes) (old new : List Node) (g : Grew) (Q : Grew → Type 0) →
     IsStaged P ball set make es old new g → HoldsFrom file P.number 0 new →
     (length es ≤ P.most → file (P.number (length old)) ≡ Some (make es) → Q (One (P.number (length old)))) →
     (P.most < length es → (hs : Halves E) → IsSplit P.space ball set P.promote P.split P.least es hs → file (P.number (length old)) ≡ Some (make hs.first.entries) → file (P.number (length old + 1)) ≡ Some (make hs.second.entries) →
-        Q (Two (stem_of (P.number (length old)) hs.first) (stem_of (P.number (length old + 1)) hs.second))) → Q g
+    Q (Two (stem_of (P.number (length old)) hs.first) (stem_of (P.number (length old + 1)) hs.second))) → Q g
 by_staged P ball set make es file old new g Q staged holds whole halves = elim staged [
-  inl w ↦ subst Q (sym w.grew) (whole w.few (holds_after file P.number old _ new w.staged holds).1.0)
-  | inr h ↦ (let on = (holds_after file P.number old _ new h.1.staged holds).1 in subst Q (sym h.1.grew) (halves h.1.many h.0 h.1.halves.split on.0 on.1.0)) ]
+  | inl w ↦ subst Q (sym w.grew) (whole w.few (holds_after file P.number old _ new w.staged holds).1.0)
+  | inr h ↦ (let on = (holds_after file P.number old _ new h.1.staged holds).1 in subst Q (sym h.1.grew) (halves h.1.many h.0 h.1.halves.split on.0 on.1.0))
+]
 
 pub leaf_balls : (es : List LeafEntry) → map object_ball (map object_of es) ≡ map leaf_ball es
 leaf_balls [] = refl
@@ -105,23 +105,25 @@ leaf_shown P file es old new g staged holds =
   where
     n : length (map object_of es) ≡ length es
     n = length_map object_of es
+
     whole : length es ≤ P.most → file (P.number (length old)) ≡ Some (Leaf es) → grown_tree file zero (One (P.number (length old))) ≡ fit (rules_of P) object_ball (map object_of es)
     whole few at = let e : nat_le (length (map object_of es)) P.most ≡ true = let m = n in grind (arith, nat_tests) in rw (e, at) refl
+
     halves : P.most < length es → (hs : Halves LeafEntry) → IsSplit P.space leaf_ball leaf_with P.promote P.split P.least es hs → file (P.number (length old)) ≡ Some (Leaf hs.first.entries) → file (P.number (length old + 1)) ≡ Some (Leaf hs.second.entries) →
         grown_tree file zero (Two (stem_of (P.number (length old)) hs.first) (stem_of (P.number (length old + 1)) hs.second)) ≡ fit (rules_of P) object_ball (map object_of es)
     halves many hs by at at' =
         let e : nat_le (length (map object_of es)) P.most ≡ false = let m = n in grind (arith, nat_tests) in
         let w = split_of P.space P.promote P.split P.least (map leaf_ball es) in
         rw (e, leaf_balls es, taken_map object_of w.mask es, left_map object_of w.mask es)
-            (two (leaf_half file P.space w.first (taken w.mask es) hs.first (P.number (length old)) by.0 at)
-                 (leaf_half file P.space w.second (left w.mask es) hs.second (P.number (length old + 1)) by.1 at'))
+        (two (leaf_half file P.space w.first (taken w.mask es) hs.first (P.number (length old)) by.0 at)
+        (leaf_half file P.space w.second (left w.mask es) hs.second (P.number (length old + 1)) by.1 at'))
 
 -- one half of an inner node, on its page
 inner_half : (file : Nodes) (h level : ℕ) (s : Space) (b : Ball) (es : List InnerEntry) (half : Half InnerEntry) (page : ℕ) → IsHalf s inner_ball inner_with b es half → file page ≡ Some (Inner level half.entries) →
     stem_branch file (suc h) (stem_of page half) ≡ branch b (map (branch_at file h) es)
 inner_half file h level s b es half page is_half is =
     rw (is_half.point_is, is_half.radius_is, is)
-        (ap (λ (os : List (Branch (Plain h))). record { point = b.0; radius = b.1; below = os }) (ap (map (branch_at file h)) is_half.entries_are ∙ branches_same file h (λ e. s.dist (inner_ball e).0 b.0) es))
+    (ap (λ (os : List (Branch (Plain h))). record { point = b.0; radius = b.1; below = os }) (ap (map (branch_at file h)) is_half.entries_are ∙ branches_same file h (λ e. s.dist (inner_ball e).0 b.0) es))
 
 -- an inner node on its new pages
 pub inner_shown : (P : Plan) (file : Nodes) (h level : ℕ) (es : List InnerEntry) (old new : List Node) (g : Grew) → IsStaged P inner_ball inner_with (Inner level) es old new g → HoldsFrom file P.number 0 new →
@@ -131,16 +133,18 @@ inner_shown P file h level es old new g staged holds =
   where
     n : length (map (branch_at file h) es) ≡ length es
     n = length_map (branch_at file h) es
+
     whole : length es ≤ P.most → file (P.number (length old)) ≡ Some (Inner level es) → grown_tree file (suc h) (One (P.number (length old))) ≡ fit (rules_of P) branch_ball (map (branch_at file h) es)
     whole few at = let e : nat_le (length (map (branch_at file h) es)) P.most ≡ true = let m = n in grind (arith, nat_tests) in rw (e, at) refl
+
     halves : P.most < length es → (hs : Halves InnerEntry) → IsSplit P.space inner_ball inner_with P.promote P.split P.least es hs → file (P.number (length old)) ≡ Some (Inner level hs.first.entries) → file (P.number (length old + 1)) ≡ Some (Inner level hs.second.entries) →
         grown_tree file (suc h) (Two (stem_of (P.number (length old)) hs.first) (stem_of (P.number (length old + 1)) hs.second)) ≡ fit (rules_of P) branch_ball (map (branch_at file h) es)
     halves many hs by at at' =
         let e : nat_le (length (map (branch_at file h) es)) P.most ≡ false = let m = n in grind (arith, nat_tests) in
         let w = split_of P.space P.promote P.split P.least (map inner_ball es) in
         rw (e, inner_balls file h es, taken_map (branch_at file h) w.mask es, left_map (branch_at file h) w.mask es)
-            (two (inner_half file h level P.space w.first (taken w.mask es) hs.first (P.number (length old)) by.0 at)
-                 (inner_half file h level P.space w.second (left w.mask es) hs.second (P.number (length old + 1)) by.1 at'))
+        (two (inner_half file h level P.space w.first (taken w.mask es) hs.first (P.number (length old)) by.0 at)
+        (inner_half file h level P.space w.second (left w.mask es) hs.second (P.number (length old + 1)) by.1 at'))
 
 -- the entries of a node whose subtree has grown show what the rules make of the branches
 pub regrown_shown : (old new : Nodes) (h : ℕ) (grow : Plain h → Grown (Plain h)) (far par : List ℕ → ℕ) (g : Grew) (i : ℕ) (es : List InnerEntry) (z : InnerEntry) → i < length es →
@@ -154,9 +158,11 @@ regrown_shown old new h grow far par g zero (e ∷ es) z low is same = subst (λ
     rest (x ∷ xs) f =
         ap (λ (t : Plain h). record { point = x.point; radius = x.radius; below = t } ∷ map (branch_at new h) xs) (f x (inl refl))
         ∙ ap (λ (r : List (Branch (Plain h))). branch_at old h x ∷ r) (rest xs (λ y k. f y (inr k)))
+
     more : (xs ys : List InnerEntry) → map (branch_at new h) (xs ++ ys) ≡ map (branch_at new h) xs ++ map (branch_at new h) ys
     more [] ys = refl
     more (x ∷ xs) ys = ap (λ (r : List (Branch (Plain h))). branch_at new h x ∷ r) (more xs ys)
+
     cases : (g : Grew) → map (branch_at new h) (with_child (far e.point) par e g es) ≡ with_grown (far e.point) (branch_at old h e) (grown_tree new h g) (map (branch_at old h) es)
     cases (One page) = ap (λ (r : List (Branch (Plain h))). record { point = e.point; radius = max e.radius (far e.point); below = tree_at new h page } ∷ r) (rest es (λ y k. same y (inr k)))
     cases (Two c d) = ap (λ (r : List (Branch (Plain h))). stem_branch new h c ∷ r)
@@ -179,7 +185,7 @@ tree_same old new zero page agree = ap (λ o. map object_of (leaf_entries o)) (a
 tree_same old new (suc h) page agree =
     ap (λ o. map (branch_at new h) (inner_entries o)) (agree page (inl refl))
     ∙ map_agree (branch_at new h) (branch_at old h) (inner_entries (old page))
-        (λ e k. ap (λ (t : Plain h). record { point = e.point; radius = e.radius; below = t }) (tree_same old new h e.child (child_agrees old new h page agree e k)))
+    (λ e k. ap (λ (t : Plain h). record { point = e.point; radius = e.radius; below = t }) (tree_same old new h e.child (child_agrees old new h page agree e k)))
 
 pub map_more : {X Y : Type 0} (f : X → Y) (xs : List X) (x : X) → map f (xs ++ x ∷ []) ≡ map f xs ++ f x ∷ []
 map_more f [] x = refl
@@ -191,4 +197,3 @@ agree_below old new h page level es e is agree k = child_agrees old new h page a
 
 pub chosen_in : (es : List InnerEntry) (i : ℕ) (c : InnerEntry) → i < length es → c ≡ slice_index_or es i c → IsIn c es
 chosen_in es i c low is = subst (λ (e : InnerEntry). IsIn e es) (sym is) (in_get es i c low)
-

@@ -1,6 +1,6 @@
 -- One level of a descent.
-use Rattle.std.proofs.Common.{◌≡◌, ◌≢◌, ℕ, zero, suc, ◌+◌, ◌-◌, ◌<◌, ◌≤◌, Bool, true, false, List, [], ◌∷◌, ◌++◌, refl, sym, ap, ◌∙◌, arith, length, map, subst, get_or, inl, inr}
-use Rattle.std.specs.Prelude.{Option, Some, None, Result, Ok, Err, IsTrue, ◌==◌, if◌then◌else◌, slice_index}
+use Rattle.std.proofs.Common.{◌≡◌, ◌≢◌, ℕ, zero, suc, ◌-◌, ◌<◌, ◌≤◌, Bool, true, false, List, [], ◌∷◌, ◌++◌, refl, sym, ap, ◌∙◌, arith, length, map, subst, get_or, inl, inr}
+use Rattle.std.specs.Prelude.{Option, Some, Ok, Err, IsTrue, ◌==◌, if◌then◌else◌, slice_index}
 use Rattle.std.specs.List.{AllByRecursion}
 use Rattle.std.proofs.lemmas.Bool.Decides.{nat_tests}
 use Rattle.metric_laws.specs.Space.{Space, bound}
@@ -17,16 +17,14 @@ use Rattle.tree_shape.specs.Insertion.{chosen}
 use Rattle.tree_shape.proofs.Lawful.{get_map}
 use Rattle.node_page.specs.Nodes.{IsLawfulNode}
 use Rattle.promote_split.specs.declared.promoting.Policy.{Policy}
-use Rattle.promote_split.specs.declared.halves.Halves.{Halves}
 use Rattle.page_store.specs.declared.pages.PageFault.{PageFault}
 use Rattle.page_store.specs.declared.pages.PageFault.TheVariants.{Disk, Bad, Outside, Memory, Repeats, Level}
 use Rattle.page_store.specs.Reading.{Read, IsWithin, is_within}
 use Rattle.page_store.specs.Shelf.{Shelf, IsNodeOf, HoldsSame, HasPageCause}
 use Rattle.insert_path.specs.declared.grew.Grew.{Grew}
-use Rattle.insert_path.specs.declared.grew.Grew.TheVariants.{One, Two}
 use Rattle.insert_path.specs.Walk.{inner_ball, chosen_child, walk_fault, leaf_fault, inner_fault}
 use Rattle.insert_path.specs.Causes.{HasWalkCause}
-use Rattle.insert_path.specs.Descent.{Plan, plan_of, leaf_ball, leaf_with, inner_with, new_entry, regrown, IsNear, IsSmall, IsWhole, IsHalved, IsStaged, Descends}
+use Rattle.insert_path.specs.Descent.{Plan, plan_of, leaf_ball, leaf_with, inner_with, new_entry, regrown, IsNear, IsSmall, IsStaged, Descends}
 
 -- a page that gives no node is the walk's fault
 pub fault_here : (s : Space) (read : Read) (p : List ℕ) (h page : ℕ) (f : PageFault) → read page ≡ Err f → walk_fault s read p h page ≡ Some f
@@ -63,14 +61,16 @@ pub fault_below : (s t : Space) (read read' : Read) (p : List ℕ) (h k page own
     walk_fault s read p h page ≡ walk_fault t read' p k c.child
 fault_below s t read read' p h k page own node es fs ds place c ts rr hk oh inner fe df chose low isc is =
     rw hk (ap (inner_fault (walk_fault s read p k) s p (suc k) page) (is ∙ ap (λ (n : Node). Ok n) inner)
-      ∙ ap (λ (b : Bool). if b then walk_fault s read p k (chosen_child s p es) else Some (Level page)) yes
-      ∙ ap (walk_fault s read p k) at
-      ∙ ap (λ (x : Space). walk_fault x read p k c.child) (sym ts) ∙ ap (λ (r : Read). walk_fault t r p k c.child) (sym rr))
+    ∙ ap (λ (b : Bool). if b then walk_fault s read p k (chosen_child s p es) else Some (Level page)) yes
+    ∙ ap (walk_fault s read p k) at
+    ∙ ap (λ (x : Space). walk_fault x read p k c.child) (sym ts) ∙ ap (λ (r : Read). walk_fault t r p k c.child) (sym rr))
   where
     yes : (own == suc k) ≡ true
     yes = let e : own ≡ suc k = oh ∙ hk in grind (arith, nat_tests)
+
     de : ds ≡ es
     de = df ∙ fe
+
     at : chosen_child s p es ≡ c.child
     at = ap (slice_index (map (λ (e : InnerEntry). e.child) es)) (sym (chose ∙ ap (λ (xs : List InnerEntry). chosen s (map inner_ball xs) p) de))
         ∙ child_page es place c (subst (λ (xs : List InnerEntry). place < length xs) de low) (isc ∙ ap (λ (xs : List InnerEntry). get_or xs place c) fe)
@@ -128,24 +128,29 @@ module _ (policy : Policy) (bounds : Bounds) (number : ℕ → ℕ) (o : Object)
       AllByRecursion IsNear (regrown (u.dist o.point) (parent_distance u above) place below fs) →
       Descends (by s) a h page above left0 old left2 new g
   inner_step s t u a b h k page own above node es fs ds place c left0 left1 left2 old mid new below g ts ut same hk oh is inner fe df chose low isc left q at_q deep staged near =
-      subst (λ (n : ℕ). Descends (by s) a n page above left0 old left2 new g) (sym hk)
-        (es, c, mid, below,
-         subst (IsNodeOf a page) (inner ∙ ap (λ (n : ℕ). Inner n es) (oh ∙ hk)) is,
-         subst (λ (i : ℕ). i < length es) at (subst (λ (xs : List InnerEntry). place < length xs) de low),
-         subst (λ (i : ℕ). c ≡ get_or es i c) at (isc ∙ ap (λ (xs : List InnerEntry). get_or xs place c) fe),
-         descends_same (by s) a b k c.child (Some c.point) (left0 ++ page ∷ []) old left2 mid below same
-             (subst (λ (x : Space). Descends (by x) b k c.child (Some c.point) (left0 ++ page ∷ []) old left2 mid below) ts
-                 (subst (λ (ls : List ℕ). Descends (by t) b k c.child (Some c.point) ls old left2 mid below) left
-                     (subst (λ (r : List ℕ). Descends (by t) b k c.child (Some r) left1 old left2 mid below) at_q deep))),
-         subst (λ (i : ℕ). IsStaged (by s) inner_ball inner_with (Inner (suc k)) (regrown (s.dist o.point) (parent_distance s above) i below es) mid new g) at
-             (subst (λ (n : ℕ). IsStaged (by s) inner_ball inner_with (Inner n) (regrown (s.dist o.point) (parent_distance s above) place below es) mid new g) hk
-                 (subst (λ (xs : List InnerEntry). IsStaged (by s) inner_ball inner_with (Inner h) (regrown (s.dist o.point) (parent_distance s above) place below xs) mid new g) fe
-                     (subst (λ (x : Space). IsStaged (by x) inner_ball inner_with (Inner h) (regrown (x.dist o.point) (parent_distance x above) place below fs) mid new g) (ut ∙ ts) staged))),
-         subst (λ (i : ℕ). AllByRecursion IsNear (regrown (s.dist o.point) (parent_distance s above) i below es)) at
-             (subst (λ (xs : List InnerEntry). AllByRecursion IsNear (regrown (s.dist o.point) (parent_distance s above) place below xs)) fe
-                 (subst (λ (x : Space). AllByRecursion IsNear (regrown (x.dist o.point) (parent_distance x above) place below fs)) (ut ∙ ts) near)))
+      subst (λ (n : ℕ). Descends (by s) a n page above left0 old left2 new g) (sym hk) (
+        es,
+        c,
+        mid,
+        below,
+        subst (IsNodeOf a page) (inner ∙ ap (λ (n : ℕ). Inner n es) (oh ∙ hk)) is,
+        subst (λ (i : ℕ). i < length es) at (subst (λ (xs : List InnerEntry). place < length xs) de low),
+        subst (λ (i : ℕ). c ≡ get_or es i c) at (isc ∙ ap (λ (xs : List InnerEntry). get_or xs place c) fe),
+        descends_same (by s) a b k c.child (Some c.point) (left0 ++ page ∷ []) old left2 mid below same
+            (subst (λ (x : Space). Descends (by x) b k c.child (Some c.point) (left0 ++ page ∷ []) old left2 mid below) ts
+            (subst (λ (ls : List ℕ). Descends (by t) b k c.child (Some c.point) ls old left2 mid below) left
+            (subst (λ (r : List ℕ). Descends (by t) b k c.child (Some r) left1 old left2 mid below) at_q deep))),
+        subst (λ (i : ℕ). IsStaged (by s) inner_ball inner_with (Inner (suc k)) (regrown (s.dist o.point) (parent_distance s above) i below es) mid new g) at
+            (subst (λ (n : ℕ). IsStaged (by s) inner_ball inner_with (Inner n) (regrown (s.dist o.point) (parent_distance s above) place below es) mid new g) hk
+            (subst (λ (xs : List InnerEntry). IsStaged (by s) inner_ball inner_with (Inner h) (regrown (s.dist o.point) (parent_distance s above) place below xs) mid new g) fe
+            (subst (λ (x : Space). IsStaged (by x) inner_ball inner_with (Inner h) (regrown (x.dist o.point) (parent_distance x above) place below fs) mid new g) (ut ∙ ts) staged))),
+        subst (λ (i : ℕ). AllByRecursion IsNear (regrown (s.dist o.point) (parent_distance s above) i below es)) at
+            (subst (λ (xs : List InnerEntry). AllByRecursion IsNear (regrown (s.dist o.point) (parent_distance s above) place below xs)) fe
+            (subst (λ (x : Space). AllByRecursion IsNear (regrown (x.dist o.point) (parent_distance x above) place below fs)) (ut ∙ ts) near)),
+      )
     where
       de : ds ≡ es
       de = df ∙ fe
+
       at : place ≡ chosen s (map inner_ball es) o.point
       at = chose ∙ ap (λ (xs : List InnerEntry). chosen s (map inner_ball xs) o.point) de

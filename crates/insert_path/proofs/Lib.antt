@@ -12,3 +12,5 @@ pub mod Numbers
 pub mod Listing
 pub mod Top
 pub mod Final
+pub mod Tested
+pub mod Undamaged

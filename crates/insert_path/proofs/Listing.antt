@@ -1,15 +1,14 @@
 -- The objects of a tree with one object more, in order of id.
-use Rattle.std.proofs.Common.{◌≡◌, ◌≢◌, ◌⊎◌, ℕ, zero, suc, ◌+◌, ◌<◌, ◌≤◌, Bool, true, false, cond, List, [], ◌∷◌, ◌++◌, refl, sym, ap, ◌∙◌, arith, length, map, subst, inl, inr}
+use Rattle.std.proofs.Common.{◌≡◌, ◌≢◌, ◌⊎◌, ℕ, zero, suc, ◌+◌, ◌<◌, ◌≤◌, Bool, true, false, cond, List, [], ◌∷◌, ◌++◌, refl, sym, ap, ◌∙◌, arith, map, inl, inr}
 use Rattle.std.specs.Prelude.{if◌then◌else◌, ◌==◌, nat_lt, count_by}
-use Rattle.std.specs.List.{AllByRecursion, flat_map}
+use Rattle.std.specs.List.{AllByRecursion}
 use Rattle.std.proofs.lemmas.Bool.Decides.{nat_tests}
 use Rattle.std.proofs.lemmas.List.Recursion.{is_count_by}
-use Rattle.metric_laws.specs.Space.{Space}
 use Rattle.metric_laws.specs.Lists.{IsIn}
-use Rattle.metric_laws.proofs.Lists.{all_append, all_in, in-map, map-in, all_weaker}
+use Rattle.metric_laws.proofs.Lists.{all_append, all_in, in-map, map-in}
 use Rattle.tree_shape.specs.declared.entry.LeafEntry.{LeafEntry}
 use Rattle.tree_shape.specs.Tree.{times, point_of, points_from, tag_of, tags_from}
-use Rattle.tree_shape.specs.Plain.{Object, Branch, Plain, Tall, objects_in, objects_of, object_of}
+use Rattle.tree_shape.specs.Plain.{Object, Plain, Tall, objects_in, objects_of, object_of}
 use Rattle.tree_shape.specs.Insertion.{Rules, Grown, One, Two, inserted, new_root, placed_by}
 use Rattle.tree_shape.proofs.Kept.{GrownAll, inserted_all}
 use Rattle.tree_shape.proofs.ById.{ids_of, times-in, object_of as object_with, point_of-in}
@@ -43,6 +42,7 @@ ids_more id count o old new is before more =
   where
     sums : (new old n one : ℕ) → new ≡ n + one → old ≡ n → old ≡ (if nat_lt id count then 1 else 0) → (if nat_lt id count then 1 else 0) + one ≡ (if nat_lt id (count + 1) then 1 else 0) → new ≡ (if nat_lt id (count + 1) then 1 else 0)
     sums new old n one a b c d = omega (arith, a, b, c, d)
+
     step : (b : Bool) → (o.id == id) ≡ b → (if nat_lt id count then 1 else 0) + (if b then 1 else 0) ≡ (if nat_lt id (count + 1) then 1 else 0)
     step true e =
         let same : o.id ≡ id = grind (arith, nat_tests) in
@@ -96,14 +96,16 @@ pub old_one : (count : ℕ) (o : Object) (old new : List LeafEntry) → o.id ≡
 old_one count o old new is before after all id low =
     let found = object_with new id (there_counted new (count + 1) id after (omega arith)) in
     elim (all_in (λ (x : Object). IsIn x (map object_of old) ⊎ (x ≡ o)) (map object_of new) (object_of found.0) all (map-in object_of new found.0 found.1)) [
-      inl k ↦ (let was = in-map object_of old (object_of found.0) k in both found.0 found.1 found.2 was.0 was.1 was.2)
-      | inr e ↦ absurd (let i : found.0.id ≡ o.id = ap (λ (x : Object). x.id) e in let j = found.2 in omega (arith, i, j, is)) ]
+      | inl k ↦ (let was = in-map object_of old (object_of found.0) k in both found.0 found.1 found.2 was.0 was.1 was.2)
+      | inr e ↦ absurd (let i : found.0.id ≡ o.id = ap (λ (x : Object). x.id) e in let j = found.2 in omega (arith, i, j, is))
+    ]
   where
     both : (e : LeafEntry) → IsIn e new → e.id ≡ id → (f : LeafEntry) → IsIn f old → object_of e ≡ object_of f → (point_of id new ≡ point_of id old) × (tag_of id new ≡ tag_of id old)
     both e k at f l same =
-        let fid : f.id ≡ id = ap (λ (x : Object). x.id) (sym same) ∙ at in
-        (ap (λ (i : ℕ). point_of i new) (sym at) ∙ point_of-in new e k (once_counted new (count + 1) e.id after) ∙ ap (λ (x : Object). x.point) same ∙ sym (point_of-in old f l (once_counted old count f.id before)) ∙ ap (λ (i : ℕ). point_of i old) fid,
-         ap (λ (i : ℕ). tag_of i new) (sym at) ∙ tag_of-in new e k (once_counted new (count + 1) e.id after) ∙ ap (λ (x : Object). x.tag) same ∙ sym (tag_of-in old f l (once_counted old count f.id before)) ∙ ap (λ (i : ℕ). tag_of i old) fid)
+        let fid : f.id ≡ id = ap (λ (x : Object). x.id) (sym same) ∙ at in (
+          ap (λ (i : ℕ). point_of i new) (sym at) ∙ point_of-in new e k (once_counted new (count + 1) e.id after) ∙ ap (λ (x : Object). x.point) same ∙ sym (point_of-in old f l (once_counted old count f.id before)) ∙ ap (λ (i : ℕ). point_of i old) fid,
+          ap (λ (i : ℕ). tag_of i new) (sym at) ∙ tag_of-in new e k (once_counted new (count + 1) e.id after) ∙ ap (λ (x : Object). x.tag) same ∙ sym (tag_of-in old f l (once_counted old count f.id before)) ∙ ap (λ (i : ℕ). tag_of i old) fid,
+        )
 
 -- the one with the count as its id is the new one
 pub new_one : (count : ℕ) (o : Object) (old new : List LeafEntry) → o.id ≡ count → AreCounted old count → AreCounted new (count + 1) → AllByRecursion (λ x. IsIn x (map object_of old) ⊎ (x ≡ o)) (map object_of new) →
@@ -111,12 +113,15 @@ pub new_one : (count : ℕ) (o : Object) (old new : List LeafEntry) → o.id ≡
 new_one count o old new is before after all =
     let found = object_with new count (there_counted new (count + 1) count after (omega arith)) in
     elim (all_in (λ (x : Object). IsIn x (map object_of old) ⊎ (x ≡ o)) (map object_of new) (object_of found.0) all (map-in object_of new found.0 found.1)) [
-      inl k ↦ absurd (let was = in-map object_of old (object_of found.0) k in
+      | inl k ↦ absurd (let was = in-map object_of old (object_of found.0) k in
           let i : was.0.id ≡ count = ap (λ (x : Object). x.id) (sym was.2) ∙ found.2 in
           let here = times-in old was.0 was.1 in
           let none = ap (λ (n : ℕ). times n (ids_of old)) i ∙ none_counted old count count before (omega arith) in omega (arith, here, none))
-      | inr e ↦ (ap (λ (i : ℕ). point_of i new) (sym found.2) ∙ point_of-in new found.0 found.1 (once_counted new (count + 1) found.0.id after) ∙ ap (λ (x : Object). x.point) e,
-                 ap (λ (i : ℕ). tag_of i new) (sym found.2) ∙ tag_of-in new found.0 found.1 (once_counted new (count + 1) found.0.id after) ∙ ap (λ (x : Object). x.tag) e) ]
+      | inr e ↦ (
+        ap (λ (i : ℕ). point_of i new) (sym found.2) ∙ point_of-in new found.0 found.1 (once_counted new (count + 1) found.0.id after) ∙ ap (λ (x : Object). x.point) e,
+        ap (λ (i : ℕ). tag_of i new) (sym found.2) ∙ tag_of-in new found.0 found.1 (once_counted new (count + 1) found.0.id after) ∙ ap (λ (x : Object). x.tag) e,
+      )
+    ]
 
 pub points_more : (as_new bs : List LeafEntry) (p : List ℕ) (i n : ℕ) → ((id : ℕ) → i ≤ id → id < i + n → point_of id as_new ≡ point_of id bs) → point_of (i + n) as_new ≡ p → points_from as_new i (suc n) ≡ points_from bs i n ++ p ∷ []
 points_more as_new bs p i zero same last = let e : i + 0 ≡ i = omega arith in ap (λ (x : List ℕ). x ∷ []) (ap (λ (k : ℕ). point_of k as_new) (sym e) ∙ last)

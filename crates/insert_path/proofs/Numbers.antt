@@ -1,6 +1,6 @@
 -- The pages of new nodes.
-use Rattle.std.proofs.Common.{◌≡◌, ◌≢◌, ℕ, zero, suc, ◌+◌, ◌-◌, ◌<◌, ◌≤◌, Bool, true, false, List, [], ◌∷◌, ◌++◌, refl, sym, ap, ◌∙◌, arith, length, map, subst, get_or, inl, inr, append_assoc}
-use Rattle.std.specs.Prelude.{if◌then◌else◌, ◌==◌, nat_lt, slice_index_or, None, Some}
+use Rattle.std.proofs.Common.{◌≡◌, ◌≢◌, ℕ, zero, suc, ◌+◌, ◌-◌, ◌<◌, ◌≤◌, Bool, true, false, List, [], ◌∷◌, ◌++◌, refl, ap, ◌∙◌, arith, length, map, subst, get_or, inl, inr, append_assoc}
+use Rattle.std.specs.Prelude.{if◌then◌else◌, ◌==◌, nat_lt, None, Some}
 use Rattle.std.specs.List.{AllByRecursion, range_with_len}
 use Rattle.std.proofs.lemmas.Bool.Decides.{nat_tests}
 use Rattle.metric_laws.specs.Lists.{IsIn}
@@ -51,17 +51,17 @@ lower_or {P} i k lower other = cases (nat_lt i k) refl
 pub number_up : (numbers : List ℕ) (first : ℕ) → AreNumbers first numbers → (i : ℕ) → number_at numbers first i < number_at numbers first (i + 1)
 number_up numbers first are i =
     lower_or (i + 1) (length numbers)
-        (λ l. let a = number_in numbers first i (omega arith) in let b = number_in numbers first (i + 1) l in let n = next_at 3 numbers i are.ascending l in omega (arith, a, b, n))
-        (λ h. lower_or i (length numbers)
-            (λ l. let a = number_in numbers first i l in let b = number_out numbers first (i + 1) h in let n = below_at first numbers i are.below l in omega (arith, a, b, n))
-            (λ k. let a = number_out numbers first i k in let b = number_out numbers first (i + 1) h in omega (arith, a, b)))
+    (λ l. let a = number_in numbers first i (omega arith) in let b = number_in numbers first (i + 1) l in let n = next_at 3 numbers i are.ascending l in omega (arith, a, b, n))
+    (λ h. lower_or i (length numbers)
+    (λ l. let a = number_in numbers first i l in let b = number_out numbers first (i + 1) h in let n = below_at first numbers i are.below l in omega (arith, a, b, n))
+    (λ k. let a = number_out numbers first i k in let b = number_out numbers first (i + 1) h in omega (arith, a, b)))
 
 -- they are pages of the next file
 pub number_within : (numbers : List ℕ) (first : ℕ) → AreNumbers first numbers → 3 ≤ first → (i k : ℕ) → i < k → (3 ≤ number_at numbers first i) × (number_at numbers first i < first + (k - length numbers))
 number_within numbers first are three i k low =
     lower_or i (length numbers)
-        (λ l. let a = number_in numbers first i l in let n = below_at first numbers i are.below l in let m = low_at 3 numbers i are.ascending l in (omega (arith, a, m), omega (arith, a, n)))
-        (λ h. let a = number_out numbers first i h in (omega (arith, a), omega (arith, a)))
+    (λ l. let a = number_in numbers first i l in let n = below_at first numbers i are.below l in let m = low_at 3 numbers i are.ascending l in (omega (arith, a, m), omega (arith, a, n)))
+    (λ h. let a = number_out numbers first i h in (omega (arith, a), omega (arith, a)))
 
 -- no page is given twice
 pub given_once : (number : ℕ → ℕ) → ((i : ℕ) → number i < number (i + 1)) → (n i : ℕ) (ns : List Node) → (times n (pages_from number i ns) ≤ 1) × (n < number i → times n (pages_from number i ns) ≡ 0)

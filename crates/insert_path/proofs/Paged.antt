@@ -1,10 +1,9 @@
 -- The pages of a file with staged nodes.
-use Rattle.std.proofs.Common.{◌≡◌, ◌⊎◌, ℕ, zero, suc, ◌+◌, ◌<◌, ◌≤◌, Bool, true, false, List, [], ◌∷◌, ◌++◌, refl, sym, ap, ◌∙◌, arith, length, map, subst, get_or, inl, inr}
-use Rattle.std.specs.Prelude.{Option, Some, None, IsTrue}
+use Rattle.std.proofs.Common.{◌≡◌, ◌⊎◌, ℕ, zero, suc, ◌+◌, ◌<◌, Bool, true, false, List, [], ◌∷◌, ◌++◌, refl, sym, ap, ◌∙◌, arith, length, map, subst, get_or, inl, inr}
+use Rattle.std.specs.Prelude.{Option, Some, IsTrue}
 use Rattle.std.specs.List.{flat_map}
-use Rattle.metric_laws.specs.Space.{Space}
 use Rattle.metric_laws.specs.Lists.{IsIn}
-use Rattle.metric_laws.proofs.Lists.{flat_map-append, flat_map-map, in-append}
+use Rattle.metric_laws.proofs.Lists.{flat_map-append, in-append}
 use Rattle.tree_shape.specs.declared.entry.LeafEntry.{LeafEntry}
 use Rattle.tree_shape.specs.declared.entry.InnerEntry.{InnerEntry}
 use Rattle.tree_shape.specs.declared.entry.Node.{Node}
@@ -15,14 +14,13 @@ use Rattle.tree_shape.specs.Insertion.{taken, left, chosen}
 use Rattle.tree_shape.proofs.Counting.{times-append}
 use Rattle.tree_shape.proofs.Within.{Agree, same_pages, flat_map_agree, in-flat_map}
 use Rattle.promote_split.specs.declared.halves.Half.{Half}
-use Rattle.promote_split.specs.declared.halves.Halves.{Halves}
-use Rattle.promote_split.specs.Halves.{IsHalf, IsSplit}
+use Rattle.promote_split.specs.Halves.{IsHalf}
 use Rattle.page_store.specs.Shelf.{Shelf}
 use Rattle.page_store.specs.Reading.{nodes_of}
 use Rattle.insert_path.specs.declared.grew.Grew.{Grew}
 use Rattle.insert_path.specs.declared.grew.Grew.TheVariants.{One, Two}
 use Rattle.insert_path.specs.Walk.{inner_ball}
-use Rattle.insert_path.specs.Descent.{Plan, leaf_ball, leaf_with, inner_with, stem_of, new_entry, entry_of, with_child, regrown, IsStaged, Descends}
+use Rattle.insert_path.specs.Descent.{Plan, leaf_ball, leaf_with, inner_with, new_entry, entry_of, regrown, IsStaged, Descends}
 use Rattle.insert_path.proofs.Holding.{HoldsFrom, holds_after, holds_staged, agree_below, chosen_in}
 use Rattle.insert_path.proofs.Walked.{told_node}
 
@@ -72,16 +70,19 @@ pub staged_pages : {E : Type 0} (P : Plan) (ball : E → Ball) (set : E → ℕ 
     IsStaged P ball set make es old new g → HoldsFrom file P.number 0 new → (n : ℕ) →
     times n (grown_pages file h g) + times n (pages_from P.number 0 old) ≡ times n (flat_map f es) + times n (pages_from P.number 0 new)
 staged_pages {E} P ball set make es file h f old new g keeps opens staged holds n = elim staged [
-  inl w ↦ (let at = (holds_after file P.number old (make es ∷ []) new w.staged holds).1.0 in
+  | inl w ↦ (let at = (holds_after file P.number old (make es ∷ []) new w.staged holds).1.0 in
       rw (w.grew, opens (P.number (length old)) es at)
-         (one_page n (P.number (length old)) (flat_map f es) (times n (pages_from P.number 0 old)) _ _ (pages_more P.number old (make es ∷ []) new n w.staged) refl))
+      (one_page n (P.number (length old)) (flat_map f es) (times n (pages_from P.number 0 old)) _ _ (pages_more P.number old (make es ∷ []) new n w.staged) refl))
   | inr k ↦ (let on = (holds_after file P.number old (make k.0.first.entries ∷ make k.0.second.entries ∷ []) new k.1.staged holds).1 in
       rw (k.1.grew, opens (P.number (length old)) k.0.first.entries on.0, opens (P.number (length old + 1)) k.0.second.entries on.1.0)
-         (two_pages n (P.number (length old)) (P.number (length old + 1)) (flat_map f k.0.first.entries) (flat_map f k.0.second.entries) (times n (pages_from P.number 0 old)) _ _
-             (pages_more P.number old (make k.0.first.entries ∷ make k.0.second.entries ∷ []) new n k.1.staged)
-             (rw (half (split_of P.space P.promote P.split P.least (map ball es)).first (taken (split_of P.space P.promote P.split P.least (map ball es)).mask es) k.0.first k.1.halves.split.0,
-                  half (split_of P.space P.promote P.split P.least (map ball es)).second (left (split_of P.space P.promote P.split P.least (map ball es)).mask es) k.0.second k.1.halves.split.1)
-                 (times_parts n f (split_of P.space P.promote P.split P.least (map ball es)).mask es)))) ]
+      (two_pages n (P.number (length old)) (P.number (length old + 1)) (flat_map f k.0.first.entries) (flat_map f k.0.second.entries) (times n (pages_from P.number 0 old)) _ _
+      (pages_more P.number old (make k.0.first.entries ∷ make k.0.second.entries ∷ []) new n k.1.staged)
+      (rw (
+        half (split_of P.space P.promote P.split P.least (map ball es)).first (taken (split_of P.space P.promote P.split P.least (map ball es)).mask es) k.0.first k.1.halves.split.0,
+        half (split_of P.space P.promote P.split P.least (map ball es)).second (left (split_of P.space P.promote P.split P.least (map ball es)).mask es) k.0.second k.1.halves.split.1,
+      )
+      (times_parts n f (split_of P.space P.promote P.split P.least (map ball es)).mask es))))
+]
   where
     half : (b : Ball) (xs : List E) (k : Half E) → IsHalf P.space ball set b xs k → flat_map f k.entries ≡ flat_map f xs
     half b xs k is = ap (flat_map f) is.entries_are ∙ flat_same f (λ e. set e (P.space.dist (ball e).0 b.0)) xs (λ e. keeps e (P.space.dist (ball e).0 b.0))
@@ -139,10 +140,10 @@ descends_pages P shelf new tells zero page above l0 old l1 nodes g d holds agree
 descends_pages P shelf new tells (suc h) page above l0 old l1 nodes g d holds agree n =
     let is : nodes_of shelf.read page ≡ Some (Inner (suc h) d.0) = told_node shelf page (Inner (suc h) d.0) (d.4.told tells) in
     let below = descends_pages P shelf new tells h d.1.child (Some d.1.point) (l0 ++ page ∷ []) old l1 d.2 d.3 d.7 (holds_staged P inner_ball inner_with (Inner (suc h)) _ new d.2 nodes g d.8 holds)
-        (agree_below (nodes_of shelf.read) new h page (suc h) d.0 d.1 is agree (chosen_in d.0 (chosen P.space (map inner_ball d.0) P.object.point) d.1 d.5 d.6)) n in
+    (agree_below (nodes_of shelf.read) new h page (suc h) d.0 d.1 is agree (chosen_in d.0 (chosen P.space (map inner_ball d.0) P.object.point) d.1 d.5 d.6)) n in
     let staged = inner_pages P (regrown (P.space.dist P.object.point) (parent_distance P.space above) (chosen P.space (map inner_ball d.0) P.object.point) d.3 d.0) new h (suc h) d.2 nodes g d.8 holds n in
     let grown = regrown_pages (nodes_of shelf.read) new h n (P.space.dist P.object.point) (parent_distance P.space above) d.3 (chosen P.space (map inner_ball d.0) P.object.point) d.0 d.1 d.5
-        (λ e k. same_pages (nodes_of shelf.read) new h e.child (agree_below (nodes_of shelf.read) new h page (suc h) d.0 e is agree k)) in
+    (λ e k. same_pages (nodes_of shelf.read) new h e.child (agree_below (nodes_of shelf.read) new h page (suc h) d.0 e is agree k)) in
     let mine = ap (λ (e : InnerEntry). times n (below_in (nodes_of shelf.read) h e)) d.6 in
     let here = ap (λ (o : Option Node). times n (page ∷ flat_map (below_in (nodes_of shelf.read) h) (inner_entries o))) is in
     let l = times-append n l0 (page ∷ []) in
@@ -154,6 +155,7 @@ pub descends_in : (P : Plan) (shelf : Shelf) → IsTrue shelf.tells → (h page 
 descends_in P shelf tells zero page above l0 old l1 nodes g d n k = in-append l0 (page ∷ []) n (subst (IsIn n) d.2 k)
 descends_in P shelf tells (suc h) page above l0 old l1 nodes g d n k =
     elim (descends_in P shelf tells h d.1.child (Some d.1.point) (l0 ++ page ∷ []) old l1 d.2 d.3 d.7 n k) [
-      inl a ↦ elim (in-append l0 (page ∷ []) n a) [ inl b ↦ inl b | inr b ↦ elim b [ inl e ↦ inr (inl e) | inr w ↦ absurd w ] ]
+      | inl a ↦ elim (in-append l0 (page ∷ []) n a) [ inl b ↦ inl b | inr b ↦ elim b [ inl e ↦ inr (inl e) | inr w ↦ absurd w ] ]
       | inr b ↦ inr (inr (in-flat_map (below_in (nodes_of shelf.read) h) (inner_entries (nodes_of shelf.read page)) d.1 n
-          (subst (λ (o : Option Node). IsIn d.1 (inner_entries o)) (sym (told_node shelf page (Inner (suc h) d.0) (d.4.told tells))) (chosen_in d.0 (chosen P.space (map inner_ball d.0) P.object.point) d.1 d.5 d.6)) b)) ]
+          (subst (λ (o : Option Node). IsIn d.1 (inner_entries o)) (sym (told_node shelf page (Inner (suc h) d.0) (d.4.told tells))) (chosen_in d.0 (chosen P.space (map inner_ball d.0) P.object.point) d.1 d.5 d.6)) b))
+    ]

@@ -1,22 +1,21 @@
 -- The new root.
-use Rattle.std.proofs.Common.{◌≡◌, ℕ, zero, suc, ◌+◌, ◌<◌, ◌≤◌, Bool, true, false, List, [], ◌∷◌, ◌++◌, refl, sym, ap, ◌∙◌, arith, length, map, subst, inl, inr, append-nil, length-append}
+use Rattle.std.proofs.Common.{◌≡◌, ℕ, suc, ◌+◌, ◌≤◌, Bool, true, false, List, [], ◌∷◌, ◌++◌, refl, sym, ap, ◌∙◌, arith, length, map, subst, append-nil, length-append}
 use Rattle.std.specs.Prelude.{Option, Some, None, IsTrue, ◌==◌, ◌&&◌}
 use Rattle.std.specs.List.{AllByRecursion, flat_map}
 use Rattle.std.proofs.lemmas.Bool.Decides.{nat_tests}
-use Rattle.metric_laws.specs.Space.{Space, bound}
+use Rattle.metric_laws.specs.Space.{Space}
 use Rattle.metric_laws.proofs.Lists.{all_append}
 use Rattle.tree_shape.specs.declared.live.Live.{Live}
 use Rattle.tree_shape.specs.declared.entry.Node.{Node}
-use Rattle.tree_shape.specs.declared.entry.Node.TheVariants.{Leaf, Inner}
+use Rattle.tree_shape.specs.declared.entry.Node.TheVariants.{Inner}
 use Rattle.tree_shape.specs.declared.entry.InnerEntry.{InnerEntry}
 use Rattle.tree_shape.specs.Fill.{most_for}
-use Rattle.tree_shape.specs.Tree.{Nodes, inner_entries, pages_at, times, parent_distance}
+use Rattle.tree_shape.specs.Tree.{Nodes, inner_entries, pages_at, times}
 use Rattle.tree_shape.specs.Plain.{Plain, Tall, Branch, tree_at}
 use Rattle.tree_shape.specs.Insertion.{Grown, One as Whole, Two as Halves2, inserted, new_root}
 use Rattle.tree_shape.proofs.Counting.{times-append}
 use Rattle.node_page.specs.Nodes.{IsLawfulNode}
 use Rattle.page_store.specs.declared.pages.PageFault.{PageFault}
-use Rattle.page_store.specs.declared.pages.PageFault.TheVariants.{Level}
 use Rattle.page_store.specs.Reading.{nodes_of}
 use Rattle.page_store.specs.Shelf.{Shelf}
 use Rattle.insert_path.specs.declared.faults.PlaceFault.{PlaceFault}
@@ -24,12 +23,11 @@ use Rattle.insert_path.specs.declared.faults.PlaceFault.TheVariants.{Page, Full,
 use Rattle.insert_path.specs.declared.grew.Stem.{Stem}
 use Rattle.insert_path.specs.declared.grew.Grew.{Grew}
 use Rattle.insert_path.specs.declared.grew.Grew.TheVariants.{One, Two}
-use Rattle.insert_path.specs.Walk.{walk_fault}
 use Rattle.insert_path.specs.Placing.{place_fault, or_level, is_split, fresh_root}
-use Rattle.insert_path.specs.Causes.{HasWalkCause, HasTreeCause}
+use Rattle.insert_path.specs.Causes.{HasTreeCause}
 use Rattle.insert_path.specs.Roots.{HasRootCause}
 use Rattle.insert_path.specs.Descent.{Plan, rules_of, root_entry, is_two, IsSmall, Roots, Descends}
-use Rattle.insert_path.proofs.Holding.{HoldsFrom, holds_after, grown_tree, branch_at, stem_branch}
+use Rattle.insert_path.proofs.Holding.{HoldsFrom, holds_after, grown_tree, branch_at}
 use Rattle.insert_path.proofs.Walked.{descends_parity, descends_faultless, trees_from, trees_more}
 use Rattle.insert_path.proofs.Stored.{IsStoredAt, GrownStored}
 use Rattle.insert_path.proofs.Paged.{pages_from, pages_more, grown_pages}
@@ -40,10 +38,10 @@ pub root_cause : (P : Plan) (old new : Shelf) (t : Live) (l0 l1 : List ℕ) (bef
     HasTreeCause old new (place_fault P.space (rules_of P) old.read t P.object) f
 root_cause P old new t l0 l1 before nodes g (Page fault) d cause =
     rw cause.0 (λ tells.
-        let high : (t.height == 14) ≡ true = let e = cause.1 in grind (arith, nat_tests) in
-        let split : is_split (inserted (rules_of P) P.object t.height (tree_at (nodes_of old.read) t.height t.root)) ≡ true = sym (descends_parity P old tells t.height t.root None l0 before l1 nodes g d) ∙ cause.2 in
-        ap (λ (o : Option PageFault). or_level o ((t.height == 14) && is_split (inserted (rules_of P) P.object t.height (tree_at (nodes_of old.read) t.height t.root))) t.root) (descends_faultless P old tells t.height t.root None l0 before l1 nodes g d)
-        ∙ rw (high, split) refl)
+    let high : (t.height == 14) ≡ true = let e = cause.1 in grind (arith, nat_tests) in
+    let split : is_split (inserted (rules_of P) P.object t.height (tree_at (nodes_of old.read) t.height t.root)) ≡ true = sym (descends_parity P old tells t.height t.root None l0 before l1 nodes g d) ∙ cause.2 in
+    ap (λ (o : Option PageFault). or_level o ((t.height == 14) && is_split (inserted (rules_of P) P.object t.height (tree_at (nodes_of old.read) t.height t.root))) t.root) (descends_faultless P old tells t.height t.root None l0 before l1 nodes g d)
+    ∙ rw (high, split) refl)
 root_cause P old new t l0 l1 before nodes g Full d cause = cause
 root_cause P old new t l0 l1 before nodes g (NoRoom pages needed) d cause = cause
 root_cause P old new t l0 l1 before nodes g Worn d cause = cause
@@ -58,11 +56,14 @@ root_faultless P old tells t l1 mid nodes g root height d roots =
   where
     both : (a b : Bool) → (a && b) ≡ false → or_level None (a && b) t.root ≡ None
     both a b neither = rw neither refl
+
     second : (a b : Bool) → b ≡ false → (a && b) ≡ false
     second true b off = off
     second false b off = refl
+
     first : (a b : Bool) → a ≡ false → (a && b) ≡ false
     first a b off = rw off refl
+
     cases : (g : Grew) → is_two g ≡ is_split (inserted (rules_of P) P.object t.height (tree_at (nodes_of old.read) t.height t.root)) → Roots P.number t.height g mid nodes root height →
         or_level None ((t.height == 14) && is_split (inserted (rules_of P) P.object t.height (tree_at (nodes_of old.read) t.height t.root))) t.root ≡ None
     cases (One page) same roots = both (t.height == 14) _ (second (t.height == 14) _ (sym same))
@@ -100,7 +101,7 @@ pub root_stored : (s : Space) (number : ℕ → ℕ) (h : ℕ) (file : Nodes) (g
 root_stored s number h file (One page) old new root height roots holds grown = rw (roots.1, roots.2) grown
 root_stored s number h file (Two c d) old new root height roots holds grown =
     subst (λ (k : ℕ). IsStoredAt s file k None root) (sym (above number h c d old new root height roots))
-        (root_entry c ∷ root_entry d ∷ [], stands number h file c d old new root height roots holds, ((refl, grown.0), ((refl, grown.1), tt)))
+    (root_entry c ∷ root_entry d ∷ [], stands number h file c d old new root height roots holds, ((refl, grown.0), ((refl, grown.1), tt)))
 
 -- the pages from the new root
 pub root_pages : (number : ℕ → ℕ) (h n : ℕ) (file : Nodes) (g : Grew) (old new : List Node) (root height : ℕ) → Roots number h g old new root height → HoldsFrom file number 0 new →
@@ -108,7 +109,7 @@ pub root_pages : (number : ℕ → ℕ) (h n : ℕ) (file : Nodes) (g : Grew) (o
 root_pages number h n file (One page) old new root height roots holds = rw (roots.0, roots.1, roots.2) refl
 root_pages number h n file (Two c d) old new root height roots holds =
     let here = ap (λ (k : ℕ). times n (pages_at file k root)) (above number h c d old new root height roots)
-        ∙ ap (λ (o : Option Node). times n (root ∷ children o)) (stands number h file c d old new root height roots holds) in
+    ∙ ap (λ (o : Option Node). times n (root ∷ children o)) (stands number h file c d old new root height roots holds) in
     let more = pages_more number old (Inner (h + 1) (root_entry c ∷ root_entry d ∷ []) ∷ []) new n roots.1 in
     let mine = ap (λ (p : ℕ). times n (p ∷ [])) roots.2 in
     let a = times-append n (pages_at file h c.page) (pages_at file h d.page ++ []) in
@@ -125,8 +126,8 @@ root_fresh number h file (One page) old new root height roots holds = ap (trees_
 root_fresh number h file (Two c d) old new root height roots holds =
     trees_more file number old (Inner (h + 1) (root_entry c ∷ root_entry d ∷ []) ∷ []) new roots.1
     ∙ ap (λ (x : Tall). trees_from file number 0 old ++ x ∷ [])
-        (ap (λ (p : ℕ). tall file p (h + 1)) (sym roots.2) ∙ ap (λ (k : ℕ). tall file root k) (let e : h + 1 ≡ suc h = omega arith in e)
-         ∙ ap (λ (o : Option Node). topped h (map (branch_at file h) (inner_entries o))) (stands number h file c d old new root height roots holds))
+    (ap (λ (p : ℕ). tall file p (h + 1)) (sym roots.2) ∙ ap (λ (k : ℕ). tall file root k) (let e : h + 1 ≡ suc h = omega arith in e)
+    ∙ ap (λ (o : Option Node). topped h (map (branch_at file h) (inner_entries o))) (stands number h file c d old new root height roots holds))
 
 pub root_long : (number : ℕ → ℕ) (h : ℕ) (g : Grew) (old new : List Node) (root height : ℕ) → Roots number h g old new root height → (t : Grown (Plain h)) → is_two g ≡ is_split t → length new ≡ length old + length (fresh_root h t)
 root_long number h (One page) old new root height roots t same = cases t same
@@ -145,5 +146,5 @@ pub root_writable : (dim : ℕ) (number : ℕ → ℕ) (h : ℕ) (g : Grew) (old
 root_writable dim number h (One page) old new root height two roots long small all = subst (AllByRecursion (IsLawfulNode dim)) (sym roots.0) all
 root_writable dim number h (Two c d) old new root height two roots long small all =
     subst (AllByRecursion (IsLawfulNode dim)) (sym roots.1)
-        (all_append (IsLawfulNode dim) old (Inner (h + 1) (root_entry c ∷ root_entry d ∷ []) ∷ []) all
-            (((let low = roots.0 in omega arith), (let low = roots.0 in omega arith), (omega arith), two, (((long.0, small.0, omega arith), ((long.1, small.1, omega arith), tt)))), tt))
+    (all_append (IsLawfulNode dim) old (Inner (h + 1) (root_entry c ∷ root_entry d ∷ []) ∷ []) all
+    (((let low = roots.0 in omega arith), (let low = roots.0 in omega arith), (omega arith), two, (((long.0, small.0, omega arith), ((long.1, small.1, omega arith), tt)))), tt))

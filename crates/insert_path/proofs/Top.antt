@@ -1,19 +1,18 @@
 -- The file with the nodes of an insertion has the tree of the insertion.
-use Rattle.std.proofs.Common.{◌≡◌, ◌⊎◌, ℕ, zero, suc, ◌+◌, ◌-◌, ◌*◌, ◌<◌, ◌≤◌, ◌≢◌, Bool, true, false, List, [], ◌∷◌, ◌++◌, refl, sym, ap, ◌∙◌, arith, length, map, subst, inl, inr, get_or}
-use Rattle.std.specs.Prelude.{◌↔◌, Option, Some, None, IsTrue, if◌then◌else◌, ◌==◌, nat_lt, count_by}
+use Rattle.std.proofs.Common.{◌≡◌, ◌⊎◌, ℕ, zero, suc, ◌+◌, ◌<◌, ◌≤◌, Bool, true, false, List, [], ◌∷◌, ◌++◌, refl, sym, ap, ◌∙◌, arith, length, map, subst, inl, inr, get_or}
+use Rattle.std.specs.Prelude.{◌↔◌, Some, None, IsTrue, if◌then◌else◌, ◌==◌, nat_lt, count_by}
 use Rattle.std.specs.List.{AllByRecursion}
 use Rattle.std.proofs.lemmas.Bool.Decides.{nat_tests}
-use Rattle.metric_laws.specs.Space.{Space, IsSpace}
+use Rattle.metric_laws.specs.Space.{IsSpace}
 use Rattle.metric_laws.specs.Lists.{IsIn}
 use Rattle.metric_laws.proofs.Lists.{all_in, all_weaker}
 use Rattle.tree_shape.specs.declared.live.Live.{Live}
 use Rattle.tree_shape.specs.declared.entry.Node.{Node}
-use Rattle.tree_shape.specs.declared.entry.LeafEntry.{LeafEntry}
 use Rattle.tree_shape.specs.Fill.{root_least}
 use Rattle.tree_shape.specs.Tree.{Nodes, pages_at, times, objects, IsNodePage, IsSoundTree, points_by_id, points_from, tags_by_id, tags_from}
 use Rattle.tree_shape.specs.Plain.{Object, Plain, Tall, objects_of, object_of, tree_at, tree_of}
-use Rattle.tree_shape.specs.Sound.{ObjectFits, IsSoundTall, IsSoundPlain}
-use Rattle.tree_shape.specs.Insertion.{Rules, Grown, inserted, new_root, rules, placed_by}
+use Rattle.tree_shape.specs.Sound.{ObjectFits, IsSoundTall}
+use Rattle.tree_shape.specs.Insertion.{Rules, Grown, new_root, rules, placed_by}
 use Rattle.tree_shape.proofs.Added.{insertion_adds_one}
 use Rattle.tree_shape.proofs.Bare.{sound_without_pages, sound_has_entries}
 use Rattle.tree_shape.proofs.Counting.{times-in as times-out}
@@ -25,13 +24,12 @@ use Rattle.page_store.specs.declared.staging.Placed.{Placed}
 use Rattle.page_store.specs.Shelf.{Shelf}
 use Rattle.page_store.specs.Reading.{nodes_of}
 use Rattle.page_store.specs.Staging.{IsFree, staged_for}
-use Rattle.insert_path.specs.declared.grew.Grew.{Grew}
-use Rattle.insert_path.specs.Placing.{live_pages, fresh, fresh_root, fresh_of, staged_tree, AreNumbers, AreOutside, IsOver, HasInserted}
-use Rattle.insert_path.specs.Descent.{Plan, rules_of, number_at, numbered, Roots, Walks}
+use Rattle.insert_path.specs.Placing.{live_pages, fresh, fresh_root, fresh_of, staged_tree, AreOutside, IsOver, HasInserted}
+use Rattle.insert_path.specs.Descent.{Plan, rules_of, number_at, numbered, Walks}
 use Rattle.insert_path.proofs.Holding.{HoldsFrom, grown_tree}
 use Rattle.insert_path.proofs.Walked.{descends_shown, descends_fresh, trees_from}
 use Rattle.insert_path.proofs.Stored.{IsStoredAt, stored_of_sound, sound_of_stored, descends_stored}
-use Rattle.insert_path.proofs.Paged.{pages_from, grown_pages, descends_pages, descends_in}
+use Rattle.insert_path.proofs.Paged.{pages_from, descends_pages, descends_in}
 use Rattle.insert_path.proofs.Rooted.{tall, root_holds, root_tree, root_stored, root_pages, root_fresh}
 use Rattle.insert_path.proofs.Numbers.{lower_or, number_in, number_out, given_once, stand_holds, free_none}
 use Rattle.insert_path.proofs.Listing.{with_id, AreCounted, ids_more, placed_all, old_one, new_one, points_more, tags_more}
@@ -59,9 +57,9 @@ all_times Q (x ∷ xs) each = (each x (inl refl), all_times Q xs (λ n k. each n
 pub given_out : (nodes : Nodes) (t : Live) (numbers : List ℕ) → AreOutside nodes t numbers → AllByRecursion (IsNodePage t) (live_pages nodes t) → (i : ℕ) → times (number_at numbers t.pages i) (live_pages nodes t) ≡ 0
 given_out nodes t numbers outside within i =
     lower_or i (length numbers)
-        (λ l. rw (number_in numbers t.pages i l) (at numbers i outside l))
-        (λ h. let a = number_out numbers t.pages i h in
-            times-out (live_pages nodes t) (number_at numbers t.pages i) t.pages (all_weaker (IsNodePage t) (λ n. n < t.pages) (live_pages nodes t) (λ n k. k.1) within) (omega (arith, a)))
+    (λ l. rw (number_in numbers t.pages i l) (at numbers i outside l))
+    (λ h. let a = number_out numbers t.pages i h in
+    times-out (live_pages nodes t) (number_at numbers t.pages i) t.pages (all_weaker (IsNodePage t) (λ n. n < t.pages) (live_pages nodes t) (λ n k. k.1) within) (omega (arith, a)))
   where
     at : (xs : List ℕ) (i : ℕ) → AllByRecursion (λ n. times n (live_pages nodes t) ≡ 0) xs → i < length xs → times (get_or xs i 0) (live_pages nodes t) ≡ 0
     at [] i all low = absurd (omega arith)
@@ -103,7 +101,7 @@ module _ (P : Plan) (shelf : Shelf) (tells : IsTrue shelf.tells) (t : Live) (lef
   new_fresh = root_fresh P.number t.height new walks.1 walks.0 nodes root height walks.3 holds
       ∙ ap (λ (r : List Tall). r ++ fresh_root t.height (grown_tree new t.height walks.1)) (descends_fresh P shelf new tells t.height t.root None [] [] left walks.0 walks.1 walks.2 mid_holds agree)
       ∙ ap (λ (g : Grown (Plain t.height)). fresh (rules_of P) P.object t.height (tree_at (nodes_of shelf.read) t.height t.root) ++ fresh_root t.height g)
-          (descends_shown P shelf new tells t.height t.root None [] [] left walks.0 walks.1 walks.2 mid_holds agree)
+      (descends_shown P shelf new tells t.height t.root None [] [] left walks.0 walks.1 walks.2 mid_holds agree)
 
   pub new_stored : IsStoredAt P.space (nodes_of shelf.read) t.height None t.root → IsStoredAt P.space new height None root
   new_stored stored = root_stored P.space P.number t.height new walks.1 walks.0 nodes root height walks.3 holds
@@ -145,20 +143,20 @@ module _ (P : Plan) (shelf : Shelf) (tells : IsTrue shelf.tells) (t : Live) (lef
     pub new_ids : AreCounted (objects new next) (t.count + 1)
     new_ids id = ids_more id t.count P.object (objects (nodes_of shelf.read) t) (objects new next) named (sound.ids id)
         (ap (count_by (with_id id)) (sym (same_objects new next.height next.root)) ∙ ap (λ (u : Tall). count_by (with_id id) (objects_of u)) next_tree
-         ∙ insertion_adds_one P.space P.promote P.split P.object (tree_of (nodes_of shelf.read) t) (sound_has_entries P.space space.few_words (tree_of (nodes_of shelf.read) t) was_sound) (with_id id)
-         ∙ ap (λ (os : List Object). count_by (with_id id) os + (if with_id id P.object then 1 else 0)) (same_objects (nodes_of shelf.read) t.height t.root))
+        ∙ insertion_adds_one P.space P.promote P.split P.object (tree_of (nodes_of shelf.read) t) (sound_has_entries P.space space.few_words (tree_of (nodes_of shelf.read) t) was_sound) (with_id id)
+        ∙ ap (λ (os : List Object). count_by (with_id id) os + (if with_id id P.object then 1 else 0)) (same_objects (nodes_of shelf.read) t.height t.root))
 
     pub next_sound : IsSoundTree P.space new next
     next_sound = record {
       parts = sound_of_stored P.space new next.height (root_least next.height) None next.root
           (subst (λ (k : ℕ). IsStoredAt P.space new next.height None k) (sym at_root) (subst (λ (k : ℕ). IsStoredAt P.space new k None root) (sym at_height)
-              (new_stored (stored_of_sound P.space (nodes_of shelf.read) t.height (root_least t.height) None t.root sound.parts))))
+          (new_stored (stored_of_sound P.space (nodes_of shelf.read) t.height (root_least t.height) None t.root sound.parts))))
           now_sound;
       within = all_times (IsNodePage next) (live_pages new next) (λ n k.
           lower_or 0 (times n (live_pages (nodes_of shelf.read) t))
-              (λ some. let old = all_in (IsNodePage t) (live_pages (nodes_of shelf.read) t) n sound.within (times_in n (live_pages (nodes_of shelf.read) t) some) in let a = old.0 in let b = old.1 in let w = wide in (a, omega (arith, b, w)))
-              (λ none. let here = in_times n (live_pages new next) k in let sum = balance n in
-                  all_in (IsNodePage next) (pages_from P.number 0 nodes) n (given_each (IsNodePage next) P.number 0 (length nodes) nodes (omega arith) within) (times_in n (pages_from P.number 0 nodes) (omega (arith, here, sum, none)))));
+          (λ some. let old = all_in (IsNodePage t) (live_pages (nodes_of shelf.read) t) n sound.within (times_in n (live_pages (nodes_of shelf.read) t) some) in let a = old.0 in let b = old.1 in let w = wide in (a, omega (arith, b, w)))
+          (λ none. let here = in_times n (live_pages new next) k in let sum = balance n in
+          all_in (IsNodePage next) (pages_from P.number 0 nodes) n (given_each (IsNodePage next) P.number 0 (length nodes) nodes (omega arith) within) (times_in n (pages_from P.number 0 nodes) (omega (arith, here, sum, none)))));
       once = λ n. let f = few n in let sum = balance n in omega (arith, f, sum);
       ids = λ id. new_ids id ∙ ap (λ (c : ℕ). if nat_lt id c then 1 else 0) (sym counted);
     }
@@ -168,7 +166,7 @@ module _ (P : Plan) (shelf : Shelf) (tells : IsTrue shelf.tells) (t : Live) (lef
     new_or_old = subst (AllByRecursion (λ x. IsIn x (map object_of (objects (nodes_of shelf.read) t)) ⊎ (x ≡ P.object)))
         (ap objects_of (sym next_tree) ∙ same_objects new next.height next.root)
         (placed_all (rules P.space P.promote P.split) (λ x. IsIn x (map object_of (objects (nodes_of shelf.read) t)) ⊎ (x ≡ P.object)) P.object (inr refl) (tree_of (nodes_of shelf.read) t)
-            (all_objects (objects_of (tree_of (nodes_of shelf.read) t)) (λ x k. inl (subst (IsIn x) (same_objects (nodes_of shelf.read) t.height t.root) k))))
+        (all_objects (objects_of (tree_of (nodes_of shelf.read) t)) (λ x k. inl (subst (IsIn x) (same_objects (nodes_of shelf.read) t.height t.root) k))))
       where
         all_objects : {Q : Object → Type 0} (os : List Object) → ((x : Object) → IsIn x os → Q x) → AllByRecursion Q os
         all_objects [] each = tt
@@ -178,24 +176,28 @@ module _ (P : Plan) (shelf : Shelf) (tells : IsTrue shelf.tells) (t : Live) (lef
     next_points =
         ap (points_from (objects new next) 0) (counted ∙ (let e : t.count + 1 ≡ suc t.count = omega arith in e))
         ∙ points_more (objects new next) (objects (nodes_of shelf.read) t) P.object.point 0 t.count
-            (λ id low high. (old_one t.count P.object (objects (nodes_of shelf.read) t) (objects new next) named sound.ids new_ids new_or_old id (omega (arith, high))).0)
-            (let e : 0 + t.count ≡ t.count = omega arith in rw e (new_one t.count P.object (objects (nodes_of shelf.read) t) (objects new next) named sound.ids new_ids new_or_old).0)
+        (λ id low high. (old_one t.count P.object (objects (nodes_of shelf.read) t) (objects new next) named sound.ids new_ids new_or_old id (omega (arith, high))).0)
+        (let e : 0 + t.count ≡ t.count = omega arith in rw e (new_one t.count P.object (objects (nodes_of shelf.read) t) (objects new next) named sound.ids new_ids new_or_old).0)
 
     pub next_tags : tags_by_id new next ≡ tags_by_id (nodes_of shelf.read) t ++ P.object.tag ∷ []
     next_tags =
         ap (tags_from (objects new next) 0) (counted ∙ (let e : t.count + 1 ≡ suc t.count = omega arith in e))
         ∙ tags_more (objects new next) (objects (nodes_of shelf.read) t) P.object.tag 0 t.count
-            (λ id low high. (old_one t.count P.object (objects (nodes_of shelf.read) t) (objects new next) named sound.ids new_ids new_or_old id (omega (arith, high))).1)
-            (let e : 0 + t.count ≡ t.count = omega arith in rw e (new_one t.count P.object (objects (nodes_of shelf.read) t) (objects new next) named sound.ids new_ids new_or_old).1)
+        (λ id low high. (old_one t.count P.object (objects (nodes_of shelf.read) t) (objects new next) named sound.ids new_ids new_or_old id (omega (arith, high))).1)
+        (let e : 0 + t.count ≡ t.count = omega arith in rw e (new_one t.count P.object (objects (nodes_of shelf.read) t) (objects new next) named sound.ids new_ids new_or_old).1)
 
     -- the pages that are left are those of the old tree that are not in the new one
     pub next_left : (page : ℕ) → IsIn page left ↔ (IsIn page (live_pages (nodes_of shelf.read) t) × (IsIn page (live_pages new next) → ⊥))
-    next_left page =
-        ((λ k. (left_in page k, λ there.
-            let a = in_times page left k in let b = in_times page (live_pages new next) there in let f = few page in let sum = balance page in absurd (omega (arith, a, b, f, sum)))),
-         (λ both. times_in page left
-            (let a = in_times page (live_pages (nodes_of shelf.read) t) both.0 in let sum = balance page in
-             lower_or 0 (times page (live_pages new next)) (λ some. absurd (both.1 (times_in page (live_pages new next) some))) (λ none. omega (arith, a, sum, none)))))
+    next_left page = (
+      (λ k. (
+        left_in page k,
+        λ there.
+            let a = in_times page left k in let b = in_times page (live_pages new next) there in let f = few page in let sum = balance page in absurd (omega (arith, a, b, f, sum)),
+      )),
+      (λ both. times_in page left
+          (let a = in_times page (live_pages (nodes_of shelf.read) t) both.0 in let sum = balance page in
+          lower_or 0 (times page (live_pages new next)) (λ some. absurd (both.1 (times_in page (live_pages new next) some))) (λ none. omega (arith, a, sum, none)))),
+    )
 
 -- a file over which the staged nodes stand has the tree of the insertion
 pub has_inserted : (P : Plan) (shelf : Shelf) → IsTrue shelf.tells → (t : Live) (nodes : List Node) (root height : ℕ) (placed : Placed) → Walks P shelf t placed.left nodes root height →
@@ -207,7 +209,7 @@ pub has_inserted : (P : Plan) (shelf : Shelf) → IsTrue shelf.tells → (t : Li
 has_inserted P shelf tells t nodes root height placed walks staged at_root at_height counted space fits same named sound up out within wide new over =
     let holds : HoldsFrom new P.number 0 nodes = stand_holds new P.number 0 nodes (subst (AllByRecursion (λ (s : StagedNode). new s.page ≡ Some s.node)) staged over.stand) in
     let agree : Agree (nodes_of shelf.read) new (live_pages (nodes_of shelf.read) t) = λ page k.
-        over.stay page k (ap (λ (ss : List StagedNode). staged_for ss page) staged ∙ free_none (numbered P.number 0 nodes) page (given_free P.number (live_pages (nodes_of shelf.read) t) page 0 nodes out k)) in
+    over.stay page k (ap (λ (ss : List StagedNode). staged_for ss page) staged ∙ free_none (numbered P.number 0 nodes) page (given_free P.number (live_pages (nodes_of shelf.read) t) page 0 nodes out k)) in
     record {
       tree = next_tree P shelf tells t placed.left nodes root height walks new holds agree placed.next at_root at_height counted space fits same named sound up out within wide;
       sound = next_sound P shelf tells t placed.left nodes root height walks new holds agree placed.next at_root at_height counted space fits same named sound up out within wide;

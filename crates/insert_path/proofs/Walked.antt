@@ -1,29 +1,24 @@
 -- What a descent over told pages makes: the rules' tree, its new subtrees in order, and their number.
-use Rattle.std.proofs.Common.{◌≡◌, ℕ, zero, suc, ◌+◌, ◌-◌, ◌<◌, ◌≤◌, Bool, true, false, not, List, [], ◌∷◌, ◌++◌, refl, sym, ap, ◌∙◌, arith, length, map, subst, get_or, inl, inr, append_assoc, length-append}
-use Rattle.std.specs.Prelude.{Option, Some, None, Ok, IsTrue, nat_le, if◌then◌else◌, ◌==◌, slice_index}
+use Rattle.std.proofs.Common.{◌≡◌, ℕ, zero, suc, ◌+◌, ◌<◌, Bool, true, false, not, List, [], ◌∷◌, ◌++◌, refl, sym, ap, ◌∙◌, arith, length, map, get_or, inl, inr, append_assoc, length-append}
+use Rattle.std.specs.Prelude.{Option, Some, None, Ok, IsTrue, nat_le, if◌then◌else◌, ◌==◌}
 use Rattle.std.proofs.lemmas.Bool.Decides.{nat_tests}
-use Rattle.metric_laws.specs.Space.{Space}
-use Rattle.metric_laws.specs.Lists.{IsIn}
-use Rattle.tree_shape.specs.declared.entry.LeafEntry.{LeafEntry}
 use Rattle.tree_shape.specs.declared.entry.InnerEntry.{InnerEntry}
 use Rattle.tree_shape.specs.declared.entry.Node.{Node}
 use Rattle.tree_shape.specs.declared.entry.Node.TheVariants.{Leaf, Inner}
 use Rattle.tree_shape.specs.Tree.{Nodes, leaf_entries, inner_entries, pages_at, parent_distance}
-use Rattle.tree_shape.specs.Plain.{Object, Branch, Plain, Tall, object_of, tree_at}
+use Rattle.tree_shape.specs.Plain.{Branch, Plain, Tall, object_of, tree_at}
 use Rattle.tree_shape.specs.Dealing.{Ball}
-use Rattle.tree_shape.specs.Insertion.{Rules, Grown, One as Whole, Two as Halves2, branch, fit, object_ball, branch_ball, with_grown, grown_at, inserted, chosen}
+use Rattle.tree_shape.specs.Insertion.{Rules, Grown, One as Whole, Two as Halves2, fit, object_ball, branch_ball, with_grown, grown_at, inserted, chosen}
 use Rattle.tree_shape.proofs.Kept.{length_map}
 use Rattle.tree_shape.proofs.Within.{Agree}
-use Rattle.page_store.specs.declared.pages.PageFault.{PageFault}
 use Rattle.page_store.specs.declared.pages.PageFault.TheVariants.{Level}
 use Rattle.page_store.specs.Shelf.{Shelf}
-use Rattle.page_store.specs.Reading.{Read, nodes_of, node_or_none}
-use Rattle.insert_path.specs.declared.grew.Stem.{Stem}
+use Rattle.page_store.specs.Reading.{nodes_of, node_or_none}
 use Rattle.insert_path.specs.declared.grew.Grew.{Grew}
 use Rattle.insert_path.specs.declared.grew.Grew.TheVariants.{One, Two}
 use Rattle.insert_path.specs.Walk.{inner_ball, chosen_child, walk_fault, leaf_fault, inner_fault}
 use Rattle.insert_path.specs.Placing.{walk_pages, is_split, parts, fresh_in, fresh, level_of}
-use Rattle.insert_path.specs.Descent.{Plan, rules_of, leaf_ball, leaf_with, inner_with, new_entry, entry_of, with_child, regrown, is_two, IsStaged, Descends}
+use Rattle.insert_path.specs.Descent.{Plan, rules_of, leaf_ball, leaf_with, inner_with, new_entry, entry_of, regrown, is_two, IsStaged, Descends}
 use Rattle.insert_path.proofs.Level.{child_page}
 use Rattle.insert_path.proofs.Holding.{HoldsFrom, grown_tree, branch_at, holds_staged, inner_balls, leaf_shown, inner_shown, regrown_shown, tree_same, map_more, agree_below, chosen_in}
 
@@ -49,13 +44,13 @@ descends_shown P shelf new tells zero page above l0 old l1 nodes g d holds agree
 descends_shown P shelf new tells (suc h) page above l0 old l1 nodes g d holds agree =
     inner_shown P new h (suc h) (regrown (P.space.dist P.object.point) (parent_distance P.space above) (chosen P.space (map inner_ball d.0) P.object.point) d.3 d.0) d.2 nodes g d.8 holds
     ∙ ap (fit (rules_of P) branch_ball)
-        (regrown_shown (nodes_of shelf.read) new h (inserted (rules_of P) P.object h) (P.space.dist P.object.point) (parent_distance P.space above) d.3 (chosen P.space (map inner_ball d.0) P.object.point) d.0 d.1 d.5
-            (descends_shown P shelf new tells h d.1.child (Some d.1.point) (l0 ++ page ∷ []) old l1 d.2 d.3 d.7 (holds_staged P inner_ball inner_with (Inner (suc h)) _ new d.2 nodes g d.8 holds)
-                (agree_below (nodes_of shelf.read) new h page (suc h) d.0 d.1 is agree (chosen_in d.0 (chosen P.space (map inner_ball d.0) P.object.point) d.1 d.5 d.6))
-             ∙ ap (λ (e : InnerEntry). inserted (rules_of P) P.object h (tree_at (nodes_of shelf.read) h e.child)) d.6)
-            (λ e k. tree_same (nodes_of shelf.read) new h e.child (agree_below (nodes_of shelf.read) new h page (suc h) d.0 e is agree k))
-         ∙ ap (λ (i : ℕ). grown_at (inserted (rules_of P) P.object h) (P.space.dist P.object.point) i (map (branch_at (nodes_of shelf.read) h) d.0))
-             (ap (λ bs. chosen P.space bs P.object.point) (sym (inner_balls (nodes_of shelf.read) h d.0))))
+    (regrown_shown (nodes_of shelf.read) new h (inserted (rules_of P) P.object h) (P.space.dist P.object.point) (parent_distance P.space above) d.3 (chosen P.space (map inner_ball d.0) P.object.point) d.0 d.1 d.5
+    (descends_shown P shelf new tells h d.1.child (Some d.1.point) (l0 ++ page ∷ []) old l1 d.2 d.3 d.7 (holds_staged P inner_ball inner_with (Inner (suc h)) _ new d.2 nodes g d.8 holds)
+    (agree_below (nodes_of shelf.read) new h page (suc h) d.0 d.1 is agree (chosen_in d.0 (chosen P.space (map inner_ball d.0) P.object.point) d.1 d.5 d.6))
+    ∙ ap (λ (e : InnerEntry). inserted (rules_of P) P.object h (tree_at (nodes_of shelf.read) h e.child)) d.6)
+    (λ e k. tree_same (nodes_of shelf.read) new h e.child (agree_below (nodes_of shelf.read) new h page (suc h) d.0 e is agree k))
+    ∙ ap (λ (i : ℕ). grown_at (inserted (rules_of P) P.object h) (P.space.dist P.object.point) i (map (branch_at (nodes_of shelf.read) h) d.0))
+    (ap (λ bs. chosen P.space bs P.object.point) (sym (inner_balls (nodes_of shelf.read) h d.0))))
     ∙ ap (λ (p : Option Node). inserted (rules_of P) P.object (suc h) (map (branch_at (nodes_of shelf.read) h) (inner_entries p))) (sym is)
   where
     is : nodes_of shelf.read page ≡ Some (Inner (suc h) d.0)
@@ -84,13 +79,14 @@ tall_at file page k = record { height = k; tree = tree_at file k page }
 pub trees_staged : {E : Type 0} (P : Plan) (ball : E → Ball) (set : E → ℕ → E) (make : List E → Node) (es : List E) (file : Nodes) (h : ℕ) (old new : List Node) (g : Grew) → ((xs : List E) → level_of (make xs) ≡ h) →
     IsStaged P ball set make es old new g → trees_from file P.number 0 new ≡ trees_from file P.number 0 old ++ parts h (grown_tree file h g)
 trees_staged P ball set make es file h old new g levels staged = elim staged [
-  inl w ↦ trees_more file P.number old (make es ∷ []) new w.staged
+  | inl w ↦ trees_more file P.number old (make es ∷ []) new w.staged
       ∙ ap (λ (x : Tall). trees_from file P.number 0 old ++ x ∷ []) (ap (tall_at file (P.number (length old))) (levels es))
       ∙ ap (λ (g : Grew). trees_from file P.number 0 old ++ parts h (grown_tree file h g)) (sym w.grew)
   | inr k ↦ trees_more file P.number old (make k.0.first.entries ∷ make k.0.second.entries ∷ []) new k.1.staged
       ∙ ap (λ (x : Tall). trees_from file P.number 0 old ++ x ∷ tall_at file (P.number (length old + 1)) (level_of (make k.0.second.entries)) ∷ []) (ap (tall_at file (P.number (length old))) (levels k.0.first.entries))
       ∙ ap (λ (x : Tall). trees_from file P.number 0 old ++ tall_at file (P.number (length old)) h ∷ x ∷ []) (ap (tall_at file (P.number (length old + 1))) (levels k.0.second.entries))
-      ∙ ap (λ (g : Grew). trees_from file P.number 0 old ++ parts h (grown_tree file h g)) (sym k.1.grew) ]
+      ∙ ap (λ (g : Grew). trees_from file P.number 0 old ++ parts h (grown_tree file h g)) (sym k.1.grew)
+]
 
 -- the subtree at a place
 pub fresh_at : (file : Nodes) (h : ℕ) (f : Plain h → List Tall) (i : ℕ) (es : List InnerEntry) (z : InnerEntry) → i < length es → fresh_in f i (map (branch_at file h) es) ≡ f (tree_at file h (get_or es i z).child)
@@ -116,12 +112,12 @@ descends_fresh P shelf new tells zero page above l0 old l1 nodes g d holds agree
 descends_fresh P shelf new tells (suc h) page above l0 old l1 nodes g d holds agree =
     trees_staged P inner_ball inner_with (Inner (suc h)) _ new (suc h) d.2 nodes g (λ xs. refl) d.8
     ∙ ap (λ (r : List Tall). r ++ parts (suc h) (grown_tree new (suc h) g)) (descends_fresh P shelf new tells h d.1.child (Some d.1.point) (l0 ++ page ∷ []) old l1 d.2 d.3 d.7 (holds_staged P inner_ball inner_with (Inner (suc h)) _ new d.2 nodes g d.8 holds)
-        (agree_below (nodes_of shelf.read) new h page (suc h) d.0 d.1 is agree (chosen_in d.0 (chosen P.space (map inner_ball d.0) P.object.point) d.1 d.5 d.6)))
+    (agree_below (nodes_of shelf.read) new h page (suc h) d.0 d.1 is agree (chosen_in d.0 (chosen P.space (map inner_ball d.0) P.object.point) d.1 d.5 d.6)))
     ∙ ap (λ (t : Grown (Plain (suc h))). (trees_from new P.number 0 old ++ fresh (rules_of P) P.object h (tree_at (nodes_of shelf.read) h d.1.child)) ++ parts (suc h) t) (descends_shown P shelf new tells (suc h) page above l0 old l1 nodes g d holds agree)
     ∙ append_assoc (trees_from new P.number 0 old) (fresh (rules_of P) P.object h (tree_at (nodes_of shelf.read) h d.1.child)) (parts (suc h) (inserted (rules_of P) P.object (suc h) (tree_at (nodes_of shelf.read) (suc h) page)))
     ∙ ap (λ (r : List Tall). trees_from new P.number 0 old ++ (r ++ parts (suc h) (inserted (rules_of P) P.object (suc h) (tree_at (nodes_of shelf.read) (suc h) page))))
-        (sym (fresh_level P (nodes_of shelf.read) h d.0 d.1 d.5 d.6)
-         ∙ ap (λ (p : Option Node). fresh_in (fresh (rules_of P) P.object h) (chosen P.space (map branch_ball (map (branch_at (nodes_of shelf.read) h) (inner_entries p))) P.object.point) (map (branch_at (nodes_of shelf.read) h) (inner_entries p))) (sym is))
+    (sym (fresh_level P (nodes_of shelf.read) h d.0 d.1 d.5 d.6)
+    ∙ ap (λ (p : Option Node). fresh_in (fresh (rules_of P) P.object h) (chosen P.space (map branch_ball (map (branch_at (nodes_of shelf.read) h) (inner_entries p))) P.object.point) (map (branch_at (nodes_of shelf.read) h) (inner_entries p))) (sym is))
   where
     is : nodes_of shelf.read page ≡ Some (Inner (suc h) d.0)
     is = told_node shelf page (Inner (suc h) d.0) (d.4.told tells)
@@ -143,10 +139,15 @@ fit_parity {X} R ball xs = cases (nat_le (length xs) R.most) _ _
 pub staged_parity : {E : Type 0} (P : Plan) (ball : E → Ball) (set : E → ℕ → E) (make : List E → Node) (es : List E) (old new : List Node) (g : Grew) →
     IsStaged P ball set make es old new g → (is_two g ≡ not (nat_le (length es) P.most)) × (length new ≡ length old + nodes_for (is_two g))
 staged_parity P ball set make es old new g staged = elim staged [
-  inl w ↦ (let few = w.few in ap is_two w.grew ∙ (let e : nat_le (length es) P.most ≡ true = grind (arith, nat_tests) in rw e refl),
-           rw w.grew (ap length w.staged ∙ length-append old (make es ∷ [])))
-  | inr k ↦ (let many = k.1.many in ap is_two k.1.grew ∙ (let e : nat_le (length es) P.most ≡ false = grind (arith, nat_tests) in rw e refl),
-             rw k.1.grew (ap length k.1.staged ∙ length-append old (make k.0.first.entries ∷ make k.0.second.entries ∷ []))) ]
+  | inl w ↦ (
+    let few = w.few in ap is_two w.grew ∙ (let e : nat_le (length es) P.most ≡ true = grind (arith, nat_tests) in rw e refl),
+    rw w.grew (ap length w.staged ∙ length-append old (make es ∷ [])),
+  )
+  | inr k ↦ (
+    let many = k.1.many in ap is_two k.1.grew ∙ (let e : nat_le (length es) P.most ≡ false = grind (arith, nat_tests) in rw e refl),
+    rw k.1.grew (ap length k.1.staged ∙ length-append old (make k.0.first.entries ∷ make k.0.second.entries ∷ [])),
+  )
+]
 
 pub regrown_long : (far par : List ℕ → ℕ) (i : ℕ) (g : Grew) (es : List InnerEntry) → i < length es → length (regrown far par i g es) ≡ length es + one_more (is_two g)
 regrown_long far par i g [] low = absurd (omega arith)
@@ -161,6 +162,7 @@ grown_long file h grow far zero (e ∷ es) z low = cases (grow (tree_at file h e
   where
     n : length (map (branch_at file h) es) ≡ length es
     n = length_map (branch_at file h) es
+
     cases : (t : Grown (Plain h)) → length (with_grown (far e.point) (branch_at file h e) t (map (branch_at file h) es)) ≡ length (e ∷ es) + one_more (is_split t)
     cases (Whole x) = omega (arith, n)
     cases (Halves2 c d) = omega (arith, n, length-append (map (branch_at file h) es) (d ∷ []))
@@ -177,10 +179,10 @@ descends_parity P shelf tells zero page above l0 old l1 nodes g d =
 descends_parity P shelf tells (suc h) page above l0 old l1 nodes g d =
     (staged_parity P inner_ball inner_with (Inner (suc h)) _ d.2 nodes g d.8).0
     ∙ ap (λ (k : ℕ). not (nat_le k P.most))
-        (regrown_long (P.space.dist P.object.point) (parent_distance P.space above) at d.3 d.0 d.5
-         ∙ ap (λ (b : Bool). length d.0 + one_more b)
-             (descends_parity P shelf tells h d.1.child (Some d.1.point) (l0 ++ page ∷ []) old l1 d.2 d.3 d.7 ∙ ap (λ (e : InnerEntry). is_split (inserted (rules_of P) P.object h (tree_at (nodes_of shelf.read) h e.child))) d.6)
-         ∙ sym (grown_long (nodes_of shelf.read) h (inserted (rules_of P) P.object h) (P.space.dist P.object.point) at d.0 d.1 d.5))
+    (regrown_long (P.space.dist P.object.point) (parent_distance P.space above) at d.3 d.0 d.5
+    ∙ ap (λ (b : Bool). length d.0 + one_more b)
+    (descends_parity P shelf tells h d.1.child (Some d.1.point) (l0 ++ page ∷ []) old l1 d.2 d.3 d.7 ∙ ap (λ (e : InnerEntry). is_split (inserted (rules_of P) P.object h (tree_at (nodes_of shelf.read) h e.child))) d.6)
+    ∙ sym (grown_long (nodes_of shelf.read) h (inserted (rules_of P) P.object h) (P.space.dist P.object.point) at d.0 d.1 d.5))
     ∙ sym (fit_parity (rules_of P) branch_ball (grown_at (inserted (rules_of P) P.object h) (P.space.dist P.object.point) at (map (branch_at (nodes_of shelf.read) h) d.0)))
     ∙ ap (λ bs. is_split (fit (rules_of P) branch_ball (grown_at (inserted (rules_of P) P.object h) (P.space.dist P.object.point) (chosen P.space bs P.object.point) (map (branch_at (nodes_of shelf.read) h) d.0)))) (sym (inner_balls (nodes_of shelf.read) h d.0))
     ∙ ap (λ (p : Option Node). is_split (inserted (rules_of P) P.object (suc h) (map (branch_at (nodes_of shelf.read) h) (inner_entries p)))) (sym (told_node shelf page (Inner (suc h) d.0) (d.4.told tells)))
@@ -204,12 +206,12 @@ descends_long P shelf tells (suc h) page above l0 old l1 nodes g d =
     let more = (staged_parity P inner_ball inner_with (Inner (suc h)) _ d.2 nodes g d.8).1 in
     let same = ap nodes_for (descends_parity P shelf tells (suc h) page above l0 old l1 nodes g d) ∙ sym (parts_long (suc h) (inserted (rules_of P) P.object (suc h) (tree_at (nodes_of shelf.read) (suc h) page))) in
     let deep : length (fresh_in (fresh (rules_of P) P.object h) (chosen P.space (map branch_ball (tree_at (nodes_of shelf.read) (suc h) page)) P.object.point) (tree_at (nodes_of shelf.read) (suc h) page))
-        ≡ length (fresh (rules_of P) P.object h (tree_at (nodes_of shelf.read) h d.1.child)) =
-        ap (λ (p : Option Node). length (fresh_in (fresh (rules_of P) P.object h) (chosen P.space (map branch_ball (map (branch_at (nodes_of shelf.read) h) (inner_entries p))) P.object.point) (map (branch_at (nodes_of shelf.read) h) (inner_entries p))))
-            (told_node shelf page (Inner (suc h) d.0) (d.4.told tells))
-        ∙ ap length (fresh_level P (nodes_of shelf.read) h d.0 d.1 d.5 d.6) in
+    ≡ length (fresh (rules_of P) P.object h (tree_at (nodes_of shelf.read) h d.1.child)) =
+    ap (λ (p : Option Node). length (fresh_in (fresh (rules_of P) P.object h) (chosen P.space (map branch_ball (map (branch_at (nodes_of shelf.read) h) (inner_entries p))) P.object.point) (map (branch_at (nodes_of shelf.read) h) (inner_entries p))))
+    (told_node shelf page (Inner (suc h) d.0) (d.4.told tells))
+    ∙ ap length (fresh_level P (nodes_of shelf.read) h d.0 d.1 d.5 d.6) in
     let all = length-append (fresh_in (fresh (rules_of P) P.object h) (chosen P.space (map branch_ball (tree_at (nodes_of shelf.read) (suc h) page)) P.object.point) (tree_at (nodes_of shelf.read) (suc h) page))
-        (parts (suc h) (inserted (rules_of P) P.object (suc h) (tree_at (nodes_of shelf.read) (suc h) page))) in
+    (parts (suc h) (inserted (rules_of P) P.object (suc h) (tree_at (nodes_of shelf.read) (suc h) page))) in
     sums _ _ _ _ _ _ _ _ ih more same deep all
   where
     sums : (old mid new two deep deep' part whole : ℕ) → mid ≡ old + deep → new ≡ mid + two → two ≡ part → deep' ≡ deep → whole ≡ deep' + part → new ≡ old + whole

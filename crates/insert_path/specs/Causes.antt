@@ -46,3 +46,16 @@ HasTreeCause old new first Full = ⊥
 HasTreeCause old new first Worn = ⊥
 HasTreeCause old new first NoMemory = Unit {0}
 HasTreeCause old new first (NoRoom pages needed) = ⊥
+
+-- no page of the file is at fault
+abbrev pub IsUndamaged : PlaceFault → Type 0
+IsUndamaged (Page Disk) = Unit {0}
+IsUndamaged (Page Memory) = Unit {0}
+IsUndamaged (Page (Bad page fault)) = ⊥
+IsUndamaged (Page (Outside page)) = ⊥
+IsUndamaged (Page (Repeats page)) = ⊥
+IsUndamaged (Page (Level page)) = ⊥
+IsUndamaged Full = Unit {0}
+IsUndamaged (NoRoom pages needed) = Unit {0}
+IsUndamaged Worn = Unit {0}
+IsUndamaged NoMemory = Unit {0}

@@ -127,7 +127,7 @@ Descends P shelf (suc h) page above left_old old left_new new g =
     × (c ≡ slice_index_or es (chosen P.space (map inner_ball es) P.object.point) c)
     × Descends P shelf h c.child (Some c.point) (left_old ++ page ∷ []) old left_new mid below
     × IsStaged P inner_ball inner_with (Inner (suc h))
-        (regrown (P.space.dist P.object.point) (parent_distance P.space above) (chosen P.space (map inner_ball es) P.object.point) below es) mid new g
+    (regrown (P.space.dist P.object.point) (parent_distance P.space above) (chosen P.space (map inner_ball es) P.object.point) below es) mid new g
     × AllByRecursion IsNear (regrown (P.space.dist P.object.point) (parent_distance P.space above) (chosen P.space (map inner_ball es) P.object.point) below es)
 
 abbrev pub is_two : Grew → Bool

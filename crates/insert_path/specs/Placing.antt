@@ -1,12 +1,11 @@
 -- What an insertion makes of the tree of a file.
-use Rattle.std.specs.Prelude.{◌≡◌, ◌≢◌, ◌↔◌, ◌⊎◌, ℕ, zero, suc, ◌+◌, ◌-◌, ◌*◌, ◌<◌, ◌≤◌, Bool, true, false, List, [], ◌∷◌, ◌++◌, length, map, Option, Some, None, IsTrue, if◌then◌else◌, ◌==◌, ◌&&◌}
+use Rattle.std.specs.Prelude.{◌⊎◌, ◌≡◌, ◌↔◌, ℕ, zero, suc, ◌+◌, ◌-◌, ◌*◌, ◌<◌, ◌≤◌, Bool, true, false, List, [], ◌∷◌, ◌++◌, length, map, Option, Some, None, ◌==◌, ◌&&◌}
 use Rattle.std.specs.List.{AllByRecursion, range_with_len}
 use Rattle.metric_laws.specs.Space.{Space}
 use Rattle.metric_laws.specs.Lists.{IsIn}
 use Rattle.tree_shape.specs.declared.live.Live.{Live}
 use Rattle.tree_shape.specs.declared.entry.Node.{Node}
 use Rattle.tree_shape.specs.declared.entry.Node.TheVariants.{Leaf, Inner}
-use Rattle.tree_shape.specs.declared.entry.InnerEntry.{InnerEntry}
 use Rattle.tree_shape.specs.Tree.{Nodes, inner_entries, pages_at, times, IsSoundTree, points_by_id, tags_by_id}
 use Rattle.tree_shape.specs.Plain.{Object, Branch, Plain, Tall, tree_at, tree_of}
 use Rattle.tree_shape.specs.Insertion.{Rules, Grown, One, Two, inserted, branch_ball, placed_by}
@@ -106,6 +105,7 @@ pub record IsPlacement (head : Head) (t : Live) (numbers : List ℕ) (placed : P
   pub lawful : IsLawfulLive head.limit (placed.next.pages * 4096) placed.next
   pub numbered : pages_of placed.staged ≡ map (number_at numbers t.pages) (range_with_len 0 (length placed.staged))
   pub nodes : AllByRecursion (λ s. IsWithin placed.next.pages s.page × IsLawfulNode head.dim s.node) placed.staged
+  pub given : AllByRecursion (λ s. IsIn s.page numbers ⊎ (t.pages ≤ s.page)) placed.staged
   pub new_pages : (page : ℕ) → t.pages ≤ page → page < placed.next.pages → IsIn page (pages_of placed.staged)
 
 -- what the walk made: there is no fault, as many nodes are staged as there are new subtrees, and the pages of the walk are left

@@ -89,10 +89,12 @@ fn place_of(seen: Seen) -> usize
 {
     match seen {
         Seen {
-            inside: Some(aim), ..
+            inside: Some(aim),
+            ..
         } => aim.place,
         Seen {
-            outside: Some(aim), ..
+            outside: Some(aim),
+            ..
         } => aim.place,
         _ => 0,
     }

@@ -122,7 +122,7 @@ pub fn grow<P: Pages, R: Ruler>(
         (P.shelf pages.old) live.now grown.written.left.items grown.written.nodes.items grown.root grown.height) }
     ensures cause { IfErr result (HasTreeCause (P.shelf pages.old) (P.shelf pages.new)
         (let Q = plan_of (R.M.space (R.metric ruler.old)) task.now.policy task.now.bounds (number_at task.now.numbers.now task.now.first) (record { id = task.now.object.id; tag = task.now.object.tag; point = task.now.object.point.now }) in
-         place_fault Q.space (rules_of Q) (P.shelf pages.old).read live.now Q.object)) }
+        place_fault Q.space (rules_of Q) (P.shelf pages.old).read live.now Q.object)) }
 {
     let mut written = Written {
         nodes: Vec::new(alloc),

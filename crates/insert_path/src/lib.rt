@@ -15,3 +15,6 @@ mod task;
 pub use choice::choose;
 pub use faults::PlaceFault;
 pub use placing::place;
+
+#[cfg(test)]
+mod tests;

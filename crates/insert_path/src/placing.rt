@@ -5,7 +5,7 @@ ghost use Rattle.node_page.specs.Heads.{IsLawfulHead};
 ghost use Rattle.node_page.specs.Opening.{IsLawfulLive};
 ghost use Rattle.page_store.specs.Reading.{nodes_of};
 ghost use Rattle.page_store.specs.Staging.{pages_of};
-ghost use Rattle.insert_path.specs.Causes.{HasAsked, HasPlaceCause};
+ghost use Rattle.insert_path.specs.Causes.{HasAsked, HasPlaceCause, IsUndamaged};
 ghost use Rattle.insert_path.specs.Placing.{AreNumbers, AreOutside, IsOver, IsPlacement, HasWalked, HasInserted};
 
 use crate::PlaceFault;
@@ -42,7 +42,7 @@ pub fn place<P: Pages, R: Ruler>(
     requires dim { (P.shelf pages.old).dim ≡ head.now.dim }
     requires pages { (P.shelf pages.old).pages ≡ live.now.pages }
     requires numbers { AreNumbers live.now.pages numbers.now }
-    requires outside { IsTrue (P.shelf pages.old).tells → AreOutside (nodes_of (P.shelf pages.old).read) live.now numbers.now }
+    requires outside { IsTrue (P.shelf pages.old).tells → IsSoundTree (R.M.space (R.metric ruler.old)) (nodes_of (P.shelf pages.old).read) live.now → AreOutside (nodes_of (P.shelf pages.old).read) live.now numbers.now }
 
     ensures metric { R.metric ruler.new ≡ R.metric ruler.old }
     ensures asked { HasAsked (live.now.height + 1) (P.shelf pages.old) (P.shelf pages.new) }
@@ -64,6 +64,7 @@ pub fn place<P: Pages, R: Ruler>(
     ensures full { (result ≡ Err PlaceFault.Full) ↔ (live.now.count ≡ head.now.limit) }
     ensures worn { (result ≡ Err PlaceFault.Worn) ↔ ((live.now.count ≢ head.now.limit) × (live.now.generation ≡ 2 ^ 48 - 1)) }
     ensures cause { IfErr result (HasPlaceCause (R.M.space (R.metric ruler.old)) (rules (R.M.space (R.metric ruler.old)) head.now.promote head.now.split) numbers.now live.now (record { id = live.now.count; tag = tag; point = p.now }) (P.shelf pages.old) (P.shelf pages.new)) }
+    ensures sound { IfErr result (λ fault. IsTrue (P.shelf pages.old).tells → IsSoundTree (R.M.space (R.metric ruler.old)) (nodes_of (P.shelf pages.old).read) live.now → IsUndamaged fault) }
 {
     if live.count == head.limit {
         return Err(PlaceFault::Full);

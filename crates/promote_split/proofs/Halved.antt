@@ -132,6 +132,6 @@ near_half s ball es fs t p q same is low is_point all =
     let n : size (table_of s (map ball es)) ≡ length (map ball es) = length_map (λ (b : Ball). b.1) (map ball es) in
     let low' : p < length (map ball es) = subst (λ (k : ℕ). p < k) n (subst (λ (u : Table). p < size u) whole low) in
     let e : row t p ≡ map (λ (b : Ball). s.dist b.0 (point_at (map ball es) p)) (map ball es) =
-        ap (λ (u : Table). row u p) whole ∙ row_of_table s (map ball es) p low' in
+    ap (λ (u : Table). row u p) whole ∙ row_of_table s (map ball es) p low' in
     rw is_point (all_map (λ (b : Ball). s.dist b.0 (point_at (map ball es) p) ≤ bound) ball es
-        (all_map (λ d. d ≤ bound) (λ (b : Ball). s.dist b.0 (point_at (map ball es) p)) (map ball es) (subst (AllByRecursion (λ d. d ≤ bound)) e all)))
+    (all_map (λ d. d ≤ bound) (λ (b : Ball). s.dist b.0 (point_at (map ball es) p)) (map ball es) (subst (AllByRecursion (λ d. d ≤ bound)) e all)))

@@ -9,6 +9,6 @@ use Rattle.insert_path.proofs.descent.back_at.Goals as goal
 pub returns-clause-staged : goal.returns-clause-staged
 returns-clause-staged g c =
     staged_by (λ (s : Space). plan_of s c.args.task.now.policy c.args.task.now.bounds (number_at c.args.task.now.numbers.now c.args.task.now.first) (record { id = c.args.task.now.object.id; tag = c.args.task.now.object.tag; point = c.args.task.now.object.point.now }))
-        _ _ inner_ball inner_with (Inner c.args.spot.now.level) _ _ c.args.nodes.now.items _ _ (ap g.R.M.Metric.space c.in_ok-regrow.ensures.metric)
-        c.in_ok-regrow.ensures.entries
-        c.in_ok-grew.ensures.staged
+    _ _ inner_ball inner_with (Inner c.args.spot.now.level) _ _ c.args.nodes.now.items _ _ (ap g.R.M.Metric.space c.in_ok-regrow.ensures.metric)
+    c.in_ok-regrow.ensures.entries
+    c.in_ok-grew.ensures.staged

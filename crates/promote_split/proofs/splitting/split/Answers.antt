@@ -17,8 +17,9 @@ returns-clause-shares g c =
 
 pub returns-clause-near : goal.returns-clause-near
 returns-clause-near g c =
-    let pair = c.in_ok-halves.ensures.pair in
-    (near_half (g.R.M.Metric.space (g.R.Ruler.metric c.args.ruler.now)) g.E.Entry.ball c.args.entries.items c.deref.result.now c.in_ok-matrix.matrix _ c.in_ok-halves.halves.first.point
-         c.deref.ensures.value c.in_ok-matrix.ensures.table (let a = pair.0 in let b = pair.1 in omega arith) c.in_ok-halves.ensures.halves.0.point_is c.in_ok-halves.ensures.near.0,
-     near_half (g.R.M.Metric.space (g.R.Ruler.metric c.args.ruler.now)) g.E.Entry.ball c.args.entries.items c.deref.result.now c.in_ok-matrix.matrix _ c.in_ok-halves.halves.second.point
-         c.deref.ensures.value c.in_ok-matrix.ensures.table pair.1 c.in_ok-halves.ensures.halves.1.point_is c.in_ok-halves.ensures.near.1)
+    let pair = c.in_ok-halves.ensures.pair in (
+      near_half (g.R.M.Metric.space (g.R.Ruler.metric c.args.ruler.now)) g.E.Entry.ball c.args.entries.items c.deref.result.now c.in_ok-matrix.matrix _ c.in_ok-halves.halves.first.point
+          c.deref.ensures.value c.in_ok-matrix.ensures.table (let a = pair.0 in let b = pair.1 in omega arith) c.in_ok-halves.ensures.halves.0.point_is c.in_ok-halves.ensures.near.0,
+      near_half (g.R.M.Metric.space (g.R.Ruler.metric c.args.ruler.now)) g.E.Entry.ball c.args.entries.items c.deref.result.now c.in_ok-matrix.matrix _ c.in_ok-halves.halves.second.point
+          c.deref.ensures.value c.in_ok-matrix.ensures.table pair.1 c.in_ok-halves.ensures.halves.1.point_is c.in_ok-halves.ensures.near.1,
+    )
