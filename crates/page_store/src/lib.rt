@@ -15,3 +15,6 @@ pub use staging::{Placed, Staged, StagedNode};
 
 /// Want of memory.
 pub type Memory = std::alloc::AllocError;
+
+#[cfg(test)]
+mod tests;

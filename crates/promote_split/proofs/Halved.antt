@@ -1,20 +1,21 @@
 -- A split by the table is the split of the rules, and both groups have their least.
 use Rattle.std.proofs.Common.{◌≡◌, ◌≢◌, ℕ, ◌+◌, ◌*◌, ◌<◌, ◌≤◌, Bool, true, false, List, [], ◌∷◌, refl, sym, ap, arith, ◌∙◌, length, map, subst}
 use Rattle.std.specs.Prelude.{if◌then◌else◌}
-use Rattle.metric_laws.specs.Space.{Space}
-use Rattle.tree_shape.specs.Dealing.{Ball, Table, size, table_of, is_on, count_on, members, partitioned, promoted, point_at, IsPair}
+use Rattle.std.specs.List.{AllByRecursion}
+use Rattle.metric_laws.specs.Space.{Space, bound}
+use Rattle.tree_shape.specs.Dealing.{Ball, Table, size, row, table_of, is_on, count_on, members, partitioned, promoted, point_at, IsPair}
 use Rattle.tree_shape.specs.Insertion.{taken, left}
 use Rattle.tree_shape.specs.Splits.{IsFairPartition}
 use Rattle.tree_shape.specs.declared.rules.Side.{Side}
 use Rattle.tree_shape.specs.declared.rules.Side.TheVariants.{First, Second, Open}
 use Rattle.tree_shape.proofs.Fair.{tally, count_is_tally, tally_members, IsFair, fair}
 use Rattle.tree_shape.proofs.Lawful.{taken_tally, left_tally}
-use Rattle.tree_shape.proofs.Kept.{parts_long}
+use Rattle.tree_shape.proofs.Kept.{parts_long, all_map}
 use Rattle.tree_shape.proofs.Parted.{partition_is_fair}
 use Rattle.tree_shape.proofs.TableRows.{row_of_table, length_map}
 use Rattle.promote_split.specs.declared.halves.Halves.{Halves}
 use Rattle.promote_split.specs.Steps.{half_entries}
-use Rattle.promote_split.specs.Halves.{IsSplitBy, IsSplit}
+use Rattle.promote_split.specs.Halves.{AreNear, IsSplitBy, IsSplit}
 
 -- as many places on a side as entries
 pub members_count : (on : Side) (ss : List Side) → length (members on ss) ≡ count_on on ss
@@ -122,3 +123,15 @@ shares {E} s ball set promote split least es h some room pair is =
         (partitioned (table_of s (map ball es)) (promoted (table_of s (map ball es)) promote split least).0 (promoted (table_of s (map ball es)) promote split least).1 split least)
     f = fair (table_of s (map ball es)) (promoted (table_of s (map ball es)) promote split least).0 (promoted (table_of s (map ball es)) promote split least).1 split least
         (let m = n in let l = pair.0 in let h = pair.1 in omega arith) (let m = n in let h = pair.1 in omega arith) (λ same. let l = pair.0 in absurd (omega arith)) some (let m = n in omega arith)
+
+-- a row without a distance above the bound
+pub near_half : {E : Type 0} (s : Space) (ball : E → Ball) (es fs : List E) (t : Table) (p : ℕ) (q : List ℕ) → fs ≡ es → t ≡ table_of s (map ball fs) → p < size t → q ≡ point_at (map ball es) p →
+    AllByRecursion (λ d. d ≤ bound) (row t p) → AreNear s ball es q
+near_half s ball es fs t p q same is low is_point all =
+    let whole : t ≡ table_of s (map ball es) = is ∙ ap (λ (gs : List _). table_of s (map ball gs)) same in
+    let n : size (table_of s (map ball es)) ≡ length (map ball es) = length_map (λ (b : Ball). b.1) (map ball es) in
+    let low' : p < length (map ball es) = subst (λ (k : ℕ). p < k) n (subst (λ (u : Table). p < size u) whole low) in
+    let e : row t p ≡ map (λ (b : Ball). s.dist b.0 (point_at (map ball es) p)) (map ball es) =
+        ap (λ (u : Table). row u p) whole ∙ row_of_table s (map ball es) p low' in
+    rw is_point (all_map (λ (b : Ball). s.dist b.0 (point_at (map ball es) p) ≤ bound) ball es
+        (all_map (λ d. d ≤ bound) (λ (b : Ball). s.dist b.0 (point_at (map ball es) p)) (map ball es) (subst (AllByRecursion (λ d. d ≤ bound)) e all)))

@@ -1,6 +1,7 @@
 -- What a split gives.
-use Rattle.std.specs.Prelude.{◌≡◌, ℕ, List, map}
-use Rattle.metric_laws.specs.Space.{Space}
+use Rattle.std.specs.Prelude.{◌≡◌, ◌≤◌, ℕ, List, map}
+use Rattle.std.specs.List.{AllByRecursion}
+use Rattle.metric_laws.specs.Space.{Space, bound}
 use Rattle.tree_shape.specs.Dealing.{Ball, Table, row, partitioned, promoted, group_radius, split_of, point_at}
 use Rattle.tree_shape.specs.Insertion.{taken, left}
 use Rattle.tree_shape.specs.declared.rules.Side.{Side}
@@ -21,6 +22,10 @@ abbrev pub IsSplit : {E : Type 0} → Space → (E → Ball) → (E → ℕ → 
 IsSplit s ball set promote split least es h =
     let w = split_of s promote split least (map ball es) in
     IsHalf s ball set w.first (taken w.mask es) h.first × IsHalf s ball set w.second (left w.mask es) h.second
+
+-- no entry is farther from the point than the greatest distance
+abbrev pub AreNear : {E : Type 0} → Space → (E → Ball) → List E → List ℕ → Type 0
+AreNear s ball es point = AllByRecursion (λ e. s.dist (ball e).0 point ≤ bound) es
 
 -- a half by the node's table
 pub record IsHalfBy {E : Type 0} (ball : E → Ball) (set : E → ℕ → E) (t : Table) (p : ℕ) (on : Side) (sides : List Side) (es : List E) (h : Half E) : Type 0 where

@@ -1,9 +1,9 @@
 ghost use Rattle.std.specs.Prelude.{◌≡◌, ◌+◌, ◌*◌, ◌≤◌, ◌++◌, ◌∷◌, [], length, reverse, IfOk, OnOk, if◌then◌else◌};
 ghost use Rattle.std.specs.List.{AllByRecursion};
 ghost use Rattle.metric_laws.specs.Space.{bound};
-ghost use Rattle.tree_shape.specs.Dealing.{size, is_on, promoted, IsPair};
+ghost use Rattle.tree_shape.specs.Dealing.{size, row, is_on, promoted, IsPair};
 ghost use Rattle.promote_split.specs.Steps.{half_entries};
-ghost use Rattle.promote_split.specs.Halves.{IsSplitBy, IsSplit};
+ghost use Rattle.promote_split.specs.Halves.{IsSplitBy, IsSplit, AreNear};
 ghost use Rattle.promote_split.specs.Tables.{HasCounted};
 
 use crate::dealing::{Promoted, partition_into};
@@ -105,6 +105,7 @@ fn split_by<E: Entry>(
     ensures halves { IfOk result (λ h. IsSplitBy E.ball E.with_parent matrix.now policy.promote policy.split least entries.items h) }
     ensures pair { IfOk result (λ h. IsPair (size matrix.now) (promoted matrix.now policy.promote policy.split least)) }
     ensures within { IfOk result (λ h. (h.first.radius ≤ bound) × (h.second.radius ≤ bound)) }
+    ensures near { OnOk result (AllByRecursion (λ d. d ≤ bound) (row matrix.now (promoted matrix.now policy.promote policy.split least).0) × AllByRecursion (λ d. d ≤ bound) (row matrix.now (promoted matrix.now policy.promote policy.split least).1)) }
 {
     let (a, b) = promote(alloc, matrix, policy, least)?;
     let mut sides = Vec::with_capacity(alloc, matrix.len())?;
@@ -143,6 +144,7 @@ pub fn split<R: Ruler, E: Entry>(
     ensures halves { IfOk result (λ h. IsSplit (R.M.space (R.metric ruler.old)) E.ball E.with_parent policy.promote policy.split least entries.items h) }
     ensures shares { IfOk result (λ h. (least ≤ length h.first.entries) × (least ≤ length h.second.entries) × (length h.first.entries + length h.second.entries ≡ length entries.items)) }
     ensures within { IfOk result (λ h. (h.first.radius ≤ bound) × (h.second.radius ≤ bound)) }
+    ensures near { IfOk result (λ h. AreNear (R.M.space (R.metric ruler.old)) E.ball entries.items h.first.point × AreNear (R.M.space (R.metric ruler.old)) E.ball entries.items h.second.point) }
 {
     let matrix = Matrix::of(alloc, ruler, &entries)?;
     let halves = split_by(alloc, &matrix, entries, policy, least)?;

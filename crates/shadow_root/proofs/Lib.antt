@@ -5,3 +5,4 @@ pub mod Run
 pub mod Opened
 pub mod Causes
 pub mod Made
+pub mod Ready

@@ -9,5 +9,8 @@ mod opening;
 pub use committing::commit;
 pub use faults::{CreateFault, OpenFault};
 pub use making::create;
-pub use opening::{LAST_GENERATION, MOST_PAGES};
+pub use opening::{LAST_GENERATION, MOST_PAGES, open};
 
+
+#[cfg(test)]
+mod tests;

@@ -376,3 +376,10 @@ none_from_sound s read t sound =
             (sound.parts, all_weaker _ _ (objects (nodes_of read) t) (λ o k. (tt, k)) (ids_all t.count (objects (nodes_of read) t) ids.0)) (sound.once, ids.1) in
     let long : (length (ids_of (objects (nodes_of read) t)) == t.count) ≡ true = rw ids.2 (number_itself t.count) in
     rw (walk, long) refl
+
+-- the pages that a walk of the whole tree went to are the tree's
+pub walked_pages : (s : Space) (read : Read) (t : Live) (seen : Seen) → audited_at s read t.count t.height (root_least t.height) [] t.root (record { pages = []; ids = [] }) ≡ Ok seen
+    → seen.pages ≡ pages_at (nodes_of read) t.height t.root
+walked_pages s read t seen is =
+    let passed = passes_at s read t.count t.height (root_least t.height) [] t.root (record { pages = []; ids = [] }) seen ((λ k. omega arith), (λ k. omega arith)) is in
+    ap (λ (v : Seen). v.pages) passed.1

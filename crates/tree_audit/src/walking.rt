@@ -1,4 +1,20 @@
-use metric_laws::Point;
+// The walk of an audit.
+ghost use Rattle.std.specs.Prelude.{◌≡◌, ◌≢◌, ◌⊎◌, ℕ, List, [], ◌∷◌, ◌++◌, ◌+◌, ◌≤◌, ◌<◌, ◌^◌, ◌==◌, ◌&&◌, nat_le, length, Option, None, Result, Ok, Err, IsTrue, IfOk, OnOk, IfErr};
+ghost use Rattle.metric_laws.specs.Counts.{next_count};
+ghost use Rattle.tree_shape.specs.Fill.{most_for};
+ghost use Rattle.metric_laws.specs.Space.{Space};
+ghost use Rattle.tree_shape.specs.Tree.{parent_distance, times};
+ghost use Rattle.tree_audit.specs.declared.walking.Step.{Step};
+ghost use Rattle.page_store.specs.Shelf.{HoldsSame, IsNodeOf};
+ghost use Rattle.tree_audit.specs.Audited.{Seen, first_outside, if_inside, check_object, check_entry, each_entry, last_point, audited_at, is_filled, step, IsWalkFault};
+ghost use Rattle.tree_audit.specs.Visits.{seen_of, leaf_told, IsEntryFault, IsOpenFault};
+
+use crate::AuditFault;
+use crate::met::Met;
+use metric_laws::{Point, Ruler};
+use page_store::{Memory, PageFault, Pages};
+use std::alloc::Global;
+use tree_shape::{InnerEntry, LeafEntry, Node, fill};
 
 /// A routing entry on the way from the root.
 #[derive(Debug, Drop)]
@@ -11,4 +27,303 @@ pub struct Step {
     pub radius: u64,
     /// Its routing point.
     pub point: Point,
+}
+
+/// The pages that the walk went to and the ids that it met.
+#[derive(Debug, Drop)]
+pub struct Visits {
+    /// The pages, all of them below the live slot's number of pages.
+    pub pages: Met,
+    /// The ids, all of them below the live slot's count.
+    pub ids: Met,
+}
+
+/// Where the walk stands.
+#[derive(Clone, Copy, Debug)]
+pub struct Spot {
+    /// The page.
+    pub page: u32,
+    /// The level that the page's node is to have.
+    pub level: u32,
+    /// The least entries that it is to have.
+    pub least: usize,
+    /// How many coordinates a point has.
+    pub dim: u8,
+}
+
+// The distance that is to be stored beside a point.
+fn parent_of<R: Ruler>(ruler: &mut R, path: &[Step], p: &[u32]) -> u64
+    ensures same { R.metric ruler.new ≡ R.metric ruler.old }
+    ensures value { result ≡ parent_distance (R.M.space (R.metric ruler.old)) (last_point path.now) p.now }
+{
+    match path.last() {
+        None => 0,
+        Some(step) => ruler.dist(p, step.point.as_slice()),
+    }
+}
+
+// Whether the object lies within the radius of each step, from the root down.
+fn audit_inside<R: Ruler>(ruler: &mut R, path: &[Step], p: &[u32], id: u32) -> Result<(), AuditFault>
+    ensures same { R.metric ruler.new ≡ R.metric ruler.old }
+    ensures ok { OnOk result (first_outside (R.M.space (R.metric ruler.old)) path.now p.now ≡ None) }
+    ensures err { IfErr result (λ v. (rest : Result Seen AuditFault) → IsEntryFault (if_inside (first_outside (R.M.space (R.metric ruler.old)) path.now p.now) id rest) v) }
+{
+    for i in 0..path.len() {
+        let step = &path[i];
+        if ruler.dist(p, step.point.as_slice()) > step.radius {
+            return Err(AuditFault::Radius(step.page, step.place, id));
+        }
+    }
+    Ok(())
+}
+
+// One object of a leaf.
+fn audit_object<R: Ruler>(
+    ruler: &mut R,
+    path: &[Step],
+    page: u32,
+    place: u32,
+    object: &LeafEntry,
+    ids: &mut Met,
+) -> Result<(), AuditFault>
+    ensures same { R.metric ruler.new ≡ R.metric ruler.old }
+    ensures limit { ids.new.limit ≡ ids.old.limit }
+    ensures ok { OnOk result ((ps : List ℕ) → check_object (R.M.space (R.metric ruler.old)) ids.old.limit (last_point path.now) path.now page place object.now (record { pages = ps; ids = ids.old.met })
+        ≡ Ok (record { pages = ps; ids = ids.new.met })) }
+    ensures err { IfErr result (λ v. (ps : List ℕ) → IsEntryFault (check_object (R.M.space (R.metric ruler.old)) ids.old.limit (last_point path.now) path.now page place object.now (record { pages = ps; ids = ids.old.met })) v) }
+{
+    let point = object.point.as_slice();
+    if !ruler.fits(point) {
+        return Err(AuditFault::Unfit(page, place));
+    }
+    if object.parent != parent_of(ruler, path, point) {
+        return Err(AuditFault::ParentDistance(page, place));
+    }
+    if let Err(fault) = audit_inside(ruler, path, point, object.id) {
+        return Err(fault);
+    }
+    if object.id >= ids.limit() || ids.has(object.id) {
+        return Err(AuditFault::Id(object.id));
+    }
+    match ids.add(object.id) {
+        Ok(()) => Ok(()),
+        Err(_) => Err(AuditFault::Memory),
+    }
+}
+
+// The objects of a leaf.
+fn audit_objects<R: Ruler>(
+    ruler: &mut R,
+    path: &[Step],
+    page: u32,
+    objects: &[LeafEntry],
+    ids: &mut Met,
+) -> Result<(), AuditFault>
+    requires { length objects.now < 2 ^ 32 }
+    ensures same { R.metric ruler.new ≡ R.metric ruler.old }
+    ensures limit { ids.new.limit ≡ ids.old.limit }
+    ensures ok { OnOk result ((ps : List ℕ) → each_entry (check_object (R.M.space (R.metric ruler.old)) ids.old.limit (last_point path.now) path.now page) 0 objects.now (record { pages = ps; ids = ids.old.met })
+        ≡ Ok (record { pages = ps; ids = ids.new.met })) }
+    ensures err { IfErr result (λ v. (ps : List ℕ) → IsEntryFault (each_entry (check_object (R.M.space (R.metric ruler.old)) ids.old.limit (last_point path.now) path.now page) 0 objects.now (record { pages = ps; ids = ids.old.met })) v) }
+{
+    for i in 0..objects.len() {
+        if let Err(fault) = audit_object(ruler, path, page, i as u32, &objects[i], ids) {
+            return Err(fault);
+        }
+    }
+    Ok(())
+}
+
+// An entry of an inner node, before its child.
+fn audit_entry<R: Ruler>(
+    ruler: &mut R,
+    path: &[Step],
+    page: u32,
+    place: u32,
+    entry: &InnerEntry,
+) -> Result<(), AuditFault>
+    ensures same { R.metric ruler.new ≡ R.metric ruler.old }
+    ensures ok { OnOk result ((rest : Result Seen AuditFault) → check_entry (R.M.space (R.metric ruler.old)) (last_point path.now) page place entry.now rest ≡ rest) }
+    ensures err { IfErr result (λ v. (rest : Result Seen AuditFault) → IsEntryFault (check_entry (R.M.space (R.metric ruler.old)) (last_point path.now) page place entry.now rest) v) }
+{
+    let point = entry.point.as_slice();
+    if !ruler.fits(point) {
+        return Err(AuditFault::Unfit(page, place));
+    }
+    if entry.parent != parent_of(ruler, path, point) {
+        return Err(AuditFault::ParentDistance(page, place));
+    }
+    Ok(())
+}
+
+// The node of a page.
+fn open_page<P: Pages>(alloc: Global, pages: &mut P, page: u32) -> Result<Node, AuditFault>
+    ensures ok { IfOk result (IsNodeOf (P.shelf pages.old) page) }
+    ensures err { IfErr result (IsOpenFault (P.shelf pages.old) (P.shelf pages.new) page) }
+    ensures same { HoldsSame (P.shelf pages.old) (P.shelf pages.new) }
+    ensures asked { (P.shelf pages.new).asked ≡ next_count (P.shelf pages.old).asked }
+    ensures reads { (P.shelf pages.new).reads ≤ (P.shelf pages.old).reads + 1 }
+    ensures keeps { P.keeps pages.old pages.new }
+{
+    match pages.node(alloc, page) {
+        Ok(node) => Ok(node),
+        Err(PageFault::Memory) => Err(AuditFault::Memory),
+        Err(fault) => Err(AuditFault::Page(fault)),
+    }
+}
+
+// Whether so many entries are enough and not too many.
+fn is_filled(at: &Spot, count: usize) -> bool
+    requires some { 1 ≤ at.now.dim }
+    requires few { at.now.dim ≤ 64 }
+    ensures { result ≡ (nat_le at.now.least count && nat_le count (most_for at.now.dim)) }
+{
+    at.least <= count && count <= fill(at.dim).most
+}
+
+// The objects of a leaf at the place where the walk stands.
+fn audit_leaf<R: Ruler>(
+    ruler: &mut R,
+    path: &[Step],
+    at: &Spot,
+    objects: &[LeafEntry],
+    ids: &mut Met,
+) -> Result<(), AuditFault>
+    requires some { 1 ≤ at.now.dim }
+    requires few { at.now.dim ≤ 64 }
+    requires words { (R.M.space (R.metric ruler.old)).words ≡ at.now.dim }
+    requires count { length objects.now < 2 ^ 32 }
+    ensures same { R.metric ruler.new ≡ R.metric ruler.old }
+    ensures limit { ids.new.limit ≡ ids.old.limit }
+    ensures ok { OnOk result ((ps : List ℕ) → leaf_told (R.M.space (R.metric ruler.old)) ids.old.limit at.now.level at.now.least path.now at.now.page objects.now (record { pages = ps; ids = ids.old.met })
+        ≡ Ok (record { pages = ps; ids = ids.new.met })) }
+    ensures err { IfErr result (λ v. (ps : List ℕ) → IsEntryFault (leaf_told (R.M.space (R.metric ruler.old)) ids.old.limit at.now.level at.now.least path.now at.now.page objects.now (record { pages = ps; ids = ids.old.met })) v) }
+{
+    if at.level != 0 || !is_filled(at, objects.len()) {
+        return Err(AuditFault::Fill(at.page));
+    }
+    audit_objects(ruler, path, at.page, objects, ids)
+}
+
+// The node of a page to which the walk comes.
+fn arrive<P: Pages>(
+    alloc: Global,
+    pages: &mut P,
+    seen: &mut Met,
+    page: u32,
+) -> Result<Node, AuditFault>
+    requires { seen.old.limit ≡ (P.shelf pages.old).pages }
+    ensures ok { IfOk result (IsNodeOf (P.shelf pages.old) page) }
+    ensures new { OnOk result (times page seen.old.met ≡ 0) }
+    ensures noted { OnOk result (seen.new.met ≡ seen.old.met ++ page ∷ []) }
+    ensures limit { seen.new.limit ≡ seen.old.limit }
+    ensures err { IfErr result (λ v. (s : Space) (count h least : ℕ) (path : List Step) (ids : List ℕ)
+        → IsWalkFault (P.shelf pages.old) (P.shelf pages.new) (audited_at s (P.shelf pages.old).read count h least path page (record { pages = seen.old.met; ids = ids })) v) }
+    ensures same { HoldsSame (P.shelf pages.old) (P.shelf pages.new) }
+    ensures asked { (P.shelf pages.new).asked ≤ (P.shelf pages.old).asked + 1 }
+    ensures reads { (P.shelf pages.new).reads ≤ (P.shelf pages.old).reads + 1 }
+    ensures keeps { P.keeps pages.old pages.new }
+{
+    if seen.has(page) {
+        return Err(AuditFault::Twice(page));
+    }
+    let node = match open_page(alloc, pages, page) {
+        Ok(node) => node,
+        Err(fault) => return Err(fault),
+    };
+    if seen.add(page).is_err() {
+        return Err(AuditFault::Memory);
+    }
+    Ok(node)
+}
+
+// The step to a child.
+fn step_to(alloc: Global, page: u32, place: u32, entry: &InnerEntry) -> Result<Step, Memory>
+    ensures { IfOk result (λ t. t ≡ step page place entry.now) }
+{
+    Ok(Step {
+        page,
+        place,
+        radius: entry.radius,
+        point: Point::new(alloc, entry.point.as_slice())?,
+    })
+}
+
+// Whether an inner node has this level and a lawful number of entries.
+fn is_inner(at: &Spot, level: u8, count: usize) -> bool
+    requires some { 1 ≤ at.now.dim }
+    requires few { at.now.dim ≤ 64 }
+    ensures { result ≡ ((level == at.now.level) && (nat_le at.now.least count && nat_le count (most_for at.now.dim))) }
+{
+    u32::from(level) == at.level && is_filled(at, count)
+}
+
+/// Walks the subtree of a page in pre-order.
+pub fn walk<P: Pages, R: Ruler>(
+    alloc: Global,
+    pages: &mut P,
+    ruler: &mut R,
+    visits: &mut Visits,
+    path: &mut Vec<Step>,
+    at: Spot,
+) -> Result<(), AuditFault>
+    requires some { 1 ≤ at.dim }
+    requires few { at.dim ≤ 64 }
+    requires dim { (P.shelf pages.old).dim ≡ at.dim }
+    requires words { (R.M.space (R.metric ruler.old)).words ≡ at.dim }
+    requires limit { visits.old.pages.limit ≡ (P.shelf pages.old).pages }
+    ensures metric { R.metric ruler.new ≡ R.metric ruler.old }
+    ensures same { HoldsSame (P.shelf pages.old) (P.shelf pages.new) }
+    ensures keeps { P.keeps pages.old pages.new }
+    ensures pages_limit { visits.new.pages.limit ≡ visits.old.pages.limit }
+    ensures ids_limit { visits.new.ids.limit ≡ visits.old.ids.limit }
+    ensures path { OnOk result (path.new.items ≡ path.old.items) }
+    ensures ok { OnOk result (IsTrue (P.shelf pages.old).tells
+        → audited_at (R.M.space (R.metric ruler.old)) (P.shelf pages.old).read visits.old.ids.limit at.level at.least path.old.items at.page (seen_of visits.old) ≡ Ok (seen_of visits.new)) }
+    ensures err { IfErr result (IsWalkFault (P.shelf pages.old) (P.shelf pages.new)
+        (audited_at (R.M.space (R.metric ruler.old)) (P.shelf pages.old).read visits.old.ids.limit at.level at.least path.old.items at.page (seen_of visits.old))) }
+    ensures asked { OnOk result ((P.shelf pages.new).asked + length visits.old.pages.met ≤ (P.shelf pages.old).asked + length visits.new.pages.met) }
+    ensures reads { OnOk result ((P.shelf pages.new).reads + length visits.old.pages.met ≤ (P.shelf pages.old).reads + length visits.new.pages.met) }
+{
+    let node = match arrive(alloc, pages, &mut visits.pages, at.page) {
+        Ok(node) => node,
+        Err(fault) => return Err(fault),
+    };
+    let (level, entries) = match node {
+        Node::Leaf(objects) => {
+            return audit_leaf(ruler, path.as_slice(), &at, objects.as_slice(), &mut visits.ids);
+        }
+        Node::Inner { level, entries } => (level, entries),
+    };
+    let entries = entries.as_slice();
+    if at.level == 0 {
+        return Err(AuditFault::Fill(at.page));
+    }
+    if !is_inner(&at, level, entries.len()) {
+        return Err(AuditFault::Fill(at.page));
+    }
+    for place in 0..entries.len() {
+        let entry = &entries[place];
+        if let Err(fault) = audit_entry(ruler, path.as_slice(), at.page, place as u32, entry) {
+            return Err(fault);
+        }
+        let step = match step_to(alloc, at.page, place as u32, entry) {
+            Ok(step) => step,
+            Err(_) => return Err(AuditFault::Memory),
+        };
+        if path.push(step).is_err() {
+            return Err(AuditFault::Memory);
+        }
+        let child = Spot {
+            page: entry.child,
+            level: at.level - 1,
+            least: fill(at.dim).least,
+            dim: at.dim,
+        };
+        if let Err(fault) = walk(alloc, pages, ruler, visits, path, child) {
+            return Err(fault);
+        }
+        let _ = path.pop();
+    }
+    Ok(())
 }

@@ -1,0 +1,173 @@
+-- What an insertion places.
+use Rattle.std.proofs.Common.{◌≡◌, ◌≢◌, ℕ, zero, suc, ◌+◌, ◌-◌, ◌*◌, ◌/◌, ◌^◌, ◌<◌, ◌≤◌, Bool, true, false, List, [], ◌∷◌, ◌++◌, refl, sym, ap, ◌∙◌, arith, length, map, subst, inl, inr, length-append}
+use Rattle.std.specs.Prelude.{Option, Some, None, IsTrue, nat_le, min, ◌&&◌}
+use Rattle.std.specs.List.{AllByRecursion, range_with_len}
+use Rattle.std.proofs.lemmas.Bool.Decides.{nat_tests}
+use Rattle.metric_laws.specs.Space.{Space, IsSpace}
+use Rattle.metric_laws.specs.Lists.{IsIn}
+use Rattle.tree_shape.specs.declared.live.Live.{Live}
+use Rattle.tree_shape.specs.declared.entry.Node.{Node}
+use Rattle.tree_shape.specs.Fill.{most_for, least_for}
+use Rattle.tree_shape.specs.Tree.{Nodes, times, IsNodePage, IsSoundTree}
+use Rattle.tree_shape.specs.Plain.{Object, Plain, Tall, tree_at, tree_of}
+use Rattle.tree_shape.proofs.Height.{three_at_least}
+use Rattle.tree_shape.specs.Insertion.{Rules, rules, rules_for, inserted}
+use Rattle.node_page.specs.Heads.{is_limit, IsLawfulHead}
+use Rattle.node_page.specs.Nodes.{IsLawfulNode}
+use Rattle.node_page.specs.Opening.{IsLawfulLive}
+use Rattle.node_page.specs.declared.head.Head.{Head}
+use Rattle.page_store.specs.declared.staging.StagedNode.{StagedNode}
+use Rattle.page_store.specs.declared.staging.Placed.{Placed}
+use Rattle.page_store.specs.Shelf.{Shelf}
+use Rattle.page_store.specs.Reading.{IsWithin, nodes_of}
+use Rattle.page_store.specs.Staging.{pages_of}
+use Rattle.insert_path.specs.declared.faults.PlaceFault.{PlaceFault}
+use Rattle.insert_path.specs.declared.faults.PlaceFault.TheVariants.{Page, Full, NoRoom, Worn, Memory}
+use Rattle.insert_path.specs.declared.grew.Grew.{Grew}
+use Rattle.insert_path.specs.declared.grew.Grew.TheVariants.{One, Two}
+use Rattle.insert_path.specs.Walk.{inner_ball}
+use Rattle.insert_path.specs.Roots.{HasRoomCause}
+use Rattle.insert_path.specs.Causes.{HasPlaceCause}
+use Rattle.insert_path.specs.Placing.{live_pages, walk_pages, place_fault, fresh, fresh_root, fresh_of, AreNumbers, AreOutside, IsPlacement, HasWalked}
+use Rattle.insert_path.specs.Descent.{Plan, rules_of, leaf_ball, leaf_with, inner_with, number_at, numbered, IsStaged, Descends, Roots, Walks}
+use Rattle.insert_path.proofs.Level.{small_descends}
+use Rattle.insert_path.proofs.Walked.{descends_parity, descends_long, descends_left}
+use Rattle.insert_path.proofs.Paged.{pages_from}
+use Rattle.insert_path.proofs.Rooted.{root_faultless, root_long, root_writable}
+use Rattle.insert_path.proofs.Writable.{descends_writable}
+use Rattle.insert_path.proofs.Numbers.{number_within, pages_numbered, numbered_long, pages_range, end_given}
+use Rattle.insert_path.proofs.Top.{given_out, given_each}
+
+pub limit_small : (limit : ℕ) → IsTrue (is_limit limit) → limit ≤ 2 ^ 24
+unfolding is_limit
+limit_small limit told = cases (nat_le 1 limit) (nat_le limit 16777216) refl told
+  where
+    cases : (a b : Bool) → nat_le limit 16777216 ≡ b → IsTrue (a && b) → limit ≤ 2 ^ 24
+    cases true true e told = let l : limit ≤ 16777216 = grind (arith, nat_tests) in l
+    cases true false e told = cc
+    cases false b e told = cc
+
+pub count_small : (head : Head) (count : ℕ) → IsLawfulHead head → count ≤ head.limit → count ≢ head.limit → count < 2 ^ 24
+count_small head count lawful most other = let l = limit_small head.limit lawful.limit in omega (arith, l, most, other)
+
+-- the rules of a plan whose nodes are filled as the space asks
+pub rules_same : (s : Space) (promote split most least dim : ℕ) → most ≡ most_for dim → least ≡ least_for dim → s.words ≡ dim → rules_for s promote split most least ≡ rules s promote split
+rules_same s promote split most least dim is_most is_least words =
+    ap (λ (m : ℕ). rules_for s promote split m least) (is_most ∙ ap most_for (sym words)) ∙ ap (λ (l : ℕ). rules_for s promote split (most_for s.words) l) (is_least ∙ ap least_for (sym words))
+
+-- the page of a node that has grown is one that was given
+abbrev pub IsGiven : (ℕ → ℕ) → ℕ → Grew → Type 0
+IsGiven number many (One page) = (i : ℕ) × (i < many) × (page ≡ number i)
+IsGiven number many (Two c d) = Unit {0}
+
+pub staged_given : {E : Type 0} (P : Plan) (ball : E → _) (set : E → ℕ → E) (make : List E → Node) (es : List E) (old new : List Node) (g : Grew) → IsStaged P ball set make es old new g → IsGiven P.number (length new) g
+staged_given P ball set make es old new g staged = elim staged [
+  inl w ↦ subst (IsGiven P.number (length new)) (sym w.grew) (length old, (let n = ap length w.staged ∙ length-append old (make es ∷ []) in omega (arith, n)), refl)
+  | inr k ↦ subst (IsGiven P.number (length new)) (sym k.1.grew) tt ]
+
+pub descends_given : (P : Plan) (shelf : Shelf) (h page : ℕ) (above : Option (List ℕ)) (l0 : List ℕ) (old : List Node) (l1 : List ℕ) (nodes : List Node) (g : Grew) → Descends P shelf h page above l0 old l1 nodes g → IsGiven P.number (length nodes) g
+descends_given P shelf zero page above l0 old l1 nodes g d = staged_given P leaf_ball leaf_with _ _ old nodes g d.3
+descends_given P shelf (suc h) page above l0 old l1 nodes g d = staged_given P inner_ball inner_with _ _ d.2 nodes g d.8
+
+pub walks_given : (P : Plan) (shelf : Shelf) (t : Live) (left : List ℕ) (nodes : List Node) (root height : ℕ) → Walks P shelf t left nodes root height → (i : ℕ) × (i < length nodes) × (root ≡ P.number i)
+walks_given P shelf t left nodes root height w = cases w.1 (descends_given P shelf t.height t.root None [] [] left w.0 w.1 w.2) w.3
+  where
+    cases : (g : Grew) → IsGiven P.number (length w.0) g → Roots P.number t.height g w.0 nodes root height → (i : ℕ) × (i < length nodes) × (root ≡ P.number i)
+    cases (One page) given roots = (given.0, (let n = ap length roots.0 in let l = given.1 in omega (arith, n, l)), roots.1 ∙ given.2)
+    cases (Two c d) given roots = (length w.0, (let n = ap length roots.1 ∙ length-append w.0 _ in omega (arith, n)), roots.2)
+
+pub walks_height : (P : Plan) (shelf : Shelf) (t : Live) (left : List ℕ) (nodes : List Node) (root height : ℕ) → t.height ≤ 14 → Walks P shelf t left nodes root height → height ≤ 14
+walks_height P shelf t left nodes root height high w = cases w.1 w.3
+  where
+    cases : (g : Grew) → Roots P.number t.height g w.0 nodes root height → height ≤ 14
+    cases (One page) roots = let e = roots.2 in omega (arith, e, high)
+    cases (Two c d) roots = let e = roots.3 in let l = roots.0 in omega (arith, e, l)
+
+pub walks_writable : (P : Plan) (shelf : Shelf) (t : Live) (left : List ℕ) (nodes : List Node) (root height : ℕ) → P.most ≡ most_for shelf.dim → 1 ≤ P.least → 2 * P.least ≤ P.most → length P.object.point ≡ shelf.dim → Walks P shelf t left nodes root height →
+    AllByRecursion (IsLawfulNode shelf.dim) nodes
+walks_writable P shelf t left nodes root height most some room long w =
+    let below = descends_writable P shelf most some long t.height t.root None [] [] left w.0 w.1 w.2 tt in
+    root_writable shelf.dim P.number t.height w.1 w.0 nodes root height (omega (arith, most, some, room)) w.3 below.1 (small_descends P shelf t.height t.root None [] [] left w.0 w.1 w.2) below.0
+
+pub walks_long : (P : Plan) (shelf : Shelf) → IsTrue shelf.tells → (t : Live) (left : List ℕ) (nodes : List Node) (root height : ℕ) → Walks P shelf t left nodes root height →
+    length nodes ≡ length (fresh_of (rules_of P) P.object (tree_of (nodes_of shelf.read) t))
+walks_long P shelf tells t left nodes root height w =
+    let deep = descends_long P shelf tells t.height t.root None [] [] left w.0 w.1 w.2 in
+    let top = root_long P.number t.height w.1 w.0 nodes root height w.3 (inserted (rules_of P) P.object t.height (tree_at (nodes_of shelf.read) t.height t.root))
+        (descends_parity P shelf tells t.height t.root None [] [] left w.0 w.1 w.2) in
+    let all = length-append (fresh (rules_of P) P.object t.height (tree_at (nodes_of shelf.read) t.height t.root)) (fresh_root t.height (inserted (rules_of P) P.object t.height (tree_at (nodes_of shelf.read) t.height t.root))) in
+    omega (arith, deep, top, all)
+
+-- there is no room
+pub room_cause : (P : Plan) (old new : Shelf) (R : Rules) (numbers : List ℕ) (t : Live) (left : List ℕ) (nodes : List Node) (root height : ℕ) (f : PlaceFault) → rules_of P ≡ R → Walks P old t left nodes root height →
+    HasRoomCause t (length nodes - length numbers) f → HasPlaceCause P.space R numbers t P.object old new f
+room_cause P old new R numbers t left nodes root height (Page fault) same w cause = absurd cause
+room_cause P old new R numbers t left nodes root height Full same w cause = absurd cause
+room_cause P old new R numbers t left nodes root height Worn same w cause = absurd cause
+room_cause P old new R numbers t left nodes root height Memory same w cause = tt
+room_cause P old new R numbers t left nodes root height (NoRoom pages needed) same w cause =
+    (cause.0, cause.2, λ tells.
+        (ap (λ (Q : Rules). place_fault P.space Q old.read t P.object) (sym same) ∙ root_faultless P old tells t left w.0 nodes w.1 root height w.2 w.3,
+         cause.1 ∙ ap (λ (k : ℕ). k - length numbers) (walks_long P old tells t left nodes root height w ∙ ap (λ (Q : Rules). length (fresh_of Q P.object (tree_of (nodes_of old.read) t))) same)))
+
+-- what the walk made
+pub has_walked : (P : Plan) (shelf : Shelf) (R : Rules) → IsTrue shelf.tells → (t : Live) (nodes : List Node) (root height : ℕ) (placed : Placed) → rules_of P ≡ R → placed.staged ≡ numbered P.number 0 nodes → Walks P shelf t placed.left nodes root height →
+    HasWalked P.space R shelf.read t P.object placed
+has_walked P shelf R tells t nodes root height placed same staged w = record {
+  faultless = ap (λ (Q : Rules). place_fault P.space Q shelf.read t P.object) (sym same) ∙ root_faultless P shelf tells t placed.left w.0 nodes w.1 root height w.2 w.3;
+  many = ap length staged ∙ numbered_long P.number 0 nodes ∙ walks_long P shelf tells t placed.left nodes root height w ∙ ap (λ (Q : Rules). length (fresh_of Q P.object (tree_of (nodes_of shelf.read) t))) same;
+  left = descends_left P shelf tells t.height t.root None [] [] placed.left w.0 w.1 w.2;
+}
+
+-- the staged pages lie outside the live tree
+pub staged_out : (nodes : Nodes) (t : Live) (numbers : List ℕ) (ns : List Node) (staged : List StagedNode) → staged ≡ numbered (number_at numbers t.pages) 0 ns → AreOutside nodes t numbers → AllByRecursion (IsNodePage t) (live_pages nodes t) →
+    AreOutside nodes t (pages_of staged)
+staged_out nodes t numbers ns staged is outside within =
+    subst (AreOutside nodes t) (sym (ap pages_of is ∙ pages_numbered (number_at numbers t.pages) 0 ns))
+        (given_each (λ n. times n (live_pages nodes t) ≡ 0) (number_at numbers t.pages) 0 (length ns) ns (omega arith) (λ j low. given_out nodes t numbers outside within j))
+
+all_numbered : (Q : ℕ → Type 0) (R : Node → Type 0) (number : ℕ → ℕ) (i k : ℕ) (ns : List Node) → k ≡ i + length ns → ((j : ℕ) → j < k → Q (number j)) → AllByRecursion R ns → AllByRecursion (λ s. Q s.page × R s.node) (numbered number i ns)
+all_numbered Q R number i k [] e each all = tt
+all_numbered Q R number i k (n ∷ ns) e each all = ((each i (omega (arith, e)), all.0), all_numbered Q R number (i + 1) k ns (omega (arith, e)) each all.1)
+
+-- what is placed can be committed
+pub is_placement : (head : Head) (t : Live) (numbers : List ℕ) (nodes : List Node) (root height : ℕ) (placed : Placed) →
+    placed.staged ≡ numbered (number_at numbers t.pages) 0 nodes →
+    placed.next ≡ record { side = 1 - t.side; generation = t.generation + 1; root = root; height = height; count = t.count + 1; pages = t.pages + (length nodes - length numbers) } →
+    t.pages + (length nodes - length numbers) ≤ 2 ^ 24 → IsLawfulLive head.limit (t.pages * 4096) t → t.count ≢ head.limit → t.generation ≢ 2 ^ 48 - 1 → AreNumbers t.pages numbers →
+    (i : ℕ) × (i < length nodes) × (root ≡ number_at numbers t.pages i) → height ≤ 14 → AllByRecursion (IsLawfulNode head.dim) nodes → IsPlacement head t numbers placed
+is_placement head t numbers nodes root height placed staged next room live count generation are given high writable = record {
+  side = ap (λ (n : Live). n.side) next;
+  generation = ap (λ (n : Live). n.generation) next;
+  count = ap (λ (n : Live). n.count) next;
+  pages = ap (λ (n : Live). n.pages) next ∙ ap (λ (k : ℕ). t.pages + (k - length numbers)) (sym long);
+  lawful = subst (λ (n : Live). IsLawfulLive head.limit (n.pages * 4096) n) (sym next) (record {
+    low_generation = omega arith;
+    high_generation = (let g = live.high_generation in omega (arith, g, generation));
+    low_root = (let w = within given.0 given.1 in let e = given.2 in let a = w.0 in omega (arith, a, e));
+    high_root = (let w = within given.0 given.1 in let e = given.2 in let b = w.1 in omega (arith, b, e));
+    height = high;
+    count = (let c = live.count in omega (arith, c, count));
+    low_pages = (let p = live.low_pages in omega (arith, p));
+    high_pages = room;
+    room = omega arith;
+  });
+  numbered = ap pages_of staged ∙ pages_numbered (number_at numbers t.pages) 0 nodes ∙ pages_range (number_at numbers t.pages) 0 nodes ∙ ap (λ (k : ℕ). map (number_at numbers t.pages) (range_with_len 0 k)) (sym long);
+  nodes = subst (λ (k : ℕ). AllByRecursion (λ s. IsWithin k s.page × IsLawfulNode head.dim s.node) placed.staged) (sym (ap (λ (n : Live). n.pages) next))
+      (subst (AllByRecursion (λ s. IsWithin (t.pages + (length nodes - length numbers)) s.page × IsLawfulNode head.dim s.node)) (sym staged)
+          (all_numbered (IsWithin (t.pages + (length nodes - length numbers))) (IsLawfulNode head.dim) (number_at numbers t.pages) 0 (length nodes) nodes (omega arith) within writable));
+  new_pages = λ page low below. subst (IsIn page) (sym (ap pages_of staged ∙ pages_numbered (number_at numbers t.pages) 0 nodes))
+      (end_given numbers t.pages nodes page low (let e = ap (λ (n : Live). n.pages) next in omega (arith, below, e)));
+}
+  where
+    long : length placed.staged ≡ length nodes
+    long = ap length staged ∙ numbered_long (number_at numbers t.pages) 0 nodes
+    within : (i : ℕ) → i < length nodes → IsWithin (t.pages + (length nodes - length numbers)) (number_at numbers t.pages i)
+    within i low = number_within numbers t.pages are (let p = live.low_pages in omega (arith, p)) i (length nodes) low
+
+-- the numbers of entries that a node may have
+pub fill_room : (s : Space) (most least dim : ℕ) → IsSpace s → s.words ≡ dim → most ≡ most_for dim → least ≡ least_for dim → (1 ≤ least) × (2 * least ≤ most)
+fill_room s most least dim space words is_most is_least =
+    let few = space.few_words in
+    let three = three_at_least dim (omega (arith, few, words)) in
+    (omega (arith, three, is_least), omega (arith, is_most, is_least))

@@ -1,0 +1,14 @@
+pub mod Seen
+pub mod Back
+pub mod Staged
+pub mod Level
+pub mod Holding
+pub mod Walked
+pub mod Stored
+pub mod Paged
+pub mod Writable
+pub mod Rooted
+pub mod Numbers
+pub mod Listing
+pub mod Top
+pub mod Final

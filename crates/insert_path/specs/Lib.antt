@@ -1,0 +1,5 @@
+pub mod Walk
+pub mod Descent
+pub mod Causes
+pub mod Placing
+pub mod Roots

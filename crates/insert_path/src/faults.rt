@@ -1,0 +1,24 @@
+use page_store::PageFault;
+use thiserror::Error;
+
+/// Why an object could not be inserted. The faults are tried in the order `Full`, `Worn`, `Page`, `NoRoom`; want of memory
+/// may come before any but the first two.
+#[derive(Clone, Copy, Debug, PartialEq, Eq, Error)]
+pub enum PlaceFault {
+    /// A page of the walk gave no node, or stands at a level that its depth does not ask for; or the root, which is named,
+    /// would have to be split at height 14.
+    #[error("{0}")]
+    Page(PageFault),
+    /// The index has as many objects as its head allows.
+    #[error("the index is full")]
+    Full,
+    /// The new nodes need so many pages more than the file may have.
+    #[error("no room for {needed} pages after {pages}")]
+    NoRoom { pages: u32, needed: u32 },
+    /// There is no further generation.
+    #[error("the index is worn")]
+    Worn,
+    /// There was no memory.
+    #[error("out of memory")]
+    Memory,
+}

@@ -1,0 +1,16 @@
+use metric_laws::Point;
+
+/// A new page with its routing point and covering radius.
+#[derive(Debug, Drop)]
+pub struct Stem {
+    pub page: u32,
+    pub point: Point,
+    pub radius: u64,
+}
+
+/// What a node has grown to: one new page, or two halves.
+#[derive(Debug, Drop)]
+pub enum Grew {
+    One(u32),
+    Two(Stem, Stem),
+}

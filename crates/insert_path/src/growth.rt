@@ -1,0 +1,144 @@
+ghost use Rattle.std.specs.Prelude.{◌≡◌, ◌+◌, ◌-◌, ◌*◌, ◌≤◌, ◌<◌, ◌^◌, ◌++◌, ◌∷◌, [], length, IfOk, IfErr, OnOk, None};
+ghost use Rattle.insert_path.specs.Descent.{number_at, plan_of, rules_of, root_entry, Roots, Walks};
+ghost use Rattle.insert_path.specs.Causes.{HasAsked, HasTreeCause};
+ghost use Rattle.insert_path.specs.Placing.{place_fault};
+ghost use Rattle.insert_path.specs.Roots.{HasRootCause};
+
+use crate::PlaceFault;
+use crate::descent::descend;
+use crate::grew::{Grew, Stem};
+use crate::staging::stage_node;
+use crate::task::{Spot, Task, Written};
+use metric_laws::{Listed, Memory, Ruler};
+use page_store::{PageFault, Pages};
+use std::alloc::Global;
+use tree_shape::{InnerEntry, Live, Node};
+
+/// The tree that an insertion makes: its root, and what was written for it.
+#[derive(Debug, Drop)]
+pub struct Grown {
+    pub root: u32,
+    pub height: u32,
+    pub written: Written,
+}
+
+// The entry of a half in a new root.
+fn entry_in_root(stem: Stem) -> InnerEntry
+    ensures { result ≡ root_entry stem }
+{
+    InnerEntry {
+        child: stem.page,
+        radius: stem.radius,
+        parent: 0,
+        point: stem.point,
+    }
+}
+
+// The two entries of a new root.
+fn root_entries(alloc: Global, first: Stem, second: Stem) -> Result<Listed<InnerEntry>, Memory>
+    ensures { IfOk result (λ es. es ≡ root_entry first ∷ root_entry second ∷ []) }
+{
+    let mut entries = Vec::with_capacity(alloc, 2)?;
+    entries.push(entry_in_root(first))?;
+    entries.push(entry_in_root(second))?;
+    Ok(Listed::new(entries))
+}
+
+// Stages a new root above two halves, and gives its page.
+fn stage_root(
+    alloc: Global,
+    task: &Task<'_>,
+    level: u8,
+    halves: (Stem, Stem),
+    nodes: &mut Vec<Node>,
+) -> Result<u32, Memory>
+    requires first { task.now.first ≤ 2 ^ 24 }
+    requires few { length nodes.old.items < 2 ^ 10 }
+    ensures page { IfOk result (λ p. p ≡ number_at task.now.numbers.now task.now.first (length nodes.old.items)) }
+    ensures staged { OnOk result (nodes.new.items ≡ nodes.old.items ++ Node.Inner level (root_entry halves.0 ∷ root_entry halves.1 ∷ []) ∷ []) }
+    ensures count { OnOk result (length nodes.new.items ≡ length nodes.old.items + 1) }
+{
+    let entries = root_entries(alloc, halves.0, halves.1)?;
+    let page = stage_node(task, Node::Inner { level, entries }, nodes)?;
+    Ok(page)
+}
+
+// The root after a descent: where the old root has grown to two halves, a new one is staged.
+fn grow_root(
+    alloc: Global,
+    task: &Task<'_>,
+    live: &Live,
+    grew: Grew,
+    mut written: Written,
+) -> Result<Grown, PlaceFault>
+    requires height { live.now.height ≤ 14 }
+    requires first { task.now.first ≤ 2 ^ 24 }
+    requires few { length written.nodes.items < 2 ^ 9 }
+    ensures roots { IfOk result (λ grown. Roots (number_at task.now.numbers.now task.now.first) live.now.height grew written.nodes.items grown.written.nodes.items grown.root grown.height) }
+    ensures left { IfOk result (λ grown. grown.written.left.items ≡ written.left.items) }
+    ensures count { IfOk result (λ grown. length grown.written.nodes.items ≤ length written.nodes.items + 1) }
+    ensures cause { IfErr result (HasRootCause live.now grew) }
+{
+    match grew {
+        Grew::One(root) => Ok(Grown {
+            root,
+            height: live.height,
+            written,
+        }),
+        Grew::Two(first, second) => {
+            if live.height == 14 {
+                return Err(PlaceFault::Page(PageFault::Level(live.root)));
+            }
+            let level = live.height as u8 + 1;
+            match stage_root(alloc, task, level, (first, second), &mut written.nodes) {
+                Ok(root) => Ok(Grown {
+                    root,
+                    height: live.height + 1,
+                    written,
+                }),
+                Err(_) => Err(PlaceFault::Memory),
+            }
+        }
+    }
+}
+
+// Walks down from the live root, and makes the new tree.
+pub fn grow<P: Pages, R: Ruler>(
+    alloc: Global,
+    pages: &mut P,
+    ruler: &mut R,
+    task: &Task<'_>,
+    live: &Live,
+) -> Result<Grown, PlaceFault>
+    requires height { live.now.height ≤ 14 }
+    requires first { task.now.first ≤ 2 ^ 24 }
+    requires some { 1 ≤ task.now.bounds.least }
+    requires room { 2 * task.now.bounds.least ≤ task.now.bounds.most }
+    ensures metric { R.metric ruler.new ≡ R.metric ruler.old }
+    ensures asked { HasAsked (live.now.height + 1) (P.shelf pages.old) (P.shelf pages.new) }
+    ensures keeps { P.keeps pages.old pages.new }
+    ensures count { IfOk result (λ grown. length grown.written.nodes.items < 2 ^ 9) }
+    ensures walks { IfOk result (λ grown. Walks (plan_of (R.M.space (R.metric ruler.old)) task.now.policy task.now.bounds (number_at task.now.numbers.now task.now.first) (record { id = task.now.object.id; tag = task.now.object.tag; point = task.now.object.point.now }))
+        (P.shelf pages.old) live.now grown.written.left.items grown.written.nodes.items grown.root grown.height) }
+    ensures cause { IfErr result (HasTreeCause (P.shelf pages.old) (P.shelf pages.new)
+        (let Q = plan_of (R.M.space (R.metric ruler.old)) task.now.policy task.now.bounds (number_at task.now.numbers.now task.now.first) (record { id = task.now.object.id; tag = task.now.object.tag; point = task.now.object.point.now }) in
+         place_fault Q.space (rules_of Q) (P.shelf pages.old).read live.now Q.object)) }
+{
+    let mut written = Written {
+        nodes: Vec::new(alloc),
+        left: Vec::new(alloc),
+    };
+    let spot = Spot {
+        level: live.height as u8,
+        page: live.root,
+        root: true,
+        above: &[],
+    };
+    match descend(alloc, pages, ruler, task, &spot, &mut written) {
+        Ok(grew) => {
+            let grown = grow_root(alloc, task, live, grew, written)?;
+            Ok(grown)
+        }
+        Err(fault) => Err(PlaceFault::Page(fault)),
+    }
+}

@@ -1,0 +1,91 @@
+ghost use Rattle.std.specs.Prelude.{◌≡◌, ◌≢◌, ◌↔◌, ◌+◌, ◌-◌, ◌*◌, ◌^◌, ◌≤◌, Err, IsTrue, IfOk, IfErr};
+ghost use Rattle.tree_shape.specs.Insertion.{rules};
+ghost use Rattle.tree_shape.specs.Tree.{Nodes, IsSoundTree};
+ghost use Rattle.node_page.specs.Heads.{IsLawfulHead};
+ghost use Rattle.node_page.specs.Opening.{IsLawfulLive};
+ghost use Rattle.page_store.specs.Reading.{nodes_of};
+ghost use Rattle.page_store.specs.Staging.{pages_of};
+ghost use Rattle.insert_path.specs.Causes.{HasAsked, HasPlaceCause};
+ghost use Rattle.insert_path.specs.Placing.{AreNumbers, AreOutside, IsOver, IsPlacement, HasWalked, HasInserted};
+
+use crate::PlaceFault;
+use crate::growth::grow;
+use crate::settling::settle;
+use crate::task::{NewObject, Task};
+use metric_laws::Ruler;
+use node_page::Head;
+use page_store::{Pages, Placed};
+use promote_split::Policy;
+use std::alloc::Global;
+use tree_shape::{Live, fill};
+
+/// The last generation.
+const LAST_GENERATION: u64 = (1 << 48) - 1;
+
+/// Inserts an object with the point `p` and the tag `tag` into the tree of a file, and gives the nodes that are new, for a
+/// commit. Its id is the number of objects before. New nodes get the pages `numbers`, in order, and then those from the
+/// file's end on; they are numbered from the leaf upward, the first half of a node before the second, a new root last.
+pub fn place<P: Pages, R: Ruler>(
+    alloc: Global,
+    pages: &mut P,
+    ruler: &mut R,
+    head: &Head,
+    live: &Live,
+    numbers: &[u32],
+    p: &[u32],
+    tag: u64,
+) -> Result<Placed, PlaceFault>
+    requires fits { IsTrue ((R.M.space (R.metric ruler.old)).fits p.now) }
+    requires head { IsLawfulHead head.now }
+    requires live { IsLawfulLive head.now.limit (live.now.pages * 4096) live.now }
+    requires words { (R.M.space (R.metric ruler.old)).words ≡ head.now.dim }
+    requires dim { (P.shelf pages.old).dim ≡ head.now.dim }
+    requires pages { (P.shelf pages.old).pages ≡ live.now.pages }
+    requires numbers { AreNumbers live.now.pages numbers.now }
+    requires outside { IsTrue (P.shelf pages.old).tells → AreOutside (nodes_of (P.shelf pages.old).read) live.now numbers.now }
+
+    ensures metric { R.metric ruler.new ≡ R.metric ruler.old }
+    ensures asked { HasAsked (live.now.height + 1) (P.shelf pages.old) (P.shelf pages.new) }
+    ensures keeps { P.keeps pages.old pages.new }
+
+    // What is placed can be committed.
+    ensures placement { IfOk result (IsPlacement head.now live.now numbers.now) }
+    ensures apart { IfOk result (λ placed. IsTrue (P.shelf pages.old).tells → IsSoundTree (R.M.space (R.metric ruler.old)) (nodes_of (P.shelf pages.old).read) live.now →
+        AreOutside (nodes_of (P.shelf pages.old).read) live.now (pages_of placed.staged)) }
+
+    // What is placed is the insertion's.
+    ensures walked { IfOk result (λ placed. IsTrue (P.shelf pages.old).tells →
+        HasWalked (R.M.space (R.metric ruler.old)) (rules (R.M.space (R.metric ruler.old)) head.now.promote head.now.split) (P.shelf pages.old).read live.now (record { id = live.now.count; tag = tag; point = p.now }) placed) }
+    ensures inserted { IfOk result (λ placed. IsTrue (P.shelf pages.old).tells → IsSoundTree (R.M.space (R.metric ruler.old)) (nodes_of (P.shelf pages.old).read) live.now →
+        (new : Nodes) → IsOver (nodes_of (P.shelf pages.old).read) live.now placed.staged new →
+        HasInserted (R.M.space (R.metric ruler.old)) (rules (R.M.space (R.metric ruler.old)) head.now.promote head.now.split) (nodes_of (P.shelf pages.old).read) live.now (record { id = live.now.count; tag = tag; point = p.now }) placed new) }
+
+    // When it is refused.
+    ensures full { (result ≡ Err PlaceFault.Full) ↔ (live.now.count ≡ head.now.limit) }
+    ensures worn { (result ≡ Err PlaceFault.Worn) ↔ ((live.now.count ≢ head.now.limit) × (live.now.generation ≡ 2 ^ 48 - 1)) }
+    ensures cause { IfErr result (HasPlaceCause (R.M.space (R.metric ruler.old)) (rules (R.M.space (R.metric ruler.old)) head.now.promote head.now.split) numbers.now live.now (record { id = live.now.count; tag = tag; point = p.now }) (P.shelf pages.old) (P.shelf pages.new)) }
+{
+    if live.count == head.limit {
+        return Err(PlaceFault::Full);
+    }
+    if live.generation == LAST_GENERATION {
+        return Err(PlaceFault::Worn);
+    }
+    let task = Task {
+        policy: Policy {
+            promote: head.promote,
+            split: head.split,
+        },
+        bounds: fill(head.dim),
+        numbers,
+        first: live.pages,
+        object: NewObject {
+            id: live.count,
+            tag,
+            point: p,
+        },
+    };
+    let grown = grow(alloc, pages, ruler, &task, live)?;
+    let placed = settle(alloc, &task, live, grown)?;
+    Ok(placed)
+}

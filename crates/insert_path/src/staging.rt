@@ -1,0 +1,164 @@
+ghost use Rattle.std.specs.Prelude.{◌≡◌, ℕ, ◌+◌, ◌*◌, ◌≤◌, ◌<◌, ◌^◌, ◌++◌, ◌∷◌, [], List, length, IfOk, OnOk};
+ghost use Rattle.std.specs.List.{AllByRecursion};
+ghost use Rattle.metric_laws.specs.Space.{bound};
+ghost use Rattle.tree_shape.specs.declared.entry.Node.{Node};
+ghost use Rattle.tree_shape.specs.declared.entry.Node.TheVariants.{Leaf, Inner};
+ghost use Rattle.insert_path.specs.Descent.{number_at, plan_of, stem_of, IsStaged};
+
+use crate::grew::{Grew, Stem};
+use crate::task::Task;
+use metric_laws::{Listed, Memory, Ruler};
+use promote_split::{Entry, Half, Halves, split};
+use std::alloc::Global;
+use tree_shape::{InnerEntry, LeafEntry, Node};
+
+/// An entry that makes nodes.
+pub trait NodeEntry: Entry {
+    /// The node of a level with these entries.
+    ghost make: { ℕ → List Self → Node };
+
+    /// The node of a level with these entries.
+    fn node(level: u8, entries: Listed<Self>) -> Node
+        ensures { result ≡ make level entries };
+}
+
+impl NodeEntry for LeafEntry {
+    ghost make = { λ level es. Leaf es };
+
+    fn node(_level: u8, entries: Listed<LeafEntry>) -> Node
+        ensures { result ≡ Leaf entries }
+    {
+        Node::Leaf(entries)
+    }
+}
+
+impl NodeEntry for InnerEntry {
+    ghost make = { λ level es. Inner level es };
+
+    fn node(level: u8, entries: Listed<InnerEntry>) -> Node
+        ensures { result ≡ Inner level entries }
+    {
+        Node::Inner { level, entries }
+    }
+}
+
+// The page of the new node at a place.
+pub fn page_at(task: &Task<'_>, place: usize) -> u32
+    requires first { task.now.first ≤ 2 ^ 24 }
+    requires few { place < 2 ^ 10 }
+    ensures { result ≡ number_at task.now.numbers.now task.now.first place }
+{
+    if place < task.numbers.len() {
+        task.numbers[place]
+    } else {
+        task.first + (place - task.numbers.len()) as u32
+    }
+}
+
+// Stages a node after the others, and gives its page.
+pub fn stage_node(task: &Task<'_>, node: Node, nodes: &mut Vec<Node>) -> Result<u32, Memory>
+    requires first { task.now.first ≤ 2 ^ 24 }
+    requires few { length nodes.old.items < 2 ^ 10 }
+    ensures page { IfOk result (λ p. p ≡ number_at task.now.numbers.now task.now.first (length nodes.old.items)) }
+    ensures staged { OnOk result (nodes.new.items ≡ nodes.old.items ++ node ∷ []) }
+    ensures count { OnOk result (length nodes.new.items ≡ length nodes.old.items + 1) }
+{
+    let page = page_at(task, nodes.len());
+    nodes.push(node)?;
+    Ok(page)
+}
+
+// Stages a half, and gives what stands above it.
+fn stage_half<E: NodeEntry>(
+    task: &Task<'_>,
+    level: u8,
+    half: Half<E>,
+    nodes: &mut Vec<Node>,
+) -> Result<Stem, Memory>
+    requires first { task.now.first ≤ 2 ^ 24 }
+    requires few { length nodes.old.items < 2 ^ 10 }
+    ensures stem { IfOk result (λ s. s ≡ stem_of (number_at task.now.numbers.now task.now.first (length nodes.old.items)) half) }
+    ensures staged { OnOk result (nodes.new.items ≡ nodes.old.items ++ E.make level half.entries ∷ []) }
+    ensures count { OnOk result (length nodes.new.items ≡ length nodes.old.items + 1) }
+{
+    let Half {
+        point,
+        radius,
+        entries,
+    } = half;
+    let page = stage_node(task, E::node(level, entries), nodes)?;
+    Ok(Stem {
+        page,
+        point,
+        radius,
+    })
+}
+
+// Stages two halves, the first before the second.
+fn stage_halves<E: NodeEntry>(
+    task: &Task<'_>,
+    level: u8,
+    halves: Halves<E>,
+    nodes: &mut Vec<Node>,
+) -> Result<Grew, Memory>
+    requires first { task.now.first ≤ 2 ^ 24 }
+    requires few { length nodes.old.items + 2 < 2 ^ 10 }
+    ensures grew { IfOk result (λ g. g ≡ Grew.Two (stem_of (number_at task.now.numbers.now task.now.first (length nodes.old.items)) halves.first) (stem_of (number_at task.now.numbers.now task.now.first (length nodes.old.items + 1)) halves.second)) }
+    ensures staged { OnOk result (nodes.new.items ≡ nodes.old.items ++ E.make level halves.first.entries ∷ E.make level halves.second.entries ∷ []) }
+    ensures count { OnOk result (length nodes.new.items ≡ length nodes.old.items + 2) }
+{
+    let Halves { first, second } = halves;
+    let first = stage_half(task, level, first, nodes)?;
+    let second = stage_half(task, level, second, nodes)?;
+    Ok(Grew::Two(first, second))
+}
+
+// Stages a node that has an entry too many, in halves.
+fn stage_split<R: Ruler, E: NodeEntry>(
+    alloc: Global,
+    ruler: &mut R,
+    task: &Task<'_>,
+    level: u8,
+    entries: Vec<E>,
+    nodes: &mut Vec<Node>,
+) -> Result<Grew, Memory>
+    requires first { task.now.first ≤ 2 ^ 24 }
+    requires few { length nodes.old.items + 2 < 2 ^ 10 }
+    requires some { 1 ≤ task.now.bounds.least }
+    requires room { 2 * task.now.bounds.least ≤ length entries.items }
+    requires many { task.now.bounds.most < length entries.items }
+    requires radii { AllByRecursion (λ e. (E.ball e).1 ≤ bound) entries.items }
+    ensures metric { R.metric ruler.new ≡ R.metric ruler.old }
+    ensures count { OnOk result (length nodes.new.items ≡ length nodes.old.items + 2) }
+    ensures staged { IfOk result (λ g. IsStaged (plan_of (R.M.space (R.metric ruler.old)) task.now.policy task.now.bounds (number_at task.now.numbers.now task.now.first) (record { id = task.now.object.id; tag = task.now.object.tag; point = task.now.object.point.now })) E.ball E.with_parent (E.make level) entries.items nodes.old.items nodes.new.items g) }
+{
+    let halves = split(alloc, ruler, entries, task.policy, task.bounds.least)?;
+    let grew = stage_halves(task, level, halves, nodes)?;
+    Ok(grew)
+}
+
+// Stages a node that may have an entry too many, whole or in halves.
+pub fn stage<R: Ruler, E: NodeEntry>(
+    alloc: Global,
+    ruler: &mut R,
+    task: &Task<'_>,
+    level: u8,
+    entries: Vec<E>,
+    nodes: &mut Vec<Node>,
+) -> Result<Grew, Memory>
+    requires first { task.now.first ≤ 2 ^ 24 }
+    requires few { length nodes.old.items + 2 < 2 ^ 10 }
+    requires some { 1 ≤ task.now.bounds.least }
+    requires room { 2 * task.now.bounds.least ≤ task.now.bounds.most }
+    requires radii { AllByRecursion (λ e. (E.ball e).1 ≤ bound) entries.items }
+    ensures metric { R.metric ruler.new ≡ R.metric ruler.old }
+    ensures count { OnOk result (length nodes.new.items ≤ length nodes.old.items + 2) }
+    ensures staged { IfOk result (λ g. IsStaged (plan_of (R.M.space (R.metric ruler.old)) task.now.policy task.now.bounds (number_at task.now.numbers.now task.now.first) (record { id = task.now.object.id; tag = task.now.object.tag; point = task.now.object.point.now })) E.ball E.with_parent (E.make level) entries.items nodes.old.items nodes.new.items g) }
+{
+    if entries.len() > task.bounds.most {
+        let grew = stage_split(alloc, ruler, task, level, entries, nodes)?;
+        return Ok(grew);
+    }
+    let page = stage_node(task, E::node(level, Listed::new(entries)), nodes)?;
+    Ok(Grew::One(page))
+}

@@ -1,0 +1,46 @@
+use promote_split::Policy;
+use tree_shape::{Bounds, Node};
+
+/// The object to insert.
+#[derive(Clone, Copy, Debug)]
+pub struct NewObject<'a> {
+    pub id: u32,
+    pub tag: u64,
+    pub point: &'a [u32],
+}
+
+/// What an insertion goes by.
+#[derive(Clone, Copy, Debug)]
+pub struct Task<'a> {
+    /// How nodes are split.
+    pub policy: Policy,
+    /// How many entries a node may have.
+    pub bounds: Bounds,
+    /// Pages for new nodes, in order.
+    pub numbers: &'a [u32],
+    /// The page of the first new node that gets none of these; the later ones follow.
+    pub first: u32,
+    /// The new object.
+    pub object: NewObject<'a>,
+}
+
+/// Where a descent stands.
+#[derive(Clone, Copy, Debug)]
+pub struct Spot<'a> {
+    /// The level that the page's node should have.
+    pub level: u8,
+    pub page: u32,
+    /// Whether the page is the root's.
+    pub root: bool,
+    /// The routing point above, unless the page is the root's.
+    pub above: &'a [u32],
+}
+
+/// What a descent has written so far.
+#[derive(Debug, Drop)]
+pub struct Written {
+    /// The new nodes.
+    pub nodes: Vec<Node>,
+    /// The pages that were read, which the new tree leaves.
+    pub left: Vec<u32>,
+}

@@ -1,0 +1,6 @@
+pub mod Soundness
+pub mod Differences
+pub mod Counting
+pub mod OneMark
+pub mod Ways
+pub mod Verdicts

@@ -1,0 +1,43 @@
+-- Why a verdict is given, and what it cost.
+use Rattle.std.specs.Prelude.{◌≡◌, ◌≢◌, ℕ, ◌≤◌, false, IsTrue, Err}
+use Rattle.outside_io.specs.Causes.{Rose}
+use Rattle.node_page.specs.declared.node.NodeFault.TheVariants.{Memory as NodeMemory}
+use Rattle.page_store.specs.declared.pages.PageFault.{PageFault}
+use Rattle.page_store.specs.declared.pages.PageFault.TheVariants as pages
+use Rattle.page_store.specs.Reading.{IsWithin, is_within}
+use Rattle.page_store.specs.Shelf.{Shelf}
+use Rattle.log_model.specs.Counts.{count_up}
+use Rattle.log_verify.specs.declared.faults.Verdict.{Verdict}
+use Rattle.log_verify.specs.declared.faults.Verdict.TheVariants.{Page, Memory}
+
+-- why a page is refused, where Fault says that the log's first fault is so: the disk failed; or, of pages that tell what they
+-- hold, the log has this fault. Want of memory is a verdict of its own
+abbrev pub HasRefusal : Shelf → Shelf → PageFault → Type 0 → Type 0
+HasRefusal old new pages.Disk Fault = Rose old.faults new.faults
+HasRefusal old new (pages.Bad page fault) Fault = (fault ≢ NodeMemory) × IsWithin old.pages page × (IsTrue old.tells → Fault)
+HasRefusal old new (pages.Outside page) Fault = (is_within old.pages page ≡ false) × (IsTrue old.tells → Fault)
+HasRefusal old new pages.Memory Fault = ⊥
+HasRefusal old new (pages.Repeats page) Fault = ⊥
+HasRefusal old new (pages.Level page) Fault = ⊥
+
+-- why a verdict is given, where Fault says that it is the log's first fault
+abbrev pub HasCause : Shelf → Shelf → Verdict → Type 0 → Type 0
+HasCause old new Memory Fault = Unit {0}
+HasCause old new (Page fault) Fault = HasRefusal old new fault Fault
+HasCause old new _ Fault = IsTrue old.tells → Fault
+
+-- why a page that the walk needs is refused
+abbrev pub IsPageVerdict : Shelf → Shelf → ℕ → Verdict → Type 0
+IsPageVerdict old new page Memory = Unit {0}
+IsPageVerdict old new page (Page fault) = HasRefusal old new fault (old.read page ≡ Err fault)
+IsPageVerdict old new page _ = ⊥
+
+-- what may come at any time: the disk failed, or memory ran out
+abbrev pub IsPassing : Verdict → Type 0
+IsPassing Memory = Unit {0}
+IsPassing (Page pages.Disk) = Unit {0}
+IsPassing _ = ⊥
+
+-- a count rose by one so many times, at most as often as is said
+abbrev pub CountsUpTo : ℕ → ℕ → ℕ → Type 0
+CountsUpTo old new most = (n : ℕ) × (n ≤ most) × (new ≡ count_up old n)

@@ -1,0 +1,4 @@
+pub mod Judged
+pub mod Causes
+pub mod Steps
+pub mod Laws

@@ -1,0 +1,15 @@
+//! The verifier of logs: it accepts exactly the sound ones, and names the first fault of the others.
+#![tactic(auto)]
+
+mod checking;
+mod faults;
+mod judging;
+pub mod laws;
+mod verifying;
+mod walking;
+
+pub use faults::{Accepted, Verdict};
+pub use verifying::verify;
+
+#[cfg(test)]
+mod tests;

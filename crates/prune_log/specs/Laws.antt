@@ -1,0 +1,34 @@
+-- The laws of the spellings of logs.
+use Rattle.std.specs.Prelude.{◌≡◌, ◌↔◌, ℕ, List, None}
+use Rattle.log_model.specs.declared.logs.Log.{Log}
+use Rattle.log_model.specs.declared.logs.JoinLog.{JoinLog}
+use Rattle.log_model.specs.Grammar.{IsLawfulLog, IsLawfulJoinLog}
+use Rattle.prune_log.specs.Ranges.{IsBytes, LogInRange, JoinLogInRange}
+use Rattle.prune_log.specs.Spelling.{log_bytes, join_log_bytes}
+use Rattle.prune_log.specs.Reading.{log_fault, join_log_fault}
+
+-- the bytes spell this log
+pub record SpellsLog (bytes : List ℕ) (log : Log) : Type 0 where
+  pub lawful : IsLawfulLog log
+  pub in_range : LogInRange log
+  pub spelled : log_bytes log ≡ bytes
+
+-- the bytes spell this join's log
+pub record SpellsJoinLog (bytes : List ℕ) (log : JoinLog) : Type 0 where
+  pub lawful : IsLawfulJoinLog log
+  pub in_range : JoinLogInRange log
+  pub spelled : join_log_bytes log ≡ bytes
+
+-- bytes have no fault exactly where they spell some log
+abbrev pub FaultIsNoLog : Type 0
+FaultIsNoLog = (bytes : List ℕ) → IsBytes bytes → (log_fault bytes ≡ None) ↔ ((log : Log) × SpellsLog bytes log)
+
+abbrev pub FaultIsNoJoinLog : Type 0
+FaultIsNoJoinLog = (bytes : List ℕ) → IsBytes bytes → (join_log_fault bytes ≡ None) ↔ ((log : JoinLog) × SpellsJoinLog bytes log)
+
+-- bytes spell one log
+abbrev pub OneLog : Type 0
+OneLog = (bytes : List ℕ) (log other : Log) → SpellsLog bytes log → SpellsLog bytes other → log ≡ other
+
+abbrev pub OneJoinLog : Type 0
+OneJoinLog = (bytes : List ℕ) (log other : JoinLog) → SpellsJoinLog bytes log → SpellsJoinLog bytes other → log ≡ other

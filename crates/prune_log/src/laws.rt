@@ -1,0 +1,23 @@
+//! Laws of the spellings of logs.
+
+ghost use Rattle.prune_log.specs.Laws.{FaultIsNoLog, FaultIsNoJoinLog, OneLog, OneJoinLog};
+
+/// Bytes have no fault exactly where they spell some log.
+pub fn fault_is_no_log()
+    ensures { FaultIsNoLog }
+{}
+
+/// Bytes have no fault exactly where they spell some join's log.
+pub fn fault_is_no_join_log()
+    ensures { FaultIsNoJoinLog }
+{}
+
+/// Bytes spell one log.
+pub fn one_log()
+    ensures { OneLog }
+{}
+
+/// Bytes spell one join's log.
+pub fn one_join_log()
+    ensures { OneJoinLog }
+{}

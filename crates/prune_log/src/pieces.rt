@@ -1,0 +1,332 @@
+// The things that a log lists, and lists of them.
+ghost use Rattle.std.specs.Prelude.{◌≡◌, ◌++◌, ℕ, List, Bool, true, OnOk, Result, Option, None, ◌≤◌, ◌<◌, ◌^◌, length};
+ghost use Rattle.std.specs.Option.{option_copied};
+ghost use Rattle.std.specs.List.{flat_map, AllByRecursion};
+ghost use Rattle.prune_log.specs.declared.fault.LogFault.{LogFault};
+ghost use Rattle.prune_log.specs.Spelling.{coordinate_bytes, hit_bytes, pair_bytes, mark_bytes, record_bytes, join_record_bytes, side_bytes, listed};
+ghost use Rattle.prune_log.specs.Reading.{Gives, number_at, next_at, many, always, hit_at, hit_follows, pair_at, pair_follows, mark_at, marks_at, record_at, side_at, join_record_at, listed_at};
+
+use crate::fault::LogFault;
+use crate::fields::{byte_at, put_u32, put_u64, u32_at, u64_at};
+use log_model::{JoinRecord, Mark, Record};
+use metric_laws::{Listed, Memory};
+use scan_model::{Hit, Pair};
+use std::alloc::Global;
+
+/// The most entries of a node.
+const ENTRIES: u8 = 32;
+
+/// A thing that a log lists.
+pub trait Piece: Drop {
+    /// What can be written.
+    ghost can_put: { Self → Type 0 };
+
+    /// Its spelling.
+    ghost spelled: { Self → List ℕ };
+
+    /// The piece in front of bytes and the bytes behind it, or the first fault.
+    ghost reads: { List ℕ → Result (Self × List ℕ) LogFault };
+
+    /// Whether a piece may stand behind another.
+    ghost follows: { Self → Self → Bool };
+
+    /// Writes the piece at the end.
+    fn put(&self, out: &mut Vec<u8>) -> Result<(), Memory>
+        requires { can_put self.now }
+        ensures { OnOk result (out.new.items ≡ out.old.items ++ spelled self.now) };
+
+    /// Reads the piece in front.
+    fn read(alloc: Global, bytes: &[u8]) -> Result<(Self, &[u8]), LogFault>
+        ensures { Gives (λ x. (x.0, x.1.now)) result (reads bytes.now) };
+
+    /// Whether it may stand behind the last one.
+    fn is_behind(&self, last: &Self) -> bool
+        ensures { result ≡ follows last.now self.now };
+}
+
+impl Piece for u32 {
+    ghost can_put = { λ _. Unit {0} };
+
+    ghost spelled = { coordinate_bytes };
+
+    ghost reads = { number_at 4 };
+
+    ghost follows = { always };
+
+    fn put(&self, out: &mut Vec<u8>) -> Result<(), Memory> {
+        put_u32(out, *self)
+    }
+
+    fn read(_alloc: Global, bytes: &[u8]) -> Result<(u32, &[u8]), LogFault> {
+        u32_at(bytes)
+    }
+
+    fn is_behind(&self, _last: &u32) -> bool {
+        true
+    }
+}
+
+impl Piece for Hit {
+    ghost can_put = { λ _. Unit {0} };
+
+    ghost spelled = { hit_bytes };
+
+    ghost reads = { hit_at };
+
+    ghost follows = { hit_follows };
+
+    fn put(&self, out: &mut Vec<u8>) -> Result<(), Memory> {
+        put_u32(out, self.id)?;
+        put_u64(out, self.dist)
+    }
+
+    #[tactic(auto, unfolding(crate::specs::Reading::hit_at))]
+    fn read(_alloc: Global, bytes: &[u8]) -> Result<(Hit, &[u8]), LogFault> {
+        let (id, rest) = u32_at(bytes)?;
+        let (dist, rest) = u64_at(rest)?;
+        Ok((Hit { id, dist }, rest))
+    }
+
+    fn is_behind(&self, last: &Hit) -> bool {
+        last.dist < self.dist || (last.dist == self.dist && last.id < self.id)
+    }
+}
+
+impl Piece for Mark {
+    ghost can_put = { λ _. Unit {0} };
+
+    ghost spelled = { mark_bytes };
+
+    ghost reads = { mark_at };
+
+    ghost follows = { always };
+
+    fn put(&self, out: &mut Vec<u8>) -> Result<(), Memory> {
+        let byte = match self {
+            Mark::Skip => 0,
+            Mark::Far => 1,
+            Mark::Near => 2,
+        };
+        out.push(byte)?;
+        Ok(())
+    }
+
+    #[tactic(auto, unfolding(crate::specs::Reading::mark_at))]
+    fn read(_alloc: Global, bytes: &[u8]) -> Result<(Mark, &[u8]), LogFault> {
+        let (byte, rest) = byte_at(bytes)?;
+        match byte {
+            0 => Ok((Mark::Skip, rest)),
+            1 => Ok((Mark::Far, rest)),
+            2 => Ok((Mark::Near, rest)),
+            _ => Err(LogFault::Mark),
+        }
+    }
+
+    fn is_behind(&self, _last: &Mark) -> bool {
+        true
+    }
+}
+
+impl Piece for Pair {
+    ghost can_put = { λ _. Unit {0} };
+
+    ghost spelled = { pair_bytes };
+
+    ghost reads = { pair_at };
+
+    ghost follows = { pair_follows };
+
+    fn put(&self, out: &mut Vec<u8>) -> Result<(), Memory> {
+        put_u32(out, self.left)?;
+        put_u32(out, self.right)?;
+        put_u64(out, self.dist)
+    }
+
+    #[tactic(auto, unfolding(crate::specs::Reading::pair_at))]
+    fn read(_alloc: Global, bytes: &[u8]) -> Result<(Pair, &[u8]), LogFault> {
+        let (left, rest) = u32_at(bytes)?;
+        let (right, rest) = u32_at(rest)?;
+        let (dist, rest) = u64_at(rest)?;
+        Ok((Pair { left, right, dist }, rest))
+    }
+
+    fn is_behind(&self, last: &Pair) -> bool {
+        last.left < self.left
+            || (last.left == self.left
+                && (last.right < self.right || (last.right == self.right && last.dist < self.dist)))
+    }
+}
+
+// As many marks as a node may have entries.
+#[tactic(auto, unfolding(crate::specs::Reading::marks_at))]
+fn marks_at(alloc: Global, bytes: &[u8]) -> Result<(Listed<Mark>, &[u8]), LogFault>
+    ensures { Gives (λ x. (x.0, x.1.now)) result (marks_at bytes.now) }
+{
+    let (count, rest) = byte_at(bytes)?;
+    if count > ENTRIES {
+        return Err(LogFault::Mark);
+    }
+    let (marks, rest) = read_all(alloc, u64::from(count), rest)?;
+    Ok((Listed::new(marks), rest))
+}
+
+// Writes the marks of a node at the end.
+fn put_marks(out: &mut Vec<u8>, marks: &[Mark]) -> Result<(), Memory>
+    requires { length marks.now ≤ 32 }
+    ensures { OnOk result (out.new.items ≡ out.old.items ++ listed 1 mark_bytes marks.now) }
+{
+    out.push(marks.len() as u8)?;
+    put_all(out, marks)
+}
+
+impl Piece for Record {
+    ghost can_put = { λ r. length r.marks ≤ 32 };
+
+    ghost spelled = { record_bytes };
+
+    ghost reads = { record_at };
+
+    ghost follows = { always };
+
+    fn put(&self, out: &mut Vec<u8>) -> Result<(), Memory> {
+        put_u32(out, self.page)?;
+        put_marks(out, self.marks.as_slice())
+    }
+
+    #[tactic(auto, unfolding(crate::specs::Reading::record_at))]
+    fn read(alloc: Global, bytes: &[u8]) -> Result<(Record, &[u8]), LogFault> {
+        let (page, rest) = u32_at(bytes)?;
+        let (marks, rest) = marks_at(alloc, rest)?;
+        Ok((Record { page, marks }, rest))
+    }
+
+    fn is_behind(&self, _last: &Record) -> bool {
+        true
+    }
+}
+
+// A side: whether it is the right one.
+#[tactic(auto, unfolding(crate::specs::Reading::side_at))]
+fn side_at(bytes: &[u8]) -> Result<(bool, &[u8]), LogFault>
+    ensures { Gives (λ x. (x.0, x.1.now)) result (side_at bytes.now) }
+{
+    let (side, rest) = byte_at(bytes)?;
+    match side {
+        0 => Ok((false, rest)),
+        1 => Ok((true, rest)),
+        _ => Err(LogFault::Mark),
+    }
+}
+
+impl Piece for JoinRecord {
+    ghost can_put = { λ r. length r.marks ≤ 32 };
+
+    ghost spelled = { join_record_bytes };
+
+    ghost reads = { join_record_at };
+
+    ghost follows = { always };
+
+    fn put(&self, out: &mut Vec<u8>) -> Result<(), Memory> {
+        out.push(u8::from(self.right))?;
+        put_u32(out, self.page)?;
+        put_marks(out, self.marks.as_slice())
+    }
+
+    #[tactic(auto, unfolding(crate::specs::Reading::join_record_at))]
+    fn read(alloc: Global, bytes: &[u8]) -> Result<(JoinRecord, &[u8]), LogFault> {
+        let (right, rest) = side_at(bytes)?;
+        let (page, rest) = u32_at(rest)?;
+        let (marks, rest) = marks_at(alloc, rest)?;
+        Ok((JoinRecord { right, page, marks }, rest))
+    }
+
+    fn is_behind(&self, _last: &JoinRecord) -> bool {
+        true
+    }
+}
+
+// The next piece of a list.
+fn next_at<'a, P: Piece>(
+    alloc: Global,
+    last: Option<&P>,
+    bytes: &'a [u8],
+) -> Result<(P, &'a [u8]), LogFault>
+    ensures { Gives (λ x. (x.0, x.1.now)) result (next_at P.reads P.follows (option_copied last.entry) bytes.now) }
+{
+    let (piece, rest) = P::read(alloc, bytes)?;
+    if let Some(last) = last
+        && !piece.is_behind(last)
+    {
+        return Err(LogFault::Order);
+    }
+    Ok((piece, rest))
+}
+
+// So many pieces.
+pub fn read_all<P: Piece>(
+    alloc: Global,
+    count: u64,
+    bytes: &[u8],
+) -> Result<(Vec<P>, &[u8]), LogFault>
+    ensures { Gives (λ x. (x.0.items, x.1.now)) result (many P.reads P.follows count None bytes.now) }
+{
+    let mut pieces = Vec::new(alloc);
+    let mut rest = bytes;
+    for _ in 0..count {
+        let (piece, after) = next_at(alloc, pieces.last(), rest)?;
+        pieces.push(piece)?;
+        rest = after;
+    }
+    Ok((pieces, rest))
+}
+
+// Writes pieces at the end.
+pub fn put_all<P: Piece>(out: &mut Vec<u8>, pieces: &[P]) -> Result<(), Memory>
+    requires { AllByRecursion P.can_put pieces.now }
+    ensures { OnOk result (out.new.items ≡ out.old.items ++ flat_map P.spelled pieces.now) }
+{
+    for piece in pieces {
+        piece.put(out)?;
+    }
+    Ok(())
+}
+
+// A number of pieces in four bytes, and the pieces.
+#[tactic(auto, unfolding(crate::specs::Reading::listed_at))]
+pub fn short_list_at<P: Piece>(alloc: Global, bytes: &[u8]) -> Result<(Listed<P>, &[u8]), LogFault>
+    ensures { Gives (λ x. (x.0, x.1.now)) result (listed_at 4 P.reads P.follows bytes.now) }
+{
+    let (count, rest) = u32_at(bytes)?;
+    let (pieces, rest) = read_all(alloc, u64::from(count), rest)?;
+    Ok((Listed::new(pieces), rest))
+}
+
+// A number of pieces in eight bytes, and the pieces.
+#[tactic(auto, unfolding(crate::specs::Reading::listed_at))]
+pub fn long_list_at<P: Piece>(alloc: Global, bytes: &[u8]) -> Result<(Listed<P>, &[u8]), LogFault>
+    ensures { Gives (λ x. (x.0, x.1.now)) result (listed_at 8 P.reads P.follows bytes.now) }
+{
+    let (count, rest) = u64_at(bytes)?;
+    let (pieces, rest) = read_all(alloc, count, rest)?;
+    Ok((Listed::new(pieces), rest))
+}
+
+// Writes a number of pieces in four bytes, and the pieces.
+pub fn put_short_list<P: Piece>(out: &mut Vec<u8>, pieces: &[P]) -> Result<(), Memory>
+    requires few { length pieces.now < 2 ^ 32 }
+    requires each { AllByRecursion P.can_put pieces.now }
+    ensures { OnOk result (out.new.items ≡ out.old.items ++ listed 4 P.spelled pieces.now) }
+{
+    put_u32(out, pieces.len() as u32)?;
+    put_all(out, pieces)
+}
+
+// Writes a number of pieces in eight bytes, and the pieces.
+pub fn put_long_list<P: Piece>(out: &mut Vec<u8>, pieces: &[P]) -> Result<(), Memory>
+    requires { AllByRecursion P.can_put pieces.now }
+    ensures { OnOk result (out.new.items ≡ out.old.items ++ listed 8 P.spelled pieces.now) }
+{
+    put_u64(out, pieces.len() as u64)?;
+    put_all(out, pieces)
+}

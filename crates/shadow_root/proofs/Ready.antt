@@ -1,0 +1,67 @@
+-- A new file is ready for a commit beside its empty leaf.
+use Rattle.std.proofs.Common.{◌≡◌, ◌≢◌, ℕ, zero, suc, ◌+◌, ◌<◌, ◌≤◌, Bool, false, List, [], ◌∷◌, length, slice_get, Option, Some, None, IsTrue, refl, sym, ◌∙◌, ap, subst, arith}
+use Rattle.metric_laws.specs.Space.{Space}
+use Rattle.metric_laws.specs.Lists.{IsIn}
+use Rattle.disk_model.specs.Disk.{DiskState, MayLeave, LeavesOnly}
+use Rattle.tree_shape.specs.declared.live.Live.{Live}
+use Rattle.tree_shape.specs.declared.entry.InnerEntry.{InnerEntry}
+use Rattle.tree_shape.specs.declared.entry.Node.{Node}
+use Rattle.tree_shape.specs.declared.entry.Node.TheVariants.{Leaf}
+use Rattle.tree_shape.specs.Tree.{Nodes, inner_entries}
+use Rattle.node_page.specs.declared.head.Head.{Head}
+use Rattle.node_page.specs.Opening.{page_of, OpensTo}
+use Rattle.page_store.specs.declared.staging.StagedNode.{StagedNode}
+use Rattle.page_store.specs.Files.{IsSoundFile, nodes_in}
+use Rattle.shadow_root.specs.Live.{HasLive, IsInTree, in_range}
+use Rattle.shadow_root.specs.Live.IsInTree.{root, child}
+use Rattle.shadow_root.specs.Commit.{IsStagedAs, KeepsTree, IsReady, IsStagedFor}
+use Rattle.node_page.specs.Nodes.{IsLawfulNode}
+use Rattle.page_store.specs.Reading.{IsWithin}
+use Rattle.shadow_root.specs.Making.{first_live, IsMade}
+
+-- some space of this dimension
+space_of : ℕ → Space
+space_of dim = record { words = dim; fits = λ p. false; dist = λ p q. 0 }
+
+words_of : (dim : ℕ) → (space_of dim).words ≡ dim
+unfolding space_of
+words_of dim = refl
+
+-- the tree of a leaf is its page
+leaf_alone : (nodes : Nodes) (live : Live) → ((e : InnerEntry) → IsIn e (inner_entries (nodes live.root)) → ⊥) → (p : ℕ) → IsInTree nodes live p → p ≡ live.root
+leaf_alone nodes live none p (root within) = refl
+leaf_alone nodes live none p (child q e above stands within) =
+    let at : q ≡ live.root = leaf_alone nodes live none q above in
+    absurd (none e (subst (λ (n : ℕ). IsIn e (inner_entries (nodes n))) at stands))
+
+pub ready_of_new : (head : Head) (next : Live) (staged : List StagedNode) (disk : DiskState) → IsMade head disk.bytes → head.version ≡ 2 → LeavesOnly disk disk.bytes → next.count ≤ head.limit
+    → ((k : ℕ) (s : StagedNode) → IsStagedAs staged k s → s.page ≢ 3) → IsReady head.dim first_live next staged disk
+ready_of_new head next staged disk made version only count apart =
+    let sound = made (space_of head.dim) (words_of head.dim) in
+    let leaf = sound.tree.parts in
+    record {
+      head = head;
+      opens = sound.opens;
+      version = version;
+      dim_is = refl;
+      count = count;
+      images = λ image left. record {
+        opens = record { head = head; opens = subst (λ (b : List ℕ). OpensTo b head first_live) (sym (only image left)) sound.opens };
+        tree = λ p inside. ap (λ (b : List ℕ). page_of b p) (only image left);
+      };
+      beside = λ k s stands inside. apart k s stands (leaf_alone (nodes_in head.dim first_live disk.bytes) first_live
+          (λ e is. subst (λ (n : Option Node). IsIn e (inner_entries n)) leaf.1 is) s.page inside);
+    }
+
+-- one node that is staged
+pub one_staged : (s t : StagedNode) (k : ℕ) → IsStagedAs (s ∷ []) k t → t ≡ s
+one_staged s t zero is = cc
+one_staged s t (suc k) is = absurd cc
+
+-- one new node is all that a commit of one more page needs
+pub staged_one : (dim : ℕ) (live next : Live) (s : StagedNode) → IsWithin next.pages s.page → IsLawfulNode dim s.node → live.pages ≡ s.page → next.pages ≡ s.page + 1 → IsStagedFor dim live next (s ∷ [])
+staged_one dim live next s within lawful first last = record {
+  within = λ k t stands. subst (λ (u : StagedNode). IsWithin next.pages u.page) (sym (one_staged s t k stands)) within;
+  lawful = λ k t stands. subst (λ (u : StagedNode). IsLawfulNode dim u.node) (sym (one_staged s t k stands)) lawful;
+  every = λ p from to. (0, s, refl, omega arith);
+}

@@ -1,0 +1,117 @@
+use Rattle.std.proofs.Common.{◌≡◌, ℕ, suc, ◌+◌, ◌-◌, ◌≤◌, ◌∷◌, ◌++◌, [], List, length, drop, Result, Ok, Err, IsTrue, Bool, true, false, refl, sym, ◌∙◌, ap, subst, arith}
+use Rattle.std.specs.Prelude.{◌&&◌, ◌==◌, nat_le, if◌then◌else◌}
+use Rattle.std.proofs.Common.{length-append}
+use Rattle.std.proofs.lemmas.Result.{on_ok_weaker}
+use Rattle.std.proofs.Math.Seq.{drop-cons}
+use Rattle.tree_shape.specs.Fill.{most_for, least_for}
+use Rattle.tree_shape.specs.declared.entry.InnerEntry.{InnerEntry}
+use Rattle.tree_shape.specs.declared.entry.Node.{Node}
+use Rattle.tree_audit.specs.declared.faults.AuditFault.{AuditFault}
+use Rattle.tree_audit.specs.Audited.{Seen, and_then, each_entry, audited_at, is_filled, step, check_entry, last_point, IsWalkFault}
+use Rattle.tree_audit.specs.Visits.{seen_of, leaf_told, entry_told}
+use Rattle.tree_audit.proofs.Entries.{and_then_fault}
+use Rattle.tree_audit.proofs.InnerPages.{inner_page, inner_zero, inner_fill}
+use Rattle.tree_audit.proofs.Arrivals.{leaf_page, walk_same, walk_if_err, of_entry, of_child}
+use Rattle.tree_audit.proofs.walking.+walk.Goals as goal
+
+pub returns-in-Err-clause-err : goal.returns-in-Err-clause-err
+returns-in-Err-clause-err g t c =
+    c.in-Err.ensures.err (g.R.M.Metric.space (g.R.Ruler.metric c.args.ruler.now)) c.args.visits.now.ids.limit c.args.at.level c.args.at.least c.args.path.now.items c.args.visits.now.ids.met
+
+pub returns-in-Leaf-clause-ok : goal.returns-in-Leaf-clause-ok
+returns-in-Leaf-clause-ok g t c = on_ok_weaker c.audit_leaf.result (λ told tells.
+    let s = g.R.M.Metric.space (g.R.Ruler.metric c.args.ruler.now) in
+    let at = c.args.at in
+    let visits = c.args.visits.now in
+    leaf_page s (g.P.Pages.shelf c.args.pages.now).read visits.ids.limit at.level at.least c.args.path.now.items at.page c.in-Leaf.objects (seen_of visits) c.in-Ok.ensures.new
+    (c.in-Ok.ensures.ok.told tells ∙ ap (λ (n : Node). Ok n) c.in-Leaf.is) ∙ (rw (← c.in-Ok.ensures.noted, ← c.as_slice-in-Leaf.ensures, ← c.as_slice.ensures.value) (told c.arrive.new.seen.met))) c.audit_leaf.ensures.ok
+
+pub returns-in-Leaf-clause-err : goal.returns-in-Leaf-clause-err
+returns-in-Leaf-clause-err g t c =
+    let s = g.R.M.Metric.space (g.R.Ruler.metric c.args.ruler.now) in
+    let at = c.args.at in
+    let visits = c.args.visits.now in
+    walk_if_err c.audit_leaf.result (g.P.Pages.shelf c.args.pages.now) (g.P.Pages.shelf c.arrive.new.pages) _ _ c.arrive.new.seen.met (λ tells.
+    sym (leaf_page s (g.P.Pages.shelf c.args.pages.now).read visits.ids.limit at.level at.least c.args.path.now.items at.page c.in-Leaf.objects (seen_of visits) c.in-Ok.ensures.new
+    (c.in-Ok.ensures.ok.told tells ∙ ap (λ (n : Node). Ok n) c.in-Leaf.is) ∙ (rw (← c.in-Ok.ensures.noted, ← c.as_slice-in-Leaf.ensures, ← c.as_slice.ensures.value) refl))) c.audit_leaf.ensures.err
+
+pub returns-then-at-eq0-clause-err : goal.returns-then-at-eq0-clause-err
+returns-then-at-eq0-clause-err g t c = λ tells.
+    let at = c.args.at in
+    inner_zero (g.R.M.Metric.space (g.R.Ruler.metric c.args.ruler.now)) (g.P.Pages.shelf c.args.pages.now).read c.args.visits.now.ids.limit at.least c.args.path.now.items at.page c.in-Inner.level at.level c.in-Inner.entries
+    (seen_of c.args.visits.now) c.in-Ok.ensures.new (c.in-Ok.ensures.ok.told tells ∙ ap (λ (n : Node). Ok n) c.in-Inner.is) c.if-at-eq0.true
+
+pub returns-then-not-is_inner-clause-err : goal.returns-then-not-is_inner-clause-err
+returns-then-not-is_inner-clause-err g t c = λ tells.
+    let at = c.args.at in
+    let s = g.R.M.Metric.space (g.R.Ruler.metric c.args.ruler.now) in
+    let n = length c.in-Inner.entries in
+    let why : ((c.in-Inner.level == at.level) && is_filled s at.least n) ≡ false =
+    rw (c.requires.words, ← c.as_slice-entries.ensures) (sym c.is_inner.ensures ∙ c.if-not-is_inner.true) in
+    inner_fill s (g.P.Pages.shelf c.args.pages.now).read c.args.visits.now.ids.limit at.level at.least c.args.path.now.items at.page c.in-Inner.level c.in-Inner.entries
+    (seen_of c.args.visits.now) c.in-Ok.ensures.new (c.in-Ok.ensures.ok.told tells ∙ ap (λ (n : Node). Ok n) c.in-Inner.is) why
+
+pub loop-place-init : goal.loop-place-init
+loop-place-init g t c =
+    let at = c.args.at in
+    let s = g.R.M.Metric.space (g.R.Ruler.metric c.args.ruler.now) in
+    let n = length c.in-Inner.entries in
+    let full : ((c.in-Inner.level == at.level) && is_filled s at.least n) ≡ true =
+    rw (c.requires.words, ← c.as_slice-entries.ensures) (sym c.is_inner.ensures ∙ c.if-not-is_inner.false) in
+    record {
+      metric = refl;
+      same = c.in-Ok.ensures.same;
+      keeps = c.in-Ok.ensures.keeps;
+      pages_limit = c.in-Ok.ensures.limit;
+      ids_limit = refl;
+      path = refl;
+      left = λ tells.
+          rw (c.in-Ok.ensures.noted, c.as_slice-entries.ensures)
+          (sym (inner_page s (g.P.Pages.shelf c.args.pages.now).read c.args.visits.now.ids.limit at.level at.least c.args.path.now.items at.page c.in-Inner.level c.in-Inner.entries
+          (seen_of c.args.visits.now) c.in-Ok.ensures.new (c.in-Ok.ensures.ok.told tells ∙ ap (λ (n : Node). Ok n) c.in-Inner.is) c.if-at-eq0.false full));
+      asked = omega (arith, length-append c.args.visits.now.pages.met (at.page ∷ []), ap length c.in-Ok.ensures.noted, c.in-Ok.ensures.asked);
+      reads = omega (arith, length-append c.args.visits.now.pages.met (at.page ∷ []), ap length c.in-Ok.ensures.noted, c.in-Ok.ensures.reads);
+    }
+
+pub returns-in-Err-audit_entry-clause-err : goal.returns-in-Err-audit_entry-clause-err
+returns-in-Err-audit_entry-clause-err g t c =
+    let i = c.loop-place.invariant in
+    let at = c.args.at in
+    let s = g.R.M.Metric.space (g.R.Ruler.metric c.args.ruler.now) in
+    let read = (g.P.Pages.shelf c.args.pages.now).read in
+    let entry = c.index-entries-place.result in
+    let check = entry_told s read c.args.visits.now.ids.limit at.level c.args.path.now.items at.page in
+    let seen = seen_of c.loop-place.visits in
+    let entries = c.as_slice-entries.result.now in
+    let here : drop c.loop-place.place entries ≡ entry ∷ drop (suc c.loop-place.place) entries =
+    drop-cons entries c.loop-place.place entry (omega arith) ∙ ap (λ (e : InnerEntry). e ∷ drop (suc c.loop-place.place) entries) (sym c.index-entries-place.is) in
+    let rest : Seen → Result Seen AuditFault = λ after. each_entry check (c.loop-place.place + 1) (drop (suc c.loop-place.place) entries) after in
+    walk_same (g.P.Pages.shelf c.args.pages.now) (g.P.Pages.shelf c.loop-place.pages) (and_then (check c.loop-place.place entry seen) rest) _ c.in-Err-audit_entry.fault
+    (λ tells. ap (λ (xs : List InnerEntry). each_entry check c.loop-place.place xs seen) (sym here) ∙ i.left tells)
+    (of_entry (g.P.Pages.shelf c.args.pages.now) (g.P.Pages.shelf c.loop-place.pages) (and_then (check c.loop-place.place entry seen) rest) c.in-Err-audit_entry.fault
+    (and_then_fault (check c.loop-place.place entry seen) rest c.in-Err-audit_entry.fault
+    (rw (← i.metric, ← i.path, ← c.as_slice-in-loop-place.ensures.value) (c.in-Err-audit_entry.ensures.err _))))
+
+pub returns-in-Err-walk-clause-err : goal.returns-in-Err-walk-clause-err
+returns-in-Err-walk-clause-err g t c =
+    let i = c.loop-place.invariant in
+    let at = c.args.at in
+    let s = g.R.M.Metric.space (g.R.Ruler.metric c.args.ruler.now) in
+    let read = (g.P.Pages.shelf c.args.pages.now).read in
+    let entry = c.index-entries-place.result in
+    let check = entry_told s read c.args.visits.now.ids.limit at.level c.args.path.now.items at.page in
+    let seen = seen_of c.loop-place.visits in
+    let entries = c.as_slice-entries.result.now in
+    let here : drop c.loop-place.place entries ≡ entry ∷ drop (suc c.loop-place.place) entries =
+    drop-cons entries c.loop-place.place entry (omega arith) ∙ ap (λ (e : InnerEntry). e ∷ drop (suc c.loop-place.place) entries) (sym c.index-entries-place.is) in
+    let rest : Seen → Result Seen AuditFault = λ after. each_entry check (c.loop-place.place + 1) (drop (suc c.loop-place.place) entries) after in
+    let child = audited_at s read c.args.visits.now.ids.limit (at.level - 1) (least_for s.words) (c.args.path.now.items ++ step at.page c.loop-place.place entry ∷ []) entry.child seen in
+    let passes : check c.loop-place.place entry seen ≡ child = rw (← i.metric, ← i.path, ← c.as_slice-in-loop-place.ensures.value) (c.in_default.ensures.ok _) in
+    let pushed : c.push.new.self.items ≡ c.loop-place.path.items ++ c.in-Ok-step_to.step ∷ [] = c.push.ensures.items ∙ ap (λ (b : Bool). if b then c.loop-place.path.items ++ c.in-Ok-step_to.step ∷ [] else c.loop-place.path.items) c.if-is_err.ensures.negation in
+    walk_same (g.P.Pages.shelf c.args.pages.now) (g.P.Pages.shelf c.walk.new.pages) (and_then child rest) _ c.in-Err-walk.fault
+    (λ tells. ap (λ (r : Result Seen AuditFault). and_then r rest) (sym passes) ∙ ap (λ (xs : List InnerEntry). each_entry check c.loop-place.place xs seen) (sym here) ∙ i.left tells)
+    (of_child (g.P.Pages.shelf c.args.pages.now) (g.P.Pages.shelf c.loop-place.pages) (g.P.Pages.shelf c.walk.new.pages) child (λ r. and_then r rest) c.in-Err-walk.fault i.same.tells i.same.faults (λ w. refl)
+    (subst (λ (n : ℕ). IsWalkFault (g.P.Pages.shelf c.loop-place.pages) (g.P.Pages.shelf c.walk.new.pages)
+    (audited_at s read c.args.visits.now.ids.limit (at.level - 1) n (c.args.path.now.items ++ step at.page c.loop-place.place entry ∷ []) entry.child seen) c.in-Err-walk.fault)
+    (c.fill.ensures.least ∙ ap least_for (sym c.requires.words))
+    (rw (← c.in-Ok-step_to.ensures, ← i.path, ← pushed, ← i.same.read, ← i.ids_limit, ← i.metric, ← c.audit_entry.ensures.same) c.in-Err-walk.ensures.err)))

@@ -1,0 +1,16 @@
+-- Numbers that a walk has met.
+use Rattle.std.specs.Prelude.{◌≡◌, ℕ, ◌<◌, ◌≤◌, ◌^◌, ◌==◌, not, Bool, false, List, [], ◌∷◌, ◌++◌, length, slice_index_or}
+use Rattle.std.specs.List.{AllByRecursion}
+use Rattle.tree_shape.specs.Tree.{times}
+
+-- numbers below a limit, in the order in which they were met
+pub record Numbers : Type 0 where
+  pub limit : ℕ
+  pub met : List ℕ
+
+-- the numbers are below the limit and none was met twice, and a flag for each number below the limit tells whether it was met
+pub record IsFlagged (flags : List Bool) (met : List ℕ) : Type 0 where
+  pub few : length flags < 2 ^ 32
+  pub small : AllByRecursion (λ n. n < length flags) met
+  pub once : (n : ℕ) → times n met ≤ 1
+  pub told : (n : ℕ) → n < length flags → slice_index_or flags n false ≡ not (times n met == 0)

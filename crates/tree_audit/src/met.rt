@@ -1,0 +1,70 @@
+ghost use Rattle.std.specs.Prelude.{◌≡◌, ◌<◌, ◌++◌, ◌==◌, not, [], ◌∷◌, length, IfOk, OnOk, OnErr};
+ghost use Rattle.tree_shape.specs.Tree.{times};
+
+use page_store::Memory;
+use std::alloc::Global;
+use std::marker::Model;
+
+/// Numbers below a limit that were met, in the order of meeting.
+#[derive(Debug, Drop)]
+pub struct Met {
+    flags: Vec<bool>,
+    numbers: Vec<u32>,
+}
+
+impl Model for Met {
+    ghost use Rattle.std.specs.Prelude.{length};
+    ghost use Rattle.tree_audit.specs.Met.{Numbers, IsFlagged};
+
+    ghost Value = { Numbers };
+
+    ghost view = { λ m. record { limit = length m.flags.items; met = m.numbers.items } };
+
+    ghost invariant = { λ m. IsFlagged m.flags.items m.numbers.items };
+}
+
+impl Met {
+    /// No number below the limit was met yet.
+    pub fn new(alloc: Global, limit: u32) -> Result<Met, Memory>
+        ensures { IfOk result (λ m. m ≡ record { limit = limit; met = [] }) }
+    {
+        Ok(Met {
+            flags: vec![in alloc; false; limit as usize]?,
+            numbers: Vec::new(alloc),
+        })
+    }
+
+    /// The limit. Every number that was met is below it.
+    pub fn limit(&self) -> u32
+        ensures { result ≡ self.now.limit }
+    {
+        self.flags.len() as u32
+    }
+
+    /// Whether the number was met.
+    pub fn has(&self, number: u32) -> bool
+        ensures { result ≡ not (times number self.now.met == 0) }
+    {
+        let number = number as usize;
+        number < self.flags.len() && self.flags[number]
+    }
+
+    /// Notes that the number, which was not met before, is met.
+    pub fn add(&mut self, number: u32) -> Result<(), Memory>
+        requires small { number < self.old.limit }
+        requires new { times number self.old.met ≡ 0 }
+        ensures ok { OnOk result (self.new ≡ record self.old { met = self.old.met ++ number ∷ [] }) }
+        ensures err { OnErr result (self.new ≡ self.old) }
+    {
+        self.numbers.push(number)?;
+        self.flags[number as usize] = true;
+        Ok(())
+    }
+
+    /// How many numbers were met.
+    pub fn len(&self) -> u32
+        ensures { result ≡ length self.now.met }
+    {
+        self.numbers.len() as u32
+    }
+}
