@@ -1,11 +1,11 @@
 -- Walks that stopped half way.
-use Rattle.std.proofs.Common.{◌≡◌, ℕ, zero, suc, ◌+◌, ◌<◌, ◌≤◌, ◌^◌, Bool, List, [], ◌∷◌, ◌++◌, refl, sym, ap, subst, ◌∙◌, Option, Some, None, arith, length, append_assoc, length-append}
-use Rattle.std.specs.Prelude.{IsTrue, map}
+use Rattle.std.proofs.Common.{◌≡◌, ℕ, zero, suc, ◌+◌, ◌<◌, ◌≤◌, ◌^◌, List, [], ◌∷◌, ◌++◌, refl, sym, ap, subst, ◌∙◌, Option, Some, None, arith, length, append_assoc, length-append}
+use Rattle.std.specs.Prelude.{map}
 use Rattle.std.specs.List.{AllByRecursion, flat_map}
 use Rattle.std.proofs.lemmas.List.{append-nil}
 use Rattle.metric_laws.specs.Space.{Space}
 use Rattle.metric_laws.specs.Counts.{next_count}
-use Rattle.metric_laws.proofs.Lists.{all_append, all_weaker, all_flat_map, flat_map-append}
+use Rattle.metric_laws.proofs.Lists.{all_append, all_weaker, flat_map-append}
 use Rattle.scan_model.specs.declared.hit.Hit.{Hit}
 use Rattle.tree_shape.specs.declared.live.Live.{Live}
 use Rattle.tree_shape.specs.declared.entry.InnerEntry.{InnerEntry}
@@ -19,8 +19,8 @@ use Rattle.log_model.specs.declared.marks.Mark.TheVariants.{Skip, Far, Near}
 use Rattle.log_model.specs.declared.marks.Record.{Record}
 use Rattle.log_model.specs.declared.marks.Need.{Need}
 use Rattle.log_model.specs.Counts.{count_up, measured_by, measured}
-use Rattle.log_model.specs.Walk.{Search, Rule, WalksBy, ReachesBy, near_ones, need_of, needs_of, hits_of, root_need}
-use Rattle.log_model.proofs.Pruned.{FitsAbove, point_above}
+use Rattle.log_model.specs.Walk.{Search, Rule, WalksBy, ReachesBy, near_ones, needs_of, hits_of, root_need}
+use Rattle.log_model.proofs.Pruned.{FitsAbove}
 use Rattle.log_model.proofs.Walk.{Spot, need_at, spot_of, IsSoundSpot, needs_from_spots, near_of_sound, same_node}
 
 -- one more page is opened
@@ -31,8 +31,7 @@ reaches_more rule f nodes [] [] hits n left node marks is keeps walk = absurd (l
 reaches_more rule f nodes (m ∷ ms) [] hits n left node marks is keeps walk =
     let first : n ≡ m = cc (walk.1) in
     let rest : left ≡ ms = cc (walk.1) in
-    let none : hits ++ hits_of f node marks ≡ hits_of f node marks ++ [] = ap (λ (l : List Hit). l ++ hits_of f node marks) walk.0 ∙ sym (append-nil (hits_of f node marks)) in
-    (
+    let none : hits ++ hits_of f node marks ≡ hits_of f node marks ++ [] = ap (λ (l : List Hit). l ++ hits_of f node marks) walk.0 ∙ sym (append-nil (hits_of f node marks)) in (
       node,
       subst (λ (k : Need). nodes k.page ≡ Some node) first is,
       ap (λ (k : Need). k.page) first,
@@ -41,8 +40,7 @@ reaches_more rule f nodes (m ∷ ms) [] hits n left node marks is keeps walk =
     )
 reaches_more rule f nodes [] (r ∷ rs) hits n left node marks is keeps walk = absurd walk
 reaches_more rule f nodes (m ∷ ms) (r ∷ rs) hits n left node marks is keeps walk =
-    let deep = reaches_more rule f nodes (needs_of f walk.0 r.marks ++ ms) rs walk.4.0 n left node marks is keeps walk.4.1 in
-    (
+    let deep = reaches_more rule f nodes (needs_of f walk.0 r.marks ++ ms) rs walk.4.0 n left node marks is keeps walk.4.1 in (
       walk.0,
       walk.1,
       walk.2,
@@ -112,7 +110,7 @@ module _ (rule : Rule) (f : Search) (nodes : Nodes) where
       let inner : node ≡ Inner (suc h) sound.0 = same_node (nodes page) node (Inner (suc h) sound.0) is sound.1 in
       let kids : List Spot = map (spot_of f.space h) (near_ones sound.0 marks) in
       let deep = rest (kids ++ ps) (all_append (IsSoundSpot f.space nodes) kids ps (near_of_sound f.space nodes h above sound.0 marks fit sound.3) sounds)
-              (ap (λ (m : Node). needs_of f m marks ++ map (need_at f) ps) inner ∙ needs_from_spots f f.space h (near_ones sound.0 marks) ps) in
+      (ap (λ (m : Node). needs_of f m marks ++ map (need_at f) ps) inner ∙ needs_from_spots f f.space h (near_ones sound.0 marks) ps) in
       let bound = deep.few in
       let joined = ap length (flat_map-append (λ p. pages_at nodes p.height p.page) kids ps) in
       let long = length-append (pages_of nodes kids) (pages_of nodes ps) in

@@ -40,7 +40,12 @@ impl Traversal {
         ensures records { IfOk result (λ t. t.records.items ≡ []) }
         ensures stack { IfOk result (λ t. t.stack.items ≡ root_need root ∷ []) }
     {
-        let stack = vec![in alloc; Need { page: root, above: None }]?;
+        let stack = vec![in alloc;
+            Need {
+                page: root,
+                above: None
+            },
+        ]?;
         Ok(Traversal {
             hits: Vec::new(alloc),
             records: Vec::new(alloc),

@@ -1,23 +1,27 @@
 -- A search between two steps, over pages that may tell a sound tree or not.
-use Rattle.std.proofs.Common.{◌≡◌, ℕ, zero, suc, ◌+◌, ◌<◌, ◌≤◌, ◌^◌, Bool, true, false, List, [], ◌∷◌, ◌++◌, refl, sym, ap, arith, ◌∙◌, length, length-append, subst, Option, Some, None, Err, inl, reverse}
+use Rattle.std.proofs.Common.{◌≡◌, ℕ, zero, suc, ◌+◌, ◌<◌, ◌≤◌, ◌^◌, Bool, true, false, List, [], ◌∷◌, ◌++◌, refl, sym, ap, arith, ◌∙◌, length, length-append, subst, Option, Some, None, Err, inl, inr, reverse}
 use Rattle.std.specs.Prelude.{IsTrue, ◌==◌}
 use Rattle.std.proofs.lemmas.Bool.Decides.{nat_tests}
 use Rattle.metric_laws.specs.Space.{Space, IsSpace}
 use Rattle.metric_laws.specs.Counts.{next_count}
-use Rattle.metric_laws.proofs.Lists.{all_append}
+use Rattle.metric_laws.specs.Lists.{IsIn}
+use Rattle.metric_laws.proofs.Lists.{all_append, in-map, in-append}
 use Rattle.scan_model.specs.declared.hit.Hit.{Hit}
 use Rattle.scan_model.specs.declared.query.Query.{Query}
 use Rattle.scan_model.specs.declared.query.Query.TheVariants.{Nearest}
 use Rattle.tree_shape.specs.declared.live.Live.{Live}
+use Rattle.tree_shape.specs.declared.entry.InnerEntry.{InnerEntry}
 use Rattle.tree_shape.specs.declared.entry.Node.{Node}
 use Rattle.tree_shape.specs.declared.entry.Node.TheVariants.{Leaf, Inner}
-use Rattle.tree_shape.specs.Tree.{Nodes, IsSoundAt, IsSoundTree, points_by_id}
+use Rattle.tree_shape.specs.Tree.{Nodes, IsSoundAt, IsSoundTree, points_by_id, inner_entries}
 use Rattle.node_page.specs.Nodes.{IsLawfulNode}
 use Rattle.page_store.specs.declared.pages.PageFault.{PageFault}
 use Rattle.page_store.specs.declared.pages.PageFault.TheVariants.{Disk, Bad, Outside, Memory, Repeats, Level}
 use Rattle.page_store.specs.Reading.{Read, IsWithin, is_within, nodes_of, node_or_none}
 use Rattle.page_store.specs.Shelf.{Shelf, HoldsSame, IsNodeOf, HasPageCause, IsPassing}
 use Rattle.log_model.specs.declared.logs.Found.{Found}
+use Rattle.log_model.specs.declared.marks.Mark.{Mark}
+use Rattle.log_model.specs.declared.marks.Mark.TheVariants.{Skip, Far, Near}
 use Rattle.log_model.specs.declared.marks.Record.{Record}
 use Rattle.log_model.specs.declared.marks.Need.{Need}
 use Rattle.log_model.specs.declared.traversal.Traversal.{Traversal}
@@ -26,7 +30,7 @@ use Rattle.log_model.specs.Grammar.{IsLawfulQuery}
 use Rattle.log_model.specs.Sound.{IsLogOf, IsLeastLog, selected, search_for}
 use Rattle.log_model.specs.Laws.{scan_answers}
 use Rattle.log_model.specs.Steps.{TakesNode}
-use Rattle.log_model.specs.Walk.{Search, search_at, AreLeast, WalksBy, ReachesBy, least_marks, hits_of, needs_of, record_of, root_need}
+use Rattle.log_model.specs.Walk.{Search, search_at, AreLeast, WalksBy, ReachesBy, least_marks, near_ones, hits_of, needs_of, record_of, root_need}
 use Rattle.log_model.proofs.Lawful.{lawful_log, marks_long, hits_few}
 use Rattle.log_model.proofs.LeastLog.{sound_complete, least_sound}
 use Rattle.log_model.proofs.Reached.{count_up_more, reaches_more}
@@ -34,10 +38,10 @@ use Rattle.nearest_search.specs.declared.pending.Pending.{Pending}
 use Rattle.nearest_search.specs.Counts.{IsRadius}
 use Rattle.nearest_search.specs.Queue.{IsNext}
 use Rattle.nearest_search.specs.Keeping.{kept_node}
-use Rattle.nearest_search.specs.Machine.{pending_root}
+use Rattle.nearest_search.specs.Machine.{pending_root, pending_of, pendings_of}
 use Rattle.nearest_search.specs.Opened.{State, IsOpened}
 use Rattle.nearest_search.specs.Relog.{IsRelogging, IsRelogged}
-use Rattle.nearest_search.specs.Searched.{KeepsFew, IsExploring, IsExplored, HasNearestCause, IsNearest}
+use Rattle.nearest_search.specs.Searched.{IsReachedBy, IsReached, KeepsFew, IsExploring, IsExplored, HasNearestCause, IsNearest}
 use Rattle.nearest_search.proofs.Totals.{in-permutation_back}
 use Rattle.nearest_search.proofs.Steps.{step}
 use Rattle.nearest_search.proofs.Ends.{begins, room, ends}
@@ -70,6 +74,25 @@ keeps_few_then before after page node few new here others p n is = cases (p == p
         rw one new
     cases false e = few p n (sym (others p (λ same. let t : (p == page) ≡ true = grind (arith, nat_tests) in cc)) ∙ is)
 
+-- a child of a reached page is reached
+child_reached : (nodes : Nodes) (page p : ℕ) (path : List ℕ) (e : InnerEntry) → IsIn e (inner_entries (nodes p)) → IsReachedBy nodes page path p → IsReachedBy nodes page (path ++ e.child ∷ []) e.child
+child_reached nodes page p [] e k by = (e, subst (λ (n : ℕ). IsIn e (inner_entries (nodes n))) (sym by) k, refl, refl)
+child_reached nodes page p (c ∷ path) e k by = (by.0, by.1, by.2, child_reached nodes c p path e k by.3)
+
+near-in : (es : List InnerEntry) (ms : List Mark) (e : InnerEntry) → IsIn e (near_ones es ms) → IsIn e es
+near-in [] ms e k = absurd k
+near-in (x ∷ es) [] e k = absurd k
+near-in (x ∷ es) (Skip ∷ ms) e k = inr (near-in es ms e k)
+near-in (x ∷ es) (Far ∷ ms) e k = inr (near-in es ms e k)
+near-in (x ∷ es) (Near ∷ ms) e k = elim k [ inl same ↦ inl same | inr w ↦ inr (near-in es ms e w) ]
+
+-- what an opened node queues are children of its entries
+queued_child : (f : Search) (above : Option ℕ) (node : Node) (x : Pending) → IsIn x (pendings_of f above node) → (e : InnerEntry) × IsIn e (inner_entries (Some node)) × (x.page ≡ e.child)
+queued_child f above (Leaf es) x k = absurd k
+queued_child f above (Inner level es) x k =
+    let from = in-map (pending_of f) (near_ones es (least_marks f above (Inner level es))) x k in
+    (from.0, near-in es (least_marks f above (Inner level es)) from.0 from.1, ap (λ (y : Pending). y.page) from.2)
+
 abbrev pub first_state : Live → State
 first_state live = record { queue = pending_root live.root ∷ []; best = []; kept = kept_node [] }
 
@@ -81,10 +104,14 @@ module _ (s : Space) (axioms : IsSpace s) (old : Shelf) (live : Live) (q : List 
     reads = omega arith;
     few = omega arith;
     keeps_few = λ page node is. absurd (cc);
+    reached = λ tells x k. elim k [ inl e ↦ ([], sym (ap (λ (y : Pending). y.page) e)) | inr w ↦ absurd w ];
     holds = λ tells sound. begins s axioms (nodes_of old.read) live q q_fits k sound;
   }
 
   module _ (now : Shelf) (state : State) (opened : ℕ) (before : IsExploring s old now live q k state opened) (rho : ℕ) (radius : IsRadius k state.best rho) (next : Pending) (rest : List Pending) (first : IsNext rho state.queue next rest) where
+    next_reached : IsTrue old.tells → IsReached (nodes_of old.read) live.root next.page
+    next_reached tells = before.reached tells next (in-permutation_back state.queue (next ∷ rest) next first.popped (inl refl))
+
     pub explore_steps : (f : Search) (j : ℕ) (new : Shelf) (after : State) → f ≡ search_at s q rho → j ≡ k →
         IsOpened f now j next (record { queue = rest; best = state.best; kept = state.kept }) after → HoldsSame now new →
         new.asked ≡ next_count now.asked → new.reads ≤ now.reads + 1 → opened < live.pages → IsExploring s old new live q k after (opened + 1)
@@ -98,6 +125,18 @@ module _ (s : Space) (axioms : IsSpace s) (old : Shelf) (live : Live) (q : List 
           reads = (let b = before.reads in omega arith);
           few = omega arith;
           keeps_few = keeps_few_then state.kept after.kept next.page done.node before.keeps_few (entries_few now.dim done.node done.is.lawful) done.here done.others;
+          reached = λ tells x k.
+              elim (in-append (pendings_of (search_at s q rho) next.above done.node) rest x (in-permutation_back (pendings_of (search_at s q rho) next.above done.node ++ rest) after.queue x done.pushed k)) [
+                | inl new ↦
+                    let child = queued_child (search_at s q rho) next.above done.node x new in
+                    let here = next_reached tells in
+                    let there : nodes_of old.read next.page ≡ Some done.node = told_then old now next.page done.node before.same done.is tells in (
+                      here.0 ++ child.0.child ∷ [],
+                      subst (λ (p : ℕ). IsReachedBy (nodes_of old.read) live.root (here.0 ++ child.0.child ∷ []) p) (sym child.2)
+                          (child_reached (nodes_of old.read) live.root next.page here.0 child.0 (subst (λ (o : Option Node). IsIn child.0 (inner_entries o)) (sym there) child.1) here.1),
+                    )
+                | inr left ↦ before.reached tells x (in-permutation_back state.queue (next ∷ rest) x first.popped (inr left))
+              ];
           holds = λ tells sound. step s axioms q q_fits (nodes_of old.read) k live.root state.kept state.queue state.best opened (before.holds tells sound) rho radius next rest first.popped first.low first.first
               done.node (told_then old now next.page done.node before.same done.is tells) after.queue done.pushed after.best done.noted after.kept done.here done.others;
         }
@@ -107,24 +146,28 @@ module _ (s : Space) (axioms : IsSpace s) (old : Shelf) (live : Live) (q : List 
     explore_cause new (Bad page fault) cause = (
       cause.1,
       subst (λ (p : ℕ). IsWithin p page) before.same.pages (subst (λ (p : ℕ). IsWithin now.pages p) (sym cause.0) cause.2),
-      λ tells.
-          subst (λ (p : ℕ). old.read p ≡ Err (Bad page fault)) (sym cause.0)
-          (subst (λ (p : ℕ). old.read next.page ≡ Err (Bad p fault)) (sym cause.0)
-          (ap (λ (r : Read). r next.page) (sym before.same.read) ∙ cause.3 (rw before.same.tells tells))),
+      λ tells. (
+        subst (λ (p : ℕ). old.read p ≡ Err (Bad page fault)) (sym cause.0)
+            (subst (λ (p : ℕ). old.read next.page ≡ Err (Bad p fault)) (sym cause.0)
+            (ap (λ (r : Read). r next.page) (sym before.same.read) ∙ cause.3 (rw before.same.tells tells))),
+        subst (λ (p : ℕ). IsReached (nodes_of old.read) live.root p) (sym cause.0) (next_reached tells),
+      ),
     )
     explore_cause new (Outside page) cause = (
       subst (λ (p : ℕ). is_within p page ≡ false) before.same.pages (subst (λ (p : ℕ). is_within now.pages p ≡ false) (sym cause.0) cause.1),
-      λ tells.
-          subst (λ (p : ℕ). old.read p ≡ Err (Outside page)) (sym cause.0)
-          (subst (λ (p : ℕ). old.read next.page ≡ Err (Outside p)) (sym cause.0)
-          (ap (λ (r : Read). r next.page) (sym before.same.read) ∙ cause.2 (rw before.same.tells tells))),
+      λ tells. (
+        subst (λ (p : ℕ). old.read p ≡ Err (Outside page)) (sym cause.0)
+            (subst (λ (p : ℕ). old.read next.page ≡ Err (Outside p)) (sym cause.0)
+            (ap (λ (r : Read). r next.page) (sym before.same.read) ∙ cause.2 (rw before.same.tells tells))),
+        subst (λ (p : ℕ). IsReached (nodes_of old.read) live.root p) (sym cause.0) (next_reached tells),
+      ),
     )
     explore_cause new Memory cause = tt
     explore_cause new (Repeats page) cause = absurd cause
     explore_cause new (Level page) cause = absurd cause
 
     pub explore_repeats : opened ≡ live.pages → HasNearestCause live old now (Repeats next.page)
-    explore_repeats all = before.asked ∙ ap (count_up old.asked) all
+    explore_repeats all = (before.asked ∙ ap (count_up old.asked) all, next_reached)
 
     no_node : (page : ℕ) (fault : PageFault) → page ≡ next.page → old.read page ≡ Err fault → IsTrue old.tells → IsSoundTree s (nodes_of old.read) live → ⊥
     no_node page fault same is tells sound =
@@ -142,8 +185,8 @@ module _ (s : Space) (axioms : IsSpace s) (old : Shelf) (live : Live) (q : List 
     pub explore_passes : (new : Shelf) (fault : PageFault) → HasPageCause now new next.page fault → IsTrue old.tells → IsSoundTree s (nodes_of old.read) live → IsPassing fault
     explore_passes new Disk cause tells sound = tt
     explore_passes new Memory cause tells sound = tt
-    explore_passes new (Bad page fault) cause tells sound = absurd (no_node page (Bad page fault) cause.0 ((explore_cause new (Bad page fault) cause).2 tells) tells sound)
-    explore_passes new (Outside page) cause tells sound = absurd (no_node page (Outside page) cause.0 ((explore_cause new (Outside page) cause).1 tells) tells sound)
+    explore_passes new (Bad page fault) cause tells sound = absurd (no_node page (Bad page fault) cause.0 (((explore_cause new (Bad page fault) cause).2 tells).0) tells sound)
+    explore_passes new (Outside page) cause tells sound = absurd (no_node page (Outside page) cause.0 (((explore_cause new (Outside page) cause).1 tells).0) tells sound)
     explore_passes new (Repeats page) cause tells sound = absurd cause
     explore_passes new (Level page) cause tells sound = absurd cause
 

@@ -1,13 +1,14 @@
 -- What a search for the nearest objects explores, what it answers, and why it may refuse.
-use Rattle.std.specs.Prelude.{◌≡◌, ◌≢◌, ℕ, ◌+◌, ◌≤◌, ◌<◌, false, List, length, IsTrue, Some, Err}
+use Rattle.std.specs.Prelude.{◌≡◌, ◌≢◌, ℕ, ◌+◌, ◌≤◌, ◌<◌, false, List, [], ◌∷◌, length, IsTrue, Some, Err}
 use Rattle.metric_laws.specs.Space.{Space}
 use Rattle.metric_laws.specs.Lists.{IsIn}
 use Rattle.outside_io.specs.Causes.{Rose}
 use Rattle.scan_model.specs.declared.query.Query.TheVariants.{Nearest}
 use Rattle.scan_model.specs.Scan.{nearest_hits}
 use Rattle.tree_shape.specs.declared.live.Live.{Live}
+use Rattle.tree_shape.specs.declared.entry.InnerEntry.{InnerEntry}
 use Rattle.tree_shape.specs.declared.entry.Node.{Node}
-use Rattle.tree_shape.specs.Tree.{Nodes, IsSoundTree, points_by_id}
+use Rattle.tree_shape.specs.Tree.{Nodes, IsSoundTree, points_by_id, inner_entries}
 use Rattle.node_page.specs.declared.node.NodeFault.TheVariants.{Memory as NodeMemory}
 use Rattle.page_store.specs.declared.pages.PageFault.{PageFault}
 use Rattle.page_store.specs.declared.pages.PageFault.TheVariants.{Disk, Bad, Outside, Memory, Repeats, Level}
@@ -21,6 +22,14 @@ use Rattle.nearest_search.specs.Counts.{IsRadius}
 use Rattle.nearest_search.specs.Machine.{Holds}
 use Rattle.nearest_search.specs.Opened.{State}
 
+-- the page is reached: it is the root, or a child of an entry in the node of a reached page; the path tells the children
+abbrev pub IsReachedBy : Nodes → ℕ → List ℕ → ℕ → Type 0
+IsReachedBy nodes page [] p = page ≡ p
+IsReachedBy nodes page (c ∷ path) p = (e : InnerEntry) × IsIn e (inner_entries (nodes page)) × (e.child ≡ c) × IsReachedBy nodes c path p
+
+abbrev pub IsReached : Nodes → ℕ → ℕ → Type 0
+IsReached nodes root p = (path : List ℕ) × IsReachedBy nodes root path p
+
 -- each kept node has at most 32 entries
 abbrev pub KeepsFew : Nodes → Type 0
 KeepsFew kept = (page : ℕ) (node : Node) → kept page ≡ Some node → entry_count node ≤ 32
@@ -33,6 +42,7 @@ pub record IsExploring (s : Space) (old now : Shelf) (live : Live) (q : List ℕ
   pub reads : now.reads ≤ old.reads + opened
   pub few : opened ≤ live.pages
   pub keeps_few : KeepsFew state.kept
+  pub reached : IsTrue old.tells → (x : Pending) → IsIn x state.queue → IsReached (nodes_of old.read) live.root x.page
   pub holds : IsTrue old.tells → IsSoundTree s (nodes_of old.read) live → Holds s (nodes_of old.read) q k live.root state.kept state.queue state.best opened
 
 -- nothing within the radius waits
@@ -41,14 +51,16 @@ pub record IsExplored (s : Space) (old now : Shelf) (live : Live) (q : List ℕ)
   pub beyond : (x : Pending) → IsIn x state.queue → rho < x.low
   pub exploring : IsExploring s old now live q k state opened
 
--- why a search refuses: the disk failed or memory ran out; or a page that it asked for holds no node, or is none of the
--- file's; or it has opened as many pages as there are, and was to open this one besides
+-- why a search refuses: the disk failed or memory ran out; or a reached page holds no node, or is none of the file's; or as
+-- many pages as there are were opened, and this reached one was to be opened besides
 abbrev pub HasNearestCause : Live → Shelf → Shelf → PageFault → Type 0
 HasNearestCause live old new Disk = Rose old.faults new.faults
 HasNearestCause live old new Memory = Unit {0}
-HasNearestCause live old new (Bad page fault) = (fault ≢ NodeMemory) × IsWithin old.pages page × (IsTrue old.tells → old.read page ≡ Err (Bad page fault))
-HasNearestCause live old new (Outside page) = (is_within old.pages page ≡ false) × (IsTrue old.tells → old.read page ≡ Err (Outside page))
-HasNearestCause live old new (Repeats page) = new.asked ≡ count_up old.asked live.pages
+HasNearestCause live old new (Bad page fault) =
+    (fault ≢ NodeMemory) × IsWithin old.pages page × (IsTrue old.tells → (old.read page ≡ Err (Bad page fault)) × IsReached (nodes_of old.read) live.root page)
+HasNearestCause live old new (Outside page) =
+    (is_within old.pages page ≡ false) × (IsTrue old.tells → (old.read page ≡ Err (Outside page)) × IsReached (nodes_of old.read) live.root page)
+HasNearestCause live old new (Repeats page) = (new.asked ≡ count_up old.asked live.pages) × (IsTrue old.tells → IsReached (nodes_of old.read) live.root page)
 HasNearestCause live old new (Level page) = ⊥
 
 -- On a sound tree: the scan's first k, the least log of the query, and one page asked for per record of it.

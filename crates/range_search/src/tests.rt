@@ -1,4 +1,4 @@
-use crate::range;
+use crate::{laws, range};
 use log_model::{Found, Mark};
 use metric_laws::{Memory, Meter};
 use page_store::{ImagePages, PageFault};
@@ -177,6 +177,7 @@ fn refusal(rt: &impl Abort, alloc: Global, child: u32) -> Result<Option<PageFaul
 
 #[test]
 fn a_walk_is_refused_where_it_meets_a_fault(rt: HostRuntime) -> Result<(), Memory> {
+    laws::walk_has_one_course();
     assert_eq!(rt; refusal(&rt, rt.alloc(), 4)?, Some(PageFault::Repeats(4)));
     assert_eq!(rt; refusal(&rt, rt.alloc(), 9)?, Some(PageFault::Outside(9)));
     Ok(())

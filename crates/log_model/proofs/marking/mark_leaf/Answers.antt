@@ -1,9 +1,7 @@
-use Rattle.std.proofs.Common.{◌≡◌, ◌∙◌, ◌+◌, ◌++◌, [], ◌∷◌, List, ℕ, ap, refl, arith, drop}
-use Rattle.metric_laws.specs.Space.{Space}
+use Rattle.std.proofs.Common.{◌≡◌, ◌∙◌, ◌++◌, [], ◌∷◌, ℕ, ap, refl, arith}
 use Rattle.scan_model.specs.declared.hit.Hit.{Hit}
-use Rattle.log_model.specs.declared.marks.Mark.{Mark}
 use Rattle.log_model.specs.declared.marks.Mark.TheVariants.{Far, Near}
-use Rattle.log_model.specs.Walk.{Search, search_at, away, leaf_marks, leaf_hits, hit_of}
+use Rattle.log_model.specs.Walk.{Search, search_at, away, hit_of}
 use Rattle.log_model.proofs.OneEntry.{leaf_far, leaf_near, more_of, same_of, counted_next}
 use Rattle.log_model.proofs.marking.mark_leaf.Goals as goal
 
@@ -12,7 +10,7 @@ loop-entry-preserved-then-centre_test g c =
     let f : Search = search_at (g.R.M.Metric.space (g.R.Ruler.metric c.args.ruler.now)) c.args.probe.q.now c.args.probe.rho in
     let dist : c.dist-dist.result ≡ away f c.entry-item.result.point = cc (c.dist-dist.ensures.value, c.as_slice.ensures, c.loop-entry.invariant.metric) in
     let next = leaf_far f c.args.above c.args.entries.now c.loop-entry.entry-index c.entry-item.result (omega arith) c.entry-item.is
-            (cc (c.is_ruled_out.ensures, c.if-is_ruled_out.false)) (cc (c.centre_test.ensures, c.if-centre_test.true, dist)) in
+    (cc (c.is_ruled_out.ensures, c.if-is_ruled_out.false)) (cc (c.centre_test.ensures, c.if-centre_test.true, dist)) in
     record {
       metric = c.dist-dist.ensures.same ∙ c.loop-entry.invariant.metric;
       counted = counted_next _ _ _ Far _ _ c.dist-dist.ensures.counted refl next.0 c.loop-entry.invariant.counted;
@@ -25,7 +23,7 @@ loop-entry-preserved g c =
     let f : Search = search_at (g.R.M.Metric.space (g.R.Ruler.metric c.args.ruler.now)) c.args.probe.q.now c.args.probe.rho in
     let dist : c.dist-dist.result ≡ away f c.entry-item.result.point = cc (c.dist-dist.ensures.value, c.as_slice.ensures, c.loop-entry.invariant.metric) in
     let next = leaf_near f c.args.above c.args.entries.now c.loop-entry.entry-index c.entry-item.result (omega arith) c.entry-item.is
-            (cc (c.is_ruled_out.ensures, c.if-is_ruled_out.false)) (cc (c.centre_test.ensures, c.if-centre_test.false, dist)) in
+    (cc (c.is_ruled_out.ensures, c.if-is_ruled_out.false)) (cc (c.centre_test.ensures, c.if-centre_test.false, dist)) in
     let hit : ◌≡◌ {A = Hit} (record { id = c.entry-item.result.id; dist = c.dist-dist.result }) (hit_of f c.entry-item.result) = ap (λ (d : ℕ). record { id = c.entry-item.result.id; dist = d }) dist in
     record {
       metric = c.dist-dist.ensures.same ∙ c.loop-entry.invariant.metric;

@@ -3,7 +3,7 @@ use Rattle.std.specs.BinaryHeap.{heap_items}
 use Rattle.log_model.specs.Walk.{search_at}
 use Rattle.nearest_search.specs.Counts.{IsRadius}
 use Rattle.nearest_search.specs.Keeping.{kept_node}
-use Rattle.nearest_search.proofs.Explored.{explore_begins, explore_steps, explore_room, explore_passes}
+use Rattle.nearest_search.proofs.Explored.{explore_begins, explore_steps, explore_room, explore_passes, explore_cause, explore_repeats}
 use Rattle.nearest_search.proofs.exploring.explore.Goals as goal
 
 pub loop-next-init : goal.loop-next-init
@@ -28,6 +28,20 @@ returns-in-Err-clause-sound g c tells sound =
     (g.P.Pages.shelf c.loop-next.pages) (record { queue = c.loop-next.machine.frontier; best = heap_items c.loop-next.machine.best.heap; kept = kept_node c.loop-next.machine.kept }) c.loop-next.opened
     c.loop-next.invariant.exploring c.radius-rho.result (subst (λ (k : ℕ). IsRadius k (heap_items c.loop-next.machine.best.heap) c.radius-rho.result) c.loop-next.invariant.count c.radius-rho.ensures)
     c.in-Some.next c.take_next.new.self c.in-Some.ensures.some (g.P.Pages.shelf c.open_page.new.pages) c.in-Err.fault c.in-Err.ensures.cause tells sound
+
+pub returns-then-opened-live-clause-cause : goal.returns-then-opened-live-clause-cause
+returns-then-opened-live-clause-cause g c =
+    explore_repeats (g.R.M.Metric.space (g.R.Ruler.metric c.args.ruler.now)) (g.met.R.Ruler.axioms c.args.ruler.now) (g.P.Pages.shelf c.args.pages.now) c.args.live.now c.args.q.now c.requires.point c.args.machine.now.best.k
+    (g.P.Pages.shelf c.loop-next.pages) (record { queue = c.loop-next.machine.frontier; best = heap_items c.loop-next.machine.best.heap; kept = kept_node c.loop-next.machine.kept }) c.loop-next.opened
+    c.loop-next.invariant.exploring c.radius-rho.result (subst (λ (k : ℕ). IsRadius k (heap_items c.loop-next.machine.best.heap) c.radius-rho.result) c.loop-next.invariant.count c.radius-rho.ensures)
+    c.in-Some.next c.take_next.new.self c.in-Some.ensures.some c.if-opened-live.true
+
+pub returns-in-Err-clause-cause : goal.returns-in-Err-clause-cause
+returns-in-Err-clause-cause g c =
+    explore_cause (g.R.M.Metric.space (g.R.Ruler.metric c.args.ruler.now)) (g.met.R.Ruler.axioms c.args.ruler.now) (g.P.Pages.shelf c.args.pages.now) c.args.live.now c.args.q.now c.requires.point c.args.machine.now.best.k
+    (g.P.Pages.shelf c.loop-next.pages) (record { queue = c.loop-next.machine.frontier; best = heap_items c.loop-next.machine.best.heap; kept = kept_node c.loop-next.machine.kept }) c.loop-next.opened
+    c.loop-next.invariant.exploring c.radius-rho.result (subst (λ (k : ℕ). IsRadius k (heap_items c.loop-next.machine.best.heap) c.radius-rho.result) c.loop-next.invariant.count c.radius-rho.ensures)
+    c.in-Some.next c.take_next.new.self c.in-Some.ensures.some (g.P.Pages.shelf c.open_page.new.pages) c.in-Err.fault c.in-Err.ensures.cause
 
 pub loop-next-preserved : goal.loop-next-preserved
 loop-next-preserved g c = record {

@@ -1,0 +1,17 @@
+-- The walk with the least marks has one course.
+use Rattle.std.specs.Prelude.{◌≡◌, ℕ, ◌<◌, List, [], ◌∷◌, length, Some}
+use Rattle.scan_model.specs.declared.hit.Hit.{Hit}
+use Rattle.tree_shape.specs.declared.entry.Node.{Node}
+use Rattle.tree_shape.specs.Tree.{Nodes}
+use Rattle.log_model.specs.declared.marks.Record.{Record}
+use Rattle.log_model.specs.Walk.{Search, WalksBy, AreLeast, root_need}
+use Rattle.range_search.specs.Searched.{Needs}
+
+-- On any file: after so many opened pages the walk with the least marks needs one page and no other; and where the walk
+-- is whole, each page that it needs on its way holds a node and is one of its records. So a search whose walk comes to a
+-- page without a node, or needs a page more than there are, answers nothing else, and names that page.
+abbrev pub WalkHasOneCourse : Type 0
+WalkHasOneCourse =
+    (f : Search) (nodes : Nodes) (root opened page : ℕ) → Needs f nodes root opened page →
+    ((other : ℕ) → Needs f nodes root opened other → page ≡ other)
+    × ((records : List Record) (hits : List Hit) → WalksBy AreLeast f nodes (root_need root ∷ []) records hits → (opened < length records) × ((node : Node) × (nodes page ≡ Some node)))
