@@ -4,3 +4,4 @@ pub mod Counting
 pub mod OneMark
 pub mod Ways
 pub mod Verdicts
+pub mod JoinSoundness

@@ -151,7 +151,7 @@ pub no_difference : (i : ℕ) (xs : List Hit) → first_difference i xs xs ≡ N
 no_difference i [] = refl
 no_difference i (x ∷ xs) = rw (hit_itself x) (no_difference (i + 1) xs)
 
-same_both : (a b c d : ℕ) → ((a == b) && (c == d)) ≡ true → (a ≡ b) × (c ≡ d)
+pub same_both : (a b c d : ℕ) → ((a == b) && (c == d)) ≡ true → (a ≡ b) × (c ≡ d)
 same_both a b c d is = (let e : a ≡ b = grind (arith, nat_tests) in e, let e : c ≡ d = grind (arith, nat_tests) in e)
 
 pub both_same : (a b c d : ℕ) → a ≡ b → c ≡ d → ((a == b) && (c == d)) ≡ true

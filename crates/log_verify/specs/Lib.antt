@@ -1,4 +1,5 @@
 pub mod Judged
+pub mod JoinJudged
 pub mod Causes
 pub mod Steps
 pub mod Laws

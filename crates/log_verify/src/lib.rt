@@ -8,7 +8,7 @@ pub mod laws;
 mod verifying;
 mod walking;
 
-pub use faults::{Accepted, Verdict};
+pub use faults::{Accepted, JoinVerdict, Verdict};
 pub use verifying::verify;
 
 #[cfg(test)]
