@@ -2,4 +2,5 @@ pub mod Judged
 pub mod JoinJudged
 pub mod Causes
 pub mod Steps
+pub mod JoinSteps
 pub mod Laws

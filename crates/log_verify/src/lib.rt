@@ -5,6 +5,7 @@ mod checking;
 mod faults;
 mod judging;
 pub mod laws;
+mod pairing;
 mod verifying;
 mod walking;
 
