@@ -5,6 +5,7 @@ use Rattle.scan_model.specs.declared.hit.Pair.{Pair}
 use Rattle.tree_shape.specs.declared.entry.LeafEntry.{LeafEntry}
 use Rattle.tree_shape.specs.declared.entry.InnerEntry.{InnerEntry}
 use Rattle.log_model.specs.declared.marks.Mark.{Mark}
+use Rattle.log_model.specs.declared.pairs.Item.{Item}
 use Rattle.log_model.specs.declared.pairs.JoinNeed.{JoinNeed}
 use Rattle.log_model.specs.Walk.{near_ones}
 use Rattle.log_model.specs.JoinWalk.{JoinSearch, centre_of, apart_of, opens_right, object_entry, subtree_entry, with_entry, is_hit, is_need, pair_of}
@@ -26,3 +27,11 @@ hits_among pairs = map pair_of (filter is_hit pairs)
 
 abbrev pub needs_among : List JoinNeed → List JoinNeed
 needs_among pairs = filter is_need pairs
+
+-- an item in the place of the opened one, so far from the other
+abbrev pub paired : JoinNeed → Item → Option ℕ → JoinNeed
+paired n item apart = if opens_right n then record { left = n.left; right = item; apart = apart } else record { left = item; right = n.right; apart = apart }
+
+-- what is joined by in a space within this radius
+abbrev pub search_within : Space → ℕ → JoinSearch
+search_within s rho = record { space = s; rho = rho }

@@ -3,6 +3,7 @@
 
 mod checking;
 mod faults;
+mod join_checking;
 mod judging;
 pub mod laws;
 mod pairing;
