@@ -5,3 +5,4 @@ pub mod OneMark
 pub mod Ways
 pub mod Verdicts
 pub mod JoinSoundness
+pub mod JoinMarks

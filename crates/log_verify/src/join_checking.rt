@@ -3,8 +3,9 @@ ghost use Rattle.std.specs.Prelude.{◌≡◌, ◌++◌, ◌<◌, ◌^◌, [], �
 ghost use Rattle.log_model.specs.declared.marks.Mark.TheVariants.{Near};
 ghost use Rattle.log_model.specs.declared.pairs.JoinNeed.{JoinNeed};
 ghost use Rattle.log_model.specs.Walk.{near_ones};
-ghost use Rattle.log_model.specs.JoinWalk.{allows_entry, object_entry, subtree_entry};
-ghost use Rattle.log_verify.specs.Judged.{first_wrong};
+ghost use Rattle.log_model.specs.JoinWalk.{allows_entry, object_entry, subtree_entry, join_hits, join_needs};
+ghost use Rattle.log_verify.specs.Judged.{first_wrong, entry_count};
+ghost use Rattle.log_verify.specs.JoinJudged.{join_wrong_in};
 ghost use Rattle.log_verify.specs.JoinSteps.{search_within, object_pair, subtree_pair, hits_among, needs_among, paired};
 
 use crate::pairing::{
@@ -15,7 +16,7 @@ use log_model::{Item, JoinNeed, Mark, Memory};
 use metric_laws::{Point, Ruler};
 use scan_model::Pair;
 use std::alloc::Global;
-use tree_shape::{InnerEntry, LeafEntry};
+use tree_shape::{InnerEntry, LeafEntry, Node};
 
 // What was found of an entry and its mark.
 #[derive(Clone, Copy)]
@@ -24,6 +25,17 @@ pub struct JoinChecked {
     pub allowed: bool,
     // How far the entry marked Near is from the other item, where that has a centre.
     pub apart: Option<u64>,
+}
+
+/// What the checks of a record's marks need.
+#[derive(Clone, Copy)]
+pub struct JoinProbe<'a> {
+    /// The allocator of copied points.
+    pub alloc: Global,
+    /// The pair whose item of greater rank is opened.
+    pub need: &'a JoinNeed,
+    /// The radius that prunes.
+    pub rho: u64,
 }
 
 // What a record's marks name: answers, and pairs that are needed.
@@ -183,4 +195,109 @@ fn subtree_item(alloc: Global, level: u8, entry: &InnerEntry) -> Result<Item, Me
         centre: Some(Point::new(alloc, entry.point.as_slice())?),
         radius: entry.radius,
     })
+}
+
+// Adds the pair of a subtree at a level that is marked Near.
+fn name_subtree(
+    probe: JoinProbe,
+    named: &mut Named,
+    level: u8,
+    entry: &InnerEntry,
+    mark: Mark,
+    apart: Option<u64>,
+) -> Result<(), Memory>
+    ensures hits { OnOk result (named.new.hits.items ≡ named.old.hits.items ++ hits_among (near_ones (paired probe.entry.need.now (subtree_entry level entry.now).item apart ∷ []) (mark ∷ []))) }
+    ensures needs { OnOk result (named.new.needs.items ≡ named.old.needs.items ++ needs_among (near_ones (paired probe.entry.need.now (subtree_entry level entry.now).item apart ∷ []) (mark ∷ []))) }
+{
+    match mark {
+        Mark::Near => {
+            let item = subtree_item(probe.alloc, level, entry)?;
+            push_pair(named, pair_with(probe.alloc, probe.need, item, apart)?)
+        }
+        Mark::Skip | Mark::Far => Ok(()),
+    }
+}
+
+// The first entry whose mark is not allowed. Where there is none, the pairs of those that are marked Near are added.
+fn check_leaf<R: Ruler>(
+    ruler: &mut R,
+    probe: JoinProbe,
+    entries: &[LeafEntry],
+    marks: &[Mark],
+    named: &mut Named,
+) -> Result<Option<u32>, Memory>
+    requires long { length marks.now ≡ length entries.now }
+    requires few { length entries.now < 2 ^ 32 }
+    ensures metric { R.metric ruler.new ≡ R.metric ruler.old }
+    ensures wrong { IfOk result (λ w. w ≡ first_wrong (λ e m. allows_entry (search_within (R.M.space (R.metric ruler.old)) probe.entry.rho) probe.entry.need.now (object_entry e) m) entries.now marks.now 0) }
+    ensures hits { IfOk result (λ w. IfNone w (named.new.hits.items ≡ named.old.hits.items ++ hits_among (map (λ e. object_pair (R.M.space (R.metric ruler.old)) probe.entry.need.now e) (near_ones entries.now marks.now)))) }
+    ensures needs { IfOk result (λ w. IfNone w (named.new.needs.items ≡ named.old.needs.items ++ needs_among (map (λ e. object_pair (R.M.space (R.metric ruler.old)) probe.entry.need.now e) (near_ones entries.now marks.now)))) }
+{
+    for i in 0..entries.len() {
+        let entry = &entries[i];
+        let checked = check_object(ruler, probe.rho, probe.need, entry, marks[i]);
+        if !checked.allowed {
+            return Ok(Some(i as u32));
+        }
+        name_object(
+            probe.alloc,
+            named,
+            probe.need,
+            entry,
+            marks[i],
+            checked.apart,
+        )?;
+    }
+    Ok(None)
+}
+
+// The first entry whose mark is not allowed. Where there is none, the pairs of those that are marked Near are added.
+fn check_inner<R: Ruler>(
+    ruler: &mut R,
+    probe: JoinProbe,
+    level: u8,
+    entries: &[InnerEntry],
+    marks: &[Mark],
+    named: &mut Named,
+) -> Result<Option<u32>, Memory>
+    requires long { length marks.now ≡ length entries.now }
+    requires few { length entries.now < 2 ^ 32 }
+    ensures metric { R.metric ruler.new ≡ R.metric ruler.old }
+    ensures wrong { IfOk result (λ w. w ≡ first_wrong (λ e m. allows_entry (search_within (R.M.space (R.metric ruler.old)) probe.entry.rho) probe.entry.need.now (subtree_entry level e) m) entries.now marks.now 0) }
+    ensures hits { IfOk result (λ w. IfNone w (named.new.hits.items ≡ named.old.hits.items ++ hits_among (map (λ e. subtree_pair (R.M.space (R.metric ruler.old)) probe.entry.need.now level e) (near_ones entries.now marks.now)))) }
+    ensures needs { IfOk result (λ w. IfNone w (named.new.needs.items ≡ named.old.needs.items ++ needs_among (map (λ e. subtree_pair (R.M.space (R.metric ruler.old)) probe.entry.need.now level e) (near_ones entries.now marks.now)))) }
+{
+    for i in 0..entries.len() {
+        let entry = &entries[i];
+        let checked = check_subtree(ruler, probe.rho, probe.need, level, entry, marks[i]);
+        if !checked.allowed {
+            return Ok(Some(i as u32));
+        }
+        name_subtree(probe, named, level, entry, marks[i], checked.apart)?;
+    }
+    Ok(None)
+}
+
+// The first entry of a node whose mark is not allowed. Where there is none, the answers and the pairs that the marks name
+// are added.
+pub fn check_node<R: Ruler>(
+    ruler: &mut R,
+    probe: JoinProbe,
+    node: &Node,
+    marks: &[Mark],
+    named: &mut Named,
+) -> Result<Option<u32>, Memory>
+    requires long { length marks.now ≡ entry_count node.now }
+    requires few { entry_count node.now < 2 ^ 32 }
+    ensures metric { R.metric ruler.new ≡ R.metric ruler.old }
+    ensures wrong { IfOk result (λ w. w ≡ join_wrong_in (search_within (R.M.space (R.metric ruler.old)) probe.entry.rho) probe.entry.need.now node.now marks.now) }
+    ensures hits { IfOk result (λ w. IfNone w (named.new.hits.items ≡ named.old.hits.items ++ join_hits (search_within (R.M.space (R.metric ruler.old)) probe.entry.rho) probe.entry.need.now node.now marks.now)) }
+    ensures needs { IfOk result (λ w. IfNone w (named.new.needs.items ≡ named.old.needs.items ++ join_needs (search_within (R.M.space (R.metric ruler.old)) probe.entry.rho) probe.entry.need.now node.now marks.now)) }
+{
+    match node {
+        Node::Leaf(entries) => check_leaf(ruler, probe, entries.as_slice(), marks, named),
+        Node::Inner { level, entries } => {
+            check_inner(ruler, probe, *level, entries.as_slice(), marks, named)
+        }
+    }
 }
