@@ -1,10 +1,10 @@
 // The marks of one record of a join against its node.
-ghost use Rattle.std.specs.Prelude.{◌≡◌, ◌++◌, ◌<◌, ◌^◌, [], ◌∷◌, map, length, OnOk, IfOk, IfNone};
+ghost use Rattle.std.specs.Prelude.{◌≡◌, ◌++◌, ◌<◌, ◌^◌, [], ◌∷◌, length, OnOk, IfOk, IfNone};
 ghost use Rattle.log_model.specs.declared.marks.Mark.TheVariants.{Near};
 ghost use Rattle.log_model.specs.declared.pairs.JoinNeed.{JoinNeed};
 ghost use Rattle.log_model.specs.Walk.{near_ones};
 ghost use Rattle.log_model.specs.JoinWalk.{allows_entry, object_entry, subtree_entry, join_hits, join_needs};
-ghost use Rattle.log_verify.specs.Judged.{first_wrong, entry_count};
+ghost use Rattle.log_verify.specs.Judged.{entry_count};
 ghost use Rattle.log_verify.specs.JoinJudged.{join_wrong_in};
 ghost use Rattle.log_verify.specs.JoinSteps.{search_within, object_pair, subtree_pair, hits_among, needs_among, paired};
 
@@ -229,9 +229,9 @@ fn check_leaf<R: Ruler>(
     requires long { length marks.now ≡ length entries.now }
     requires few { length entries.now < 2 ^ 32 }
     ensures metric { R.metric ruler.new ≡ R.metric ruler.old }
-    ensures wrong { IfOk result (λ w. w ≡ first_wrong (λ e m. allows_entry (search_within (R.M.space (R.metric ruler.old)) probe.entry.rho) probe.entry.need.now (object_entry e) m) entries.now marks.now 0) }
-    ensures hits { IfOk result (λ w. IfNone w (named.new.hits.items ≡ named.old.hits.items ++ hits_among (map (λ e. object_pair (R.M.space (R.metric ruler.old)) probe.entry.need.now e) (near_ones entries.now marks.now)))) }
-    ensures needs { IfOk result (λ w. IfNone w (named.new.needs.items ≡ named.old.needs.items ++ needs_among (map (λ e. object_pair (R.M.space (R.metric ruler.old)) probe.entry.need.now e) (near_ones entries.now marks.now)))) }
+    ensures wrong { IfOk result (λ w. w ≡ join_wrong_in (search_within (R.M.space (R.metric ruler.old)) probe.entry.rho) probe.entry.need.now (Node.Leaf entries.now) marks.now) }
+    ensures hits { IfOk result (λ w. IfNone w (named.new.hits.items ≡ named.old.hits.items ++ join_hits (search_within (R.M.space (R.metric ruler.old)) probe.entry.rho) probe.entry.need.now (Node.Leaf entries.now) marks.now)) }
+    ensures needs { IfOk result (λ w. IfNone w (named.new.needs.items ≡ named.old.needs.items ++ join_needs (search_within (R.M.space (R.metric ruler.old)) probe.entry.rho) probe.entry.need.now (Node.Leaf entries.now) marks.now)) }
 {
     for i in 0..entries.len() {
         let entry = &entries[i];
@@ -263,9 +263,9 @@ fn check_inner<R: Ruler>(
     requires long { length marks.now ≡ length entries.now }
     requires few { length entries.now < 2 ^ 32 }
     ensures metric { R.metric ruler.new ≡ R.metric ruler.old }
-    ensures wrong { IfOk result (λ w. w ≡ first_wrong (λ e m. allows_entry (search_within (R.M.space (R.metric ruler.old)) probe.entry.rho) probe.entry.need.now (subtree_entry level e) m) entries.now marks.now 0) }
-    ensures hits { IfOk result (λ w. IfNone w (named.new.hits.items ≡ named.old.hits.items ++ hits_among (map (λ e. subtree_pair (R.M.space (R.metric ruler.old)) probe.entry.need.now level e) (near_ones entries.now marks.now)))) }
-    ensures needs { IfOk result (λ w. IfNone w (named.new.needs.items ≡ named.old.needs.items ++ needs_among (map (λ e. subtree_pair (R.M.space (R.metric ruler.old)) probe.entry.need.now level e) (near_ones entries.now marks.now)))) }
+    ensures wrong { IfOk result (λ w. w ≡ join_wrong_in (search_within (R.M.space (R.metric ruler.old)) probe.entry.rho) probe.entry.need.now (Node.Inner level entries.now) marks.now) }
+    ensures hits { IfOk result (λ w. IfNone w (named.new.hits.items ≡ named.old.hits.items ++ join_hits (search_within (R.M.space (R.metric ruler.old)) probe.entry.rho) probe.entry.need.now (Node.Inner level entries.now) marks.now)) }
+    ensures needs { IfOk result (λ w. IfNone w (named.new.needs.items ≡ named.old.needs.items ++ join_needs (search_within (R.M.space (R.metric ruler.old)) probe.entry.rho) probe.entry.need.now (Node.Inner level entries.now) marks.now)) }
 {
     for i in 0..entries.len() {
         let entry = &entries[i];

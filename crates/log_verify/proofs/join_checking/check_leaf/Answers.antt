@@ -6,8 +6,8 @@ use Rattle.log_model.specs.declared.marks.Mark.TheVariants.{Skip}
 use Rattle.log_model.specs.declared.pairs.JoinNeed.{JoinNeed}
 use Rattle.log_model.specs.JoinWalk.{allows_entry, with_entry, object_entry}
 use Rattle.log_verify.specs.JoinSteps.{search_within}
-use Rattle.log_verify.proofs.OneMark.{one_left, not_false}
-use Rattle.log_verify.proofs.JoinMarks.{hits_next, needs_next}
+use Rattle.log_verify.proofs.OneMark.{not_false}
+use Rattle.log_verify.proofs.JoinMarks.{hits_next, needs_next, left_mapped}
 use Rattle.log_verify.proofs.join_checking.check_leaf.Goals as goal
 
 pub loop-i-preserved : goal.loop-i-preserved
@@ -21,7 +21,7 @@ loop-i-preserved g c =
     subst (λ (t : Space). allows_entry (search_within t c.args.probe.rho) n (object_entry e) mark ≡ true) here (sym c.check_object-checked.ensures.allowed ∙ not_false c.check_object-checked.result.allowed c.if-not-checked.false) in
     record {
       metric = c.check_object-checked.ensures.metric ∙ c.loop-i.invariant.metric;
-      wrong = one_left (λ x m. allows_entry (search_within s c.args.probe.rho) n (object_entry x) m) c.args.entries.now c.args.marks.now c.loop-i.i e c.loop-i-test.true c.requires.long c.index-entries-i.is fine ∙ c.loop-i.invariant.wrong;
+      wrong = left_mapped (allows_entry (search_within s c.args.probe.rho) n) object_entry c.args.entries.now c.args.marks.now c.loop-i.i e c.loop-i-test.true c.requires.long c.index-entries-i.is fine ∙ c.loop-i.invariant.wrong;
       hits = hits_next s n object_entry c.args.entries.now c.args.marks.now c.loop-i.i e c.check_object-checked.result.apart c.loop-i-test.true c.requires.long c.index-entries-i.is
           (λ near. c.check_object-checked.ensures.apart near ∙ ap (λ (t : Space). (with_entry t n (object_entry e)).apart) here) _ _ _ c.in_ok-name_object.ensures.hits c.loop-i.invariant.hits;
       needs = needs_next s n object_entry c.args.entries.now c.args.marks.now c.loop-i.i e c.check_object-checked.result.apart c.loop-i-test.true c.requires.long c.index-entries-i.is
