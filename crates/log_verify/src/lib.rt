@@ -4,6 +4,7 @@
 mod checking;
 mod faults;
 mod join_checking;
+mod join_walking;
 mod judging;
 pub mod laws;
 mod pairing;
