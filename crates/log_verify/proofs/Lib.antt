@@ -6,3 +6,6 @@ pub mod Ways
 pub mod Verdicts
 pub mod JoinSoundness
 pub mod JoinMarks
+pub mod JoinWays
+pub mod JoinDifferences
+pub mod JoinVerdicts

@@ -32,7 +32,7 @@ holds_none old = record { dim = refl; pages = refl; tells = refl; read = refl; f
 
 -- ---- causes
 
-refusal_kept : (old mid new : Shelf) (fault : PageFault) (F G : Type 0) → HoldsSame old mid → (IsTrue old.tells → F → G) → HasRefusal mid new fault F → HasRefusal old new fault G
+pub refusal_kept : (old mid new : Shelf) (fault : PageFault) (F G : Type 0) → HoldsSame old mid → (IsTrue old.tells → F → G) → HasRefusal mid new fault F → HasRefusal old new fault G
 refusal_kept old mid new pages.Disk F G same implies rose = omega (arith, same.faults, rose)
 refusal_kept old mid new (pages.Bad page fault) F G same implies cause =
     (cause.0, subst (λ (n : ℕ). IsWithin n page) same.pages cause.1, λ tells. implies tells (cause.2 (same.tells ∙ tells)))

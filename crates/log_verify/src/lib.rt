@@ -4,6 +4,7 @@
 mod checking;
 mod faults;
 mod join_checking;
+mod join_verifying;
 mod join_walking;
 mod judging;
 pub mod laws;
@@ -12,6 +13,7 @@ mod verifying;
 mod walking;
 
 pub use faults::{Accepted, JoinVerdict, Verdict};
+pub use join_verifying::verify_join;
 pub use verifying::verify;
 
 #[cfg(test)]
