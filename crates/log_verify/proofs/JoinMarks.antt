@@ -3,9 +3,6 @@ use Rattle.std.proofs.Common.{◌≡◌, ℕ, ◌+◌, ◌<◌, Bool, true, fals
 use Rattle.std.specs.Prelude.{if◌then◌else◌, filter}
 use Rattle.metric_laws.specs.Space.{Space}
 use Rattle.scan_model.specs.declared.hit.Pair.{Pair}
-use Rattle.tree_shape.specs.declared.entry.LeafEntry.{LeafEntry}
-use Rattle.tree_shape.specs.declared.entry.InnerEntry.{InnerEntry}
-use Rattle.tree_shape.specs.declared.entry.Node.{Node}
 use Rattle.log_model.specs.declared.marks.Mark.{Mark}
 use Rattle.log_model.specs.declared.marks.Mark.TheVariants.{Skip, Far, Near}
 use Rattle.log_model.specs.declared.pairs.JoinNeed.{JoinNeed}

@@ -1,6 +1,6 @@
 -- A join's log has no fault exactly where it is sound.
-use Rattle.std.proofs.Common.{◌≡◌, ℕ, ◌+◌, Bool, true, false, not, List, [], ◌∷◌, ◌++◌, map, length, refl, sym, ap, subst, ◌∙◌, arith, Option, Some, None, Result, Ok, Err, append_assoc}
-use Rattle.std.specs.Prelude.{IsTrue, if◌then◌else◌, ◌==◌, ◌&&◌}
+use Rattle.std.proofs.Common.{◌≡◌, ℕ, ◌+◌, Bool, true, false, List, [], ◌∷◌, ◌++◌, length, refl, sym, ap, subst, ◌∙◌, arith, Option, Some, None, Result, Ok, Err, append_assoc}
+use Rattle.std.specs.Prelude.{if◌then◌else◌, ◌==◌, ◌&&◌}
 use Rattle.std.proofs.lemmas.List.{append-nil, length-map}
 use Rattle.std.proofs.lemmas.Bool.Decides.{nat_tests}
 use Rattle.metric_laws.specs.Space.{Space}
@@ -18,8 +18,8 @@ use Rattle.log_model.specs.InOrder.{in_order, pair_before}
 use Rattle.log_model.specs.JoinWalk.{JoinSearch, JoinAllowed, JoinWalksBy, opens_right, opened, page_of, entries_of, object_entry, subtree_entry, allows_entry, side_of, join_needs, join_hits}
 use Rattle.log_model.specs.SoundJoin.{join_at, root_pair, IsSoundJoinLog}
 use Rattle.log_verify.specs.declared.faults.JoinVerdict.{JoinVerdict}
-use Rattle.log_verify.specs.declared.faults.JoinVerdict.TheVariants.{OtherState, WrongPage, WrongCount, WrongMark, WrongAnswer}
-use Rattle.log_verify.specs.Judged.{first_wrong, entry_count}
+use Rattle.log_verify.specs.declared.faults.JoinVerdict.TheVariants.{OtherState, WrongPage, WrongCount, WrongAnswer}
+use Rattle.log_verify.specs.Judged.{entry_count}
 use Rattle.log_verify.specs.JoinJudged.{join_wrong_in, after_join_marks, after_join_page, read_of, is_same_side, is_of, join_walked, pair_difference, after_join_walk, join_walk_of, names, join_fault}
 use Rattle.log_verify.proofs.Soundness.{all_allowed, none_wrong, ok_from_some, same_both, both_same}
 

@@ -1,5 +1,5 @@
 -- Verdicts on a join's log and their causes.
-use Rattle.std.proofs.Common.{◌≡◌, ℕ, ◌+◌, Bool, true, false, List, [], ◌∷◌, Option, Some, None, Result, Ok, Err, reverse, refl, sym, ap, ◌∙◌}
+use Rattle.std.proofs.Common.{◌≡◌, ℕ, ◌+◌, Bool, true, false, List, [], ◌∷◌, Option, Some, None, Ok, Err, reverse, sym, ap, ◌∙◌}
 use Rattle.std.specs.Prelude.{IsTrue, if◌then◌else◌, ◌==◌, ◌&&◌}
 use Rattle.metric_laws.specs.Space.{Space}
 use Rattle.scan_model.specs.declared.hit.Pair.{Pair}
@@ -17,7 +17,7 @@ use Rattle.log_verify.specs.declared.faults.JoinVerdict.{JoinVerdict}
 use Rattle.log_verify.specs.declared.faults.JoinVerdict.TheVariants.{OtherState, Page, WrongPage, WrongCount, WrongMark, WrongAnswer, LeftOver, Memory}
 use Rattle.log_verify.specs.JoinJudged.{join_walked, pair_difference, join_walk_of, names, join_fault}
 use Rattle.log_verify.specs.JoinSteps.{search_within}
-use Rattle.log_verify.specs.Causes.{HasRefusal, HasJoinCause, IsJoinPassing}
+use Rattle.log_verify.specs.Causes.{HasJoinCause, IsJoinPassing}
 use Rattle.log_verify.proofs.JoinSoundness.{walked_from_join, join_none_from_sound}
 
 -- a difference is a wrong answer

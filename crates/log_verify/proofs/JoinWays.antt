@@ -1,5 +1,5 @@
 -- From one record of a join to the next: what the walk is, and why it stops.
-use Rattle.std.proofs.Common.{◌≡◌, ℕ, zero, suc, ◌+◌, ◌<◌, ◌≤◌, Bool, true, false, List, [], ◌∷◌, ◌++◌, length, drop, get_or, Ok, Err, Result, refl, sym, ap, subst, ◌∙◌, arith, drop-cons}
+use Rattle.std.proofs.Common.{◌≡◌, ℕ, suc, ◌+◌, ◌<◌, Bool, true, false, List, ◌∷◌, length, drop, get_or, Err, Result, sym, ap, ◌∙◌, arith, drop-cons}
 use Rattle.std.specs.Prelude.{IsTrue}
 use Rattle.scan_model.specs.declared.hit.Pair.{Pair}
 use Rattle.page_store.specs.declared.pages.PageFault.{PageFault}
@@ -11,7 +11,7 @@ use Rattle.log_model.specs.JoinWalk.{JoinSearch, opens_right, opened, page_of}
 use Rattle.log_verify.specs.declared.faults.JoinVerdict.{JoinVerdict}
 use Rattle.log_verify.specs.declared.faults.JoinVerdict.TheVariants.{OtherState, Page, WrongPage, WrongCount, WrongMark, WrongAnswer, LeftOver, Memory}
 use Rattle.log_verify.specs.JoinJudged.{is_of, read_of, join_walked}
-use Rattle.log_verify.specs.Causes.{HasRefusal, IsJoinPageVerdict, HasJoinCause}
+use Rattle.log_verify.specs.Causes.{IsJoinPageVerdict, HasJoinCause}
 use Rattle.log_verify.proofs.Ways.{refusal_kept, holds_none}
 
 refused : (j : JoinSearch) (lr rr : Read) (named : List Pair) (n : JoinNeed) (ns : List JoinNeed) (r : JoinRecord) (rs : List JoinRecord) (i : ℕ) (right : Bool) (fault : PageFault)

@@ -1,5 +1,5 @@
 -- From one record to the next: what the walk is, why it stops, and what it costs.
-use Rattle.std.proofs.Common.{◌≡◌, ℕ, zero, suc, ◌+◌, ◌<◌, ◌≤◌, List, [], ◌∷◌, ◌++◌, length, drop, take, get_or, Ok, Err, Result, refl, sym, ap, subst, ◌∙◌, arith, add-one, drop-cons}
+use Rattle.std.proofs.Common.{◌≡◌, ℕ, zero, suc, ◌+◌, ◌<◌, ◌≤◌, List, [], ◌∷◌, length, drop, take, get_or, Ok, Err, Result, refl, sym, ap, subst, ◌∙◌, arith, drop-cons}
 use Rattle.std.specs.Prelude.{IsTrue}
 use Rattle.metric_laws.specs.Counts.{next_count}
 use Rattle.scan_model.specs.declared.hit.Hit.{Hit}
@@ -7,7 +7,6 @@ use Rattle.page_store.specs.declared.pages.PageFault.{PageFault}
 use Rattle.page_store.specs.declared.pages.PageFault.TheVariants as pages
 use Rattle.page_store.specs.Reading.{Read, IsWithin, is_within}
 use Rattle.page_store.specs.Shelf.{Shelf, HoldsSame}
-use Rattle.log_model.specs.declared.marks.Mark.{Mark}
 use Rattle.log_model.specs.declared.marks.Record.{Record}
 use Rattle.log_model.specs.declared.marks.Need.{Need}
 use Rattle.log_model.specs.Counts.{count_up, measured_by, measured}

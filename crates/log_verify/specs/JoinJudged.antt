@@ -1,5 +1,5 @@
 -- The first fault of a join's log, in the verifier's order.
-use Rattle.std.specs.Prelude.{◌≡◌, ℕ, ◌+◌, Bool, true, false, not, List, [], ◌∷◌, ◌++◌, length, Option, Some, None, Result, Ok, Err, if◌then◌else◌, ◌==◌, ◌&&◌}
+use Rattle.std.specs.Prelude.{ℕ, ◌+◌, Bool, true, false, not, List, [], ◌∷◌, ◌++◌, length, Option, Some, None, Result, Ok, Err, if◌then◌else◌, ◌==◌, ◌&&◌}
 use Rattle.metric_laws.specs.Space.{Space}
 use Rattle.scan_model.specs.declared.hit.Pair.{Pair}
 use Rattle.tree_shape.specs.declared.live.Live.{Live}
@@ -15,7 +15,7 @@ use Rattle.log_model.specs.JoinWalk.{JoinSearch, opens_right, opened, page_of, e
 use Rattle.log_model.specs.SoundJoin.{join_at, root_pair}
 use Rattle.log_verify.specs.Judged.{first_wrong, entry_count}
 use Rattle.log_verify.specs.declared.faults.JoinVerdict.{JoinVerdict}
-use Rattle.log_verify.specs.declared.faults.JoinVerdict.TheVariants.{OtherState, Page, WrongPage, WrongCount, WrongMark, WrongAnswer, LeftOver, Memory}
+use Rattle.log_verify.specs.declared.faults.JoinVerdict.TheVariants.{OtherState, Page, WrongPage, WrongCount, WrongMark, WrongAnswer, LeftOver}
 
 -- the first entry whose mark is not allowed
 abbrev pub join_wrong_in : JoinSearch → JoinNeed → Node → List Mark → Option ℕ

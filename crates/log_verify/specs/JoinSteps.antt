@@ -1,13 +1,11 @@
 -- The steps of the join's walk.
-use Rattle.std.specs.Prelude.{◌≡◌, ℕ, Bool, List, [], ◌∷◌, ◌++◌, map, filter, Option, Some, if◌then◌else◌}
+use Rattle.std.specs.Prelude.{ℕ, List, map, filter, Option, Some, if◌then◌else◌}
 use Rattle.metric_laws.specs.Space.{Space}
 use Rattle.scan_model.specs.declared.hit.Pair.{Pair}
 use Rattle.tree_shape.specs.declared.entry.LeafEntry.{LeafEntry}
 use Rattle.tree_shape.specs.declared.entry.InnerEntry.{InnerEntry}
-use Rattle.log_model.specs.declared.marks.Mark.{Mark}
 use Rattle.log_model.specs.declared.pairs.Item.{Item}
 use Rattle.log_model.specs.declared.pairs.JoinNeed.{JoinNeed}
-use Rattle.log_model.specs.Walk.{near_ones}
 use Rattle.log_model.specs.JoinWalk.{JoinSearch, centre_of, apart_of, opens_right, object_entry, subtree_entry, with_entry, is_hit, is_need, pair_of}
 
 -- how far an entry with this point is from the other item, where that has a centre

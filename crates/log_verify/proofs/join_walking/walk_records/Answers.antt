@@ -1,4 +1,4 @@
-use Rattle.std.proofs.Common.{◌≡◌, ◌∙◌, ℕ, List, reverse, drop, ap, arith}
+use Rattle.std.proofs.Common.{◌≡◌, ◌∙◌, reverse, ap, arith}
 use Rattle.std.proofs.lemmas.Result.{err_from_is_err_and}
 use Rattle.log_model.specs.JoinWalk.{JoinSearch}
 use Rattle.log_verify.specs.JoinJudged.{join_walked}
