@@ -1,9 +1,16 @@
 // The jobs on files.
-ghost use Rattle.std.specs.Prelude.{◌≡◌, ◌⊎◌, ◌≤◌, ℕ, List, IfOk, codes};
+ghost use Rattle.std.specs.Prelude.{◌≡◌, ◌⊎◌, ◌≤◌, ◌^◌, ℕ, List, None, length, IsTrue, IfOk, IfErr, codes};
+ghost use Rattle.disk_model.specs.Disk.{IsUnchanged};
+ghost use Rattle.metric_mix.specs.MixSpaces.{is_lawful, mix_space};
+ghost use Rattle.tree_shape.specs.Tree.{pages_at};
+ghost use Rattle.page_store.specs.Reading.{reading, nodes_of};
+ghost use Rattle.tree_audit.specs.Audited.{audit_fault};
+ghost use Rattle.std.specs.Io.KnownBytes.{Appends};
+ghost use Rattle.outside_io.specs.Bytes.{AppendsPrefix};
 ghost use Rattle.outside_io.specs.Causes.{Rose};
 ghost use Rattle.node_page.specs.Heads.{IsLawfulHead};
-ghost use Rattle.file_jobs.specs.Jobs.{Creates, Audits};
-ghost use Rattle.file_jobs.specs.Lines.{IsNamed, not_index_text};
+ghost use Rattle.file_jobs.specs.Jobs.{Creates, Audits, HasFault, IsPassing};
+ghost use Rattle.file_jobs.specs.Lines.{IsNamed, not_index_text, rejected_text};
 ghost use Rattle.metric_mix.specs.MixKinds.{mix_kind, mix_dim};
 
 use crate::lines::{end_with, put_line, rejected_text, sound_text};
@@ -57,5 +64,62 @@ fn not_index_line(fault: OpenFault) -> &'static [u8]
         OpenFault::Unfinished => b"fault notindex unfinished\n",
         OpenFault::TwoRoots => b"fault notindex tworoots\n",
         OpenFault::Slot => b"fault notindex slot\n",
+    }
+}
+
+// The space of a head.
+fn space_of(head: &Head) -> MixSpace
+    requires low { 1 ≤ head.now.kind }
+    requires high { head.now.kind ≤ 8 }
+    requires lawful { IsTrue (is_lawful head.now.kind head.now.dim) }
+    ensures kind { mix_kind result ≡ head.now.kind }
+    ensures dim { mix_dim result ≡ head.now.dim }
+{
+    match MixSpace::new(head.kind, head.dim) {
+        Ok(space) => space,
+        Err(_) => unreachable!(),
+    }
+}
+
+// The audit of an opened file.
+fn audit_opened<D: Disk>(
+    alloc: Global,
+    disk: &mut D,
+    head: &Head,
+    live: &Live,
+) -> Result<Audited, AuditFault>
+    requires head { IsLawfulHead head.now }
+    requires pages { live.now.pages ≤ 2 ^ 24 }
+    ensures same { IsUnchanged (D.state disk.old) (D.state disk.new) }
+    ensures ok { IfOk result (λ a. IsTrue (D.state disk.old).tells
+        → audit_fault (mix_space head.now.kind head.now.dim) (reading head.now.dim live.now.pages (D.state disk.old).bytes) live.now ≡ None) }
+    ensures objects { IfOk result (λ a. a.objects ≡ live.now.count) }
+    ensures nodes { IfOk result (λ a. IsTrue (D.state disk.old).tells
+        → a.nodes ≡ length (pages_at (nodes_of (reading head.now.dim live.now.pages (D.state disk.old).bytes)) live.now.height live.now.root)) }
+    ensures err { IfErr result (HasFault (D.state disk.old) (D.state disk.new).faults
+        (audit_fault (mix_space head.now.kind head.now.dim) (reading head.now.dim live.now.pages (D.state disk.old).bytes) live.now)) }
+{
+    let mut pages = DiskPages::new(disk, head.dim, live.pages);
+    let mut ruler = Meter::new(space_of(head));
+    audit(alloc, &mut pages, &mut ruler, head.dim, live)
+}
+
+// Ends an audit whose index is rejected, or that could not go on.
+fn end_rejected<K: Sink>(alloc: Global, fault: AuditFault, out: &mut K) -> Status
+    ensures rejected { result.0 ≡ 1 → Appends (K.written out.old) (K.written out.new) (rejected_text fault) }
+    ensures kind { result.0 ≡ 1 → IsPassing fault → ⊥ }
+    ensures disk { result.0 ≡ 5 → (fault ≡ AuditFault.Page PageFault.Disk) × AppendsPrefix (K.written out.old) (K.written out.new) (codes "fault disk\n") }
+    ensures memory { result.0 ≡ 8 → AppendsPrefix (K.written out.old) (K.written out.new) (codes "fault memory\n") }
+    ensures statuses { (result.0 ≡ 1) ⊎ ((result.0 ≡ 4) ⊎ ((result.0 ≡ 5) ⊎ (result.0 ≡ 8))) }
+    ensures later { K.faults out.old ≤ K.faults out.new }
+    ensures rose { result.0 ≡ 4 → Rose (K.faults out.old) (K.faults out.new) }
+{
+    match fault {
+        AuditFault::Page(PageFault::Disk) => end_with(out, FAULT_DISK, 5),
+        AuditFault::Memory => end_with(out, FAULT_MEMORY, 8),
+        fault => match rejected_text(alloc, fault) {
+            Ok(text) => put_line(out, &text, 1),
+            Err(_) => end_with(out, FAULT_MEMORY, 8),
+        },
     }
 }
