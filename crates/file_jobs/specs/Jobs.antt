@@ -75,3 +75,6 @@ abbrev pub IsPassing : AuditFault → Type 0
 IsPassing audit.Memory = Unit {0}
 IsPassing (audit.Page page.Disk) = Unit {0}
 IsPassing _ = ⊥
+
+abbrev pub IsAuditStatus : ℕ → Type 0
+IsAuditStatus n = (n ≡ 0) ⊎ ((n ≡ 1) ⊎ ((n ≡ 4) ⊎ ((n ≡ 5) ⊎ ((n ≡ 6) ⊎ (n ≡ 8)))))

@@ -1,5 +1,5 @@
 // The jobs on files.
-ghost use Rattle.std.specs.Prelude.{◌≡◌, ◌⊎◌, ◌≤◌, ◌^◌, ℕ, List, None, length, IsTrue, IfOk, IfErr, codes};
+ghost use Rattle.std.specs.Prelude.{◌≡◌, ◌≢◌, ◌⊎◌, ◌≤◌, ◌^◌, ℕ, List, None, length, IsTrue, IfOk, IfErr, codes};
 ghost use Rattle.disk_model.specs.Disk.{IsUnchanged};
 ghost use Rattle.metric_mix.specs.MixSpaces.{is_lawful, mix_space};
 ghost use Rattle.tree_shape.specs.Tree.{pages_at};
@@ -9,8 +9,8 @@ ghost use Rattle.std.specs.Io.KnownBytes.{Appends};
 ghost use Rattle.outside_io.specs.Bytes.{AppendsPrefix};
 ghost use Rattle.outside_io.specs.Causes.{Rose};
 ghost use Rattle.node_page.specs.Heads.{IsLawfulHead};
-ghost use Rattle.file_jobs.specs.Jobs.{Creates, Audits, HasFault, IsPassing};
-ghost use Rattle.file_jobs.specs.Lines.{IsNamed, not_index_text, rejected_text};
+ghost use Rattle.file_jobs.specs.Jobs.{Creates, Audits, HasFault, IsPassing, IsAuditStatus};
+ghost use Rattle.file_jobs.specs.Lines.{unopened_text, rejected_text, sound_text};
 ghost use Rattle.metric_mix.specs.MixKinds.{mix_kind, mix_dim};
 
 use crate::lines::{end_with, put_line, rejected_text, sound_text};
@@ -48,9 +48,9 @@ pub fn create_index<D: Disk, K: Sink>(disk: &mut D, head: &Head, out: &mut K) ->
     }
 }
 
-// The line of a file that is not opened, the disk's failure apart.
-fn not_index_line(fault: OpenFault) -> &'static [u8]
-    ensures { (name : List ℕ) → IsNamed fault name → result.now ≡ not_index_text name }
+// The line of a file that is not opened.
+fn unopened_line(fault: OpenFault) -> &'static [u8]
+    ensures { result.now ≡ unopened_text fault }
 {
     match fault {
         OpenFault::Disk => FAULT_DISK,
@@ -121,5 +121,56 @@ fn end_rejected<K: Sink>(alloc: Global, fault: AuditFault, out: &mut K) -> Statu
             Ok(text) => put_line(out, &text, 1),
             Err(_) => end_with(out, FAULT_MEMORY, 8),
         },
+    }
+}
+
+// Ends with the line of a file that is not opened.
+fn end_unopened<K: Sink>(fault: OpenFault, out: &mut K) -> Status
+    ensures disk { result.0 ≡ 5 → fault ≡ OpenFault.Disk }
+    ensures index { result.0 ≡ 6 → fault ≢ OpenFault.Disk }
+    ensures line { AppendsPrefix (K.written out.old) (K.written out.new) (unopened_text fault) }
+    ensures statuses { (result.0 ≡ 5) ⊎ (result.0 ≡ 6) }
+    ensures later { K.faults out.old ≤ K.faults out.new }
+{
+    let line = unopened_line(fault);
+    if fault == OpenFault::Disk {
+        return end_with(out, line, 5);
+    }
+    end_with(out, line, 6)
+}
+
+// Ends an audit of a sound index.
+fn end_sound<K: Sink>(alloc: Global, audited: &Audited, out: &mut K) -> Status
+    ensures sound { result.0 ≡ 0 → Appends (K.written out.old) (K.written out.new) (sound_text audited.now.objects audited.now.nodes) }
+    ensures memory { result.0 ≡ 8 → AppendsPrefix (K.written out.old) (K.written out.new) (codes "fault memory\n") }
+    ensures statuses { (result.0 ≡ 0) ⊎ ((result.0 ≡ 4) ⊎ (result.0 ≡ 8)) }
+    ensures later { K.faults out.old ≤ K.faults out.new }
+    ensures rose { result.0 ≡ 4 → Rose (K.faults out.old) (K.faults out.new) }
+{
+    match sound_text(alloc, audited) {
+        Ok(text) => put_line(out, &text, 0),
+        Err(_) => end_with(out, FAULT_MEMORY, 8),
+    }
+}
+
+/// Audits an index, and writes `sound` with the numbers of its objects and nodes, or `rejected` with its first fault and
+/// status 1. Status 4: the lines could not be written; 5: the disk failed; 6: the file is no index of version 2; 8: want of
+/// memory. Nothing is changed.
+pub fn audit_index<D: Disk, K: Sink>(alloc: Global, disk: &mut D, out: &mut K) -> Status
+    ensures audits { Audits (D.state disk.old) (D.state disk.new) (K.written out.old) (K.written out.new) result.0 }
+    ensures statuses { IsAuditStatus result.0 }
+    ensures later { K.faults out.old ≤ K.faults out.new }
+    ensures rose { result.0 ≡ 4 → Rose (K.faults out.old) (K.faults out.new) }
+{
+    let (head, live) = match open(disk) {
+        Ok(opened) => opened,
+        Err(fault) => return end_unopened(fault, out),
+    };
+    if head.version != 2 {
+        return end_with(out, b"fault notindex version\n", 6);
+    }
+    match audit_opened(alloc, disk, &head, &live) {
+        Ok(audited) => end_sound(alloc, &audited, out),
+        Err(fault) => end_rejected(alloc, fault, out),
     }
 }
