@@ -6,3 +6,6 @@ mod lines;
 
 pub use jobs::{FAULT_DISK, FAULT_MEMORY, audit_index, create_index};
 pub use lines::{end_with, put_line, rejected_text, sound_text};
+
+#[cfg(test)]
+mod tests;

@@ -35,7 +35,7 @@ returns-clause-err g c =
     let old = disk_shelf p.first_version p.dim p.pages (g.D.Disk.state p.disk.now) p.asked in
     let new = disk_shelf q.first_version q.dim q.pages (g.D.Disk.state q.disk.now) q.asked in
     let told : audit_fault (mix_space (mix_kind m) (mix_dim m)) (reading_in (version_of p.first_version) p.dim p.pages (g.D.Disk.state p.disk.now).bytes) live
-        ≡ audit_fault (mix_space head.kind head.dim) (reading head.dim live.pages (g.D.Disk.state c.args.disk.now).bytes) live =
+    ≡ audit_fault (mix_space head.kind head.dim) (reading head.dim live.pages (g.D.Disk.state c.args.disk.now).bytes) live =
     rw (c.new-pages.ensures.version, c.new-pages.ensures.dim, c.new-pages.ensures.pages, c.new-pages.ensures.same, c.new-ruler.ensures.metric, c.space_of.ensures.kind, c.space_of.ensures.dim) refl in
     of_audit c.audit.result old new (g.D.Disk.state c.args.disk.now) _ _
     (ap (λ d. (g.D.Disk.state d).tells) (sym c.new-pages.ensures.same)) (ap (λ d. (g.D.Disk.state d).faults) (sym c.new-pages.ensures.same)) (search rules)
