@@ -1,10 +1,15 @@
 -- What a run does for the words that it is given.
-use Rattle.std.specs.Prelude.{◌≡◌, ◌⊎◌, ℕ, Bool, Option, Some, List, [], ◌++◌, codes}
+use Rattle.std.specs.Prelude.{◌≡◌, ◌⊎◌, ℕ, Bool, Option, Some, List, [], ◌++◌, codes, IfSome}
 use Rattle.std.specs.List.{concat}
 use Rattle.std.specs.Io.KnownBytes.{Appends}
 use Rattle.outside_io.specs.Bytes.{AppendsPrefix}
 use Rattle.job_words.specs.Jobs.{job_of}
-use Rattle.job_words.specs.Names.{kind_of}
+use Rattle.job_words.specs.Names.{kind_of, promote_number, split_number}
+use Rattle.job_words.specs.declared.job.Job.{Job}
+use Rattle.job_words.specs.declared.names.PolicyNames.{PolicyNames}
+use Rattle.disk_model.specs.Disk.{DiskState}
+use Rattle.node_page.specs.declared.head.Head.{Head}
+use Rattle.file_jobs.specs.Jobs.{Creates, Audits, IsAuditStatus}
 use Rattle.job_words.specs.declared.job.Job.TheVariants as job
 use Rattle.job_words.specs.declared.names.SpaceName.{SpaceName}
 use Rattle.metric_mix.specs.MixSpaces.{mix_space}
@@ -22,7 +27,7 @@ pub record Asked : Type 0 where
 abbrev pub IsScan : List (List ℕ) → Asked → Type 0
 IsScan words asked = job_of words ≡ Some (job.Scan asked.space asked.limit asked.show)
 
--- the words ask for no scan, which is all that the program does
+-- the words ask for no scan
 abbrev pub HasNoScan : List (List ℕ) → Type 0
 HasNoScan words = (asked : Asked) → ¬ IsScan words asked
 
@@ -63,6 +68,53 @@ WritesUsage old new status =
     ⊎ (((status ≡ 4) × AppendsPrefix old new usage)
     ⊎ ((status ≡ 8) × AppendsPrefix old new (codes "fault memory\n")))
 
+-- ---- a run
+
+-- the head of a new file
+abbrev pub new_head : SpaceName → PolicyNames → ℕ → Head
+new_head space policies limit = record {
+  version = 2;
+  kind = kind_of space.metric;
+  dim = space.dim;
+  promote = promote_number policies.promote;
+  split = split_number policies.split;
+  limit = limit;
+}
+
+-- what the program does so far; other jobs are answered as words without a job
+pub data Task : Type 0 where
+  Scans : Asked → Task
+  Makes : Head → Task
+  Judges : Task
+  Nothing : Task
+
+abbrev pub task_of : Option (Job (List ℕ)) → Task
+task_of (Some (job.Scan space limit show)) = Scans (record { space = space; limit = limit; show = show })
+task_of (Some (job.Create index space policies limit)) = Makes (new_head space policies limit)
+task_of (Some (job.Audit index workers)) = Judges
+task_of other = Nothing
+
+-- what a run does to the disk and writes, where `input` is what was left to read
+abbrev pub Does : Task → DiskState → DiskState → Option (List ℕ) → Option (List ℕ) → Option (List ℕ) → ℕ → Type 0
+Does (Scans asked) disk0 disk1 input out0 out1 status = IfSome input (λ bytes. WritesScan out0 out1 (scan_texts asked bytes) status)
+Does (Makes head) disk0 disk1 input out0 out1 status = Creates head disk0 disk1 out0 out1 status
+Does Judges disk0 disk1 input out0 out1 status = Audits disk0 disk1 out0 out1 status
+Does Nothing disk0 disk1 input out0 out1 status = WritesUsage out0 out1 status
+
+-- the task takes no index
+abbrev pub TakesNoIndex : Task → Type 0
+TakesNoIndex (Scans asked) = Unit {0}
+TakesNoIndex (Makes head) = ⊥
+TakesNoIndex Judges = ⊥
+TakesNoIndex Nothing = Unit {0}
+
+-- the statuses of a scan
+abbrev pub IsScanStatus : ℕ → Type 0
+IsScanStatus n = (n ≡ 0) ⊎ ((n ≡ 3) ⊎ ((n ≡ 4) ⊎ ((n ≡ 7) ⊎ (n ≡ 8))))
+
 -- a run ends so and in no other way
-abbrev pub IsStatus : ℕ → Type 0
-IsStatus n = (n ≡ 0) ⊎ ((n ≡ 2) ⊎ ((n ≡ 3) ⊎ ((n ≡ 4) ⊎ ((n ≡ 7) ⊎ (n ≡ 8)))))
+abbrev pub IsStatusOf : Task → ℕ → Type 0
+IsStatusOf (Scans asked) n = IsScanStatus n
+IsStatusOf (Makes head) n = (n ≡ 0) ⊎ ((n ≡ 4) ⊎ ((n ≡ 5) ⊎ ((n ≡ 6) ⊎ (n ≡ 8))))
+IsStatusOf Judges n = IsAuditStatus n
+IsStatusOf Nothing n = (n ≡ 2) ⊎ ((n ≡ 4) ⊎ (n ≡ 8))

@@ -1,12 +1,14 @@
 //! The program: reads the words of its command line and does what they ask for.
 #![tactic(auto)]
 
+mod files;
 mod program;
+mod scan_job;
 #[cfg(test)]
 mod tests;
 
+use files::run_on_files;
 use outside_io::{Status, StdSink, StdSource};
-use program::run;
 use std::process::ExitCode;
 use std::{env, io};
 
@@ -18,6 +20,6 @@ fn main(rt: HostRuntime) -> io::Result<ExitCode> {
     }
     let mut input = StdSource::new(rt.stdin());
     let mut out = StdSink::new(rt.stdout());
-    let Status(status) = run(alloc, &words, &mut input, &mut out);
+    let Status(status) = run_on_files(&rt, alloc, &words, &mut input, &mut out);
     Ok(ExitCode::from(status))
 }

@@ -1,6 +1,8 @@
 ghost use Rattle.std.specs.Prelude.{◌≤◌};
 
+use crate::files::run_on_files;
 use crate::program::run;
+use disk_model::{Disk, MemoryDisk};
 use outside_io::{MemorySink, MemorySource, Status};
 use std::alloc::{AllocError, Global};
 use std::process::Abort;
@@ -15,6 +17,18 @@ fn words(alloc: Global, line: &str) -> Result<Vec<String>, AllocError> {
         words.push(String::from_str(alloc, word)?)?;
     }
     Ok(words)
+}
+
+// An empty disk with room for so many bytes.
+fn empty_disk(alloc: Global, room: u64) -> Result<MemoryDisk, AllocError> {
+    MemoryDisk::new(
+        alloc,
+        Vec::new(alloc),
+        room,
+        1_000_000,
+        Vec::new(alloc),
+        None,
+    )
 }
 
 // The calls that fail: none or one.
@@ -46,7 +60,8 @@ fn check<R: AllocGlobal + Abort>(rt: &R, case: &Case<'_>, piece: usize) -> Resul
     let bytes = case.input.as_bytes().to_vec(alloc)?;
     let mut input = MemorySource::new(bytes, piece, fails(alloc, case.input_fails)?);
     let mut out = MemorySink::new(alloc, 1000, fails(alloc, case.output_fails)?)?;
-    let status = run(alloc, &words, &mut input, &mut out);
+    let mut index = empty_disk(alloc, 0)?;
+    let status = run(alloc, &words, &mut index, &mut input, &mut out);
     assert_eq!(rt; status, Status(case.status));
     assert_eq!(rt; out.written(), case.output.as_bytes());
     Ok(())
@@ -218,9 +233,49 @@ fn words_without_a_scan(rt: HostRuntime) -> Result<(), Fail> {
             "scan --metric l1 --dim 2 --radius 1",
             "shape",
             "audit a.mt --radius 1",
-            "create a.mt --metric l1 --dim 2",
+            "create a.mt --metric l1",
         ],
     )
+}
+
+// Runs the words on this index, with no input.
+fn check_index<R: AllocGlobal + Abort, D: Disk>(
+    rt: &R,
+    index: &mut D,
+    line: &str,
+    status: u8,
+    output: &str,
+) -> Result<(), Fail> {
+    let alloc = rt.alloc();
+    let words = words(alloc, line)?;
+    let mut input = MemorySource::new(Vec::new(alloc), 1, Vec::new(alloc));
+    let mut out = MemorySink::new(alloc, 1000, Vec::new(alloc))?;
+    let found = run(alloc, &words, index, &mut input, &mut out);
+    assert_eq!(rt; found, Status(status));
+    assert_eq!(rt; out.written(), output.as_bytes());
+    Ok(())
+}
+
+#[test]
+fn create_and_audit(rt: HostRuntime) -> Result<(), Fail> {
+    let create = "create a.mt --metric l1 --dim 2";
+    let audit = "audit a.mt";
+    let mut index = empty_disk(rt.alloc(), 65536)?;
+    check_index(&rt, &mut index, audit, 6, "fault notindex short\n")?;
+    check_index(&rt, &mut index, create, 0, "created\n")?;
+    check_index(&rt, &mut index, audit, 0, "sound\nobjects 0\nnodes 1\n")?;
+    check_index(&rt, &mut index, create, 6, "fault notindex notempty\n")
+}
+
+#[test]
+fn a_missing_file(rt: HostRuntime) -> Result<(), Fail> {
+    let alloc = rt.alloc();
+    let words = words(alloc, "audit missing.mt")?;
+    let mut input = MemorySource::new(Vec::new(alloc), 1, Vec::new(alloc));
+    let mut out = MemorySink::new(alloc, 1000, Vec::new(alloc))?;
+    let status = run_on_files(&rt, alloc, &words, &mut input, &mut out);
+    assert_eq!(rt; status, Status(10));
+    Ok(())
 }
 
 #[test]
@@ -238,7 +293,9 @@ fn an_input_of_one_byte_too_many(rt: HostRuntime) -> Result<(), Fail> {
     let bytes = vec![in alloc; b'x'; 67108865]?;
     let mut input = MemorySource::new(bytes, 1 << 20, Vec::new(alloc));
     let mut out = MemorySink::new(alloc, 1000, Vec::new(alloc))?;
-    assert_eq!(rt; run(alloc, &words, &mut input, &mut out), Status(7));
+    let mut index = empty_disk(alloc, 0)?;
+    let status = run(alloc, &words, &mut index, &mut input, &mut out);
+    assert_eq!(rt; status, Status(7));
     assert_eq!(rt; out.written(), b"fault long\n".as_slice());
     scan_model::laws::range_answers_are_all();
     scan_model::laws::join_answers_are_all();

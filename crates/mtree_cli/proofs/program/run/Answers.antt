@@ -1,53 +1,43 @@
-use Rattle.std.proofs.Common.{◌≡◌, [], ℕ, List, ◌∙◌, sym}
+use Rattle.std.proofs.Common.{◌≡◌, ◌≢◌, ◌⊎◌, ℕ, List, Option, refl, sym, subst, arith}
 use Rattle.job_words.specs.Words.{texts_of}
-use Rattle.mtree_cli.specs.Run.{Asked}
-use Rattle.mtree_cli.proofs.ProgramLemmas.{one_scan, always, weaker, read_whole, fault_writes, input_ends, long_ends, memory_ends, same_scan}
+use Rattle.job_words.specs.Jobs.{job_of}
+use Rattle.job_words.specs.declared.job.Job.{Job}
+use Rattle.mtree_cli.specs.Run.{Does, task_of}
+use Rattle.mtree_cli.proofs.TaskLemmas.{scan_named, unchanged, memory_does, memory_status, nothing_taken}
 use Rattle.mtree_cli.proofs.program.run.Goals as goal
 
-pub returns-in-Err-Memory-clause-scan : goal.returns-in-Err-Memory-clause-scan
-returns-in-Err-Memory-clause-scan g c = λ asked is. always _ _ (λ bytes.
-    fault_writes _ _ _ c.fault.result.0 _ c.fault.ensures.line (λ front line. memory_ends _ [] _ front c.fault.ensures.status line))
+pub returns-in-Ok-Scan-clause-does : goal.returns-in-Ok-Scan-clause-does
+returns-in-Ok-Scan-clause-does g c =
+    let P : Option (Job (List ℕ)) → Type 0 = λ j. Does (task_of j) (g.D.Disk.state c.args.index.now) (g.D.Disk.state c.args.index.now) (g.S.Source.left c.args.input.now) (g.K.Sink.written c.args.out.now) (g.K.Sink.written c.run_scan.new.out) c.run_scan.result.0 in
+    subst P (sym (scan_named (texts_of c.args.words.now) c.in-Ok-Scan.field-0 c.in-Ok-Scan.space c.in-Ok-Scan.limit c.in-Ok-Scan.show_tags c.in-Ok-Scan.ensures.job c.in-Ok-Scan.field-0-is)) c.run_scan.ensures.wrote
 
-pub returns-in-Ok-read_all-clause-scan : goal.returns-in-Ok-read_all-clause-scan
-returns-in-Ok-read_all-clause-scan g c = λ asked is.
-    let mine : Asked = record { space = c.in-Ok.found.0; limit = c.in-Ok.found.1.limit; show = c.in-Ok.found.1.show_tags } in
-    let read = read_whole _ _ c.in-Ok-read_all.bytes.items c.in-Ok-read_all.ensures.ok c.in-Ok-read_all.ensures.end in
-    weaker _ _ _ (λ (bytes : List ℕ) (same : c.in-Ok-read_all.bytes.items ≡ bytes).
-    same_scan _ _ mine asked _ _ _ bytes c.scan.result.0 (one_scan (texts_of c.args.words.now) mine asked c.in-Ok.ensures.scan is) c.in-Ok.ensures.space.0 c.in-Ok.ensures.space.1
-    (c.deref.ensures.value ∙ same) c.scan.ensures.wrote) read
+pub returns-in-Ok-Scan-clause-memory : goal.returns-in-Ok-Scan-clause-memory
+returns-in-Ok-Scan-clause-memory g c = λ is. unchanged (g.D.Disk.state c.args.index.now)
 
-pub returns-in-Err-Fault-clause-scan : goal.returns-in-Err-Fault-clause-scan
-returns-in-Err-Fault-clause-scan g c = λ asked is. always _ _ (λ bytes.
-    fault_writes _ _ _ c.fault-in-Err-Fault.result.0 _ c.fault-in-Err-Fault.ensures.line (λ front line. input_ends _ _ front c.fault-in-Err-Fault.ensures.status line))
+pub returns-in-Ok-Scan-clause-untouched : goal.returns-in-Ok-Scan-clause-untouched
+returns-in-Ok-Scan-clause-untouched g c = λ none.
+    absurd (none (record { space = c.in-Ok-Scan.space; limit = c.in-Ok-Scan.limit; show = c.in-Ok-Scan.show_tags }) (scan_named (texts_of c.args.words.now) c.in-Ok-Scan.field-0 c.in-Ok-Scan.space c.in-Ok-Scan.limit c.in-Ok-Scan.show_tags c.in-Ok-Scan.ensures.job c.in-Ok-Scan.field-0-is))
 
-pub returns-in-Err-TooLong-clause-scan : goal.returns-in-Err-TooLong-clause-scan
-returns-in-Err-TooLong-clause-scan g c = λ asked is. always _ _ (λ bytes.
-    fault_writes _ _ _ c.fault-in-Err-TooLong.result.0 _ c.fault-in-Err-TooLong.ensures.line (λ front line. long_ends _ _ front c.fault-in-Err-TooLong.ensures.status line))
+pub returns-in-Ok-Create-clause-long : goal.returns-in-Ok-Create-clause-long
+returns-in-Ok-Create-clause-long g c = nothing_taken (g.S.Source.left c.args.input.now) c.create_index.result.0 (grind (arith))
 
-pub returns-in-Err-Memory-read_all-clause-scan : goal.returns-in-Err-Memory-read_all-clause-scan
-returns-in-Err-Memory-read_all-clause-scan g c = λ asked is. always _ _ (λ bytes.
-    fault_writes _ _ _ c.fault-in-Err-Memory-read_all.result.0 _ c.fault-in-Err-Memory-read_all.ensures.line (λ front line. memory_ends _ [] _ front c.fault-in-Err-Memory-read_all.ensures.status line))
+pub returns-in-Ok-Audit-clause-memory : goal.returns-in-Ok-Audit-clause-memory
+returns-in-Ok-Audit-clause-memory g c = λ is. c.audit_index.ensures.audits.unchanged
 
-pub returns-in-Ok-read_all-clause-no_scan : goal.returns-in-Ok-read_all-clause-no_scan
-returns-in-Ok-read_all-clause-no_scan g c = λ none. absurd (none _ c.in-Ok.ensures.scan)
+pub returns-in-Ok-Audit-clause-long : goal.returns-in-Ok-Audit-clause-long
+returns-in-Ok-Audit-clause-long g c = nothing_taken (g.S.Source.left c.args.input.now) c.audit_index.result.0 (grind (arith))
 
-pub returns-in-Ok-read_all-clause-untouched : goal.returns-in-Ok-read_all-clause-untouched
-returns-in-Ok-read_all-clause-untouched g c = λ none. absurd (none _ c.in-Ok.ensures.scan)
+pub returns-in-Err-Memory-clause-does : goal.returns-in-Err-Memory-clause-does
+returns-in-Err-Memory-clause-does g c = memory_does (task_of (job_of (texts_of c.args.words.now))) (g.D.Disk.state c.args.index.now) (g.S.Source.left c.args.input.now) _ _ c.end_with.result.0 c.end_with.ensures.status c.end_with.ensures.line
 
-pub returns-in-Err-Fault-clause-no_scan : goal.returns-in-Err-Fault-clause-no_scan
-returns-in-Err-Fault-clause-no_scan g c = λ none. absurd (none _ c.in-Ok.ensures.scan)
+pub returns-in-Err-Memory-clause-memory : goal.returns-in-Err-Memory-clause-memory
+returns-in-Err-Memory-clause-memory g c = λ is. unchanged (g.D.Disk.state c.args.index.now)
 
-pub returns-in-Err-Fault-clause-untouched : goal.returns-in-Err-Fault-clause-untouched
-returns-in-Err-Fault-clause-untouched g c = λ none. absurd (none _ c.in-Ok.ensures.scan)
+pub returns-in-Err-Memory-clause-statuses : goal.returns-in-Err-Memory-clause-statuses
+returns-in-Err-Memory-clause-statuses g c = memory_status (task_of (job_of (texts_of c.args.words.now))) c.end_with.result.0 c.end_with.ensures.status
 
-pub returns-in-Err-TooLong-clause-no_scan : goal.returns-in-Err-TooLong-clause-no_scan
-returns-in-Err-TooLong-clause-no_scan g c = λ none. absurd (none _ c.in-Ok.ensures.scan)
+pub returns-in-Ok-clause-memory : goal.returns-in-Ok-clause-memory
+returns-in-Ok-clause-memory g c = λ is. unchanged (g.D.Disk.state c.args.index.now)
 
-pub returns-in-Err-TooLong-clause-untouched : goal.returns-in-Err-TooLong-clause-untouched
-returns-in-Err-TooLong-clause-untouched g c = λ none. absurd (none _ c.in-Ok.ensures.scan)
-
-pub returns-in-Err-Memory-read_all-clause-no_scan : goal.returns-in-Err-Memory-read_all-clause-no_scan
-returns-in-Err-Memory-read_all-clause-no_scan g c = λ none. absurd (none _ c.in-Ok.ensures.scan)
-
-pub returns-in-Err-Memory-read_all-clause-untouched : goal.returns-in-Err-Memory-read_all-clause-untouched
-returns-in-Err-Memory-read_all-clause-untouched g c = λ none. absurd (none _ c.in-Ok.ensures.scan)
+pub returns-in-Ok-clause-long : goal.returns-in-Ok-clause-long
+returns-in-Ok-clause-long g c = nothing_taken (g.S.Source.left c.args.input.now) c.put_line.result.0 (grind (arith))

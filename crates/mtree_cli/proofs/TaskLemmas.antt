@@ -1,0 +1,109 @@
+-- What stands of each task where a run met want of memory before it began.
+use Rattle.std.proofs.Common.{◌≡◌, ◌≢◌, ◌⊎◌, inl, inr, ⊎_elim, ℕ, ◌≤◌, ◌%◌, ◌<◌, ◌^◌, length, List, [], Option, Some, None, Bool, true, IsTrue, refl, sym, ◌∙◌, ap, subst, arith}
+use Rattle.std.specs.Prelude.{codes}
+use Rattle.std.specs.Io.KnownBytes.{Appends, Consumes}
+use Rattle.std.proofs.KnownBytes.{Consumes-nil}
+use Rattle.outside_io.specs.Bytes.{AppendsPrefix}
+use Rattle.disk_model.specs.Disk.{DiskState, IsUnchanged, MayLeave}
+use Rattle.disk_model.specs.Moments.{started}
+use Rattle.file_jobs.specs.Jobs.{Creates, Audits}
+use Rattle.node_page.specs.declared.head.Head.{Head}
+use Rattle.node_page.specs.Heads.{is_version, is_space, is_policy, is_limit}
+use Rattle.job_words.specs.Names.{kind_of, is_halved, promote_number, split_number}
+use Rattle.job_words.specs.declared.names.MetricName.{MetricName}
+use Rattle.job_words.specs.declared.names.MetricName.TheVariants.{Hamming, L1, Max, Kendall, Hausdorff, MixSum, MixMax, L1Cap}
+use Rattle.job_words.specs.declared.names.Promote.{Promote}
+use Rattle.job_words.specs.declared.names.Promote.TheVariants.{Mrad, Mmrad}
+use Rattle.job_words.specs.declared.names.Split.{Split}
+use Rattle.job_words.specs.declared.names.Split.TheVariants.{Hyperplane, Balanced}
+use Rattle.std.specs.Borrow.{Bor}
+use Rattle.job_words.specs.Jobs.{job_of, texts_in}
+use Rattle.job_words.specs.declared.job.Job.{Job}
+use Rattle.job_words.specs.declared.job.Job.TheVariants as job
+use Rattle.job_words.specs.declared.names.SpaceName.{SpaceName}
+use Rattle.mtree_cli.specs.Run.{Task, Does, IsStatusOf, WritesScan, WritesUsage, scan_texts}
+use Rattle.mtree_cli.specs.Run.Task.{Scans, Makes, Judges, Nothing}
+use Rattle.mtree_cli.proofs.ProgramLemmas.{always, fault_writes, memory_ends}
+
+-- the words of a scan
+pub scan_named : (words : List (List ℕ)) (found : Job (Bor (List ℕ))) (space : SpaceName) (limit : ℕ) (show : Bool) → job_of words ≡ Some (texts_in found) → found ≡ job.Scan space limit show → job_of words ≡ Some (job.Scan space limit show)
+scan_named words found space limit show is named = is ∙ ap (λ (f : Job (Bor (List ℕ))). Some (texts_in f)) named
+
+-- no call was made
+pub unchanged : (disk : DiskState) → IsUnchanged disk disk
+unchanged disk = record {
+  same_tells = refl;
+  same_bytes = refl;
+  same_images = λ image. (λ left. left, λ left. left);
+  time = started disk (MayLeave disk) (λ image left. left);
+}
+
+pub does_at_memory : (task : Task) (disk : DiskState) (input o0 o1 : Option (List ℕ)) → AppendsPrefix o0 o1 (codes "fault memory\n") → Does task disk disk input o0 o1 8
+does_at_memory (Scans asked) disk input o0 o1 line = always _ _ (λ bytes. fault_writes o0 o1 (scan_texts asked bytes) 8 _ line (λ front part. memory_ends 8 [] _ front refl part))
+does_at_memory (Makes head) disk input o0 o1 line = record {
+  made = λ is. ⊎_elim (λ e. absurd (omega arith)) (λ e. absurd (omega arith)) is;
+  done = λ is. absurd (omega arith);
+  part = λ is. absurd (omega arith);
+  disk = λ is. absurd (omega arith);
+  not_empty = λ is. absurd (omega arith);
+}
+does_at_memory Judges disk input o0 o1 line = record {
+  unchanged = unchanged disk;
+  sound = λ is. absurd (omega arith);
+  rejected = λ is. absurd (omega arith);
+  disk = λ is. absurd (omega arith);
+  not_index = λ is. absurd (omega arith);
+  memory = λ is. line;
+}
+does_at_memory Nothing disk input o0 o1 line = inr (inr (refl, line))
+
+pub memory_does : (task : Task) (disk : DiskState) (input o0 o1 : Option (List ℕ)) (status : ℕ) → status ≡ 8 → AppendsPrefix o0 o1 (codes "fault memory\n") → Does task disk disk input o0 o1 status
+memory_does task disk input o0 o1 status is line = subst (Does task disk disk input o0 o1) (sym is) (does_at_memory task disk input o0 o1 line)
+
+status_eight : (task : Task) → IsStatusOf task 8
+status_eight (Scans asked) = inr (inr (inr (inr refl)))
+status_eight (Makes head) = inr (inr (inr (inr refl)))
+status_eight Judges = inr (inr (inr (inr (inr refl))))
+status_eight Nothing = inr (inr refl)
+
+pub memory_status : (task : Task) (status : ℕ) → status ≡ 8 → IsStatusOf task status
+memory_status task status is = subst (IsStatusOf task) (sym is) (status_eight task)
+
+-- nothing was taken, and the status is not that of too long an input
+pub nothing_taken : (left : Option (List ℕ)) (status : ℕ) → status ≢ 7 → (bs : List ℕ) × Consumes left left bs × ((status ≡ 7 → 67108864 < length bs) × (67108864 < length bs → status ≡ 7))
+nothing_taken left status other = ([], Consumes-nil left, (λ is. absurd (other is), λ long. absurd (omega arith)))
+
+-- a lawful space is one of a head
+pub lawful_space : (metric : MetricName) (dim : ℕ) → 1 ≤ dim → dim ≤ 64 → (is_halved metric ≡ true → dim % 2 ≡ 0) → IsTrue (is_space (kind_of metric) dim)
+unfolding is_space
+lawful_space Hamming dim some few halves = grind (arith)
+lawful_space L1 dim some few halves = grind (arith)
+lawful_space Max dim some few halves = grind (arith)
+lawful_space Kendall dim some few halves = grind (arith)
+lawful_space Hausdorff dim some few halves = grind (arith)
+lawful_space MixSum dim some few halves = let even : dim % 2 ≡ 0 = halves refl in grind (arith)
+lawful_space MixMax dim some few halves = let even : dim % 2 ≡ 0 = halves refl in grind (arith)
+lawful_space L1Cap dim some few halves = grind (arith)
+
+pub lawful_version : IsTrue (is_version 2)
+unfolding is_version
+lawful_version = refl
+
+pub lawful_policy : (promote : Promote) (split : Split) → IsTrue (is_policy (promote_number promote) (split_number split))
+unfolding is_policy
+lawful_policy Mrad Hyperplane = refl
+lawful_policy Mrad Balanced = refl
+lawful_policy Mmrad Hyperplane = refl
+lawful_policy Mmrad Balanced = refl
+
+pub lawful_limit : (limit : ℕ) → 1 ≤ limit → limit ≤ 16777216 → IsTrue (is_limit limit)
+unfolding is_limit
+lawful_limit limit some few = grind (arith)
+
+-- the numbers of names
+pub named_space : (kind : ℕ) (metric : MetricName) (dim : ℕ) → kind ≡ kind_of metric → 1 ≤ dim → dim ≤ 64 → (is_halved metric ≡ true → dim % 2 ≡ 0) → IsTrue (is_space kind dim)
+named_space kind metric dim is some few halves = subst (λ (k : ℕ). IsTrue (is_space k dim)) (sym is) (lawful_space metric dim some few halves)
+
+pub named_policy : (a b : ℕ) (promote : Promote) (split : Split) → a ≡ promote_number promote → b ≡ split_number split → IsTrue (is_policy a b)
+named_policy a b promote split first second =
+    subst (λ (k : ℕ). IsTrue (is_policy k b)) (sym first) (subst (λ (k : ℕ). IsTrue (is_policy (promote_number promote) k)) (sym second) (lawful_policy promote split))
