@@ -1,4 +1,4 @@
-ghost use Rattle.std.specs.Prelude.{◌≡◌, ◌⊎◌, ◌++◌, ◌≤◌, codes, decimal, OnOk, IfOk};
+ghost use Rattle.std.specs.Prelude.{◌≡◌, ◌≢◌, ◌⊎◌, ◌++◌, ◌≤◌, codes, decimal, OnOk, IfOk};
 ghost use Rattle.std.specs.Io.KnownBytes.{Appends};
 ghost use Rattle.outside_io.specs.Bytes.{AppendsPrefix};
 ghost use Rattle.outside_io.specs.Causes.{Rose};
@@ -24,11 +24,12 @@ pub fn end_with<K: Sink>(out: &mut K, line: &[u8], status: u8) -> Status
 
 /// Puts lines, and ends with this status, or with status 4 where they can't be written.
 pub fn put_line<K: Sink>(out: &mut K, line: &[u8], status: u8) -> Status
+    requires { status ≢ 4 }
     ensures statuses { (result.0 ≡ status) ⊎ (result.0 ≡ 4) }
-    ensures done { result.0 ≡ 4 ⊎ Appends (K.written out.old) (K.written out.new) line.now }
-    ensures part { AppendsPrefix (K.written out.old) (K.written out.new) line.now }
+    ensures done { result.0 ≡ status → Appends (K.written out.old) (K.written out.new) line.now }
+    ensures part { result.0 ≡ 4 → AppendsPrefix (K.written out.old) (K.written out.new) line.now }
     ensures later { K.faults out.old ≤ K.faults out.new }
-    ensures rose { result.0 ≡ 4 → (status ≡ 4) ⊎ Rose (K.faults out.old) (K.faults out.new) }
+    ensures rose { result.0 ≡ 4 → Rose (K.faults out.old) (K.faults out.new) }
 {
     match out.put(line) {
         Ok(()) => Status(status),

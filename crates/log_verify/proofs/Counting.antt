@@ -1,10 +1,9 @@
 -- What a node's marks and a log's records cost, counted up.
-use Rattle.std.proofs.Common.{◌≡◌, ℕ, zero, suc, ◌+◌, ◌<◌, ◌≤◌, List, [], ◌∷◌, ◌++◌, length, get_or, take, refl, sym, ap, ◌∙◌, arith}
+use Rattle.std.proofs.Common.{◌≡◌, ℕ, zero, suc, ◌+◌, ◌<◌, ◌≤◌, List, [], ◌∷◌, length, get_or, take, sym, ap, ◌∙◌, arith}
 use Rattle.metric_laws.specs.Counts.{next_count}
 use Rattle.log_model.specs.declared.marks.Mark.{Mark}
 use Rattle.log_model.specs.declared.marks.Mark.TheVariants.{Skip, Far, Near}
-use Rattle.log_model.specs.declared.marks.Record.{Record}
-use Rattle.log_model.specs.Counts.{count_up, measured_by, measured}
+use Rattle.log_model.specs.Counts.{count_up, measured_by}
 use Rattle.log_verify.specs.Causes.{CountsUpTo}
 
 -- a count that rises so often, and so often again

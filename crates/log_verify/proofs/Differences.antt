@@ -1,8 +1,6 @@
 -- Where two lists of answers differ.
-use Rattle.std.proofs.Common.{◌≡◌, ℕ, zero, suc, ◌+◌, ◌<◌, ◌≤◌, Bool, true, false, List, [], ◌∷◌, refl, arith, length, drop, get_or, Option, Some}
-use Rattle.std.specs.Prelude.{◌==◌, ◌&&◌}
+use Rattle.std.proofs.Common.{◌≡◌, ℕ, zero, suc, ◌<◌, ◌≤◌, List, [], ◌∷◌, refl, arith, length, drop, Some}
 use Rattle.scan_model.specs.declared.hit.Hit.{Hit}
-use Rattle.log_verify.specs.declared.faults.Verdict.{Verdict}
 use Rattle.log_verify.specs.declared.faults.Verdict.TheVariants.{WrongAnswer}
 use Rattle.log_verify.specs.Judged.{first_difference}
 

@@ -4,3 +4,8 @@ pub mod Counting
 pub mod OneMark
 pub mod Ways
 pub mod Verdicts
+pub mod JoinSoundness
+pub mod JoinMarks
+pub mod JoinWays
+pub mod JoinDifferences
+pub mod JoinVerdicts

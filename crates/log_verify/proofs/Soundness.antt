@@ -1,5 +1,5 @@
 -- A log has no fault exactly where it is sound.
-use Rattle.std.proofs.Common.{◌≡◌, ℕ, zero, suc, ◌+◌, ◌<◌, ◌≤◌, ◌⊎◌, Bool, true, false, cond, List, [], ◌∷◌, ◌++◌, refl, sym, ap, inl, inr, arith, ◌∙◌, length, Option, Some, None, Result, Ok, Err, append_assoc, subst}
+use Rattle.std.proofs.Common.{◌≡◌, ℕ, suc, ◌+◌, Bool, true, false, List, [], ◌∷◌, ◌++◌, refl, sym, ap, arith, ◌∙◌, length, Option, Some, None, Result, Ok, Err, append_assoc, subst}
 use Rattle.std.specs.Prelude.{IsTrue, if◌then◌else◌, ◌==◌, ◌&&◌}
 use Rattle.std.specs.List.{AllZip}
 use Rattle.std.proofs.lemmas.List.{append-nil}
@@ -19,7 +19,7 @@ use Rattle.log_model.specs.Sound.{search_for, selected, IsSoundLog}
 use Rattle.page_store.specs.declared.pages.PageFault.{PageFault}
 use Rattle.page_store.specs.Reading.{Read, nodes_of, node_or_none}
 use Rattle.log_verify.specs.declared.faults.Verdict.{Verdict}
-use Rattle.log_verify.specs.declared.faults.Verdict.TheVariants.{WrongMark, WrongCount, WrongAnswer, WrongPage, Point, OtherState}
+use Rattle.log_verify.specs.declared.faults.Verdict.TheVariants.{WrongCount, WrongAnswer, WrongPage, Point, OtherState}
 use Rattle.log_verify.specs.Judged.{first_wrong, first_wrong_in, entry_count, after_marks, after_page, walked, first_difference, after_walk, walk_of, log_fault}
 
 -- no mark is refused, and there is one for each entry
@@ -151,7 +151,7 @@ pub no_difference : (i : ℕ) (xs : List Hit) → first_difference i xs xs ≡ N
 no_difference i [] = refl
 no_difference i (x ∷ xs) = rw (hit_itself x) (no_difference (i + 1) xs)
 
-same_both : (a b c d : ℕ) → ((a == b) && (c == d)) ≡ true → (a ≡ b) × (c ≡ d)
+pub same_both : (a b c d : ℕ) → ((a == b) && (c == d)) ≡ true → (a ≡ b) × (c ≡ d)
 same_both a b c d is = (let e : a ≡ b = grind (arith, nat_tests) in e, let e : c ≡ d = grind (arith, nat_tests) in e)
 
 pub both_same : (a b c d : ℕ) → a ≡ b → c ≡ d → ((a == b) && (c == d)) ≡ true

@@ -1,5 +1,5 @@
 -- Verdicts and their causes.
-use Rattle.std.proofs.Common.{◌≡◌, ℕ, ◌+◌, Bool, true, false, List, [], ◌∷◌, Option, Some, None, Result, Ok, Err, sym, ap, ◌∙◌}
+use Rattle.std.proofs.Common.{◌≡◌, ℕ, ◌+◌, Bool, true, false, List, [], ◌∷◌, Option, Some, None, Ok, Err, sym, ap, ◌∙◌}
 use Rattle.std.specs.Prelude.{IsTrue, if◌then◌else◌, ◌==◌, ◌&&◌}
 use Rattle.metric_laws.specs.Space.{Space}
 use Rattle.scan_model.specs.declared.hit.Hit.{Hit}
@@ -15,7 +15,7 @@ use Rattle.log_model.specs.Sound.{search_for, selected, IsSoundLog}
 use Rattle.log_verify.specs.declared.faults.Verdict.{Verdict}
 use Rattle.log_verify.specs.declared.faults.Verdict.TheVariants.{OtherState, Point, Page, WrongPage, WrongCount, WrongMark, WrongAnswer, LeftOver, Memory}
 use Rattle.log_verify.specs.Judged.{walked, first_difference, walk_of, log_fault}
-use Rattle.log_verify.specs.Causes.{HasRefusal, HasCause, IsPassing}
+use Rattle.log_verify.specs.Causes.{HasCause, IsPassing}
 use Rattle.log_verify.proofs.Soundness.{both_same, walked_from_follows, none_from_sound}
 
 -- a difference is a wrong answer

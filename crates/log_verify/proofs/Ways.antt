@@ -1,5 +1,5 @@
 -- From one record to the next: what the walk is, why it stops, and what it costs.
-use Rattle.std.proofs.Common.{◌≡◌, ℕ, zero, suc, ◌+◌, ◌<◌, ◌≤◌, List, [], ◌∷◌, ◌++◌, length, drop, take, get_or, Ok, Err, Result, refl, sym, ap, subst, ◌∙◌, arith, add-one, drop-cons}
+use Rattle.std.proofs.Common.{◌≡◌, ℕ, zero, suc, ◌+◌, ◌<◌, ◌≤◌, List, [], ◌∷◌, length, drop, take, get_or, Ok, Err, Result, refl, sym, ap, subst, ◌∙◌, arith, drop-cons}
 use Rattle.std.specs.Prelude.{IsTrue}
 use Rattle.metric_laws.specs.Counts.{next_count}
 use Rattle.scan_model.specs.declared.hit.Hit.{Hit}
@@ -7,7 +7,6 @@ use Rattle.page_store.specs.declared.pages.PageFault.{PageFault}
 use Rattle.page_store.specs.declared.pages.PageFault.TheVariants as pages
 use Rattle.page_store.specs.Reading.{Read, IsWithin, is_within}
 use Rattle.page_store.specs.Shelf.{Shelf, HoldsSame}
-use Rattle.log_model.specs.declared.marks.Mark.{Mark}
 use Rattle.log_model.specs.declared.marks.Record.{Record}
 use Rattle.log_model.specs.declared.marks.Need.{Need}
 use Rattle.log_model.specs.Counts.{count_up, measured_by, measured}
@@ -32,7 +31,7 @@ holds_none old = record { dim = refl; pages = refl; tells = refl; read = refl; f
 
 -- ---- causes
 
-refusal_kept : (old mid new : Shelf) (fault : PageFault) (F G : Type 0) → HoldsSame old mid → (IsTrue old.tells → F → G) → HasRefusal mid new fault F → HasRefusal old new fault G
+pub refusal_kept : (old mid new : Shelf) (fault : PageFault) (F G : Type 0) → HoldsSame old mid → (IsTrue old.tells → F → G) → HasRefusal mid new fault F → HasRefusal old new fault G
 refusal_kept old mid new pages.Disk F G same implies rose = omega (arith, same.faults, rose)
 refusal_kept old mid new (pages.Bad page fault) F G same implies cause =
     (cause.0, subst (λ (n : ℕ). IsWithin n page) same.pages cause.1, λ tells. implies tells (cause.2 (same.tells ∙ tells)))

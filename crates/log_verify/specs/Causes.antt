@@ -1,5 +1,5 @@
 -- Why a verdict is given, and what it cost.
-use Rattle.std.specs.Prelude.{◌≡◌, ◌≢◌, ℕ, ◌≤◌, false, IsTrue, Err}
+use Rattle.std.specs.Prelude.{◌≡◌, ◌≢◌, ℕ, ◌≤◌, Bool, true, false, IsTrue, Err}
 use Rattle.outside_io.specs.Causes.{Rose}
 use Rattle.node_page.specs.declared.node.NodeFault.TheVariants.{Memory as NodeMemory}
 use Rattle.page_store.specs.declared.pages.PageFault.{PageFault}
@@ -7,6 +7,10 @@ use Rattle.page_store.specs.declared.pages.PageFault.TheVariants as pages
 use Rattle.page_store.specs.Reading.{IsWithin, is_within}
 use Rattle.page_store.specs.Shelf.{Shelf}
 use Rattle.log_model.specs.Counts.{count_up}
+use Rattle.log_model.specs.declared.pairs.JoinNeed.{JoinNeed}
+use Rattle.log_model.specs.JoinWalk.{opens_right, opened, page_of}
+use Rattle.log_verify.specs.declared.faults.JoinVerdict.{JoinVerdict}
+use Rattle.log_verify.specs.declared.faults.JoinVerdict.TheVariants as join
 use Rattle.log_verify.specs.declared.faults.Verdict.{Verdict}
 use Rattle.log_verify.specs.declared.faults.Verdict.TheVariants.{Page, Memory}
 
@@ -31,6 +35,36 @@ abbrev pub IsPageVerdict : Shelf → Shelf → ℕ → Verdict → Type 0
 IsPageVerdict old new page Memory = Unit {0}
 IsPageVerdict old new page (Page fault) = HasRefusal old new fault (old.read page ≡ Err fault)
 IsPageVerdict old new page _ = ⊥
+
+-- why a page is refused, or memory ran out
+abbrev pub IsNodeFault : Shelf → Shelf → ℕ → PageFault → Type 0
+IsNodeFault old new page pages.Memory = Unit {0}
+IsNodeFault old new page fault = HasRefusal old new fault (old.read page ≡ Err fault)
+
+-- the verdict on a page of a side
+abbrev pub verdict_of : Bool → PageFault → JoinVerdict
+verdict_of right pages.Memory = join.Memory
+verdict_of right fault = join.Page right fault
+
+-- why a page of the opened item's side is refused
+abbrev pub IsJoinPageVerdict : Shelf → Shelf → Shelf → Shelf → JoinNeed → JoinVerdict → Type 0
+IsJoinPageVerdict left left2 right right2 n join.Memory = Unit {0}
+IsJoinPageVerdict left left2 right right2 n (join.Page false fault) = (opens_right n ≡ false) × HasRefusal left left2 fault (left.read (page_of (opened n)) ≡ Err fault)
+IsJoinPageVerdict left left2 right right2 n (join.Page true fault) = (opens_right n ≡ true) × HasRefusal right right2 fault (right.read (page_of (opened n)) ≡ Err fault)
+IsJoinPageVerdict left left2 right right2 n _ = ⊥
+
+-- why a verdict on a join's log is given, where Fault says that it is the log's first fault
+abbrev pub HasJoinCause : Shelf → Shelf → Shelf → Shelf → JoinVerdict → Type 0 → Type 0
+HasJoinCause left left2 right right2 join.Memory Fault = Unit {0}
+HasJoinCause left left2 right right2 (join.Page false fault) Fault = HasRefusal left left2 fault (IsTrue right.tells → Fault)
+HasJoinCause left left2 right right2 (join.Page true fault) Fault = HasRefusal right right2 fault (IsTrue left.tells → Fault)
+HasJoinCause left left2 right right2 _ Fault = IsTrue left.tells → IsTrue right.tells → Fault
+
+-- what may come at any time of a join's log
+abbrev pub IsJoinPassing : JoinVerdict → Type 0
+IsJoinPassing join.Memory = Unit {0}
+IsJoinPassing (join.Page right pages.Disk) = Unit {0}
+IsJoinPassing _ = ⊥
 
 -- what may come at any time: the disk failed, or memory ran out
 abbrev pub IsPassing : Verdict → Type 0

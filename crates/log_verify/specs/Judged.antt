@@ -1,5 +1,5 @@
 -- The first fault of a log, in the verifier's order.
-use Rattle.std.specs.Prelude.{◌≡◌, ℕ, ◌+◌, Bool, List, [], ◌∷◌, ◌++◌, length, Option, Some, None, Result, Ok, Err, if◌then◌else◌, ◌==◌, ◌&&◌}
+use Rattle.std.specs.Prelude.{ℕ, ◌+◌, Bool, List, [], ◌∷◌, ◌++◌, length, Option, Some, None, Result, Ok, Err, if◌then◌else◌, ◌==◌, ◌&&◌}
 use Rattle.metric_laws.specs.Space.{Space}
 use Rattle.scan_model.specs.declared.hit.Hit.{Hit}
 use Rattle.tree_shape.specs.declared.live.Live.{Live}
@@ -15,7 +15,7 @@ use Rattle.log_model.specs.Grammar.{query_point}
 use Rattle.log_model.specs.Walk.{Search, allows_object, allows_subtree, needs_of, hits_of, root_need}
 use Rattle.log_model.specs.Sound.{search_for, selected}
 use Rattle.log_verify.specs.declared.faults.Verdict.{Verdict}
-use Rattle.log_verify.specs.declared.faults.Verdict.TheVariants.{OtherState, Point, Page, WrongPage, WrongCount, WrongMark, WrongAnswer, LeftOver, Memory}
+use Rattle.log_verify.specs.declared.faults.Verdict.TheVariants.{OtherState, Point, Page, WrongPage, WrongCount, WrongMark, WrongAnswer, LeftOver}
 
 -- the first entry whose mark is not allowed
 abbrev pub first_wrong : {X : Type 0} → (X → Mark → Bool) → List X → List Mark → ℕ → Option ℕ

@@ -3,12 +3,17 @@
 
 mod checking;
 mod faults;
+mod join_checking;
+mod join_verifying;
+mod join_walking;
 mod judging;
 pub mod laws;
+mod pairing;
 mod verifying;
 mod walking;
 
-pub use faults::{Accepted, Verdict};
+pub use faults::{Accepted, JoinVerdict, Verdict};
+pub use join_verifying::verify_join;
 pub use verifying::verify;
 
 #[cfg(test)]

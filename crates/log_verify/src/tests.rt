@@ -1,11 +1,11 @@
 ghost use Rattle.std.specs.Prelude.{IfOk};
-ghost use Rattle.log_model.specs.Grammar.{IsLawfulLog};
+ghost use Rattle.log_model.specs.Grammar.{IsLawfulLog, IsLawfulJoinLog};
 
-use crate::{Accepted, Verdict, verify};
-use log_model::{Log, Mark, Record};
+use crate::{Accepted, JoinVerdict, Verdict, verify, verify_join};
+use log_model::{JoinLog, JoinRecord, Log, Mark, Record};
 use metric_laws::{Listed, Memory, Meter, Point};
 use page_store::{ImagePages, PageFault};
-use scan_model::{Hit, Query};
+use scan_model::{Hit, Pair, Query};
 use std::alloc::Global;
 use std::test::Fail;
 use tree_shape::Live;
@@ -106,5 +106,59 @@ fn a_page_that_holds_no_node_is_named(rt: HostRuntime) -> Result<(), Fail> {
     let verdict = verify(rt.alloc(), &mut pages, &mut ruler, &LIVE, &sound);
     let fault = PageFault::Bad(4, node_page::NodeFault::Kind);
     assert_eq!(rt; verdict, Err(Verdict::Page(fault)));
+    Ok(())
+}
+
+// The log of the join of the small index with itself within 0: the left root is opened first, and then the right root
+// against the object.
+fn join_log(alloc: Global, right: (u64, u32), mark: Mark) -> Result<JoinLog, Memory>
+    ensures { IfOk result IsLawfulJoinLog }
+{
+    let answer = Pair {
+        left: 0,
+        right: 0,
+        dist: 0,
+    };
+    let first = JoinRecord {
+        right: false,
+        page: 4,
+        marks: Listed::new(vec![in alloc; Mark::Near]?),
+    };
+    let second = JoinRecord {
+        right: true,
+        page: 4,
+        marks: Listed::new(vec![in alloc; mark]?),
+    };
+    Ok(JoinLog {
+        left: (2, 4),
+        right,
+        r: 0,
+        answers: Listed::new(vec![in alloc; answer]?),
+        records: Listed::new(vec![in alloc; first, second]?),
+    })
+}
+
+#[test]
+fn a_join_with_itself(rt: HostRuntime) -> Result<(), Fail> {
+    let bytes = file(rt.alloc(), &root_page(0))?;
+    let mut left = ImagePages::new(bytes.as_slice(), 2, 5);
+    let mut right = ImagePages::new(bytes.as_slice(), 2, 5);
+    let mut ruler = Meter::new(L1::new(2));
+    let other = JoinVerdict::OtherState {
+        right: true,
+        named: (3, 4),
+        live: (2, 4),
+    };
+    let cases = [
+        ((2, 4), Mark::Near, Ok(Accepted { records: 2 })),
+        ((2, 4), Mark::Far, Err(JoinVerdict::WrongMark(1, 0))),
+        ((3, 4), Mark::Near, Err(other)),
+    ];
+    for (state, mark, verdict) in &cases {
+        let log = join_log(rt.alloc(), *state, *mark)?;
+        let alloc = rt.alloc();
+        let found = verify_join(alloc, &mut left, &mut right, &mut ruler, &LIVE, &LIVE, &log);
+        assert_eq!(rt; found, *verdict);
+    }
     Ok(())
 }

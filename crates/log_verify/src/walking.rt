@@ -54,7 +54,7 @@ impl Walk {
 }
 
 // Puts the needs on the stack, so that the first of them is on top.
-fn put_on_top(stack: &mut Vec<Need>, needs: &mut Vec<Need>) -> Result<(), Memory>
+pub fn put_on_top<T: Drop>(stack: &mut Vec<T>, needs: &mut Vec<T>) -> Result<(), Memory>
     ensures { OnOk result (reverse stack.new.items ≡ needs.old.items ++ reverse stack.old.items) }
 {
     while let Some(need) = needs.pop() {
@@ -64,7 +64,7 @@ fn put_on_top(stack: &mut Vec<Need>, needs: &mut Vec<Need>) -> Result<(), Memory
 }
 
 // The number of entries of a node.
-fn entry_count(node: &Node) -> usize
+pub fn entry_count(node: &Node) -> usize
     ensures { result ≡ entry_count node.now }
 {
     match node {

@@ -61,7 +61,6 @@ impl<M: Metric> Ruler for Meter<M> {
 
     ghost used = { λ m. m.used };
 
-
     fn fits(&self, p: &[u32]) -> bool {
         self.metric.fits(p)
     }

@@ -41,13 +41,18 @@ unfolding firsts
 no_firsts f = refl
 
 pub zeros_are_leaf : (dim : ℕ) (page : List ℕ) → ((k : ℕ) → slice_index page k ≡ 0) → SpellsNode dim page (Leaf [])
-zeros_are_leaf dim page zeros = (zeros 0, record {
-  told = count_zero page zeros;
-  at_most = omega arith;
-  first = λ k from to. zeros k;
-  between = λ k from to. zeros k;
-  behind = λ k from to. zeros k;
-}, no_firsts _, tt)
+zeros_are_leaf dim page zeros = (
+  zeros 0,
+  record {
+    told = count_zero page zeros;
+    at_most = omega arith;
+    first = λ k from to. zeros k;
+    between = λ k from to. zeros k;
+    behind = λ k from to. zeros k;
+  },
+  no_firsts _,
+  tt,
+)
 
 within_three : is_within 4 3 ≡ true
 unfolding is_within
@@ -56,8 +61,8 @@ within_three = refl
 pub leaf_read : (dim : ℕ) (file : List ℕ) → SpellsNode dim (page_of file 3) (Leaf []) → nodes_of (reading dim 4 file) 3 ≡ Some (Leaf [])
 leaf_read dim file spells =
     let read : reading dim 4 file 3 ≡ Ok (Leaf []) =
-        reads_page Second dim 4 file 3 within_three ∙ ap (λ (o : Option NodeFault). judged 3 o (node_of dim (page_of file 3))) (none_by_spells Second dim (page_of file 3) (Leaf []) spells)
-        ∙ ap (λ (n : Node). Ok n) (node_is Second dim (page_of file 3) (Leaf []) spells) in
+    reads_page Second dim 4 file 3 within_three ∙ ap (λ (o : Option NodeFault). judged 3 o (node_of dim (page_of file 3))) (none_by_spells Second dim (page_of file 3) (Leaf []) spells)
+    ∙ ap (λ (n : Node). Ok n) (node_is Second dim (page_of file 3) (Leaf []) spells) in
     rw read refl
 
 no_times : (id : ℕ) → ◌≡◌ {A = ℕ} 0 (if nat_lt id 0 then 1 else 0)

@@ -11,6 +11,5 @@ pub use faults::{CreateFault, OpenFault};
 pub use making::create;
 pub use opening::{LAST_GENERATION, MOST_PAGES, open};
 
-
 #[cfg(test)]
 mod tests;

@@ -109,7 +109,10 @@ fn a_new_file_opens(rt: HostRuntime) -> Result<(), Fail> {
 #[test]
 fn a_file_with_a_fault_does_not_open(rt: HostRuntime) -> Result<(), Fail> {
     let alloc = rt.alloc();
-    assert_eq!(rt; fault_with(alloc, 9, 3)?, Some(OpenFault::Head(HeadFault::Version)));
+    assert_eq!(rt;
+        fault_with(alloc, 9, 3)?,
+        Some(OpenFault::Head(HeadFault::Version))
+    );
     assert_eq!(rt; fault_with(alloc, 4096, 0)?, Some(OpenFault::Unfinished));
     assert_eq!(rt; fault_with(alloc, 4096 + 19, 5)?, Some(OpenFault::Slot));
     assert_eq!(rt; fault_with(alloc, 8192, 0xa5)?, None);
@@ -136,7 +139,10 @@ fn check_stop<R: AllocGlobal + Abort>(rt: &R, stop: u64) -> Result<(), Fail> {
     assert_eq!(rt; done, stop > 14);
     for moment in 8..=disk.moments() {
         for pick in [0, 1, 165, 255] {
-            assert_eq!(rt; opens_to_either(alloc, disk.image(alloc, moment, pick)?)?, true);
+            assert_eq!(rt;
+                opens_to_either(alloc, disk.image(alloc, moment, pick)?)?,
+                true
+            );
         }
     }
     Ok(())

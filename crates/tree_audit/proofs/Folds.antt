@@ -29,9 +29,10 @@ pub once_front : (xs ys : List ℕ) → Once (xs ++ ys) → Once xs
 once_front xs ys once k = let a = times-append k xs ys in let h = once k in omega arith
 
 pub once_seen_front : (seen : Seen) (ps qs is js : List ℕ) → OnceSeen (grown seen (ps ++ qs) (is ++ js)) → OnceSeen (grown seen ps is)
-once_seen_front seen ps qs is js once =
-    (once_front (seen.pages ++ ps) qs (subst Once (sym (append_assoc seen.pages ps qs)) once.0),
-     once_front (seen.ids ++ is) js (subst Once (sym (append_assoc seen.ids is js)) once.1))
+once_seen_front seen ps qs is js once = (
+  once_front (seen.pages ++ ps) qs (subst Once (sym (append_assoc seen.pages ps qs)) once.0),
+  once_front (seen.ids ++ is) js (subst Once (sym (append_assoc seen.ids is js)) once.1),
+)
 
 -- a check that passes: what it says of the entry, and what it adds
 abbrev pub Passed : Type 0 → Seen → List ℕ → List ℕ → Seen → Type 0

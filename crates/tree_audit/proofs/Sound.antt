@@ -33,10 +33,11 @@ pages_within : (s : Space) (read : Read) (t : Live) → HasNodesWithin read t.pa
     → AllByRecursion (IsNodePage t) (pages_at (nodes_of read) h page)
 pages_within s read t within zero least above page sound = (within page (Leaf sound.0) (ok_from_some (read page) (Leaf sound.0) sound.1), tt)
 pages_within s read t within (suc h) least above page sound =
-    let es : List InnerEntry = sound.0 in
-    (within page (Inner (suc h) es) (ok_from_some (read page) (Inner (suc h) es) sound.1),
-     rw sound.1 (all_flat_map (IsNodePage t) (λ e. pages_at (nodes_of read) h e.child) es
-        (all_weaker _ _ es (λ e k. pages_within s read t within h (least_for s.words) (Some e.point) e.child k.1) sound.3)))
+    let es : List InnerEntry = sound.0 in (
+      within page (Inner (suc h) es) (ok_from_some (read page) (Inner (suc h) es) sound.1),
+      rw sound.1 (all_flat_map (IsNodePage t) (λ e. pages_at (nodes_of read) h e.child) es
+          (all_weaker _ _ es (λ e k. pages_within s read t within h (least_for s.words) (Some e.point) e.child k.1) sound.3)),
+    )
 
 -- the point lies in the spheres of the steps
 abbrev pub Inside : Space → List Step → List ℕ → Type 0
@@ -112,20 +113,25 @@ object_passes s count above path page i o seen after once is =
     let d = if_true (nat_lt o.id count && (times o.id seen.ids == 0)) _ _ after c.1 in
     let e = both_true (nat_lt o.id count) (times o.id seen.ids == 0) d.0 in
     let new = same_number (times o.id seen.ids) 0 e.1 in
-    let made : after ≡ record { pages = seen.pages; ids = seen.ids ++ o.id ∷ [] } = cc d.1 in
-    (record { sound = record { point_fits = a.0; parent_is = same_number o.parent (parent_distance s above o.point) b.0 };
-              inside = inside_from_none s path o.point c.0; id_below = below_true o.id count e.0 },
-     made ∙ (λ i. record { pages = sym (append-nil seen.pages) i; ids = seen.ids ++ o.id ∷ [] }),
-     subst OnceSeen (sym made) (once.0, once_push seen.ids o.id once.1 new))
+    let made : after ≡ record { pages = seen.pages; ids = seen.ids ++ o.id ∷ [] } = cc d.1 in (
+      record {
+        sound = record { point_fits = a.0; parent_is = same_number o.parent (parent_distance s above o.point) b.0 };
+        inside = inside_from_none s path o.point c.0;
+        id_below = below_true o.id count e.0;
+      },
+      made ∙ (λ i. record { pages = sym (append-nil seen.pages) i; ids = seen.ids ++ o.id ∷ [] }),
+      subst OnceSeen (sym made) (once.0, once_push seen.ids o.id once.1 new),
+    )
 
 pub passes_object : (s : Space) (count : ℕ) (above : Option (List ℕ)) (path : List Step) (page i : ℕ) (o : LeafEntry) (seen : Seen) → FineObject s count above path o →
     OnceSeen (grown seen [] (o.id ∷ [])) → check_object s count above path page i o seen ≡ Ok (grown seen [] (o.id ∷ []))
 passes_object s count above path page i o seen fine once =
     rw (fine.sound.point_fits, parent, none_from_inside s path o.point fine.inside, true_below o.id count fine.id_below, new)
-       (ap Ok (λ i. record { pages = sym (append-nil seen.pages) i; ids = seen.ids ++ o.id ∷ [] }))
+    (ap Ok (λ i. record { pages = sym (append-nil seen.pages) i; ids = seen.ids ++ o.id ∷ [] }))
   where
     parent : (o.parent == parent_distance s above o.point) ≡ true
     parent = rw fine.sound.parent_is (number_itself (parent_distance s above o.point))
+
     new : (times o.id seen.ids == 0) ≡ true
     new = rw (push_once seen.ids o.id once.1) refl
 
@@ -218,16 +224,20 @@ module _ (s : Space) (read : Read) (count : ℕ) where
       FineAt h (least_for s.words) (path ++ step page i e ∷ []) e.child → FineEntry h path e
   fine_entry h path page i e fits parent fine =
       let split = all_weaker _ (λ o. (Inside s path o.point × (s.dist o.point e.point ≤ e.radius)) × (o.id < count)) (objects_at (nodes_of read) h e.child)
-              (λ o k. (inside_front s path (step page i e) o.point k.0, k.1)) fine.1 in
-      ((record { point_fits = fits; parent_is = parent; covers = all_weaker _ (λ o. s.dist o.point e.point ≤ e.radius) (objects_at (nodes_of read) h e.child) (λ o k. k.0.1) split },
-        subst (λ (a : Option (List ℕ)). IsSoundAt s (nodes_of read) h (least_for s.words) a e.child) (last_point-push path (step page i e)) fine.0),
-       all_weaker _ (λ o. Inside s path o.point × (o.id < count)) (objects_at (nodes_of read) h e.child) (λ o k. (k.0.0, k.1)) split)
+      (λ o k. (inside_front s path (step page i e) o.point k.0, k.1)) fine.1 in (
+        (
+          record { point_fits = fits; parent_is = parent; covers = all_weaker _ (λ o. s.dist o.point e.point ≤ e.radius) (objects_at (nodes_of read) h e.child) (λ o k. k.0.1) split },
+          subst (λ (a : Option (List ℕ)). IsSoundAt s (nodes_of read) h (least_for s.words) a e.child) (last_point-push path (step page i e)) fine.0,
+        ),
+        all_weaker _ (λ o. Inside s path o.point × (o.id < count)) (objects_at (nodes_of read) h e.child) (λ o k. (k.0.0, k.1)) split,
+      )
 
   pub entry_fine : (h : ℕ) (path : List Step) (page i : ℕ) (e : InnerEntry) → FineEntry h path e → FineAt h (least_for s.words) (path ++ step page i e ∷ []) e.child
-  entry_fine h path page i e fine =
-      (subst (λ (a : Option (List ℕ)). IsSoundAt s (nodes_of read) h (least_for s.words) a e.child) (sym (last_point-push path (step page i e))) fine.0.1,
-       all_weaker _ _ (objects_at (nodes_of read) h e.child) (λ o k. (inside_push s path (step page i e) o.point k.0.0 k.1, k.0.1))
-           (all_both _ _ (objects_at (nodes_of read) h e.child) fine.1 fine.0.0.covers))
+  entry_fine h path page i e fine = (
+    subst (λ (a : Option (List ℕ)). IsSoundAt s (nodes_of read) h (least_for s.words) a e.child) (sym (last_point-push path (step page i e))) fine.0.1,
+    all_weaker _ _ (objects_at (nodes_of read) h e.child) (λ o k. (inside_push s path (step page i e) o.point k.0.0 k.1, k.0.1))
+        (all_both _ _ (objects_at (nodes_of read) h e.child) fine.1 fine.0.0.covers),
+  )
 
   pub leaf_ok : (least page : ℕ) (node : Node) (rest : List LeafEntry → Result Seen AuditFault) (after : Seen) → leaf_node s least page node rest ≡ Ok after →
       (es : List LeafEntry) × (node ≡ Leaf es) × IsFilled s.words least (length es) × (rest es ≡ Ok after)
@@ -257,33 +267,41 @@ module _ (s : Space) (read : Read) (count : ℕ) where
       let es : List LeafEntry = n.0 in
       let there : nodes_of read page ≡ Some (Leaf es) = ap node_or_none a.1.1 ∙ ap Some n.1 in
       let each = each_passes (check_object s count (last_point path) path page) (FineObject s count (last_point path) path) (λ o. []) (λ o. o.id ∷ [])
-              (λ i o before then'. object_passes s count (last_point path) path page i o before then') 0 es (arrived seen page) after (once_arrived seen page once a.0) n.3 in
+      (λ i o before then'. object_passes s count (last_point path) path page i o before then') 0 es (arrived seen page) after (once_arrived seen page once a.0) n.3 in
       let made : after ≡ grown seen (page ∷ []) (ids_of es) =
-              each.1 ∙ ap (λ ps. grown (arrived seen page) ps (flat_map (λ o. o.id ∷ []) es)) (flat_map_none es)
-              ∙ ap (λ js. grown (arrived seen page) [] js) (ids_single es) ∙ grown-arrived seen page [] (ids_of es) in
-      (((es, there, n.2, all_weaker _ (IsSoundObject s (last_point path)) es (λ o k. k.sound) each.0),
-        rw there (all_weaker _ (λ o. Inside s path o.point × (o.id < count)) es (λ o k. (k.inside, k.id_below)) each.0)),
-       rw there made, each.2)
+      each.1 ∙ ap (λ ps. grown (arrived seen page) ps (flat_map (λ o. o.id ∷ []) es)) (flat_map_none es)
+      ∙ ap (λ js. grown (arrived seen page) [] js) (ids_single es) ∙ grown-arrived seen page [] (ids_of es) in (
+        (
+          (es, there, n.2, all_weaker _ (IsSoundObject s (last_point path)) es (λ o k. k.sound) each.0),
+          rw there (all_weaker _ (λ o. Inside s path o.point × (o.id < count)) es (λ o k. (k.inside, k.id_below)) each.0),
+        ),
+        rw there made,
+        each.2,
+      )
   passes_at (suc h) least path page seen after once is =
       let a = arrival_ok read page seen _ after is in
       let n = inner_ok (suc h) least page a.1.0 _ after a.1.2 in
       let es : List InnerEntry = n.0 in
       let there : nodes_of read page ≡ Some (Inner (suc h) es) = ap node_or_none a.1.1 ∙ ap Some n.1 in
       let each = each_passes (λ i e before. check_entry s (last_point path) page i e
-                  (audited_at s read count h (least_for s.words) (path ++ step page i e ∷ []) e.child before))
-              (FineEntry h path) (λ e. pages_at (nodes_of read) h e.child) (λ e. ids_of (objects_at (nodes_of read) h e.child))
-              (λ i e before then' fresh ok. one i e before then' fresh ok (λ p b t f k. passes_at h (least_for s.words) p e.child b t f k)) 0 es (arrived seen page) after (once_arrived seen page once a.0) n.3 in
+      (audited_at s read count h (least_for s.words) (path ++ step page i e ∷ []) e.child before))
+      (FineEntry h path) (λ e. pages_at (nodes_of read) h e.child) (λ e. ids_of (objects_at (nodes_of read) h e.child))
+      (λ i e before then' fresh ok. one i e before then' fresh ok (λ p b t f k. passes_at h (least_for s.words) p e.child b t f k)) 0 es (arrived seen page) after (once_arrived seen page once a.0) n.3 in
       let made : after ≡ grown seen (page ∷ flat_map (λ e. pages_at (nodes_of read) h e.child) es) (ids_of (flat_map (λ e. objects_at (nodes_of read) h e.child) es)) =
-              each.1 ∙ grown-arrived seen page (flat_map (λ e. pages_at (nodes_of read) h e.child) es) (flat_map (λ e. ids_of (objects_at (nodes_of read) h e.child)) es)
-              ∙ ap (λ js. grown seen (page ∷ flat_map (λ e. pages_at (nodes_of read) h e.child) es) js) (sym (ids-flat_map (λ e. objects_at (nodes_of read) h e.child) es)) in
-      (((es, there, n.2, all_weaker (FineEntry h path) _ es (λ e k. k.0) each.0),
-        rw there (all_flat_map (λ o. Inside s path o.point × (o.id < count)) (λ e. objects_at (nodes_of read) h e.child) es (all_weaker (FineEntry h path) _ es (λ e k. k.1) each.0))),
-       rw there made, each.2)
+      each.1 ∙ grown-arrived seen page (flat_map (λ e. pages_at (nodes_of read) h e.child) es) (flat_map (λ e. ids_of (objects_at (nodes_of read) h e.child)) es)
+      ∙ ap (λ js. grown seen (page ∷ flat_map (λ e. pages_at (nodes_of read) h e.child) es) js) (sym (ids-flat_map (λ e. objects_at (nodes_of read) h e.child) es)) in (
+        (
+          (es, there, n.2, all_weaker (FineEntry h path) _ es (λ e k. k.0) each.0),
+          rw there (all_flat_map (λ o. Inside s path o.point × (o.id < count)) (λ e. objects_at (nodes_of read) h e.child) es (all_weaker (FineEntry h path) _ es (λ e k. k.1) each.0)),
+        ),
+        rw there made,
+        each.2,
+      )
     where
       one : (i : ℕ) (e : InnerEntry) (before then' : Seen) → OnceSeen before →
           check_entry s (last_point path) page i e (audited_at s read count h (least_for s.words) (path ++ step page i e ∷ []) e.child before) ≡ Ok then' →
           ((p : List Step) (b t : Seen) → OnceSeen b → audited_at s read count h (least_for s.words) p e.child b ≡ Ok t →
-              Passed (FineAt h (least_for s.words) p e.child) b (pages_at (nodes_of read) h e.child) (ids_of (objects_at (nodes_of read) h e.child)) t) →
+          Passed (FineAt h (least_for s.words) p e.child) b (pages_at (nodes_of read) h e.child) (ids_of (objects_at (nodes_of read) h e.child)) t) →
           Passed (FineEntry h path e) before (pages_at (nodes_of read) h e.child) (ids_of (objects_at (nodes_of read) h e.child)) then'
       one i e before then' fresh ok deep =
           let a = if_true (s.fits e.point) _ _ then' ok in
@@ -311,34 +329,34 @@ module _ (s : Space) (read : Read) (count : ℕ) where
       let all : AllByRecursion (λ o. Inside s path o.point × (o.id < count)) es = rw there at fine.1 in
       let once2 : OnceSeen (grown seen (page ∷ []) (ids_of es)) = rw there at once in
       let same : grown (arrived seen page) (flat_map {X = LeafEntry} (λ o. []) es) (flat_map (λ o. o.id ∷ []) es) ≡ grown seen (page ∷ []) (ids_of es) =
-              ap (λ ps. grown (arrived seen page) ps (flat_map (λ o. o.id ∷ []) es)) (flat_map_none es)
-              ∙ ap (λ js. grown (arrived seen page) [] js) (ids_single es) ∙ grown-arrived seen page [] (ids_of es) in
+      ap (λ ps. grown (arrived seen page) ps (flat_map (λ o. o.id ∷ []) es)) (flat_map_none es)
+      ∙ ap (λ js. grown (arrived seen page) [] js) (ids_single es) ∙ grown-arrived seen page [] (ids_of es) in
       let each = passes_each (check_object s count (last_point path) path page) (FineObject s count (last_point path) path) (λ o. []) (λ o. o.id ∷ [])
-              (λ i o before good fresh. passes_object s count (last_point path) path page i o before good fresh) 0 es (arrived seen page)
-              (all_weaker _ (FineObject s count (last_point path) path) es (λ o k. record { sound = k.0; inside = k.1.0; id_below = k.1.1 })
-                  (all_both (IsSoundObject s (last_point path)) (λ o. Inside s path o.point × (o.id < count)) es fine.0.3 all))
-              (subst OnceSeen (sym same) once2) in
+      (λ i o before good fresh. passes_object s count (last_point path) path page i o before good fresh) 0 es (arrived seen page)
+      (all_weaker _ (FineObject s count (last_point path) path) es (λ o k. record { sound = k.0; inside = k.1.0; id_below = k.1.1 })
+      (all_both (IsSoundObject s (last_point path)) (λ o. Inside s path o.point × (o.id < count)) es fine.0.3 all))
+      (subst OnceSeen (sym same) once2) in
       rw there (ok_arrival read page seen _ (Leaf es) (new_page seen page [] (ids_of es) once2) (ok_from_some (read page) (Leaf es) there)
-          ∙ ok_leaf least page es (λ x. each_entry (check_object s count (last_point path) path page) 0 x (arrived seen page)) fine.0.2 ∙ each ∙ ap Ok same)
+      ∙ ok_leaf least page es (λ x. each_entry (check_object s count (last_point path) path page) 0 x (arrived seen page)) fine.0.2 ∙ each ∙ ap Ok same)
   at_passes (suc h) least path page seen fine once =
       let es : List InnerEntry = fine.0.0 in
       let there : nodes_of read page ≡ Some (Inner (suc h) es) = fine.0.1 in
       let all : AllByRecursion (λ o. Inside s path o.point × (o.id < count)) (flat_map (λ e. objects_at (nodes_of read) h e.child) es) = rw there at fine.1 in
       let once2 : OnceSeen (grown seen (page ∷ flat_map (λ e. pages_at (nodes_of read) h e.child) es) (ids_of (flat_map (λ e. objects_at (nodes_of read) h e.child) es))) = rw there at once in
       let same : grown (arrived seen page) (flat_map (λ e. pages_at (nodes_of read) h e.child) es) (flat_map (λ e. ids_of (objects_at (nodes_of read) h e.child)) es)
-              ≡ grown seen (page ∷ flat_map (λ e. pages_at (nodes_of read) h e.child) es) (ids_of (flat_map (λ e. objects_at (nodes_of read) h e.child) es)) =
-              grown-arrived seen page (flat_map (λ e. pages_at (nodes_of read) h e.child) es) (flat_map (λ e. ids_of (objects_at (nodes_of read) h e.child)) es)
-              ∙ ap (λ js. grown seen (page ∷ flat_map (λ e. pages_at (nodes_of read) h e.child) es) js) (sym (ids-flat_map (λ e. objects_at (nodes_of read) h e.child) es)) in
+      ≡ grown seen (page ∷ flat_map (λ e. pages_at (nodes_of read) h e.child) es) (ids_of (flat_map (λ e. objects_at (nodes_of read) h e.child) es)) =
+      grown-arrived seen page (flat_map (λ e. pages_at (nodes_of read) h e.child) es) (flat_map (λ e. ids_of (objects_at (nodes_of read) h e.child)) es)
+      ∙ ap (λ js. grown seen (page ∷ flat_map (λ e. pages_at (nodes_of read) h e.child) es) js) (sym (ids-flat_map (λ e. objects_at (nodes_of read) h e.child) es)) in
       let each = passes_each (λ i e before. check_entry s (last_point path) page i e
-                  (audited_at s read count h (least_for s.words) (path ++ step page i e ∷ []) e.child before))
-              (FineEntry h path) (λ e. pages_at (nodes_of read) h e.child) (λ e. ids_of (objects_at (nodes_of read) h e.child))
-              (λ i e before good fresh. one i e before good (at_passes h (least_for s.words) (path ++ step page i e ∷ []) e.child before (entry_fine h path page i e good) fresh))
-              0 es (arrived seen page)
-              (all_both _ _ es fine.0.3 (flat_map_all (λ o. Inside s path o.point × (o.id < count)) (λ e. objects_at (nodes_of read) h e.child) es all))
-              (subst OnceSeen (sym same) once2) in
+      (audited_at s read count h (least_for s.words) (path ++ step page i e ∷ []) e.child before))
+      (FineEntry h path) (λ e. pages_at (nodes_of read) h e.child) (λ e. ids_of (objects_at (nodes_of read) h e.child))
+      (λ i e before good fresh. one i e before good (at_passes h (least_for s.words) (path ++ step page i e ∷ []) e.child before (entry_fine h path page i e good) fresh))
+      0 es (arrived seen page)
+      (all_both _ _ es fine.0.3 (flat_map_all (λ o. Inside s path o.point × (o.id < count)) (λ e. objects_at (nodes_of read) h e.child) es all))
+      (subst OnceSeen (sym same) once2) in
       rw there (ok_arrival read page seen _ (Inner (suc h) es) (new_page seen page (flat_map (λ e. pages_at (nodes_of read) h e.child) es) (ids_of (flat_map (λ e. objects_at (nodes_of read) h e.child) es)) once2)
-              (ok_from_some (read page) (Inner (suc h) es) there)
-          ∙ ok_inner (suc h) least page es (λ x. each_entry (λ i e after. check_entry s (last_point path) page i e (audited_at s read count h (least_for s.words) (path ++ step page i e ∷ []) e.child after)) 0 x (arrived seen page)) fine.0.2 ∙ each ∙ ap Ok same)
+      (ok_from_some (read page) (Inner (suc h) es) there)
+      ∙ ok_inner (suc h) least page es (λ x. each_entry (λ i e after. check_entry s (last_point path) page i e (audited_at s read count h (least_for s.words) (path ++ step page i e ∷ []) e.child after)) 0 x (arrived seen page)) fine.0.2 ∙ each ∙ ap Ok same)
     where
       one : (i : ℕ) (e : InnerEntry) (before : Seen) → FineEntry h path e → {o : Result Seen AuditFault} →
           audited_at s read count h (least_for s.words) (path ++ step page i e ∷ []) e.child before ≡ o →
@@ -373,7 +391,7 @@ pub none_from_sound : (s : Space) (read : Read) (t : Live) → IsSoundTree s (no
 none_from_sound s read t sound =
     let ids = each_once_back t.count (ids_of (objects (nodes_of read) t)) sound.ids in
     let walk = at_passes s read t.count t.height (root_least t.height) [] t.root (record { pages = []; ids = [] })
-            (sound.parts, all_weaker _ _ (objects (nodes_of read) t) (λ o k. (tt, k)) (ids_all t.count (objects (nodes_of read) t) ids.0)) (sound.once, ids.1) in
+    (sound.parts, all_weaker _ _ (objects (nodes_of read) t) (λ o k. (tt, k)) (ids_all t.count (objects (nodes_of read) t) ids.0)) (sound.once, ids.1) in
     let long : (length (ids_of (objects (nodes_of read) t)) == t.count) ≡ true = rw ids.2 (number_itself t.count) in
     rw (walk, long) refl
 

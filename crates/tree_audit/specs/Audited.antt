@@ -58,9 +58,9 @@ abbrev pub check_object : Space → ℕ → Option (List ℕ) → List Step → 
 check_object s count above path page i o seen =
     if s.fits o.point
     then (if o.parent == parent_distance s above o.point
-          then if_inside (first_outside s path o.point) o.id
-              (if nat_lt o.id count && (times o.id seen.ids == 0) then Ok (record { pages = seen.pages; ids = seen.ids ++ o.id ∷ [] }) else Err (Id o.id))
-          else Err (ParentDistance page i))
+    then if_inside (first_outside s path o.point) o.id
+    (if nat_lt o.id count && (times o.id seen.ids == 0) then Ok (record { pages = seen.pages; ids = seen.ids ++ o.id ∷ [] }) else Err (Id o.id))
+    else Err (ParentDistance page i))
     else Err (Unfit page i)
 
 -- an entry of an inner node, before its child
@@ -96,11 +96,11 @@ inner_node s h least page (Inner level es) rest = if (level == h) && is_filled s
 abbrev pub audited_at : Space → Read → ℕ → ℕ → ℕ → List Step → ℕ → Seen → Result Seen AuditFault
 audited_at s read count zero least path page seen =
     on_arrival read page seen (λ node. leaf_node s least page node (λ es.
-        each_entry (check_object s count (last_point path) path page) 0 es (arrived seen page)))
+    each_entry (check_object s count (last_point path) path page) 0 es (arrived seen page)))
 audited_at s read count (suc h) least path page seen =
     on_arrival read page seen (λ node. inner_node s (suc h) least page node (λ es.
-        each_entry (λ i e after. check_entry s (last_point path) page i e
-            (audited_at s read count h (least_for s.words) (path ++ step page i e ∷ []) e.child after)) 0 es (arrived seen page)))
+    each_entry (λ i e after. check_entry s (last_point path) page i e
+    (audited_at s read count h (least_for s.words) (path ++ step page i e ∷ []) e.child after)) 0 es (arrived seen page)))
 
 -- the walk of the whole tree, and the number of its objects
 abbrev pub after_walk : ℕ → Result Seen AuditFault → Option AuditFault

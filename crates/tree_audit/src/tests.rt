@@ -2,8 +2,8 @@ ghost use Rattle.std.specs.Prelude.{◌≡◌, ◌^◌, ◌≤◌, length, IfOk}
 
 use crate::{AuditFault, Audited, audit, laws};
 use metric_laws::Meter;
-use page_store::{ImagePages, PageFault};
 use node_page::NodeFault;
+use page_store::{ImagePages, PageFault};
 use std::alloc::{AllocError, Global};
 use std::process::Abort;
 use std::test::Fail;
@@ -43,7 +43,12 @@ fn audit_of(alloc: Global, bytes: &[u8], live: &Live) -> Result<Audited, AuditFa
 }
 
 // The audit of the small index with one byte of its page changed.
-fn check_changed<R: AllocGlobal + Abort>(rt: &R, at: usize, byte: u8, fault: AuditFault) -> Result<(), Fail>
+fn check_changed<R: AllocGlobal + Abort>(
+    rt: &R,
+    at: usize,
+    byte: u8,
+    fault: AuditFault,
+) -> Result<(), Fail>
     requires { at ≤ 4095 }
 {
     let bytes = file_with(rt.alloc(), at, byte)?;
@@ -55,16 +60,42 @@ fn check_changed<R: AllocGlobal + Abort>(rt: &R, at: usize, byte: u8, fault: Aud
 fn a_sound_index(rt: HostRuntime) -> Result<(), Fail> {
     laws::audit_faults_are_unsoundness();
     let bytes = file_with(rt.alloc(), 3, 1)?;
-    assert_eq!(rt; audit_of(rt.alloc(), &bytes, &LIVE), Ok(Audited { objects: 1, nodes: 1 }));
+    assert_eq!(rt;
+        audit_of(rt.alloc(), &bytes, &LIVE),
+        Ok(Audited {
+            objects: 1,
+            nodes: 1
+        })
+    );
     Ok(())
 }
 
 #[test]
 fn faults_of_a_page(rt: HostRuntime) -> Result<(), Fail> {
-    check_changed(&rt, 0, 15, AuditFault::Page(PageFault::Bad(4, NodeFault::Kind)))?;
-    check_changed(&rt, 3, 33, AuditFault::Page(PageFault::Bad(4, NodeFault::Count)))?;
-    check_changed(&rt, 28, 1, AuditFault::Page(PageFault::Bad(4, NodeFault::Distance)))?;
-    check_changed(&rt, 4095, 1, AuditFault::Page(PageFault::Bad(4, NodeFault::Tail)))?;
+    check_changed(
+        &rt,
+        0,
+        15,
+        AuditFault::Page(PageFault::Bad(4, NodeFault::Kind)),
+    )?;
+    check_changed(
+        &rt,
+        3,
+        33,
+        AuditFault::Page(PageFault::Bad(4, NodeFault::Count)),
+    )?;
+    check_changed(
+        &rt,
+        28,
+        1,
+        AuditFault::Page(PageFault::Bad(4, NodeFault::Distance)),
+    )?;
+    check_changed(
+        &rt,
+        4095,
+        1,
+        AuditFault::Page(PageFault::Bad(4, NodeFault::Tail)),
+    )?;
     check_changed(&rt, 35, 1, AuditFault::ParentDistance(4, 0))?;
     check_changed(&rt, 19, 5, AuditFault::Id(5))
 }
@@ -73,8 +104,14 @@ fn faults_of_a_page(rt: HostRuntime) -> Result<(), Fail> {
 fn faults_of_the_slot(rt: HostRuntime) -> Result<(), Fail> {
     let bytes = file_with(rt.alloc(), 3, 1)?;
     let high = Live { height: 1, ..LIVE };
-    assert_eq!(rt; audit_of(rt.alloc(), &bytes, &high), Err(AuditFault::Fill(4)));
+    assert_eq!(rt;
+        audit_of(rt.alloc(), &bytes, &high),
+        Err(AuditFault::Fill(4))
+    );
     let two = Live { count: 2, ..LIVE };
-    assert_eq!(rt; audit_of(rt.alloc(), &bytes, &two), Err(AuditFault::Count { slot: 2, found: 1 }));
+    assert_eq!(rt;
+        audit_of(rt.alloc(), &bytes, &two),
+        Err(AuditFault::Count { slot: 2, found: 1 })
+    );
     Ok(())
 }

@@ -63,7 +63,12 @@ fn parent_of<R: Ruler>(ruler: &mut R, path: &[Step], p: &[u32]) -> u64
 }
 
 // Whether the object lies within the radius of each step, from the root down.
-fn audit_inside<R: Ruler>(ruler: &mut R, path: &[Step], p: &[u32], id: u32) -> Result<(), AuditFault>
+fn audit_inside<R: Ruler>(
+    ruler: &mut R,
+    path: &[Step],
+    p: &[u32],
+    id: u32,
+) -> Result<(), AuditFault>
     ensures same { R.metric ruler.new ≡ R.metric ruler.old }
     ensures ok { OnOk result (first_outside (R.M.space (R.metric ruler.old)) path.now p.now ≡ None) }
     ensures err { IfErr result (λ v. (rest : Result Seen AuditFault) → IsEntryFault (if_inside (first_outside (R.M.space (R.metric ruler.old)) path.now p.now) id rest) v) }
@@ -291,7 +296,13 @@ pub fn walk<P: Pages, R: Ruler>(
     };
     let (level, entries) = match node {
         Node::Leaf(objects) => {
-            return audit_leaf(ruler, path.as_slice(), &at, objects.as_slice(), &mut visits.ids);
+            return audit_leaf(
+                ruler,
+                path.as_slice(),
+                &at,
+                objects.as_slice(),
+                &mut visits.ids,
+            );
         }
         Node::Inner { level, entries } => (level, entries),
     };

@@ -1,8 +1,6 @@
-use Rattle.std.proofs.Common.{◌≡◌, ◌∙◌, ap, sym, subst, length, ◌<◌, ◌+◌, ◌++◌, ◌∷◌, [], map, drop, get_or, ℕ, List, true, Some, arith}
-use Rattle.metric_laws.specs.Space.{Space}
-use Rattle.log_model.specs.declared.marks.Mark.TheVariants.{Skip, Near}
-use Rattle.log_model.specs.Walk.{Search, search_at, away, allows_subtree, need_of, near_ones}
-use Rattle.log_model.specs.declared.marks.Need.{Need}
+use Rattle.std.proofs.Common.{◌≡◌, ◌∙◌, ap, sym, subst, length, ◌<◌, ◌+◌, get_or, true, arith}
+use Rattle.log_model.specs.declared.marks.Mark.TheVariants.{Skip}
+use Rattle.log_model.specs.Walk.{Search, search_at, away, allows_subtree, need_of}
 use Rattle.log_verify.proofs.Counting.{next_counted, so_far_counted}
 use Rattle.log_verify.proofs.OneMark.{one_left, one_named, near_same, named_next, need_at, mark_is, not_false}
 use Rattle.log_verify.proofs.checking.check_inner.Goals as goal

@@ -1,15 +1,12 @@
-use Rattle.std.proofs.Common.{◌≡◌, ◌∷◌, [], List, ℕ, Some, None, Err, true, false, not, ap, sym, ◌∙◌, subst}
-use Rattle.std.specs.Prelude.{IsTrue}
+use Rattle.std.proofs.Common.{◌≡◌, ◌∷◌, [], List, Some, None, Err, ap, sym, ◌∙◌}
 use Rattle.std.proofs.lemmas.Result.{err_from_is_err_and}
 use Rattle.metric_laws.specs.Space.{Space}
 use Rattle.scan_model.specs.declared.hit.Hit.{Hit}
-use Rattle.page_store.specs.Reading.{nodes_of}
 use Rattle.page_store.specs.Shelf.{Shelf}
 use Rattle.log_model.specs.declared.marks.Record.{Record}
 use Rattle.log_model.specs.Walk.{Search, search_at, root_need}
 use Rattle.log_model.specs.Sound.{search_for, selected}
 use Rattle.log_verify.specs.Judged.{walked, first_difference, log_fault}
-use Rattle.log_verify.proofs.OneMark.{not_false}
 use Rattle.log_verify.proofs.Soundness.{sound_from_none}
 use Rattle.log_verify.proofs.Verdicts.{difference_cause, fault_differs, sound_walks, sound_faults, passing}
 use Rattle.log_verify.proofs.verifying.verify.Goals as goal

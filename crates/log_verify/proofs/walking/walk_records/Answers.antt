@@ -1,4 +1,4 @@
-use Rattle.std.proofs.Common.{◌≡◌, ◌∙◌, ◌∷◌, [], List, reverse, drop, length, ap, arith}
+use Rattle.std.proofs.Common.{◌∙◌, ◌∷◌, [], reverse, length, ap, arith}
 use Rattle.std.proofs.lemmas.Result.{err_from_is_err_and}
 use Rattle.log_model.specs.Walk.{Search, search_at, root_need}
 use Rattle.log_verify.specs.Judged.{walked}

@@ -1,0 +1,28 @@
+use Rattle.std.proofs.Common.{◌≡◌, ◌∙◌, ap, sym, subst, get_or, true}
+use Rattle.metric_laws.specs.Space.{Space}
+use Rattle.log_model.specs.declared.marks.Mark.{Mark}
+use Rattle.log_model.specs.declared.marks.Mark.TheVariants.{Skip}
+use Rattle.log_model.specs.declared.pairs.JoinNeed.{JoinNeed}
+use Rattle.log_model.specs.JoinWalk.{allows_entry, with_entry, object_entry}
+use Rattle.log_verify.specs.JoinSteps.{search_within}
+use Rattle.log_verify.proofs.OneMark.{not_false}
+use Rattle.log_verify.proofs.JoinMarks.{hits_next, needs_next, left_mapped}
+use Rattle.log_verify.proofs.join_checking.check_leaf.Goals as goal
+
+pub loop-i-preserved : goal.loop-i-preserved
+loop-i-preserved g c =
+    let s : Space = (g.R.M.Metric.space (g.R.Ruler.metric c.args.ruler.now)) in
+    let n : JoinNeed = c.args.probe.need.now in
+    let e = c.index-entries-i.result in
+    let mark : Mark = get_or c.args.marks.now c.loop-i.i Skip in
+    let here : g.R.M.Metric.space (g.R.Ruler.metric c.loop-i.ruler) ≡ s = ap (λ m. g.R.M.Metric.space m) c.loop-i.invariant.metric in
+    let fine : allows_entry (search_within s c.args.probe.rho) n (object_entry e) mark ≡ true =
+    subst (λ (t : Space). allows_entry (search_within t c.args.probe.rho) n (object_entry e) mark ≡ true) here (sym c.check_object-checked.ensures.allowed ∙ not_false c.check_object-checked.result.allowed c.if-not-checked.false) in
+    record {
+      metric = c.check_object-checked.ensures.metric ∙ c.loop-i.invariant.metric;
+      wrong = left_mapped (allows_entry (search_within s c.args.probe.rho) n) object_entry c.args.entries.now c.args.marks.now c.loop-i.i e c.loop-i-test.true c.requires.long c.index-entries-i.is fine ∙ c.loop-i.invariant.wrong;
+      hits = hits_next s n object_entry c.args.entries.now c.args.marks.now c.loop-i.i e c.check_object-checked.result.apart c.loop-i-test.true c.requires.long c.index-entries-i.is
+          (λ near. c.check_object-checked.ensures.apart near ∙ ap (λ (t : Space). (with_entry t n (object_entry e)).apart) here) _ _ _ c.in_ok-name_object.ensures.hits c.loop-i.invariant.hits;
+      needs = needs_next s n object_entry c.args.entries.now c.args.marks.now c.loop-i.i e c.check_object-checked.result.apart c.loop-i-test.true c.requires.long c.index-entries-i.is
+          (λ near. c.check_object-checked.ensures.apart near ∙ ap (λ (t : Space). (with_entry t n (object_entry e)).apart) here) _ _ _ c.in_ok-name_object.ensures.needs c.loop-i.invariant.needs;
+    }

@@ -1,0 +1,18 @@
+use Rattle.std.proofs.Common.{◌≡◌, ◌++◌, map, drop}
+use Rattle.log_model.specs.Walk.{near_ones}
+use Rattle.log_model.specs.JoinWalk.{allows_entry, with_entry, object_entry}
+use Rattle.log_verify.specs.Judged.{first_wrong}
+use Rattle.log_verify.specs.JoinSteps.{search_within, hits_among, needs_among}
+use Rattle.log_verify.proofs.join_checking.check_leaf.Given as goal
+
+-- what is left to check and to name
+abbrev pub invariant-loop-i : goal.invariant-loop-i
+invariant-loop-i g l = record {
+  metric : g.R.Ruler.metric l.ruler ≡ g.R.Ruler.metric l.fn.ruler;
+  wrong : first_wrong (allows_entry (search_within (g.R.M.Metric.space (g.R.Ruler.metric l.fn.ruler)) l.probe.rho) l.probe.need.now) (map object_entry (drop l.i l.entries)) (drop l.i l.marks) l.i
+      ≡ first_wrong (allows_entry (search_within (g.R.M.Metric.space (g.R.Ruler.metric l.fn.ruler)) l.probe.rho) l.probe.need.now) (map object_entry l.entries) l.marks 0;
+  hits : l.named.hits.items ++ hits_among (map (with_entry (g.R.M.Metric.space (g.R.Ruler.metric l.fn.ruler)) l.probe.need.now) (near_ones (map object_entry (drop l.i l.entries)) (drop l.i l.marks)))
+      ≡ l.fn.named.hits.items ++ hits_among (map (with_entry (g.R.M.Metric.space (g.R.Ruler.metric l.fn.ruler)) l.probe.need.now) (near_ones (map object_entry l.entries) l.marks));
+  needs : l.named.needs.items ++ needs_among (map (with_entry (g.R.M.Metric.space (g.R.Ruler.metric l.fn.ruler)) l.probe.need.now) (near_ones (map object_entry (drop l.i l.entries)) (drop l.i l.marks)))
+      ≡ l.fn.named.needs.items ++ needs_among (map (with_entry (g.R.M.Metric.space (g.R.Ruler.metric l.fn.ruler)) l.probe.need.now) (near_ones (map object_entry l.entries) l.marks));
+}

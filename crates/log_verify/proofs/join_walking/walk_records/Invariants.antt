@@ -1,0 +1,21 @@
+use Rattle.std.proofs.Common.{◌≡◌, reverse, drop}
+use Rattle.std.specs.Prelude.{IsTrue}
+use Rattle.page_store.specs.Shelf.{HoldsSame}
+use Rattle.log_verify.specs.JoinJudged.{join_walked}
+use Rattle.log_verify.specs.JoinSteps.{search_within}
+use Rattle.log_verify.proofs.join_walking.walk_records.Given as goal
+
+-- the walk of what is left is the whole walk
+abbrev pub invariant-loop-told : goal.invariant-loop-told
+invariant-loop-told g l = record {
+  metric : g.R.Ruler.metric l.ruler ≡ g.R.Ruler.metric l.fn.ruler;
+  left_same : HoldsSame (g.P.Pages.shelf l.fn.left) (g.P.Pages.shelf l.left);
+  left_keeps : g.P.Pages.keeps l.fn.left l.left;
+  right_same : HoldsSame (g.Q.Pages.shelf l.fn.right) (g.Q.Pages.shelf l.right);
+  right_keeps : g.Q.Pages.keeps l.fn.right l.right;
+  rho : l.walk.rho ≡ l.fn.begun.rho;
+  taken : l.walk.taken ≡ l.told-index;
+  way : IsTrue (g.P.Pages.shelf l.fn.left).tells → IsTrue (g.Q.Pages.shelf l.fn.right).tells →
+      join_walked (search_within (g.R.M.Metric.space (g.R.Ruler.metric l.fn.ruler)) l.fn.begun.rho) (g.P.Pages.shelf l.fn.left).read (g.Q.Pages.shelf l.fn.right).read l.walk.named.hits.items (reverse l.walk.stack.items) (drop l.told-index l.records) l.walk.taken
+      ≡ join_walked (search_within (g.R.M.Metric.space (g.R.Ruler.metric l.fn.ruler)) l.fn.begun.rho) (g.P.Pages.shelf l.fn.left).read (g.Q.Pages.shelf l.fn.right).read l.fn.begun.named.hits.items (reverse l.fn.begun.stack.items) l.records 0;
+}

@@ -1,0 +1,77 @@
+ghost use Rattle.std.specs.Prelude.{◌≡◌, ◌≤◌, length, None, Some, IsTrue, IfOk, IfErr, OnOk};
+ghost use Rattle.page_store.specs.Reading.{nodes_of};
+ghost use Rattle.page_store.specs.Shelf.{HoldsSame};
+ghost use Rattle.log_model.specs.Grammar.{IsLawfulJoinLog};
+ghost use Rattle.log_model.specs.SoundJoin.{IsSoundJoinLog};
+ghost use Rattle.log_verify.specs.JoinJudged.{join_fault};
+ghost use Rattle.log_verify.specs.Causes.{HasJoinCause, IsJoinPassing};
+
+use crate::join_walking::{JoinWalk, walk_records};
+use crate::judging::{compare_pairs, names};
+use crate::{Accepted, JoinVerdict};
+use log_model::{JoinLog, put_pairs_in_order};
+use metric_laws::{BOUND, Ruler};
+use page_store::Pages;
+use std::alloc::Global;
+use tree_shape::Live;
+
+/// Accepts a join's log exactly where it is sound on the two live trees, whatever the pages hold: it names the live
+/// generations and roots, the walk from the pair of roots takes all its records, each of which has one mark that is allowed
+/// for each entry of its page, and its answers are those that the records name, in order. Else it names the first fault: the
+/// left state, the right state, then record by record the side and page, the number of marks and the marks, then a record
+/// that is left over, then the first answer that differs.
+pub fn verify_join<P: Pages, Q: Pages, R: Ruler>(
+    alloc: Global,
+    left: &mut P,
+    right: &mut Q,
+    ruler: &mut R,
+    ll: &Live,
+    lr: &Live,
+    log: &JoinLog,
+) -> Result<Accepted, JoinVerdict>
+    requires lawful { IsLawfulJoinLog log.now }
+    requires left_height { ll.now.height ≤ 14 }
+    requires right_height { lr.now.height ≤ 14 }
+    ensures metric { R.metric ruler.new ≡ R.metric ruler.old }
+    ensures left_same { HoldsSame (P.shelf left.old) (P.shelf left.new) }
+    ensures left_keeps { P.keeps left.old left.new }
+    ensures right_same { HoldsSame (Q.shelf right.old) (Q.shelf right.new) }
+    ensures right_keeps { Q.keeps right.old right.new }
+
+    ensures records { IfOk result (λ accepted. accepted.records ≡ length log.now.records) }
+    ensures faultless { OnOk result (IsTrue (P.shelf left.old).tells → IsTrue (Q.shelf right.old).tells →
+        join_fault (R.M.space (R.metric ruler.old)) (P.shelf left.old).read (Q.shelf right.old).read ll.now lr.now log.now ≡ None) }
+    ensures sound { OnOk result (IsTrue (P.shelf left.old).tells → IsTrue (Q.shelf right.old).tells →
+        IsSoundJoinLog (R.M.space (R.metric ruler.old)) (nodes_of (P.shelf left.old).read) (nodes_of (Q.shelf right.old).read) ll.now lr.now log.now) }
+    // It names the first fault.
+    ensures cause { IfErr result (λ v. HasJoinCause (P.shelf left.old) (P.shelf left.new) (Q.shelf right.old) (Q.shelf right.new) v
+        (join_fault (R.M.space (R.metric ruler.old)) (P.shelf left.old).read (Q.shelf right.old).read ll.now lr.now log.now ≡ Some v)) }
+    // A sound log is accepted, unless a disk fails or memory runs out.
+    ensures complete { IfErr result (λ v. IsTrue (P.shelf left.old).tells → IsTrue (Q.shelf right.old).tells →
+        IsSoundJoinLog (R.M.space (R.metric ruler.old)) (nodes_of (P.shelf left.old).read) (nodes_of (Q.shelf right.old).read) ll.now lr.now log.now → IsJoinPassing v) }
+{
+    if !names(log.left, ll) {
+        return Err(JoinVerdict::OtherState {
+            right: false,
+            named: log.left,
+            live: (ll.generation, ll.root),
+        });
+    }
+    if !names(log.right, lr) {
+        return Err(JoinVerdict::OtherState {
+            right: true,
+            named: log.right,
+            live: (lr.generation, lr.root),
+        });
+    }
+    let begun = JoinWalk::begin(alloc, ll, lr, log.r.min(BOUND))?;
+    let records = log.records.as_slice();
+    let mut hits = walk_records(alloc, left, right, ruler, begun, records)?;
+    put_pairs_in_order(&mut hits);
+    match compare_pairs(log.answers.as_slice(), hits.as_slice()) {
+        None => Ok(Accepted {
+            records: records.len() as u64,
+        }),
+        Some(verdict) => Err(verdict),
+    }
+}

@@ -1,0 +1,218 @@
+// The walk that takes the records of a join's log one after the other.
+ghost use Rattle.std.specs.Prelude.{◌≡◌, ◌++◌, ◌+◌, ◌≤◌, ◌<◌, ◌^◌, ◌-◌, [], ◌∷◌, List, length, reverse, IsTrue, Ok, Err, IfOk, IfErr, OnOk};
+ghost use Rattle.page_store.specs.Shelf.{HoldsSame};
+ghost use Rattle.log_model.specs.declared.marks.JoinRecord.{JoinRecord};
+ghost use Rattle.log_model.specs.JoinWalk.{opens_right, opened, page_of};
+ghost use Rattle.log_model.specs.SoundJoin.{root_item, root_pair};
+ghost use Rattle.log_verify.specs.Judged.{entry_count};
+ghost use Rattle.log_verify.specs.JoinJudged.{is_of, read_of, join_walked};
+ghost use Rattle.log_verify.specs.JoinSteps.{search_within};
+ghost use Rattle.log_verify.specs.Causes.{IsNodeFault, verdict_of, IsJoinPageVerdict, HasJoinCause};
+
+use crate::JoinVerdict;
+use crate::join_checking::{JoinProbe, Named, check_node};
+use crate::pairing::{opened, opens_right, page_of};
+use crate::walking::{entry_count, put_on_top};
+use log_model::{Item, JoinNeed, JoinRecord, Memory};
+use metric_laws::Ruler;
+use page_store::{PageFault, Pages};
+use scan_model::Pair;
+use std::alloc::Global;
+use tree_shape::{Live, Node};
+
+/// A walk from the pair of roots, half way.
+#[derive(Debug, Drop)]
+pub struct JoinWalk {
+    /// The radius that prunes.
+    pub rho: u64,
+    /// The number of records that were taken.
+    pub taken: u64,
+    /// The answers that these records name, and room for the pairs that one node needs.
+    pub named: Named,
+    /// The pairs that are needed, the next one last.
+    pub stack: Vec<JoinNeed>,
+}
+
+// The item of a root.
+fn root_of(live: &Live) -> Item
+    requires { live.now.height ≤ 14 }
+    ensures { result ≡ root_item live.now }
+{
+    Item::Subtree {
+        page: live.root,
+        rank: live.height as u8 + 1,
+        centre: None,
+        radius: 0,
+    }
+}
+
+impl JoinWalk {
+    /// A walk that needs the pair of roots.
+    pub fn begin(alloc: Global, left: &Live, right: &Live, rho: u64) -> Result<Self, Memory>
+        requires left_height { left.now.height ≤ 14 }
+        requires right_height { right.now.height ≤ 14 }
+        ensures rho { IfOk result (λ walk. walk.rho ≡ rho) }
+        ensures taken { IfOk result (λ walk. walk.taken ≡ 0) }
+        ensures hits { IfOk result (λ walk. walk.named.hits.items ≡ []) }
+        ensures stack { IfOk result (λ walk. walk.stack.items ≡ root_pair left.now right.now ∷ []) }
+    {
+        let roots = JoinNeed {
+            left: root_of(left),
+            right: root_of(right),
+            apart: None,
+        };
+        let mut stack = Vec::new(alloc);
+        stack.push(roots)?;
+        Ok(JoinWalk {
+            rho,
+            taken: 0,
+            named: Named {
+                hits: Vec::new(alloc),
+                needs: Vec::new(alloc),
+            },
+            stack,
+        })
+    }
+}
+
+// Whether a record is of the side and the page of the opened item.
+fn is_of(need: &JoinNeed, told: &JoinRecord) -> bool
+    ensures { result ≡ is_of need.now told.now }
+{
+    told.right == opens_right(need) && told.page == page_of(opened(need))
+}
+
+// The node of a page of one side.
+fn node_at<P: Pages>(alloc: Global, pages: &mut P, page: u32) -> Result<Node, PageFault>
+    ensures same { HoldsSame (P.shelf pages.old) (P.shelf pages.new) }
+    ensures keeps { P.keeps pages.old pages.new }
+    ensures few { IfOk result (λ node. entry_count node < 2 ^ 32) }
+    ensures told { IfOk result (λ node. IsTrue (P.shelf pages.old).tells → (P.shelf pages.old).read page ≡ Ok node) }
+    ensures cause { IfErr result (λ fault. IsNodeFault (P.shelf pages.old) (P.shelf pages.new) page fault) }
+{
+    pages.node(alloc, page)
+}
+
+// Why no node of a side was had.
+fn verdict_of(right: bool, fault: PageFault) -> JoinVerdict
+    ensures { result ≡ verdict_of right fault }
+{
+    match fault {
+        PageFault::Memory => JoinVerdict::Memory,
+        fault => JoinVerdict::Page { right, fault },
+    }
+}
+
+// The node of the opened item.
+fn opened_node<P: Pages, Q: Pages>(
+    alloc: Global,
+    left: &mut P,
+    right: &mut Q,
+    need: &JoinNeed,
+) -> Result<Node, JoinVerdict>
+    ensures left_same { HoldsSame (P.shelf left.old) (P.shelf left.new) }
+    ensures left_keeps { P.keeps left.old left.new }
+    ensures right_same { HoldsSame (Q.shelf right.old) (Q.shelf right.new) }
+    ensures right_keeps { Q.keeps right.old right.new }
+    ensures few { IfOk result (λ node. entry_count node < 2 ^ 32) }
+    ensures told { IfOk result (λ node. IsTrue (P.shelf left.old).tells → IsTrue (Q.shelf right.old).tells →
+        read_of (P.shelf left.old).read (Q.shelf right.old).read (opens_right need.now) (page_of (opened need.now)) ≡ Ok node) }
+    ensures cause { IfErr result (λ v. IsJoinPageVerdict (P.shelf left.old) (P.shelf left.new) (Q.shelf right.old) (Q.shelf right.new) need.now v) }
+{
+    let page = page_of(opened(need));
+    if opens_right(need) {
+        match node_at(alloc, right, page) {
+            Ok(node) => Ok(node),
+            Err(fault) => Err(verdict_of(true, fault)),
+        }
+    } else {
+        match node_at(alloc, left, page) {
+            Ok(node) => Ok(node),
+            Err(fault) => Err(verdict_of(false, fault)),
+        }
+    }
+}
+
+// Takes the next record: it names the side and the page of the item of greater rank of the next pair that is needed, it has
+// one mark for each entry of that page's node, and each of them is allowed.
+fn take_record<P: Pages, Q: Pages, R: Ruler>(
+    alloc: Global,
+    left: &mut P,
+    right: &mut Q,
+    ruler: &mut R,
+    told: &JoinRecord,
+    walk: &mut JoinWalk,
+) -> Result<(), JoinVerdict>
+    requires { walk.old.taken < 2 ^ 64 - 1 }
+    ensures metric { R.metric ruler.new ≡ R.metric ruler.old }
+    ensures left_same { HoldsSame (P.shelf left.old) (P.shelf left.new) }
+    ensures left_keeps { P.keeps left.old left.new }
+    ensures right_same { HoldsSame (Q.shelf right.old) (Q.shelf right.new) }
+    ensures right_keeps { Q.keeps right.old right.new }
+    ensures rho { walk.new.rho ≡ walk.old.rho }
+    ensures taken { OnOk result (walk.new.taken ≡ walk.old.taken + 1) }
+    ensures ok { OnOk result (IsTrue (P.shelf left.old).tells → IsTrue (Q.shelf right.old).tells → (rs : List JoinRecord) →
+        join_walked (search_within (R.M.space (R.metric ruler.old)) walk.old.rho) (P.shelf left.old).read (Q.shelf right.old).read walk.old.named.hits.items (reverse walk.old.stack.items) (told.now ∷ rs) walk.old.taken
+        ≡ join_walked (search_within (R.M.space (R.metric ruler.old)) walk.old.rho) (P.shelf left.old).read (Q.shelf right.old).read walk.new.named.hits.items (reverse walk.new.stack.items) rs walk.new.taken) }
+    ensures cause { IfErr result (λ v. HasJoinCause (P.shelf left.old) (P.shelf left.new) (Q.shelf right.old) (Q.shelf right.new) v ((rs : List JoinRecord) →
+        join_walked (search_within (R.M.space (R.metric ruler.old)) walk.old.rho) (P.shelf left.old).read (Q.shelf right.old).read walk.old.named.hits.items (reverse walk.old.stack.items) (told.now ∷ rs) walk.old.taken
+        ≡ Err v)) }
+{
+    let Some(need) = walk.stack.pop() else {
+        return Err(JoinVerdict::LeftOver(walk.taken));
+    };
+    if !is_of(&need, told) {
+        return Err(JoinVerdict::WrongPage(walk.taken));
+    }
+    let node = opened_node(alloc, left, right, &need)?;
+    let marks = told.marks.as_slice();
+    if marks.len() != entry_count(&node) {
+        return Err(JoinVerdict::WrongCount(walk.taken));
+    }
+    let probe = JoinProbe {
+        alloc,
+        need: &need,
+        rho: walk.rho,
+    };
+    walk.named.needs.clear();
+    match check_node(ruler, probe, &node, marks, &mut walk.named) {
+        Ok(None) => {
+            put_on_top(&mut walk.stack, &mut walk.named.needs)?;
+            walk.taken += 1;
+            Ok(())
+        }
+        Ok(Some(entry)) => Err(JoinVerdict::WrongMark(walk.taken, entry)),
+        Err(_) => Err(JoinVerdict::Memory),
+    }
+}
+
+/// Walks on by all these records: the answers that they name.
+pub fn walk_records<P: Pages, Q: Pages, R: Ruler>(
+    alloc: Global,
+    left: &mut P,
+    right: &mut Q,
+    ruler: &mut R,
+    begun: JoinWalk,
+    records: &[JoinRecord],
+) -> Result<Vec<Pair>, JoinVerdict>
+    requires start { begun.taken ≡ 0 }
+    requires few { length records.now < 2 ^ 64 }
+    ensures metric { R.metric ruler.new ≡ R.metric ruler.old }
+    ensures left_same { HoldsSame (P.shelf left.old) (P.shelf left.new) }
+    ensures left_keeps { P.keeps left.old left.new }
+    ensures right_same { HoldsSame (Q.shelf right.old) (Q.shelf right.new) }
+    ensures right_keeps { Q.keeps right.old right.new }
+    ensures ok { IfOk result (λ hits. IsTrue (P.shelf left.old).tells → IsTrue (Q.shelf right.old).tells →
+        join_walked (search_within (R.M.space (R.metric ruler.old)) begun.rho) (P.shelf left.old).read (Q.shelf right.old).read begun.named.hits.items (reverse begun.stack.items) records.now 0 ≡ Ok hits.items) }
+    ensures cause { IfErr result (λ v. HasJoinCause (P.shelf left.old) (P.shelf left.new) (Q.shelf right.old) (Q.shelf right.new) v
+        (join_walked (search_within (R.M.space (R.metric ruler.old)) begun.rho) (P.shelf left.old).read (Q.shelf right.old).read begun.named.hits.items (reverse begun.stack.items) records.now 0 ≡ Err v)) }
+{
+    let mut walk = begun;
+    for told in records {
+        take_record(alloc, left, right, ruler, told, &mut walk)?;
+    }
+    if !walk.stack.is_empty() {
+        return Err(JoinVerdict::WrongPage(walk.taken));
+    }
+    Ok(walk.named.hits)
+}
