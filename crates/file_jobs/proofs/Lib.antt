@@ -1,1 +1,4 @@
 pub mod Statuses
+pub mod Spaces
+pub mod Audited
+pub mod Ends

@@ -12,6 +12,8 @@ use Rattle.node_page.specs.Opening.{OpensTo, Unopened, open_fault}
 use Rattle.page_store.specs.Reading.{reading, nodes_of}
 use Rattle.shadow_root.specs.Making.{IsMade}
 use Rattle.tree_audit.specs.declared.faults.AuditFault.{AuditFault}
+use Rattle.tree_audit.specs.declared.faults.AuditFault.TheVariants as audit
+use Rattle.page_store.specs.declared.pages.PageFault.TheVariants as page
 use Rattle.tree_audit.specs.Audited.{audit_fault}
 use Rattle.file_jobs.specs.Lines.{unopened_name, sound_text, rejected_text, not_index_text}
 
@@ -58,3 +60,21 @@ pub record Audits (disk0 disk1 : DiskState) (out0 out1 : Option (List ℕ)) (sta
   pub disk : status ≡ 5 → Rose disk0.faults disk1.faults × AppendsPrefix out0 out1 (codes "fault disk\n")
   pub not_index : status ≡ 6 → (name : List ℕ) × AppendsPrefix out0 out1 (not_index_text name) × (IsTrue disk0.tells → IsNoIndex disk0.bytes name)
   pub memory : status ≡ 8 → AppendsPrefix out0 out1 (codes "fault memory\n")
+
+-- why an audit of a file on a disk failed, where the disk's faults are so many now
+abbrev pub HasFault : DiskState → ℕ → Option AuditFault → AuditFault → Type 0
+HasFault old faults told audit.Memory = Unit {0}
+HasFault old faults told (audit.Page page.Disk) = Rose old.faults faults
+HasFault old faults told (audit.Page page.Memory) = ⊥
+HasFault old faults told (audit.Page (page.Repeats p)) = ⊥
+HasFault old faults told (audit.Page (page.Level p)) = ⊥
+HasFault old faults told fault = IsTrue old.tells → told ≡ Some fault
+
+-- the disk's failure and want of memory, which no bytes tell
+abbrev pub IsPassing : AuditFault → Type 0
+IsPassing audit.Memory = Unit {0}
+IsPassing (audit.Page page.Disk) = Unit {0}
+IsPassing _ = ⊥
+
+abbrev pub IsAuditStatus : ℕ → Type 0
+IsAuditStatus n = (n ≡ 0) ⊎ ((n ≡ 1) ⊎ ((n ≡ 4) ⊎ ((n ≡ 5) ⊎ ((n ≡ 6) ⊎ (n ≡ 8)))))

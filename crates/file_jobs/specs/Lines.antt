@@ -1,5 +1,5 @@
 -- The lines of the jobs on files.
-use Rattle.std.specs.Prelude.{◌≡◌, ℕ, List, ◌++◌, codes, decimal}
+use Rattle.std.specs.Prelude.{ℕ, List, ◌++◌, codes, decimal}
 use Rattle.shadow_root.specs.declared.faults.OpenFault.{OpenFault}
 use Rattle.shadow_root.specs.declared.faults.OpenFault.TheVariants as open_fault
 use Rattle.rows_text.specs.Texts.{line_end, space, counted}
@@ -71,11 +71,11 @@ rejected_text fault = codes "rejected " ++ audit_fault_text fault ++ line_end
 abbrev pub not_index_text : List ℕ → List ℕ
 not_index_text name = codes "fault notindex " ++ name ++ line_end
 
--- the word of a refusal to open, the disk's failure apart
-abbrev pub IsNamed : OpenFault → List ℕ → Type 0
-IsNamed open_fault.Disk name = ⊥
-IsNamed open_fault.Short name = name ≡ unopened_name Short
-IsNamed (open_fault.Head fault) name = name ≡ unopened_name (NoHead fault)
-IsNamed open_fault.Unfinished name = name ≡ unopened_name Unfinished
-IsNamed open_fault.TwoRoots name = name ≡ unopened_name TwoRoots
-IsNamed open_fault.Slot name = name ≡ unopened_name BadSlot
+-- the line of a file that is not opened
+abbrev pub unopened_text : OpenFault → List ℕ
+unopened_text open_fault.Disk = codes "fault disk\n"
+unopened_text open_fault.Short = not_index_text (unopened_name Short)
+unopened_text (open_fault.Head fault) = not_index_text (unopened_name (NoHead fault))
+unopened_text open_fault.Unfinished = not_index_text (unopened_name Unfinished)
+unopened_text open_fault.TwoRoots = not_index_text (unopened_name TwoRoots)
+unopened_text open_fault.Slot = not_index_text (unopened_name BadSlot)

@@ -1,9 +1,16 @@
 // The jobs on files.
-ghost use Rattle.std.specs.Prelude.{◌≡◌, ◌⊎◌, ◌≤◌, ℕ, List, IfOk, codes};
+ghost use Rattle.std.specs.Prelude.{◌≡◌, ◌≢◌, ◌⊎◌, ◌≤◌, ◌^◌, ℕ, List, None, length, IsTrue, IfOk, IfErr, codes};
+ghost use Rattle.disk_model.specs.Disk.{IsUnchanged};
+ghost use Rattle.metric_mix.specs.MixSpaces.{is_lawful, mix_space};
+ghost use Rattle.tree_shape.specs.Tree.{pages_at};
+ghost use Rattle.page_store.specs.Reading.{reading, nodes_of};
+ghost use Rattle.tree_audit.specs.Audited.{audit_fault};
+ghost use Rattle.std.specs.Io.KnownBytes.{Appends};
+ghost use Rattle.outside_io.specs.Bytes.{AppendsPrefix};
 ghost use Rattle.outside_io.specs.Causes.{Rose};
 ghost use Rattle.node_page.specs.Heads.{IsLawfulHead};
-ghost use Rattle.file_jobs.specs.Jobs.{Creates, Audits};
-ghost use Rattle.file_jobs.specs.Lines.{IsNamed, not_index_text};
+ghost use Rattle.file_jobs.specs.Jobs.{Creates, Audits, HasFault, IsPassing, IsAuditStatus};
+ghost use Rattle.file_jobs.specs.Lines.{unopened_text, rejected_text, sound_text};
 ghost use Rattle.metric_mix.specs.MixKinds.{mix_kind, mix_dim};
 
 use crate::lines::{end_with, put_line, rejected_text, sound_text};
@@ -41,9 +48,9 @@ pub fn create_index<D: Disk, K: Sink>(disk: &mut D, head: &Head, out: &mut K) ->
     }
 }
 
-// The line of a file that is not opened, the disk's failure apart.
-fn not_index_line(fault: OpenFault) -> &'static [u8]
-    ensures { (name : List ℕ) → IsNamed fault name → result.now ≡ not_index_text name }
+// The line of a file that is not opened.
+fn unopened_line(fault: OpenFault) -> &'static [u8]
+    ensures { result.now ≡ unopened_text fault }
 {
     match fault {
         OpenFault::Disk => FAULT_DISK,
@@ -57,5 +64,113 @@ fn not_index_line(fault: OpenFault) -> &'static [u8]
         OpenFault::Unfinished => b"fault notindex unfinished\n",
         OpenFault::TwoRoots => b"fault notindex tworoots\n",
         OpenFault::Slot => b"fault notindex slot\n",
+    }
+}
+
+// The space of a head.
+fn space_of(head: &Head) -> MixSpace
+    requires low { 1 ≤ head.now.kind }
+    requires high { head.now.kind ≤ 8 }
+    requires lawful { IsTrue (is_lawful head.now.kind head.now.dim) }
+    ensures kind { mix_kind result ≡ head.now.kind }
+    ensures dim { mix_dim result ≡ head.now.dim }
+{
+    match MixSpace::new(head.kind, head.dim) {
+        Ok(space) => space,
+        Err(_) => unreachable!(),
+    }
+}
+
+// The audit of an opened file.
+fn audit_opened<D: Disk>(
+    alloc: Global,
+    disk: &mut D,
+    head: &Head,
+    live: &Live,
+) -> Result<Audited, AuditFault>
+    requires head { IsLawfulHead head.now }
+    requires pages { live.now.pages ≤ 2 ^ 24 }
+    ensures same { IsUnchanged (D.state disk.old) (D.state disk.new) }
+    ensures ok { IfOk result (λ a. IsTrue (D.state disk.old).tells
+        → audit_fault (mix_space head.now.kind head.now.dim) (reading head.now.dim live.now.pages (D.state disk.old).bytes) live.now ≡ None) }
+    ensures objects { IfOk result (λ a. a.objects ≡ live.now.count) }
+    ensures nodes { IfOk result (λ a. IsTrue (D.state disk.old).tells
+        → a.nodes ≡ length (pages_at (nodes_of (reading head.now.dim live.now.pages (D.state disk.old).bytes)) live.now.height live.now.root)) }
+    ensures err { IfErr result (HasFault (D.state disk.old) (D.state disk.new).faults
+        (audit_fault (mix_space head.now.kind head.now.dim) (reading head.now.dim live.now.pages (D.state disk.old).bytes) live.now)) }
+{
+    let mut pages = DiskPages::new(disk, head.dim, live.pages);
+    let mut ruler = Meter::new(space_of(head));
+    audit(alloc, &mut pages, &mut ruler, head.dim, live)
+}
+
+// Ends an audit whose index is rejected, or that could not go on.
+fn end_rejected<K: Sink>(alloc: Global, fault: AuditFault, out: &mut K) -> Status
+    ensures rejected { result.0 ≡ 1 → Appends (K.written out.old) (K.written out.new) (rejected_text fault) }
+    ensures kind { result.0 ≡ 1 → IsPassing fault → ⊥ }
+    ensures disk { result.0 ≡ 5 → (fault ≡ AuditFault.Page PageFault.Disk) × AppendsPrefix (K.written out.old) (K.written out.new) (codes "fault disk\n") }
+    ensures memory { result.0 ≡ 8 → AppendsPrefix (K.written out.old) (K.written out.new) (codes "fault memory\n") }
+    ensures statuses { (result.0 ≡ 1) ⊎ ((result.0 ≡ 4) ⊎ ((result.0 ≡ 5) ⊎ (result.0 ≡ 8))) }
+    ensures later { K.faults out.old ≤ K.faults out.new }
+    ensures rose { result.0 ≡ 4 → Rose (K.faults out.old) (K.faults out.new) }
+{
+    match fault {
+        AuditFault::Page(PageFault::Disk) => end_with(out, FAULT_DISK, 5),
+        AuditFault::Memory => end_with(out, FAULT_MEMORY, 8),
+        fault => match rejected_text(alloc, fault) {
+            Ok(text) => put_line(out, &text, 1),
+            Err(_) => end_with(out, FAULT_MEMORY, 8),
+        },
+    }
+}
+
+// Ends with the line of a file that is not opened.
+fn end_unopened<K: Sink>(fault: OpenFault, out: &mut K) -> Status
+    ensures disk { result.0 ≡ 5 → fault ≡ OpenFault.Disk }
+    ensures index { result.0 ≡ 6 → fault ≢ OpenFault.Disk }
+    ensures line { AppendsPrefix (K.written out.old) (K.written out.new) (unopened_text fault) }
+    ensures statuses { (result.0 ≡ 5) ⊎ (result.0 ≡ 6) }
+    ensures later { K.faults out.old ≤ K.faults out.new }
+{
+    let line = unopened_line(fault);
+    if fault == OpenFault::Disk {
+        return end_with(out, line, 5);
+    }
+    end_with(out, line, 6)
+}
+
+// Ends an audit of a sound index.
+fn end_sound<K: Sink>(alloc: Global, audited: &Audited, out: &mut K) -> Status
+    ensures sound { result.0 ≡ 0 → Appends (K.written out.old) (K.written out.new) (sound_text audited.now.objects audited.now.nodes) }
+    ensures memory { result.0 ≡ 8 → AppendsPrefix (K.written out.old) (K.written out.new) (codes "fault memory\n") }
+    ensures statuses { (result.0 ≡ 0) ⊎ ((result.0 ≡ 4) ⊎ (result.0 ≡ 8)) }
+    ensures later { K.faults out.old ≤ K.faults out.new }
+    ensures rose { result.0 ≡ 4 → Rose (K.faults out.old) (K.faults out.new) }
+{
+    match sound_text(alloc, audited) {
+        Ok(text) => put_line(out, &text, 0),
+        Err(_) => end_with(out, FAULT_MEMORY, 8),
+    }
+}
+
+/// Audits an index, and writes `sound` with the numbers of its objects and nodes, or `rejected` with its first fault and
+/// status 1. Status 4: the lines could not be written; 5: the disk failed; 6: the file is no index of version 2; 8: want of
+/// memory. Nothing is changed.
+pub fn audit_index<D: Disk, K: Sink>(alloc: Global, disk: &mut D, out: &mut K) -> Status
+    ensures audits { Audits (D.state disk.old) (D.state disk.new) (K.written out.old) (K.written out.new) result.0 }
+    ensures statuses { IsAuditStatus result.0 }
+    ensures later { K.faults out.old ≤ K.faults out.new }
+    ensures rose { result.0 ≡ 4 → Rose (K.faults out.old) (K.faults out.new) }
+{
+    let (head, live) = match open(disk) {
+        Ok(opened) => opened,
+        Err(fault) => return end_unopened(fault, out),
+    };
+    if head.version != 2 {
+        return end_with(out, b"fault notindex version\n", 6);
+    }
+    match audit_opened(alloc, disk, &head, &live) {
+        Ok(audited) => end_sound(alloc, &audited, out),
+        Err(fault) => end_rejected(alloc, fault, out),
     }
 }

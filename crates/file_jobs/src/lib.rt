@@ -4,5 +4,5 @@
 mod jobs;
 mod lines;
 
-pub use jobs::{FAULT_DISK, FAULT_MEMORY, create_index};
+pub use jobs::{FAULT_DISK, FAULT_MEMORY, audit_index, create_index};
 pub use lines::{end_with, put_line, rejected_text, sound_text};
