@@ -1,5 +1,5 @@
 -- The cause of an audit's failure, said of the disk.
-use Rattle.std.proofs.Common.{◌≡◌, ℕ, ◌≤◌, Bool, IsTrue, Option, Some, Result, Ok, Err, IfErr, sym, ◌∙◌, subst}
+use Rattle.std.proofs.Common.{◌≡◌, ℕ, Bool, IsTrue, Option, Result, Ok, Err, IfErr, sym, subst}
 use Rattle.outside_io.specs.Causes.{Rose}
 use Rattle.disk_model.specs.Disk.{DiskState}
 use Rattle.page_store.specs.Shelf.{Shelf}

@@ -1,14 +1,11 @@
 -- How an audit ends, by what its parts told.
-use Rattle.std.proofs.Common.{◌≡◌, ◌≢◌, ◌⊎◌, inl, inr, ⊎_elim, ℕ, ◌+◌, ◌-◌, ◌^◌, ◌≤◌, min, Bool, List, length, Option, Some, None, IsTrue, refl, sym, ◌∙◌, ap, subst, arith}
-use Rattle.std.specs.Prelude.{codes}
-use Rattle.std.specs.Io.KnownBytes.{Appends}
-use Rattle.outside_io.specs.Bytes.{AppendsPrefix}
+use Rattle.std.proofs.Common.{◌≡◌, ◌≢◌, ◌⊎◌, inl, ⊎_elim, ℕ, ◌≤◌, List, length, Option, Some, None, IsTrue, refl, sym, ◌∙◌, subst, arith}
 use Rattle.outside_io.specs.Causes.{Rose}
 use Rattle.disk_model.specs.Disk.{DiskState, IsUnchanged}
 use Rattle.tree_shape.specs.declared.live.Live.{Live}
 use Rattle.node_page.specs.declared.head.Head.{Head}
 use Rattle.node_page.specs.Heads.{is_version}
-use Rattle.node_page.specs.Opening.{OpensTo, Unopened, open_fault}
+use Rattle.node_page.specs.Opening.{OpensTo}
 use Rattle.node_page.specs.Opening.Unopened.{Short, NoHead, Unfinished, TwoRoots, BadSlot}
 use Rattle.page_store.specs.declared.pages.PageFault.TheVariants as page
 use Rattle.shadow_root.specs.declared.faults.OpenFault.{OpenFault}

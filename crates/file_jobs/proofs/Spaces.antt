@@ -1,5 +1,5 @@
 -- What a lawful head says of its space.
-use Rattle.std.proofs.Common.{◌≡◌, ◌⊎◌, ⊎_elim, ℕ, ◌%◌, ◌<◌, ◌≤◌, ◌==◌, ◌&&◌, ◌||◌, not, nat_le, Bool, true, false, if◌then◌else◌, IsTrue, refl, sym, arith}
+use Rattle.std.proofs.Common.{◌≡◌, ◌⊎◌, ⊎_elim, ℕ, ◌%◌, ◌<◌, ◌≤◌, ◌==◌, ◌&&◌, ◌||◌, not, nat_le, Bool, true, false, if◌then◌else◌, refl, sym, arith}
 use Rattle.std.proofs.lemmas.Bool.{leb-true, true≢false}
 use Rattle.node_page.specs.Heads.{is_space}
 use Rattle.metric_mix.specs.MixSpaces.{is_lawful}

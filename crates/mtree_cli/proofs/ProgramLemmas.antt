@@ -1,12 +1,11 @@
 -- What a run writes, by its status.
-use Rattle.std.proofs.Common.{◌≡◌, ℕ, Bool, List, [], ◌∷◌, ◌++◌, Option, Some, None, Result, Ok, Err, refl, sym, ◌∙◌, ap, subst, arith}
+use Rattle.std.proofs.Common.{◌≡◌, ℕ, List, [], ◌++◌, Option, Some, None, Err, refl, sym, ◌∙◌, ap, subst, arith}
 use Rattle.std.specs.Prelude.{codes, IfSome}
 use Rattle.std.specs.List.{concat}
-use Rattle.std.specs.Io.KnownBytes.{Appends, Consumes, IsAtEnd}
+use Rattle.std.specs.Io.KnownBytes.{Consumes, IsAtEnd}
 use Rattle.std.proofs.KnownBytes.{Appends-nil, Consumes-all}
 use Rattle.std.proofs.lemmas.List.{append-nil}
 use Rattle.outside_io.specs.Bytes.{AppendsPrefix}
-use Rattle.job_words.specs.Jobs.{job_of}
 use Rattle.job_words.specs.Names.{kind_of}
 use Rattle.job_words.specs.declared.job.Job.{Job}
 use Rattle.job_words.specs.declared.job.Job.TheVariants as job
@@ -14,9 +13,8 @@ use Rattle.metric_mix.specs.MixSpaces.{mix_space}
 use Rattle.plain_scan.specs.declared.session.Stop.TheVariants as stop
 use Rattle.plain_scan.specs.Written.{IsFrontOf, Writes, reply_texts}
 use Rattle.plain_scan.proofs.WrittenLemmas.{front_appended}
-use Rattle.rows_text.specs.Meaning.{Setting}
 use Rattle.rows_text.specs.Script.{script}
-use Rattle.mtree_cli.specs.Run.{Asked, IsScan, HasNoScan, WritesScan, Ends, scan_texts, setting_of}
+use Rattle.mtree_cli.specs.Run.{Asked, IsScan, WritesScan, Ends, scan_texts}
 
 -- words ask for one scan
 

@@ -1,13 +1,11 @@
 -- What stands of each task where a run met want of memory before it began.
-use Rattle.std.proofs.Common.{◌≡◌, ◌≢◌, ◌⊎◌, inl, inr, ⊎_elim, ℕ, ◌≤◌, ◌%◌, ◌<◌, ◌^◌, length, List, [], Option, Some, None, Bool, true, IsTrue, refl, sym, ◌∙◌, ap, subst, arith}
+use Rattle.std.proofs.Common.{◌≡◌, ◌≢◌, inr, ⊎_elim, ℕ, ◌≤◌, ◌%◌, ◌<◌, length, List, [], Option, Some, Bool, true, IsTrue, refl, sym, ◌∙◌, ap, subst, arith}
 use Rattle.std.specs.Prelude.{codes}
-use Rattle.std.specs.Io.KnownBytes.{Appends, Consumes}
+use Rattle.std.specs.Io.KnownBytes.{Consumes}
 use Rattle.std.proofs.KnownBytes.{Consumes-nil}
 use Rattle.outside_io.specs.Bytes.{AppendsPrefix}
 use Rattle.disk_model.specs.Disk.{DiskState, IsUnchanged, MayLeave}
 use Rattle.disk_model.specs.Moments.{started}
-use Rattle.file_jobs.specs.Jobs.{Creates, Audits}
-use Rattle.node_page.specs.declared.head.Head.{Head}
 use Rattle.node_page.specs.Heads.{is_version, is_space, is_policy, is_limit}
 use Rattle.job_words.specs.Names.{kind_of, is_halved, promote_number, split_number}
 use Rattle.job_words.specs.declared.names.MetricName.{MetricName}
@@ -21,7 +19,7 @@ use Rattle.job_words.specs.Jobs.{job_of, texts_in}
 use Rattle.job_words.specs.declared.job.Job.{Job}
 use Rattle.job_words.specs.declared.job.Job.TheVariants as job
 use Rattle.job_words.specs.declared.names.SpaceName.{SpaceName}
-use Rattle.mtree_cli.specs.Run.{Task, Does, IsStatusOf, WritesScan, WritesUsage, scan_texts}
+use Rattle.mtree_cli.specs.Run.{Task, Does, IsStatusOf, scan_texts}
 use Rattle.mtree_cli.specs.Run.Task.{Scans, Makes, Judges, Nothing}
 use Rattle.mtree_cli.proofs.ProgramLemmas.{always, fault_writes, memory_ends}
 

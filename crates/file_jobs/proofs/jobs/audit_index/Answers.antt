@@ -1,8 +1,7 @@
-use Rattle.std.proofs.Common.{◌≡◌, ◌≢◌, ◌⊎◌, inl, inr, ℕ, ◌-◌, ◌≤◌, List, IsTrue, Bool, refl, sym, ◌∙◌, ap, subst, arith}
+use Rattle.std.proofs.Common.{inr, ℕ, List, refl, subst, arith}
 use Rattle.std.specs.Prelude.{codes}
 use Rattle.disk_model.specs.Moments.{then_unchanged}
 use Rattle.outside_io.specs.Bytes.{AppendsPrefix}
-use Rattle.node_page.specs.Opening.{OpensTo}
 use Rattle.std.specs.Prelude.{Some}
 use Rattle.metric_mix.specs.MixSpaces.{mix_space}
 use Rattle.page_store.specs.Reading.{reading}

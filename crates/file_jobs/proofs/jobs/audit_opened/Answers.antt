@@ -1,4 +1,4 @@
-use Rattle.std.proofs.Common.{◌≡◌, ap, sym, ◌∙◌, refl, rules}
+use Rattle.std.proofs.Common.{◌≡◌, ap, sym, refl, rules}
 use Rattle.std.proofs.Common.{Option, IfErr, subst}
 use Rattle.metric_mix.specs.MixSpaces.{mix_space}
 use Rattle.metric_mix.specs.MixKinds.{mix_kind, mix_dim}

@@ -1,4 +1,4 @@
-use Rattle.std.proofs.Common.{◌≡◌, arith}
+use Rattle.std.proofs.Common.{arith}
 use Rattle.file_jobs.proofs.Statuses.{neither}
 use Rattle.file_jobs.proofs.jobs.create_index.Goals as goal
 

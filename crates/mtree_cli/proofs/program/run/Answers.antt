@@ -1,4 +1,4 @@
-use Rattle.std.proofs.Common.{◌≡◌, ◌≢◌, ◌⊎◌, ℕ, List, Option, refl, sym, subst, arith}
+use Rattle.std.proofs.Common.{ℕ, List, Option, sym, subst, arith}
 use Rattle.job_words.specs.Words.{texts_of}
 use Rattle.job_words.specs.Jobs.{job_of}
 use Rattle.job_words.specs.declared.job.Job.{Job}

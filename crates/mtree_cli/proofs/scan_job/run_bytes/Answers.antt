@@ -1,4 +1,4 @@
-use Rattle.std.proofs.Common.{◌≡◌, []}
+use Rattle.std.proofs.Common.{[]}
 use Rattle.mtree_cli.proofs.ProgramLemmas.{fault_writes, memory_ends, stopped}
 use Rattle.mtree_cli.proofs.scan_job.run_bytes.Goals as goal
 
