@@ -7,3 +7,6 @@ mod settling;
 pub use metric_laws::Memory;
 pub use numbering::Numbering;
 pub use settling::{NewTree, RoomFault, settle};
+
+#[cfg(test)]
+mod tests;
