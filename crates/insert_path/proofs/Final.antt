@@ -27,10 +27,10 @@ use Rattle.insert_path.proofs.Level.{small_descends}
 use Rattle.insert_path.proofs.Walked.{descends_parity, descends_long, descends_left}
 use Rattle.insert_path.proofs.Rooted.{root_faultless, root_long, root_writable}
 use Rattle.insert_path.proofs.Writable.{descends_writable}
-use Rattle.page_numbers.specs.declared.settling.RoomFault.TheVariants.{NoRoom as Room}
-use Rattle.page_numbers.specs.Placing.{HasRoomCause}
-use Rattle.page_numbers.specs.Numbers.{numbered}
-use Rattle.page_numbers.proofs.Given.{numbered_long}
+use Rattle.page_store.specs.declared.settling.RoomFault.TheVariants.{NoRoom as Room}
+use Rattle.page_store.specs.Placing.{HasRoomCause}
+use Rattle.page_store.specs.Numbers.{numbered}
+use Rattle.page_store.proofs.Given.{numbered_long}
 
 pub limit_small : (limit : ℕ) → IsTrue (is_limit limit) → limit ≤ 2 ^ 24
 unfolding is_limit

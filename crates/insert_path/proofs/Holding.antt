@@ -22,7 +22,7 @@ use Rattle.insert_path.specs.declared.grew.Grew.{Grew}
 use Rattle.insert_path.specs.declared.grew.Grew.TheVariants.{One, Two}
 use Rattle.insert_path.specs.Walk.{inner_ball}
 use Rattle.insert_path.specs.Descent.{Plan, rules_of, leaf_ball, leaf_with, inner_with, stem_of, entry_of, with_child, regrown, IsStaged}
-use Rattle.page_numbers.proofs.Standing.{HoldsFrom, holds_after, in_get}
+use Rattle.page_store.proofs.Standing.{HoldsFrom, holds_after, in_get}
 
 abbrev pub stem_branch : Nodes → (h : ℕ) → Stem → Branch (Plain h)
 stem_branch new h c = record { point = c.point; radius = c.radius; below = tree_at new h c.page }

@@ -23,7 +23,7 @@ use Rattle.insert_path.specs.Walk.{inner_ball}
 use Rattle.insert_path.specs.Descent.{Plan, leaf_ball, leaf_with, inner_with, new_entry, entry_of, regrown, IsStaged, Descends}
 use Rattle.insert_path.proofs.Holding.{holds_staged, agree_below, chosen_in}
 use Rattle.insert_path.proofs.Walked.{told_node}
-use Rattle.page_numbers.proofs.Standing.{HoldsFrom, holds_after, pages_from, pages_more}
+use Rattle.page_store.proofs.Standing.{HoldsFrom, holds_after, pages_from, pages_more}
 
 -- the pages of what has grown
 abbrev pub grown_pages : Nodes → ℕ → Grew → List ℕ

@@ -32,7 +32,7 @@ use Rattle.insert_path.proofs.Walked.{descends_parity, descends_faultless}
 use Rattle.insert_path.proofs.Stored.{IsStoredAt, GrownStored}
 use Rattle.insert_path.proofs.Paged.{grown_pages}
 use Rattle.insert_path.proofs.Writable.{IsLong}
-use Rattle.page_numbers.proofs.Standing.{HoldsFrom, holds_after, trees_from, trees_more, pages_from, pages_more}
+use Rattle.page_store.proofs.Standing.{HoldsFrom, holds_after, trees_from, trees_more, pages_from, pages_more}
 
 -- no new root: the insertion's fault is the root's
 pub root_cause : (P : Plan) (old new : Shelf) (t : Live) (l0 l1 : List ℕ) (before nodes : List Node) (g : Grew) (f : PlaceFault) → Descends P old t.height t.root None l0 before l1 nodes g → HasRootCause t g f →

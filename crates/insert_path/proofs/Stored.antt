@@ -27,7 +27,7 @@ use Rattle.insert_path.specs.Walk.{inner_ball}
 use Rattle.insert_path.specs.Descent.{Plan, leaf_ball, leaf_with, inner_with, new_entry, entry_of, regrown, IsStaged, Descends}
 use Rattle.insert_path.proofs.Holding.{by_staged, holds_staged, branch_at, agree_below, chosen_in}
 use Rattle.insert_path.proofs.Walked.{told_node}
-use Rattle.page_numbers.proofs.Standing.{HoldsFrom}
+use Rattle.page_store.proofs.Standing.{HoldsFrom}
 
 -- the nodes from a page down have the levels of their depth, and the distances to the routing points above
 abbrev pub IsStoredAt : Space → Nodes → ℕ → Option (List ℕ) → ℕ → Type 0

@@ -30,11 +30,11 @@ use Rattle.insert_path.proofs.Stored.{IsStoredAt, stored_of_sound, sound_of_stor
 use Rattle.insert_path.proofs.Paged.{descends_pages, descends_in}
 use Rattle.insert_path.proofs.Rooted.{tall, root_holds, root_tree, root_stored, root_pages, root_fresh}
 use Rattle.insert_path.proofs.Listing.{with_id, AreCounted, ids_more, placed_all, old_one, new_one, points_more, tags_more}
-use Rattle.page_numbers.specs.Placing.{live_pages, staged_tree, IsOver}
-use Rattle.page_numbers.specs.Numbers.{numbered}
-use Rattle.page_numbers.proofs.Standing.{HoldsFrom, trees_from, pages_from, stand_holds, trees_numbered, in_times, times_in, all_times}
-use Rattle.page_numbers.proofs.Given.{lower_or, given_once, free_none}
-use Rattle.page_numbers.proofs.Placed.{given_free, given_apart, given_each}
+use Rattle.page_store.specs.Placing.{live_pages, staged_tree, IsOver}
+use Rattle.page_store.specs.Numbers.{numbered}
+use Rattle.page_store.proofs.Standing.{HoldsFrom, trees_from, pages_from, stand_holds, trees_numbered, in_times, times_in, all_times}
+use Rattle.page_store.proofs.Given.{lower_or, given_once, free_none}
+use Rattle.page_store.proofs.Giving.{given_free, given_apart, given_each}
 
 module _ (P : Plan) (shelf : Shelf) (tells : IsTrue shelf.tells) (t : Live) (left : List ℕ) (nodes : List Node) (root height : ℕ) (walks : Walks P shelf t left nodes root height) (new : Nodes)
     (holds : HoldsFrom new P.number 0 nodes) (agree : Agree (nodes_of shelf.read) new (live_pages (nodes_of shelf.read) t)) where

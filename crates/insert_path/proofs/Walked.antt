@@ -21,8 +21,8 @@ use Rattle.insert_path.specs.Placing.{walk_pages, is_split, parts, fresh_in, fre
 use Rattle.insert_path.specs.Descent.{Plan, rules_of, leaf_ball, leaf_with, inner_with, new_entry, entry_of, regrown, is_two, IsStaged, Descends}
 use Rattle.insert_path.proofs.Level.{child_page}
 use Rattle.insert_path.proofs.Holding.{grown_tree, branch_at, holds_staged, inner_balls, leaf_shown, inner_shown, regrown_shown, tree_same, map_more, agree_below, chosen_in}
-use Rattle.page_numbers.specs.Placing.{level_of}
-use Rattle.page_numbers.proofs.Standing.{HoldsFrom, trees_from, trees_more}
+use Rattle.page_store.specs.Placing.{level_of}
+use Rattle.page_store.proofs.Standing.{HoldsFrom, trees_from, trees_more}
 
 -- a descent's nodes stand behind the earlier ones
 pub holds_descends : (P : Plan) (shelf : Shelf) (file : Nodes) (h page : ℕ) (above : Option (List ℕ)) (l0 : List ℕ) (old : List Node) (l1 : List ℕ) (new : List Node) (g : Grew) →

@@ -11,7 +11,7 @@ use Rattle.page_store.specs.declared.pages.PageFault.TheVariants.{Level}
 use Rattle.page_store.specs.declared.staging.Placed.{Placed}
 use Rattle.page_store.specs.Reading.{Read, nodes_of}
 use Rattle.insert_path.specs.Walk.{chosen_child, walk_fault}
-use Rattle.page_numbers.specs.Placing.{live_pages, staged_tree}
+use Rattle.page_store.specs.Placing.{live_pages, staged_tree}
 
 -- the pages that a point's walk opens, from a page of this height down
 abbrev pub walk_pages : Space → Nodes → List ℕ → ℕ → ℕ → List ℕ

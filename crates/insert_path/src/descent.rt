@@ -6,7 +6,7 @@ ghost use Rattle.tree_shape.specs.declared.entry.Node.TheVariants.{Leaf, Inner};
 ghost use Rattle.insert_path.specs.Walk.{walk_fault, inner_ball};
 ghost use Rattle.insert_path.specs.Causes.{HasAsked, HasWalkCause};
 ghost use Rattle.insert_path.specs.Descent.{plan_of, above_of, leaf_ball, leaf_with, inner_with, new_entry, entry_of, regrown, IsNear, IsSmall, IsStaged, Descends};
-ghost use Rattle.page_numbers.specs.Numbers.{number_at};
+ghost use Rattle.page_store.specs.Numbers.{number_at};
 
 use crate::choice::choose;
 use crate::grew::{Grew, Stem};

@@ -3,7 +3,7 @@ ghost use Rattle.insert_path.specs.Descent.{plan_of, rules_of, root_entry, Roots
 ghost use Rattle.insert_path.specs.Causes.{HasAsked, HasTreeCause};
 ghost use Rattle.insert_path.specs.Placing.{place_fault};
 ghost use Rattle.insert_path.specs.Roots.{HasRootCause};
-ghost use Rattle.page_numbers.specs.Numbers.{number_at};
+ghost use Rattle.page_store.specs.Numbers.{number_at};
 
 use crate::PlaceFault;
 use crate::descent::descend;
@@ -11,8 +11,7 @@ use crate::grew::{Grew, Stem};
 use crate::staging::stage_node;
 use crate::task::{Spot, Task, Written};
 use metric_laws::{Listed, Memory, Ruler};
-use page_numbers::NewTree;
-use page_store::{PageFault, Pages};
+use page_store::{NewTree, PageFault, Pages};
 use std::alloc::Global;
 use tree_shape::{InnerEntry, Live, Node};
 

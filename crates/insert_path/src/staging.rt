@@ -4,7 +4,7 @@ ghost use Rattle.metric_laws.specs.Space.{bound};
 ghost use Rattle.tree_shape.specs.declared.entry.Node.{Node};
 ghost use Rattle.tree_shape.specs.declared.entry.Node.TheVariants.{Leaf, Inner};
 ghost use Rattle.insert_path.specs.Descent.{plan_of, stem_of, IsStaged};
-ghost use Rattle.page_numbers.specs.Numbers.{number_at};
+ghost use Rattle.page_store.specs.Numbers.{number_at};
 
 use crate::grew::{Grew, Stem};
 use crate::task::Task;

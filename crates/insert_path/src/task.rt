@@ -1,4 +1,4 @@
-use page_numbers::Numbering;
+use page_store::Numbering;
 use promote_split::Policy;
 use tree_shape::{Bounds, Node};
 

@@ -4,8 +4,8 @@ ghost use Rattle.node_page.specs.Heads.{IsLawfulHead};
 ghost use Rattle.node_page.specs.Nodes.{IsLawfulNode};
 ghost use Rattle.node_page.specs.Opening.{IsLawfulLive};
 ghost use Rattle.page_store.specs.Reading.{IsWithin, nodes_of, reading};
-ghost use Rattle.page_numbers.specs.Numbers.{AreNumbers};
-ghost use Rattle.page_numbers.specs.Placing.{AreOutside};
+ghost use Rattle.page_store.specs.Numbers.{AreNumbers};
+ghost use Rattle.page_store.specs.Placing.{AreOutside};
 
 use crate::{PlaceFault, place};
 use metric_laws::{Meter, Ruler};

@@ -1,2 +1,5 @@
 pub mod Apart
 pub mod Results
+pub mod Given
+pub mod Standing
+pub mod Giving

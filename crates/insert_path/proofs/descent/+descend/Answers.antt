@@ -3,7 +3,7 @@ use Rattle.std.proofs.lemmas.Result.{err_from_is_err_and}
 use Rattle.insert_path.specs.Descent.{above_of}
 use Rattle.insert_path.proofs.Level.{cause_here, leaf_high, inner_other, fault_below, cause_below, level_above, read_near, small_descends, leaf_step, inner_step}
 use Rattle.insert_path.proofs.descent.+descend.Goals as goal
-use Rattle.page_numbers.specs.Numbers.{number_at}
+use Rattle.page_store.specs.Numbers.{number_at}
 
 pub returns-in_err-node-clause-cause : goal.returns-in_err-node-clause-cause
 returns-in_err-node-clause-cause g t c =

@@ -4,7 +4,7 @@ use Rattle.tree_shape.specs.declared.entry.Node.TheVariants.{Leaf}
 use Rattle.insert_path.specs.Descent.{plan_of, leaf_ball, leaf_with}
 use Rattle.insert_path.proofs.Staged.{staged_by, leaf_added}
 use Rattle.insert_path.proofs.descent.at_leaf.Goals as goal
-use Rattle.page_numbers.specs.Numbers.{number_at}
+use Rattle.page_store.specs.Numbers.{number_at}
 
 pub returns-clause-staged : goal.returns-clause-staged
 returns-clause-staged g c =

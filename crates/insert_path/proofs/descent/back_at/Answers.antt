@@ -5,7 +5,7 @@ use Rattle.insert_path.specs.Walk.{inner_ball}
 use Rattle.insert_path.specs.Descent.{plan_of, inner_with}
 use Rattle.insert_path.proofs.Staged.{staged_by}
 use Rattle.insert_path.proofs.descent.back_at.Goals as goal
-use Rattle.page_numbers.specs.Numbers.{number_at}
+use Rattle.page_store.specs.Numbers.{number_at}
 
 pub returns-clause-staged : goal.returns-clause-staged
 returns-clause-staged g c =

@@ -2,7 +2,7 @@ use Rattle.std.proofs.lemmas.Result.{err_from_is_err_and}
 use Rattle.insert_path.specs.Descent.{plan_of}
 use Rattle.insert_path.proofs.Rooted.{root_cause}
 use Rattle.insert_path.proofs.growth.grow.Goals as goal
-use Rattle.page_numbers.specs.Numbers.{number_at}
+use Rattle.page_store.specs.Numbers.{number_at}
 
 pub returns-in_err-grown-in-Ok-clause-cause : goal.returns-in_err-grown-in-Ok-clause-cause
 returns-in_err-grown-in-Ok-clause-cause g c =

@@ -12,10 +12,10 @@ use Rattle.insert_path.specs.Placing.{place_fault}
 use Rattle.insert_path.proofs.Undamaged.{sound_faultless, tree_undamaged}
 use Rattle.insert_path.proofs.Top.{has_inserted}
 use Rattle.insert_path.proofs.placing.place.Goals as goal
-use Rattle.page_numbers.specs.Numbers.{number_at}
-use Rattle.page_numbers.specs.Placing.{HasRoomCause, IsPlacement}
-use Rattle.page_numbers.proofs.Placed.{staged_out, given_out}
-use Rattle.page_numbers.proofs.Given.{number_up, number_within}
+use Rattle.page_store.specs.Numbers.{number_at}
+use Rattle.page_store.specs.Placing.{HasRoomCause, IsPlacement}
+use Rattle.page_store.proofs.Giving.{staged_out, given_out}
+use Rattle.page_store.proofs.Given.{number_up, number_within}
 
 pub settle-requires-clause-count : goal.settle-requires-clause-count
 settle-requires-clause-count g c =

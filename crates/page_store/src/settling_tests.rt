@@ -1,8 +1,7 @@
 ghost use Rattle.std.specs.Prelude.{◌≡◌, ◌≤◌, ◌^◌, length, IfOk};
 
-use crate::{NewTree, Numbering, RoomFault, settle};
+use crate::{NewTree, Numbering, Placed, RoomFault, settle};
 use metric_laws::{Listed, Memory};
-use page_store::Placed;
 use std::alloc::Global;
 use std::process::Abort;
 use tree_shape::{Live, Node};

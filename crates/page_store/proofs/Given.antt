@@ -9,8 +9,8 @@ use Rattle.tree_shape.specs.declared.entry.Node.{Node}
 use Rattle.tree_shape.specs.Tree.{times}
 use Rattle.page_store.specs.declared.staging.StagedNode.{StagedNode}
 use Rattle.page_store.specs.Staging.{pages_of, IsFree, staged_for}
-use Rattle.page_numbers.specs.Numbers.{number_at, numbered, Ascends, AreNumbers}
-use Rattle.page_numbers.proofs.Standing.{pages_from}
+use Rattle.page_store.specs.Numbers.{number_at, numbered, Ascends, AreNumbers}
+use Rattle.page_store.proofs.Standing.{pages_from}
 
 pub low_at : (low : ℕ) (xs : List ℕ) (i : ℕ) → Ascends low xs → i < length xs → low ≤ get_or xs i 0
 low_at low [] i up less = absurd (omega arith)

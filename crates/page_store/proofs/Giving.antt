@@ -16,10 +16,10 @@ use Rattle.page_store.specs.declared.staging.Placed.{Placed}
 use Rattle.page_store.specs.declared.staging.StagedNode.{StagedNode}
 use Rattle.page_store.specs.Reading.{IsWithin}
 use Rattle.page_store.specs.Staging.{pages_of, IsFree}
-use Rattle.page_numbers.specs.Numbers.{number_at, numbered, AreNumbers}
-use Rattle.page_numbers.specs.Placing.{live_pages, AreOutside, IsPlacement}
-use Rattle.page_numbers.proofs.Standing.{pages_from, in_get, in_times}
-use Rattle.page_numbers.proofs.Given.{lower_or, number_in, number_out, number_within, pages_numbered, numbered_long, pages_range, end_given}
+use Rattle.page_store.specs.Numbers.{number_at, numbered, AreNumbers}
+use Rattle.page_store.specs.Placing.{live_pages, AreOutside, IsPlacement}
+use Rattle.page_store.proofs.Standing.{pages_from, in_get, in_times}
+use Rattle.page_store.proofs.Given.{lower_or, number_in, number_out, number_within, pages_numbered, numbered_long, pages_range, end_given}
 
 -- pages that are given lie outside the live tree
 pub given_out : (nodes : Nodes) (t : Live) (numbers : List ℕ) → AreOutside nodes t numbers → AllByRecursion (IsNodePage t) (live_pages nodes t) → (i : ℕ) → times (number_at numbers t.pages i) (live_pages nodes t) ≡ 0
