@@ -1,0 +1,2 @@
+//! Bulk loading.
+#![tactic(auto)]
