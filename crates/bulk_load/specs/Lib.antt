@@ -1,2 +1,4 @@
+pub mod Groupable
+pub mod Sets
 pub mod Postorder
 pub mod Loaded

@@ -1,0 +1,32 @@
+-- The sets from which nodes are built.
+use Rattle.std.specs.Prelude.{◌≡◌, ℕ, ◌+◌, ◌^◌, ◌<◌, ◌≤◌, Bool, true, false, List, length, IsTrue}
+use Rattle.std.specs.List.{AllByRecursion}
+use Rattle.metric_laws.specs.Space.{Space}
+use Rattle.tree_shape.specs.declared.filling.Bounds.{Bounds}
+use Rattle.tree_shape.specs.declared.rules.Group.{Group}
+use Rattle.tree_shape.specs.Fill.{most_for, least_for}
+use Rattle.tree_shape.specs.Bulk.{Load}
+use Rattle.insert_path.specs.Placing.{Ascends}
+
+abbrev pub load_of : Space → List (List ℕ) → List ℕ → Bounds → Load
+load_of s rows labels fill = record { space = s; points = rows; tags = labels; most = fill.most; least = fill.least }
+
+-- points of the space, with a tag for each, and the fill that the space asks for
+pub record IsLawfulLoad (l : Load) : Type 0 where
+  pub fits : AllByRecursion (λ p. IsTrue (l.space.fits p)) l.points
+  pub tagged : length l.tags ≡ length l.points
+  pub most : l.most ≡ most_for l.space.words
+  pub least : l.least ≡ least_for l.space.words
+
+-- a set of rows, in order, of a size that a node of this level can hold
+pub record IsSetFor (l : Load) (is_root : Bool) (h : ℕ) (set : List ℕ) : Type 0 where
+  pub places : AllByRecursion (λ k. k < length l.points) set
+  pub ascends : Ascends 0 set
+  pub some : 0 < length set
+  pub above : is_root ≡ true → 1 ≤ h → l.most ^ h < length set
+  pub enough : is_root ≡ false → l.least ^ (h + 1) ≤ length set
+  pub at_most : length set ≤ l.most ^ (h + 1)
+
+-- a group whose subtree's root is of this level
+abbrev pub IsGroupFor : Load → ℕ → Group → Type 0
+IsGroupFor l h g = (g.seed < length l.points) × IsSetFor l false h g.members
