@@ -1,0 +1,26 @@
+ghost use Rattle.std.specs.Prelude.{◌≡◌, ◌≤◌, ◌^◌};
+ghost use Rattle.page_numbers.specs.Numbers.{number_at};
+
+/// Which pages new nodes get.
+#[derive(Clone, Copy, Debug)]
+pub struct Numbering<'a> {
+    /// Pages for the first new nodes, in strictly ascending order.
+    pub numbers: &'a [u32],
+    /// The page of the first new node that gets none of these; the later ones follow.
+    pub first: u32,
+}
+
+impl Numbering<'_> {
+    /// The page of the new node at a place, from 0.
+    pub fn page_at(&self, place: usize) -> u32
+        requires first { self.now.first ≤ 2 ^ 24 }
+        requires few { place ≤ 2 ^ 26 }
+        ensures { result ≡ number_at self.now.numbers.now self.now.first place }
+    {
+        if place < self.numbers.len() {
+            self.numbers[place]
+        } else {
+            self.first + (place - self.numbers.len()) as u32
+        }
+    }
+}
