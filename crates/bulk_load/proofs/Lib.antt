@@ -1,3 +1,5 @@
 pub mod Shown
 pub mod Sizes
-pub mod Subtree
+pub mod Looped
+pub mod Kept
+pub mod Whole

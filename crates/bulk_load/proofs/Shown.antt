@@ -11,15 +11,16 @@ use Rattle.tree_shape.specs.Tree.{Nodes, leaf_entries, inner_entries, pages_at, 
 use Rattle.tree_shape.specs.Plain.{Object, Branch, Plain, Tall, object_of, tree_at}
 use Rattle.tree_shape.specs.Bulk.{Load, point_of, object_at, radius_of, groups_at, built_at}
 use Rattle.tree_shape.proofs.Counting.{times-append}
-use Rattle.insert_path.specs.Placing.{level_of}
-use Rattle.insert_path.proofs.Holding.{HoldsFrom, holds_append, branch_at}
-use Rattle.insert_path.proofs.Paged.{pages_from, pages_append, below_in}
-use Rattle.insert_path.proofs.Stored.{IsStoredAt, IsStoredEntry}
-use Rattle.insert_path.proofs.Walked.{trees_from, trees_append, tall_at}
+use Rattle.page_numbers.specs.Placing.{level_of}
+use Rattle.page_numbers.proofs.Standing.{HoldsFrom, holds_append, pages_from, pages_append, trees_from, trees_append}
+use Rattle.page_numbers.proofs.Stored.{branch_at, below_in, IsStoredAt, IsStoredEntry}
 use Rattle.bulk_load.specs.Postorder.{subtrees, is_top, seed_point, leaf_entry, group_entry, last_of, below_groups, group_entries, nodes_at}
 
 pub last_is : (number : ℕ → ℕ) (i : ℕ) (xs : List Node) (x : Node) → last_of number i (xs ++ x ∷ []) ≡ number (i + length xs)
 last_is number i xs x = ap number (let n = length-append xs (x ∷ []) in omega (arith, n))
+
+abbrev pub tall_at : Nodes → ℕ → ℕ → Tall
+tall_at file page k = record { height = k; tree = tree_at file k page }
 
 -- the last node stands on the last page
 pub last_stands : (new : Nodes) (number : ℕ → ℕ) (i : ℕ) (xs : List Node) (x : Node) → HoldsFrom new number i (xs ++ x ∷ []) → new (last_of number i (xs ++ x ∷ [])) ≡ Some x

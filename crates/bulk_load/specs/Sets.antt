@@ -6,7 +6,7 @@ use Rattle.tree_shape.specs.declared.filling.Bounds.{Bounds}
 use Rattle.tree_shape.specs.declared.rules.Group.{Group}
 use Rattle.tree_shape.specs.Fill.{most_for, least_for}
 use Rattle.tree_shape.specs.Bulk.{Load}
-use Rattle.insert_path.specs.Placing.{Ascends}
+use Rattle.page_numbers.specs.Numbers.{Ascends}
 
 abbrev pub load_of : Space → List (List ℕ) → List ℕ → Bounds → Load
 load_of s rows labels fill = record { space = s; points = rows; tags = labels; most = fill.most; least = fill.least }

@@ -5,12 +5,13 @@ ghost use Rattle.metric_laws.specs.Space.{bound};
 ghost use Rattle.tree_shape.specs.declared.entry.Node.TheVariants.{Leaf, Inner};
 ghost use Rattle.tree_shape.specs.Tree.{parent_distance};
 ghost use Rattle.tree_shape.specs.Bulk.{point_of, radius_of};
-ghost use Rattle.insert_path.specs.Descent.{number_at};
+ghost use Rattle.page_numbers.specs.Numbers.{number_at};
 ghost use Rattle.bulk_load.specs.Sets.{load_of, IsLawfulLoad, IsSetFor};
 ghost use Rattle.bulk_load.specs.Postorder.{is_top, seed_point, leaf_entry, group_entry, last_of, nodes_at};
 
 use crate::grouping::groups;
 use metric_laws::{Listed, Memory, Metric, Point, Rows};
+use page_numbers::Numbering;
 use std::alloc::Global;
 use std::thread::Threads;
 use tree_shape::{Bounds, Group, InnerEntry, LeafEntry, Node};
@@ -26,17 +27,15 @@ pub struct Loading<'a, M: Metric> {
     pub tags: &'a [u64],
     /// How many entries a node may have.
     pub fill: Bounds,
-    /// Pages for new nodes, in order.
-    pub numbers: &'a [u32],
-    /// The page of the first new node that gets none of these; the later ones follow.
-    pub first: u32,
+    /// Which pages the nodes get.
+    pub numbering: Numbering<'a>,
 }
 
 /// The rows of a subtree.
 #[derive(Clone, Copy)]
 pub struct Set<'a> {
     /// The level of the subtree's root.
-    pub level: u8,
+    pub level: u32,
     /// The row whose point is the routing point above, unless the subtree is the whole tree.
     pub seed: Option<u32>,
     /// The places of the rows, which ascend.
@@ -121,27 +120,14 @@ fn group_entry_of<M: Metric>(alloc: Global, loading: &Loading<'_, M>, seed: Opti
     })
 }
 
-// The page of the new node at a place.
-fn page_at<M: Metric>(loading: &Loading<'_, M>, place: usize) -> u32
-    requires first { loading.now.first ≤ 2 ^ 24 }
-    requires few { place < 2 ^ 28 }
-    ensures { result ≡ number_at loading.now.numbers.now loading.now.first place }
-{
-    if place < loading.numbers.len() {
-        loading.numbers[place]
-    } else {
-        loading.first + (place - loading.numbers.len()) as u32
-    }
-}
-
 // Adds a node after the others, and gives its page.
 fn push_node<M: Metric>(loading: &Loading<'_, M>, node: Node, nodes: &mut Vec<Node>) -> Result<u32, Memory>
-    requires first { loading.now.first ≤ 2 ^ 24 }
-    requires few { length nodes.old.items < 2 ^ 28 }
-    ensures page { IfOk result (λ page. page ≡ number_at loading.now.numbers.now loading.now.first (length nodes.old.items)) }
+    requires first { loading.now.numbering.first ≤ 2 ^ 24 }
+    requires few { length nodes.old.items < 2 ^ 26 }
+    ensures page { IfOk result (λ page. page ≡ number_at loading.now.numbering.numbers.now loading.now.numbering.first (length nodes.old.items)) }
     ensures nodes { OnOk result (nodes.new.items ≡ nodes.old.items ++ node ∷ []) }
 {
-    let page = page_at(loading, nodes.len());
+    let page = loading.numbering.page_at(nodes.len());
     nodes.push(node)?;
     Ok(page)
 }
@@ -152,19 +138,20 @@ pub fn add_subtree<R: Threads + Sync, M: Metric>(rt: &R, alloc: Global, loading:
     requires load { IsLawfulLoad (load_of (M.space loading.now.metric) loading.now.rows.now.points loading.now.tags.now loading.now.fill) }
     requires rows { length loading.now.rows.now.points < 2 ^ 32 }
     requires workers { (1 ≤ loading.now.workers) × (loading.now.workers ≤ 64) }
-    requires first { loading.now.first ≤ 2 ^ 24 }
+    requires first { loading.now.numbering.first ≤ 2 ^ 24 }
     requires seed { IfSome set.now.seed (λ k. k < length loading.now.rows.now.points) }
     requires set { IsSetFor (load_of (M.space loading.now.metric) loading.now.rows.now.points loading.now.tags.now loading.now.fill) (is_top set.now.seed) set.now.level set.now.places.now }
     requires level { set.now.level ≤ 14 }
-    requires few { length nodes.old.items + length (nodes_at (load_of (M.space loading.now.metric) loading.now.rows.now.points loading.now.tags.now loading.now.fill) (number_at loading.now.numbers.now loading.now.first) set.now.level set.now.seed set.now.places.now (length nodes.old.items)) ≤ 2 ^ 28 }
-    ensures page { IfOk result (λ page. page ≡ last_of (number_at loading.now.numbers.now loading.now.first) (length nodes.old.items)
-        (nodes_at (load_of (M.space loading.now.metric) loading.now.rows.now.points loading.now.tags.now loading.now.fill) (number_at loading.now.numbers.now loading.now.first) set.now.level set.now.seed set.now.places.now (length nodes.old.items))) }
+    requires few { length nodes.old.items + length (nodes_at (load_of (M.space loading.now.metric) loading.now.rows.now.points loading.now.tags.now loading.now.fill) (number_at loading.now.numbering.numbers.now loading.now.numbering.first) set.now.level set.now.seed set.now.places.now (length nodes.old.items)) ≤ 2 ^ 26 }
+    ensures page { IfOk result (λ page. page ≡ last_of (number_at loading.now.numbering.numbers.now loading.now.numbering.first) (length nodes.old.items)
+        (nodes_at (load_of (M.space loading.now.metric) loading.now.rows.now.points loading.now.tags.now loading.now.fill) (number_at loading.now.numbering.numbers.now loading.now.numbering.first) set.now.level set.now.seed set.now.places.now (length nodes.old.items))) }
     ensures nodes { OnOk result (nodes.new.items ≡ nodes.old.items
-        ++ nodes_at (load_of (M.space loading.now.metric) loading.now.rows.now.points loading.now.tags.now loading.now.fill) (number_at loading.now.numbers.now loading.now.first) set.now.level set.now.seed set.now.places.now (length nodes.old.items)) }
+        ++ nodes_at (load_of (M.space loading.now.metric) loading.now.rows.now.points loading.now.tags.now loading.now.fill) (number_at loading.now.numbering.numbers.now loading.now.numbering.first) set.now.level set.now.seed set.now.places.now (length nodes.old.items)) }
 {
     if set.level == 0 {
         let entries = leaf_entries(alloc, loading, set)?;
-        return push_node(loading, Node::Leaf(Listed::new(entries)), nodes);
+        let page = push_node(loading, Node::Leaf(Listed::new(entries)), nodes)?;
+        return Ok(page);
     }
     let groups = groups(
         rt,
@@ -173,7 +160,7 @@ pub fn add_subtree<R: Threads + Sync, M: Metric>(rt: &R, alloc: Global, loading:
         loading.workers,
         loading.rows,
         set.places,
-        u32::from(set.level),
+        set.level,
         set.seed.is_none(),
         &loading.fill,
     )?;
@@ -189,5 +176,10 @@ pub fn add_subtree<R: Threads + Sync, M: Metric>(rt: &R, alloc: Global, loading:
         entries.push(entry)?;
     }
     let entries = Listed::new(entries);
-    push_node(loading, Node::Inner { level: set.level, entries }, nodes)
+    let node = Node::Inner {
+        level: set.level as u8,
+        entries,
+    };
+    let page = push_node(loading, node, nodes)?;
+    Ok(page)
 }

@@ -1,3 +1,5 @@
 pub mod Given
 pub mod Standing
 pub mod Placed
+pub mod Stored
+pub mod Ids
