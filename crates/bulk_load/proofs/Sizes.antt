@@ -128,7 +128,7 @@ groups_own s space rows tags fits is_root h set k = record {
         let t = three in omega (arith, b, l, t, same)
 
 module _ (l : Load) (space : IsSpace l.space) (lawful : IsLawfulLoad l) where
-  same_load : load l.space space l.points l.tags lawful.fits ≡ l
+  pub same_load : load l.space space l.points l.tags lawful.fits ≡ l
   same_load =
       ap (λ (m : ℕ). record { space = l.space; points = l.points; tags = l.tags; most = m; least = least_for l.space.words }) (sym lawful.most)
       ∙ ap (λ (m : ℕ). record { space = l.space; points = l.points; tags = l.tags; most = l.most; least = m }) (sym lawful.least)

@@ -45,10 +45,10 @@ module _ (l : Load) (space : IsSpace l.space) (lawful : IsLawfulLoad l) (number 
   pub is : Shown l new number (top_height l) None (built_at l true (top_height l) (places l)) 0 (top_nodes l number)
   is = shown l new number (top_height l) None (places l) 0 holds
 
-  built_same : built_of l ≡ built l.space l.points l.tags
+  pub built_same : built_of l ≡ built l.space l.points l.tags
   built_same = sym (ap built_of (same_load l space lawful))
 
-  tall : ℕ → ℕ → Tall
+  abbrev tall : ℕ → ℕ → Tall
   tall root height = record { height = height; tree = tree_at new height root }
 
   pub next_tree : tree_of new next ≡ built l.space l.points l.tags
