@@ -26,19 +26,12 @@ use Rattle.page_numbers.proofs.Given.{lower_or, number_up, number_within, given_
 use Rattle.page_numbers.proofs.Placed.{given_out, given_apart, given_each}
 use Rattle.page_numbers.proofs.Stored.{IsStoredAt, sound_of_stored}
 use Rattle.page_numbers.proofs.Ids.{with_id, tally_ids, tally_count, AreCounted}
-use Rattle.bulk_load.specs.Sets.{IsLawfulLoad}
+use Rattle.bulk_load.specs.Sets.{top_height, top_nodes, IsLawfulLoad}
 use Rattle.bulk_load.specs.Postorder.{subtrees_of, last_of, nodes_at}
 use Rattle.bulk_load.specs.Loaded.{Stand, LeavesOld, HasLoaded}
 use Rattle.bulk_load.proofs.Shown.{Shown, shown}
 use Rattle.bulk_load.proofs.Sizes.{same_load, most_some}
 use Rattle.bulk_load.proofs.Kept.{IsRow, rows_once, row_of_id, points_all, tags_all}
-
--- the height of the tree of all rows, and its nodes
-abbrev pub top_height : Load → ℕ
-top_height l = height_of l.most (length l.points)
-
-abbrev pub top_nodes : Load → (ℕ → ℕ) → List Node
-top_nodes l number = nodes_at l number (top_height l) None (places l) 0
 
 module _ (l : Load) (space : IsSpace l.space) (lawful : IsLawfulLoad l) (number : ℕ → ℕ) (new : Nodes) (next : Live) (at_root : next.root ≡ last_of number 0 (top_nodes l number)) (at_height : next.height ≡ top_height l)
     (counted : next.count ≡ length l.points) (holds : HoldsFrom new number 0 (top_nodes l number)) where
@@ -151,3 +144,18 @@ has_loaded l space lawful t numbers placed empty low are staged at_root at_heigh
               )),
           (λ both. subst (IsIn page) (one ∙ sym left) both.0),
         )
+
+-- by the tree whose nodes were staged
+pub has_loaded_by : (l : Load) → IsSpace l.space → IsLawfulLoad l → (t : Live) (numbers : List ℕ) (placed : Placed) (nodes : List Node) (root height added : ℕ) → t.count ≡ 0 → 3 ≤ t.pages → AreNumbers t.pages numbers →
+    nodes ≡ top_nodes l (number_at numbers t.pages) → root ≡ last_of (number_at numbers t.pages) 0 nodes → height ≡ top_height l → added ≡ length l.points →
+    placed.staged ≡ numbered (number_at numbers t.pages) 0 nodes →
+    placed.next ≡ record { side = 1 - t.side; generation = t.generation + 1; root = root; height = height; count = t.count + added; pages = t.pages + (length nodes - length numbers) } → placed.left ≡ t.root ∷ [] →
+    (new : Nodes) → Stand placed.staged new → HasLoaded l.space l.points l.tags t numbers placed new
+has_loaded_by l space lawful t numbers placed nodes root height added empty low are is at high many staged next left =
+    has_loaded l space lawful t numbers placed empty low are
+    (staged ∙ ap (numbered (number_at numbers t.pages) 0) is)
+    (ap (λ (n : Live). n.root) next ∙ at ∙ ap (last_of (number_at numbers t.pages) 0) is)
+    (ap (λ (n : Live). n.height) next ∙ high)
+    (ap (λ (n : Live). n.count) next ∙ ap (λ (k : ℕ). t.count + k) many)
+    (ap (λ (n : Live). n.pages) next ∙ ap (λ (ns : List Node). t.pages + (length ns - length numbers)) is)
+    left

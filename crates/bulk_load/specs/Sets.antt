@@ -1,15 +1,25 @@
 -- The sets from which nodes are built.
-use Rattle.std.specs.Prelude.{◌≡◌, ℕ, ◌+◌, ◌^◌, ◌<◌, ◌≤◌, Bool, true, false, List, length, IsTrue}
+use Rattle.std.specs.Prelude.{◌≡◌, ℕ, ◌+◌, ◌^◌, ◌<◌, ◌≤◌, Bool, true, false, List, length, None, IsTrue}
 use Rattle.std.specs.List.{AllByRecursion}
 use Rattle.metric_laws.specs.Space.{Space}
 use Rattle.tree_shape.specs.declared.filling.Bounds.{Bounds}
 use Rattle.tree_shape.specs.declared.rules.Group.{Group}
 use Rattle.tree_shape.specs.Fill.{most_for, least_for}
-use Rattle.tree_shape.specs.Bulk.{Load}
+use Rattle.tree_shape.specs.declared.entry.Node.{Node}
+use Rattle.tree_shape.specs.Bulk.{Load, height_of, places}
 use Rattle.page_numbers.specs.Numbers.{Ascends}
+use Rattle.bulk_load.specs.Postorder.{nodes_at}
 
 abbrev pub load_of : Space → List (List ℕ) → List ℕ → Bounds → Load
 load_of s rows labels fill = record { space = s; points = rows; tags = labels; most = fill.most; least = fill.least }
+
+-- the height of the tree of all rows
+abbrev pub top_height : Load → ℕ
+top_height l = height_of l.most (length l.points)
+
+-- the nodes of the tree of all rows
+abbrev pub top_nodes : Load → (ℕ → ℕ) → List Node
+top_nodes l number = nodes_at l number (top_height l) None (places l) 0
 
 -- points of the space, with a tag for each, and the fill that the space asks for
 pub record IsLawfulLoad (l : Load) : Type 0 where
