@@ -14,26 +14,18 @@ use Rattle.tree_shape.specs.Fill.{most_for, least_for}
 use Rattle.tree_shape.specs.Plain.{Tall}
 use Rattle.tree_shape.specs.Bulk.{Load, built_of, groups_at, places}
 use Rattle.tree_shape.proofs.LoadSound.{places_long}
-use Rattle.node_page.specs.Heads.{is_limit, IsLawfulHead}
+use Rattle.node_page.specs.Heads.{IsLawfulHead}
 use Rattle.node_page.specs.Nodes.{IsLawfulNode}
 use Rattle.node_page.specs.declared.head.Head.{Head}
 use Rattle.page_store.specs.declared.staging.StagedNode.{StagedNode}
-use Rattle.page_numbers.specs.Numbers.{numbered}
-use Rattle.page_numbers.proofs.Given.{numbered_long}
+use Rattle.page_store.specs.Numbers.{numbered}
+use Rattle.page_store.proofs.Given.{numbered_long}
+use Rattle.page_store.proofs.Giving.{limit_small}
 use Rattle.bulk_load.specs.Causes.{node_count}
 use Rattle.bulk_load.specs.Postorder.{subtrees_of, is_top, last_of, below_groups, group_entries, nodes_at}
 use Rattle.bulk_load.specs.Sets.{load_of, top_height, top_nodes, IsLawfulLoad, IsSetFor}
 use Rattle.bulk_load.proofs.Lawful.{nodes_lawful}
 use Rattle.bulk_load.proofs.Sizes.{same_load, top_fits, height_low, nodes_few, nodes_long}
-
-pub limit_small : (limit : ℕ) → IsTrue (is_limit limit) → limit ≤ 2 ^ 24
-unfolding is_limit
-limit_small limit told = cases (nat_le 1 limit) (nat_le limit 16777216) refl told
-  where
-    cases : (a b : Bool) → nat_le limit 16777216 ≡ b → IsTrue (a && b) → limit ≤ 2 ^ 24
-    cases true true e told = let l : limit ≤ 16777216 = grind (arith, nat_tests) in l
-    cases true false e told = cc
-    cases false b e told = cc
 
 -- no head allows more rows
 pub rows_few : (head : Head) (count : ℕ) → IsLawfulHead head → count ≤ head.limit → count ≤ 2 ^ 24

@@ -9,7 +9,7 @@ use Rattle.tree_shape.specs.Tree.{times, point_of, points_from, tag_of, tags_fro
 use Rattle.tree_shape.specs.Plain.{Object, object_of}
 use Rattle.tree_shape.specs.Bulk.{Load, object_at, places_from}
 use Rattle.tree_shape.proofs.ById.{ids_of, object_of as object_with, point_of-in}
-use Rattle.page_numbers.proofs.Ids.{tally, AreCounted, once_counted, there_counted, tag_of-in}
+use Rattle.page_store.proofs.Ids.{tally, AreCounted, once_counted, there_counted, tag_of-in}
 
 -- the ids of rows in order
 before : (l : Load) (id k n : ℕ) → id < k → tally id (map (object_at l) (places_from k n)) ≡ 0

@@ -11,9 +11,9 @@ use Rattle.tree_shape.specs.Tree.{Nodes, leaf_entries, inner_entries, pages_at, 
 use Rattle.tree_shape.specs.Plain.{Object, Branch, Plain, Tall, object_of, tree_at}
 use Rattle.tree_shape.specs.Bulk.{Load, point_of, object_at, radius_of, groups_at, built_at}
 use Rattle.tree_shape.proofs.Counting.{times-append}
-use Rattle.page_numbers.specs.Placing.{level_of}
-use Rattle.page_numbers.proofs.Standing.{HoldsFrom, holds_append, pages_from, pages_append, trees_from, trees_append}
-use Rattle.page_numbers.proofs.Stored.{branch_at, below_in, IsStoredAt, IsStoredEntry}
+use Rattle.page_store.specs.Placing.{level_of}
+use Rattle.page_store.proofs.Standing.{HoldsFrom, holds_append, pages_from, pages_append, trees_from, trees_append}
+use Rattle.page_store.proofs.Stored.{branch_at, below_in, IsStoredAt, IsStoredEntry}
 use Rattle.bulk_load.specs.Postorder.{subtrees, is_top, seed_point, leaf_entry, group_entry, last_of, below_groups, group_entries, nodes_at}
 
 pub last_is : (number : ℕ → ℕ) (i : ℕ) (xs : List Node) (x : Node) → last_of number i (xs ++ x ∷ []) ≡ number (i + length xs)

@@ -20,8 +20,8 @@ use Rattle.tree_shape.proofs.Height.{three_at_least}
 use Rattle.tree_shape.proofs.Sized.{length_seeds}
 use Rattle.tree_shape.proofs.Loaded.{power_some, weigh, weigh_all, weight_of, groups_at_weigh}
 use Rattle.tree_shape.proofs.LoadSound.{load, four_times, IsGood, groups_good, groups_long, group_most, group_least, grows, height_is, places_long, places_low}
-use Rattle.page_numbers.specs.Numbers.{Ascends}
-use Rattle.page_numbers.proofs.Given.{next_at, lower_or}
+use Rattle.page_store.specs.Numbers.{Ascends}
+use Rattle.page_store.proofs.Given.{next_at, lower_or}
 use Rattle.bulk_load.specs.Sets.{IsLawfulLoad, IsSetFor, IsGroupFor}
 use Rattle.bulk_load.specs.Postorder.{subtrees, is_top, below_groups, group_entries, nodes_at}
 use Rattle.bulk_load.proofs.Shown.{group_branch}

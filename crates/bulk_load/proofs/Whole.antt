@@ -19,13 +19,13 @@ use Rattle.tree_shape.proofs.LoadSound.{load_is_sound, built_all}
 use Rattle.tree_shape.proofs.Reading.{same_objects}
 use Rattle.page_store.specs.declared.staging.StagedNode.{StagedNode}
 use Rattle.page_store.specs.declared.staging.Placed.{Placed}
-use Rattle.page_numbers.specs.Numbers.{number_at, numbered, AreNumbers}
-use Rattle.page_numbers.specs.Placing.{live_pages, AreOutside, staged_tree}
-use Rattle.page_numbers.proofs.Standing.{HoldsFrom, pages_from, trees_from, trees_numbered, stand_holds, in_times, times_in, all_times}
-use Rattle.page_numbers.proofs.Given.{lower_or, number_up, number_within, given_once}
-use Rattle.page_numbers.proofs.Placed.{given_out, given_apart, given_each}
-use Rattle.page_numbers.proofs.Stored.{IsStoredAt, sound_of_stored}
-use Rattle.page_numbers.proofs.Ids.{with_id, tally_ids, tally_count, AreCounted}
+use Rattle.page_store.specs.Numbers.{number_at, numbered, AreNumbers}
+use Rattle.page_store.specs.Placing.{live_pages, AreOutside, staged_tree}
+use Rattle.page_store.proofs.Standing.{HoldsFrom, pages_from, trees_from, trees_numbered, stand_holds, in_times, times_in, all_times}
+use Rattle.page_store.proofs.Given.{lower_or, number_up, number_within, given_once}
+use Rattle.page_store.proofs.Giving.{given_out, given_apart, given_each}
+use Rattle.page_store.proofs.Stored.{IsStoredAt, sound_of_stored}
+use Rattle.page_store.proofs.Ids.{with_id, tally_ids, tally_count, AreCounted}
 use Rattle.bulk_load.specs.Sets.{top_height, top_nodes, IsLawfulLoad}
 use Rattle.bulk_load.specs.Postorder.{subtrees_of, last_of, nodes_at}
 use Rattle.bulk_load.specs.Loaded.{Stand, LeavesOld, HasLoaded}

@@ -9,7 +9,7 @@ use Rattle.tree_shape.specs.Plain.{tree_of}
 use Rattle.tree_shape.specs.Bulk.{built}
 use Rattle.page_store.specs.declared.staging.Placed.{Placed}
 use Rattle.page_store.specs.declared.staging.StagedNode.{StagedNode}
-use Rattle.page_numbers.specs.Placing.{AreOutside, live_pages, staged_tree}
+use Rattle.page_store.specs.Placing.{AreOutside, live_pages, staged_tree}
 use Rattle.bulk_load.specs.Postorder.{subtrees_of}
 
 -- the staged nodes stand on their pages

@@ -7,7 +7,7 @@ use Rattle.tree_shape.specs.declared.rules.Group.{Group}
 use Rattle.tree_shape.specs.Fill.{most_for, least_for}
 use Rattle.tree_shape.specs.declared.entry.Node.{Node}
 use Rattle.tree_shape.specs.Bulk.{Load, height_of, places}
-use Rattle.page_numbers.specs.Numbers.{Ascends}
+use Rattle.page_store.specs.Numbers.{Ascends}
 use Rattle.bulk_load.specs.Postorder.{nodes_at}
 
 abbrev pub load_of : Space → List (List ℕ) → List ℕ → Bounds → Load

@@ -5,13 +5,13 @@ ghost use Rattle.metric_laws.specs.Space.{bound};
 ghost use Rattle.tree_shape.specs.declared.entry.Node.TheVariants.{Leaf, Inner};
 ghost use Rattle.tree_shape.specs.Tree.{parent_distance};
 ghost use Rattle.tree_shape.specs.Bulk.{point_of, radius_of};
-ghost use Rattle.page_numbers.specs.Numbers.{number_at};
+ghost use Rattle.page_store.specs.Numbers.{number_at};
 ghost use Rattle.bulk_load.specs.Sets.{load_of, IsLawfulLoad, IsSetFor};
 ghost use Rattle.bulk_load.specs.Postorder.{is_top, seed_point, leaf_entry, group_entry, last_of, nodes_at};
 
 use crate::grouping::groups;
 use metric_laws::{Listed, Memory, Metric, Point, Rows};
-use page_numbers::Numbering;
+use page_store::Numbering;
 use std::alloc::Global;
 use std::thread::Threads;
 use tree_shape::{Bounds, Group, InnerEntry, LeafEntry, Node};

@@ -1,51 +1,37 @@
 -- What an insertion places.
-use Rattle.std.proofs.Common.{◌≡◌, ◌≢◌, ◌⊎◌, ℕ, zero, suc, ◌+◌, ◌-◌, ◌*◌, ◌^◌, ◌<◌, ◌≤◌, Bool, true, false, List, [], ◌∷◌, refl, sym, ap, ◌∙◌, arith, length, map, subst, inl, inr, length-append}
+use Rattle.std.proofs.Common.{◌≡◌, ◌≢◌, ℕ, zero, suc, ◌-◌, ◌*◌, ◌^◌, ◌<◌, ◌≤◌, Bool, true, false, List, [], ◌∷◌, refl, sym, ap, ◌∙◌, arith, length, subst, inl, inr, length-append}
 use Rattle.std.specs.Prelude.{Option, None, IsTrue, nat_le, ◌&&◌}
-use Rattle.std.specs.List.{AllByRecursion, range_with_len}
+use Rattle.std.specs.List.{AllByRecursion}
 use Rattle.std.proofs.lemmas.Bool.Decides.{nat_tests}
 use Rattle.metric_laws.specs.Space.{Space, IsSpace}
-use Rattle.metric_laws.specs.Lists.{IsIn}
 use Rattle.tree_shape.specs.declared.live.Live.{Live}
 use Rattle.tree_shape.specs.declared.entry.Node.{Node}
 use Rattle.tree_shape.specs.Fill.{most_for, least_for}
-use Rattle.tree_shape.specs.Tree.{Nodes, times, IsNodePage}
 use Rattle.tree_shape.specs.Plain.{tree_at, tree_of}
 use Rattle.tree_shape.proofs.Height.{three_at_least}
 use Rattle.tree_shape.specs.Insertion.{Rules, rules, rules_for, inserted}
 use Rattle.node_page.specs.Heads.{is_limit, IsLawfulHead}
 use Rattle.node_page.specs.Nodes.{IsLawfulNode}
-use Rattle.node_page.specs.Opening.{IsLawfulLive}
 use Rattle.node_page.specs.declared.head.Head.{Head}
-use Rattle.page_store.specs.declared.staging.StagedNode.{StagedNode}
 use Rattle.page_store.specs.declared.staging.Placed.{Placed}
 use Rattle.page_store.specs.Shelf.{Shelf}
-use Rattle.page_store.specs.Reading.{IsWithin, nodes_of}
-use Rattle.page_store.specs.Staging.{pages_of}
-use Rattle.insert_path.specs.declared.faults.PlaceFault.{PlaceFault}
-use Rattle.insert_path.specs.declared.faults.PlaceFault.TheVariants.{Page, Full, NoRoom, Worn, Memory}
+use Rattle.page_store.specs.Reading.{nodes_of}
+use Rattle.page_store.proofs.Giving.{limit_small}
+use Rattle.insert_path.specs.declared.faults.PlaceFault.TheVariants.{NoRoom}
 use Rattle.insert_path.specs.declared.grew.Grew.{Grew}
 use Rattle.insert_path.specs.declared.grew.Grew.TheVariants.{One, Two}
 use Rattle.insert_path.specs.Walk.{inner_ball}
-use Rattle.insert_path.specs.Roots.{HasRoomCause}
 use Rattle.insert_path.specs.Causes.{HasPlaceCause}
-use Rattle.insert_path.specs.Placing.{live_pages, place_fault, fresh, fresh_root, fresh_of, AreNumbers, AreOutside, IsPlacement, HasWalked}
-use Rattle.insert_path.specs.Descent.{Plan, rules_of, leaf_ball, leaf_with, inner_with, number_at, numbered, IsStaged, Descends, Roots, Walks}
+use Rattle.insert_path.specs.Placing.{place_fault, fresh, fresh_root, fresh_of, HasWalked}
+use Rattle.insert_path.specs.Descent.{Plan, rules_of, leaf_ball, leaf_with, inner_with, IsStaged, Descends, Roots, Walks}
 use Rattle.insert_path.proofs.Level.{small_descends}
 use Rattle.insert_path.proofs.Walked.{descends_parity, descends_long, descends_left}
 use Rattle.insert_path.proofs.Rooted.{root_faultless, root_long, root_writable}
 use Rattle.insert_path.proofs.Writable.{descends_writable}
-use Rattle.insert_path.proofs.Numbers.{lower_or, number_in, number_out, number_within, pages_numbered, numbered_long, pages_range, end_given}
-use Rattle.insert_path.proofs.Holding.{in_get}
-use Rattle.insert_path.proofs.Top.{given_out, given_each}
-
-pub limit_small : (limit : ℕ) → IsTrue (is_limit limit) → limit ≤ 2 ^ 24
-unfolding is_limit
-limit_small limit told = cases (nat_le 1 limit) (nat_le limit 16777216) refl told
-  where
-    cases : (a b : Bool) → nat_le limit 16777216 ≡ b → IsTrue (a && b) → limit ≤ 2 ^ 24
-    cases true true e told = let l : limit ≤ 16777216 = grind (arith, nat_tests) in l
-    cases true false e told = cc
-    cases false b e told = cc
+use Rattle.page_store.specs.declared.settling.RoomFault.TheVariants.{NoRoom as Room}
+use Rattle.page_store.specs.Placing.{HasRoomCause}
+use Rattle.page_store.specs.Numbers.{numbered}
+use Rattle.page_store.proofs.Given.{numbered_long}
 
 pub count_small : (head : Head) (count : ℕ) → IsLawfulHead head → count ≤ head.limit → count ≢ head.limit → count < 2 ^ 24
 count_small head count lawful most other = let l = limit_small head.limit lawful.limit in omega (arith, l, most, other)
@@ -100,13 +86,9 @@ walks_long P shelf tells t left nodes root height w =
     omega (arith, deep, top, all)
 
 -- there is no room
-pub room_cause : (P : Plan) (old new : Shelf) (R : Rules) (numbers : List ℕ) (t : Live) (left : List ℕ) (nodes : List Node) (root height : ℕ) (f : PlaceFault) → rules_of P ≡ R → Walks P old t left nodes root height →
-    HasRoomCause t (length nodes - length numbers) f → HasPlaceCause P.space R numbers t P.object old new f
-room_cause P old new R numbers t left nodes root height (Page fault) same w cause = absurd cause
-room_cause P old new R numbers t left nodes root height Full same w cause = absurd cause
-room_cause P old new R numbers t left nodes root height Worn same w cause = absurd cause
-room_cause P old new R numbers t left nodes root height Memory same w cause = tt
-room_cause P old new R numbers t left nodes root height (NoRoom pages needed) same w cause = (
+pub room_cause : (P : Plan) (old new : Shelf) (R : Rules) (numbers : List ℕ) (t : Live) (left : List ℕ) (nodes : List Node) (root height pages needed : ℕ) → rules_of P ≡ R → Walks P old t left nodes root height →
+    HasRoomCause t (length nodes - length numbers) (Room pages needed) → HasPlaceCause P.space R numbers t P.object old new (NoRoom pages needed)
+room_cause P old new R numbers t left nodes root height pages needed same w cause = (
   cause.0,
   cause.2,
   λ tells. (
@@ -123,64 +105,6 @@ has_walked P shelf R tells t nodes root height placed same staged w = record {
   many = ap length staged ∙ numbered_long P.number 0 nodes ∙ walks_long P shelf tells t placed.left nodes root height w ∙ ap (λ (Q : Rules). length (fresh_of Q P.object (tree_of (nodes_of shelf.read) t))) same;
   left = descends_left P shelf tells t.height t.root None [] [] placed.left w.0 w.1 w.2;
 }
-
--- the staged pages lie outside the live tree
-pub staged_out : (nodes : Nodes) (t : Live) (numbers : List ℕ) (ns : List Node) (staged : List StagedNode) → staged ≡ numbered (number_at numbers t.pages) 0 ns → AreOutside nodes t numbers → AllByRecursion (IsNodePage t) (live_pages nodes t) →
-    AreOutside nodes t (pages_of staged)
-staged_out nodes t numbers ns staged is outside within =
-    subst (AreOutside nodes t) (sym (ap pages_of is ∙ pages_numbered (number_at numbers t.pages) 0 ns))
-    (given_each (λ n. times n (live_pages nodes t) ≡ 0) (number_at numbers t.pages) 0 (length ns) ns (omega arith) (λ j low. given_out nodes t numbers outside within j))
-
-all_numbered : (Q : ℕ → Type 0) (R : Node → Type 0) (number : ℕ → ℕ) (i k : ℕ) (ns : List Node) → k ≡ i + length ns → ((j : ℕ) → j < k → Q (number j)) → AllByRecursion R ns → AllByRecursion (λ s. Q s.page × R s.node) (numbered number i ns)
-all_numbered Q R number i k [] e each all = tt
-all_numbered Q R number i k (n ∷ ns) e each all = ((each i (omega (arith, e)), all.0), all_numbered Q R number (i + 1) k ns (omega (arith, e)) each all.1)
-
--- each page is one that was handed in, or one after the end
-all_given : (numbers : List ℕ) (first i : ℕ) (ns : List Node) → AllByRecursion (λ (s : StagedNode). IsIn s.page numbers ⊎ (first ≤ s.page)) (numbered (number_at numbers first) i ns)
-all_given numbers first i [] = tt
-all_given numbers first i (n ∷ ns) = (
-  lower_or i (length numbers)
-      (λ l. inl (subst (λ (p : ℕ). IsIn p numbers) (sym (number_in numbers first i l)) (in_get numbers i 0 l)))
-      (λ h. inr (let a = number_out numbers first i h in omega (arith, a))),
-  all_given numbers first (i + 1) ns,
-)
-
--- what is placed can be committed
-pub is_placement : (head : Head) (t : Live) (numbers : List ℕ) (nodes : List Node) (root height : ℕ) (placed : Placed) →
-    placed.staged ≡ numbered (number_at numbers t.pages) 0 nodes →
-    placed.next ≡ record { side = 1 - t.side; generation = t.generation + 1; root = root; height = height; count = t.count + 1; pages = t.pages + (length nodes - length numbers) } →
-    t.pages + (length nodes - length numbers) ≤ 2 ^ 24 → IsLawfulLive head.limit (t.pages * 4096) t → t.count ≢ head.limit → t.generation ≢ 2 ^ 48 - 1 → AreNumbers t.pages numbers →
-    (i : ℕ) × (i < length nodes) × (root ≡ number_at numbers t.pages i) → height ≤ 14 → AllByRecursion (IsLawfulNode head.dim) nodes → IsPlacement head t numbers placed
-is_placement head t numbers nodes root height placed staged next room live count generation are given high writable = record {
-  side = ap (λ (n : Live). n.side) next;
-  generation = ap (λ (n : Live). n.generation) next;
-  count = ap (λ (n : Live). n.count) next;
-  pages = ap (λ (n : Live). n.pages) next ∙ ap (λ (k : ℕ). t.pages + (k - length numbers)) (sym long);
-  lawful = subst (λ (n : Live). IsLawfulLive head.limit (n.pages * 4096) n) (sym next) (record {
-    low_generation = omega arith;
-    high_generation = (let g = live.high_generation in omega (arith, g, generation));
-    low_root = (let w = within given.0 given.1 in let e = given.2 in let a = w.0 in omega (arith, a, e));
-    high_root = (let w = within given.0 given.1 in let e = given.2 in let b = w.1 in omega (arith, b, e));
-    height = high;
-    count = (let c = live.count in omega (arith, c, count));
-    low_pages = (let p = live.low_pages in omega (arith, p));
-    high_pages = room;
-    room = omega arith;
-  });
-  numbered = ap pages_of staged ∙ pages_numbered (number_at numbers t.pages) 0 nodes ∙ pages_range (number_at numbers t.pages) 0 nodes ∙ ap (λ (k : ℕ). map (number_at numbers t.pages) (range_with_len 0 k)) (sym long);
-  nodes = subst (λ (k : ℕ). AllByRecursion (λ s. IsWithin k s.page × IsLawfulNode head.dim s.node) placed.staged) (sym (ap (λ (n : Live). n.pages) next))
-      (subst (AllByRecursion (λ s. IsWithin (t.pages + (length nodes - length numbers)) s.page × IsLawfulNode head.dim s.node)) (sym staged)
-      (all_numbered (IsWithin (t.pages + (length nodes - length numbers))) (IsLawfulNode head.dim) (number_at numbers t.pages) 0 (length nodes) nodes (omega arith) within writable));
-  given = subst (AllByRecursion (λ s. IsIn s.page numbers ⊎ (t.pages ≤ s.page))) (sym staged) (all_given numbers t.pages 0 nodes);
-  new_pages = λ page low below. subst (IsIn page) (sym (ap pages_of staged ∙ pages_numbered (number_at numbers t.pages) 0 nodes))
-      (end_given numbers t.pages nodes page low (let e = ap (λ (n : Live). n.pages) next in omega (arith, below, e)));
-}
-  where
-    long : length placed.staged ≡ length nodes
-    long = ap length staged ∙ numbered_long (number_at numbers t.pages) 0 nodes
-
-    within : (i : ℕ) → i < length nodes → IsWithin (t.pages + (length nodes - length numbers)) (number_at numbers t.pages i)
-    within i low = number_within numbers t.pages are (let p = live.low_pages in omega (arith, p)) i (length nodes) low
 
 -- the numbers of entries that a node may have
 pub fill_room : (s : Space) (most least dim : ℕ) → IsSpace s → s.words ≡ dim → most ≡ most_for dim → least ≡ least_for dim → (1 ≤ least) × (2 * least ≤ most)

@@ -17,16 +17,13 @@ use Rattle.tree_shape.proofs.Within.{Agree, child_agrees}
 use Rattle.promote_split.specs.declared.halves.Half.{Half}
 use Rattle.promote_split.specs.declared.halves.Halves.{Halves}
 use Rattle.promote_split.specs.Halves.{IsHalf, IsSplit}
+use Rattle.page_store.proofs.Stored.{branch_at}
 use Rattle.insert_path.specs.declared.grew.Stem.{Stem}
 use Rattle.insert_path.specs.declared.grew.Grew.{Grew}
 use Rattle.insert_path.specs.declared.grew.Grew.TheVariants.{One, Two}
 use Rattle.insert_path.specs.Walk.{inner_ball}
 use Rattle.insert_path.specs.Descent.{Plan, rules_of, leaf_ball, leaf_with, inner_with, stem_of, entry_of, with_child, regrown, IsStaged}
-
--- the nodes stand on their pages, from this number on
-abbrev pub HoldsFrom : Nodes → (ℕ → ℕ) → ℕ → List Node → Type 0
-HoldsFrom new number i [] = Unit {0}
-HoldsFrom new number i (n ∷ ns) = (new (number i) ≡ Some n) × HoldsFrom new number (i + 1) ns
+use Rattle.page_store.proofs.Standing.{HoldsFrom, holds_after, in_get}
 
 abbrev pub stem_branch : Nodes → (h : ℕ) → Stem → Branch (Plain h)
 stem_branch new h c = record { point = c.point; radius = c.radius; below = tree_at new h c.page }
@@ -35,24 +32,6 @@ stem_branch new h c = record { point = c.point; radius = c.radius; below = tree_
 abbrev pub grown_tree : Nodes → (h : ℕ) → Grew → Grown (Plain h)
 grown_tree new h (One page) = Whole (tree_at new h page)
 grown_tree new h (Two c d) = Halves2 (stem_branch new h c) (stem_branch new h d)
-
--- an entry with what lies below it
-abbrev pub branch_at : Nodes → (h : ℕ) → InnerEntry → Branch (Plain h)
-branch_at file h e = record { point = e.point; radius = e.radius; below = tree_at file h e.child }
-
-pub holds_append : (file : Nodes) (number : ℕ → ℕ) (i : ℕ) (xs ys : List Node) → HoldsFrom file number i (xs ++ ys) → HoldsFrom file number i xs × HoldsFrom file number (i + length xs) ys
-holds_append file number i [] ys h = let e : i + 0 ≡ i = omega arith in (tt, rw e h)
-holds_append file number i (x ∷ xs) ys h =
-    let r = holds_append file number (i + 1) xs ys h.1 in
-    let e : i + suc (length xs) ≡ i + 1 + length xs = omega arith in
-    ((h.0, r.0), rw e r.1)
-
--- the later nodes stand behind the earlier ones
-pub holds_after : (file : Nodes) (number : ℕ → ℕ) (old more new : List Node) → new ≡ old ++ more → HoldsFrom file number 0 new → HoldsFrom file number 0 old × HoldsFrom file number (length old) more
-holds_after file number old more new is holds =
-    let parts = holds_append file number 0 old more (subst (HoldsFrom file number 0) is holds) in
-    let z : 0 + length old ≡ length old = omega arith in
-    (parts.0, rw z at parts.1)
 
 pub holds_staged : {E : Type 0} (P : Plan) (ball : E → Ball) (set : E → ℕ → E) (make : List E → Node) (es : List E) (file : Nodes) (old new : List Node) (g : Grew) →
     IsStaged P ball set make es old new g → HoldsFrom file P.number 0 new → HoldsFrom file P.number 0 old
@@ -170,11 +149,6 @@ regrown_shown old new h grow far par g zero (e ∷ es) z low is same = subst (λ
 regrown_shown old new h grow far par g (suc i) (e ∷ es) z low is same =
     ap (λ (t : Plain h). record { point = e.point; radius = e.radius; below = t } ∷ map (branch_at new h) (regrown far par i g es)) (same e (inl refl))
     ∙ ap (λ (r : List (Branch (Plain h))). branch_at old h e ∷ r) (regrown_shown old new h grow far par g i es z (omega arith) is (λ x k. same x (inr k)))
-
-pub in_get : {X : Type 0} (xs : List X) (i : ℕ) (z : X) → i < length xs → IsIn (get_or xs i z) xs
-in_get [] i z low = absurd (omega arith)
-in_get (x ∷ xs) zero z low = inl refl
-in_get (x ∷ xs) (suc i) z low = inr (in_get xs i z (omega arith))
 
 pub map_agree : {X Y : Type 0} (f g : X → Y) (xs : List X) → ((x : X) → IsIn x xs → f x ≡ g x) → map f xs ≡ map g xs
 map_agree f g [] h = refl

@@ -8,7 +8,6 @@ pub mod Stored
 pub mod Paged
 pub mod Writable
 pub mod Rooted
-pub mod Numbers
 pub mod Listing
 pub mod Top
 pub mod Final

@@ -17,29 +17,14 @@ use Rattle.promote_split.specs.declared.halves.Half.{Half}
 use Rattle.promote_split.specs.Halves.{IsHalf}
 use Rattle.page_store.specs.Shelf.{Shelf}
 use Rattle.page_store.specs.Reading.{nodes_of}
+use Rattle.page_store.proofs.Stored.{below_in}
 use Rattle.insert_path.specs.declared.grew.Grew.{Grew}
 use Rattle.insert_path.specs.declared.grew.Grew.TheVariants.{One, Two}
 use Rattle.insert_path.specs.Walk.{inner_ball}
 use Rattle.insert_path.specs.Descent.{Plan, leaf_ball, leaf_with, inner_with, new_entry, entry_of, regrown, IsStaged, Descends}
-use Rattle.insert_path.proofs.Holding.{HoldsFrom, holds_after, holds_staged, agree_below, chosen_in}
+use Rattle.insert_path.proofs.Holding.{holds_staged, agree_below, chosen_in}
 use Rattle.insert_path.proofs.Walked.{told_node}
-
--- the pages of staged nodes, from this number on
-abbrev pub pages_from : (ℕ → ℕ) → ℕ → List Node → List ℕ
-pages_from number i [] = []
-pages_from number i (n ∷ ns) = number i ∷ pages_from number (i + 1) ns
-
-pub pages_append : (number : ℕ → ℕ) (i : ℕ) (xs ys : List Node) → pages_from number i (xs ++ ys) ≡ pages_from number i xs ++ pages_from number (i + length xs) ys
-pages_append number i [] ys = let e : i + 0 ≡ i = omega arith in rw e refl
-pages_append number i (x ∷ xs) ys =
-    let e : i + suc (length xs) ≡ i + 1 + length xs = omega arith in
-    rw e (ap (λ r. number i ∷ r) (pages_append number (i + 1) xs ys))
-
-pub pages_more : (number : ℕ → ℕ) (old more new : List Node) (n : ℕ) → new ≡ old ++ more → times n (pages_from number 0 new) ≡ times n (pages_from number 0 old) + times n (pages_from number (length old) more)
-pages_more number old more new n is =
-    let z : 0 + length old ≡ length old = omega arith in
-    ap (λ (xs : List Node). times n (pages_from number 0 xs)) is ∙ ap (times n) (pages_append number 0 old more) ∙ times-append n (pages_from number 0 old) (pages_from number (0 + length old) more)
-    ∙ ap (λ (i : ℕ). times n (pages_from number 0 old) + times n (pages_from number i more)) z
+use Rattle.page_store.proofs.Standing.{HoldsFrom, holds_after, pages_from, pages_more}
 
 -- the pages of what has grown
 abbrev pub grown_pages : Nodes → ℕ → Grew → List ℕ
@@ -93,9 +78,6 @@ no_pages x = []
 pub none_flat : {X : Type 0} (xs : List X) → flat_map no_pages xs ≡ []
 none_flat [] = refl
 none_flat (x ∷ xs) = none_flat xs
-
-abbrev pub below_in : Nodes → ℕ → InnerEntry → List ℕ
-below_in file h e = pages_at file h e.child
 
 pub leaf_pages : (P : Plan) (es : List LeafEntry) (file : Nodes) (old new : List Node) (g : Grew) → IsStaged P leaf_ball leaf_with Leaf es old new g → HoldsFrom file P.number 0 new → (n : ℕ) →
     times n (grown_pages file zero g) + times n (pages_from P.number 0 old) ≡ times n (pages_from P.number 0 new)

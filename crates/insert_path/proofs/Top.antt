@@ -1,11 +1,10 @@
 -- The file with the nodes of an insertion has the tree of the insertion.
-use Rattle.std.proofs.Common.{◌≡◌, ◌⊎◌, ℕ, zero, suc, ◌+◌, ◌<◌, ◌≤◌, Bool, true, false, List, [], ◌∷◌, ◌++◌, refl, sym, ap, ◌∙◌, arith, length, map, subst, inl, inr, get_or}
-use Rattle.std.specs.Prelude.{◌↔◌, Some, None, IsTrue, if◌then◌else◌, ◌==◌, nat_lt, count_by}
+use Rattle.std.proofs.Common.{◌≡◌, ◌⊎◌, ℕ, suc, ◌+◌, ◌<◌, ◌≤◌, List, [], ◌∷◌, ◌++◌, refl, sym, ap, ◌∙◌, arith, length, map, subst, inl, inr}
+use Rattle.std.specs.Prelude.{◌↔◌, Some, None, IsTrue, if◌then◌else◌, nat_lt, count_by}
 use Rattle.std.specs.List.{AllByRecursion}
-use Rattle.std.proofs.lemmas.Bool.Decides.{nat_tests}
 use Rattle.metric_laws.specs.Space.{IsSpace}
 use Rattle.metric_laws.specs.Lists.{IsIn}
-use Rattle.metric_laws.proofs.Lists.{all_in, all_weaker}
+use Rattle.metric_laws.proofs.Lists.{all_in}
 use Rattle.tree_shape.specs.declared.live.Live.{Live}
 use Rattle.tree_shape.specs.declared.entry.Node.{Node}
 use Rattle.tree_shape.specs.Fill.{root_least}
@@ -15,7 +14,6 @@ use Rattle.tree_shape.specs.Sound.{ObjectFits, IsSoundTall}
 use Rattle.tree_shape.specs.Insertion.{Rules, Grown, new_root, rules, placed_by}
 use Rattle.tree_shape.proofs.Added.{insertion_adds_one}
 use Rattle.tree_shape.proofs.Bare.{sound_without_pages, sound_has_entries}
-use Rattle.tree_shape.proofs.Counting.{times-in as times-out}
 use Rattle.tree_shape.proofs.Lawful.{insertion_keeps_sound}
 use Rattle.tree_shape.proofs.Reading.{same_objects}
 use Rattle.tree_shape.proofs.Within.{Agree}
@@ -23,69 +21,22 @@ use Rattle.page_store.specs.declared.staging.StagedNode.{StagedNode}
 use Rattle.page_store.specs.declared.staging.Placed.{Placed}
 use Rattle.page_store.specs.Shelf.{Shelf}
 use Rattle.page_store.specs.Reading.{nodes_of}
-use Rattle.page_store.specs.Staging.{IsFree, staged_for}
-use Rattle.insert_path.specs.Placing.{live_pages, fresh, fresh_root, fresh_of, staged_tree, AreOutside, IsOver, HasInserted}
-use Rattle.insert_path.specs.Descent.{Plan, rules_of, number_at, numbered, Walks}
-use Rattle.insert_path.proofs.Holding.{HoldsFrom, grown_tree}
-use Rattle.insert_path.proofs.Walked.{descends_shown, descends_fresh, trees_from}
-use Rattle.insert_path.proofs.Stored.{IsStoredAt, stored_of_sound, sound_of_stored, descends_stored}
-use Rattle.insert_path.proofs.Paged.{pages_from, descends_pages, descends_in}
+use Rattle.page_store.specs.Staging.{staged_for}
+use Rattle.page_store.proofs.Stored.{IsStoredAt, sound_of_stored}
+use Rattle.page_store.proofs.Ids.{AreCounted, with_id}
+use Rattle.insert_path.specs.Placing.{fresh, fresh_root, fresh_of, HasInserted}
+use Rattle.insert_path.specs.Descent.{Plan, rules_of, Walks}
+use Rattle.insert_path.proofs.Holding.{grown_tree}
+use Rattle.insert_path.proofs.Walked.{descends_shown, descends_fresh}
+use Rattle.insert_path.proofs.Stored.{stored_of_sound, descends_stored}
+use Rattle.insert_path.proofs.Paged.{descends_pages, descends_in}
 use Rattle.insert_path.proofs.Rooted.{tall, root_holds, root_tree, root_stored, root_pages, root_fresh}
-use Rattle.insert_path.proofs.Numbers.{lower_or, number_in, number_out, given_once, stand_holds, free_none}
-use Rattle.insert_path.proofs.Listing.{with_id, AreCounted, ids_more, placed_all, old_one, new_one, points_more, tags_more}
-
-pub in_times : (n : ℕ) (xs : List ℕ) → IsIn n xs → 1 ≤ times n xs
-in_times n [] k = absurd k
-in_times n (x ∷ xs) k = elim k [ inl e ↦ first (sym e) | inr w ↦ (let ih = in_times n xs w in omega (arith, ih)) ]
-  where
-    first : x ≡ n → 1 ≤ (if x == n then 1 else 0) + times n xs
-    first e = let t : (x == n) ≡ true = grind (arith, nat_tests) in let f : ◌≡◌ {A = ℕ} (if x == n then 1 else 0) 1 = ap (λ (b : Bool). if b then 1 else 0) t in omega (arith, f)
-
-pub times_in : (n : ℕ) (xs : List ℕ) → 1 ≤ times n xs → IsIn n xs
-times_in n [] k = absurd (omega arith)
-times_in n (x ∷ xs) k = cases (x == n) refl (times_in n xs) k
-  where
-    cases : (b : Bool) → (x == n) ≡ b → (1 ≤ times n xs → IsIn n xs) → 1 ≤ (if b then 1 else 0) + times n xs → IsIn n (x ∷ xs)
-    cases true e ih k = inl (let s : n ≡ x = grind (arith, nat_tests) in s)
-    cases false e ih k = inr (ih (omega arith))
-
-pub all_times : (Q : ℕ → Type 0) (xs : List ℕ) → ((n : ℕ) → IsIn n xs → Q n) → AllByRecursion Q xs
-all_times Q [] each = tt
-all_times Q (x ∷ xs) each = (each x (inl refl), all_times Q xs (λ n k. each n (inr k)))
-
--- pages that are given lie outside the live tree
-pub given_out : (nodes : Nodes) (t : Live) (numbers : List ℕ) → AreOutside nodes t numbers → AllByRecursion (IsNodePage t) (live_pages nodes t) → (i : ℕ) → times (number_at numbers t.pages i) (live_pages nodes t) ≡ 0
-given_out nodes t numbers outside within i =
-    lower_or i (length numbers)
-    (λ l. rw (number_in numbers t.pages i l) (at numbers i outside l))
-    (λ h. let a = number_out numbers t.pages i h in
-    times-out (live_pages nodes t) (number_at numbers t.pages i) t.pages (all_weaker (IsNodePage t) (λ n. n < t.pages) (live_pages nodes t) (λ n k. k.1) within) (omega (arith, a)))
-  where
-    at : (xs : List ℕ) (i : ℕ) → AllByRecursion (λ n. times n (live_pages nodes t) ≡ 0) xs → i < length xs → times (get_or xs i 0) (live_pages nodes t) ≡ 0
-    at [] i all low = absurd (omega arith)
-    at (x ∷ xs) zero all low = all.0
-    at (x ∷ xs) (suc i) all low = at xs i all.1 (omega arith)
-
-pub given_free : (number : ℕ → ℕ) (pages : List ℕ) (page i : ℕ) (ns : List Node) → ((j : ℕ) → times (number j) pages ≡ 0) → IsIn page pages → IsFree (numbered number i ns) page
-given_free number pages page i [] out k = tt
-given_free number pages page i (n ∷ ns) out k =
-    ((λ same. let some = in_times page pages k in let none = ap (λ (p : ℕ). times p pages) (sym same) ∙ out i in absurd (omega (arith, some, none))), given_free number pages page (i + 1) ns out k)
-
-pub given_apart : (number : ℕ → ℕ) (pages : List ℕ) (n i : ℕ) (ns : List Node) → ((j : ℕ) → times (number j) pages ≡ 0) → 1 ≤ times n (pages_from number i ns) → times n pages ≡ 0
-given_apart number pages n i [] out k = absurd (omega arith)
-given_apart number pages n i (x ∷ ns) out k = cases (number i == n) refl (given_apart number pages n (i + 1) ns out) k
-  where
-    cases : (b : Bool) → (number i == n) ≡ b → (1 ≤ times n (pages_from number (i + 1) ns) → times n pages ≡ 0) → 1 ≤ (if b then 1 else 0) + times n (pages_from number (i + 1) ns) → times n pages ≡ 0
-    cases true e ih k = ap (λ (p : ℕ). times p pages) (let s : n ≡ number i = grind (arith, nat_tests) in s) ∙ out i
-    cases false e ih k = ih (omega arith)
-
-pub given_each : (Q : ℕ → Type 0) (number : ℕ → ℕ) (i k : ℕ) (ns : List Node) → k ≡ i + length ns → ((j : ℕ) → j < k → Q (number j)) → AllByRecursion Q (pages_from number i ns)
-given_each Q number i k [] e each = tt
-given_each Q number i k (n ∷ ns) e each = (each i (omega (arith, e)), given_each Q number (i + 1) k ns (omega (arith, e)) each)
-
-pub trees_numbered : (file : Nodes) (number : ℕ → ℕ) (i : ℕ) (ns : List Node) → map (staged_tree file) (numbered number i ns) ≡ trees_from file number i ns
-trees_numbered file number i [] = refl
-trees_numbered file number i (n ∷ ns) = ap (λ (r : List Tall). staged_tree file (record { page = number i; node = n }) ∷ r) (trees_numbered file number (i + 1) ns)
+use Rattle.insert_path.proofs.Listing.{ids_more, placed_all, old_one, new_one, points_more, tags_more}
+use Rattle.page_store.specs.Placing.{live_pages, staged_tree, IsOver}
+use Rattle.page_store.specs.Numbers.{numbered}
+use Rattle.page_store.proofs.Standing.{HoldsFrom, trees_from, pages_from, stand_holds, trees_numbered, in_times, times_in, all_times}
+use Rattle.page_store.proofs.Given.{lower_or, given_once, free_none}
+use Rattle.page_store.proofs.Giving.{given_free, given_apart, given_each}
 
 module _ (P : Plan) (shelf : Shelf) (tells : IsTrue shelf.tells) (t : Live) (left : List ℕ) (nodes : List Node) (root height : ℕ) (walks : Walks P shelf t left nodes root height) (new : Nodes)
     (holds : HoldsFrom new P.number 0 nodes) (agree : Agree (nodes_of shelf.read) new (live_pages (nodes_of shelf.read) t)) where

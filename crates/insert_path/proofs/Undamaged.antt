@@ -32,8 +32,8 @@ use Rattle.insert_path.specs.declared.faults.PlaceFault.TheVariants.{Page, Full,
 use Rattle.insert_path.specs.Walk.{inner_ball, chosen_child, walk_fault, leaf_fault, inner_fault}
 use Rattle.insert_path.specs.Causes.{HasTreeCause, IsUndamaged}
 use Rattle.insert_path.specs.Placing.{place_fault, or_level, is_split}
-use Rattle.insert_path.proofs.Holding.{in_get}
 use Rattle.insert_path.proofs.Level.{child_page}
+use Rattle.page_store.proofs.Standing.{in_get}
 
 ok_of : (r : Result Node PageFault) (n : Node) → node_or_none r ≡ Some n → r ≡ Ok n
 ok_of (Ok m) n is = cc

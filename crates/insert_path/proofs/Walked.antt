@@ -14,13 +14,16 @@ use Rattle.tree_shape.proofs.Within.{Agree}
 use Rattle.page_store.specs.declared.pages.PageFault.TheVariants.{Level}
 use Rattle.page_store.specs.Shelf.{Shelf}
 use Rattle.page_store.specs.Reading.{nodes_of, node_or_none}
+use Rattle.page_store.proofs.Stored.{branch_at}
 use Rattle.insert_path.specs.declared.grew.Grew.{Grew}
 use Rattle.insert_path.specs.declared.grew.Grew.TheVariants.{One, Two}
 use Rattle.insert_path.specs.Walk.{inner_ball, chosen_child, walk_fault, leaf_fault, inner_fault}
-use Rattle.insert_path.specs.Placing.{walk_pages, is_split, parts, fresh_in, fresh, level_of}
+use Rattle.insert_path.specs.Placing.{walk_pages, is_split, parts, fresh_in, fresh}
 use Rattle.insert_path.specs.Descent.{Plan, rules_of, leaf_ball, leaf_with, inner_with, new_entry, entry_of, regrown, is_two, IsStaged, Descends}
 use Rattle.insert_path.proofs.Level.{child_page}
-use Rattle.insert_path.proofs.Holding.{HoldsFrom, grown_tree, branch_at, holds_staged, inner_balls, leaf_shown, inner_shown, regrown_shown, tree_same, map_more, agree_below, chosen_in}
+use Rattle.insert_path.proofs.Holding.{grown_tree, holds_staged, inner_balls, leaf_shown, inner_shown, regrown_shown, tree_same, map_more, agree_below, chosen_in}
+use Rattle.page_store.specs.Placing.{level_of}
+use Rattle.page_store.proofs.Standing.{HoldsFrom, trees_from, trees_more}
 
 -- a descent's nodes stand behind the earlier ones
 pub holds_descends : (P : Plan) (shelf : Shelf) (file : Nodes) (h page : ℕ) (above : Option (List ℕ)) (l0 : List ℕ) (old : List Node) (l1 : List ℕ) (new : List Node) (g : Grew) →
@@ -55,22 +58,6 @@ descends_shown P shelf new tells (suc h) page above l0 old l1 nodes g d holds ag
   where
     is : nodes_of shelf.read page ≡ Some (Inner (suc h) d.0)
     is = told_node shelf page (Inner (suc h) d.0) (d.4.told tells)
-
--- the trees of staged nodes, from this number on
-abbrev pub trees_from : Nodes → (ℕ → ℕ) → ℕ → List Node → List Tall
-trees_from file number i [] = []
-trees_from file number i (n ∷ ns) = record { height = level_of n; tree = tree_at file (level_of n) (number i) } ∷ trees_from file number (i + 1) ns
-
-pub trees_append : (file : Nodes) (number : ℕ → ℕ) (i : ℕ) (xs ys : List Node) → trees_from file number i (xs ++ ys) ≡ trees_from file number i xs ++ trees_from file number (i + length xs) ys
-trees_append file number i [] ys = let e : i + 0 ≡ i = omega arith in rw e refl
-trees_append file number i (x ∷ xs) ys =
-    let e : i + suc (length xs) ≡ i + 1 + length xs = omega arith in
-    rw e (ap (λ r. record { height = level_of x; tree = tree_at file (level_of x) (number i) } ∷ r) (trees_append file number (i + 1) xs ys))
-
-pub trees_more : (file : Nodes) (number : ℕ → ℕ) (old more new : List Node) → new ≡ old ++ more → trees_from file number 0 new ≡ trees_from file number 0 old ++ trees_from file number (length old) more
-trees_more file number old more new is =
-    let z : 0 + length old ≡ length old = omega arith in
-    ap (trees_from file number 0) is ∙ trees_append file number 0 old more ∙ ap (λ (i : ℕ). trees_from file number 0 old ++ trees_from file number i more) z
 
 abbrev pub tall_at : Nodes → ℕ → ℕ → Tall
 tall_at file page k = record { height = k; tree = tree_at file k page }

@@ -1,5 +1,5 @@
 -- What each step of a descent stages.
-use Rattle.std.specs.Prelude.{◌≡◌, ◌⊎◌, ℕ, zero, suc, ◌+◌, ◌-◌, ◌<◌, ◌≤◌, max, List, [], ◌∷◌, ◌++◌, length, map, Option, Some, None, slice_index_or, if◌then◌else◌, nat_lt, Bool, true, false}
+use Rattle.std.specs.Prelude.{◌≡◌, ◌⊎◌, ℕ, zero, suc, ◌+◌, ◌<◌, ◌≤◌, max, List, [], ◌∷◌, ◌++◌, length, map, Option, Some, None, slice_index_or, Bool, true, false}
 use Rattle.std.specs.List.{AllByRecursion}
 use Rattle.metric_laws.specs.Space.{Space, bound}
 use Rattle.tree_shape.specs.declared.entry.LeafEntry.{LeafEntry}
@@ -16,16 +16,11 @@ use Rattle.promote_split.specs.declared.halves.Half.{Half}
 use Rattle.promote_split.specs.declared.halves.Halves.{Halves}
 use Rattle.promote_split.specs.declared.promoting.Policy.{Policy}
 use Rattle.promote_split.specs.Halves.{IsSplit, AreNear}
-use Rattle.page_store.specs.declared.staging.StagedNode.{StagedNode}
 use Rattle.page_store.specs.Shelf.{Shelf, IsNodeOf}
 use Rattle.insert_path.specs.declared.grew.Stem.{Stem}
 use Rattle.insert_path.specs.declared.grew.Grew.{Grew}
 use Rattle.insert_path.specs.declared.grew.Grew.TheVariants.{One, Two}
 use Rattle.insert_path.specs.Walk.{inner_ball}
-
--- the number of the new node at a place: those that are handed in, then from the end on
-abbrev pub number_at : List ℕ → ℕ → ℕ → ℕ
-number_at numbers first i = if nat_lt i (length numbers) then slice_index_or numbers i 0 else first + (i - length numbers)
 
 -- what an insertion goes by: the space, the ways of promotion and partition, the most and the least entries of a node, the
 -- number of the new node at each place, and the object
@@ -148,8 +143,3 @@ Roots number h (Two c d) old new root height =
 abbrev pub Walks : Plan → Shelf → Live → List ℕ → List Node → ℕ → ℕ → Type 0
 Walks P shelf t left nodes root height =
     (mid : List Node) × (g : Grew) × Descends P shelf t.height t.root None [] [] left mid g × Roots P.number t.height g mid nodes root height
-
--- nodes with their pages, from this number on
-abbrev pub numbered : (ℕ → ℕ) → ℕ → List Node → List StagedNode
-numbered number i [] = []
-numbered number i (n ∷ ns) = record { page = number i; node = n } ∷ numbered number (i + 1) ns

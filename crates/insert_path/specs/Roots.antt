@@ -1,5 +1,5 @@
 -- Why there is no new root.
-use Rattle.std.specs.Prelude.{◌≡◌, ℕ, ◌+◌, ◌^◌, ◌<◌, true}
+use Rattle.std.specs.Prelude.{◌≡◌, true}
 use Rattle.tree_shape.specs.declared.live.Live.{Live}
 use Rattle.page_store.specs.declared.pages.PageFault.TheVariants.{Level}
 use Rattle.insert_path.specs.declared.faults.PlaceFault.{PlaceFault}
@@ -14,11 +14,3 @@ HasRootCause t g Full = ⊥
 HasRootCause t g (NoRoom pages needed) = ⊥
 HasRootCause t g Worn = ⊥
 HasRootCause t g Memory = Unit {0}
-
--- there is no room for the needed pages, or memory ran out
-abbrev pub HasRoomCause : Live → ℕ → PlaceFault → Type 0
-HasRoomCause t needed (Page fault) = ⊥
-HasRoomCause t needed Full = ⊥
-HasRoomCause t needed (NoRoom pages most) = (pages ≡ t.pages) × (most ≡ needed) × (2 ^ 24 < pages + most)
-HasRoomCause t needed Worn = ⊥
-HasRoomCause t needed Memory = Unit {0}

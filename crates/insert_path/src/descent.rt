@@ -5,7 +5,8 @@ ghost use Rattle.tree_shape.specs.Tree.{parent_distance};
 ghost use Rattle.tree_shape.specs.declared.entry.Node.TheVariants.{Leaf, Inner};
 ghost use Rattle.insert_path.specs.Walk.{walk_fault, inner_ball};
 ghost use Rattle.insert_path.specs.Causes.{HasAsked, HasWalkCause};
-ghost use Rattle.insert_path.specs.Descent.{number_at, plan_of, above_of, leaf_ball, leaf_with, inner_with, new_entry, entry_of, regrown, IsNear, IsSmall, IsStaged, Descends};
+ghost use Rattle.insert_path.specs.Descent.{plan_of, above_of, leaf_ball, leaf_with, inner_with, new_entry, entry_of, regrown, IsNear, IsSmall, IsStaged, Descends};
+ghost use Rattle.page_store.specs.Numbers.{number_at};
 
 use crate::choice::choose;
 use crate::grew::{Grew, Stem};
@@ -87,14 +88,14 @@ fn at_leaf<R: Ruler>(
     mut entries: Vec<LeafEntry>,
     nodes: &mut Vec<Node>,
 ) -> Result<Grew, Memory>
-    requires first { task.now.first ≤ 2 ^ 24 }
+    requires first { task.now.numbering.first ≤ 2 ^ 24 }
     requires few { length nodes.old.items + 2 < 2 ^ 10 }
     requires some { 1 ≤ task.now.bounds.least }
     requires room { 2 * task.now.bounds.least ≤ task.now.bounds.most }
     ensures metric { R.metric ruler.new ≡ R.metric ruler.old }
     ensures count { OnOk result (length nodes.new.items ≤ length nodes.old.items + 2) }
     ensures within { parent_distance (R.M.space (R.metric ruler.old)) (above_of spot.now.root spot.now.above.now) task.now.object.point.now ≤ bound }
-    ensures staged { IfOk result (λ g. let P = plan_of (R.M.space (R.metric ruler.old)) task.now.policy task.now.bounds (number_at task.now.numbers.now task.now.first) (record { id = task.now.object.id; tag = task.now.object.tag; point = task.now.object.point.now }) in IsStaged P leaf_ball leaf_with Leaf (entries.items ++ new_entry P (above_of spot.now.root spot.now.above.now) ∷ []) nodes.old.items nodes.new.items g) }
+    ensures staged { IfOk result (λ g. let P = plan_of (R.M.space (R.metric ruler.old)) task.now.policy task.now.bounds (number_at task.now.numbering.numbers.now task.now.numbering.first) (record { id = task.now.object.id; tag = task.now.object.tag; point = task.now.object.point.now }) in IsStaged P leaf_ball leaf_with Leaf (entries.items ++ new_entry P (above_of spot.now.root spot.now.above.now) ∷ []) nodes.old.items nodes.new.items g) }
 {
     let parent = parent_of(ruler, spot, task.object.point);
     let point = Point::new(alloc, task.object.point)?;
@@ -124,7 +125,7 @@ fn back_at<R: Ruler>(
     regrowth: Regrowth,
     nodes: &mut Vec<Node>,
 ) -> Result<Grew, Memory>
-    requires first { task.now.first ≤ 2 ^ 24 }
+    requires first { task.now.numbering.first ≤ 2 ^ 24 }
     requires few { length nodes.old.items + 2 < 2 ^ 10 }
     requires some { 1 ≤ task.now.bounds.least }
     requires room { 2 * task.now.bounds.least ≤ task.now.bounds.most }
@@ -134,7 +135,7 @@ fn back_at<R: Ruler>(
     ensures metric { R.metric ruler.new ≡ R.metric ruler.old }
     ensures count { OnOk result (length nodes.new.items ≤ length nodes.old.items + 2) }
     ensures near { OnOk result (AllByRecursion IsNear (regrown ((R.M.space (R.metric ruler.old)).dist task.now.object.point.now) (parent_distance (R.M.space (R.metric ruler.old)) (above_of spot.now.root spot.now.above.now)) regrowth.place regrowth.grew regrowth.entries.items)) }
-    ensures staged { IfOk result (λ g. let P = plan_of (R.M.space (R.metric ruler.old)) task.now.policy task.now.bounds (number_at task.now.numbers.now task.now.first) (record { id = task.now.object.id; tag = task.now.object.tag; point = task.now.object.point.now }) in IsStaged P inner_ball inner_with (Inner spot.now.level) (regrown (P.space.dist P.object.point) (parent_distance P.space (above_of spot.now.root spot.now.above.now)) regrowth.place regrowth.grew regrowth.entries.items) nodes.old.items nodes.new.items g) }
+    ensures staged { IfOk result (λ g. let P = plan_of (R.M.space (R.metric ruler.old)) task.now.policy task.now.bounds (number_at task.now.numbering.numbers.now task.now.numbering.first) (record { id = task.now.object.id; tag = task.now.object.tag; point = task.now.object.point.now }) in IsStaged P inner_ball inner_with (Inner spot.now.level) (regrown (P.space.dist P.object.point) (parent_distance P.space (above_of spot.now.root spot.now.above.now)) regrowth.place regrowth.grew regrowth.entries.items) nodes.old.items nodes.new.items g) }
 {
     let Regrowth {
         mut entries,
@@ -155,7 +156,7 @@ pub fn descend<P: Pages, R: Ruler>(
     spot: &Spot<'_>,
     written: &mut Written,
 ) -> Result<Grew, PageFault>
-    requires first { task.now.first ≤ 2 ^ 24 }
+    requires first { task.now.numbering.first ≤ 2 ^ 24 }
     requires few { length written.old.nodes.items + 2 * (spot.now.level + 1) < 2 ^ 10 }
     requires some { 1 ≤ task.now.bounds.least }
     requires room { 2 * task.now.bounds.least ≤ task.now.bounds.most }
@@ -163,7 +164,7 @@ pub fn descend<P: Pages, R: Ruler>(
     ensures asked { HasAsked (spot.now.level + 1) (P.shelf pages.old) (P.shelf pages.new) }
     ensures keeps { P.keeps pages.old pages.new }
     ensures count { OnOk result (length written.new.nodes.items ≤ length written.old.nodes.items + 2 * (spot.now.level + 1)) }
-    ensures descends { IfOk result (λ g. Descends (plan_of (R.M.space (R.metric ruler.old)) task.now.policy task.now.bounds (number_at task.now.numbers.now task.now.first) (record { id = task.now.object.id; tag = task.now.object.tag; point = task.now.object.point.now }))
+    ensures descends { IfOk result (λ g. Descends (plan_of (R.M.space (R.metric ruler.old)) task.now.policy task.now.bounds (number_at task.now.numbering.numbers.now task.now.numbering.first) (record { id = task.now.object.id; tag = task.now.object.tag; point = task.now.object.point.now }))
         (P.shelf pages.old) spot.now.level spot.now.page (above_of spot.now.root spot.now.above.now) written.old.left.items written.old.nodes.items written.new.left.items written.new.nodes.items g) }
     ensures cause { IfErr result (HasWalkCause (P.shelf pages.old) (P.shelf pages.new) (walk_fault (R.M.space (R.metric ruler.old)) (P.shelf pages.old).read task.now.object.point.now spot.now.level spot.now.page)) }
 {

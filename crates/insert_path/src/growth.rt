@@ -1,8 +1,9 @@
 ghost use Rattle.std.specs.Prelude.{◌≡◌, ◌+◌, ◌-◌, ◌*◌, ◌≤◌, ◌<◌, ◌^◌, ◌++◌, ◌∷◌, [], length, IfOk, IfErr, OnOk, None};
-ghost use Rattle.insert_path.specs.Descent.{number_at, plan_of, rules_of, root_entry, Roots, Walks};
+ghost use Rattle.insert_path.specs.Descent.{plan_of, rules_of, root_entry, Roots, Walks};
 ghost use Rattle.insert_path.specs.Causes.{HasAsked, HasTreeCause};
 ghost use Rattle.insert_path.specs.Placing.{place_fault};
 ghost use Rattle.insert_path.specs.Roots.{HasRootCause};
+ghost use Rattle.page_store.specs.Numbers.{number_at};
 
 use crate::PlaceFault;
 use crate::descent::descend;
@@ -10,17 +11,9 @@ use crate::grew::{Grew, Stem};
 use crate::staging::stage_node;
 use crate::task::{Spot, Task, Written};
 use metric_laws::{Listed, Memory, Ruler};
-use page_store::{PageFault, Pages};
+use page_store::{NewTree, PageFault, Pages};
 use std::alloc::Global;
 use tree_shape::{InnerEntry, Live, Node};
-
-/// The tree that an insertion makes: its root, and what was written for it.
-#[derive(Debug, Drop)]
-pub struct Grown {
-    pub root: u32,
-    pub height: u32,
-    pub written: Written,
-}
 
 // The entry of a half in a new root.
 fn entry_in_root(stem: Stem) -> InnerEntry
@@ -52,9 +45,9 @@ fn stage_root(
     halves: (Stem, Stem),
     nodes: &mut Vec<Node>,
 ) -> Result<u32, Memory>
-    requires first { task.now.first ≤ 2 ^ 24 }
+    requires first { task.now.numbering.first ≤ 2 ^ 24 }
     requires few { length nodes.old.items < 2 ^ 10 }
-    ensures page { IfOk result (λ p. p ≡ number_at task.now.numbers.now task.now.first (length nodes.old.items)) }
+    ensures page { IfOk result (λ p. p ≡ number_at task.now.numbering.numbers.now task.now.numbering.first (length nodes.old.items)) }
     ensures staged { OnOk result (nodes.new.items ≡ nodes.old.items ++ Node.Inner level (root_entry halves.0 ∷ root_entry halves.1 ∷ []) ∷ []) }
     ensures count { OnOk result (length nodes.new.items ≡ length nodes.old.items + 1) }
 {
@@ -69,32 +62,38 @@ fn grow_root(
     task: &Task<'_>,
     live: &Live,
     grew: Grew,
-    mut written: Written,
-) -> Result<Grown, PlaceFault>
+    written: Written,
+) -> Result<NewTree, PlaceFault>
     requires height { live.now.height ≤ 14 }
-    requires first { task.now.first ≤ 2 ^ 24 }
+    requires first { task.now.numbering.first ≤ 2 ^ 24 }
     requires few { length written.nodes.items < 2 ^ 9 }
-    ensures roots { IfOk result (λ grown. Roots (number_at task.now.numbers.now task.now.first) live.now.height grew written.nodes.items grown.written.nodes.items grown.root grown.height) }
-    ensures left { IfOk result (λ grown. grown.written.left.items ≡ written.left.items) }
-    ensures count { IfOk result (λ grown. length grown.written.nodes.items ≤ length written.nodes.items + 1) }
+    ensures roots { IfOk result (λ grown. Roots (number_at task.now.numbering.numbers.now task.now.numbering.first) live.now.height grew written.nodes.items grown.nodes.items grown.root grown.height) }
+    ensures left { IfOk result (λ grown. grown.left.items ≡ written.left.items) }
+    ensures added { IfOk result (λ grown. grown.added ≡ 1) }
+    ensures count { IfOk result (λ grown. length grown.nodes.items ≤ length written.nodes.items + 1) }
     ensures cause { IfErr result (HasRootCause live.now grew) }
 {
+    let Written { mut nodes, left } = written;
     match grew {
-        Grew::One(root) => Ok(Grown {
+        Grew::One(root) => Ok(NewTree {
+            nodes,
             root,
             height: live.height,
-            written,
+            added: 1,
+            left,
         }),
         Grew::Two(first, second) => {
             if live.height == 14 {
                 return Err(PlaceFault::Page(PageFault::Level(live.root)));
             }
             let level = live.height as u8 + 1;
-            match stage_root(alloc, task, level, (first, second), &mut written.nodes) {
-                Ok(root) => Ok(Grown {
+            match stage_root(alloc, task, level, (first, second), &mut nodes) {
+                Ok(root) => Ok(NewTree {
+                    nodes,
                     root,
                     height: live.height + 1,
-                    written,
+                    added: 1,
+                    left,
                 }),
                 Err(_) => Err(PlaceFault::Memory),
             }
@@ -109,19 +108,20 @@ pub fn grow<P: Pages, R: Ruler>(
     ruler: &mut R,
     task: &Task<'_>,
     live: &Live,
-) -> Result<Grown, PlaceFault>
+) -> Result<NewTree, PlaceFault>
     requires height { live.now.height ≤ 14 }
-    requires first { task.now.first ≤ 2 ^ 24 }
+    requires first { task.now.numbering.first ≤ 2 ^ 24 }
     requires some { 1 ≤ task.now.bounds.least }
     requires room { 2 * task.now.bounds.least ≤ task.now.bounds.most }
     ensures metric { R.metric ruler.new ≡ R.metric ruler.old }
     ensures asked { HasAsked (live.now.height + 1) (P.shelf pages.old) (P.shelf pages.new) }
     ensures keeps { P.keeps pages.old pages.new }
-    ensures count { IfOk result (λ grown. length grown.written.nodes.items < 2 ^ 9) }
-    ensures walks { IfOk result (λ grown. Walks (plan_of (R.M.space (R.metric ruler.old)) task.now.policy task.now.bounds (number_at task.now.numbers.now task.now.first) (record { id = task.now.object.id; tag = task.now.object.tag; point = task.now.object.point.now }))
-        (P.shelf pages.old) live.now grown.written.left.items grown.written.nodes.items grown.root grown.height) }
+    ensures count { IfOk result (λ grown. length grown.nodes.items < 2 ^ 9) }
+    ensures added { IfOk result (λ grown. grown.added ≡ 1) }
+    ensures walks { IfOk result (λ grown. Walks (plan_of (R.M.space (R.metric ruler.old)) task.now.policy task.now.bounds (number_at task.now.numbering.numbers.now task.now.numbering.first) (record { id = task.now.object.id; tag = task.now.object.tag; point = task.now.object.point.now }))
+        (P.shelf pages.old) live.now grown.left.items grown.nodes.items grown.root grown.height) }
     ensures cause { IfErr result (HasTreeCause (P.shelf pages.old) (P.shelf pages.new)
-        (let Q = plan_of (R.M.space (R.metric ruler.old)) task.now.policy task.now.bounds (number_at task.now.numbers.now task.now.first) (record { id = task.now.object.id; tag = task.now.object.tag; point = task.now.object.point.now }) in
+        (let Q = plan_of (R.M.space (R.metric ruler.old)) task.now.policy task.now.bounds (number_at task.now.numbering.numbers.now task.now.numbering.first) (record { id = task.now.object.id; tag = task.now.object.tag; point = task.now.object.point.now }) in
         place_fault Q.space (rules_of Q) (P.shelf pages.old).read live.now Q.object)) }
 {
     let mut written = Written {

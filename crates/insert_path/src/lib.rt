@@ -8,7 +8,6 @@ mod faults;
 mod grew;
 mod growth;
 mod placing;
-mod settling;
 mod staging;
 mod task;
 

@@ -6,15 +6,16 @@ ghost use Rattle.node_page.specs.Opening.{IsLawfulLive};
 ghost use Rattle.page_store.specs.Reading.{nodes_of};
 ghost use Rattle.page_store.specs.Staging.{pages_of};
 ghost use Rattle.insert_path.specs.Causes.{HasAsked, HasPlaceCause, IsUndamaged};
-ghost use Rattle.insert_path.specs.Placing.{AreNumbers, AreOutside, IsOver, IsPlacement, HasWalked, HasInserted};
+ghost use Rattle.insert_path.specs.Placing.{HasWalked, HasInserted};
+ghost use Rattle.page_store.specs.Numbers.{AreNumbers};
+ghost use Rattle.page_store.specs.Placing.{AreOutside, IsOver, IsPlacement};
 
 use crate::PlaceFault;
 use crate::growth::grow;
-use crate::settling::settle;
 use crate::task::{NewObject, Task};
 use metric_laws::Ruler;
 use node_page::Head;
-use page_store::{Pages, Placed};
+use page_store::{Numbering, Pages, Placed, RoomFault, settle};
 use promote_split::Policy;
 use std::alloc::Global;
 use tree_shape::{Live, fill};
@@ -49,7 +50,7 @@ pub fn place<P: Pages, R: Ruler>(
     ensures keeps { P.keeps pages.old pages.new }
 
     // What is placed can be committed.
-    ensures placement { IfOk result (IsPlacement head.now live.now numbers.now) }
+    ensures placement { IfOk result (IsPlacement head.now live.now numbers.now 1) }
     ensures apart { IfOk result (λ placed. IsTrue (P.shelf pages.old).tells → IsSoundTree (R.M.space (R.metric ruler.old)) (nodes_of (P.shelf pages.old).read) live.now →
         AreOutside (nodes_of (P.shelf pages.old).read) live.now (pages_of placed.staged)) }
 
@@ -78,8 +79,10 @@ pub fn place<P: Pages, R: Ruler>(
             split: head.split,
         },
         bounds: fill(head.dim),
-        numbers,
-        first: live.pages,
+        numbering: Numbering {
+            numbers,
+            first: live.pages,
+        },
         object: NewObject {
             id: live.count,
             tag,
@@ -87,6 +90,9 @@ pub fn place<P: Pages, R: Ruler>(
         },
     };
     let grown = grow(alloc, pages, ruler, &task, live)?;
-    let placed = settle(alloc, &task, live, grown)?;
-    Ok(placed)
+    match settle(alloc, &task.numbering, live, grown) {
+        Ok(placed) => Ok(placed),
+        Err(RoomFault::NoRoom { pages, needed }) => Err(PlaceFault::NoRoom { pages, needed }),
+        Err(RoomFault::Memory) => Err(PlaceFault::Memory),
+    }
 }

@@ -3,7 +3,8 @@ ghost use Rattle.std.specs.List.{AllByRecursion};
 ghost use Rattle.metric_laws.specs.Space.{bound};
 ghost use Rattle.tree_shape.specs.declared.entry.Node.{Node};
 ghost use Rattle.tree_shape.specs.declared.entry.Node.TheVariants.{Leaf, Inner};
-ghost use Rattle.insert_path.specs.Descent.{number_at, plan_of, stem_of, IsStaged};
+ghost use Rattle.insert_path.specs.Descent.{plan_of, stem_of, IsStaged};
+ghost use Rattle.page_store.specs.Numbers.{number_at};
 
 use crate::grew::{Grew, Stem};
 use crate::task::Task;
@@ -42,28 +43,15 @@ impl NodeEntry for InnerEntry {
     }
 }
 
-// The page of the new node at a place.
-pub fn page_at(task: &Task<'_>, place: usize) -> u32
-    requires first { task.now.first ≤ 2 ^ 24 }
-    requires few { place < 2 ^ 10 }
-    ensures { result ≡ number_at task.now.numbers.now task.now.first place }
-{
-    if place < task.numbers.len() {
-        task.numbers[place]
-    } else {
-        task.first + (place - task.numbers.len()) as u32
-    }
-}
-
 // Stages a node after the others, and gives its page.
 pub fn stage_node(task: &Task<'_>, node: Node, nodes: &mut Vec<Node>) -> Result<u32, Memory>
-    requires first { task.now.first ≤ 2 ^ 24 }
+    requires first { task.now.numbering.first ≤ 2 ^ 24 }
     requires few { length nodes.old.items < 2 ^ 10 }
-    ensures page { IfOk result (λ p. p ≡ number_at task.now.numbers.now task.now.first (length nodes.old.items)) }
+    ensures page { IfOk result (λ p. p ≡ number_at task.now.numbering.numbers.now task.now.numbering.first (length nodes.old.items)) }
     ensures staged { OnOk result (nodes.new.items ≡ nodes.old.items ++ node ∷ []) }
     ensures count { OnOk result (length nodes.new.items ≡ length nodes.old.items + 1) }
 {
-    let page = page_at(task, nodes.len());
+    let page = task.numbering.page_at(nodes.len());
     nodes.push(node)?;
     Ok(page)
 }
@@ -75,9 +63,9 @@ fn stage_half<E: NodeEntry>(
     half: Half<E>,
     nodes: &mut Vec<Node>,
 ) -> Result<Stem, Memory>
-    requires first { task.now.first ≤ 2 ^ 24 }
+    requires first { task.now.numbering.first ≤ 2 ^ 24 }
     requires few { length nodes.old.items < 2 ^ 10 }
-    ensures stem { IfOk result (λ s. s ≡ stem_of (number_at task.now.numbers.now task.now.first (length nodes.old.items)) half) }
+    ensures stem { IfOk result (λ s. s ≡ stem_of (number_at task.now.numbering.numbers.now task.now.numbering.first (length nodes.old.items)) half) }
     ensures staged { OnOk result (nodes.new.items ≡ nodes.old.items ++ E.make level half.entries ∷ []) }
     ensures count { OnOk result (length nodes.new.items ≡ length nodes.old.items + 1) }
 {
@@ -101,9 +89,9 @@ fn stage_halves<E: NodeEntry>(
     halves: Halves<E>,
     nodes: &mut Vec<Node>,
 ) -> Result<Grew, Memory>
-    requires first { task.now.first ≤ 2 ^ 24 }
+    requires first { task.now.numbering.first ≤ 2 ^ 24 }
     requires few { length nodes.old.items + 2 < 2 ^ 10 }
-    ensures grew { IfOk result (λ g. g ≡ Grew.Two (stem_of (number_at task.now.numbers.now task.now.first (length nodes.old.items)) halves.first) (stem_of (number_at task.now.numbers.now task.now.first (length nodes.old.items + 1)) halves.second)) }
+    ensures grew { IfOk result (λ g. g ≡ Grew.Two (stem_of (number_at task.now.numbering.numbers.now task.now.numbering.first (length nodes.old.items)) halves.first) (stem_of (number_at task.now.numbering.numbers.now task.now.numbering.first (length nodes.old.items + 1)) halves.second)) }
     ensures staged { OnOk result (nodes.new.items ≡ nodes.old.items ++ E.make level halves.first.entries ∷ E.make level halves.second.entries ∷ []) }
     ensures count { OnOk result (length nodes.new.items ≡ length nodes.old.items + 2) }
 {
@@ -122,7 +110,7 @@ fn stage_split<R: Ruler, E: NodeEntry>(
     entries: Vec<E>,
     nodes: &mut Vec<Node>,
 ) -> Result<Grew, Memory>
-    requires first { task.now.first ≤ 2 ^ 24 }
+    requires first { task.now.numbering.first ≤ 2 ^ 24 }
     requires few { length nodes.old.items + 2 < 2 ^ 10 }
     requires some { 1 ≤ task.now.bounds.least }
     requires room { 2 * task.now.bounds.least ≤ length entries.items }
@@ -130,7 +118,7 @@ fn stage_split<R: Ruler, E: NodeEntry>(
     requires radii { AllByRecursion (λ e. (E.ball e).1 ≤ bound) entries.items }
     ensures metric { R.metric ruler.new ≡ R.metric ruler.old }
     ensures count { OnOk result (length nodes.new.items ≡ length nodes.old.items + 2) }
-    ensures staged { IfOk result (λ g. IsStaged (plan_of (R.M.space (R.metric ruler.old)) task.now.policy task.now.bounds (number_at task.now.numbers.now task.now.first) (record { id = task.now.object.id; tag = task.now.object.tag; point = task.now.object.point.now })) E.ball E.with_parent (E.make level) entries.items nodes.old.items nodes.new.items g) }
+    ensures staged { IfOk result (λ g. IsStaged (plan_of (R.M.space (R.metric ruler.old)) task.now.policy task.now.bounds (number_at task.now.numbering.numbers.now task.now.numbering.first) (record { id = task.now.object.id; tag = task.now.object.tag; point = task.now.object.point.now })) E.ball E.with_parent (E.make level) entries.items nodes.old.items nodes.new.items g) }
 {
     let halves = split(alloc, ruler, entries, task.policy, task.bounds.least)?;
     let grew = stage_halves(task, level, halves, nodes)?;
@@ -146,14 +134,14 @@ pub fn stage<R: Ruler, E: NodeEntry>(
     entries: Vec<E>,
     nodes: &mut Vec<Node>,
 ) -> Result<Grew, Memory>
-    requires first { task.now.first ≤ 2 ^ 24 }
+    requires first { task.now.numbering.first ≤ 2 ^ 24 }
     requires few { length nodes.old.items + 2 < 2 ^ 10 }
     requires some { 1 ≤ task.now.bounds.least }
     requires room { 2 * task.now.bounds.least ≤ task.now.bounds.most }
     requires radii { AllByRecursion (λ e. (E.ball e).1 ≤ bound) entries.items }
     ensures metric { R.metric ruler.new ≡ R.metric ruler.old }
     ensures count { OnOk result (length nodes.new.items ≤ length nodes.old.items + 2) }
-    ensures staged { IfOk result (λ g. IsStaged (plan_of (R.M.space (R.metric ruler.old)) task.now.policy task.now.bounds (number_at task.now.numbers.now task.now.first) (record { id = task.now.object.id; tag = task.now.object.tag; point = task.now.object.point.now })) E.ball E.with_parent (E.make level) entries.items nodes.old.items nodes.new.items g) }
+    ensures staged { IfOk result (λ g. IsStaged (plan_of (R.M.space (R.metric ruler.old)) task.now.policy task.now.bounds (number_at task.now.numbering.numbers.now task.now.numbering.first) (record { id = task.now.object.id; tag = task.now.object.tag; point = task.now.object.point.now })) E.ball E.with_parent (E.make level) entries.items nodes.old.items nodes.new.items g) }
 {
     if entries.len() > task.bounds.most {
         let grew = stage_split(alloc, ruler, task, level, entries, nodes)?;

@@ -1,3 +1,4 @@
+use page_store::Numbering;
 use promote_split::Policy;
 use tree_shape::{Bounds, Node};
 
@@ -16,10 +17,8 @@ pub struct Task<'a> {
     pub policy: Policy,
     /// How many entries a node may have.
     pub bounds: Bounds,
-    /// Pages for new nodes, in order.
-    pub numbers: &'a [u32],
-    /// The page of the first new node that gets none of these; the later ones follow.
-    pub first: u32,
+    /// Which pages new nodes get.
+    pub numbering: Numbering<'a>,
     /// The new object.
     pub object: NewObject<'a>,
 }

@@ -4,7 +4,8 @@ ghost use Rattle.node_page.specs.Heads.{IsLawfulHead};
 ghost use Rattle.node_page.specs.Nodes.{IsLawfulNode};
 ghost use Rattle.node_page.specs.Opening.{IsLawfulLive};
 ghost use Rattle.page_store.specs.Reading.{IsWithin, nodes_of, reading};
-ghost use Rattle.insert_path.specs.Placing.{AreNumbers, AreOutside};
+ghost use Rattle.page_store.specs.Numbers.{AreNumbers};
+ghost use Rattle.page_store.specs.Placing.{AreOutside};
 
 use crate::{PlaceFault, place};
 use metric_laws::{Meter, Ruler};

@@ -1,2 +1,7 @@
 pub mod Apart
 pub mod Results
+pub mod Given
+pub mod Standing
+pub mod Giving
+pub mod Stored
+pub mod Ids

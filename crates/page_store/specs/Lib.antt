@@ -6,3 +6,5 @@ pub mod Staging
 pub mod Kept
 pub mod Answers
 pub mod Shelves
+pub mod Numbers
+pub mod Placing

@@ -1,20 +1,27 @@
-//! The pages of an index file: asked for one at a time as nodes, and staged anew for the next commit.
+//! The pages of an index file: asked for one at a time as nodes, and staged anew for the next commit, which gives new nodes
+//! their pages.
 #![tactic(auto)]
 
 mod disk_pages;
 mod image_pages;
+mod numbering;
 mod pages;
 mod reading;
+mod settling;
 mod staging;
 
 pub use disk_pages::DiskPages;
 pub use image_pages::ImagePages;
+pub use numbering::Numbering;
 pub use pages::{PageFault, Pages};
 pub use reading::read_page;
+pub use settling::{NewTree, RoomFault, settle};
 pub use staging::{Placed, Staged, StagedNode};
 
 /// Want of memory.
 pub type Memory = std::alloc::AllocError;
 
+#[cfg(test)]
+mod settling_tests;
 #[cfg(test)]
 mod tests;

@@ -1,7 +1,7 @@
 use Rattle.std.proofs.Common.{◌≡◌, ◌≤◌, ◌∙◌, [], ap, sym, subst, arith, length, rules}
 use Rattle.std.specs.Prelude.{None}
 use Rattle.tree_shape.specs.Bulk.{height_of, places_from}
-use Rattle.page_numbers.specs.Numbers.{number_at}
+use Rattle.page_store.specs.Numbers.{number_at}
 use Rattle.bulk_load.specs.Sets.{load_of}
 use Rattle.bulk_load.specs.Postorder.{nodes_at}
 use Rattle.bulk_load.proofs.Sizes.{most_some, top_fits}

@@ -1,4 +1,4 @@
-use Rattle.page_numbers.specs.Numbers.{number_at}
+use Rattle.page_store.specs.Numbers.{number_at}
 use Rattle.bulk_load.specs.Sets.{load_of}
 use Rattle.bulk_load.proofs.Looped.{Loops}
 use Rattle.bulk_load.proofs.subtree.+add_subtree.Given as goal

@@ -1,8 +1,9 @@
 use Rattle.std.proofs.Common.{false, ◌-◌, ap, rules}
 use Rattle.std.proofs.lemmas.Result.{err_from_is_err_and}
-use Rattle.insert_path.specs.Descent.{number_at, above_of}
+use Rattle.insert_path.specs.Descent.{above_of}
 use Rattle.insert_path.proofs.Level.{cause_here, leaf_high, inner_other, fault_below, cause_below, level_above, read_near, small_descends, leaf_step, inner_step}
 use Rattle.insert_path.proofs.descent.+descend.Goals as goal
+use Rattle.page_store.specs.Numbers.{number_at}
 
 pub returns-in_err-node-clause-cause : goal.returns-in_err-node-clause-cause
 returns-in_err-node-clause-cause g t c =
@@ -40,14 +41,14 @@ back_at-requires-clause-small g t c κs within =
 
 pub returns-in-Ok-clause-descends : goal.returns-in-Ok-clause-descends
 returns-in-Ok-clause-descends g t c =
-    leaf_step c.args.task.now.policy c.args.task.now.bounds (number_at c.args.task.now.numbers.now c.args.task.now.first) (record { id = c.args.task.now.object.id; tag = c.args.task.now.object.tag; point = c.args.task.now.object.point.now })
+    leaf_step c.args.task.now.policy c.args.task.now.bounds (number_at c.args.task.now.numbering.numbers.now c.args.task.now.numbering.first) (record { id = c.args.task.now.object.id; tag = c.args.task.now.object.tag; point = c.args.task.now.object.point.now })
     (g.R.M.Metric.space (g.R.Ruler.metric c.args.ruler.now)) (g.P.Pages.shelf c.args.pages.now) c.args.spot.now.level c.args.spot.now.page (above_of c.args.spot.now.root c.args.spot.now.above.now)
     c.in_ok-node.node c.in-Leaf.entries c.into_vec-entries.result.items c.args.written.now.left.items _ c.args.written.now.nodes.items _ _
     c.if-spot-ne0.false c.in_ok-node.ensures.ok c.in-Leaf.is c.into_vec-entries.ensures (search rules) c.in-Ok.ensures.staged c.in-Ok.ensures.within
 
 pub returns-in-Ok-back_at-clause-descends : goal.returns-in-Ok-back_at-clause-descends
 returns-in-Ok-back_at-clause-descends g t c =
-    inner_step c.args.task.now.policy c.args.task.now.bounds (number_at c.args.task.now.numbers.now c.args.task.now.first) (record { id = c.args.task.now.object.id; tag = c.args.task.now.object.tag; point = c.args.task.now.object.point.now })
+    inner_step c.args.task.now.policy c.args.task.now.bounds (number_at c.args.task.now.numbering.numbers.now c.args.task.now.numbering.first) (record { id = c.args.task.now.object.id; tag = c.args.task.now.object.tag; point = c.args.task.now.object.point.now })
     (g.R.M.Metric.space (g.R.Ruler.metric c.args.ruler.now)) (g.R.M.Metric.space (g.R.Ruler.metric c.choose-place.new.ruler)) (g.R.M.Metric.space (g.R.Ruler.metric c.descend.new.ruler))
     (g.P.Pages.shelf c.args.pages.now) (g.P.Pages.shelf c.node.new.self)
     c.args.spot.now.level (c.args.spot.now.level - 1) c.args.spot.now.page c.in-Inner.level (above_of c.args.spot.now.root c.args.spot.now.above.now)

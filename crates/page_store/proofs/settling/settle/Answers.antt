@@ -1,7 +1,7 @@
 use Rattle.std.proofs.Common.{◌≡◌, ◌∙◌, ◌-◌, ℕ, refl, sym, ap, subst, arith, length}
-use Rattle.page_numbers.specs.Numbers.{AreNumbers}
-use Rattle.page_numbers.proofs.Placed.{is_placement}
-use Rattle.page_numbers.proofs.settling.settle.Goals as goal
+use Rattle.page_store.specs.Numbers.{AreNumbers}
+use Rattle.page_store.proofs.Giving.{is_placement}
+use Rattle.page_store.proofs.settling.settle.Goals as goal
 
 pub returns-clause-placement : goal.returns-clause-placement
 returns-clause-placement c = λ head count writable.

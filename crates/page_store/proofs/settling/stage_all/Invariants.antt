@@ -1,7 +1,7 @@
 use Rattle.std.proofs.Common.{◌≡◌, ◌<◌, ◌+◌, ◌++◌, length, reverse}
 use Rattle.std.specs.List.{AllByRecursion}
-use Rattle.page_numbers.proofs.settling.stage_all.Given as goal
-use Rattle.page_numbers.specs.Numbers.{number_at, numbered}
+use Rattle.page_store.proofs.settling.stage_all.Given as goal
+use Rattle.page_store.specs.Numbers.{number_at, numbered}
 
 abbrev pub invariant-loop-place : goal.invariant-loop-place
 invariant-loop-place l = record {

@@ -14,9 +14,9 @@ use Rattle.page_store.specs.declared.staging.Placed.{Placed}
 use Rattle.page_store.specs.declared.staging.StagedNode.{StagedNode}
 use Rattle.page_store.specs.Reading.{IsWithin}
 use Rattle.page_store.specs.Staging.{pages_of, staged_for}
-use Rattle.page_numbers.specs.Numbers.{number_at}
-use Rattle.page_numbers.specs.declared.settling.RoomFault.{RoomFault}
-use Rattle.page_numbers.specs.declared.settling.RoomFault.TheVariants.{NoRoom, Memory}
+use Rattle.page_store.specs.Numbers.{number_at}
+use Rattle.page_store.specs.declared.settling.RoomFault.{RoomFault}
+use Rattle.page_store.specs.declared.settling.RoomFault.TheVariants.{NoRoom, Memory}
 
 -- the pages of the live tree
 abbrev pub live_pages : Nodes → Live → List ℕ

@@ -1,8 +1,8 @@
 use Rattle.std.proofs.Common.{◌≡◌, ◌∷◌, arith, reverse}
 use Rattle.std.proofs.lemmas.Grind.{common_steps}
-use Rattle.page_numbers.proofs.settling.stage_all.Goals as goal
-use Rattle.page_numbers.specs.Numbers.{number_at}
-use Rattle.page_numbers.proofs.Given.{numbered_more, lower_more, number_up}
+use Rattle.page_store.proofs.settling.stage_all.Goals as goal
+use Rattle.page_store.specs.Numbers.{number_at}
+use Rattle.page_store.proofs.Given.{numbered_more, lower_more, number_up}
 
 pub loop-place-preserved : goal.loop-place-preserved
 loop-place-preserved c =

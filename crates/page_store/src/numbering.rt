@@ -1,5 +1,5 @@
 ghost use Rattle.std.specs.Prelude.{◌≡◌, ◌≤◌, ◌^◌};
-ghost use Rattle.page_numbers.specs.Numbers.{number_at};
+ghost use Rattle.page_store.specs.Numbers.{number_at};
 
 /// Which pages new nodes get.
 #[derive(Clone, Copy, Debug)]

@@ -3,13 +3,13 @@ ghost use Rattle.std.specs.List.{AllByRecursion};
 ghost use Rattle.node_page.specs.Nodes.{IsLawfulNode};
 ghost use Rattle.node_page.specs.Opening.{IsLawfulLive};
 ghost use Rattle.node_page.specs.declared.head.Head.{Head};
-ghost use Rattle.page_numbers.specs.Numbers.{number_at, numbered, AreNumbers};
-ghost use Rattle.page_numbers.specs.Placing.{HasRoomCause, IsPlacement};
+ghost use Rattle.page_store.specs.Numbers.{number_at, numbered, AreNumbers};
+ghost use Rattle.page_store.specs.Placing.{HasRoomCause, IsPlacement};
 
 use crate::Memory;
 use crate::numbering::Numbering;
+use crate::staging::{Placed, Staged};
 use metric_laws::Listed;
-use page_store::{Placed, Staged};
 use std::alloc::Global;
 use thiserror::Error;
 use tree_shape::{Live, Node};

@@ -8,8 +8,8 @@ use Rattle.tree_shape.specs.declared.entry.Node.{Node}
 use Rattle.tree_shape.specs.Tree.{Nodes, times}
 use Rattle.tree_shape.specs.Plain.{Tall, tree_at}
 use Rattle.tree_shape.proofs.Counting.{times-append}
-use Rattle.page_numbers.specs.Numbers.{numbered}
-use Rattle.page_numbers.specs.Placing.{level_of, staged_tree}
+use Rattle.page_store.specs.Numbers.{numbered}
+use Rattle.page_store.specs.Placing.{level_of, staged_tree}
 
 -- the nodes stand on their pages, from this number on
 abbrev pub HoldsFrom : Nodes → (ℕ → ℕ) → ℕ → List Node → Type 0

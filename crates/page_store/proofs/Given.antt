@@ -1,18 +1,16 @@
--- The pages of new nodes.
+-- The pages that new nodes are given.
 use Rattle.std.proofs.Common.{◌≡◌, ◌≢◌, ℕ, zero, suc, ◌+◌, ◌-◌, ◌<◌, ◌≤◌, Bool, true, false, List, [], ◌∷◌, ◌++◌, refl, ap, ◌∙◌, arith, length, map, subst, get_or, inl, inr, append_assoc}
-use Rattle.std.specs.Prelude.{if◌then◌else◌, ◌==◌, nat_lt, None, Some}
+use Rattle.std.specs.Prelude.{if◌then◌else◌, ◌==◌, nat_lt, None}
 use Rattle.std.specs.List.{AllByRecursion, range_with_len}
 use Rattle.std.proofs.lemmas.Bool.Decides.{nat_tests}
 use Rattle.metric_laws.specs.Lists.{IsIn}
 use Rattle.metric_laws.proofs.Lists.{all_weaker, all_append}
 use Rattle.tree_shape.specs.declared.entry.Node.{Node}
-use Rattle.tree_shape.specs.Tree.{Nodes, times}
+use Rattle.tree_shape.specs.Tree.{times}
 use Rattle.page_store.specs.declared.staging.StagedNode.{StagedNode}
 use Rattle.page_store.specs.Staging.{pages_of, IsFree, staged_for}
-use Rattle.insert_path.specs.Descent.{number_at, numbered}
-use Rattle.insert_path.specs.Placing.{Ascends, AreNumbers}
-use Rattle.insert_path.proofs.Paged.{pages_from}
-use Rattle.insert_path.proofs.Holding.{HoldsFrom}
+use Rattle.page_store.specs.Numbers.{number_at, numbered, Ascends, AreNumbers}
+use Rattle.page_store.proofs.Standing.{pages_from}
 
 pub low_at : (low : ℕ) (xs : List ℕ) (i : ℕ) → Ascends low xs → i < length xs → low ≤ get_or xs i 0
 low_at low [] i up less = absurd (omega arith)
@@ -110,11 +108,6 @@ free_above staged page all = all_weaker (λ (s : StagedNode). s.page < page) (λ
 
 pub lower_more : (staged : List StagedNode) (s : StagedNode) (page next : ℕ) → AllByRecursion (λ s. s.page < page) staged → s.page ≡ page → page < next → AllByRecursion (λ s. s.page < next) (staged ++ s ∷ [])
 lower_more staged s page next all same up = all_append (λ (s : StagedNode). s.page < next) staged (s ∷ []) (all_weaker (λ (s : StagedNode). s.page < page) (λ (s : StagedNode). s.page < next) staged (λ x low. omega (arith, low, up)) all) (omega (arith, same, up), tt)
-
--- staged nodes stand on their pages
-pub stand_holds : (file : Nodes) (number : ℕ → ℕ) (i : ℕ) (ns : List Node) → AllByRecursion (λ s. file s.page ≡ Some s.node) (numbered number i ns) → HoldsFrom file number i ns
-stand_holds file number i [] all = tt
-stand_holds file number i (n ∷ ns) all = (all.0, stand_holds file number (i + 1) ns all.1)
 
 pub free_none : (staged : List StagedNode) (page : ℕ) → IsFree staged page → staged_for staged page ≡ None
 free_none [] page free = refl
