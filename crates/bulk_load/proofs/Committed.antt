@@ -25,7 +25,7 @@ use Rattle.bulk_load.specs.Causes.{node_count}
 use Rattle.bulk_load.specs.Postorder.{subtrees_of, is_top, last_of, below_groups, group_entries, nodes_at}
 use Rattle.bulk_load.specs.Sets.{load_of, top_height, top_nodes, IsLawfulLoad, IsSetFor}
 use Rattle.bulk_load.proofs.Lawful.{nodes_lawful}
-use Rattle.bulk_load.proofs.Sizes.{same_load, top_fits, height_low, nodes_few, nodes_long}
+use Rattle.bulk_load.proofs.Suited.{same_load, top_fits, height_low, nodes_few, nodes_long}
 
 -- no head allows more rows
 pub rows_few : (head : Head) (count : ℕ) → IsLawfulHead head → count ≤ head.limit → count ≤ 2 ^ 24

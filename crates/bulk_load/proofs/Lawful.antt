@@ -16,7 +16,7 @@ use Rattle.tree_shape.proofs.LoadSound.{point_at_place, power_one}
 use Rattle.node_page.specs.Nodes.{IsLawfulNode}
 use Rattle.bulk_load.specs.Sets.{IsLawfulLoad, IsSetFor, IsGroupFor}
 use Rattle.bulk_load.specs.Postorder.{is_top, seed_point, leaf_entry, below_groups, group_entries, nodes_at}
-use Rattle.bulk_load.proofs.Sizes.{groups_fit}
+use Rattle.bulk_load.proofs.Suited.{groups_fit}
 
 module _ (l : Load) (space : IsSpace l.space) (lawful : IsLawfulLoad l) where
   abbrev pub IsRow : ℕ → Type 0

@@ -1,5 +1,5 @@
 pub mod Shown
-pub mod Sizes
+pub mod Suited
 pub mod Looped
 pub mod Kept
 pub mod Whole

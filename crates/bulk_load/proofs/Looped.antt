@@ -10,7 +10,7 @@ use Rattle.tree_shape.specs.declared.rules.Group.{Group}
 use Rattle.tree_shape.specs.Bulk.{Load, groups_at}
 use Rattle.bulk_load.specs.Sets.{IsLawfulLoad, IsSetFor, IsGroupFor}
 use Rattle.bulk_load.specs.Postorder.{is_top, group_entry, last_of, below_groups, group_entries, nodes_at}
-use Rattle.bulk_load.proofs.Sizes.{groups_fit}
+use Rattle.bulk_load.proofs.Suited.{groups_fit}
 
 -- the nodes of a group, whose node is a level lower
 abbrev pub group_nodes : Load → (ℕ → ℕ) → ℕ → Group → ℕ → List Node

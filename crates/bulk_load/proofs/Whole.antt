@@ -30,7 +30,7 @@ use Rattle.bulk_load.specs.Sets.{top_height, top_nodes, IsLawfulLoad}
 use Rattle.bulk_load.specs.Postorder.{subtrees_of, last_of, nodes_at}
 use Rattle.bulk_load.specs.Loaded.{Stand, LeavesOld, HasLoaded}
 use Rattle.bulk_load.proofs.Shown.{Shown, shown}
-use Rattle.bulk_load.proofs.Sizes.{same_load, most_some}
+use Rattle.bulk_load.proofs.Suited.{same_load, most_some}
 use Rattle.bulk_load.proofs.Kept.{IsRow, rows_once, row_of_id, points_all, tags_all}
 
 module _ (l : Load) (space : IsSpace l.space) (lawful : IsLawfulLoad l) (number : ℕ → ℕ) (new : Nodes) (next : Live) (at_root : next.root ≡ last_of number 0 (top_nodes l number)) (at_height : next.height ≡ top_height l)

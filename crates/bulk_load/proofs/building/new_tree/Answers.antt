@@ -4,7 +4,7 @@ use Rattle.tree_shape.specs.Bulk.{height_of, places_from}
 use Rattle.page_store.specs.Numbers.{number_at}
 use Rattle.bulk_load.specs.Sets.{load_of}
 use Rattle.bulk_load.specs.Postorder.{nodes_at}
-use Rattle.bulk_load.proofs.Sizes.{most_some, top_fits}
+use Rattle.bulk_load.proofs.Suited.{most_some, top_fits}
 use Rattle.bulk_load.proofs.Committed.{low, most_low, all_rows, first_few}
 use Rattle.bulk_load.proofs.building.new_tree.Goals as goal
 

@@ -1,6 +1,6 @@
 use Rattle.std.proofs.Common.{rules, ◌≡◌, [], sym, ◌∙◌, arith}
 use Rattle.std.proofs.lemmas.List.{nil_from_length}
-use Rattle.bulk_load.proofs.Sizes.{increasing}
+use Rattle.bulk_load.proofs.Suited.{increasing}
 use Rattle.bulk_load.proofs.Looped.{begun, within, room_left, ended}
 use Rattle.bulk_load.proofs.subtree.+add_subtree.Goals as goal
 
