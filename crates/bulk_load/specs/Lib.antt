@@ -1,0 +1,2 @@
+pub mod Groupable
+pub mod Measured
