@@ -1,3 +1,4 @@
 pub mod Received
 pub mod Steps
 pub mod Members
+pub mod Sizes

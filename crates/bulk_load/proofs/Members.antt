@@ -1,5 +1,5 @@
 -- Steps of the groups' making.
-use Rattle.std.proofs.Common.{◌≡◌, ℕ, zero, suc, ◌+◌, ◌-◌, ◌*◌, ◌<◌, ◌≤◌, Bool, true, false, List, [], ◌∷◌, ◌++◌, refl, sym, ap, ◌∙◌, arith, append_assoc, ◌≢◌, ◌^◌, length, length-append, take, drop, get_or, subst}
+use Rattle.std.proofs.Common.{◌≡◌, ℕ, suc, ◌+◌, ◌*◌, ◌<◌, Bool, true, false, List, [], ◌∷◌, ◌++◌, refl, sym, ap, ◌∙◌, arith, append_assoc, ◌≢◌, ◌^◌, length, length-append, take, drop, get_or, subst}
 use Rattle.std.specs.Prelude.{◌==◌, if◌then◌else◌, slice_index, map, replicate}
 use Rattle.std.specs.List.{flat_map}
 use Rattle.std.proofs.lemmas.List.{length-map}
@@ -7,12 +7,12 @@ use Rattle.std.proofs.lemmas.Bool.Decides.{nat_tests}
 use Rattle.metric_laws.specs.Space.{Space}
 use Rattle.tree_shape.specs.Bulk.{row_of}
 use Rattle.std.proofs.lemmas.List.{drop_more, drop_at}
-use Rattle.std.proofs.Math.Seq.{take-append_seam, drop-append_seam}
+use Rattle.std.proofs.Math.Seq.{take-append_seam}
 use Rattle.metric_laws.specs.Rows.{rows_of}
 use Rattle.tree_shape.specs.declared.rules.Member.{Member}
 use Rattle.tree_shape.specs.declared.rules.Group.{Group}
-use Rattle.tree_shape.specs.Groups.{members_from, entry, placed_from, filled_from, grouped, seeds_from, group_count}
-use Rattle.tree_shape.specs.Bulk.{groups_from, groups_at, groups_by, table_of, Load, point_of}
+use Rattle.tree_shape.specs.Groups.{members_from, entry, placed_from, filled_from, seeds_from, group_count}
+use Rattle.tree_shape.specs.Bulk.{groups_from, groups_at, Load, point_of}
 
 pub members_step : {X : Type 0} (a k : ℕ) (set : List X) (ps : List Member) (x : X) (d : Member) → k < length set → k < length ps →
     members_from a (drop k set) (drop k ps)
@@ -49,13 +49,15 @@ row_length s points [] p = refl
 row_length s points (k ∷ seeds) p = ap suc (row_length s points seeds p)
 
 -- what the calls give, put together
-pub groups_are : (l : Load) (is_root : Bool) (h : ℕ) (set : List ℕ) (room least g : ℕ) (seeds : List ℕ) (points : List (List ℕ)) (placed : List Member) (gs : List Group) →
+pub groups_are : (l : Load) (is_root : Bool) (h : ℕ) (set : List ℕ) (room least g : ℕ) (seeds : List ℕ) (points : List (List ℕ)) (width : ℕ) (table : List (List ℕ)) (placed : List Member) (gs : List Group) →
     room ≡ l.most ^ h → least ≡ l.least ^ h → g ≡ group_count l.most l.least is_root room (length set) → seeds ≡ seeds_from (length set) g 0 g → length seeds ≡ g →
-    points ≡ map (point_of l) set →
-    placed ≡ filled_from (entry (map (row_of l.space points seeds) points)) least 0 (length seeds)
-        (placed_from (entry (map (row_of l.space points seeds) points)) room 0 seeds 0 (replicate (length seeds) 1) (length points)) →
+    points ≡ map (point_of l) set → width ≡ length seeds → table ≡ map (row_of l.space points seeds) points →
+    placed ≡ filled_from (entry table) least 0 width (placed_from (entry table) room 0 seeds 0 (replicate width 1) (length table)) →
     gs ≡ groups_from 0 seeds set placed → gs ≡ groups_at l is_root h set
-groups_are l is_root h set room least g seeds points placed gs room_is least_is g_is seeds_are long points_are placed_is gs_are =
-    let n : length points ≡ length set = ap length points_are ∙ (let q : length (map (point_of l) set) ≡ length set = rw length-map refl in q) in
-    let t : entry (map (row_of l.space points seeds) points) ≡ entry (map (row_of l.space (map (point_of l) set) seeds) (map (point_of l) set)) = ap (λ (ps : List (List ℕ)). entry (map (row_of l.space ps seeds) ps)) points_are in
+groups_are l is_root h set room least g seeds points width table placed gs room_is least_is g_is seeds_are long points_are width_is table_is placed_is gs_are =
+    let n : length table ≡ length set =
+    ap length table_is ∙ (let p : length (map (row_of l.space points seeds) points) ≡ length points = rw length-map refl in p)
+    ∙ ap length points_are ∙ (let q : length (map (point_of l) set) ≡ length set = rw length-map refl in q) in
+    let t : entry table ≡ entry (map (row_of l.space (map (point_of l) set) seeds) (map (point_of l) set)) =
+    ap entry (table_is ∙ ap (λ (ps : List (List ℕ)). map (row_of l.space ps seeds) ps) points_are) in
     cc

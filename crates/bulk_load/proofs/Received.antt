@@ -1,6 +1,6 @@
 -- Steps of the filling.
-use Rattle.std.proofs.Common.{◌≡◌, ℕ, zero, suc, ◌+◌, ◌-◌, ◌*◌, ◌<◌, ◌≤◌, Bool, true, false, List, [], ◌∷◌, ◌++◌, refl, sym, ap, ◌∙◌, arith, length, length-take, take, drop, get_or, subst, Option, Some, None}
-use Rattle.std.specs.Prelude.{◌==◌, if◌then◌else◌, nat_lt, not, ◌&&◌}
+use Rattle.std.proofs.Common.{◌≡◌, ℕ, zero, suc, ◌+◌, ◌-◌, ◌<◌, ◌≤◌, Bool, true, false, List, [], ◌∷◌, ◌++◌, refl, sym, ap, ◌∙◌, arith, length, length-take, take, drop, get_or, Option, None}
+use Rattle.std.specs.Prelude.{◌==◌, if◌then◌else◌}
 use Rattle.std.proofs.lemmas.List.{drop_more, take_more, get_or-set_other}
 use Rattle.std.proofs.lemmas.Grind.{get_or-set_at}
 use Rattle.std.proofs.Math.ListN.{set}
@@ -30,7 +30,7 @@ received_step far least a n left ps e = ap (λ (k : ℕ). received far least a k
 pub filled_step : (far : Far) (least a n left : ℕ) (ps : List Member) → n ≡ left + 1 → filled_from far least a n ps ≡ filled_from far least (a + 1) left (received far least a (least - in_group a ps) ps)
 filled_step far least a n left ps e = ap (λ (k : ℕ). filled_from far least a k ps) (let s : n ≡ suc left = omega arith in s)
 
-now_is : (xs : List ℕ) (q x : ℕ) → q < length xs → x ≡ get_or xs q x → x ≡ get_or xs q 0
+pub now_is : (xs : List ℕ) (q x : ℕ) → q < length xs → x ≡ get_or xs q x → x ≡ get_or xs q 0
 now_is [] q x low e = absurd (omega arith)
 now_is (y ∷ ys) zero x low e = e
 now_is (y ∷ ys) (suc q) x low e = now_is ys q x (omega arith) e

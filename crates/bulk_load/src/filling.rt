@@ -25,7 +25,13 @@ pub fn tally(alloc: Global, placed: &[Member], g: usize) -> Result<Vec<usize>, M
 
 // The candidate nearest to a group's seed.
 #[tactic(auto, using(crate::proofs::Received::candidate_step))]
-fn candidate(distances: &Distances, least: usize, a: usize, placed: &[Member], counts: &[usize]) -> Option<(u64, usize)>
+fn candidate(
+    distances: &Distances,
+    least: usize,
+    a: usize,
+    placed: &[Member],
+    counts: &[usize],
+) -> Option<(u64, usize)>
     requires a { a < distances.now.width }
     requires placed { length placed.now ≡ length distances.now.table }
     requires groups { All (λ p. p.group < distances.now.width) placed.now }
@@ -43,7 +49,13 @@ fn candidate(distances: &Distances, least: usize, a: usize, placed: &[Member], c
 }
 
 // A group receives an object.
-fn receive_one(alloc: Global, distances: &Distances, least: usize, a: usize, placed: &mut [Member]) -> Result<(), Memory>
+fn receive_one(
+    alloc: Global,
+    distances: &Distances,
+    least: usize,
+    a: usize,
+    placed: &mut [Member],
+) -> Result<(), Memory>
     requires a { (a < distances.now.width) × (distances.now.width ≤ 64) }
     requires placed { length placed.old ≡ length distances.now.table }
     requires groups { All (λ p. p.group < distances.now.width) placed.old }
@@ -62,7 +74,14 @@ fn receive_one(alloc: Global, distances: &Distances, least: usize, a: usize, pla
 
 // A group receives so many objects.
 #[tactic(auto, using(crate::proofs::Received::received_step))]
-fn receive(alloc: Global, distances: &Distances, least: usize, a: usize, need: usize, placed: &mut [Member]) -> Result<(), Memory>
+fn receive(
+    alloc: Global,
+    distances: &Distances,
+    least: usize,
+    a: usize,
+    need: usize,
+    placed: &mut [Member],
+) -> Result<(), Memory>
     requires a { (a < distances.now.width) × (distances.now.width ≤ 64) }
     requires placed { length placed.old ≡ length distances.now.table }
     requires groups { All (λ p. p.group < distances.now.width) placed.old }
@@ -77,7 +96,12 @@ fn receive(alloc: Global, distances: &Distances, least: usize, a: usize, need: u
 
 /// Fills up the groups that have fewer than `least` objects.
 #[tactic(auto, using(crate::proofs::Received::filled_step))]
-pub fn fill_up(alloc: Global, distances: &Distances, least: usize, placed: &mut [Member]) -> Result<(), Memory>
+pub fn fill_up(
+    alloc: Global,
+    distances: &Distances,
+    least: usize,
+    placed: &mut [Member],
+) -> Result<(), Memory>
     requires width { distances.now.width ≤ 64 }
     requires placed { length placed.old ≡ length distances.now.table }
     requires groups { All (λ p. p.group < distances.now.width) placed.old }
@@ -85,7 +109,14 @@ pub fn fill_up(alloc: Global, distances: &Distances, least: usize, placed: &mut 
 {
     for a in 0..distances.seeds() {
         let counts = tally(alloc, placed, distances.seeds())?;
-        receive(alloc, distances, least, a, least.saturating_sub(counts[a]), placed)?;
+        receive(
+            alloc,
+            distances,
+            least,
+            a,
+            least.saturating_sub(counts[a]),
+            placed,
+        )?;
     }
     Ok(())
 }

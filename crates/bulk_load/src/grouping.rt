@@ -46,7 +46,12 @@ fn members_of(alloc: Global, a: u32, set: &[u32], placed: &[Member]) -> Result<V
 
 // The groups, by their seeds' places in the set.
 #[tactic(auto, using(crate::proofs::Members::groups_step))]
-fn groups_of(alloc: Global, seeds: &[u32], set: &[u32], placed: &[Member]) -> Result<Vec<Group>, Memory>
+fn groups_of(
+    alloc: Global,
+    seeds: &[u32],
+    set: &[u32],
+    placed: &[Member],
+) -> Result<Vec<Group>, Memory>
     requires set { length set.now ≡ length placed.now }
     requires seeds { All (λ k. k < length set.now) seeds.now }
     requires few { length seeds.now ≤ 64 }
@@ -64,7 +69,13 @@ fn groups_of(alloc: Global, seeds: &[u32], set: &[u32], placed: &[Member]) -> Re
 }
 
 // The group of each object, where each of the groups has `least` to `room`.
-fn parted(alloc: Global, distances: &Distances, seeds: &[u32], room: usize, least: usize) -> Result<Vec<Member>, Memory>
+fn parted(
+    alloc: Global,
+    distances: &Distances,
+    seeds: &[u32],
+    room: usize,
+    least: usize,
+) -> Result<Vec<Member>, Memory>
     requires width { (0 < distances.now.width) × (distances.now.width ≤ 64) }
     requires seeds { length seeds.now ≡ distances.now.width }
     ensures is { IfOk result (λ v. v.items ≡ filled_from (entry distances.now.table) least 0 distances.now.width

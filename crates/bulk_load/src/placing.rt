@@ -84,7 +84,14 @@ fn choose(distances: &Distances, k: usize, room: usize, counts: &mut [usize]) ->
 
 // Where the object at a place goes, and how many seeds are before the next place, where i are before this one.
 #[tactic(auto, using(crate::proofs::Steps::seed_step, crate::proofs::Steps::member_step))]
-fn place_one(distances: &Distances, k: usize, room: usize, seeds: &[u32], i: usize, counts: &mut [usize]) -> (Member, usize)
+fn place_one(
+    distances: &Distances,
+    k: usize,
+    room: usize,
+    seeds: &[u32],
+    i: usize,
+    counts: &mut [usize],
+) -> (Member, usize)
     requires k { k < length distances.now.table }
     requires width { (0 < distances.now.width) × (distances.now.width ≤ 64) }
     requires seeds { length seeds.now ≡ distances.now.width }
@@ -116,7 +123,12 @@ fn place_one(distances: &Distances, k: usize, room: usize, seeds: &[u32], i: usi
 }
 
 /// The group of each object, before small groups are filled up. A group takes objects up to `room`.
-pub fn place_all(alloc: Global, distances: &Distances, room: usize, seeds: &[u32]) -> Result<Vec<Member>, Memory>
+pub fn place_all(
+    alloc: Global,
+    distances: &Distances,
+    room: usize,
+    seeds: &[u32],
+) -> Result<Vec<Member>, Memory>
     requires width { (0 < distances.now.width) × (distances.now.width ≤ 64) }
     requires seeds { length seeds.now ≡ distances.now.width }
     ensures is { IfOk result (λ v. v.items ≡ placed_from (entry distances.now.table) room 0 seeds.now 0 (replicate distances.now.width 1) (length distances.now.table)) }

@@ -1,6 +1,5 @@
-use Rattle.std.proofs.Common.{◌≡◌, ◌<◌, drop, None}
+use Rattle.std.proofs.Common.{◌≡◌, ◌<◌, drop, None, length}
 use Rattle.std.specs.Prelude.{IfSome}
-use Rattle.metric_laws.specs.Rows.{rows_of}
 use Rattle.tree_shape.specs.Groups.{candidate_from, entry}
 use Rattle.bulk_load.proofs.filling.candidate.Given as goal
 

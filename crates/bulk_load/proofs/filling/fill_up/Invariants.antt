@@ -1,6 +1,5 @@
-use Rattle.std.proofs.Common.{◌≡◌, ◌<◌, ◌-◌, length}
+use Rattle.std.proofs.Common.{◌≡◌, ◌<◌, ◌-◌}
 use Rattle.std.specs.Prelude.{All}
-use Rattle.metric_laws.specs.Rows.{rows_of}
 use Rattle.tree_shape.specs.declared.rules.Member.{Member}
 use Rattle.tree_shape.specs.Groups.{filled_from, entry}
 use Rattle.bulk_load.proofs.filling.fill_up.Given as goal

@@ -1,6 +1,5 @@
-use Rattle.std.proofs.Common.{◌≡◌, ◌<◌, drop, get_or, None, length}
+use Rattle.std.proofs.Common.{◌≡◌, ◌<◌, drop, get_or, None}
 use Rattle.std.specs.Prelude.{IfSome}
-use Rattle.metric_laws.specs.Rows.{rows_of}
 use Rattle.tree_shape.specs.Groups.{nearest_from, entry}
 use Rattle.bulk_load.proofs.placing.nearest.Given as goal
 
