@@ -1,2 +1,3 @@
 pub mod Groupable
 pub mod Measured
+pub mod Candidates

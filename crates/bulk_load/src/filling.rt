@@ -1,100 +1,122 @@
 //! How small groups are filled up from large ones.
 
-ghost use Rattle.std.specs.Prelude.{◌≡◌, ℕ, ◌<◌, ◌≤◌, length, IfOk, OnOk, IfSome, All, slice_index, None, vec_len};
-ghost use Rattle.tree_shape.specs.Groups.{entry, candidate_from, in_group, moved_to, received, filled_from};
+ghost use Rattle.std.specs.Prelude.{◌≡◌, ◌<◌, ◌≤◌, ◌-◌, length, IfOk, OnOk, All, if◌then◌else◌, slice_index_or, slice_set, vec_len, IsPermutation};
+ghost use Rattle.std.specs.List.Sorted.{IsSortedBy};
+ghost use Rattle.tree_shape.specs.Groups.{entry, in_group, is_candidate, member_of, received, filled_from};
+ghost use Rattle.bulk_load.specs.Candidates.{AreCounts, candidates_from, is_nearer};
 
 use crate::distances::Distances;
-use crate::placing::nearer;
 use metric_laws::Memory;
 use std::alloc::Global;
 use tree_shape::Member;
 
-/// How many objects each of g groups has.
+/// How many objects each of so many groups has.
 #[tactic(auto, using(crate::proofs::Received::in_group_more, crate::proofs::Received::in_group_few))]
-pub fn tally(alloc: Global, placed: &[Member], g: usize) -> Result<Vec<usize>, Memory>
-    requires { All (λ p. p.group < g) placed.now }
-    ensures len { IfOk result (λ v. vec_len v ≡ g) }
-    ensures each { IfOk result (λ v. (a : ℕ) → slice_index v.items a ≡ in_group a placed.now) }
+fn tally(alloc: Global, placed: &[Member], groups: usize) -> Result<Vec<usize>, Memory>
+    requires { All (λ p. p.group < groups) placed.now }
+    ensures len { IfOk result (λ v. vec_len v ≡ groups) }
+    ensures each { IfOk result (λ v. AreCounts v.items placed.now) }
 {
-    let mut counts = vec![in alloc; 0usize; g]?;
+    let mut counts = vec![in alloc; 0usize; groups]?;
     for p in placed {
         counts[p.group as usize] += 1;
     }
     Ok(counts)
 }
 
-// The candidate nearest to a group's seed.
-#[tactic(auto, using(crate::proofs::Received::candidate_step))]
-fn candidate(
-    distances: &Distances,
-    least: usize,
-    a: usize,
-    placed: &[Member],
-    counts: &[usize],
-) -> Option<(u64, usize)>
-    requires a { a < distances.now.width }
-    requires placed { length placed.now ≡ length distances.now.table }
-    requires groups { All (λ p. p.group < distances.now.width) placed.now }
-    requires len { length counts.now ≡ distances.now.width }
-    requires counts { (b : ℕ) → slice_index counts.now b ≡ in_group b placed.now }
-    ensures is { result ≡ candidate_from (entry distances.now.table) least a placed.now 0 None placed.now }
-    ensures inside { IfSome result (λ b. b.1 < length placed.now) }
+// Whether the object at a place may leave its group for a small one.
+fn may_leave(least: usize, placed: &[Member], counts: &[usize], place: usize) -> bool
+    requires place { place < length placed.now }
+    requires groups { All (λ p. p.group < length counts.now) placed.now }
+    requires counts { AreCounts counts.now placed.now }
+    ensures { result ≡ is_candidate least placed.now (slice_index_or placed.now place (member_of 0)) }
 {
-    let mut best = None;
-    for (k, p) in placed.iter().enumerate() {
-        let may = !p.is_seed && least < counts[p.group as usize];
-        best = nearer(may, distances.far(k, a), k, best);
-    }
-    best
+    let member = placed[place];
+    !member.is_seed && least < counts[member.group as usize]
 }
 
-// A group receives an object.
-fn receive_one(
+// The objects that a group may receive, as their distances from its seed and their places, nearest first.
+fn candidates(
     alloc: Global,
     distances: &Distances,
     least: usize,
-    a: usize,
-    placed: &mut [Member],
-) -> Result<(), Memory>
-    requires a { (a < distances.now.width) × (distances.now.width ≤ 64) }
-    requires placed { length placed.old ≡ length distances.now.table }
-    requires groups { All (λ p. p.group < distances.now.width) placed.old }
-    ensures is { OnOk result (placed.new ≡ moved_to a (candidate_from (entry distances.now.table) least a placed.old 0 None placed.old) placed.old) }
-    ensures groups { All (λ p. p.group < distances.now.width) placed.new }
+    group: usize,
+    placed: &[Member],
+    counts: &[usize],
+) -> Result<Vec<(u64, usize)>, Memory>
+    requires group { group < distances.now.width }
+    requires placed { length placed.now ≡ length distances.now.table }
+    requires groups { All (λ p. p.group < length counts.now) placed.now }
+    requires counts { AreCounts counts.now placed.now }
+    ensures are { IfOk result (λ v. IsPermutation (candidates_from (entry distances.now.table) least group placed.now 0 placed.now) v.items) }
+    ensures sorted { IfOk result (λ v. IsSortedBy is_nearer v.items) }
 {
-    let counts = tally(alloc, placed, distances.seeds())?;
-    if let Some((_, k)) = candidate(distances, least, a, placed, counts.as_slice()) {
-        placed[k] = Member {
-            group: a as u32,
+    let mut near = Vec::new(alloc);
+    for place in 0..placed.len() {
+        if may_leave(least, placed, counts, place) {
+            near.push((distances.far(place, group), place))?;
+        }
+    }
+    near.sort_unstable();
+    Ok(near)
+}
+
+// Moves the object at a place to a group where it may leave its own.
+fn move_over(least: usize, group: usize, place: usize, placed: &mut [Member], counts: &mut [usize])
+    requires group { (group < length counts.old) × (length counts.old ≤ 64) }
+    requires place { place < length placed.old }
+    requires groups { All (λ p. p.group < length counts.old) placed.old }
+    requires counts { AreCounts counts.old placed.old }
+    ensures placed { placed.new ≡ (if is_candidate least placed.old (slice_index_or placed.old place (member_of 0)) then slice_set placed.old place (member_of group) else placed.old) }
+    ensures long { length placed.new ≡ length placed.old }
+    ensures groups { All (λ p. p.group < length counts.new) placed.new }
+    ensures counts { AreCounts counts.new placed.new }
+    ensures len { length counts.new ≡ length counts.old }
+{
+    if may_leave(least, placed, counts, place) {
+        counts[placed[place].group as usize] -= 1;
+        counts[group] += 1;
+        placed[place] = Member {
+            group: group as u32,
             is_seed: false,
         };
     }
-    Ok(())
 }
 
-// A group receives so many objects.
-#[tactic(auto, using(crate::proofs::Received::received_step))]
-fn receive(
+// Fills up one group, if it has fewer than `least` objects.
+fn fill_one(
     alloc: Global,
     distances: &Distances,
     least: usize,
-    a: usize,
-    need: usize,
+    group: usize,
     placed: &mut [Member],
+    counts: &mut [usize],
 ) -> Result<(), Memory>
-    requires a { (a < distances.now.width) × (distances.now.width ≤ 64) }
+    requires group { (group < distances.now.width) × (distances.now.width ≤ 64) }
     requires placed { length placed.old ≡ length distances.now.table }
-    requires groups { All (λ p. p.group < distances.now.width) placed.old }
-    ensures is { OnOk result (placed.new ≡ received (entry distances.now.table) least a need placed.old) }
-    ensures groups { All (λ p. p.group < distances.now.width) placed.new }
+    requires groups { All (λ p. p.group < length counts.old) placed.old }
+    requires len { length counts.old ≡ distances.now.width }
+    requires counts { AreCounts counts.old placed.old }
+    ensures placed { OnOk result (placed.new ≡ received (entry distances.now.table) least group (least - in_group group placed.old) placed.old) }
+    ensures long { OnOk result (length placed.new ≡ length placed.old) }
+    ensures groups { OnOk result (All (λ p. p.group < length counts.new) placed.new) }
+    ensures counts { OnOk result (AreCounts counts.new placed.new) }
+    ensures len { length counts.new ≡ length counts.old }
 {
-    for _ in 0..need {
-        receive_one(alloc, distances, least, a, placed)?;
+    if least <= counts[group] {
+        return Ok(());
+    }
+    for (_, place) in candidates(alloc, distances, least, group, placed, counts)? {
+        if least <= counts[group] {
+            return Ok(());
+        }
+        move_over(least, group, place, placed, counts);
     }
     Ok(())
 }
 
-/// Fills up the groups that have fewer than `least` objects.
+/// Fills up the groups that have fewer than `least` objects, in order. Each receives the objects nearest to its seed that
+/// are no seeds and whose groups have more than `least`.
 #[tactic(auto, using(crate::proofs::Received::filled_step))]
 pub fn fill_up(
     alloc: Global,
@@ -105,18 +127,12 @@ pub fn fill_up(
     requires width { distances.now.width ≤ 64 }
     requires placed { length placed.old ≡ length distances.now.table }
     requires groups { All (λ p. p.group < distances.now.width) placed.old }
-    ensures is { OnOk result (placed.new ≡ filled_from (entry distances.now.table) least 0 distances.now.width placed.old) }
+    ensures { OnOk result (placed.new ≡ filled_from (entry distances.now.table) least 0 distances.now.width placed.old) }
 {
-    for a in 0..distances.seeds() {
-        let counts = tally(alloc, placed, distances.seeds())?;
-        receive(
-            alloc,
-            distances,
-            least,
-            a,
-            least.saturating_sub(counts[a]),
-            placed,
-        )?;
+    let mut counted = tally(alloc, placed, distances.seeds())?;
+    let counts = counted.as_mut_slice();
+    for group in 0..distances.seeds() {
+        fill_one(alloc, distances, least, group, placed, counts)?;
     }
     Ok(())
 }

@@ -3,4 +3,4 @@ use Rattle.tree_shape.specs.Groups.{in_group}
 use Rattle.bulk_load.proofs.filling.tally.Given as goal
 
 abbrev pub invariant-loop-p : goal.invariant-loop-p
-invariant-loop-p l = (vec_len l.counts ≡ l.g) × ((a : ℕ) → get_or l.counts.items a 0 ≡ in_group a (take l.p-index l.placed))
+invariant-loop-p l = (vec_len l.counts ≡ l.groups) × ((a : ℕ) → get_or l.counts.items a 0 ≡ in_group a (take l.p-index l.placed))
