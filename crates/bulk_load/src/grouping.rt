@@ -24,21 +24,21 @@ fn points_of<M: Metric>(alloc: Global, metric: M, rows: &Rows, set: &[u32]) -> R
     ensures { IfOk result (λ r. r.points ≡ map (λ k. slice_index_or rows.now.points k []) set.now) }
 {
     let mut points = Rows::new(alloc, metric.words());
-    for k in set {
-        points.push(rows.point(*k as usize))?;
+    for place in set {
+        points.push(rows.point(*place as usize))?;
     }
     Ok(points)
 }
 
 // The members of a group.
-fn members_of(alloc: Global, a: u32, set: &[u32], placed: &[Member]) -> Result<Vec<u32>, Memory>
+fn members_of(alloc: Global, group: u32, set: &[u32], placed: &[Member]) -> Result<Vec<u32>, Memory>
     requires { length set.now ≡ length placed.now }
-    ensures { IfOk result (λ v. v.items ≡ members_from a set.now placed.now) }
+    ensures { IfOk result (λ v. v.items ≡ members_from group set.now placed.now) }
 {
     let mut members = Vec::new(alloc);
-    for (k, p) in placed.iter().enumerate() {
-        if p.group == a {
-            members.push(set[k])?;
+    for (place, member) in placed.iter().enumerate() {
+        if member.group == group {
+            members.push(set[place])?;
         }
     }
     Ok(members)
@@ -58,8 +58,8 @@ fn groups_of(
     ensures { IfOk result (λ v. v.items ≡ groups_from 0 seeds.now set.now placed.now) }
 {
     let mut groups = Vec::new(alloc);
-    for (a, seed) in seeds.iter().enumerate() {
-        let members = members_of(alloc, a as u32, set, placed)?;
+    for (group, seed) in seeds.iter().enumerate() {
+        let members = members_of(alloc, group as u32, set, placed)?;
         groups.push(Group {
             seed: set[*seed as usize],
             members: Listed::new(members),

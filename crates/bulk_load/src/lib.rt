@@ -7,3 +7,6 @@ mod grouping;
 mod placing;
 
 pub use grouping::groups;
+
+#[cfg(test)]
+mod tests;

@@ -39,85 +39,95 @@ pub fn seed_places(alloc: Global, n: usize, g: usize) -> Result<Vec<u32>, Memory
     Ok(places)
 }
 
-/// The nearest so far, as a distance and a number: one that may be taken replaces it where it is nearer.
-pub fn nearer(may: bool, d: u64, i: usize, best: Option<(u64, usize)>) -> Option<(u64, usize)>
-    ensures { result ≡ nearer_of may d i best }
+// The nearest so far, as a distance and a number: one that may be taken replaces it where it is nearer.
+fn nearer(
+    may: bool,
+    distance: u64,
+    number: usize,
+    best: Option<(u64, usize)>,
+) -> Option<(u64, usize)>
+    ensures { result ≡ nearer_of may distance number best }
 {
     match best {
         _ if !may => best,
-        Some((least, _)) if d >= least => best,
-        _ => Some((d, i)),
+        Some((least, _)) if distance >= least => best,
+        _ => Some((distance, number)),
     }
 }
 
 // The nearest group that has room for the object at a place.
-fn nearest(distances: &Distances, k: usize, room: usize, counts: &[usize]) -> Option<(u64, usize)>
-    requires k { k < length distances.now.table }
+fn nearest(
+    distances: &Distances,
+    place: usize,
+    room: usize,
+    counts: &[usize],
+) -> Option<(u64, usize)>
+    requires place { place < length distances.now.table }
     requires counts { length counts.now ≡ distances.now.width }
-    ensures is { result ≡ nearest_from (entry distances.now.table) room k 0 None counts.now }
+    ensures is { result ≡ nearest_from (entry distances.now.table) room place 0 None counts.now }
     ensures room { IfSome result (λ b. (b.1 < distances.now.width) × (slice_index counts.now b.1 < room)) }
 {
     let mut best = None;
-    for (a, count) in counts.iter().enumerate() {
-        best = nearer(*count < room, distances.far(k, a), a, best);
+    for (group, count) in counts.iter().enumerate() {
+        best = nearer(*count < room, distances.far(place, group), group, best);
     }
     best
 }
 
 // Chooses a group with room for the object at a place, and counts it there.
-fn choose(distances: &Distances, k: usize, room: usize, counts: &mut [usize]) -> usize
-    requires k { k < length distances.now.table }
+fn choose(distances: &Distances, place: usize, room: usize, counts: &mut [usize]) -> usize
+    requires place { place < length distances.now.table }
     requires width { (0 < distances.now.width) × (distances.now.width ≤ 64) }
     requires counts { length counts.old ≡ distances.now.width }
-    ensures is { result ≡ chosen_of (nearest_from (entry distances.now.table) room k 0 None counts.old) }
-    ensures counts { counts.new ≡ counted (nearest_from (entry distances.now.table) room k 0 None counts.old) counts.old }
+    ensures is { result ≡ chosen_of (nearest_from (entry distances.now.table) room place 0 None counts.old) }
+    ensures counts { counts.new ≡ counted (nearest_from (entry distances.now.table) room place 0 None counts.old) counts.old }
     ensures small { result < distances.now.width }
 {
-    match nearest(distances, k, room, counts) {
-        Some((_, a)) => {
-            counts[a] += 1;
-            a
+    match nearest(distances, place, room, counts) {
+        Some((_, group)) => {
+            counts[group] += 1;
+            group
         }
         None => 0,
     }
 }
 
-// Where the object at a place goes, and how many seeds are before the next place, where i are before this one.
+// Where the object at a place goes, and how many seeds are before the next place, where so many are before this one.
 #[tactic(auto, using(crate::proofs::Steps::seed_step, crate::proofs::Steps::member_step))]
 fn place_one(
     distances: &Distances,
-    k: usize,
+    place: usize,
     room: usize,
     seeds: &[u32],
-    i: usize,
+    before: usize,
     counts: &mut [usize],
 ) -> (Member, usize)
-    requires k { k < length distances.now.table }
+    requires place { place < length distances.now.table }
     requires width { (0 < distances.now.width) × (distances.now.width ≤ 64) }
     requires seeds { length seeds.now ≡ distances.now.width }
-    requires i { i ≤ distances.now.width }
+    requires before { before ≤ distances.now.width }
     requires counts { length counts.old ≡ distances.now.width }
     ensures seeds { result.1 ≤ distances.now.width }
     ensures small { result.0.group < distances.now.width }
-    ensures step { (left next : ℕ) → left ≡ next + 1 → placed_from (entry distances.now.table) room k (drop i seeds.now) i counts.old left
-        ≡ result.0 ∷ placed_from (entry distances.now.table) room (k + 1) (drop result.1 seeds.now) result.1 counts.new next }
+    ensures step { (left next : ℕ) → left ≡ next + 1 → placed_from (entry distances.now.table) room place (drop before seeds.now) before counts.old left
+        ≡ result.0 ∷ placed_from (entry distances.now.table) room (place + 1) (drop result.1 seeds.now) result.1 counts.new next }
 {
-    if i < seeds.len() && seeds[i] as usize == k {
+    if before < seeds.len() && seeds[before] as usize == place {
         (
             Member {
-                group: i as u32,
+                group: before as u32,
                 is_seed: true,
             },
-            i + 1,
+            before + 1,
         )
     } else {
-        let a = choose(distances, k, room, counts);
+        let group = choose(distances, place, room, counts);
         (
             Member {
-                group: a as u32,
+                group: group as u32,
                 is_seed: false,
             },
-            i,
+            before,
         )
     }
 }
@@ -137,11 +147,11 @@ pub fn place_all(
 {
     let mut counts = vec![in alloc; 1usize; distances.seeds()]?;
     let mut placed = Vec::new(alloc);
-    let mut i = 0;
-    for k in 0..distances.objects() {
-        let (one, next) = place_one(distances, k, room, seeds, i, counts.as_mut_slice());
+    let mut before = 0;
+    for place in 0..distances.objects() {
+        let (one, next) = place_one(distances, place, room, seeds, before, counts.as_mut_slice());
         placed.push(one)?;
-        i = next;
+        before = next;
     }
     Ok(placed)
 }
