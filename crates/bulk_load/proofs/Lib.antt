@@ -1,3 +1,8 @@
+pub mod Received
+pub mod Steps
+pub mod Members
+pub mod Sizes
+pub mod Walking
 pub mod Shown
 pub mod Suited
 pub mod Looped

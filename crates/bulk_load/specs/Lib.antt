@@ -1,4 +1,6 @@
 pub mod Groupable
+pub mod Measured
+pub mod Candidates
 pub mod Sets
 pub mod Postorder
 pub mod Loaded
