@@ -15,4 +15,6 @@ pub use faults::BuildFault;
 pub use grouping::groups;
 
 #[cfg(test)]
+mod building_tests;
+#[cfg(test)]
 mod tests;

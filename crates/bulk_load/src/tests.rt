@@ -10,7 +10,7 @@ use tree_shape::{Group, fill};
 use vector_kinds::L1;
 
 // So many points of one coordinate, each so far above the one before, and their places.
-fn line(alloc: Global, count: u32, step: u32) -> Result<(Rows, Vec<u32>), Memory>
+pub fn line(alloc: Global, count: u32, step: u32) -> Result<(Rows, Vec<u32>), Memory>
     requires count { count ≤ 1024 }
     requires step { step ≤ 1 }
     ensures points { IfOk result (λ r. length r.0.points ≡ count) }

@@ -1,10 +1,9 @@
 -- The objects of a tree with one object more, in order of id.
 use Rattle.page_store.proofs.Ids.{AreCounted, none_counted, once_counted, tag_of-in, tally_count, tally_ids, there_counted, with_id}
-use Rattle.std.proofs.Common.{◌≡◌, ◌≢◌, ◌⊎◌, ℕ, zero, suc, ◌+◌, ◌<◌, ◌≤◌, Bool, true, false, cond, List, [], ◌∷◌, ◌++◌, refl, sym, ap, ◌∙◌, arith, map, inl, inr}
+use Rattle.std.proofs.Common.{◌≡◌, ◌≢◌, ◌⊎◌, ℕ, zero, suc, ◌+◌, ◌<◌, ◌≤◌, Bool, true, false, List, [], ◌∷◌, ◌++◌, refl, sym, ap, ◌∙◌, arith, map, inl, inr}
 use Rattle.std.specs.Prelude.{if◌then◌else◌, ◌==◌, nat_lt, count_by}
 use Rattle.std.specs.List.{AllByRecursion}
 use Rattle.std.proofs.lemmas.Bool.Decides.{nat_tests}
-use Rattle.std.proofs.lemmas.List.Recursion.{is_count_by}
 use Rattle.metric_laws.specs.Lists.{IsIn}
 use Rattle.metric_laws.proofs.Lists.{all_append, all_in, in-map, map-in}
 use Rattle.tree_shape.specs.declared.entry.LeafEntry.{LeafEntry}

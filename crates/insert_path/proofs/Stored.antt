@@ -1,5 +1,5 @@
 -- Stored distances and levels of a file with staged nodes.
-use Rattle.std.proofs.Common.{◌≡◌, ℕ, zero, suc, ◌<◌, ◌≤◌, List, [], ◌∷◌, ◌++◌, refl, sym, ap, ◌∙◌, arith, length, map, subst, get_or, inl}
+use Rattle.std.proofs.Common.{◌≡◌, ℕ, zero, suc, ◌<◌, List, [], ◌∷◌, ◌++◌, refl, sym, ap, ◌∙◌, arith, length, map, subst, get_or, inl}
 use Rattle.std.specs.Prelude.{Option, Some, IsTrue}
 use Rattle.std.specs.List.{AllByRecursion}
 use Rattle.metric_laws.specs.Space.{Space}
@@ -8,20 +8,17 @@ use Rattle.tree_shape.specs.declared.entry.LeafEntry.{LeafEntry}
 use Rattle.tree_shape.specs.declared.entry.InnerEntry.{InnerEntry}
 use Rattle.tree_shape.specs.declared.entry.Node.{Node}
 use Rattle.tree_shape.specs.declared.entry.Node.TheVariants.{Leaf, Inner}
-use Rattle.tree_shape.specs.Fill.{IsFilled, least_for}
+use Rattle.tree_shape.specs.Fill.{least_for}
 use Rattle.tree_shape.specs.Tree.{Nodes, leaf_entries, inner_entries, pages_at, objects_at, parent_distance, IsSoundObject, IsSoundEntry, IsSoundAt}
-use Rattle.tree_shape.specs.Plain.{Object, Branch, Plain, object_of, tree_at}
-use Rattle.tree_shape.specs.Sound.{ObjectFits, BranchCovers, IsSoundPlain}
 use Rattle.tree_shape.specs.Dealing.{Ball, split_of}
 use Rattle.tree_shape.specs.Insertion.{taken, left, chosen}
-use Rattle.tree_shape.proofs.Kept.{all_taken, all_left, all_map, length_map}
-use Rattle.tree_shape.proofs.Reading.{same_objects}
+use Rattle.tree_shape.proofs.Kept.{all_taken, all_left}
 use Rattle.tree_shape.proofs.Within.{Agree, all_within}
 use Rattle.promote_split.specs.declared.halves.Half.{Half}
 use Rattle.promote_split.specs.Halves.{IsHalf}
 use Rattle.page_store.specs.Shelf.{Shelf}
 use Rattle.page_store.specs.Reading.{nodes_of}
-use Rattle.page_store.proofs.Stored.{IsStoredAt, IsStoredEntry, branch_at}
+use Rattle.page_store.proofs.Stored.{IsStoredAt, IsStoredEntry}
 use Rattle.insert_path.specs.declared.grew.Grew.{Grew}
 use Rattle.insert_path.specs.declared.grew.Grew.TheVariants.{One, Two}
 use Rattle.insert_path.specs.Walk.{inner_ball}
