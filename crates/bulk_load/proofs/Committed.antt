@@ -1,17 +1,14 @@
 -- What is placed can be committed, and is the tree of the rows.
-use Rattle.std.proofs.Common.{◌≡◌, ℕ, zero, suc, ◌+◌, ◌-◌, ◌*◌, ◌^◌, ◌<◌, ◌≤◌, Bool, true, false, List, ◌∷◌, [], refl, sym, ap, ◌∙◌, arith, length, subst, length-append}
-use Rattle.std.specs.Prelude.{All, Option, None, Some, IsTrue, nat_le, ◌&&◌}
+use Rattle.std.proofs.Common.{◌≡◌, ℕ, zero, suc, ◌+◌, ◌-◌, ◌^◌, ◌<◌, ◌≤◌, true, List, ◌∷◌, [], refl, sym, ap, ◌∙◌, arith, length, subst, length-append}
+use Rattle.std.specs.Prelude.{All, Option, None, Some, IsTrue}
 use Rattle.std.specs.List.{AllByRecursion}
-use Rattle.std.proofs.lemmas.Bool.Decides.{nat_tests}
 use Rattle.std.proofs.lemmas.List.Elements.{recursion_from_All}
 use Rattle.metric_laws.specs.Space.{Space, IsSpace}
 use Rattle.tree_shape.specs.declared.entry.Node.{Node}
 use Rattle.tree_shape.specs.declared.entry.Node.TheVariants.{Inner}
 use Rattle.tree_shape.specs.declared.filling.Bounds.{Bounds}
-use Rattle.tree_shape.specs.declared.live.Live.{Live}
 use Rattle.tree_shape.specs.declared.rules.Group.{Group}
 use Rattle.tree_shape.specs.Fill.{most_for, least_for}
-use Rattle.tree_shape.specs.Plain.{Tall}
 use Rattle.tree_shape.specs.Bulk.{Load, built_of, groups_at, places}
 use Rattle.tree_shape.proofs.LoadSound.{places_long}
 use Rattle.node_page.specs.Heads.{IsLawfulHead}

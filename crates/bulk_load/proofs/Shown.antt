@@ -1,9 +1,8 @@
 -- What a file shows in which the nodes of a bulk load stand.
-use Rattle.std.proofs.Common.{◌≡◌, ℕ, zero, suc, ◌+◌, ◌-◌, ◌≤◌, Bool, true, false, List, [], ◌∷◌, ◌++◌, refl, sym, ap, ◌∙◌, arith, length, map, subst, length-append}
-use Rattle.std.specs.Prelude.{Option, Some, None}
+use Rattle.std.proofs.Common.{◌≡◌, ℕ, zero, suc, ◌+◌, ◌-◌, false, List, [], ◌∷◌, ◌++◌, refl, ap, ◌∙◌, arith, length, map, length-append}
+use Rattle.std.specs.Prelude.{Option, Some}
 use Rattle.std.specs.List.{AllByRecursion, flat_map}
 use Rattle.tree_shape.specs.declared.entry.LeafEntry.{LeafEntry}
-use Rattle.tree_shape.specs.declared.entry.InnerEntry.{InnerEntry}
 use Rattle.tree_shape.specs.declared.entry.Node.{Node}
 use Rattle.tree_shape.specs.declared.entry.Node.TheVariants.{Leaf, Inner}
 use Rattle.tree_shape.specs.declared.rules.Group.{Group}
@@ -11,10 +10,9 @@ use Rattle.tree_shape.specs.Tree.{Nodes, leaf_entries, inner_entries, pages_at, 
 use Rattle.tree_shape.specs.Plain.{Object, Branch, Plain, Tall, object_of, tree_at}
 use Rattle.tree_shape.specs.Bulk.{Load, point_of, object_at, radius_of, groups_at, built_at}
 use Rattle.tree_shape.proofs.Counting.{times-append}
-use Rattle.page_store.specs.Placing.{level_of}
 use Rattle.page_store.proofs.Standing.{HoldsFrom, holds_append, pages_from, pages_append, trees_from, trees_append}
 use Rattle.page_store.proofs.Stored.{branch_at, below_in, IsStoredAt, IsStoredEntry}
-use Rattle.bulk_load.specs.Postorder.{subtrees, is_top, seed_point, leaf_entry, group_entry, last_of, below_groups, group_entries, nodes_at}
+use Rattle.bulk_load.specs.Postorder.{subtrees, is_top, seed_point, leaf_entry, last_of, below_groups, group_entries, nodes_at}
 
 pub last_is : (number : ℕ → ℕ) (i : ℕ) (xs : List Node) (x : Node) → last_of number i (xs ++ x ∷ []) ≡ number (i + length xs)
 last_is number i xs x = ap number (let n = length-append xs (x ∷ []) in omega (arith, n))

@@ -1,7 +1,7 @@
 -- A file with the nodes of a bulk load has its tree.
-use Rattle.std.proofs.Common.{◌≡◌, ℕ, zero, suc, ◌+◌, ◌-◌, ◌*◌, ◌^◌, ◌<◌, ◌≤◌, Bool, true, false, List, [], ◌∷◌, refl, sym, ap, ◌∙◌, arith, length, map, subst, inl, inr}
+use Rattle.std.proofs.Common.{◌≡◌, ℕ, zero, suc, ◌+◌, ◌-◌, ◌*◌, ◌^◌, ◌<◌, ◌≤◌, true, List, [], ◌∷◌, refl, sym, ap, ◌∙◌, arith, length, map, subst}
 use Rattle.std.proofs.Math.Nat.{one-le-pow}
-use Rattle.std.specs.Prelude.{count_by, ◌↔◌, Option, Some, None, IsTrue, if◌then◌else◌, nat_lt}
+use Rattle.std.specs.Prelude.{count_by, Some, None, if◌then◌else◌, nat_lt}
 use Rattle.std.specs.List.{AllByRecursion}
 use Rattle.metric_laws.specs.Space.{IsSpace}
 use Rattle.metric_laws.specs.Lists.{IsIn}
@@ -10,9 +10,9 @@ use Rattle.tree_shape.specs.declared.live.Live.{Live}
 use Rattle.tree_shape.specs.declared.entry.Node.{Node}
 use Rattle.tree_shape.specs.Fill.{root_least}
 use Rattle.tree_shape.specs.Tree.{Nodes, pages_at, times, objects, IsNodePage, IsSoundTree, point_of, points_by_id, points_from, tag_of, tags_by_id, tags_from}
-use Rattle.tree_shape.specs.Plain.{Object, Tall, objects_of, object_of, tree_at, tree_of}
+use Rattle.tree_shape.specs.Plain.{Tall, objects_of, object_of, tree_at, tree_of}
 use Rattle.tree_shape.specs.Sound.{IsSoundTall}
-use Rattle.tree_shape.specs.Bulk.{Load, object_at, built_at, built_of, built, height_of, places}
+use Rattle.tree_shape.specs.Bulk.{Load, object_at, built_at, built_of, built, places}
 use Rattle.tree_shape.proofs.Height.{height_is_small}
 use Rattle.tree_shape.proofs.Loaded.{load_keeps_objects}
 use Rattle.tree_shape.proofs.LoadSound.{load_is_sound, built_all}
@@ -22,12 +22,12 @@ use Rattle.page_store.specs.declared.staging.Placed.{Placed}
 use Rattle.page_store.specs.Numbers.{number_at, numbered, AreNumbers}
 use Rattle.page_store.specs.Placing.{live_pages, AreOutside, staged_tree}
 use Rattle.page_store.proofs.Standing.{HoldsFrom, pages_from, trees_from, trees_numbered, stand_holds, in_times, times_in, all_times}
-use Rattle.page_store.proofs.Given.{lower_or, number_up, number_within, given_once}
+use Rattle.page_store.proofs.Given.{number_up, number_within, given_once}
 use Rattle.page_store.proofs.Giving.{given_out, given_apart, given_each}
 use Rattle.page_store.proofs.Stored.{IsStoredAt, sound_of_stored}
 use Rattle.page_store.proofs.Ids.{with_id, tally_ids, tally_count, AreCounted}
 use Rattle.bulk_load.specs.Sets.{top_height, top_nodes, IsLawfulLoad}
-use Rattle.bulk_load.specs.Postorder.{subtrees_of, last_of, nodes_at}
+use Rattle.bulk_load.specs.Postorder.{subtrees_of, last_of}
 use Rattle.bulk_load.specs.Loaded.{Stand, LeavesOld, HasLoaded}
 use Rattle.bulk_load.proofs.Shown.{Shown, shown}
 use Rattle.bulk_load.proofs.Suited.{same_load, most_some}

@@ -1,4 +1,3 @@
-use Rattle.std.proofs.Common.{◌≡◌, suc, ◌-◌, ◌+◌, ◌∙◌, arith}
 use Rattle.bulk_load.proofs.Heights.{one_place}
 use Rattle.bulk_load.proofs.building.all_places.Goals as goal
 
