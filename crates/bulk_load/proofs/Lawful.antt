@@ -61,7 +61,7 @@ module _ (l : Load) (space : IsSpace l.space) (lawful : IsLawfulLoad l) where
   nodes_lawful number zero seed set i high own k = (
     (
       (let a = length_map (leaf_entry l seed) set in let b = k.at_most in let c : l.most ^ (zero + 1) ≡ l.most ^ 1 = ap (λ (j : ℕ). l.most ^ j) (let e : zero + 1 ≡ 1 = omega arith in e) in
-      let d = power_one l.most in let m = lawful.most in omega (arith, a, b, c, d, m)),
+          let d = power_one l.most in let m = lawful.most in omega (arith, a, b, c, d, m)),
       leaf_near seed own set k.places,
     ),
     tt,
@@ -73,8 +73,7 @@ module _ (l : Load) (space : IsSpace l.space) (lawful : IsLawfulLoad l) where
       all_append (IsLawfulNode l.space.words) (below_groups (λ (g : Group) (j : ℕ). nodes_at l number h (Some g.seed) g.members j) i (groups_at l (is_top seed) (suc h) set))
       (Inner (suc h) (group_entries l number seed (λ (g : Group) (j : ℕ). nodes_at l number h (Some g.seed) g.members j) i (groups_at l (is_top seed) (suc h) set)) ∷ [])
       (groups_lawful (λ (g : Group) (j : ℕ). nodes_at l number h (Some g.seed) g.members j) h i (groups_at l (is_top seed) (suc h) set)
-      (λ g j w. nodes_lawful number h (Some g.seed) g.members j (omega (arith, high)) w.0 w.1) fit.each)
-      (
+      (λ g j w. nodes_lawful number h (Some g.seed) g.members j (omega (arith, high)) w.0 w.1) fit.each) (
         (
           omega arith,
           high,

@@ -69,14 +69,17 @@ groups_own : (s : Space) (space : IsSpace s) (rows : List (List ℕ)) (tags : Li
     IsSetFor (load s space rows tags fits) is_root (suc h) set → GroupsFit (load s space rows tags fits) is_root h set
 groups_own s space rows tags fits is_root h set k = record {
   each = all_weaker (λ (p : Group). IsGood s space rows tags fits (suc h) p × Ascends 0 p.members) (IsGroupFor (load s space rows tags fits) h) (groups_at (load s space rows tags fits) is_root (suc h) set)
-      (λ p w. (w.0.seed_low, record {
-        places = w.0.members_low;
-        ascends = w.1;
-        some = (let a = w.0.enough in omega (arith, a, some));
-        above = (λ e. absurd (let c : false ≡ true = e in cc));
-        enough = (λ e. let a = w.0.enough in let b = power least h in omega (arith, a, b));
-        at_most = (let a = w.0.few in let b = power most h in omega (arith, a, b));
-      }))
+      (λ p w. (
+        w.0.seed_low,
+        record {
+          places = w.0.members_low;
+          ascends = w.1;
+          some = (let a = w.0.enough in omega (arith, a, some));
+          above = (λ e. absurd (let c : false ≡ true = e in cc));
+          enough = (λ e. let a = w.0.enough in let b = power least h in omega (arith, a, b));
+          at_most = (let a = w.0.few in let b = power most h in omega (arith, a, b));
+        },
+      ))
       (all_both (IsGood s space rows tags fits (suc h)) (λ (p : Group). Ascends 0 p.members) (groups_at (load s space rows tags fits) is_root (suc h) set)
       (groups_good s space rows tags fits is_root (suc h) set k.places k.some (omega (arith, some)) (omega (arith, wide)) count)
       (groups_ascend 0 (seeds_from n g 0 g) set (grouped (entry (table_of (load s space rows tags fits) set (seeds_from n g 0 g))) (least ^ suc h) (most ^ suc h) g n) k.ascends));

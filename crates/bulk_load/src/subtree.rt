@@ -54,7 +54,12 @@ fn parent_of<M: Metric>(loading: &Loading<'_, M>, seed: Option<u32>, p: &[u32]) 
 }
 
 // The entry of a row in a leaf.
-fn leaf_entry_of<M: Metric>(alloc: Global, loading: &Loading<'_, M>, seed: Option<u32>, row: u32) -> Result<LeafEntry, Memory>
+fn leaf_entry_of<M: Metric>(
+    alloc: Global,
+    loading: &Loading<'_, M>,
+    seed: Option<u32>,
+    row: u32,
+) -> Result<LeafEntry, Memory>
     requires seed { IfSome seed (λ k. k < length loading.now.rows.now.points) }
     requires row { row < length loading.now.rows.now.points }
     requires tags { length loading.now.tags.now ≡ length loading.now.rows.now.points }
@@ -72,7 +77,11 @@ fn leaf_entry_of<M: Metric>(alloc: Global, loading: &Loading<'_, M>, seed: Optio
 }
 
 // The entries of a leaf.
-fn leaf_entries<M: Metric>(alloc: Global, loading: &Loading<'_, M>, set: &Set<'_>) -> Result<Vec<LeafEntry>, Memory>
+fn leaf_entries<M: Metric>(
+    alloc: Global,
+    loading: &Loading<'_, M>,
+    set: &Set<'_>,
+) -> Result<Vec<LeafEntry>, Memory>
     requires seed { IfSome set.now.seed (λ k. k < length loading.now.rows.now.points) }
     requires places { All (λ k. k < length loading.now.rows.now.points) set.now.places.now }
     requires tags { length loading.now.tags.now ≡ length loading.now.rows.now.points }
@@ -95,14 +104,22 @@ fn radius<M: Metric>(loading: &Loading<'_, M>, seed: u32, members: &[u32]) -> u6
     let center = loading.rows.point(seed as usize);
     let mut greatest = 0;
     for row in members {
-        let dist = loading.metric.dist(loading.rows.point(*row as usize), center);
+        let dist = loading
+            .metric
+            .dist(loading.rows.point(*row as usize), center);
         greatest = greatest.max(dist);
     }
     greatest
 }
 
 // The entry of a group whose root stands on a page.
-fn group_entry_of<M: Metric>(alloc: Global, loading: &Loading<'_, M>, seed: Option<u32>, group: &Group, page: u32) -> Result<InnerEntry, Memory>
+fn group_entry_of<M: Metric>(
+    alloc: Global,
+    loading: &Loading<'_, M>,
+    seed: Option<u32>,
+    group: &Group,
+    page: u32,
+) -> Result<InnerEntry, Memory>
     requires seed { IfSome seed (λ k. k < length loading.now.rows.now.points) }
     requires own { group.now.seed < length loading.now.rows.now.points }
     requires members { All (λ k. k < length loading.now.rows.now.points) group.now.members }
@@ -121,7 +138,11 @@ fn group_entry_of<M: Metric>(alloc: Global, loading: &Loading<'_, M>, seed: Opti
 }
 
 // Adds a node after the others, and gives its page.
-fn push_node<M: Metric>(loading: &Loading<'_, M>, node: Node, nodes: &mut Vec<Node>) -> Result<u32, Memory>
+fn push_node<M: Metric>(
+    loading: &Loading<'_, M>,
+    node: Node,
+    nodes: &mut Vec<Node>,
+) -> Result<u32, Memory>
     requires first { loading.now.numbering.first ≤ 2 ^ 24 }
     requires few { length nodes.old.items < 2 ^ 26 }
     ensures page { IfOk result (λ page. page ≡ number_at loading.now.numbering.numbers.now loading.now.numbering.first (length nodes.old.items)) }
@@ -134,7 +155,13 @@ fn push_node<M: Metric>(loading: &Loading<'_, M>, node: Node, nodes: &mut Vec<No
 
 /// Adds the nodes of a set's subtree after the others, children before their parent, and gives the page of the subtree's
 /// root.
-pub fn add_subtree<R: Threads + Sync, M: Metric>(rt: &R, alloc: Global, loading: &Loading<'_, M>, set: &Set<'_>, nodes: &mut Vec<Node>) -> Result<u32, Memory>
+pub fn add_subtree<R: Threads + Sync, M: Metric>(
+    rt: &R,
+    alloc: Global,
+    loading: &Loading<'_, M>,
+    set: &Set<'_>,
+    nodes: &mut Vec<Node>,
+) -> Result<u32, Memory>
     requires load { IsLawfulLoad (load_of (M.space loading.now.metric) loading.now.rows.now.points loading.now.tags.now loading.now.fill) }
     requires rows { length loading.now.rows.now.points < 2 ^ 32 }
     requires workers { (1 ≤ loading.now.workers) × (loading.now.workers ≤ 64) }
