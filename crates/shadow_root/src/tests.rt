@@ -1,6 +1,7 @@
 ghost use Rattle.std.specs.Prelude.{◌≡◌, IsTrue, IfOk, OnOk};
 ghost use Rattle.node_page.specs.Nodes.{IsLawfulNode};
 ghost use Rattle.disk_model.specs.Disk.{LeavesOnly};
+ghost use Rattle.disk_model.specs.FileCounts.{state_of, told_nothing};
 ghost use Rattle.shadow_root.specs.Making.{IsMade};
 
 use crate::{CreateFault, OpenFault, commit, create, open};
@@ -57,8 +58,8 @@ fn make<D: Disk>(disk: &mut D) -> Result<Live, CreateFault>
     create(disk, &HEAD)
 }
 
-// A leaf with one object.
-fn leaf(alloc: Global) -> Result<Node, AllocError>
+// A leaf with one object at (x, 4).
+fn leaf(alloc: Global, x: u32) -> Result<Node, AllocError>
     ensures { IfOk result (IsLawfulNode 2) }
 {
     let mut entries = Vec::new(alloc);
@@ -66,7 +67,7 @@ fn leaf(alloc: Global) -> Result<Node, AllocError>
         id: 0,
         tag: 0,
         parent: 0,
-        point: Point::new(alloc, &[3, 4])?,
+        point: Point::new(alloc, &[x, 4])?,
     })?;
     Ok(Node::Leaf(Listed::new(entries)))
 }
@@ -125,7 +126,7 @@ fn add_one<D: Disk>(alloc: Global, disk: &mut D) -> Result<Result<(), Failed>, A
     requires only { LeavesOnly (D.state disk.old) (D.state disk.old).bytes }
 {
     let mut staged = Staged::new(alloc);
-    let node = leaf(alloc)?;
+    let node = leaf(alloc, 3)?;
     staged.stage(4, node)?;
     Ok(commit(disk, 2, &FIRST, &NEXT, &staged))
 }
@@ -152,6 +153,87 @@ fn check_stop<R: AllocGlobal + Abort>(rt: &R, stop: u64) -> Result<(), Fail> {
 fn a_commit_stopped_at_each_call(rt: HostRuntime) -> Result<(), Fail> {
     for stop in 8..16 {
         check_stop(&rt, stop)?;
+    }
+    Ok(())
+}
+
+// A disk in memory that tells nothing, as a real file does.
+#[derive(Drop)]
+struct QuietDisk {
+    disk: MemoryDisk,
+}
+
+impl Disk for QuietDisk {
+    ghost state = { λ quiet. state_of (record { faults = quiet.disk.faults; reads = quiet.disk.reads }) };
+
+    ghost read_is_image = { λ _ told. told_nothing told };
+
+    ghost places_mix = { λ _ one other i left _ _ _. left };
+
+    fn size(&mut self) -> Result<u64, Failed> {
+        self.disk.size()
+    }
+
+    fn read_at(&mut self, at: u64, buf: &mut [u8]) -> Result<(), Failed> {
+        self.disk.read_at(at, buf)
+    }
+
+    fn write_at(&mut self, at: u64, bytes: &[u8]) -> Result<(), Failed> {
+        self.disk.write_at(at, bytes)
+    }
+
+    fn sync(&mut self) -> Result<(), Failed> {
+        self.disk.sync()
+    }
+}
+
+// Commits an object at (x, 4) to a new file.
+fn add_at(alloc: Global, quiet: &mut QuietDisk, x: u32) -> Result<Result<(), Failed>, AllocError> {
+    let mut staged = Staged::new(alloc);
+    let node = leaf(alloc, x)?;
+    staged.stage(4, node)?;
+    Ok(commit(quiet, 2, &FIRST, &NEXT, &staged))
+}
+
+// Whether the bytes open to the new file's tree, or to that with an object at (5, 4).
+fn opens_to_second(alloc: Global, bytes: Vec<u8>) -> Result<bool, AllocError> {
+    let x = bytes.get(16423).copied();
+    let mut disk = disk_of(alloc, bytes, None)?;
+    Ok(match open(&mut disk) {
+        Ok((_, live)) => live == FIRST || (live == NEXT && x == Some(5)),
+        Err(_) => false,
+    })
+}
+
+// Stops a commit before it opens its gate, opens the file anew, and stops a second commit at a call.
+fn check_second<R: AllocGlobal + Abort>(rt: &R, stop: u64) -> Result<(), Fail> {
+    let alloc = rt.alloc();
+    let fails = vec![in alloc; 13; 1]?;
+    let disk = MemoryDisk::new(alloc, Vec::new(alloc), 65536, 1_000_000, fails, Some(stop))?;
+    let mut quiet = QuietDisk { disk };
+    make(&mut quiet)?;
+    assert_eq!(rt; add_at(alloc, &mut quiet, 3)?, Err(Failed));
+    assert_eq!(rt; quiet.sync(), Ok(()));
+    assert_eq!(rt; open(&mut quiet), Ok((HEAD, FIRST)));
+    let begun = quiet.disk.moments();
+    assert_eq!(rt; begun, 19);
+    let done = add_at(alloc, &mut quiet, 5)?.is_ok();
+    assert_eq!(rt; done, stop > 25);
+    for moment in begun..=quiet.disk.moments() {
+        for pick in [0, 1, 165, 255] {
+            assert_eq!(rt;
+                opens_to_second(alloc, quiet.disk.image(alloc, moment, pick)?)?,
+                true
+            );
+        }
+    }
+    Ok(())
+}
+
+#[test]
+fn a_second_commit_after_one_that_stopped_before_its_gate(rt: HostRuntime) -> Result<(), Fail> {
+    for stop in 19..27 {
+        check_second(&rt, stop)?;
     }
     Ok(())
 }

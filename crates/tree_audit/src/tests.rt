@@ -115,3 +115,46 @@ fn faults_of_the_slot(rt: HostRuntime) -> Result<(), Fail> {
     );
     Ok(())
 }
+
+// Changes a byte of a file.
+fn put(bytes: &mut [u8], at: usize, byte: u8) {
+    if at < bytes.len() {
+        bytes[at] = byte;
+    }
+}
+
+// A file of so many pages, 4 or 5, from page 3 on: an inner node of level 1 with six entries to the last page, all at
+// (0, 0), and a leaf of six objects there. With 4 pages the last page is the inner node's own.
+fn file_of_six(alloc: Global, pages: u32) -> Result<Vec<u8>, AllocError>
+    requires { pages ≤ 5 }
+{
+    let mut bytes = vec![in alloc; 0u8; 20480]?;
+    put(&mut bytes, 12288, 1);
+    put(&mut bytes, 12291, 6);
+    put(&mut bytes, 16387, 6);
+    for place in 0..6u8 {
+        let at = usize::from(place) * 28;
+        put(&mut bytes, 12307 + at, pages.saturating_sub(1) as u8);
+        put(&mut bytes, 16403 + at, place);
+    }
+    Ok(bytes)
+}
+
+#[test]
+fn a_page_that_is_reached_twice(rt: HostRuntime) -> Result<(), Fail> {
+    for pages in [4, 5] {
+        let bytes = file_of_six(rt.alloc(), pages)?;
+        let live = Live {
+            root: 3,
+            height: 1,
+            count: 36,
+            pages,
+            ..LIVE
+        };
+        assert_eq!(rt;
+            audit_of(rt.alloc(), &bytes, &live),
+            Err(AuditFault::Twice(pages - 1))
+        );
+    }
+    Ok(())
+}
