@@ -115,9 +115,10 @@ pub fn groups<R: Threads + Sync, M: Metric>(
     let room = fill.most.pow(level);
     let least = fill.least.pow(level);
     let seeds = seed_places(alloc, n, group_number(fill, root, room, n))?;
-    let points = points_of(alloc, metric, rows, set)?;
     let hands = if root || n >= LARGE { workers } else { 1 };
+    let points = points_of(alloc, metric, rows, set)?;
     let distances = Distances::measure(rt, alloc, metric, &points, seeds.as_slice(), hands)?;
+    drop(points);
     let placed = parted(alloc, &distances, seeds.as_slice(), room, least)?;
     groups_of(alloc, seeds.as_slice(), set, placed.as_slice())
 }

@@ -9,13 +9,13 @@ use metric_laws::Memory;
 use std::alloc::Global;
 use tree_shape::{Bounds, Member};
 
-/// The number of groups of a set of n objects, where a group has at most `room`.
-pub fn group_number(fill: &Bounds, is_root: bool, room: usize, n: usize) -> usize
+/// The number of groups of a set of so many objects, where a group has at most `room`.
+pub fn group_number(fill: &Bounds, is_root: bool, room: usize, objects: usize) -> usize
     requires room { 0 < room }
-    requires few { n < 2 ^ 32 }
-    ensures { result ≡ group_count fill.now.most fill.now.least is_root room n }
+    requires few { objects < 2 ^ 32 }
+    ensures { result ≡ group_count fill.now.most fill.now.least is_root room objects }
 {
-    let number = fill.most.min(2 * n.div_ceil(room));
+    let number = fill.most.min(2 * objects.div_ceil(room));
     if is_root || fill.least <= number {
         number
     } else {
@@ -23,18 +23,18 @@ pub fn group_number(fill: &Bounds, is_root: bool, room: usize, n: usize) -> usiz
     }
 }
 
-/// Where the seeds of g groups stand in a set of n objects.
+/// Where the seeds of so many groups stand in a set of so many objects.
 #[tactic(auto, using(crate::proofs::Steps::seed_low))]
-pub fn seed_places(alloc: Global, n: usize, g: usize) -> Result<Vec<u32>, Memory>
-    requires n { (0 < n) × (n < 2 ^ 32) }
-    requires g { (0 < g) × (g ≤ 64) }
-    ensures is { IfOk result (λ v. v.items ≡ seeds_from n g 0 g) }
-    ensures inside { IfOk result (λ v. All (λ k. k < n) v.items) }
-    ensures len { IfOk result (λ v. vec_len v ≡ g) }
+pub fn seed_places(alloc: Global, objects: usize, groups: usize) -> Result<Vec<u32>, Memory>
+    requires objects { (0 < objects) × (objects < 2 ^ 32) }
+    requires groups { (0 < groups) × (groups ≤ 64) }
+    ensures is { IfOk result (λ v. v.items ≡ seeds_from objects groups 0 groups) }
+    ensures inside { IfOk result (λ v. All (λ k. k < objects) v.items) }
+    ensures len { IfOk result (λ v. vec_len v ≡ groups) }
 {
     let mut places = Vec::new(alloc);
-    for i in 0..g {
-        places.push((i * n / g) as u32)?;
+    for i in 0..groups {
+        places.push((i * objects / groups) as u32)?;
     }
     Ok(places)
 }

@@ -27,13 +27,13 @@ pub group_number-requires-clause-few : goal.group_number-requires-clause-few
 group_number-requires-clause-few g c =
     let few = increasing_few (length c.args.rows.now.points) c.args.set.now c.requires.places c.requires.ascends in let r = c.requires.rows in omega arith
 
-pub seed_places-requires-clause-n : goal.seed_places-requires-clause-n
-seed_places-requires-clause-n g c =
+pub seed_places-requires-clause-objects : goal.seed_places-requires-clause-objects
+seed_places-requires-clause-objects g c =
     let few = increasing_few (length c.args.rows.now.points) c.args.set.now c.requires.places c.requires.ascends in let r = c.requires.rows in
     (some_objects c.args.fill.now c.args.root c.args.level (length c.args.set.now) (bounds_of c.args.fill.now c.requires.fill) c.requires.size, (omega arith))
 
-pub seed_places-requires-clause-g : goal.seed_places-requires-clause-g
-seed_places-requires-clause-g g c =
+pub seed_places-requires-clause-groups : goal.seed_places-requires-clause-groups
+seed_places-requires-clause-groups g c =
     let range = some_groups c.args.fill.now c.args.root c.args.level (length c.args.set.now) c.pow-room.result (bounds_of c.args.fill.now c.requires.fill) c.requires.size c.pow-room.ensures in
     let few = range.1 in
     let some = range.0 in
