@@ -7,11 +7,21 @@ use Rattle.tree_shape.specs.declared.rules.Group.{Group}
 use Rattle.tree_shape.specs.Fill.{most_for, least_for}
 use Rattle.tree_shape.specs.declared.entry.Node.{Node}
 use Rattle.tree_shape.specs.Bulk.{Load, height_of, places}
-use Rattle.page_store.specs.Numbers.{Ascends}
+use Rattle.page_store.specs.Numbers.{Ascends, number_at}
+use Rattle.bulk_load.specs.declared.subtree.Loading.{Loading}
 use Rattle.bulk_load.specs.Postorder.{nodes_at}
 
+-- what is loaded into nodes of this fill
 abbrev pub load_of : Space → List (List ℕ) → List ℕ → Bounds → Load
 load_of s rows labels fill = record { space = s; points = rows; tags = labels; most = fill.most; least = fill.least }
+
+-- what a call loads, where its metric measures the space
+abbrev pub load_by : {M : Type 0} → Space → Loading M → Load
+load_by s l = load_of s l.rows.now.points l.tags.now l.fill
+
+-- the page of the new node at each place
+abbrev pub page_by : {M : Type 0} → Loading M → ℕ → ℕ
+page_by l i = number_at l.numbering.numbers.now l.numbering.first i
 
 -- the height of the tree of all rows
 abbrev pub top_height : Load → ℕ

@@ -6,12 +6,12 @@ ghost use Rattle.tree_shape.specs.Tree.{Nodes, IsSoundTree};
 ghost use Rattle.node_page.specs.Heads.{IsLawfulHead};
 ghost use Rattle.node_page.specs.Opening.{IsLawfulLive};
 ghost use Rattle.page_store.specs.Staging.{pages_of};
-ghost use Rattle.page_store.specs.Numbers.{number_at, AreNumbers};
+ghost use Rattle.page_store.specs.Numbers.{AreNumbers};
 ghost use Rattle.page_store.specs.Placing.{AreOutside, IsPlacement};
 ghost use Rattle.bulk_load.specs.Causes.{HasBuildCause, node_count};
 ghost use Rattle.bulk_load.specs.Loaded.{HasLoaded, Stand};
 ghost use Rattle.bulk_load.specs.Postorder.{last_of};
-ghost use Rattle.bulk_load.specs.Sets.{load_of, IsLawfulLoad, top_height, top_nodes};
+ghost use Rattle.bulk_load.specs.Sets.{load_by, page_by, IsLawfulLoad, top_height, top_nodes};
 
 use crate::BuildFault;
 use crate::subtree::{Loading, Set, add_subtree};
@@ -59,14 +59,14 @@ fn new_tree<R: Threads + Sync, M: Metric>(
     loading: &Loading<'_, M>,
     live: &Live,
 ) -> Result<NewTree, Memory>
-    requires load { IsLawfulLoad (load_of (M.space loading.now.metric) loading.now.rows.now.points loading.now.tags.now loading.now.fill) }
+    requires load { IsLawfulLoad (load_by (M.space loading.now.metric) loading.now) }
     requires some { 0 < length loading.now.rows.now.points }
     requires few { length loading.now.rows.now.points ≤ 2 ^ 24 }
     requires workers { (1 ≤ loading.now.workers) × (loading.now.workers ≤ 64) }
     requires first { loading.now.numbering.first ≤ 2 ^ 24 }
-    ensures nodes { IfOk result (λ tree. tree.nodes.items ≡ top_nodes (load_of (M.space loading.now.metric) loading.now.rows.now.points loading.now.tags.now loading.now.fill) (number_at loading.now.numbering.numbers.now loading.now.numbering.first)) }
-    ensures root { IfOk result (λ tree. tree.root ≡ last_of (number_at loading.now.numbering.numbers.now loading.now.numbering.first) 0 tree.nodes.items) }
-    ensures height { IfOk result (λ tree. tree.height ≡ top_height (load_of (M.space loading.now.metric) loading.now.rows.now.points loading.now.tags.now loading.now.fill)) }
+    ensures nodes { IfOk result (λ tree. tree.nodes.items ≡ top_nodes (load_by (M.space loading.now.metric) loading.now) (page_by loading.now)) }
+    ensures root { IfOk result (λ tree. tree.root ≡ last_of (page_by loading.now) 0 tree.nodes.items) }
+    ensures height { IfOk result (λ tree. tree.height ≡ top_height (load_by (M.space loading.now.metric) loading.now)) }
     ensures added { IfOk result (λ tree. tree.added ≡ length loading.now.rows.now.points) }
     ensures left { IfOk result (λ tree. tree.left.items ≡ live.now.root ∷ []) }
 {

@@ -5,8 +5,7 @@ ghost use Rattle.metric_laws.specs.Space.{bound};
 ghost use Rattle.tree_shape.specs.declared.entry.Node.TheVariants.{Leaf, Inner};
 ghost use Rattle.tree_shape.specs.Tree.{parent_distance};
 ghost use Rattle.tree_shape.specs.Bulk.{point_of, radius_of};
-ghost use Rattle.page_store.specs.Numbers.{number_at};
-ghost use Rattle.bulk_load.specs.Sets.{load_of, IsLawfulLoad, IsSetFor};
+ghost use Rattle.bulk_load.specs.Sets.{load_by, page_by, IsLawfulLoad, IsSetFor};
 ghost use Rattle.bulk_load.specs.Postorder.{is_top, seed_point, leaf_entry, group_entry, last_of, nodes_at};
 
 use crate::grouping::groups;
@@ -45,7 +44,7 @@ pub struct Set<'a> {
 // The distance that is stored beside a point.
 fn parent_of<M: Metric>(loading: &Loading<'_, M>, seed: Option<u32>, p: &[u32]) -> u64
     requires seed { IfSome seed (λ k. k < length loading.now.rows.now.points) }
-    ensures { result ≡ parent_distance (M.space loading.now.metric) (seed_point (load_of (M.space loading.now.metric) loading.now.rows.now.points loading.now.tags.now loading.now.fill) seed) p.now }
+    ensures { result ≡ parent_distance (M.space loading.now.metric) (seed_point (load_by (M.space loading.now.metric) loading.now) seed) p.now }
 {
     match seed {
         Some(row) => loading.metric.dist(p, loading.rows.point(row as usize)),
@@ -63,7 +62,7 @@ fn leaf_entry_of<M: Metric>(
     requires seed { IfSome seed (λ k. k < length loading.now.rows.now.points) }
     requires row { row < length loading.now.rows.now.points }
     requires tags { length loading.now.tags.now ≡ length loading.now.rows.now.points }
-    ensures { IfOk result (λ e. e ≡ leaf_entry (load_of (M.space loading.now.metric) loading.now.rows.now.points loading.now.tags.now loading.now.fill) seed row) }
+    ensures { IfOk result (λ e. e ≡ leaf_entry (load_by (M.space loading.now.metric) loading.now) seed row) }
 {
     let p = loading.rows.point(row as usize);
     let parent = parent_of(loading, seed, p);
@@ -85,7 +84,7 @@ fn leaf_entries<M: Metric>(
     requires seed { IfSome set.now.seed (λ k. k < length loading.now.rows.now.points) }
     requires places { All (λ k. k < length loading.now.rows.now.points) set.now.places.now }
     requires tags { length loading.now.tags.now ≡ length loading.now.rows.now.points }
-    ensures { IfOk result (λ es. es.items ≡ map (leaf_entry (load_of (M.space loading.now.metric) loading.now.rows.now.points loading.now.tags.now loading.now.fill) set.now.seed) set.now.places.now) }
+    ensures { IfOk result (λ es. es.items ≡ map (leaf_entry (load_by (M.space loading.now.metric) loading.now) set.now.seed) set.now.places.now) }
 {
     let mut entries = Vec::with_capacity(alloc, set.places.len())?;
     for row in set.places {
@@ -99,7 +98,7 @@ fn leaf_entries<M: Metric>(
 fn radius<M: Metric>(loading: &Loading<'_, M>, seed: u32, members: &[u32]) -> u64
     requires seed { seed < length loading.now.rows.now.points }
     requires members { All (λ k. k < length loading.now.rows.now.points) members.now }
-    ensures { let L = load_of (M.space loading.now.metric) loading.now.rows.now.points loading.now.tags.now loading.now.fill in result ≡ radius_of L (point_of L seed) members.now }
+    ensures { let L = load_by (M.space loading.now.metric) loading.now in result ≡ radius_of L (point_of L seed) members.now }
 {
     let center = loading.rows.point(seed as usize);
     let mut greatest = 0;
@@ -123,7 +122,7 @@ fn group_entry_of<M: Metric>(
     requires seed { IfSome seed (λ k. k < length loading.now.rows.now.points) }
     requires own { group.now.seed < length loading.now.rows.now.points }
     requires members { All (λ k. k < length loading.now.rows.now.points) group.now.members }
-    ensures { IfOk result (λ e. e ≡ group_entry (load_of (M.space loading.now.metric) loading.now.rows.now.points loading.now.tags.now loading.now.fill) seed group.now page) }
+    ensures { IfOk result (λ e. e ≡ group_entry (load_by (M.space loading.now.metric) loading.now) seed group.now page) }
 {
     let p = loading.rows.point(group.seed as usize);
     let parent = parent_of(loading, seed, p);
@@ -145,7 +144,7 @@ fn push_node<M: Metric>(
 ) -> Result<u32, Memory>
     requires first { loading.now.numbering.first ≤ 2 ^ 24 }
     requires few { length nodes.old.items < 2 ^ 26 }
-    ensures page { IfOk result (λ page. page ≡ number_at loading.now.numbering.numbers.now loading.now.numbering.first (length nodes.old.items)) }
+    ensures page { IfOk result (λ page. page ≡ page_by loading.now (length nodes.old.items)) }
     ensures nodes { OnOk result (nodes.new.items ≡ nodes.old.items ++ node ∷ []) }
 {
     let page = loading.numbering.page_at(nodes.len());
@@ -162,18 +161,18 @@ pub fn add_subtree<R: Threads + Sync, M: Metric>(
     set: &Set<'_>,
     nodes: &mut Vec<Node>,
 ) -> Result<u32, Memory>
-    requires load { IsLawfulLoad (load_of (M.space loading.now.metric) loading.now.rows.now.points loading.now.tags.now loading.now.fill) }
+    requires load { IsLawfulLoad (load_by (M.space loading.now.metric) loading.now) }
     requires rows { length loading.now.rows.now.points < 2 ^ 32 }
     requires workers { (1 ≤ loading.now.workers) × (loading.now.workers ≤ 64) }
     requires first { loading.now.numbering.first ≤ 2 ^ 24 }
     requires seed { IfSome set.now.seed (λ k. k < length loading.now.rows.now.points) }
-    requires set { IsSetFor (load_of (M.space loading.now.metric) loading.now.rows.now.points loading.now.tags.now loading.now.fill) (is_top set.now.seed) set.now.level set.now.places.now }
+    requires set { IsSetFor (load_by (M.space loading.now.metric) loading.now) (is_top set.now.seed) set.now.level set.now.places.now }
     requires level { set.now.level ≤ 14 }
-    requires few { length nodes.old.items + length (nodes_at (load_of (M.space loading.now.metric) loading.now.rows.now.points loading.now.tags.now loading.now.fill) (number_at loading.now.numbering.numbers.now loading.now.numbering.first) set.now.level set.now.seed set.now.places.now (length nodes.old.items)) ≤ 2 ^ 26 }
-    ensures page { IfOk result (λ page. page ≡ last_of (number_at loading.now.numbering.numbers.now loading.now.numbering.first) (length nodes.old.items)
-        (nodes_at (load_of (M.space loading.now.metric) loading.now.rows.now.points loading.now.tags.now loading.now.fill) (number_at loading.now.numbering.numbers.now loading.now.numbering.first) set.now.level set.now.seed set.now.places.now (length nodes.old.items))) }
+    requires few { length nodes.old.items + length (nodes_at (load_by (M.space loading.now.metric) loading.now) (page_by loading.now) set.now.level set.now.seed set.now.places.now (length nodes.old.items)) ≤ 2 ^ 26 }
+    ensures page { IfOk result (λ page. page ≡ last_of (page_by loading.now) (length nodes.old.items)
+        (nodes_at (load_by (M.space loading.now.metric) loading.now) (page_by loading.now) set.now.level set.now.seed set.now.places.now (length nodes.old.items))) }
     ensures nodes { OnOk result (nodes.new.items ≡ nodes.old.items
-        ++ nodes_at (load_of (M.space loading.now.metric) loading.now.rows.now.points loading.now.tags.now loading.now.fill) (number_at loading.now.numbering.numbers.now loading.now.numbering.first) set.now.level set.now.seed set.now.places.now (length nodes.old.items)) }
+        ++ nodes_at (load_by (M.space loading.now.metric) loading.now) (page_by loading.now) set.now.level set.now.seed set.now.places.now (length nodes.old.items)) }
 {
     if set.level == 0 {
         let entries = leaf_entries(alloc, loading, set)?;

@@ -1,7 +1,7 @@
 use Rattle.std.proofs.Common.{rules, ◌≡◌, [], sym, ◌∙◌, arith}
 use Rattle.std.proofs.lemmas.List.{nil_from_length}
 use Rattle.bulk_load.proofs.Suited.{increasing}
-use Rattle.bulk_load.proofs.Looped.{begun, within, room_left, ended}
+use Rattle.bulk_load.proofs.Looped.{begun, within, went, room_left, ended}
 use Rattle.bulk_load.proofs.subtree.+add_subtree.Goals as goal
 
 pub groups-requires-clause-ascends : goal.groups-requires-clause-ascends
@@ -31,3 +31,8 @@ pub returns-clause-nodes : goal.returns-clause-nodes
 returns-clause-nodes g t c =
     let none : c.loop-group.group-iterator.rest.items ≡ [] = nil_from_length c.loop-group.group-iterator.rest.items (sym c.loop-group.group-iterator.rest.ok.0 ∙ c.in-None.ensures.steps.0) in
     (ended _ _ _ _ _ _ _ _ _ _ _ _ c.if-set-eq0.false c.loop-group.invariant none c.new-entries.ensures c.in_ok-page-3.ensures.page c.in_ok-page-3.ensures.nodes).1
+
+pub loop-group-preserved : goal.loop-group-preserved
+loop-group-preserved g t c =
+    went _ _ _ _ _ c.as_slice.result.now _ _ _ _ _ _ _ c.in-Some.group c.in_ok-page-2.page c.in_ok-entry.entry c.loop-group.invariant c.in-Some.ensures.steps.0 c.as_slice.ensures
+    c.in_ok-page-2.ensures.nodes c.in_ok-page-2.ensures.page c.in_ok-entry.ensures c.in_ok-push.ensures.items
