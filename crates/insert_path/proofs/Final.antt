@@ -1,8 +1,7 @@
 -- What an insertion places.
-use Rattle.std.proofs.Common.{◌≡◌, ◌≢◌, ℕ, zero, suc, ◌-◌, ◌*◌, ◌^◌, ◌<◌, ◌≤◌, Bool, true, false, List, [], ◌∷◌, refl, sym, ap, ◌∙◌, arith, length, subst, inl, inr, length-append}
-use Rattle.std.specs.Prelude.{Option, None, IsTrue, nat_le, ◌&&◌}
+use Rattle.std.proofs.Common.{◌≡◌, ◌≢◌, ℕ, zero, suc, ◌-◌, ◌*◌, ◌^◌, ◌<◌, ◌≤◌, List, [], ◌∷◌, refl, sym, ap, ◌∙◌, arith, length, subst, inl, inr, length-append}
+use Rattle.std.specs.Prelude.{Option, None, IsTrue}
 use Rattle.std.specs.List.{AllByRecursion}
-use Rattle.std.proofs.lemmas.Bool.Decides.{nat_tests}
 use Rattle.metric_laws.specs.Space.{Space, IsSpace}
 use Rattle.tree_shape.specs.declared.live.Live.{Live}
 use Rattle.tree_shape.specs.declared.entry.Node.{Node}
@@ -10,12 +9,13 @@ use Rattle.tree_shape.specs.Fill.{most_for, least_for}
 use Rattle.tree_shape.specs.Plain.{tree_at, tree_of}
 use Rattle.tree_shape.proofs.Height.{three_at_least}
 use Rattle.tree_shape.specs.Insertion.{Rules, rules, rules_for, inserted}
-use Rattle.node_page.specs.Heads.{is_limit, IsLawfulHead}
+use Rattle.node_page.specs.Heads.{IsLawfulHead}
 use Rattle.node_page.specs.Nodes.{IsLawfulNode}
 use Rattle.node_page.specs.declared.head.Head.{Head}
 use Rattle.page_store.specs.declared.staging.Placed.{Placed}
 use Rattle.page_store.specs.Shelf.{Shelf}
 use Rattle.page_store.specs.Reading.{nodes_of}
+use Rattle.page_store.proofs.Giving.{limit_small}
 use Rattle.insert_path.specs.declared.faults.PlaceFault.TheVariants.{NoRoom}
 use Rattle.insert_path.specs.declared.grew.Grew.{Grew}
 use Rattle.insert_path.specs.declared.grew.Grew.TheVariants.{One, Two}
@@ -31,15 +31,6 @@ use Rattle.page_store.specs.declared.settling.RoomFault.TheVariants.{NoRoom as R
 use Rattle.page_store.specs.Placing.{HasRoomCause}
 use Rattle.page_store.specs.Numbers.{numbered}
 use Rattle.page_store.proofs.Given.{numbered_long}
-
-pub limit_small : (limit : ℕ) → IsTrue (is_limit limit) → limit ≤ 2 ^ 24
-unfolding is_limit
-limit_small limit told = cases (nat_le 1 limit) (nat_le limit 16777216) refl told
-  where
-    cases : (a b : Bool) → nat_le limit 16777216 ≡ b → IsTrue (a && b) → limit ≤ 2 ^ 24
-    cases true true e told = let l : limit ≤ 16777216 = grind (arith, nat_tests) in l
-    cases true false e told = cc
-    cases false b e told = cc
 
 pub count_small : (head : Head) (count : ℕ) → IsLawfulHead head → count ≤ head.limit → count ≢ head.limit → count < 2 ^ 24
 count_small head count lawful most other = let l = limit_small head.limit lawful.limit in omega (arith, l, most, other)

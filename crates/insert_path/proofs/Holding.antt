@@ -17,6 +17,7 @@ use Rattle.tree_shape.proofs.Within.{Agree, child_agrees}
 use Rattle.promote_split.specs.declared.halves.Half.{Half}
 use Rattle.promote_split.specs.declared.halves.Halves.{Halves}
 use Rattle.promote_split.specs.Halves.{IsHalf, IsSplit}
+use Rattle.page_store.proofs.Stored.{branch_at}
 use Rattle.insert_path.specs.declared.grew.Stem.{Stem}
 use Rattle.insert_path.specs.declared.grew.Grew.{Grew}
 use Rattle.insert_path.specs.declared.grew.Grew.TheVariants.{One, Two}
@@ -31,10 +32,6 @@ stem_branch new h c = record { point = c.point; radius = c.radius; below = tree_
 abbrev pub grown_tree : Nodes → (h : ℕ) → Grew → Grown (Plain h)
 grown_tree new h (One page) = Whole (tree_at new h page)
 grown_tree new h (Two c d) = Halves2 (stem_branch new h c) (stem_branch new h d)
-
--- an entry with what lies below it
-abbrev pub branch_at : Nodes → (h : ℕ) → InnerEntry → Branch (Plain h)
-branch_at file h e = record { point = e.point; radius = e.radius; below = tree_at file h e.child }
 
 pub holds_staged : {E : Type 0} (P : Plan) (ball : E → Ball) (set : E → ℕ → E) (make : List E → Node) (es : List E) (file : Nodes) (old new : List Node) (g : Grew) →
     IsStaged P ball set make es old new g → HoldsFrom file P.number 0 new → HoldsFrom file P.number 0 old

@@ -1,9 +1,9 @@
 -- The objects of a tree with one object more, in order of id.
-use Rattle.std.proofs.Common.{◌≡◌, ◌≢◌, ◌⊎◌, ℕ, zero, suc, ◌+◌, ◌<◌, ◌≤◌, Bool, true, false, cond, List, [], ◌∷◌, ◌++◌, refl, sym, ap, ◌∙◌, arith, map, inl, inr}
+use Rattle.page_store.proofs.Ids.{AreCounted, none_counted, once_counted, tag_of-in, tally_count, tally_ids, there_counted, with_id}
+use Rattle.std.proofs.Common.{◌≡◌, ◌≢◌, ◌⊎◌, ℕ, zero, suc, ◌+◌, ◌<◌, ◌≤◌, Bool, true, false, List, [], ◌∷◌, ◌++◌, refl, sym, ap, ◌∙◌, arith, map, inl, inr}
 use Rattle.std.specs.Prelude.{if◌then◌else◌, ◌==◌, nat_lt, count_by}
 use Rattle.std.specs.List.{AllByRecursion}
 use Rattle.std.proofs.lemmas.Bool.Decides.{nat_tests}
-use Rattle.std.proofs.lemmas.List.Recursion.{is_count_by}
 use Rattle.metric_laws.specs.Lists.{IsIn}
 use Rattle.metric_laws.proofs.Lists.{all_append, all_in, in-map, map-in}
 use Rattle.tree_shape.specs.declared.entry.LeafEntry.{LeafEntry}
@@ -12,25 +12,6 @@ use Rattle.tree_shape.specs.Plain.{Object, Plain, Tall, objects_in, objects_of, 
 use Rattle.tree_shape.specs.Insertion.{Rules, Grown, One, Two, inserted, new_root, placed_by}
 use Rattle.tree_shape.proofs.Kept.{GrownAll, inserted_all}
 use Rattle.tree_shape.proofs.ById.{ids_of, times-in, object_of as object_with, point_of-in}
-
--- how often an id stands among objects
-abbrev pub with_id : ℕ → Object → Bool
-with_id id o = o.id == id
-
-abbrev pub tally : ℕ → List Object → ℕ
-tally id [] = 0
-tally id (o ∷ os) = (if o.id == id then 1 else 0) + tally id os
-
-pub tally_count : (id : ℕ) (os : List Object) → tally id os ≡ count_by (with_id id) os
-tally_count id os = is_count_by (tally id) (with_id id) refl (λ o os. cases (o.id == id) (tally id os)) os
-  where
-    cases : (b : Bool) (n : ℕ) → (if b then 1 else 0) + n ≡ cond b (1 + n) n
-    cases true n = refl
-    cases false n = omega arith
-
-pub tally_ids : (id : ℕ) (es : List LeafEntry) → times id (ids_of es) ≡ tally id (map object_of es)
-tally_ids id [] = refl
-tally_ids id (e ∷ es) = ap (λ (n : ℕ). (if e.id == id then 1 else 0) + n) (tally_ids id es)
 
 -- as many of an id as the rules say
 pub ids_more : (id count : ℕ) (o : Object) (old new : List LeafEntry) → o.id ≡ count → times id (ids_of old) ≡ (if nat_lt id count then 1 else 0) →
@@ -59,36 +40,6 @@ placed_all R P o here t all = cases (inserted R o t.height t.tree) (inserted_all
     cases : (g : Grown (Plain t.height)) → GrownAll P t.height g → AllByRecursion P (objects_of (new_root t.height g))
     cases (One x) grown = grown
     cases (Two c d) grown = all_append P (objects_in t.height c.below) (objects_in t.height d.below ++ []) grown.0 (all_append P (objects_in t.height d.below) [] grown.1 tt)
-
--- where an id is there once, its tag is its object's
-pub tag_of-in : (es : List LeafEntry) (e : LeafEntry) → IsIn e es → times e.id (ids_of es) ≤ 1 → tag_of e.id es ≡ e.tag
-tag_of-in [] e k once = absurd k
-tag_of-in (x ∷ xs) e k once = cases (x.id == e.id) refl (tag_of-in xs e) k once
-  where
-    cases : (b : Bool) → (x.id == e.id) ≡ b → (IsIn e xs → times e.id (ids_of xs) ≤ 1 → tag_of e.id xs ≡ e.tag) →
-        IsIn e (x ∷ xs) → (if b then 1 else 0) + times e.id (ids_of xs) ≤ 1 → (if b then x.tag else tag_of e.id xs) ≡ e.tag
-    cases true same ih k once = elim k [ inl i ↦ ap (λ o. o.tag) (sym i) | inr w ↦ (let here = times-in xs e w in absurd (omega arith)) ]
-    cases false other ih k once = elim k [ inr w ↦ ih w (omega arith) | inl i ↦ absurd (let j = ap (λ o. o.id) i in wrong j) ]
-      where
-        wrong : e.id ≡ x.id → ⊥
-        wrong j = grind (arith, nat_tests)
-
--- ids that are there once, below a count
-abbrev pub AreCounted : List LeafEntry → ℕ → Type 0
-AreCounted es count = (id : ℕ) → times id (ids_of es) ≡ (if nat_lt id count then 1 else 0)
-
-pub once_counted : (es : List LeafEntry) (count id : ℕ) → AreCounted es count → times id (ids_of es) ≤ 1
-once_counted es count id each = let e = each id in cases (nat_lt id count) e
-  where
-    cases : (b : Bool) → times id (ids_of es) ≡ (if b then 1 else 0) → times id (ids_of es) ≤ 1
-    cases true e = omega (arith, e)
-    cases false e = omega (arith, e)
-
-pub there_counted : (es : List LeafEntry) (count id : ℕ) → AreCounted es count → id < count → 1 ≤ times id (ids_of es)
-there_counted es count id each low = let e = each id in let t : nat_lt id count ≡ true = grind (arith, nat_tests) in let f : times id (ids_of es) ≡ 1 = e ∙ ap (λ (b : Bool). if b then 1 else 0) t in omega (arith, f)
-
-pub none_counted : (es : List LeafEntry) (count id : ℕ) → AreCounted es count → count ≤ id → times id (ids_of es) ≡ 0
-none_counted es count id each high = let e = each id in let t : nat_lt id count ≡ false = grind (arith, nat_tests) in e ∙ ap (λ (b : Bool). if b then 1 else 0) t
 
 -- an object of the new list with an id below the count is an old one
 pub old_one : (count : ℕ) (o : Object) (old new : List LeafEntry) → o.id ≡ count → AreCounted old count → AreCounted new (count + 1) → AllByRecursion (λ x. IsIn x (map object_of old) ⊎ (x ≡ o)) (map object_of new) → (id : ℕ) → id < count →

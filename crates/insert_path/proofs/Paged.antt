@@ -17,6 +17,7 @@ use Rattle.promote_split.specs.declared.halves.Half.{Half}
 use Rattle.promote_split.specs.Halves.{IsHalf}
 use Rattle.page_store.specs.Shelf.{Shelf}
 use Rattle.page_store.specs.Reading.{nodes_of}
+use Rattle.page_store.proofs.Stored.{below_in}
 use Rattle.insert_path.specs.declared.grew.Grew.{Grew}
 use Rattle.insert_path.specs.declared.grew.Grew.TheVariants.{One, Two}
 use Rattle.insert_path.specs.Walk.{inner_ball}
@@ -77,9 +78,6 @@ no_pages x = []
 pub none_flat : {X : Type 0} (xs : List X) → flat_map no_pages xs ≡ []
 none_flat [] = refl
 none_flat (x ∷ xs) = none_flat xs
-
-abbrev pub below_in : Nodes → ℕ → InnerEntry → List ℕ
-below_in file h e = pages_at file h e.child
 
 pub leaf_pages : (P : Plan) (es : List LeafEntry) (file : Nodes) (old new : List Node) (g : Grew) → IsStaged P leaf_ball leaf_with Leaf es old new g → HoldsFrom file P.number 0 new → (n : ℕ) →
     times n (grown_pages file zero g) + times n (pages_from P.number 0 old) ≡ times n (pages_from P.number 0 new)

@@ -18,6 +18,7 @@ use Rattle.node_page.specs.Nodes.{IsLawfulNode}
 use Rattle.page_store.specs.declared.pages.PageFault.{PageFault}
 use Rattle.page_store.specs.Reading.{nodes_of}
 use Rattle.page_store.specs.Shelf.{Shelf}
+use Rattle.page_store.proofs.Stored.{IsStoredAt, branch_at}
 use Rattle.insert_path.specs.declared.faults.PlaceFault.{PlaceFault}
 use Rattle.insert_path.specs.declared.faults.PlaceFault.TheVariants.{Page, Full, NoRoom, Worn, Memory}
 use Rattle.insert_path.specs.declared.grew.Stem.{Stem}
@@ -27,9 +28,9 @@ use Rattle.insert_path.specs.Placing.{place_fault, or_level, is_split, fresh_roo
 use Rattle.insert_path.specs.Causes.{HasTreeCause}
 use Rattle.insert_path.specs.Roots.{HasRootCause}
 use Rattle.insert_path.specs.Descent.{Plan, rules_of, root_entry, is_two, IsSmall, Roots, Descends}
-use Rattle.insert_path.proofs.Holding.{grown_tree, branch_at}
+use Rattle.insert_path.proofs.Holding.{grown_tree}
 use Rattle.insert_path.proofs.Walked.{descends_parity, descends_faultless}
-use Rattle.insert_path.proofs.Stored.{IsStoredAt, GrownStored}
+use Rattle.insert_path.proofs.Stored.{GrownStored}
 use Rattle.insert_path.proofs.Paged.{grown_pages}
 use Rattle.insert_path.proofs.Writable.{IsLong}
 use Rattle.page_store.proofs.Standing.{HoldsFrom, holds_after, trees_from, trees_more, pages_from, pages_more}

@@ -1,5 +1,5 @@
 -- Stored distances and levels of a file with staged nodes.
-use Rattle.std.proofs.Common.{◌≡◌, ℕ, zero, suc, ◌<◌, ◌≤◌, List, [], ◌∷◌, ◌++◌, refl, sym, ap, ◌∙◌, arith, length, map, subst, get_or, inl}
+use Rattle.std.proofs.Common.{◌≡◌, ℕ, zero, suc, ◌<◌, List, [], ◌∷◌, ◌++◌, refl, sym, ap, ◌∙◌, arith, length, map, subst, get_or, inl}
 use Rattle.std.specs.Prelude.{Option, Some, IsTrue}
 use Rattle.std.specs.List.{AllByRecursion}
 use Rattle.metric_laws.specs.Space.{Space}
@@ -8,39 +8,28 @@ use Rattle.tree_shape.specs.declared.entry.LeafEntry.{LeafEntry}
 use Rattle.tree_shape.specs.declared.entry.InnerEntry.{InnerEntry}
 use Rattle.tree_shape.specs.declared.entry.Node.{Node}
 use Rattle.tree_shape.specs.declared.entry.Node.TheVariants.{Leaf, Inner}
-use Rattle.tree_shape.specs.Fill.{IsFilled, least_for}
+use Rattle.tree_shape.specs.Fill.{least_for}
 use Rattle.tree_shape.specs.Tree.{Nodes, leaf_entries, inner_entries, pages_at, objects_at, parent_distance, IsSoundObject, IsSoundEntry, IsSoundAt}
-use Rattle.tree_shape.specs.Plain.{Object, Branch, Plain, object_of, tree_at}
-use Rattle.tree_shape.specs.Sound.{ObjectFits, BranchCovers, IsSoundPlain}
 use Rattle.tree_shape.specs.Dealing.{Ball, split_of}
 use Rattle.tree_shape.specs.Insertion.{taken, left, chosen}
-use Rattle.tree_shape.proofs.Kept.{all_taken, all_left, all_map, length_map}
-use Rattle.tree_shape.proofs.Reading.{same_objects}
+use Rattle.tree_shape.proofs.Kept.{all_taken, all_left}
 use Rattle.tree_shape.proofs.Within.{Agree, all_within}
 use Rattle.promote_split.specs.declared.halves.Half.{Half}
 use Rattle.promote_split.specs.Halves.{IsHalf}
 use Rattle.page_store.specs.Shelf.{Shelf}
 use Rattle.page_store.specs.Reading.{nodes_of}
+use Rattle.page_store.proofs.Stored.{IsStoredAt, IsStoredEntry}
 use Rattle.insert_path.specs.declared.grew.Grew.{Grew}
 use Rattle.insert_path.specs.declared.grew.Grew.TheVariants.{One, Two}
 use Rattle.insert_path.specs.Walk.{inner_ball}
 use Rattle.insert_path.specs.Descent.{Plan, leaf_ball, leaf_with, inner_with, new_entry, entry_of, regrown, IsStaged, Descends}
-use Rattle.insert_path.proofs.Holding.{by_staged, holds_staged, branch_at, agree_below, chosen_in}
+use Rattle.insert_path.proofs.Holding.{by_staged, holds_staged, agree_below, chosen_in}
 use Rattle.insert_path.proofs.Walked.{told_node}
 use Rattle.page_store.proofs.Standing.{HoldsFrom}
-
--- the nodes from a page down have the levels of their depth, and the distances to the routing points above
-abbrev pub IsStoredAt : Space → Nodes → ℕ → Option (List ℕ) → ℕ → Type 0
-IsStoredAt s nodes zero above page = (es : List LeafEntry) × (nodes page ≡ Some (Leaf es)) × AllByRecursion (λ e. e.parent ≡ parent_distance s above e.point) es
-IsStoredAt s nodes (suc h) above page =
-    (es : List InnerEntry) × (nodes page ≡ Some (Inner (suc h) es)) × AllByRecursion (λ e. (e.parent ≡ parent_distance s above e.point) × IsStoredAt s nodes h (Some e.point) e.child) es
 
 abbrev pub GrownStored : Space → Nodes → ℕ → Option (List ℕ) → Grew → Type 0
 GrownStored s nodes h above (One page) = IsStoredAt s nodes h above page
 GrownStored s nodes h above (Two c d) = IsStoredAt s nodes h (Some c.point) c.page × IsStoredAt s nodes h (Some d.point) d.page
-
-abbrev pub IsStoredEntry : Space → Nodes → ℕ → Option (List ℕ) → InnerEntry → Type 0
-IsStoredEntry s nodes h above e = (e.parent ≡ parent_distance s above e.point) × IsStoredAt s nodes h (Some e.point) e.child
 
 -- a sound subtree is stored so
 pub stored_of_sound : (s : Space) (nodes : Nodes) (h least : ℕ) (above : Option (List ℕ)) (page : ℕ) → IsSoundAt s nodes h least above page → IsStoredAt s nodes h above page
@@ -51,48 +40,6 @@ stored_of_sound s nodes (suc h) least above page sound = (
   all_weaker (λ (e : InnerEntry). IsSoundEntry s above (objects_at nodes h e.child) e × IsSoundAt s nodes h (least_for s.words) (Some e.point) e.child) (IsStoredEntry s nodes h above) sound.0
       (λ e k. (k.0.parent_is, stored_of_sound s nodes h (least_for s.words) (Some e.point) e.child k.1)) sound.3,
 )
-
-pub filled_map : {X Y : Type 0} (f : X → Y) (dim least : ℕ) (xs : List X) → IsFilled dim least (length (map f xs)) → IsFilled dim least (length xs)
-filled_map f dim least xs filled = subst (IsFilled dim least) (length_map f xs) filled
-
--- a stored subtree whose tree is sound is sound
-pub sound_of_stored : (s : Space) (nodes : Nodes) (h least : ℕ) (above : Option (List ℕ)) (page : ℕ) → IsStoredAt s nodes h above page → IsSoundPlain s h least (tree_at nodes h page) → IsSoundAt s nodes h least above page
-sound_of_stored s nodes zero least above page stored plain =
-    let p : IsSoundPlain s zero least (map object_of stored.0) = subst (λ (o : Option Node). IsSoundPlain s zero least (map object_of (leaf_entries o))) stored.1 plain in (
-      stored.0,
-      stored.1,
-      filled_map object_of s.words least stored.0 p.0,
-      both stored.0 stored.2 (all_map (ObjectFits s) object_of stored.0 p.1),
-    )
-  where
-    both : (es : List LeafEntry) → AllByRecursion (λ e. e.parent ≡ parent_distance s above e.point) es → AllByRecursion (λ e. ObjectFits s (object_of e)) es → AllByRecursion (IsSoundObject s above) es
-    both [] a b = tt
-    both (e ∷ es) a b = (record { point_fits = b.0; parent_is = a.0 }, both es a.1 b.1)
-sound_of_stored s nodes (suc h) least above page stored plain =
-    let p : IsSoundPlain s (suc h) least (map (branch_at nodes h) stored.0) = subst (λ (o : Option Node). IsSoundPlain s (suc h) least (map (branch_at nodes h) (inner_entries o))) stored.1 plain in (
-      stored.0,
-      stored.1,
-      filled_map (branch_at nodes h) s.words least stored.0 p.0,
-      both (λ c above p q. sound_of_stored s nodes h (least_for s.words) above c p q) stored.0 stored.2
-          (all_map (λ (b : Branch (Plain h)). IsTrue (s.fits b.point) × BranchCovers s h b × IsSoundPlain s h (least_for s.words) b.below) (branch_at nodes h) stored.0 p.1),
-    )
-  where
-    both : ((c : ℕ) (above : Option (List ℕ)) → IsStoredAt s nodes h above c → IsSoundPlain s h (least_for s.words) (tree_at nodes h c) → IsSoundAt s nodes h (least_for s.words) above c) →
-        (es : List InnerEntry) → AllByRecursion (IsStoredEntry s nodes h above) es → AllByRecursion (λ e. IsTrue (s.fits e.point) × BranchCovers s h (branch_at nodes h e) × IsSoundPlain s h (least_for s.words) (tree_at nodes h e.child)) es →
-        AllByRecursion (λ e. IsSoundEntry s above (objects_at nodes h e.child) e × IsSoundAt s nodes h (least_for s.words) (Some e.point) e.child) es
-    both deep [] a b = tt
-    both deep (e ∷ es) a b = (
-      (
-        record {
-          point_fits = b.0.0;
-          parent_is = a.0.0;
-          covers = all_map (λ (o : Object). s.dist o.point e.point ≤ e.radius) object_of (objects_at nodes h e.child)
-              (subst (AllByRecursion (λ (o : Object). s.dist o.point e.point ≤ e.radius)) (same_objects nodes h e.child) b.0.1);
-        },
-        deep e.child (Some e.point) a.0.1 b.0.2,
-      ),
-      both deep es a.1 b.1,
-    )
 
 -- a subtree depends on its own pages alone
 pub stored_same : (s : Space) (old new : Nodes) (h page : ℕ) (above : Option (List ℕ)) → Agree old new (pages_at old h page) → IsStoredAt s old h above page → IsStoredAt s new h above page

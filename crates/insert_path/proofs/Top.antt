@@ -22,14 +22,16 @@ use Rattle.page_store.specs.declared.staging.Placed.{Placed}
 use Rattle.page_store.specs.Shelf.{Shelf}
 use Rattle.page_store.specs.Reading.{nodes_of}
 use Rattle.page_store.specs.Staging.{staged_for}
+use Rattle.page_store.proofs.Stored.{IsStoredAt, sound_of_stored}
+use Rattle.page_store.proofs.Ids.{AreCounted, with_id}
 use Rattle.insert_path.specs.Placing.{fresh, fresh_root, fresh_of, HasInserted}
 use Rattle.insert_path.specs.Descent.{Plan, rules_of, Walks}
 use Rattle.insert_path.proofs.Holding.{grown_tree}
 use Rattle.insert_path.proofs.Walked.{descends_shown, descends_fresh}
-use Rattle.insert_path.proofs.Stored.{IsStoredAt, stored_of_sound, sound_of_stored, descends_stored}
+use Rattle.insert_path.proofs.Stored.{stored_of_sound, descends_stored}
 use Rattle.insert_path.proofs.Paged.{descends_pages, descends_in}
 use Rattle.insert_path.proofs.Rooted.{tall, root_holds, root_tree, root_stored, root_pages, root_fresh}
-use Rattle.insert_path.proofs.Listing.{with_id, AreCounted, ids_more, placed_all, old_one, new_one, points_more, tags_more}
+use Rattle.insert_path.proofs.Listing.{ids_more, placed_all, old_one, new_one, points_more, tags_more}
 use Rattle.page_store.specs.Placing.{live_pages, staged_tree, IsOver}
 use Rattle.page_store.specs.Numbers.{numbered}
 use Rattle.page_store.proofs.Standing.{HoldsFrom, trees_from, pages_from, stand_holds, trees_numbered, in_times, times_in, all_times}

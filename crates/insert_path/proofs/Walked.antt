@@ -14,13 +14,14 @@ use Rattle.tree_shape.proofs.Within.{Agree}
 use Rattle.page_store.specs.declared.pages.PageFault.TheVariants.{Level}
 use Rattle.page_store.specs.Shelf.{Shelf}
 use Rattle.page_store.specs.Reading.{nodes_of, node_or_none}
+use Rattle.page_store.proofs.Stored.{branch_at}
 use Rattle.insert_path.specs.declared.grew.Grew.{Grew}
 use Rattle.insert_path.specs.declared.grew.Grew.TheVariants.{One, Two}
 use Rattle.insert_path.specs.Walk.{inner_ball, chosen_child, walk_fault, leaf_fault, inner_fault}
 use Rattle.insert_path.specs.Placing.{walk_pages, is_split, parts, fresh_in, fresh}
 use Rattle.insert_path.specs.Descent.{Plan, rules_of, leaf_ball, leaf_with, inner_with, new_entry, entry_of, regrown, is_two, IsStaged, Descends}
 use Rattle.insert_path.proofs.Level.{child_page}
-use Rattle.insert_path.proofs.Holding.{grown_tree, branch_at, holds_staged, inner_balls, leaf_shown, inner_shown, regrown_shown, tree_same, map_more, agree_below, chosen_in}
+use Rattle.insert_path.proofs.Holding.{grown_tree, holds_staged, inner_balls, leaf_shown, inner_shown, regrown_shown, tree_same, map_more, agree_below, chosen_in}
 use Rattle.page_store.specs.Placing.{level_of}
 use Rattle.page_store.proofs.Standing.{HoldsFrom, trees_from, trees_more}
 

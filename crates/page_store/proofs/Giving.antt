@@ -1,6 +1,6 @@
 -- New nodes on their pages can be committed.
 use Rattle.std.proofs.Common.{◌≡◌, ◌⊎◌, ℕ, zero, suc, ◌+◌, ◌-◌, ◌*◌, ◌^◌, ◌<◌, ◌≤◌, Bool, true, false, List, [], ◌∷◌, refl, sym, ap, ◌∙◌, arith, length, map, subst, get_or, inl, inr}
-use Rattle.std.specs.Prelude.{if◌then◌else◌, ◌==◌}
+use Rattle.std.specs.Prelude.{IsTrue, nat_le, if◌then◌else◌, ◌==◌, ◌&&◌}
 use Rattle.std.specs.List.{AllByRecursion, range_with_len}
 use Rattle.std.proofs.lemmas.Bool.Decides.{nat_tests}
 use Rattle.metric_laws.specs.Lists.{IsIn}
@@ -9,6 +9,7 @@ use Rattle.tree_shape.specs.declared.entry.Node.{Node}
 use Rattle.tree_shape.specs.declared.live.Live.{Live}
 use Rattle.tree_shape.specs.Tree.{Nodes, times, IsNodePage}
 use Rattle.tree_shape.proofs.Counting.{times-in as times-out}
+use Rattle.node_page.specs.Heads.{is_limit}
 use Rattle.node_page.specs.Nodes.{IsLawfulNode}
 use Rattle.node_page.specs.Opening.{IsLawfulLive}
 use Rattle.node_page.specs.declared.head.Head.{Head}
@@ -20,6 +21,16 @@ use Rattle.page_store.specs.Numbers.{number_at, numbered, AreNumbers}
 use Rattle.page_store.specs.Placing.{live_pages, AreOutside, IsPlacement}
 use Rattle.page_store.proofs.Standing.{pages_from, in_get, in_times}
 use Rattle.page_store.proofs.Given.{lower_or, number_in, number_out, number_within, pages_numbered, numbered_long, pages_range, end_given}
+
+-- no head allows more objects
+pub limit_small : (limit : ℕ) → IsTrue (is_limit limit) → limit ≤ 2 ^ 24
+unfolding is_limit
+limit_small limit told = cases (nat_le 1 limit) (nat_le limit 16777216) refl told
+  where
+    cases : (a b : Bool) → nat_le limit 16777216 ≡ b → IsTrue (a && b) → limit ≤ 2 ^ 24
+    cases true true e told = let l : limit ≤ 16777216 = grind (arith, nat_tests) in l
+    cases true false e told = cc
+    cases false b e told = cc
 
 -- pages that are given lie outside the live tree
 pub given_out : (nodes : Nodes) (t : Live) (numbers : List ℕ) → AreOutside nodes t numbers → AllByRecursion (IsNodePage t) (live_pages nodes t) → (i : ℕ) → times (number_at numbers t.pages i) (live_pages nodes t) ≡ 0

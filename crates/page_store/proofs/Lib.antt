@@ -3,3 +3,5 @@ pub mod Results
 pub mod Given
 pub mod Standing
 pub mod Giving
+pub mod Stored
+pub mod Ids

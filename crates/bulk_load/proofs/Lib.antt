@@ -1,0 +1,13 @@
+pub mod Received
+pub mod Steps
+pub mod Members
+pub mod Sizes
+pub mod Walking
+pub mod Shown
+pub mod Suited
+pub mod Looped
+pub mod Kept
+pub mod Whole
+pub mod Lawful
+pub mod Heights
+pub mod Committed

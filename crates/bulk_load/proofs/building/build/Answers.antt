@@ -1,0 +1,67 @@
+use Rattle.std.proofs.Common.{◌-◌, ◌∙◌, ℕ, ap, subst, arith, length}
+use Rattle.page_store.specs.Numbers.{number_at}
+use Rattle.page_store.specs.Placing.{HasRoomCause, IsPlacement}
+use Rattle.page_store.proofs.Giving.{staged_out}
+use Rattle.bulk_load.specs.Sets.{load_of}
+use Rattle.bulk_load.proofs.Committed.{rows_few, lawful_load, root_given, low, nodes_low, nodes_writable, nodes_counted, staged_counted}
+use Rattle.bulk_load.proofs.Whole.{has_loaded_by}
+use Rattle.bulk_load.proofs.building.build.Goals as goal
+
+pub new_tree-requires-clause-few : goal.new_tree-requires-clause-few
+new_tree-requires-clause-few g c κs within = rows_few c.args.head.now (length c.args.rows.now.points) c.requires.head c.requires.few
+
+pub settle-requires-clause-count : goal.settle-requires-clause-count
+settle-requires-clause-count g c =
+    let few = rows_few c.args.head.now (length c.args.rows.now.points) c.requires.head c.requires.few in
+    let none = c.requires.empty in
+    let added = c.in-Ok.ensures.added in omega (arith, few, none, added)
+
+pub settle-requires-clause-few : goal.settle-requires-clause-few
+settle-requires-clause-few g c =
+    nodes_low (load_of (g.M.Metric.space c.args.metric) c.args.rows.now.points c.args.tags.now c.fill.result) (g.M.Metric.axioms c.args.metric)
+    (lawful_load (g.M.Metric.space c.args.metric) c.args.rows.now.points c.args.tags.now c.fill.result c.args.head.now.dim c.requires.words c.fill.ensures.most c.fill.ensures.least c.requires.fits c.requires.tags)
+    c.requires.some (rows_few c.args.head.now (length c.args.rows.now.points) c.requires.head c.requires.few) (number_at c.args.numbers.now c.args.live.now.pages) c.in-Ok.tree.nodes.items c.in-Ok.ensures.nodes
+
+pub settle-requires-clause-height : goal.settle-requires-clause-height
+settle-requires-clause-height g c =
+    let high = low (load_of (g.M.Metric.space c.args.metric) c.args.rows.now.points c.args.tags.now c.fill.result) (g.M.Metric.axioms c.args.metric)
+    (lawful_load (g.M.Metric.space c.args.metric) c.args.rows.now.points c.args.tags.now c.fill.result c.args.head.now.dim c.requires.words c.fill.ensures.most c.fill.ensures.least c.requires.fits c.requires.tags)
+    c.requires.some (rows_few c.args.head.now (length c.args.rows.now.points) c.requires.head c.requires.few) in
+    let same = c.in-Ok.ensures.height in omega (arith, high, same)
+
+pub settle-requires-clause-root : goal.settle-requires-clause-root
+settle-requires-clause-root g c =
+    root_given (load_of (g.M.Metric.space c.args.metric) c.args.rows.now.points c.args.tags.now c.fill.result) (number_at c.args.numbers.now c.args.live.now.pages) c.in-Ok.tree.nodes.items c.in-Ok.tree.root c.in-Ok.ensures.nodes c.in-Ok.ensures.root
+
+pub returns-in-Ok-settle-clause-placement : goal.returns-in-Ok-settle-clause-placement
+returns-in-Ok-settle-clause-placement g c =
+    subst (λ (added : ℕ). IsPlacement c.args.head.now c.args.live.now c.args.numbers.now added c.in-Ok-settle.placed) c.in-Ok.ensures.added
+    (c.in-Ok-settle.ensures.placement c.args.head.now (let most = c.requires.few in let none = c.requires.empty in let added = c.in-Ok.ensures.added in omega (arith, most, none, added))
+    (nodes_writable (load_of (g.M.Metric.space c.args.metric) c.args.rows.now.points c.args.tags.now c.fill.result) (g.M.Metric.axioms c.args.metric)
+    (lawful_load (g.M.Metric.space c.args.metric) c.args.rows.now.points c.args.tags.now c.fill.result c.args.head.now.dim c.requires.words c.fill.ensures.most c.fill.ensures.least c.requires.fits c.requires.tags)
+    c.requires.some (rows_few c.args.head.now (length c.args.rows.now.points) c.requires.head c.requires.few) (number_at c.args.numbers.now c.args.live.now.pages) c.in-Ok.tree.nodes.items c.args.head.now.dim c.in-Ok.ensures.nodes c.requires.words))
+
+pub returns-in-Ok-settle-clause-many : goal.returns-in-Ok-settle-clause-many
+returns-in-Ok-settle-clause-many g c =
+    staged_counted (load_of (g.M.Metric.space c.args.metric) c.args.rows.now.points c.args.tags.now c.fill.result) (g.M.Metric.axioms c.args.metric)
+    (lawful_load (g.M.Metric.space c.args.metric) c.args.rows.now.points c.args.tags.now c.fill.result c.args.head.now.dim c.requires.words c.fill.ensures.most c.fill.ensures.least c.requires.fits c.requires.tags)
+    (number_at c.args.numbers.now c.args.live.now.pages) c.in-Ok.tree.nodes.items c.in-Ok-settle.placed.staged c.in-Ok.ensures.nodes c.in-Ok-settle.ensures.staged
+
+pub returns-in-Ok-settle-clause-apart : goal.returns-in-Ok-settle-clause-apart
+returns-in-Ok-settle-clause-apart g c = λ old sound outside.
+    staged_out old c.args.live.now c.args.numbers.now c.in-Ok.tree.nodes.items c.in-Ok-settle.placed.staged c.in-Ok-settle.ensures.staged outside sound.within
+
+pub returns-in-Ok-settle-clause-loaded : goal.returns-in-Ok-settle-clause-loaded
+returns-in-Ok-settle-clause-loaded g c =
+    has_loaded_by (load_of (g.M.Metric.space c.args.metric) c.args.rows.now.points c.args.tags.now c.fill.result) (g.M.Metric.axioms c.args.metric)
+    (lawful_load (g.M.Metric.space c.args.metric) c.args.rows.now.points c.args.tags.now c.fill.result c.args.head.now.dim c.requires.words c.fill.ensures.most c.fill.ensures.least c.requires.fits c.requires.tags)
+    c.args.live.now c.args.numbers.now c.in-Ok-settle.placed c.in-Ok.tree.nodes.items c.in-Ok.tree.root c.in-Ok.tree.height c.in-Ok.tree.added c.requires.empty (let l = c.requires.live.low_pages in omega (arith, l)) c.requires.numbers
+    c.in-Ok.ensures.nodes c.in-Ok.ensures.root c.in-Ok.ensures.height c.in-Ok.ensures.added c.in-Ok-settle.ensures.staged c.in-Ok-settle.ensures.next (c.in-Ok-settle.ensures.left ∙ c.in-Ok.ensures.left)
+
+pub returns-in-Err-NoRoom-clause-cause : goal.returns-in-Err-NoRoom-clause-cause
+returns-in-Err-NoRoom-clause-cause g c =
+    let counted = nodes_counted (load_of (g.M.Metric.space c.args.metric) c.args.rows.now.points c.args.tags.now c.fill.result) (g.M.Metric.axioms c.args.metric)
+    (lawful_load (g.M.Metric.space c.args.metric) c.args.rows.now.points c.args.tags.now c.fill.result c.args.head.now.dim c.requires.words c.fill.ensures.most c.fill.ensures.least c.requires.fits c.requires.tags)
+    (number_at c.args.numbers.now c.args.live.now.pages) c.in-Ok.tree.nodes.items c.in-Ok.ensures.nodes in
+    let cause = subst (HasRoomCause c.args.live.now (length c.in-Ok.tree.nodes.items - length c.args.numbers.now)) c.in-Err-NoRoom.field-0-is c.in-Err-NoRoom.ensures.cause in
+    (c.if-live-eq-LAST_GENERATION.false, cause.0, cause.1 ∙ ap (λ (k : ℕ). k - length c.args.numbers.now) counted, cause.2)

@@ -1,0 +1,64 @@
+use Rattle.std.proofs.Common.{◌≡◌, ℕ, ◌^◌, ◌≤◌, arith, ◌∙◌, length, List}
+use Rattle.std.proofs.Math.Nat.{one-le-pow, pow-le-pow_left}
+use Rattle.tree_shape.specs.Bulk.{groups_from, groups_at, Load}
+use Rattle.par_work.proofs.Joining.{if_ok}
+use Rattle.bulk_load.proofs.Members.{groups_are}
+use Rattle.bulk_load.proofs.Sizes.{increasing_few, bounds_of, some_objects, some_groups, room_fits}
+use Rattle.bulk_load.proofs.grouping.groups.Goals as goal
+
+pub pow-room-requires : goal.pow-room-requires
+pow-room-requires g c =
+    let few = increasing_few (length c.args.rows.now.points) c.args.set.now c.requires.places c.requires.ascends in let r = c.requires.rows in
+    room_fits c.args.fill.now c.args.root c.args.level (length c.args.set.now) (bounds_of c.args.fill.now c.requires.fill) c.requires.size c.requires.level.1 (omega arith)
+
+pub pow-least-requires : goal.pow-least-requires
+pow-least-requires g c =
+    let few = increasing_few (length c.args.rows.now.points) c.args.set.now c.requires.places c.requires.ascends in let r = c.requires.rows in
+    let room = room_fits c.args.fill.now c.args.root c.args.level (length c.args.set.now) (bounds_of c.args.fill.now c.requires.fill) c.requires.size c.requires.level.1 (omega arith) in
+    let p : c.args.fill.now.least ^ c.args.level ≤ c.args.fill.now.most ^ c.args.level = pow-le-pow_left (bounds_of c.args.fill.now c.requires.fill).above c.args.level in
+    omega arith
+
+pub group_number-requires-clause-room : goal.group_number-requires-clause-room
+group_number-requires-clause-room g c =
+    let b = bounds_of c.args.fill.now c.requires.fill in let three = b.three in let above = b.above in
+    let p = one-le-pow c.args.level c.args.fill.now.most (omega arith) in let e = c.pow-room.ensures in omega arith
+
+pub group_number-requires-clause-few : goal.group_number-requires-clause-few
+group_number-requires-clause-few g c =
+    let few = increasing_few (length c.args.rows.now.points) c.args.set.now c.requires.places c.requires.ascends in let r = c.requires.rows in omega arith
+
+pub seed_places-requires-clause-objects : goal.seed_places-requires-clause-objects
+seed_places-requires-clause-objects g c =
+    let few = increasing_few (length c.args.rows.now.points) c.args.set.now c.requires.places c.requires.ascends in let r = c.requires.rows in
+    (some_objects c.args.fill.now c.args.root c.args.level (length c.args.set.now) (bounds_of c.args.fill.now c.requires.fill) c.requires.size, (omega arith))
+
+pub seed_places-requires-clause-groups : goal.seed_places-requires-clause-groups
+seed_places-requires-clause-groups g c =
+    let range = some_groups c.args.fill.now c.args.root c.args.level (length c.args.set.now) c.pow-room.result (bounds_of c.args.fill.now c.requires.fill) c.requires.size c.pow-room.ensures in
+    let few = range.1 in
+    let some = range.0 in
+    let is = c.group_number.ensures in
+    (omega arith, omega arith)
+
+pub parted-requires-clause-width : goal.parted-requires-clause-width
+parted-requires-clause-width g c =
+    let range = some_groups c.args.fill.now c.args.root c.args.level (length c.args.set.now) c.pow-room.result (bounds_of c.args.fill.now c.requires.fill) c.requires.size c.pow-room.ensures in
+    let few = range.1 in
+    let some = range.0 in
+    let is = c.group_number.ensures in
+    let width : c.in_ok-distances.distances.width ≡ c.group_number.result = c.in_ok-distances.ensures.width ∙ c.as_slice.ensures.len ∙ c.in_ok-seeds.ensures.len in
+    (omega arith, omega arith)
+
+pub returns : goal.returns
+returns g c =
+    let placed = c.as_slice-4.result.now in
+    if_ok (λ gs. gs.items ≡ groups_from 0 c.as_slice-3.result.now c.args.set.now placed)
+    (λ gs. (tags : List ℕ) → gs.items ≡ groups_at (load tags) c.args.root c.args.level c.args.set.now) c.groups_of.result c.groups_of.ensures
+    (λ gs e tags. groups_are (load tags) c.args.root c.args.level c.args.set.now c.pow-room.result c.pow-least.result c.group_number.result c.as_slice.result.now c.in_ok-points.points.points
+    c.in_ok-distances.distances.width c.in_ok-distances.distances.table placed gs.items c.pow-room.ensures c.pow-least.ensures c.group_number.ensures
+    (c.as_slice.ensures.value ∙ c.in_ok-seeds.ensures.is) (c.as_slice.ensures.len ∙ c.in_ok-seeds.ensures.len) c.in_ok-points.ensures c.in_ok-distances.ensures.width c.in_ok-distances.ensures.table
+    (c.as_slice-4.ensures.value ∙ c.in_ok-placed.ensures.is ∙ (let s = c.as_slice.ensures.value in let t = c.as_slice-2.ensures.value in cc))
+    (let s = c.as_slice.ensures.value in let t = c.as_slice-3.ensures.value in cc))
+  where
+    load : List ℕ → Load
+    load tags = record { space = g.M.Metric.space c.args.metric; points = c.args.rows.now.points; tags = tags; most = c.args.fill.now.most; least = c.args.fill.now.least }

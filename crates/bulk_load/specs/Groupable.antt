@@ -1,0 +1,18 @@
+-- What can be parted into groups.
+use Rattle.std.specs.Prelude.{◌≡◌, ℕ, ◌+◌, ◌^◌, ◌<◌, ◌≤◌, Bool, true, false}
+use Rattle.tree_shape.specs.declared.filling.Bounds.{Bounds}
+use Rattle.tree_shape.specs.Fill.{most_for, least_for}
+
+-- these are the bounds of nodes over points of some dimension
+pub record IsFill (fill : Bounds) : Type 0 where
+  pub dim : ℕ
+  pub some : 1 ≤ dim
+  pub few : dim ≤ 64
+  pub most : fill.most ≡ most_for dim
+  pub least : fill.least ≡ least_for dim
+
+-- n objects are neither too few nor too many for a node of level h
+pub record IsSized (fill : Bounds) (is_root : Bool) (h n : ℕ) : Type 0 where
+  pub above : is_root ≡ true → fill.most ^ h < n
+  pub enough : is_root ≡ false → fill.least ^ (h + 1) ≤ n
+  pub at_most : n ≤ fill.most ^ (h + 1)

@@ -1,0 +1,7 @@
+pub mod Groupable
+pub mod Measured
+pub mod Candidates
+pub mod Sets
+pub mod Postorder
+pub mod Loaded
+pub mod Causes

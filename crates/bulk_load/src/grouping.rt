@@ -1,0 +1,124 @@
+//! The groups of a set.
+
+ghost use Rattle.std.specs.Prelude.{◌≡◌, ℕ, List, ◌<◌, ◌≤◌, ◌^◌, length, map, IfOk, IsTrue, All, slice_index_or, vec_len, [], replicate};
+ghost use Rattle.std.specs.List.Sorted.{IsStrictlyIncreasing};
+ghost use Rattle.tree_shape.specs.Bulk.{row_of, groups_from, groups_at};
+ghost use Rattle.tree_shape.specs.Groups.{members_from, entry, placed_from, filled_from};
+ghost use Rattle.bulk_load.specs.Groupable.{IsFill, IsSized};
+
+use crate::distances::Distances;
+use crate::filling::fill_up;
+use crate::placing::{group_number, place_all, seed_places};
+use metric_laws::{Listed, Memory, Metric, Rows};
+use std::alloc::Global;
+use std::thread::Threads;
+use tree_shape::{Bounds, Group, Member};
+
+/// The size from which a set below the root is worth several threads.
+const LARGE: usize = 8192;
+
+// The points of a set.
+fn points_of<M: Metric>(alloc: Global, metric: M, rows: &Rows, set: &[u32]) -> Result<Rows, Memory>
+    requires points { All (λ p. IsTrue ((M.space metric).fits p)) rows.now.points }
+    requires places { All (λ k. k < length rows.now.points) set.now }
+    ensures { IfOk result (λ r. r.points ≡ map (λ k. slice_index_or rows.now.points k []) set.now) }
+{
+    let mut points = Rows::new(alloc, metric.words());
+    for place in set {
+        points.push(rows.point(*place as usize))?;
+    }
+    Ok(points)
+}
+
+// The members of a group.
+fn members_of(alloc: Global, group: u32, set: &[u32], placed: &[Member]) -> Result<Vec<u32>, Memory>
+    requires { length set.now ≡ length placed.now }
+    ensures { IfOk result (λ v. v.items ≡ members_from group set.now placed.now) }
+{
+    let mut members = Vec::new(alloc);
+    for (place, member) in placed.iter().enumerate() {
+        if member.group == group {
+            members.push(set[place])?;
+        }
+    }
+    Ok(members)
+}
+
+// The groups, by their seeds' places in the set.
+#[tactic(auto, using(crate::proofs::Members::groups_step))]
+fn groups_of(
+    alloc: Global,
+    seeds: &[u32],
+    set: &[u32],
+    placed: &[Member],
+) -> Result<Vec<Group>, Memory>
+    requires set { length set.now ≡ length placed.now }
+    requires seeds { All (λ k. k < length set.now) seeds.now }
+    requires few { length seeds.now ≤ 64 }
+    ensures { IfOk result (λ v. v.items ≡ groups_from 0 seeds.now set.now placed.now) }
+{
+    let mut groups = Vec::new(alloc);
+    for (group, seed) in seeds.iter().enumerate() {
+        let members = members_of(alloc, group as u32, set, placed)?;
+        groups.push(Group {
+            seed: set[*seed as usize],
+            members: Listed::new(members),
+        })?;
+    }
+    Ok(groups)
+}
+
+// The group of each object, where each of the groups has `least` to `room`.
+fn parted(
+    alloc: Global,
+    distances: &Distances,
+    seeds: &[u32],
+    room: usize,
+    least: usize,
+) -> Result<Vec<Member>, Memory>
+    requires width { (0 < distances.now.width) × (distances.now.width ≤ 64) }
+    requires seeds { length seeds.now ≡ distances.now.width }
+    ensures is { IfOk result (λ v. v.items ≡ filled_from (entry distances.now.table) least 0 distances.now.width
+        (placed_from (entry distances.now.table) room 0 seeds.now 0 (replicate distances.now.width 1) (length distances.now.table))) }
+    ensures len { IfOk result (λ v. vec_len v ≡ length distances.now.table) }
+{
+    let mut placed = place_all(alloc, distances, room, seeds)?;
+    fill_up(alloc, distances, least, placed.as_mut_slice())?;
+    Ok(placed)
+}
+
+/// The groups of a set that make the entries of a node at a level above 0. The set holds places of the rows, and so do the
+/// groups. Only want of memory refuses.
+pub fn groups<R: Threads + Sync, M: Metric>(
+    rt: &R,
+    alloc: Global,
+    metric: M,
+    workers: usize,
+    rows: &Rows,
+    set: &[u32],
+    level: u32,
+    root: bool,
+    fill: &Bounds,
+) -> Result<Vec<Group>, Memory>
+    requires rows { length rows.now.points < 2 ^ 32 }
+    requires points { All (λ p. IsTrue ((M.space metric).fits p)) rows.now.points }
+    requires places { All (λ k. k < length rows.now.points) set.now }
+    requires ascends { IsStrictlyIncreasing set.now }
+    requires level { (1 ≤ level) × (level ≤ 14) }
+    requires fill { IsFill fill.now }
+    requires size { IsSized fill.now root level (length set.now) }
+    requires workers { (1 ≤ workers) × (workers ≤ 64) }
+    ensures { IfOk result (λ gs. (tags : List ℕ) → gs.items
+        ≡ groups_at (record { space = M.space metric; points = rows.now.points; tags = tags; most = fill.now.most; least = fill.now.least }) root level set.now) }
+{
+    let n = set.len();
+    let room = fill.most.pow(level);
+    let least = fill.least.pow(level);
+    let seeds = seed_places(alloc, n, group_number(fill, root, room, n))?;
+    let hands = if root || n >= LARGE { workers } else { 1 };
+    let points = points_of(alloc, metric, rows, set)?;
+    let distances = Distances::measure(rt, alloc, metric, &points, seeds.as_slice(), hands)?;
+    drop(points);
+    let placed = parted(alloc, &distances, seeds.as_slice(), room, least)?;
+    groups_of(alloc, seeds.as_slice(), set, placed.as_slice())
+}

@@ -1,0 +1,20 @@
+//! Bulk loading: how all objects are parted into groups, and each group again, down to the leaves (Ciaccia and Patella 1998),
+//! and the tree of nodes that this makes.
+#![tactic(auto)]
+
+mod building;
+mod distances;
+mod faults;
+mod filling;
+mod grouping;
+mod placing;
+mod subtree;
+
+pub use building::build;
+pub use faults::BuildFault;
+pub use grouping::groups;
+
+#[cfg(test)]
+mod building_tests;
+#[cfg(test)]
+mod tests;

@@ -1,0 +1,60 @@
+ghost use Rattle.std.specs.Prelude.{◌≡◌, ◌≤◌};
+ghost use Rattle.vector_kinds.specs.Vectors.{vector_space};
+ghost use Rattle.vector_kinds.specs.VectorLaws.{l1_axioms};
+
+use crate::Seen;
+use metric_laws::Metric;
+use vector_kinds::L1;
+
+/// L1's distances. Where exactly one of two points is among a distance's arguments, that point is noted and waits for the
+/// other.
+#[derive(Clone, Copy)]
+pub struct Meeting<'a> {
+    plain: L1,
+    first: &'a [u32],
+    second: &'a [u32],
+    seen: &'a Seen,
+}
+
+impl<'a> Meeting<'a> {
+    /// The metric on points of `dim` coordinates, over two different points that are to meet.
+    pub fn new(dim: u8, first: &'a [u32], second: &'a [u32], seen: &'a Seen) -> Self
+        requires some { 1 ≤ dim }
+        requires few { dim ≤ 64 }
+        ensures { result.plain.dim ≡ dim }
+    {
+        Meeting {
+            plain: L1::new(dim),
+            first,
+            second,
+            seen,
+        }
+    }
+
+    fn see(&self, a: &[u32], b: &[u32]) {
+        let first = a == self.first || b == self.first;
+        let second = a == self.second || b == self.second;
+        if first != second {
+            self.seen.note(first);
+        }
+    }
+}
+
+impl Metric for Meeting<'_> {
+    ghost space = { λ m. vector_space 2 m.plain.dim };
+
+    ghost axioms = { λ m. l1_axioms m.plain.dim m.plain.some m.plain.few };
+
+    fn words(&self) -> usize {
+        self.plain.words()
+    }
+
+    fn fits(&self, p: &[u32]) -> bool {
+        self.plain.fits(p)
+    }
+
+    fn dist(&self, a: &[u32], b: &[u32]) -> u64 {
+        self.see(a, b);
+        self.plain.dist(a, b)
+    }
+}
