@@ -97,6 +97,7 @@ pub fn audit_opened<D: Disk>(
         → a.nodes ≡ length (pages_at (nodes_of (reading head.now.dim live.now.pages (D.state disk.old).bytes)) live.now.height live.now.root)) }
     ensures err { IfErr result (HasFault (D.state disk.old) (D.state disk.new).faults
         (audit_fault (mix_space head.now.kind head.now.dim) (reading head.now.dim live.now.pages (D.state disk.old).bytes) live.now)) }
+    ensures later { (D.state disk.old).faults ≤ (D.state disk.new).faults }
 {
     let mut pages = DiskPages::new(disk, head.dim, live.pages);
     let mut ruler = Meter::new(space_of(head));

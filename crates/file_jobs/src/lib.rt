@@ -2,6 +2,7 @@
 #![tactic(auto)]
 
 mod jobs;
+pub mod laws;
 mod lines;
 
 pub use jobs::{

@@ -76,6 +76,12 @@ pub record Puts (texts : List (List ℕ)) (old new : Option (List ℕ)) (why : O
 
 -- ---- by status
 
+-- what a stop puts, and its status
+abbrev pub Stops : Stop → Option (List ℕ) → Option (List ℕ) → ℕ → Type 0
+Stops stop.Sink old new status = (status ≡ 4) × (new ≡ old)
+Stops stop.Disk old new status = (status ≡ 5) × AppendsPrefix old new (codes "fault disk\n")
+Stops stop.Memory old new status = (status ≡ 8) × AppendsPrefix old new (codes "fault memory\n")
+
 -- what was put behind whole texts, where `more` are the others, when a job ends with a status
 pub record Ends (status : ℕ) (said : Saying) (more : List (List ℕ)) (middle new : Option (List ℕ)) : Type 0 where
   pub done : (status ≡ 0) ⊎ (status ≡ 1) → (status ≡ said.status) × (more ≡ []) × (new ≡ middle)

@@ -20,9 +20,12 @@ Judge = Log → Option Verdict
 
 -- ---- a log
 
+-- a generation and a root
+abbrev pub state_text : List ℕ → ℕ × ℕ → List ℕ
+state_text word state = numbered word state.0 ++ numbered space state.1
+
 abbrev pub verdict_text : Verdict → List ℕ
-verdict_text (verdict.OtherState named live) =
-    numbered (codes "otherstate ") named.0 ++ numbered space named.1 ++ numbered space live.0 ++ numbered space live.1
+verdict_text (verdict.OtherState named live) = state_text (codes "otherstate ") named ++ state_text space live
 verdict_text verdict.Point = codes "point"
 verdict_text (verdict.Page fault) = codes "page " ++ page_fault_text fault
 verdict_text (verdict.WrongPage n) = numbered (codes "wrongpage ") n

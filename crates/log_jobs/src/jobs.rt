@@ -1,7 +1,7 @@
 // The jobs, from their objects to their statuses.
 ghost use Rattle.std.specs.Prelude.{◌≡◌, ◌≤◌, ◌⊎◌, IsTrue};
 ghost use Rattle.outside_io.specs.Causes.{Rose};
-ghost use Rattle.log_jobs.specs.Jobs.{IsJudgeStatus, IsLogStatus, Judges, JudgesLogs};
+ghost use Rattle.log_jobs.specs.Jobs.{IsJudgeStatus, IsLogStatus, Judges, JudgesLogs, Stops};
 ghost use Rattle.log_jobs.specs.Laws.{FaultlessIsComplete};
 
 use crate::Report;

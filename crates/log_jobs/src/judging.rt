@@ -1,5 +1,5 @@
 // The judging of logs by the pages of a tree.
-ghost use Rattle.std.specs.Prelude.{◌≡◌, ◌≢◌, ◌≤◌, ◌<◌, ◌^◌, ◌++◌, ◌∷◌, [], length, All, IsTrue, IfOk, IsErrOf, OnOk};
+ghost use Rattle.std.specs.Prelude.{◌≡◌, ◌≢◌, ◌⊎◌, ◌≤◌, ◌<◌, ◌^◌, ◌++◌, ◌∷◌, [], length, All, IsTrue, IfOk, IsErrOf, OnOk};
 ghost use Rattle.std.specs.Option.{is_none};
 ghost use Rattle.std.specs.Io.KnownBytes.{Appends};
 ghost use Rattle.outside_io.specs.Bytes.{AppendsPrefix};
@@ -118,7 +118,7 @@ fn judge_frames<M: Metric, P: Pages, K: Sink>(
     let mut sound = true;
     for log in logs {
         let is_sound = judge_frame(alloc, court, pages, frame, log, out)?;
-        sound = sound && is_sound;
+        sound &= is_sound;
         frame += 1;
     }
     Ok(sound)

@@ -11,6 +11,3 @@ mod stop;
 
 pub use jobs::{check_logs, verify_logs};
 pub use report::Report;
-
-#[cfg(test)]
-mod tests;

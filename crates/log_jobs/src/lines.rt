@@ -1,6 +1,7 @@
 // The texts on logs.
-ghost use Rattle.std.specs.Prelude.{◌≡◌, ◌++◌, OnOk, IfOk};
-ghost use Rattle.log_jobs.specs.Lines.{verdict_text, sound_frame, frame_text, end_text, log_fault_name, undecoded_text, file_text};
+ghost use Rattle.std.specs.Prelude.{◌≡◌, ◌++◌, [], false, OnOk, IfOk};
+ghost use Rattle.rows_text.specs.Texts.{query_line, text};
+ghost use Rattle.log_jobs.specs.Lines.{state_text, verdict_text, sound_frame, frame_text, end_text, log_fault_name, undecoded_text, file_text};
 
 use crate::Report;
 use file_jobs::{push_numbered, push_page_fault, rejected_text};
@@ -13,15 +14,21 @@ use rows_text::{Reply, query_text, reply_text};
 use std::alloc::Global;
 use tree_audit::AuditFault;
 
+// A word, a generation and a root.
+fn push_state(word: &[u8], state: (u64, u32), out: &mut Vec<u8>) -> Result<(), Memory>
+    ensures { OnOk result (out.new.items ≡ out.old.items ++ state_text word.now state) }
+{
+    push_numbered(word, state.0, out)?;
+    push_numbered(b" ", u64::from(state.1), out)
+}
+
 fn push_verdict(why: Verdict, out: &mut Vec<u8>) -> Result<(), Memory>
     ensures { OnOk result (out.new.items ≡ out.old.items ++ verdict_text why) }
 {
     match why {
         Verdict::OtherState { named, live } => {
-            push_numbered(b"otherstate ", named.0, out)?;
-            push_numbered(b" ", u64::from(named.1), out)?;
-            push_numbered(b" ", live.0, out)?;
-            push_numbered(b" ", u64::from(live.1), out)
+            push_state(b"otherstate ", named, out)?;
+            push_state(b" ", live, out)
         }
         Verdict::Point => out.extend_from_slice(b"point"),
         Verdict::Page(fault) => {

@@ -33,6 +33,7 @@ fn audit_file<D: Disk>(
     ensures told { IfOk result (λ found. IsTrue (D.state index.old).tells → fault_of (D.state index.old).bytes head.now live.now ≡ found) }
     ensures disk { IsErrOf result Stop.Disk → Rose (D.state index.old).faults (D.state index.new).faults }
     ensures not_sink { IsErrOf result Stop.Sink → ⊥ }
+    ensures later { (D.state index.old).faults ≤ (D.state index.new).faults }
 {
     match audit_opened(alloc, index, head, live) {
         Ok(_) => Ok(None),

@@ -1,0 +1,4 @@
+pub mod Putting
+pub mod Ending
+pub mod Within
+pub mod Judged
