@@ -1,5 +1,5 @@
 // The jobs, from their objects to their statuses.
-ghost use Rattle.std.specs.Prelude.{◌≡◌, ◌≤◌, ◌⊎◌, IsTrue};
+ghost use Rattle.std.specs.Prelude.{◌≡◌, ◌≤◌};
 ghost use Rattle.outside_io.specs.Causes.{Rose};
 ghost use Rattle.log_jobs.specs.Jobs.{IsJudgeStatus, IsLogStatus, Judges, JudgesLogs, Stops};
 ghost use Rattle.log_jobs.specs.Laws.{FaultlessIsComplete};
@@ -103,7 +103,7 @@ pub fn check_logs<D: Disk, S: Source, K: Sink>(
 ) -> Status
     ensures judges { JudgesLogs Report.Answers (D.state index.old) (D.state index.new) (S.left log_in.old) (S.left log_in.new) (K.written out.old) (K.written out.new) result.0 }
     // A log that is written complete is sound on a sound file, and its answers are those of the plain scan.
-    ensures complete { IsTrue (D.state index.old).tells → FaultlessIsComplete (D.state index.old).bytes }
+    ensures complete { FaultlessIsComplete (D.state index.old).bytes }
     ensures statuses { IsLogStatus result.0 }
     ensures input { result.0 ≡ 3 → Rose (S.faults log_in.old) (S.faults log_in.new) }
     ensures output { result.0 ≡ 4 → Rose (K.faults out.old) (K.faults out.new) }
