@@ -55,6 +55,7 @@ fn run_with<D: Disk, S: Source, L: Source, K: Sink>(
 }
 
 // The names of the files of a job.
+#[derive(Clone, Copy)]
 struct Names<'a> {
     index: &'a str,
     make: bool,
@@ -66,7 +67,16 @@ fn names_of<'a>(job: Job<&'a str>) -> Option<Names<'a>> {
     let (index, make, log) = match job {
         Job::Create { index, .. } => (index, true, None),
         Job::Audit { index, .. } => (index, false, None),
-        Job::Verify { index, log, other: None } | Job::Check { index, log, other: None } => (index, false, Some(log)),
+        Job::Verify {
+            index,
+            log,
+            other: None,
+        }
+        | Job::Check {
+            index,
+            log,
+            other: None,
+        } => (index, false, Some(log)),
         _ => return None,
     };
     Some(Names { index, make, log })

@@ -5,6 +5,8 @@ mod files;
 mod program;
 mod scan_job;
 #[cfg(test)]
+mod log_tests;
+#[cfg(test)]
 mod tests;
 
 use files::run_on_files;

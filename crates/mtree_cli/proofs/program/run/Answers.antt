@@ -3,7 +3,7 @@ use Rattle.job_words.specs.Words.{texts_of}
 use Rattle.job_words.specs.Jobs.{job_of}
 use Rattle.job_words.specs.declared.job.Job.{Job}
 use Rattle.mtree_cli.specs.Run.{Does, task_of}
-use Rattle.mtree_cli.proofs.TaskLemmas.{scan_named, unchanged, memory_does, memory_status, nothing_taken}
+use Rattle.mtree_cli.proofs.TaskLemmas.{scan_named, unchanged, memory_does, memory_status, nothing_taken, input_taken, logs_taken}
 use Rattle.mtree_cli.proofs.program.run.Goals as goal
 
 pub returns-in-Ok-Scan-clause-does : goal.returns-in-Ok-Scan-clause-does
@@ -41,3 +41,17 @@ returns-in-Ok-clause-memory g c = λ is. unchanged (g.D.Disk.state c.args.index.
 
 pub returns-in-Ok-clause-long : goal.returns-in-Ok-clause-long
 returns-in-Ok-clause-long g c = nothing_taken (g.S.Source.left c.args.input.now) (g.L.Source.left c.args.log_in.now) c.put_line.result.0 (grind (arith))
+
+pub returns-in-Ok-Scan-clause-long : goal.returns-in-Ok-Scan-clause-long
+returns-in-Ok-Scan-clause-long g c = input_taken _ _ (g.L.Source.left c.args.log_in.now) c.run_scan.result.0 c.run_scan.ensures.long
+
+pub returns-in-Ok-Verify-default-default-None-clause-long : goal.returns-in-Ok-Verify-default-default-None-clause-long
+returns-in-Ok-Verify-default-default-None-clause-long g c =
+    logs_taken (g.S.Source.left c.args.input.now) _ _ _ _ _ _ _ c.verify_logs.result.0 c.verify_logs.ensures.judges
+
+pub returns-in-Ok-Check-default-default-None-clause-long : goal.returns-in-Ok-Check-default-default-None-clause-long
+returns-in-Ok-Check-default-default-None-clause-long g c =
+    logs_taken (g.S.Source.left c.args.input.now) _ _ _ _ _ _ _ c.check_logs.result.0 c.check_logs.ensures.judges
+
+pub returns-in-Err-Memory-clause-long : goal.returns-in-Err-Memory-clause-long
+returns-in-Err-Memory-clause-long g c = nothing_taken (g.S.Source.left c.args.input.now) (g.L.Source.left c.args.log_in.now) c.end_with.result.0 (grind (arith))
