@@ -21,9 +21,7 @@ use Rattle.job_words.specs.declared.job.Job.{Job}
 use Rattle.job_words.specs.declared.job.Job.TheVariants as job
 use Rattle.job_words.specs.declared.names.SpaceName.{SpaceName}
 use Rattle.log_jobs.specs.declared.report.Report.{Report}
-use Rattle.log_jobs.specs.declared.report.Report.TheVariants as report
 use Rattle.log_jobs.specs.Jobs.{JudgesLogs}
-use Rattle.log_jobs.specs.Laws.{FaultlessIsComplete}
 use Rattle.mtree_cli.specs.Run.{Task, Does, IsStatusOf, TakesTooMuch, scan_texts}
 use Rattle.mtree_cli.specs.Run.Task.{Scans, Makes, Judges, Reports, Nothing}
 use Rattle.mtree_cli.proofs.ProgramLemmas.{always, fault_writes, memory_ends}
@@ -61,9 +59,9 @@ no_logs_judged what disk left o0 o1 line = record {
   long_line = λ is. absurd (omega arith);
 }
 
-pub does_at_memory : (task : Task) (disk : DiskState) (input left o0 o1 : Option (List ℕ)) → ((file : List ℕ) → FaultlessIsComplete file) → AppendsPrefix o0 o1 (codes "fault memory\n") → Does task disk disk input left left o0 o1 8
-does_at_memory (Scans asked) disk input left o0 o1 law line = always _ _ (λ bytes. fault_writes o0 o1 (scan_texts asked bytes) 8 _ line (λ front part. memory_ends 8 [] _ front refl part))
-does_at_memory (Makes head) disk input left o0 o1 law line = record {
+pub does_at_memory : (task : Task) (disk : DiskState) (input left o0 o1 : Option (List ℕ)) → AppendsPrefix o0 o1 (codes "fault memory\n") → Does task disk disk input left left o0 o1 8
+does_at_memory (Scans asked) disk input left o0 o1 line = always _ _ (λ bytes. fault_writes o0 o1 (scan_texts asked bytes) 8 _ line (λ front part. memory_ends 8 [] _ front refl part))
+does_at_memory (Makes head) disk input left o0 o1 line = record {
   made = λ is. ⊎_elim (λ e. absurd (omega arith)) (λ e. absurd (omega arith)) is;
   done = λ is. absurd (omega arith);
   part = λ is. absurd (omega arith);
@@ -71,7 +69,7 @@ does_at_memory (Makes head) disk input left o0 o1 law line = record {
   not_empty = λ is. absurd (omega arith);
   memory = λ is. (unchanged disk, line);
 }
-does_at_memory Judges disk input left o0 o1 law line = record {
+does_at_memory Judges disk input left o0 o1 line = record {
   unchanged = unchanged disk;
   sound = λ is. absurd (omega arith);
   rejected = λ is. absurd (omega arith);
@@ -80,12 +78,11 @@ does_at_memory Judges disk input left o0 o1 law line = record {
   not_index = λ is. absurd (omega arith);
   memory = λ is. line;
 }
-does_at_memory (Reports report.Verdicts) disk input left o0 o1 law line = no_logs_judged report.Verdicts disk left o0 o1 line
-does_at_memory (Reports report.Answers) disk input left o0 o1 law line = (no_logs_judged report.Answers disk left o0 o1 line, law disk.bytes)
-does_at_memory Nothing disk input left o0 o1 law line = inr (inr (refl, line))
+does_at_memory (Reports what) disk input left o0 o1 line = no_logs_judged what disk left o0 o1 line
+does_at_memory Nothing disk input left o0 o1 line = inr (inr (refl, line))
 
-pub memory_does : (task : Task) (disk : DiskState) (input left o0 o1 : Option (List ℕ)) (status : ℕ) → status ≡ 8 → ((file : List ℕ) → FaultlessIsComplete file) → AppendsPrefix o0 o1 (codes "fault memory\n") → Does task disk disk input left left o0 o1 status
-memory_does task disk input left o0 o1 status is law line = subst (Does task disk disk input left left o0 o1) (sym is) (does_at_memory task disk input left o0 o1 law line)
+pub memory_does : (task : Task) (disk : DiskState) (input left o0 o1 : Option (List ℕ)) (status : ℕ) → status ≡ 8 → AppendsPrefix o0 o1 (codes "fault memory\n") → Does task disk disk input left left o0 o1 status
+memory_does task disk input left o0 o1 status is line = subst (Does task disk disk input left left o0 o1) (sym is) (does_at_memory task disk input left o0 o1 line)
 
 status_eight : (task : Task) → IsStatusOf task 8
 status_eight (Scans asked) = inr (inr (inr (inr refl)))

@@ -13,7 +13,6 @@ use Rattle.file_jobs.specs.Jobs.{Creates, Audits, IsAuditStatus}
 use Rattle.log_jobs.specs.declared.report.Report.{Report}
 use Rattle.log_jobs.specs.declared.report.Report.TheVariants as report
 use Rattle.log_jobs.specs.Jobs.{JudgesLogs, IsLogStatus}
-use Rattle.log_jobs.specs.Laws.{FaultlessIsComplete}
 use Rattle.job_words.specs.declared.job.Job.TheVariants as job
 use Rattle.job_words.specs.declared.names.SpaceName.{SpaceName}
 use Rattle.metric_mix.specs.MixSpaces.{mix_space}
@@ -101,14 +100,13 @@ task_of (Some (job.Verify index log None)) = Reports report.Verdicts
 task_of (Some (job.Check index log None)) = Reports report.Answers
 task_of other = Nothing
 
--- What a run does to the disk and writes, where `input` is what was left to read, and `left0` and `left1` are what is left of
--- the logs. What `check` says is so.
+-- what a run does to the disk and writes, where `input` is what was left to read, and `left0` and `left1` are what is left of
+-- the logs
 abbrev pub Does : Task → DiskState → DiskState → Option (List ℕ) → Option (List ℕ) → Option (List ℕ) → Option (List ℕ) → Option (List ℕ) → ℕ → Type 0
 Does (Scans asked) disk0 disk1 input left0 left1 out0 out1 status = IfSome input (λ bytes. WritesScan out0 out1 (scan_texts asked bytes) status)
 Does (Makes head) disk0 disk1 input left0 left1 out0 out1 status = Creates head disk0 disk1 out0 out1 status
 Does Judges disk0 disk1 input left0 left1 out0 out1 status = Audits disk0 disk1 out0 out1 status
-Does (Reports report.Verdicts) disk0 disk1 input left0 left1 out0 out1 status = JudgesLogs report.Verdicts disk0 disk1 left0 left1 out0 out1 status
-Does (Reports report.Answers) disk0 disk1 input left0 left1 out0 out1 status = JudgesLogs report.Answers disk0 disk1 left0 left1 out0 out1 status × FaultlessIsComplete disk0.bytes
+Does (Reports what) disk0 disk1 input left0 left1 out0 out1 status = JudgesLogs what disk0 disk1 left0 left1 out0 out1 status
 Does Nothing disk0 disk1 input left0 left1 out0 out1 status = WritesUsage out0 out1 status
 
 -- the task takes no index

@@ -8,14 +8,17 @@ use std::test::Fail;
 
 // The fields of the pages of a small index: an insert of (3, 4) into an empty one under L1.
 const HEAD: [u8; 20] = *b"MTREEIDX\0\x02\x02\x02\x02\x01\0\0\x01\0\0\0";
+
 const FIRST: [u8; 32] = [
     0xa5, 0, 0, 0, 0, 0, 0, 0, 0, 0, 0, 0, 0, 0, 0, 1, 0, 0, 0, 3, 0, 0, 0, 0, 0, 0, 0, 0, 0, 0, 0,
     4,
 ];
+
 const SECOND: [u8; 32] = [
     0xa5, 0, 0, 0, 0, 0, 0, 0, 0, 0, 0, 0, 0, 0, 0, 2, 0, 0, 0, 4, 0, 0, 0, 0, 0, 0, 0, 1, 0, 0, 0,
     5,
 ];
+
 const LEAF: [u8; 44] = [
     0, 0, 0, 1, 0, 0, 0, 0, 0, 0, 0, 0, 0, 0, 0, 0, 0, 0, 0, 0, 0, 0, 0, 0, 0, 0, 0, 0, 0, 0, 0, 0,
     0, 0, 0, 0, 0, 0, 0, 3, 0, 0, 0, 4,
@@ -23,9 +26,9 @@ const LEAF: [u8; 44] = [
 
 // The frame of the log of `range,7,0,0` on it.
 const FRAME: [u8; 69] = [
-    0, 0, 0, 0, 0, 0, 0, 61, 0x4d, 0x54, 0x4c, 0x47, 1, 1, 0, 0, 0, 0, 0, 0, 0, 2, 0, 0, 0, 4, 0, 0,
-    0, 0, 0, 0, 0, 7, 2, 0, 0, 0, 0, 0, 0, 0, 0, 0, 0, 0, 1, 0, 0, 0, 0, 0, 0, 0, 0, 0, 0, 0, 7, 0,
-    0, 0, 1, 0, 0, 0, 4, 1, 2,
+    0, 0, 0, 0, 0, 0, 0, 61, 0x4d, 0x54, 0x4c, 0x47, 1, 1, 0, 0, 0, 0, 0, 0, 0, 2, 0, 0, 0, 4, 0,
+    0, 0, 0, 0, 0, 0, 7, 2, 0, 0, 0, 0, 0, 0, 0, 0, 0, 0, 0, 1, 0, 0, 0, 0, 0, 0, 0, 0, 0, 0, 0, 7,
+    0, 0, 0, 1, 0, 0, 0, 4, 1, 2,
 ];
 
 // Puts bytes into a file.
@@ -182,9 +185,24 @@ fn logs_that_are_accepted(rt: HostRuntime) -> Result<(), Fail> {
 #[test]
 fn logs_that_are_rejected(rt: HostRuntime) -> Result<(), Fail> {
     let rejected: [(usize, u8, &str, &str); 7] = [
-        (35, 255, "log rejected cut\n", "file sound\nlog rejected cut\n"),
-        (60, 3, "log rejected mark\n", "file sound\nlog rejected mark\n"),
-        (59, 0, "log rejected tail\n", "file sound\nlog rejected tail\n"),
+        (
+            35,
+            255,
+            "log rejected cut\n",
+            "file sound\nlog rejected cut\n",
+        ),
+        (
+            60,
+            3,
+            "log rejected mark\n",
+            "file sound\nlog rejected mark\n",
+        ),
+        (
+            59,
+            0,
+            "log rejected tail\n",
+            "file sound\nlog rejected tail\n",
+        ),
         (
             60,
             1,
@@ -261,13 +279,20 @@ fn files_that_are_rejected(rt: HostRuntime) -> Result<(), Fail> {
         (8219, 2, 0, VERIFY.output, 1, "file rejected count 2 1\n"),
         (
             16384,
-            7,
+            15,
             1,
             "frame 0 rejected page bad 4 kind\nlog rejected\n",
             1,
             "file rejected page bad 4 kind\n",
         ),
-        (9, 1, 6, "fault notindex version\n", 6, "fault notindex version\n"),
+        (
+            9,
+            1,
+            6,
+            "fault notindex version\n",
+            6,
+            "fault notindex version\n",
+        ),
     ];
     for (at, byte, verify_status, verified, check_status, checked) in &cases {
         let case = Case {

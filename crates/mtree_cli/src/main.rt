@@ -2,10 +2,10 @@
 #![tactic(auto)]
 
 mod files;
-mod program;
-mod scan_job;
 #[cfg(test)]
 mod log_tests;
+mod program;
+mod scan_job;
 #[cfg(test)]
 mod tests;
 

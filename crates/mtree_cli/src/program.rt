@@ -1,4 +1,4 @@
-ghost use Rattle.std.specs.Prelude.{◌≡◌, ◌⊎◌, ◌≤◌, ◌^◌, length, IfSome};
+ghost use Rattle.std.specs.Prelude.{◌≡◌, ◌⊎◌, ◌≤◌, ◌^◌, List, ℕ, length, IfSome};
 ghost use Rattle.std.specs.Io.KnownBytes.{IsAtEnd};
 ghost use Rattle.outside_io.specs.Causes.{Rose};
 ghost use Rattle.disk_model.specs.Disk.{IsUnchanged};
@@ -6,6 +6,7 @@ ghost use Rattle.job_words.specs.Words.{texts_of};
 ghost use Rattle.job_words.specs.Jobs.{job_of};
 ghost use Rattle.job_words.specs.Lawful.{IsLawfulSpace, IsLimit};
 ghost use Rattle.node_page.specs.Heads.{IsLawfulHead};
+ghost use Rattle.log_jobs.specs.Laws.{FaultlessIsComplete};
 ghost use Rattle.mtree_cli.specs.Run.{Asked, Does, HasNoScan, IsScan, IsStatusOf, TakesNoIndex, TakesNoLog, TakesTooMuch, new_head, task_of};
 
 use crate::scan_job::run_scan;
@@ -57,6 +58,9 @@ pub fn run<D: Disk, E: Disk, S: Source, L: Source, K: Sink, T: Sink>(
     ensures does { Does (task_of (job_of (texts_of words.now))) (D.state index.old) (D.state index.new)
         (S.left input.old) (L.left log_in.old) (L.left log_in.new) (K.written out.old) (K.written out.new) result.0 }
 
+    // What `check` says of a file and of its logs is so: no fault is soundness, and a complete log has the plain scan's answers.
+    ensures check_is_true { (file : List ℕ) → FaultlessIsComplete file }
+
     // There are no other answers.
     ensures statuses { IsStatusOf (task_of (job_of (texts_of words.now))) result.0 }
 
@@ -84,6 +88,7 @@ pub fn run<D: Disk, E: Disk, S: Source, L: Source, K: Sink, T: Sink>(
         ¬ Rose (S.faults input.old) (S.faults input.new) → ¬ Rose (K.faults out.old) (K.faults out.new) → (result.0 ≡ 0) ⊎ (result.0 ≡ 8)) }
     ensures counts { (S.faults input.old ≤ S.faults input.new) × (L.faults log_in.old ≤ L.faults log_in.new) × (K.faults out.old ≤ K.faults out.new) }
 {
+    faultless_is_complete();
     match read_job(alloc, words) {
         Ok(
             Job::Scan {
@@ -104,9 +109,6 @@ pub fn run<D: Disk, E: Disk, S: Source, L: Source, K: Sink, T: Sink>(
         Ok(Job::Verify { other: None, .. }) => verify_logs(alloc, index, log_in, out),
         Ok(Job::Check { other: None, .. }) => check_logs(alloc, index, log_in, out),
         Ok(_) | Err(JobFault::Usage) => put_line(out, USAGE, 2),
-        Err(JobFault::Memory) => {
-            faultless_is_complete();
-            end_with(out, FAULT_MEMORY, 8)
-        }
+        Err(JobFault::Memory) => end_with(out, FAULT_MEMORY, 8),
     }
 }

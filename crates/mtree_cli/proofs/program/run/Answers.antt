@@ -28,7 +28,7 @@ pub returns-in-Ok-Audit-clause-long : goal.returns-in-Ok-Audit-clause-long
 returns-in-Ok-Audit-clause-long g c = nothing_taken (g.S.Source.left c.args.input.now) (g.L.Source.left c.args.log_in.now) c.audit_index.result.0 (grind (arith))
 
 pub returns-in-Err-Memory-clause-does : goal.returns-in-Err-Memory-clause-does
-returns-in-Err-Memory-clause-does g c = memory_does (task_of (job_of (texts_of c.args.words.now))) (g.D.Disk.state c.args.index.now) (g.S.Source.left c.args.input.now) (g.L.Source.left c.args.log_in.now) _ _ c.end_with.result.0 c.end_with.ensures.status c.faultless_is_complete.ensures c.end_with.ensures.line
+returns-in-Err-Memory-clause-does g c = memory_does (task_of (job_of (texts_of c.args.words.now))) (g.D.Disk.state c.args.index.now) (g.S.Source.left c.args.input.now) (g.L.Source.left c.args.log_in.now) _ _ c.end_with.result.0 c.end_with.ensures.status c.end_with.ensures.line
 
 pub returns-in-Err-Memory-clause-memory : goal.returns-in-Err-Memory-clause-memory
 returns-in-Err-Memory-clause-memory g c = λ is. unchanged (g.D.Disk.state c.args.index.now)
