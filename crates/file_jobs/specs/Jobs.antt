@@ -29,6 +29,21 @@ pub record Creates (head : Head) (disk0 disk1 : DiskState) (out0 out1 : Option (
   pub disk : status ≡ 5 → Rose disk0.faults disk1.faults × AppendsPrefix out0 out1 (codes "fault disk\n")
   -- the file held something, and holds it still
   pub not_empty : status ≡ 6 → (IsTrue disk0.tells → 0 < length disk0.bytes) × IsUnchanged disk0 disk1 × AppendsPrefix out0 out1 (codes "fault notindex notempty\n")
+  pub memory : status ≡ 8 → IsUnchanged disk0 disk1 × AppendsPrefix out0 out1 (codes "fault memory\n")
+
+-- ---- opening
+
+-- the file does not open, or is of the first version, as this word says
+abbrev pub IsNoIndex : List ℕ → List ℕ → Type 0
+IsNoIndex file name =
+    ((why : Unopened) × (open_fault file ≡ Some why) × (name ≡ unopened_name why))
+    ⊎ ((head : Head) × (live : Live) × OpensTo file head live × (head.version ≡ 1) × (name ≡ codes "version"))
+
+-- an index was not opened: the disk failed, or the file is no index of version 2
+pub record Refuses (disk0 disk1 : DiskState) (out0 out1 : Option (List ℕ)) (status : ℕ) : Type 0 where
+  pub disk : status ≡ 5 → Rose disk0.faults disk1.faults × AppendsPrefix out0 out1 (codes "fault disk\n")
+  pub not_index : status ≡ 6 → (name : List ℕ) × AppendsPrefix out0 out1 (not_index_text name) × (IsTrue disk0.tells → IsNoIndex disk0.bytes name)
+  pub statuses : (status ≡ 5) ⊎ (status ≡ 6)
 
 -- ---- audit
 
@@ -46,17 +61,15 @@ pub record IsSoundWith (file : List ℕ) (objects nodes : ℕ) : Type 0 where
   pub objects_are : objects ≡ audited.live.count
   pub nodes_are : nodes ≡ length (pages_at (nodes_of (reading audited.head.dim audited.live.pages file)) audited.live.height audited.live.root)
 
--- the file does not open, or is of the first version, as this word says
-abbrev pub IsNoIndex : List ℕ → List ℕ → Type 0
-IsNoIndex file name =
-    ((why : Unopened) × (open_fault file ≡ Some why) × (name ≡ unopened_name why))
-    ⊎ ((head : Head) × (live : Live) × OpensTo file head live × (head.version ≡ 1) × (name ≡ codes "version"))
-
 -- what stands on out when `audit` ends
 pub record Audits (disk0 disk1 : DiskState) (out0 out1 : Option (List ℕ)) (status : ℕ) : Type 0 where
   pub unchanged : IsUnchanged disk0 disk1
   pub sound : status ≡ 0 → (objects : ℕ) × (nodes : ℕ) × Appends out0 out1 (sound_text objects nodes) × (IsTrue disk0.tells → IsSoundWith disk0.bytes objects nodes)
   pub rejected : status ≡ 1 → (fault : AuditFault) × Appends out0 out1 (rejected_text fault) × (IsTrue disk0.tells → IsAudited disk0.bytes (Some fault))
+  -- a front of the lines
+  pub part : status ≡ 4 →
+      ((objects : ℕ) × (nodes : ℕ) × AppendsPrefix out0 out1 (sound_text objects nodes) × (IsTrue disk0.tells → IsSoundWith disk0.bytes objects nodes))
+      ⊎ ((fault : AuditFault) × AppendsPrefix out0 out1 (rejected_text fault) × (IsTrue disk0.tells → IsAudited disk0.bytes (Some fault)))
   pub disk : status ≡ 5 → Rose disk0.faults disk1.faults × AppendsPrefix out0 out1 (codes "fault disk\n")
   pub not_index : status ≡ 6 → (name : List ℕ) × AppendsPrefix out0 out1 (not_index_text name) × (IsTrue disk0.tells → IsNoIndex disk0.bytes name)
   pub memory : status ≡ 8 → AppendsPrefix out0 out1 (codes "fault memory\n")

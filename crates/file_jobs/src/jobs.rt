@@ -1,7 +1,7 @@
 // The jobs on files.
-ghost use Rattle.std.specs.Prelude.{◌≡◌, ◌≢◌, ◌⊎◌, ◌≤◌, ◌^◌, ℕ, List, None, length, IsTrue, IfOk, IfErr, codes};
+ghost use Rattle.std.specs.Prelude.{◌≡◌, ◌≢◌, ◌⊎◌, ◌≤◌, ◌^◌, ℕ, List, None, length, IsTrue, IfOk, IfErr, OnOk, codes};
 ghost use Rattle.disk_model.specs.Disk.{IsUnchanged};
-ghost use Rattle.metric_mix.specs.MixSpaces.{is_lawful, mix_space};
+ghost use Rattle.metric_mix.specs.MixSpaces.{mix_space};
 ghost use Rattle.tree_shape.specs.Tree.{pages_at};
 ghost use Rattle.page_store.specs.Reading.{reading, nodes_of};
 ghost use Rattle.tree_audit.specs.Audited.{audit_fault};
@@ -9,7 +9,8 @@ ghost use Rattle.std.specs.Io.KnownBytes.{Appends};
 ghost use Rattle.outside_io.specs.Bytes.{AppendsPrefix};
 ghost use Rattle.outside_io.specs.Causes.{Rose};
 ghost use Rattle.node_page.specs.Heads.{IsLawfulHead};
-ghost use Rattle.file_jobs.specs.Jobs.{Creates, Audits, HasFault, IsPassing, IsAuditStatus};
+ghost use Rattle.node_page.specs.Opening.{OpensTo};
+ghost use Rattle.file_jobs.specs.Jobs.{Creates, Refuses, Audits, HasFault, IsPassing, IsAuditStatus};
 ghost use Rattle.file_jobs.specs.Lines.{unopened_text, rejected_text, sound_text};
 ghost use Rattle.metric_mix.specs.MixKinds.{mix_kind, mix_dim};
 
@@ -67,11 +68,9 @@ fn unopened_line(fault: OpenFault) -> &'static [u8]
     }
 }
 
-// The space of a head.
-fn space_of(head: &Head) -> MixSpace
-    requires low { 1 ≤ head.now.kind }
-    requires high { head.now.kind ≤ 8 }
-    requires lawful { IsTrue (is_lawful head.now.kind head.now.dim) }
+/// The space of a head.
+pub fn space_of(head: &Head) -> MixSpace
+    requires { IsLawfulHead head.now }
     ensures kind { mix_kind result ≡ head.now.kind }
     ensures dim { mix_dim result ≡ head.now.dim }
 {
@@ -81,8 +80,8 @@ fn space_of(head: &Head) -> MixSpace
     }
 }
 
-// The audit of an opened file.
-fn audit_opened<D: Disk>(
+/// The audit of an opened file of version 2. `AuditFault::Page` with `PageFault::Disk` comes where the disk failed.
+pub fn audit_opened<D: Disk>(
     alloc: Global,
     disk: &mut D,
     head: &Head,
@@ -98,6 +97,7 @@ fn audit_opened<D: Disk>(
         → a.nodes ≡ length (pages_at (nodes_of (reading head.now.dim live.now.pages (D.state disk.old).bytes)) live.now.height live.now.root)) }
     ensures err { IfErr result (HasFault (D.state disk.old) (D.state disk.new).faults
         (audit_fault (mix_space head.now.kind head.now.dim) (reading head.now.dim live.now.pages (D.state disk.old).bytes) live.now)) }
+    ensures later { (D.state disk.old).faults ≤ (D.state disk.new).faults }
 {
     let mut pages = DiskPages::new(disk, head.dim, live.pages);
     let mut ruler = Meter::new(space_of(head));
@@ -107,7 +107,8 @@ fn audit_opened<D: Disk>(
 // Ends an audit whose index is rejected, or that could not go on.
 fn end_rejected<K: Sink>(alloc: Global, fault: AuditFault, out: &mut K) -> Status
     ensures rejected { result.0 ≡ 1 → Appends (K.written out.old) (K.written out.new) (rejected_text fault) }
-    ensures kind { result.0 ≡ 1 → IsPassing fault → ⊥ }
+    ensures part { result.0 ≡ 4 → AppendsPrefix (K.written out.old) (K.written out.new) (rejected_text fault) }
+    ensures kind { (result.0 ≡ 1) ⊎ (result.0 ≡ 4) → IsPassing fault → ⊥ }
     ensures disk { result.0 ≡ 5 → (fault ≡ AuditFault.Page PageFault.Disk) × AppendsPrefix (K.written out.old) (K.written out.new) (codes "fault disk\n") }
     ensures memory { result.0 ≡ 8 → AppendsPrefix (K.written out.old) (K.written out.new) (codes "fault memory\n") }
     ensures statuses { (result.0 ≡ 1) ⊎ ((result.0 ≡ 4) ⊎ ((result.0 ≡ 5) ⊎ (result.0 ≡ 8))) }
@@ -142,6 +143,7 @@ fn end_unopened<K: Sink>(fault: OpenFault, out: &mut K) -> Status
 // Ends an audit of a sound index.
 fn end_sound<K: Sink>(alloc: Global, audited: &Audited, out: &mut K) -> Status
     ensures sound { result.0 ≡ 0 → Appends (K.written out.old) (K.written out.new) (sound_text audited.now.objects audited.now.nodes) }
+    ensures part { result.0 ≡ 4 → AppendsPrefix (K.written out.old) (K.written out.new) (sound_text audited.now.objects audited.now.nodes) }
     ensures memory { result.0 ≡ 8 → AppendsPrefix (K.written out.old) (K.written out.new) (codes "fault memory\n") }
     ensures statuses { (result.0 ≡ 0) ⊎ ((result.0 ≡ 4) ⊎ (result.0 ≡ 8)) }
     ensures later { K.faults out.old ≤ K.faults out.new }
@@ -150,6 +152,31 @@ fn end_sound<K: Sink>(alloc: Global, audited: &Audited, out: &mut K) -> Status
     match sound_text(alloc, audited) {
         Ok(text) => put_line(out, &text, 0),
         Err(_) => end_with(out, FAULT_MEMORY, 8),
+    }
+}
+
+/// Opens an index of version 2. Else it writes why it is none, and answers the status: 5 where the disk failed, and 6 where
+/// the file is no index of version 2. Nothing is changed.
+pub fn open_index<D: Disk, K: Sink>(disk: &mut D, out: &mut K) -> Result<(Head, Live), Status>
+    ensures same { IsUnchanged (D.state disk.old) (D.state disk.new) }
+    ensures opens { IfOk result (λ opened. IsTrue (D.state disk.old).tells → OpensTo (D.state disk.old).bytes opened.0 opened.1) }
+    ensures version { IfOk result (λ opened. opened.0.version ≡ 2) }
+    // Also of a disk that does not tell its bytes what is answered is lawful.
+    ensures head { IfOk result (λ opened. IsLawfulHead opened.0) }
+    ensures pages { IfOk result (λ opened. opened.1.pages ≤ 2 ^ 24) }
+    ensures silent { OnOk result (out.new ≡ out.old) }
+    ensures refuses { IfErr result (λ status. Refuses (D.state disk.old) (D.state disk.new) (K.written out.old) (K.written out.new) status.0) }
+    ensures later { (D.state disk.old).faults ≤ (D.state disk.new).faults }
+    ensures written_later { K.faults out.old ≤ K.faults out.new }
+{
+    match open(disk) {
+        Ok((head, live)) => {
+            if head.version != 2 {
+                return Err(end_with(out, b"fault notindex version\n", 6));
+            }
+            Ok((head, live))
+        }
+        Err(fault) => Err(end_unopened(fault, out)),
     }
 }
 
@@ -162,13 +189,10 @@ pub fn audit_index<D: Disk, K: Sink>(alloc: Global, disk: &mut D, out: &mut K) -
     ensures later { K.faults out.old ≤ K.faults out.new }
     ensures rose { result.0 ≡ 4 → Rose (K.faults out.old) (K.faults out.new) }
 {
-    let (head, live) = match open(disk) {
+    let (head, live) = match open_index(disk, out) {
         Ok(opened) => opened,
-        Err(fault) => return end_unopened(fault, out),
+        Err(status) => return status,
     };
-    if head.version != 2 {
-        return end_with(out, b"fault notindex version\n", 6);
-    }
     match audit_opened(alloc, disk, &head, &live) {
         Ok(audited) => end_sound(alloc, &audited, out),
         Err(fault) => end_rejected(alloc, fault, out),

@@ -2,10 +2,15 @@
 #![tactic(auto)]
 
 mod jobs;
+pub mod laws;
 mod lines;
 
-pub use jobs::{FAULT_DISK, FAULT_MEMORY, audit_index, create_index};
-pub use lines::{end_with, put_line, rejected_text, sound_text};
+pub use jobs::{
+    FAULT_DISK, FAULT_MEMORY, audit_index, audit_opened, create_index, open_index, space_of,
+};
+pub use lines::{
+    end_with, push_numbered, push_page_fault, put_line, rejected_text, sound_text,
+};
 
 #[cfg(test)]
 mod tests;

@@ -37,8 +37,8 @@ pub fn put_line<K: Sink>(out: &mut K, line: &[u8], status: u8) -> Status
     }
 }
 
-// A word and a number.
-fn push_numbered(word: &[u8], n: u64, out: &mut Vec<u8>) -> Result<(), Memory>
+/// Appends a word and a number.
+pub fn push_numbered(word: &[u8], n: u64, out: &mut Vec<u8>) -> Result<(), Memory>
     ensures { OnOk result (out.new.items ≡ out.old.items ++ numbered word.now n) }
 {
     out.extend_from_slice(word)?;
@@ -58,7 +58,8 @@ fn node_fault_name(fault: NodeFault) -> &'static [u8]
     }
 }
 
-fn push_page_fault(fault: PageFault, out: &mut Vec<u8>) -> Result<(), Memory>
+/// Appends why a page gave no node.
+pub fn push_page_fault(fault: PageFault, out: &mut Vec<u8>) -> Result<(), Memory>
     ensures { OnOk result (out.new.items ≡ out.old.items ++ page_fault_text fault) }
 {
     match fault {

@@ -1,9 +1,10 @@
 -- What stands of each task where a run met want of memory before it began.
-use Rattle.std.proofs.Common.{◌≡◌, ◌≢◌, inr, ⊎_elim, ℕ, ◌≤◌, ◌%◌, ◌<◌, length, List, [], Option, Some, Bool, true, IsTrue, refl, sym, ◌∙◌, ap, subst, arith}
-use Rattle.std.specs.Prelude.{codes}
+use Rattle.std.proofs.Common.{◌≡◌, ◌≢◌, inl, inr, ⊎_elim, ℕ, ◌≤◌, ◌%◌, ◌<◌, length, List, [], Option, Some, Bool, true, IsTrue, refl, sym, ◌∙◌, ap, subst, arith}
+use Rattle.std.specs.Prelude.{codes, ◌↔◌}
 use Rattle.std.specs.Io.KnownBytes.{Consumes}
 use Rattle.std.proofs.KnownBytes.{Consumes-nil}
 use Rattle.outside_io.specs.Bytes.{AppendsPrefix}
+use Rattle.outside_io.specs.Causes.{Rose}
 use Rattle.disk_model.specs.Disk.{DiskState, IsUnchanged, MayLeave}
 use Rattle.disk_model.specs.Moments.{started}
 use Rattle.node_page.specs.Heads.{is_version, is_space, is_policy, is_limit}
@@ -19,8 +20,10 @@ use Rattle.job_words.specs.Jobs.{job_of, texts_in}
 use Rattle.job_words.specs.declared.job.Job.{Job}
 use Rattle.job_words.specs.declared.job.Job.TheVariants as job
 use Rattle.job_words.specs.declared.names.SpaceName.{SpaceName}
-use Rattle.mtree_cli.specs.Run.{Task, Does, IsStatusOf, scan_texts}
-use Rattle.mtree_cli.specs.Run.Task.{Scans, Makes, Judges, Nothing}
+use Rattle.log_jobs.specs.declared.report.Report.{Report}
+use Rattle.log_jobs.specs.Jobs.{JudgesLogs}
+use Rattle.mtree_cli.specs.Run.{Task, Does, IsStatusOf, TakesTooMuch, scan_texts}
+use Rattle.mtree_cli.specs.Run.Task.{Scans, Makes, Judges, Reports, Nothing}
 use Rattle.mtree_cli.proofs.ProgramLemmas.{always, fault_writes, memory_ends}
 
 -- the words of a scan
@@ -36,40 +39,76 @@ unchanged disk = record {
   time = started disk (MayLeave disk) (λ image left. left);
 }
 
-pub does_at_memory : (task : Task) (disk : DiskState) (input o0 o1 : Option (List ℕ)) → AppendsPrefix o0 o1 (codes "fault memory\n") → Does task disk disk input o0 o1 8
-does_at_memory (Scans asked) disk input o0 o1 line = always _ _ (λ bytes. fault_writes o0 o1 (scan_texts asked bytes) 8 _ line (λ front part. memory_ends 8 [] _ front refl part))
-does_at_memory (Makes head) disk input o0 o1 line = record {
+-- no logs were taken
+no_logs_judged : (what : Report) (disk : DiskState) (left o0 o1 : Option (List ℕ)) → AppendsPrefix o0 o1 (codes "fault memory\n") → JudgesLogs what disk disk left left o0 o1 8
+no_logs_judged what disk left o0 o1 line = record {
+  bytes = [];
+  taken = Consumes-nil left;
+  long = (λ is. absurd (omega arith), λ many. absurd (omega arith));
+  all = λ a b other. absurd (other refl);
+  judges = λ a b. record {
+    unchanged = unchanged disk;
+    done = λ is. ⊎_elim (λ e. absurd (omega arith)) (λ e. absurd (omega arith)) is;
+    output = λ is. absurd (omega arith);
+    disk = λ is. absurd (omega arith);
+    not_index = λ is. absurd (omega arith);
+    memory = λ is. inl line;
+  };
+  unchanged = unchanged disk;
+  input_line = λ is. absurd (omega arith);
+  long_line = λ is. absurd (omega arith);
+}
+
+pub does_at_memory : (task : Task) (disk : DiskState) (input left o0 o1 : Option (List ℕ)) → AppendsPrefix o0 o1 (codes "fault memory\n") → Does task disk disk input left left o0 o1 8
+does_at_memory (Scans asked) disk input left o0 o1 line = always _ _ (λ bytes. fault_writes o0 o1 (scan_texts asked bytes) 8 _ line (λ front part. memory_ends 8 [] _ front refl part))
+does_at_memory (Makes head) disk input left o0 o1 line = record {
   made = λ is. ⊎_elim (λ e. absurd (omega arith)) (λ e. absurd (omega arith)) is;
   done = λ is. absurd (omega arith);
   part = λ is. absurd (omega arith);
   disk = λ is. absurd (omega arith);
   not_empty = λ is. absurd (omega arith);
+  memory = λ is. (unchanged disk, line);
 }
-does_at_memory Judges disk input o0 o1 line = record {
+does_at_memory Judges disk input left o0 o1 line = record {
   unchanged = unchanged disk;
   sound = λ is. absurd (omega arith);
   rejected = λ is. absurd (omega arith);
+  part = λ is. absurd (omega arith);
   disk = λ is. absurd (omega arith);
   not_index = λ is. absurd (omega arith);
   memory = λ is. line;
 }
-does_at_memory Nothing disk input o0 o1 line = inr (inr (refl, line))
+does_at_memory (Reports what) disk input left o0 o1 line = no_logs_judged what disk left o0 o1 line
+does_at_memory Nothing disk input left o0 o1 line = inr (inr (refl, line))
 
-pub memory_does : (task : Task) (disk : DiskState) (input o0 o1 : Option (List ℕ)) (status : ℕ) → status ≡ 8 → AppendsPrefix o0 o1 (codes "fault memory\n") → Does task disk disk input o0 o1 status
-memory_does task disk input o0 o1 status is line = subst (Does task disk disk input o0 o1) (sym is) (does_at_memory task disk input o0 o1 line)
+pub memory_does : (task : Task) (disk : DiskState) (input left o0 o1 : Option (List ℕ)) (status : ℕ) → status ≡ 8 → AppendsPrefix o0 o1 (codes "fault memory\n") → Does task disk disk input left left o0 o1 status
+memory_does task disk input left o0 o1 status is line = subst (Does task disk disk input left left o0 o1) (sym is) (does_at_memory task disk input left o0 o1 line)
 
 status_eight : (task : Task) → IsStatusOf task 8
 status_eight (Scans asked) = inr (inr (inr (inr refl)))
 status_eight (Makes head) = inr (inr (inr (inr refl)))
 status_eight Judges = inr (inr (inr (inr (inr refl))))
+status_eight (Reports what) = inr (inr (inr (inr (inr (inr (inr refl))))))
 status_eight Nothing = inr (inr refl)
 
 pub memory_status : (task : Task) (status : ℕ) → status ≡ 8 → IsStatusOf task status
 memory_status task status is = subst (IsStatusOf task) (sym is) (status_eight task)
 
--- nothing was taken, and the status is not that of too long an input
-pub nothing_taken : (left : Option (List ℕ)) (status : ℕ) → status ≢ 7 → (bs : List ℕ) × Consumes left left bs × ((status ≡ 7 → 67108864 < length bs) × (67108864 < length bs → status ≡ 7))
-nothing_taken left status other = ([], Consumes-nil left, (λ is. absurd (other is), λ long. absurd (omega arith)))
+-- nothing was taken, and the status is not that of too much
+pub nothing_taken : (input left : Option (List ℕ)) (status : ℕ) → status ≢ 7 → TakesTooMuch input input left left status
+nothing_taken input left status other = ([], [], Consumes-nil input, Consumes-nil left, (λ is. absurd (other is), λ long. ⊎_elim (λ l. absurd (omega arith)) (λ l. absurd (omega arith)) long))
+
+-- input alone was taken
+pub input_taken : (input0 input1 left : Option (List ℕ)) (status : ℕ) → ((bs : List ℕ) × Consumes input0 input1 bs × ((status ≡ 7) ↔ (67108864 < length bs))) → TakesTooMuch input0 input1 left left status
+input_taken input0 input1 left status took = (took.0, [], took.1, Consumes-nil left, (λ is. inl (took.2.0 is), λ long. ⊎_elim (λ l. took.2.1 l) (λ l. absurd (omega arith)) long))
+
+-- logs alone were taken
+pub logs_taken : (input left0 left1 : Option (List ℕ)) (what : Report) (d0 d1 : DiskState) (o0 o1 : Option (List ℕ)) (status : ℕ) → JudgesLogs what d0 d1 left0 left1 o0 o1 status → TakesTooMuch input input left0 left1 status
+logs_taken input left0 left1 what d0 d1 o0 o1 status told = ([], told.bytes, Consumes-nil input, told.taken, (λ is. inr (told.long.0 is), λ long. ⊎_elim (λ l. absurd (omega arith)) (λ l. told.long.1 l) long))
+
+-- the disk's failure is told only where it failed
+pub logs_rose : (left0 left1 : Option (List ℕ)) (what : Report) (d0 d1 : DiskState) (o0 o1 : Option (List ℕ)) (status : ℕ) → JudgesLogs what d0 d1 left0 left1 o0 o1 status → status ≡ 5 → Rose d0.faults d1.faults
+logs_rose left0 left1 what d0 d1 o0 o1 status told is = ((told.judges (omega arith) (omega arith)).disk is).0
 
 -- a lawful space is one of a head
 pub lawful_space : (metric : MetricName) (dim : ℕ) → 1 ≤ dim → dim ≤ 64 → (is_halved metric ≡ true → dim % 2 ≡ 0) → IsTrue (is_space (kind_of metric) dim)

@@ -1,7 +1,7 @@
 -- What a run does for the words that it is given.
-use Rattle.std.specs.Prelude.{◌≡◌, ◌⊎◌, ℕ, Bool, Option, Some, List, [], ◌++◌, codes, IfSome}
+use Rattle.std.specs.Prelude.{◌≡◌, ◌⊎◌, ◌↔◌, ◌<◌, ◌^◌, ℕ, Bool, Option, Some, None, List, [], ◌++◌, length, codes, IfSome}
 use Rattle.std.specs.List.{concat}
-use Rattle.std.specs.Io.KnownBytes.{Appends}
+use Rattle.std.specs.Io.KnownBytes.{Appends, Consumes}
 use Rattle.outside_io.specs.Bytes.{AppendsPrefix}
 use Rattle.job_words.specs.Jobs.{job_of}
 use Rattle.job_words.specs.Names.{kind_of, promote_number, split_number}
@@ -10,6 +10,9 @@ use Rattle.job_words.specs.declared.names.PolicyNames.{PolicyNames}
 use Rattle.disk_model.specs.Disk.{DiskState}
 use Rattle.node_page.specs.declared.head.Head.{Head}
 use Rattle.file_jobs.specs.Jobs.{Creates, Audits, IsAuditStatus}
+use Rattle.log_jobs.specs.declared.report.Report.{Report}
+use Rattle.log_jobs.specs.declared.report.Report.TheVariants as report
+use Rattle.log_jobs.specs.Jobs.{JudgesLogs, IsLogStatus}
 use Rattle.job_words.specs.declared.job.Job.TheVariants as job
 use Rattle.job_words.specs.declared.names.SpaceName.{SpaceName}
 use Rattle.metric_mix.specs.MixSpaces.{mix_space}
@@ -86,27 +89,47 @@ pub data Task : Type 0 where
   Scans : Asked → Task
   Makes : Head → Task
   Judges : Task
+  Reports : Report → Task
   Nothing : Task
 
 abbrev pub task_of : Option (Job (List ℕ)) → Task
 task_of (Some (job.Scan space limit show)) = Scans (record { space = space; limit = limit; show = show })
 task_of (Some (job.Create index space policies limit)) = Makes (new_head space policies limit)
 task_of (Some (job.Audit index workers)) = Judges
+task_of (Some (job.Verify index log None)) = Reports report.Verdicts
+task_of (Some (job.Check index log None)) = Reports report.Answers
 task_of other = Nothing
 
--- what a run does to the disk and writes, where `input` is what was left to read
-abbrev pub Does : Task → DiskState → DiskState → Option (List ℕ) → Option (List ℕ) → Option (List ℕ) → ℕ → Type 0
-Does (Scans asked) disk0 disk1 input out0 out1 status = IfSome input (λ bytes. WritesScan out0 out1 (scan_texts asked bytes) status)
-Does (Makes head) disk0 disk1 input out0 out1 status = Creates head disk0 disk1 out0 out1 status
-Does Judges disk0 disk1 input out0 out1 status = Audits disk0 disk1 out0 out1 status
-Does Nothing disk0 disk1 input out0 out1 status = WritesUsage out0 out1 status
+-- what a run does to the disk and writes, where `input` is what was left to read, and `left0` and `left1` are what is left of
+-- the logs
+abbrev pub Does : Task → DiskState → DiskState → Option (List ℕ) → Option (List ℕ) → Option (List ℕ) → Option (List ℕ) → Option (List ℕ) → ℕ → Type 0
+Does (Scans asked) disk0 disk1 input left0 left1 out0 out1 status = IfSome input (λ bytes. WritesScan out0 out1 (scan_texts asked bytes) status)
+Does (Makes head) disk0 disk1 input left0 left1 out0 out1 status = Creates head disk0 disk1 out0 out1 status
+Does Judges disk0 disk1 input left0 left1 out0 out1 status = Audits disk0 disk1 out0 out1 status
+Does (Reports what) disk0 disk1 input left0 left1 out0 out1 status = JudgesLogs what disk0 disk1 left0 left1 out0 out1 status
+Does Nothing disk0 disk1 input left0 left1 out0 out1 status = WritesUsage out0 out1 status
 
 -- the task takes no index
 abbrev pub TakesNoIndex : Task → Type 0
 TakesNoIndex (Scans asked) = Unit {0}
 TakesNoIndex (Makes head) = ⊥
 TakesNoIndex Judges = ⊥
+TakesNoIndex (Reports what) = ⊥
 TakesNoIndex Nothing = Unit {0}
+
+-- the task takes no logs
+abbrev pub TakesNoLog : Task → Type 0
+TakesNoLog (Scans asked) = Unit {0}
+TakesNoLog (Makes head) = Unit {0}
+TakesNoLog Judges = Unit {0}
+TakesNoLog (Reports what) = ⊥
+TakesNoLog Nothing = Unit {0}
+
+-- the status tells exactly whether too much was taken: more than 2 ^ 26 bytes of input, or 2 ^ 30 bytes of logs
+abbrev pub TakesTooMuch : Option (List ℕ) → Option (List ℕ) → Option (List ℕ) → Option (List ℕ) → ℕ → Type 0
+TakesTooMuch input0 input1 left0 left1 status =
+    (script_bytes : List ℕ) × (log_bytes : List ℕ) × Consumes input0 input1 script_bytes × Consumes left0 left1 log_bytes
+    × ((status ≡ 7) ↔ ((2 ^ 26 < length script_bytes) ⊎ (2 ^ 30 < length log_bytes)))
 
 -- the statuses of a scan
 abbrev pub IsScanStatus : ℕ → Type 0
@@ -117,4 +140,5 @@ abbrev pub IsStatusOf : Task → ℕ → Type 0
 IsStatusOf (Scans asked) n = IsScanStatus n
 IsStatusOf (Makes head) n = (n ≡ 0) ⊎ ((n ≡ 4) ⊎ ((n ≡ 5) ⊎ ((n ≡ 6) ⊎ (n ≡ 8))))
 IsStatusOf Judges n = IsAuditStatus n
+IsStatusOf (Reports what) n = IsLogStatus n
 IsStatusOf Nothing n = (n ≡ 2) ⊎ ((n ≡ 4) ⊎ (n ≡ 8))

@@ -2,6 +2,8 @@
 #![tactic(auto)]
 
 mod files;
+#[cfg(test)]
+mod log_tests;
 mod program;
 mod scan_job;
 #[cfg(test)]

@@ -1,17 +1,20 @@
-ghost use Rattle.std.specs.Prelude.{◌≡◌, ◌⊎◌, ◌↔◌, ◌≤◌, ◌<◌, ◌^◌, List, ℕ, length, IfSome};
-ghost use Rattle.std.specs.Io.KnownBytes.{Consumes, IsAtEnd};
+ghost use Rattle.std.specs.Prelude.{◌≡◌, ◌⊎◌, ◌≤◌, ◌^◌, List, ℕ, length, IfSome};
+ghost use Rattle.std.specs.Io.KnownBytes.{IsAtEnd};
 ghost use Rattle.outside_io.specs.Causes.{Rose};
 ghost use Rattle.disk_model.specs.Disk.{IsUnchanged};
 ghost use Rattle.job_words.specs.Words.{texts_of};
 ghost use Rattle.job_words.specs.Jobs.{job_of};
 ghost use Rattle.job_words.specs.Lawful.{IsLawfulSpace, IsLimit};
 ghost use Rattle.node_page.specs.Heads.{IsLawfulHead};
-ghost use Rattle.mtree_cli.specs.Run.{Asked, Does, HasNoScan, IsScan, IsStatusOf, TakesNoIndex, new_head, task_of};
+ghost use Rattle.log_jobs.specs.Laws.{FaultlessIsComplete};
+ghost use Rattle.mtree_cli.specs.Run.{Asked, Does, HasNoScan, IsScan, IsStatusOf, TakesNoIndex, TakesNoLog, TakesTooMuch, new_head, task_of};
 
 use crate::scan_job::run_scan;
 use disk_model::Disk;
 use file_jobs::{FAULT_MEMORY, audit_index, create_index, end_with, put_line};
 use job_words::{Job, JobFault, PolicyNames, SpaceName, read_job};
+use log_jobs::laws::faultless_is_complete;
+use log_jobs::{check_logs, verify_logs};
 use node_page::Head;
 use outside_io::{Sink, Source, Status};
 use std::alloc::Global;
@@ -37,35 +40,45 @@ fn new_head(space: SpaceName, policies: PolicyNames, limit: u32) -> Head
 
 /// Does what the words after the program's name ask for, and answers the status.
 ///
-/// The program does three jobs so far: `scan` runs the script of `input` on a plain list, `create` makes an empty index of
-/// `index`, and `audit` tells whether `index` is sound. Every other job of the words is answered as no job.
-pub fn run<D: Disk, S: Source, K: Sink>(
+/// The program does five jobs so far: `scan` runs the script of `input` on a plain list, `create` makes an empty index of
+/// `index`, `audit` tells whether `index` is sound, `verify` judges the logs of `log_in` by `index`, and `check` does both.
+/// Every other job of the words is answered as no job, and so are `verify` and `check` with `--other`. No job takes `other`
+/// or puts to `log_out` so far.
+pub fn run<D: Disk, E: Disk, S: Source, L: Source, K: Sink, T: Sink>(
     alloc: Global,
     words: &[String],
     index: &mut D,
+    other: &mut E,
     input: &mut S,
+    log_in: &mut L,
     out: &mut K,
+    log_out: &mut T,
 ) -> Status
     // What the job of the words does to the file, and what it writes. Words without a job give the usage line.
     ensures does { Does (task_of (job_of (texts_of words.now))) (D.state index.old) (D.state index.new)
-        (S.left input.old) (K.written out.old) (K.written out.new) result.0 }
+        (S.left input.old) (L.left log_in.old) (L.left log_in.new) (K.written out.old) (K.written out.new) result.0 }
+
+    // What `check` says of a file and of its logs is so: no fault is soundness, and a complete log has the plain scan's answers.
+    ensures check_is_true { (file : List ℕ) → FaultlessIsComplete file }
 
     // There are no other answers.
     ensures statuses { IsStatusOf (task_of (job_of (texts_of words.now))) result.0 }
 
-    // Only `create` and `audit` take the index, and want of memory leaves it as it is.
-    ensures index { TakesNoIndex (task_of (job_of (texts_of words.now))) → index.new ≡ index.old }
+    // Want of memory leaves the index as it is, and words without a scan, without an index or without logs take none.
     ensures memory { result.0 ≡ 8 → IsUnchanged (D.state index.old) (D.state index.new) }
-
-    // Words without a scan take no input.
+    ensures index { TakesNoIndex (task_of (job_of (texts_of words.now))) → index.new ≡ index.old }
     ensures untouched { HasNoScan (texts_of words.now) → input.new ≡ input.old }
+    ensures log_untouched { TakesNoLog (task_of (job_of (texts_of words.now))) → log_in.new ≡ log_in.old }
+    ensures other { other.new ≡ other.old }
+    ensures log_out { log_out.new ≡ log_out.old }
 
     // A failed read or write is told only where the object's count of faults rose.
-    ensures input { result.0 ≡ 3 → Rose (S.faults input.old) (S.faults input.new) }
+    ensures input { result.0 ≡ 3 → Rose (S.faults input.old) (S.faults input.new) ⊎ Rose (L.faults log_in.old) (L.faults log_in.new) }
     ensures output { result.0 ≡ 4 → Rose (K.faults out.old) (K.faults out.new) }
+    ensures disk { result.0 ≡ 5 → Rose (D.state index.old).faults (D.state index.new).faults }
 
-    // Too long an input is told exactly where more than 2 ^ 26 bytes were taken.
-    ensures long { (bs : List ℕ) × Consumes (S.left input.old) (S.left input.new) bs × ((result.0 ≡ 7) ↔ (2 ^ 26 < length bs)) }
+    // Too much is told exactly where more than 2 ^ 26 bytes of input or 2 ^ 30 bytes of logs were taken.
+    ensures long { TakesTooMuch (S.left input.old) (S.left input.new) (L.left log_in.old) (L.left log_in.new) result.0 }
 
     // A scan that is done has taken all input.
     ensures end { (asked : Asked) → IsScan (texts_of words.now) asked → result.0 ≡ 0 → IsAtEnd (S.left input.new) }
@@ -73,8 +86,9 @@ pub fn run<D: Disk, S: Source, K: Sink>(
     // With no fault and an input within its limit a scan is done, but for want of memory.
     ensures complete { (asked : Asked) → IsScan (texts_of words.now) asked → IfSome (S.left input.old) (λ bytes. length bytes ≤ 2 ^ 26 →
         ¬ Rose (S.faults input.old) (S.faults input.new) → ¬ Rose (K.faults out.old) (K.faults out.new) → (result.0 ≡ 0) ⊎ (result.0 ≡ 8)) }
-    ensures counts { (S.faults input.old ≤ S.faults input.new) × (K.faults out.old ≤ K.faults out.new) }
+    ensures counts { (S.faults input.old ≤ S.faults input.new) × (L.faults log_in.old ≤ L.faults log_in.new) × (K.faults out.old ≤ K.faults out.new) }
 {
+    faultless_is_complete();
     match read_job(alloc, words) {
         Ok(
             Job::Scan {
@@ -92,6 +106,8 @@ pub fn run<D: Disk, S: Source, K: Sink>(
             },
         ) => create_index(index, &new_head(space, policies, limit), out),
         Ok(Job::Audit { .. }) => audit_index(alloc, index, out),
+        Ok(Job::Verify { other: None, .. }) => verify_logs(alloc, index, log_in, out),
+        Ok(Job::Check { other: None, .. }) => check_logs(alloc, index, log_in, out),
         Ok(_) | Err(JobFault::Usage) => put_line(out, USAGE, 2),
         Err(JobFault::Memory) => end_with(out, FAULT_MEMORY, 8),
     }

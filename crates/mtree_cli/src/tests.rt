@@ -11,7 +11,7 @@ use std::test::Fail;
 const USAGE: &str = "usage: mtree COMMAND INDEX [options]\n";
 
 // The words of a line, cut at its spaces.
-fn words(alloc: Global, line: &str) -> Result<Vec<String>, AllocError> {
+pub fn words(alloc: Global, line: &str) -> Result<Vec<String>, AllocError> {
     let mut words = Vec::new(alloc);
     for word in line.split(' ') {
         words.push(String::from_str(alloc, word)?)?;
@@ -20,7 +20,7 @@ fn words(alloc: Global, line: &str) -> Result<Vec<String>, AllocError> {
 }
 
 // An empty disk with room for so many bytes.
-fn empty_disk(alloc: Global, room: u64) -> Result<MemoryDisk, AllocError> {
+pub fn empty_disk(alloc: Global, room: u64) -> Result<MemoryDisk, AllocError> {
     MemoryDisk::new(
         alloc,
         Vec::new(alloc),
@@ -32,12 +32,35 @@ fn empty_disk(alloc: Global, room: u64) -> Result<MemoryDisk, AllocError> {
 }
 
 // The calls that fail: none or one.
-fn fails(alloc: Global, call: Option<u64>) -> Result<Vec<u64>, AllocError> {
+pub fn fails(alloc: Global, call: Option<u64>) -> Result<Vec<u64>, AllocError> {
     let mut fails = Vec::new(alloc);
     if let Some(call) = call {
         fails.push(call)?;
     }
     Ok(fails)
+}
+
+// Runs words on these objects, and on empty ones in the place of the others.
+fn run_on<D: Disk>(
+    alloc: Global,
+    words: &[String],
+    index: &mut D,
+    input: &mut MemorySource,
+    out: &mut MemorySink,
+) -> Result<Status, AllocError> {
+    let mut other = empty_disk(alloc, 0)?;
+    let mut log_in = MemorySource::new(Vec::new(alloc), 1, Vec::new(alloc));
+    let mut log_out = MemorySink::new(alloc, 0, Vec::new(alloc))?;
+    Ok(run(
+        alloc,
+        words,
+        index,
+        &mut other,
+        input,
+        &mut log_in,
+        out,
+        &mut log_out,
+    ))
 }
 
 // A run: its words, its input, the calls of the input and of the output that fail, its status and its output.
@@ -61,7 +84,7 @@ fn check<R: AllocGlobal + Abort>(rt: &R, case: &Case<'_>, piece: usize) -> Resul
     let mut input = MemorySource::new(bytes, piece, fails(alloc, case.input_fails)?);
     let mut out = MemorySink::new(alloc, 1000, fails(alloc, case.output_fails)?)?;
     let mut index = empty_disk(alloc, 0)?;
-    let status = run(alloc, &words, &mut index, &mut input, &mut out);
+    let status = run_on(alloc, &words, &mut index, &mut input, &mut out)?;
     assert_eq!(rt; status, Status(case.status));
     assert_eq!(rt; out.written(), case.output.as_bytes());
     Ok(())
@@ -234,6 +257,8 @@ fn words_without_a_scan(rt: HostRuntime) -> Result<(), Fail> {
             "shape",
             "audit a.mt --radius 1",
             "create a.mt --metric l1",
+            "verify a.mt --log a.log --other b.mt",
+            "check a.mt",
         ],
     )
 }
@@ -250,7 +275,7 @@ fn check_index<R: AllocGlobal + Abort, D: Disk>(
     let words = words(alloc, line)?;
     let mut input = MemorySource::new(Vec::new(alloc), 1, Vec::new(alloc));
     let mut out = MemorySink::new(alloc, 1000, Vec::new(alloc))?;
-    let found = run(alloc, &words, index, &mut input, &mut out);
+    let found = run_on(alloc, &words, index, &mut input, &mut out)?;
     assert_eq!(rt; found, Status(status));
     assert_eq!(rt; out.written(), output.as_bytes());
     Ok(())
@@ -270,11 +295,13 @@ fn create_and_audit(rt: HostRuntime) -> Result<(), Fail> {
 #[test]
 fn a_missing_file(rt: HostRuntime) -> Result<(), Fail> {
     let alloc = rt.alloc();
-    let words = words(alloc, "audit missing.mt")?;
-    let mut input = MemorySource::new(Vec::new(alloc), 1, Vec::new(alloc));
-    let mut out = MemorySink::new(alloc, 1000, Vec::new(alloc))?;
-    let status = run_on_files(&rt, alloc, &words, &mut input, &mut out);
-    assert_eq!(rt; status, Status(10));
+    for line in ["audit missing.mt", "check missing.mt --log missing.log"] {
+        let words = words(alloc, line)?;
+        let mut input = MemorySource::new(Vec::new(alloc), 1, Vec::new(alloc));
+        let mut out = MemorySink::new(alloc, 1000, Vec::new(alloc))?;
+        let status = run_on_files(&rt, alloc, &words, &mut input, &mut out);
+        assert_eq!(rt; status, Status(10));
+    }
     Ok(())
 }
 
@@ -294,7 +321,7 @@ fn an_input_of_one_byte_too_many(rt: HostRuntime) -> Result<(), Fail> {
     let mut input = MemorySource::new(bytes, 1 << 20, Vec::new(alloc));
     let mut out = MemorySink::new(alloc, 1000, Vec::new(alloc))?;
     let mut index = empty_disk(alloc, 0)?;
-    let status = run(alloc, &words, &mut index, &mut input, &mut out);
+    let status = run_on(alloc, &words, &mut index, &mut input, &mut out)?;
     assert_eq!(rt; status, Status(7));
     assert_eq!(rt; out.written(), b"fault long\n".as_slice());
     scan_model::laws::range_answers_are_all();

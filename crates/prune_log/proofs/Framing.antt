@@ -114,7 +114,7 @@ frame_again Lawful spelled reads reader log rest fits =
 
 -- ---- frames
 
-frames_take : {L : Type 0} (Lawful : L → Type 0) (spelled : L → List ℕ) (reads : List ℕ → Result (L × List ℕ) LogFault) → IsReader Lawful spelled reads
+pub frames_take : {L : Type 0} (Lawful : L → Type 0) (spelled : L → List ℕ) (reads : List ℕ → Result (L × List ℕ) LogFault) → IsReader Lawful spelled reads
     → (n : ℕ) (bytes : List ℕ) (logs : List L) → IsBytes bytes → length bytes ≤ n → frames_within reads n bytes ≡ Ok logs → (frames_bytes spelled logs ≡ bytes) × AllByRecursion Lawful logs
 unfolding frames_within
 frames_take {L} Lawful spelled reads reader zero bytes logs fits enough e =
@@ -133,7 +133,7 @@ frames_take {L} Lawful spelled reads reader (suc n) (b ∷ bytes) logs fits enou
     flat_map-cons (λ log. frame_bytes (spelled log)) first.0.0 others.0 ∙ ap (λ (t : List ℕ). frame_bytes text ++ t) rest.0 ∙ sym took.0.parts in
     subst (λ (ls : List L). (frames_bytes spelled ls ≡ b ∷ bytes) × AllByRecursion Lawful ls) (ok_is (first.0.0 ∷ others.0) logs others.2) (whole_text, (took.1, rest.1))
 
-frames_again : {L : Type 0} (Lawful : L → Type 0) (spelled : L → List ℕ) (reads : List ℕ → Result (L × List ℕ) LogFault) → IsReader Lawful spelled reads
+pub frames_again : {L : Type 0} (Lawful : L → Type 0) (spelled : L → List ℕ) (reads : List ℕ → Result (L × List ℕ) LogFault) → IsReader Lawful spelled reads
     → (logs : List L) (n : ℕ) → AllByRecursion Lawful logs → length (frames_bytes spelled logs) ≤ n → length (frames_bytes spelled logs) < 2 ^ 64 → frames_within reads n (frames_bytes spelled logs) ≡ Ok logs
 frames_again Lawful spelled reads reader [] n all enough short = nothing_left reads n
 frames_again {L} Lawful spelled reads reader (log ∷ logs) n all enough short =

@@ -1,11 +1,11 @@
 -- The laws of the spellings of logs.
-use Rattle.std.specs.Prelude.{◌≡◌, ◌↔◌, ℕ, List, None}
+use Rattle.std.specs.Prelude.{◌≡◌, ◌↔◌, ◌<◌, ◌^◌, ℕ, List, length, None, Ok, All}
 use Rattle.log_model.specs.declared.logs.Log.{Log}
 use Rattle.log_model.specs.declared.logs.JoinLog.{JoinLog}
 use Rattle.log_model.specs.Grammar.{IsLawfulLog, IsLawfulJoinLog}
 use Rattle.prune_log.specs.Ranges.{IsBytes, LogInRange, JoinLogInRange}
-use Rattle.prune_log.specs.Spelling.{log_bytes, join_log_bytes}
-use Rattle.prune_log.specs.Reading.{log_fault, join_log_fault}
+use Rattle.prune_log.specs.Spelling.{log_bytes, join_log_bytes, frames_bytes}
+use Rattle.prune_log.specs.Reading.{log_at, frames_at, log_fault, join_log_fault}
 
 -- the bytes spell this log
 pub record SpellsLog (bytes : List ℕ) (log : Log) : Type 0 where
@@ -32,3 +32,13 @@ OneLog = (bytes : List ℕ) (log other : Log) → SpellsLog bytes log → Spells
 
 abbrev pub OneJoinLog : Type 0
 OneJoinLog = (bytes : List ℕ) (log other : JoinLog) → SpellsJoinLog bytes log → SpellsJoinLog bytes other → log ≡ other
+
+-- the bytes are frames of these logs
+pub record SpellsFrames (bytes : List ℕ) (logs : List Log) : Type 0 where
+  pub lawful : All IsLawfulLog logs
+  pub in_range : All LogInRange logs
+  pub spelled : frames_bytes log_bytes logs ≡ bytes
+
+-- bytes are read as logs exactly where they are frames of them
+abbrev pub FramesAreRead : Type 0
+FramesAreRead = (bytes : List ℕ) (logs : List Log) → IsBytes bytes → length bytes < 2 ^ 64 → (frames_at log_at bytes ≡ Ok logs) ↔ SpellsFrames bytes logs

@@ -89,6 +89,8 @@ pub fn frame(bytes: &[u8], out: &mut Vec<u8>) -> Result<(), Memory>
 /// Reads the logs of frames, or names the first fault from left to right, be it a frame's or its log's. No bytes are no
 /// frames.
 pub fn decode_frames(alloc: Global, bytes: &[u8]) -> Result<Vec<Log>, LogFault>
+    // What is answered is what reading from left to right gives.
+    ensures gives { Gives (λ logs. logs.items) result (frames_at log_at bytes.now) }
     // What is read is spelled so.
     ensures ok { IfOk result (λ logs. frames_bytes log_bytes logs.items ≡ bytes.now) }
     // What is read can be written.

@@ -1,6 +1,6 @@
 //! Laws of the spellings of logs.
 
-ghost use Rattle.prune_log.specs.Laws.{FaultIsNoLog, FaultIsNoJoinLog, OneLog, OneJoinLog};
+ghost use Rattle.prune_log.specs.Laws.{FaultIsNoLog, FaultIsNoJoinLog, FramesAreRead, OneLog, OneJoinLog};
 
 /// Bytes have no fault exactly where they spell some log.
 pub fn fault_is_no_log()
@@ -20,4 +20,9 @@ pub fn one_log()
 /// Bytes spell one join's log.
 pub fn one_join_log()
     ensures { OneJoinLog }
+{}
+
+/// Bytes are read as logs exactly where they are frames of them.
+pub fn frames_are_read()
+    ensures { FramesAreRead }
 {}

@@ -16,15 +16,6 @@ new-pages-requires-clause-some g c = (space_by_head c.args.head.now.kind c.args.
 pub new-pages-requires-clause-few : goal.new-pages-requires-clause-few
 new-pages-requires-clause-few g c = (space_by_head c.args.head.now.kind c.args.head.now.dim c.requires.head.space).high_dim
 
-pub space_of-requires-clause-low : goal.space_of-requires-clause-low
-space_of-requires-clause-low g c = (space_by_head c.args.head.now.kind c.args.head.now.dim c.requires.head.space).low_kind
-
-pub space_of-requires-clause-high : goal.space_of-requires-clause-high
-space_of-requires-clause-high g c = (space_by_head c.args.head.now.kind c.args.head.now.dim c.requires.head.space).high_kind
-
-pub space_of-requires-clause-lawful : goal.space_of-requires-clause-lawful
-space_of-requires-clause-lawful g c = (space_by_head c.args.head.now.kind c.args.head.now.dim c.requires.head.space).lawful
-
 pub returns-clause-err : goal.returns-clause-err
 returns-clause-err g c =
     let p = c.new-pages.result in

@@ -9,4 +9,5 @@ returns-in-Ok-clause-creates g c = record {
   part = c.put_line.ensures.part;
   disk = λ is. neither c.put_line.result.0 0 4 5 c.put_line.ensures.statuses is (omega arith) (omega arith);
   not_empty = λ is. neither c.put_line.result.0 0 4 6 c.put_line.ensures.statuses is (omega arith) (omega arith);
+  memory = λ is. neither c.put_line.result.0 0 4 8 c.put_line.ensures.statuses is (omega arith) (omega arith);
 }

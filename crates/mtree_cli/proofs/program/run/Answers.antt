@@ -3,12 +3,12 @@ use Rattle.job_words.specs.Words.{texts_of}
 use Rattle.job_words.specs.Jobs.{job_of}
 use Rattle.job_words.specs.declared.job.Job.{Job}
 use Rattle.mtree_cli.specs.Run.{Does, task_of}
-use Rattle.mtree_cli.proofs.TaskLemmas.{scan_named, unchanged, memory_does, memory_status, nothing_taken}
+use Rattle.mtree_cli.proofs.TaskLemmas.{scan_named, unchanged, memory_does, memory_status, nothing_taken, input_taken, logs_taken}
 use Rattle.mtree_cli.proofs.program.run.Goals as goal
 
 pub returns-in-Ok-Scan-clause-does : goal.returns-in-Ok-Scan-clause-does
 returns-in-Ok-Scan-clause-does g c =
-    let P : Option (Job (List ℕ)) → Type 0 = λ j. Does (task_of j) (g.D.Disk.state c.args.index.now) (g.D.Disk.state c.args.index.now) (g.S.Source.left c.args.input.now) (g.K.Sink.written c.args.out.now) (g.K.Sink.written c.run_scan.new.out) c.run_scan.result.0 in
+    let P : Option (Job (List ℕ)) → Type 0 = λ j. Does (task_of j) (g.D.Disk.state c.args.index.now) (g.D.Disk.state c.args.index.now) (g.S.Source.left c.args.input.now) (g.L.Source.left c.args.log_in.now) (g.L.Source.left c.args.log_in.now) (g.K.Sink.written c.args.out.now) (g.K.Sink.written c.run_scan.new.out) c.run_scan.result.0 in
     subst P (sym (scan_named (texts_of c.args.words.now) c.in-Ok-Scan.field-0 c.in-Ok-Scan.space c.in-Ok-Scan.limit c.in-Ok-Scan.show_tags c.in-Ok-Scan.ensures.job c.in-Ok-Scan.field-0-is)) c.run_scan.ensures.wrote
 
 pub returns-in-Ok-Scan-clause-memory : goal.returns-in-Ok-Scan-clause-memory
@@ -19,16 +19,16 @@ returns-in-Ok-Scan-clause-untouched g c = λ none.
     absurd (none (record { space = c.in-Ok-Scan.space; limit = c.in-Ok-Scan.limit; show = c.in-Ok-Scan.show_tags }) (scan_named (texts_of c.args.words.now) c.in-Ok-Scan.field-0 c.in-Ok-Scan.space c.in-Ok-Scan.limit c.in-Ok-Scan.show_tags c.in-Ok-Scan.ensures.job c.in-Ok-Scan.field-0-is))
 
 pub returns-in-Ok-Create-clause-long : goal.returns-in-Ok-Create-clause-long
-returns-in-Ok-Create-clause-long g c = nothing_taken (g.S.Source.left c.args.input.now) c.create_index.result.0 (grind (arith))
+returns-in-Ok-Create-clause-long g c = nothing_taken (g.S.Source.left c.args.input.now) (g.L.Source.left c.args.log_in.now) c.create_index.result.0 (grind (arith))
 
 pub returns-in-Ok-Audit-clause-memory : goal.returns-in-Ok-Audit-clause-memory
 returns-in-Ok-Audit-clause-memory g c = λ is. c.audit_index.ensures.audits.unchanged
 
 pub returns-in-Ok-Audit-clause-long : goal.returns-in-Ok-Audit-clause-long
-returns-in-Ok-Audit-clause-long g c = nothing_taken (g.S.Source.left c.args.input.now) c.audit_index.result.0 (grind (arith))
+returns-in-Ok-Audit-clause-long g c = nothing_taken (g.S.Source.left c.args.input.now) (g.L.Source.left c.args.log_in.now) c.audit_index.result.0 (grind (arith))
 
 pub returns-in-Err-Memory-clause-does : goal.returns-in-Err-Memory-clause-does
-returns-in-Err-Memory-clause-does g c = memory_does (task_of (job_of (texts_of c.args.words.now))) (g.D.Disk.state c.args.index.now) (g.S.Source.left c.args.input.now) _ _ c.end_with.result.0 c.end_with.ensures.status c.end_with.ensures.line
+returns-in-Err-Memory-clause-does g c = memory_does (task_of (job_of (texts_of c.args.words.now))) (g.D.Disk.state c.args.index.now) (g.S.Source.left c.args.input.now) (g.L.Source.left c.args.log_in.now) _ _ c.end_with.result.0 c.end_with.ensures.status c.end_with.ensures.line
 
 pub returns-in-Err-Memory-clause-memory : goal.returns-in-Err-Memory-clause-memory
 returns-in-Err-Memory-clause-memory g c = λ is. unchanged (g.D.Disk.state c.args.index.now)
@@ -40,4 +40,18 @@ pub returns-in-Ok-clause-memory : goal.returns-in-Ok-clause-memory
 returns-in-Ok-clause-memory g c = λ is. unchanged (g.D.Disk.state c.args.index.now)
 
 pub returns-in-Ok-clause-long : goal.returns-in-Ok-clause-long
-returns-in-Ok-clause-long g c = nothing_taken (g.S.Source.left c.args.input.now) c.put_line.result.0 (grind (arith))
+returns-in-Ok-clause-long g c = nothing_taken (g.S.Source.left c.args.input.now) (g.L.Source.left c.args.log_in.now) c.put_line.result.0 (grind (arith))
+
+pub returns-in-Ok-Scan-clause-long : goal.returns-in-Ok-Scan-clause-long
+returns-in-Ok-Scan-clause-long g c = input_taken _ _ (g.L.Source.left c.args.log_in.now) c.run_scan.result.0 c.run_scan.ensures.long
+
+pub returns-in-Ok-Verify-default-default-None-clause-long : goal.returns-in-Ok-Verify-default-default-None-clause-long
+returns-in-Ok-Verify-default-default-None-clause-long g c =
+    logs_taken (g.S.Source.left c.args.input.now) _ _ _ _ _ _ _ c.verify_logs.result.0 c.verify_logs.ensures.judges
+
+pub returns-in-Ok-Check-default-default-None-clause-long : goal.returns-in-Ok-Check-default-default-None-clause-long
+returns-in-Ok-Check-default-default-None-clause-long g c =
+    logs_taken (g.S.Source.left c.args.input.now) _ _ _ _ _ _ _ c.check_logs.result.0 c.check_logs.ensures.judges
+
+pub returns-in-Err-Memory-clause-long : goal.returns-in-Err-Memory-clause-long
+returns-in-Err-Memory-clause-long g c = nothing_taken (g.S.Source.left c.args.input.now) (g.L.Source.left c.args.log_in.now) c.end_with.result.0 (grind (arith))

@@ -1,0 +1,12 @@
+//! What a head says of its space.
+
+ghost use Rattle.file_jobs.specs.Laws.{HeadsHaveSpaces};
+
+use metric_mix::laws::mix_spaces_are_spaces;
+
+/// The space of a head is a metric space.
+pub fn heads_have_spaces()
+    ensures { HeadsHaveSpaces }
+{
+    mix_spaces_are_spaces();
+}

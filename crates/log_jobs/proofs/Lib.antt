@@ -1,0 +1,5 @@
+pub mod Putting
+pub mod Ending
+pub mod Within
+pub mod Judged
+pub mod Showing

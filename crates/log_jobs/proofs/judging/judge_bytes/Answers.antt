@@ -1,0 +1,35 @@
+use Rattle.std.proofs.Common.{◌≡◌, List, ℕ, [], ◌∷◌, ◌∙◌, ap, subst, Some, None}
+use Rattle.std.proofs.lemmas.Result.{err_from_is_err_and}
+use Rattle.log_verify.specs.Judged.{log_fault}
+use Rattle.log_jobs.specs.Lines.{are_sound, end_text}
+use Rattle.log_jobs.specs.Jobs.{Puts}
+use Rattle.log_jobs.proofs.Putting.{has_put, then_put, stopped_put}
+use Rattle.log_jobs.proofs.judging.judge_bytes.Goals as goal
+
+pub returns-in_err-sound-clause-puts : goal.returns-in_err-sound-clause-puts
+returns-in_err-sound-clause-puts g c tells =
+    let p = err_from_is_err_and c.from_residual-in_err-sound.result c.from_residual-in_err-sound.ensures.1 in
+    rw (p.1, p.2, c.in-Ok.ensures.gives) (stopped_put _ _ _ _ c.in_err-sound.field-0.0 (c.in_err-sound.ensures.puts tells))
+
+pub returns-in_err-put-clause-puts : goal.returns-in_err-put-clause-puts
+returns-in_err-put-clause-puts g c tells =
+    let p = err_from_is_err_and c.from_residual-in_err-put.result c.from_residual-in_err-put.ensures.1 in
+    let w1 = g.K.Sink.written c.judge_frames.new.out in
+    let w2 = g.K.Sink.written c.put-2.new.out in
+    let judge = log_fault (g.M.Metric.space c.args.court.now.metric) (g.P.Pages.shelf c.args.pages.now).read c.args.court.now.live in
+    let line : c.end_text.result.now ≡ end_text c.args.court.now.report (are_sound judge c.in-Ok.logs.items) =
+    c.end_text.ensures ∙ ap (λ b. end_text c.args.court.now.report b) (c.in_ok-sound.ensures.sound tells) in
+    rw (p.1, p.2, c.in-Ok.ensures.gives)
+    (then_put _ _ _ w1 w2 (Some c.in_err-put.field-0.0) (has_put _ _ _ w1 (c.in_ok-sound.ensures.puts tells))
+    (subst (λ (t : List ℕ). Puts (t ∷ []) w1 w2 (Some c.in_err-put.field-0.0)) line c.in_err-put.ensures.puts))
+
+pub returns-clause-puts : goal.returns-clause-puts
+returns-clause-puts g c tells =
+    let w1 = g.K.Sink.written c.judge_frames.new.out in
+    let w2 = g.K.Sink.written c.put-2.new.out in
+    let judge = log_fault (g.M.Metric.space c.args.court.now.metric) (g.P.Pages.shelf c.args.pages.now).read c.args.court.now.live in
+    let line : c.end_text.result.now ≡ end_text c.args.court.now.report (are_sound judge c.in-Ok.logs.items) =
+    c.end_text.ensures ∙ ap (λ b. end_text c.args.court.now.report b) (c.in_ok-sound.ensures.sound tells) in
+    rw c.in-Ok.ensures.gives
+    (then_put _ _ _ w1 w2 None (has_put _ _ _ w1 (c.in_ok-sound.ensures.puts tells))
+    (subst (λ (t : List ℕ). Puts (t ∷ []) w1 w2 None) line c.in_ok-put.ensures.puts))

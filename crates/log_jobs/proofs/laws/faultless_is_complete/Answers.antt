@@ -1,0 +1,24 @@
+use Rattle.std.proofs.Common.{◌≡◌, None}
+use Rattle.page_store.specs.Reading.{nodes_of}
+use Rattle.log_model.specs.declared.logs.Log.{Log}
+use Rattle.log_jobs.specs.Jobs.{space_of, read_of, judge_of}
+use Rattle.log_jobs.specs.Laws.{IsCompleteLog}
+use Rattle.log_jobs.proofs.Within.{nodes_within}
+use Rattle.log_jobs.proofs.Showing.{show_logs}
+use Rattle.log_jobs.proofs.laws.faultless_is_complete.Goals as goal
+
+pub returns : goal.returns
+returns c file head live opens =
+    let s = space_of head in
+    let read = read_of file head live in (
+      c.audit_faults_are_unsoundness.ensures s read live (nodes_within head.dim live.pages file),
+      λ sound.
+          let complete : (log : Log) → judge_of file head live log ≡ None → IsCompleteLog file head live log = λ log none. record {
+            sound = (c.faults_are_unsoundness.ensures s read live log).0 none;
+            scanned = c.sound_logs_are_complete.ensures s (nodes_of read) live log (c.heads_have_spaces.ensures head opens.spells_head.lawful) sound ((c.faults_are_unsoundness.ensures s read live log).0 none);
+          } in
+          record {
+            faultless = λ log. (complete log, λ whole. (c.faults_are_unsoundness.ensures s read live log).1 whole.sound);
+            shown = show_logs file head live complete;
+          },
+    )

@@ -1,0 +1,6 @@
+use Rattle.log_jobs.proofs.Judged.{appended}
+use Rattle.log_jobs.proofs.lines.push_verdict.Goals as goal
+
+pub returns-in_ok-push_state-in-OtherState : goal.returns-in_ok-push_state-in-OtherState
+returns-in_ok-push_state-in-OtherState c =
+    rw c.in-OtherState.is (appended c.push_state-in-OtherState.result _ _ _ _ _ c.in_ok-push_state-in-OtherState.ensures c.push_state-in-OtherState.ensures)

@@ -1,0 +1,23 @@
+use Rattle.std.proofs.Common.{◌≡◌, Bool, ap, refl, subst}
+use Rattle.std.specs.Prelude.{IsTrue, IfOk}
+use Rattle.metric_mix.specs.MixSpaces.{mix_space}
+use Rattle.metric_mix.specs.MixKinds.{mix_kind, mix_dim}
+use Rattle.page_store.specs.Reading.{reading_in, version_of}
+use Rattle.log_verify.specs.Judged.{log_fault}
+use Rattle.prune_log.specs.Reading.{log_at, frames_at}
+use Rattle.log_jobs.specs.Lines.{Judge, on_logs}
+use Rattle.log_jobs.specs.Jobs.{judge_of}
+use Rattle.log_jobs.proofs.opened.judge_opened.Goals as goal
+
+pub returns-clause-status : goal.returns-clause-status
+returns-clause-status g c =
+    let p = c.new-pages.result in
+    let m = c.space_of.result in
+    let head = c.args.opened.now.0 in
+    let live = c.args.opened.now.1 in
+    let told : log_fault (mix_space (mix_kind m) (mix_dim m)) (reading_in (version_of p.first_version) p.dim p.pages (g.D.Disk.state p.disk.now).bytes) live
+    ≡ judge_of (g.D.Disk.state c.args.index.now).bytes head live =
+    rw (c.new-pages.ensures.version, c.new-pages.ensures.dim, c.new-pages.ensures.pages, c.new-pages.ensures.same, c.space_of.ensures.kind, c.space_of.ensures.dim) refl in
+    let tells : (g.D.Disk.state p.disk.now).tells ≡ (g.D.Disk.state c.args.index.now).tells = ap (λ d. (g.D.Disk.state d).tells) c.new-pages.ensures.same in
+    subst (λ (t : Bool). IfOk c.judge_bytes.result (λ status. IsTrue t → status.0 ≡ (on_logs c.args.report (judge_of (g.D.Disk.state c.args.index.now).bytes head live) (frames_at log_at c.args.bytes.now)).status)) tells
+    (subst (λ (judge : Judge). IfOk c.judge_bytes.result (λ status. IsTrue (g.D.Disk.state p.disk.now).tells → status.0 ≡ (on_logs c.args.report judge (frames_at log_at c.args.bytes.now)).status)) told c.judge_bytes.ensures.status)

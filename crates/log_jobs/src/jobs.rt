@@ -1,0 +1,114 @@
+// The jobs, from their objects to their statuses.
+ghost use Rattle.std.specs.Prelude.{◌≡◌, ◌≤◌};
+ghost use Rattle.outside_io.specs.Causes.{Rose};
+ghost use Rattle.log_jobs.specs.Jobs.{IsJudgeStatus, IsLogStatus, Judges, JudgesLogs, Stops};
+ghost use Rattle.log_jobs.specs.Laws.{FaultlessIsComplete};
+
+use crate::Report;
+use crate::laws::faultless_is_complete;
+use crate::opened::report_on;
+use crate::stop::Stop;
+use disk_model::Disk;
+use file_jobs::{FAULT_DISK, FAULT_MEMORY, end_with, open_index};
+use outside_io::{ReadAll, Sink, Source, Status, read_all};
+use std::alloc::Global;
+
+/// The most bytes of logs that are read.
+const MOST_LOGS: u64 = 1 << 30;
+
+// Ends a job that stopped.
+fn end_stopped<K: Sink>(why: Stop, out: &mut K) -> Status
+    ensures ends { Stops why (K.written out.old) (K.written out.new) result.0 }
+    ensures later { K.faults out.old ≤ K.faults out.new }
+{
+    match why {
+        Stop::Sink => Status(4),
+        Stop::Disk => end_with(out, FAULT_DISK, 5),
+        Stop::Memory => end_with(out, FAULT_MEMORY, 8),
+    }
+}
+
+// Says what there is to say of an index and the bytes of its logs.
+fn judge_index<D: Disk, K: Sink>(
+    alloc: Global,
+    report: Report,
+    index: &mut D,
+    bytes: &[u8],
+    out: &mut K,
+) -> Status
+    ensures judges { Judges report (D.state index.old) (D.state index.new) bytes.now (K.written out.old) (K.written out.new) result.0 }
+    ensures statuses { IsJudgeStatus result.0 }
+    ensures output { result.0 ≡ 4 → Rose (K.faults out.old) (K.faults out.new) }
+    ensures later { K.faults out.old ≤ K.faults out.new }
+{
+    let opened = match open_index(index, out) {
+        Ok(opened) => opened,
+        Err(status) => return status,
+    };
+    match report_on(alloc, report, index, &opened, bytes, out) {
+        Ok(status) => status,
+        Err(why) => end_stopped(why, out),
+    }
+}
+
+// Reads the logs, and says what there is to say of the index and of them.
+fn judge_logs<D: Disk, S: Source, K: Sink>(
+    alloc: Global,
+    report: Report,
+    index: &mut D,
+    log_in: &mut S,
+    out: &mut K,
+) -> Status
+    ensures judges { JudgesLogs report (D.state index.old) (D.state index.new) (S.left log_in.old) (S.left log_in.new) (K.written out.old) (K.written out.new) result.0 }
+    ensures statuses { IsLogStatus result.0 }
+    ensures input { result.0 ≡ 3 → Rose (S.faults log_in.old) (S.faults log_in.new) }
+    ensures output { result.0 ≡ 4 → Rose (K.faults out.old) (K.faults out.new) }
+    ensures counts { (S.faults log_in.old ≤ S.faults log_in.new) × (K.faults out.old ≤ K.faults out.new) }
+{
+    match read_all(alloc, log_in, MOST_LOGS) {
+        Ok(bytes) => judge_index(alloc, report, index, &bytes, out),
+        Err(ReadAll::Fault) => end_with(out, b"fault input\n", 3),
+        Err(ReadAll::TooLong) => end_with(out, b"fault long\n", 7),
+        Err(ReadAll::Memory) => end_with(out, FAULT_MEMORY, 8),
+    }
+}
+
+/// Judges the logs of `log_in` by the index and writes a line on each: that it is accepted, or its first fault. The file is
+/// not audited. Status 1: a log is rejected, or the bytes are no logs; 3: they could not be read; 4: a line could not be
+/// written; 5: the disk failed; 6: the file is no index of version 2; 7: there are more than 2^30 bytes of logs; 8: want of
+/// memory. Nothing is changed.
+pub fn verify_logs<D: Disk, S: Source, K: Sink>(
+    alloc: Global,
+    index: &mut D,
+    log_in: &mut S,
+    out: &mut K,
+) -> Status
+    ensures judges { JudgesLogs Report.Verdicts (D.state index.old) (D.state index.new) (S.left log_in.old) (S.left log_in.new) (K.written out.old) (K.written out.new) result.0 }
+    ensures statuses { IsLogStatus result.0 }
+    ensures input { result.0 ≡ 3 → Rose (S.faults log_in.old) (S.faults log_in.new) }
+    ensures output { result.0 ≡ 4 → Rose (K.faults out.old) (K.faults out.new) }
+    ensures counts { (S.faults log_in.old ≤ S.faults log_in.new) × (K.faults out.old ≤ K.faults out.new) }
+{
+    judge_logs(alloc, Report::Verdicts, index, log_in, out)
+}
+
+/// Audits the index, and where it is sound judges the logs of `log_in` by it. For each it writes that it is complete, with
+/// its query and its answers, or its first fault. Status 1 comes also where the file is not sound; the others are those of
+/// [`verify_logs`]. Nothing is changed.
+pub fn check_logs<D: Disk, S: Source, K: Sink>(
+    alloc: Global,
+    index: &mut D,
+    log_in: &mut S,
+    out: &mut K,
+) -> Status
+    ensures judges { JudgesLogs Report.Answers (D.state index.old) (D.state index.new) (S.left log_in.old) (S.left log_in.new) (K.written out.old) (K.written out.new) result.0 }
+    // A log that is written complete is sound on a sound file, and its answers are those of the plain scan.
+    ensures complete { FaultlessIsComplete (D.state index.old).bytes }
+    ensures statuses { IsLogStatus result.0 }
+    ensures input { result.0 ≡ 3 → Rose (S.faults log_in.old) (S.faults log_in.new) }
+    ensures output { result.0 ≡ 4 → Rose (K.faults out.old) (K.faults out.new) }
+    ensures counts { (S.faults log_in.old ≤ S.faults log_in.new) × (K.faults out.old ≤ K.faults out.new) }
+{
+    faultless_is_complete();
+    judge_logs(alloc, Report::Answers, index, log_in, out)
+}
