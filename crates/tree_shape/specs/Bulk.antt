@@ -1,4 +1,4 @@
--- The tree that bulk loading makes (Ciaccia and Patella 1998).
+-- The tree that bulk loading makes, by this project's own procedure.
 use Rattle.std.specs.Prelude.{◌≡◌, ℕ, zero, suc, ◌+◌, ◌^◌, ◌≤◌, max, Bool, true, false, List, [], ◌∷◌, length, map, if◌then◌else◌, nat_le, slice_index, slice_index_or, count_by}
 use Rattle.metric_laws.specs.Space.{Space}
 use Rattle.tree_shape.specs.declared.rules.Member.{Member}

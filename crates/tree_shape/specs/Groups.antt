@@ -1,4 +1,4 @@
--- How bulk loading parts a set into groups (Ciaccia and Patella 1998).
+-- How bulk loading parts a set into groups: this project's own procedure.
 use Rattle.std.specs.Prelude.{◌≡◌, ℕ, zero, suc, ◌+◌, ◌-◌, ◌*◌, ◌/◌, ◌<◌, ◌≤◌, min, Bool, true, false, List, [], ◌∷◌, length, Option, Some, None, if◌then◌else◌, nat_lt, nat_le, ◌==◌, ◌&&◌, ◌||◌, not, slice_index, slice_index_or, slice_set, replicate}
 use Rattle.std.specs.List.{AllByRecursion}
 use Rattle.std.specs.Int.{div_ceil}

@@ -22,7 +22,7 @@ pub struct Aim {
     pub dist: u64,
 }
 
-/// An object's group while a set is parted by a bulk load (Ciaccia and Patella 1998).
+/// An object's group while a bulk load parts a set, by this project's own procedure.
 #[derive(Clone, Copy, Debug, PartialEq, Eq)]
 pub struct Member {
     /// The group's number, from 0.
