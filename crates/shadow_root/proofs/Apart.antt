@@ -1,6 +1,6 @@
 -- Staged nodes are for different pages.
-use Rattle.std.specs.Prelude.{◌≡◌, ◌≢◌, ℕ, zero, suc, ◌<◌, List, [], ◌∷◌, length, slice_get, Some}
-use Rattle.std.proofs.Common.{ap, sym, ◌∙◌, subst, refl, arith}
+use Rattle.std.specs.Prelude.{◌≡◌, ℕ, zero, suc, ◌<◌, List, [], ◌∷◌, length}
+use Rattle.std.proofs.Common.{ap, sym, ◌∙◌, refl, arith}
 use Rattle.page_store.specs.declared.staging.StagedNode.{StagedNode}
 use Rattle.page_store.specs.Staging.{IsFree, AreApart}
 use Rattle.shadow_root.specs.Commit.{IsStagedAs}

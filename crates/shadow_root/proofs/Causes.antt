@@ -1,12 +1,12 @@
 -- The causes of a refusal to open, and what opens.
-use Rattle.std.proofs.Common.{◌≡◌, ℕ, ◌+◌, ◌-◌, ◌*◌, ◌^◌, ◌<◌, ◌≤◌, min, nat_lt, Bool, true, false, List, length, Option, Some, None, IsTrue, if◌then◌else◌, refl, sym, ◌∙◌, ap, subst, arith}
+use Rattle.std.proofs.Common.{◌≡◌, ℕ, ◌<◌, ◌≤◌, nat_lt, Bool, true, false, List, length, Some, None, IsTrue, refl, sym, ap, subst, arith}
 use Rattle.std.proofs.lemmas.Bool.{lt-ltb}
 use Rattle.std.proofs.lemmas.Bool.Decides.{nat_tests}
 use Rattle.outside_io.specs.Causes.{Rose}
 use Rattle.disk_model.specs.Disk.{DiskState, IsUnchanged}
 use Rattle.tree_shape.specs.declared.live.Live.{Live}
-use Rattle.node_page.specs.Heads.{SpellsHead, head_of, head_fault}
-use Rattle.node_page.specs.Opening.{page_of, IsLawfulLive, OpensTo, Unopened, slot_fault, after_head, open_fault}
+use Rattle.node_page.specs.Heads.{SpellsHead, head_fault}
+use Rattle.node_page.specs.Opening.{page_of, IsLawfulLive, OpensTo, Unopened, slot_fault, open_fault}
 use Rattle.node_page.specs.Opening.Unopened.{Short as TooShort, NoHead}
 use Rattle.node_page.specs.declared.head.Head.{Head}
 use Rattle.node_page.specs.declared.head.HeadFault.{HeadFault}

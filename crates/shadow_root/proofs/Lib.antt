@@ -6,3 +6,4 @@ pub mod Opened
 pub mod Causes
 pub mod Made
 pub mod Ready
+pub mod Beside

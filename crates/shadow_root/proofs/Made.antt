@@ -1,5 +1,5 @@
 -- A file of a head, two slots and an empty leaf is a sound empty index.
-use Rattle.std.proofs.Common.{◌≡◌, ◌≢◌, ◌⊎◌, inl, inr, ℕ, zero, suc, ◌+◌, ◌-◌, ◌*◌, ◌^◌, ◌<◌, ◌≤◌, ◌==◌, nat_lt, Bool, true, false, List, [], ◌∷◌, length, slice_index, Option, Some, None, Result, Ok, Err, IsTrue, if◌then◌else◌, refl, sym, ◌∙◌, ap, subst, arith}
+use Rattle.std.proofs.Common.{◌≡◌, ◌≢◌, inl, inr, ℕ, zero, suc, ◌+◌, ◌*◌, ◌≤◌, ◌==◌, nat_lt, Bool, true, false, List, [], ◌∷◌, length, slice_index, Option, Some, Ok, if◌then◌else◌, refl, sym, ◌∙◌, ap, subst, arith}
 use Rattle.std.proofs.lemmas.Bool.Decides.{nat_tests}
 use Rattle.disk_model.specs.Disk.{Written}
 use Rattle.metric_laws.specs.Space.{Space}
@@ -8,19 +8,18 @@ use Rattle.tree_shape.specs.declared.entry.Node.TheVariants.{Leaf}
 use Rattle.tree_shape.specs.Tree.{IsSoundTree}
 use Rattle.node_page.specs.declared.head.Head.{Head}
 use Rattle.node_page.specs.declared.node.Version.TheVariants.{Second}
-use Rattle.node_page.specs.declared.slot.Slot.{Slot}
 use Rattle.node_page.specs.Bytes.{number_at}
 use Rattle.node_page.specs.Heads.{SpellsHead}
 use Rattle.node_page.specs.Slots.{SpellsSlot}
 use Rattle.node_page.specs.declared.node.NodeFault.{NodeFault}
-use Rattle.node_page.specs.Nodes.{SpellsNode, node_of, count_of, firsts, place_of}
-use Rattle.node_page.specs.Opening.{page_of, is_open, slot_of_live, OpensTo}
+use Rattle.node_page.specs.Nodes.{SpellsNode, node_of, count_of, firsts}
+use Rattle.node_page.specs.Opening.{page_of, OpensTo}
 use Rattle.node_page.proofs.Numbers.{number_kept}
 use Rattle.node_page.proofs.NodeLaws.{none_by_spells, node_is}
 use Rattle.page_store.specs.PageBytes.{place-page_of}
 use Rattle.page_store.specs.Reading.{is_within, judged, reading, nodes_of}
 use Rattle.page_store.specs.Answers.{reads_page}
-use Rattle.page_store.specs.Files.{IsSoundFile, nodes_in}
+use Rattle.page_store.specs.Files.{nodes_in}
 use Rattle.shadow_root.specs.Commit.{HasFields}
 use Rattle.shadow_root.specs.Making.{first_live, IsMade}
 use Rattle.shadow_root.proofs.Torn.{written_page}

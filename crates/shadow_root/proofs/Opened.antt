@@ -1,14 +1,13 @@
 -- Two slots lead to the live one, or to the first fault of a file that has them.
-use Rattle.std.proofs.Common.{◌≡◌, ◌≢◌, ◌⊎◌, inl, inr, ⊎_elim, ℕ, zero, suc, ◌+◌, ◌-◌, ◌*◌, ◌^◌, ◌<◌, ◌≤◌, ◌==◌, ◌&&◌, ◌||◌, not, nat_lt, Bool, true, false, List, length, slice_index, Option, Some, None, Result, Ok, Err, IfOk, IfErr, IsTrue, if◌then◌else◌, refl, sym, ◌∙◌, ap, subst, arith}
-use Rattle.std.proofs.lemmas.Bool.{cases_lt, cases_eq, ltb-true, lt-ltb}
+use Rattle.std.proofs.Common.{◌≡◌, ℕ, ◌<◌, ◌==◌, ◌&&◌, ◌||◌, not, nat_lt, Bool, true, false, List, slice_index, Option, Some, Result, Ok, Err, IfOk, IfErr, if◌then◌else◌, refl, sym, ◌∙◌, ap, subst, arith}
+use Rattle.std.proofs.lemmas.Bool.{ltb-true}
 use Rattle.std.proofs.lemmas.Bool.Decides.{nat_tests}
 use Rattle.tree_shape.specs.declared.live.Live.{Live}
 use Rattle.node_page.specs.Bytes.{number_at}
-use Rattle.node_page.specs.Heads.{head_of}
 use Rattle.node_page.specs.Slots.{SpellsSlot, HasSlotRest, slot_of}
 use Rattle.node_page.proofs.SlotLaws.{slot_is}
 use Rattle.node_page.proofs.Opened.{rest_by_clear}
-use Rattle.node_page.specs.Opening.{page_of, slot_page, is_open, generation_of, slot_of_live, IsLawfulLive, live_side, live_at, live_of, is_clear, is_lawful_live, Unopened, slot_fault}
+use Rattle.node_page.specs.Opening.{slot_page, is_open, generation_of, slot_of_live, IsLawfulLive, live_side, live_at, live_of, is_clear, is_lawful_live, Unopened, slot_fault}
 use Rattle.node_page.specs.Opening.Unopened.{Unfinished as NoGate, TwoRoots as TwoGates, BadSlot}
 use Rattle.node_page.specs.declared.slot.Slot.{Slot}
 use Rattle.shadow_root.specs.Opening.{told_as, side_of, number_of, HasSlots, LeadsTo}

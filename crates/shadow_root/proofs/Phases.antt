@@ -1,5 +1,5 @@
 -- What each phase of a commit may leave.
-use Rattle.std.proofs.Common.{◌≡◌, ◌≢◌, ◌⊎◌, inl, inr, ⊎_elim, ℕ, zero, suc, ◌+◌, ◌-◌, ◌*◌, ◌^◌, ◌<◌, ◌≤◌, ◌==◌, Bool, true, List, length, slice_index, slice_get, Some, set, IsTrue, refl, sym, ◌∙◌, ap, subst, arith}
+use Rattle.std.proofs.Common.{◌≡◌, ◌≢◌, inl, inr, ⊎_elim, ℕ, ◌+◌, ◌-◌, ◌*◌, ◌<◌, ◌≤◌, ◌==◌, true, List, length, slice_index, set, IsTrue, sym, ◌∙◌, ap, subst, arith}
 use Rattle.std.proofs.lemmas.Bool.{cases_lt, cases_eq}
 use Rattle.std.proofs.lemmas.Bool.Decides.{nat_tests}
 use Rattle.std.proofs.lemmas.List.{length-set, get_or-set_same, get_or-set_other}
@@ -8,17 +8,16 @@ use Rattle.tree_shape.specs.declared.live.Live.{Live}
 use Rattle.node_page.specs.declared.head.Head.{Head}
 use Rattle.node_page.specs.Bytes.{number_at}
 use Rattle.node_page.specs.Heads.{SpellsHead}
-use Rattle.node_page.specs.Slots.{SpellsSlot, HasSlotRest}
+use Rattle.node_page.specs.Slots.{SpellsSlot}
 use Rattle.node_page.specs.Nodes.{SpellsNode}
-use Rattle.node_page.specs.Opening.{page_of, slot_page, is_open, generation_of, slot_of_live, IsLawfulLive, OpensTo}
+use Rattle.node_page.specs.Opening.{page_of, is_open, generation_of, slot_of_live, OpensTo}
 use Rattle.node_page.proofs.Numbers.{number_kept}
 use Rattle.page_store.specs.PageBytes.{place-page_of}
-use Rattle.page_store.specs.Reading.{IsWithin}
 use Rattle.page_store.specs.Files.{nodes_in}
 use Rattle.page_store.specs.declared.staging.StagedNode.{StagedNode}
-use Rattle.shadow_root.specs.Live.{HasLive, IsInTree, in_range, IsSuccessor}
-use Rattle.shadow_root.specs.Commit.{IsStagedAs, IsNotStaged, IsInPlace, KeepsTree, HasNext, IsOldPage, KeepsOthers, IsBeforeOrAfter, IsRewritten, IsFromRewritten, IsFromClosed, IsStagedFor, IsReady, HasFields, IsKept, IsStaged, IsWritten}
-use Rattle.shadow_root.proofs.Torn.{torn_page, written_page, rewritten_page}
+use Rattle.shadow_root.specs.Live.{IsInTree, in_range, IsSuccessor}
+use Rattle.shadow_root.specs.Commit.{IsStagedAs, KeepsTree, HasNext, IsOldPage, KeepsOthers, IsBeforeOrAfter, IsRewritten, IsFromClosed, IsStagedFor, HasFields, IsKept, IsWritten}
+use Rattle.shadow_root.proofs.Torn.{torn_page, rewritten_page}
 
 -- ---- gates
 

@@ -1,20 +1,19 @@
 -- A new file is ready for a commit beside its empty leaf.
-use Rattle.std.proofs.Common.{◌≡◌, ◌≢◌, ℕ, zero, suc, ◌+◌, ◌<◌, ◌≤◌, Bool, false, List, [], ◌∷◌, length, slice_get, Option, Some, None, IsTrue, refl, sym, ◌∙◌, ap, subst, arith}
+use Rattle.std.proofs.Common.{◌≡◌, ◌≢◌, ℕ, zero, suc, ◌+◌, ◌≤◌, false, List, [], ◌∷◌, Option, refl, sym, ap, subst, arith}
 use Rattle.metric_laws.specs.Space.{Space}
 use Rattle.metric_laws.specs.Lists.{IsIn}
-use Rattle.disk_model.specs.Disk.{DiskState, MayLeave, LeavesOnly}
+use Rattle.disk_model.specs.Disk.{DiskState, LeavesOnly}
 use Rattle.tree_shape.specs.declared.live.Live.{Live}
 use Rattle.tree_shape.specs.declared.entry.InnerEntry.{InnerEntry}
 use Rattle.tree_shape.specs.declared.entry.Node.{Node}
-use Rattle.tree_shape.specs.declared.entry.Node.TheVariants.{Leaf}
 use Rattle.tree_shape.specs.Tree.{Nodes, inner_entries}
 use Rattle.node_page.specs.declared.head.Head.{Head}
 use Rattle.node_page.specs.Opening.{page_of, OpensTo}
 use Rattle.page_store.specs.declared.staging.StagedNode.{StagedNode}
-use Rattle.page_store.specs.Files.{IsSoundFile, nodes_in}
-use Rattle.shadow_root.specs.Live.{HasLive, IsInTree, in_range}
+use Rattle.page_store.specs.Files.{nodes_in}
+use Rattle.shadow_root.specs.Live.{IsInTree}
 use Rattle.shadow_root.specs.Live.IsInTree.{root, child}
-use Rattle.shadow_root.specs.Commit.{IsStagedAs, KeepsTree, IsReady, IsStagedFor}
+use Rattle.shadow_root.specs.Commit.{IsStagedAs, IsReady, IsStagedFor}
 use Rattle.node_page.specs.Nodes.{IsLawfulNode}
 use Rattle.page_store.specs.Reading.{IsWithin}
 use Rattle.shadow_root.specs.Making.{first_live, IsMade}

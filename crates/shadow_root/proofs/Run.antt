@@ -1,5 +1,5 @@
 -- A commit, phase by phase: what a crash at each moment since it began may leave.
-use Rattle.std.proofs.Common.{◌≡◌, ◌≢◌, ◌⊎◌, inl, inr, ⊎_elim, ℕ, ◌+◌, ◌-◌, ◌*◌, ◌<◌, ◌≤◌, List, [], ◌∷◌, length, take, drop, length-drop, slice_index, set, IsTrue, Result, Ok, Err, OnOk, refl, sym, ◌∙◌, ap, subst, arith}
+use Rattle.std.proofs.Common.{◌≡◌, ◌≢◌, ◌⊎◌, inl, inr, ℕ, ◌+◌, ◌-◌, ◌*◌, ◌<◌, ◌≤◌, List, [], ◌∷◌, length, take, drop, length-drop, slice_index, set, IsTrue, Result, Ok, Err, OnOk, sym, ◌∙◌, ap, subst, arith}
 use Rattle.std.proofs.lemmas.Bool.{cases_lt}
 use Rattle.std.proofs.lemmas.List.{length-take-le, get_or-take, get_or-drop}
 use Rattle.disk_model.specs.Disk.{DiskState, MayLeave, Written, Torn, EachImage, IsOneCall}
@@ -12,7 +12,7 @@ use Rattle.page_store.specs.declared.staging.StagedNode.{StagedNode}
 use Rattle.shadow_root.specs.Live.{IsSuccessor}
 use Rattle.shadow_root.specs.Commit.{IsStagedAs, IsInPlace, HasNext, IsBeforeOrAfter, IsRewritten, IsFromRewritten, IsFromClosed, IsStagedFor, IsReady, HasFields, IsKept, IsStaged, IsWritten}
 use Rattle.shadow_root.proofs.Torn.{rewritten_page, torn_page, written_page}
-use Rattle.shadow_root.proofs.Phases.{gate_at, kept_from_rewritten, kept_closed, kept_shut, fields_by, opens_by, still_before, opened, opening, open_byte, byte_is_open}
+use Rattle.shadow_root.proofs.Phases.{gate_at, kept_from_rewritten, kept_closed, kept_shut, fields_by, opens_by, still_before, opened, opening, open_byte}
 
 -- a fact that holds whatever is answered
 pub whatever : {T E P : Type 0} (answer : Result T E) → P → OnOk answer P

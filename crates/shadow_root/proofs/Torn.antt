@@ -1,5 +1,5 @@
 -- What torn and rewritten pages leave of a file.
-use Rattle.std.specs.Prelude.{◌≡◌, ◌≢◌, ◌⊎◌, ℕ, ◌+◌, ◌*◌, ◌-◌, ◌<◌, ◌≤◌, List, length, slice_index, slice_get, Some}
+use Rattle.std.specs.Prelude.{◌≡◌, ◌≢◌, ◌⊎◌, ℕ, ◌+◌, ◌*◌, ◌<◌, ◌≤◌, List, length, slice_index, slice_get, Some}
 use Rattle.std.proofs.Common.{inl, inr, refl, sym, ap, ◌∙◌, ⊎_elim, subst, arith}
 use Rattle.std.proofs.lemmas.Bool.{cases_lt}
 use Rattle.disk_model.specs.Disk.{DiskState, MayLeave, Written, Torn, EachImage, IsOneCall, Follows}
@@ -8,7 +8,7 @@ use Rattle.node_page.specs.Nodes.{SpellsNode}
 use Rattle.node_page.specs.Opening.{page_of}
 use Rattle.page_store.specs.PageBytes.{same_page, page_is}
 use Rattle.page_store.specs.declared.staging.StagedNode.{StagedNode}
-use Rattle.shadow_root.specs.Commit.{IsStagedAs, IsNotStaged, IsElsewhere, IsRewritten, IsFromRewritten}
+use Rattle.shadow_root.specs.Commit.{IsStagedAs, IsNotStaged, IsRewritten, IsFromRewritten}
 
 -- a page that the write does not touch
 pub torn_page : (at count : ℕ) (old new : List ℕ) (p : ℕ) → Torn at count old new → (4096 * p + 4096 ≤ at) ⊎ (at + count ≤ 4096 * p) → 4096 * p + 4096 ≤ length old → page_of new p ≡ page_of old p

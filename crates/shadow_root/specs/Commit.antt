@@ -1,5 +1,5 @@
 -- What a commit promises, and how its steps lead there.
-use Rattle.std.specs.Prelude.{◌≡◌, ◌≢◌, ◌⊎◌, ℕ, ◌+◌, ◌*◌, ◌-◌, ◌^◌, ◌<◌, ◌≤◌, List, length, slice_index, slice_get, Some, IsTrue}
+use Rattle.std.specs.Prelude.{◌≡◌, ◌≢◌, ◌⊎◌, ℕ, ◌+◌, ◌*◌, ◌-◌, ◌<◌, ◌≤◌, List, length, slice_index, slice_get, Some, IsTrue}
 use Rattle.disk_model.specs.Disk.{DiskState, MayLeave, Torn}
 use Rattle.tree_shape.specs.declared.live.Live.{Live}
 use Rattle.node_page.specs.declared.head.Head.{Head}
@@ -10,7 +10,7 @@ use Rattle.node_page.specs.Opening.{page_of, OpensTo}
 use Rattle.page_store.specs.declared.staging.StagedNode.{StagedNode}
 use Rattle.page_store.specs.Reading.{IsWithin}
 use Rattle.page_store.specs.Files.{nodes_in}
-use Rattle.shadow_root.specs.Live.{HasLive, IsInTree, IsSuccessor}
+use Rattle.shadow_root.specs.Live.{HasLive, IsInTree}
 
 -- the node that was staged as number k
 abbrev pub IsStagedAs : List StagedNode → ℕ → StagedNode → Type 0

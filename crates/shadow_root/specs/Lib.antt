@@ -2,3 +2,4 @@ pub mod Live
 pub mod Commit
 pub mod Opening
 pub mod Making
+pub mod Placements

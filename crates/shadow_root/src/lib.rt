@@ -3,6 +3,7 @@
 
 mod committing;
 mod faults;
+pub mod laws;
 mod making;
 mod opening;
 

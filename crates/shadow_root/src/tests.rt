@@ -4,7 +4,7 @@ ghost use Rattle.disk_model.specs.Disk.{LeavesOnly};
 ghost use Rattle.disk_model.specs.FileCounts.{state_of, told_nothing};
 ghost use Rattle.shadow_root.specs.Making.{IsMade};
 
-use crate::{CreateFault, OpenFault, commit, create, open};
+use crate::{CreateFault, OpenFault, commit, create, laws, open};
 use disk_model::{Disk, Failed, MemoryDisk};
 use metric_laws::{Listed, Point};
 use node_page::{Head, HeadFault};
@@ -95,6 +95,9 @@ fn fault_with(alloc: Global, at: usize, byte: u8) -> Result<Option<OpenFault>, F
 
 #[test]
 fn a_new_file_opens(rt: HostRuntime) -> Result<(), Fail> {
+    laws::placements_can_follow();
+    laws::outside_is_beside();
+    laws::in_place_is_over();
     let alloc = rt.alloc();
     let mut disk = disk_of(alloc, Vec::new(alloc), None)?;
     assert_eq!(rt; make(&mut disk), Ok(FIRST));

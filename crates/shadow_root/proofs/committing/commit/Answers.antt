@@ -1,11 +1,10 @@
-use Rattle.std.proofs.Common.{◌≡◌, ℕ, ◌+◌, List, length, sym, ◌∙◌, ap, subst, IsTrue, Bool, take, drop}
+use Rattle.std.proofs.Common.{ℕ, ◌+◌, sym, ap, subst, IsTrue, Bool}
 use Rattle.std.proofs.lemmas.Result.{on_ok_weaker}
 use Rattle.node_page.specs.Slots.{SpellsSlot}
-use Rattle.node_page.specs.Opening.{slot_of_live}
 use Rattle.node_page.specs.declared.slot.Slot.{Slot}
 use Rattle.shadow_root.proofs.Phases.{fields_of_slot}
 use Rattle.shadow_root.proofs.Run.{only_before, run_body, run_gate, is_written, has_next, length-body_of, place-body_of}
-use Rattle.shadow_root.specs.Commit.{IsStaged, IsWritten, HasNext, HasFields}
+use Rattle.shadow_root.specs.Commit.{HasFields}
 use Rattle.shadow_root.proofs.committing.commit.Goals as goal
 
 pub returns-in_err-stage-clause-any_moment : goal.returns-in_err-stage-clause-any_moment

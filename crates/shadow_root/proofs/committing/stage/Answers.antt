@@ -1,4 +1,4 @@
-use Rattle.std.proofs.Common.{◌≡◌, ℕ, sym, ◌∙◌, subst, IsTrue, Bool, arith}
+use Rattle.std.proofs.Common.{sym, subst, IsTrue, Bool}
 use Rattle.shadow_root.proofs.Run.{now, run_nodes, run_closed, run_sync, is_staged, whatever}
 use Rattle.shadow_root.specs.Commit.{IsStaged}
 use Rattle.shadow_root.proofs.committing.stage.Goals as goal

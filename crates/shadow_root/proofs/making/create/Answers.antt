@@ -1,4 +1,4 @@
-use Rattle.std.proofs.Common.{◌≡◌, sym, ◌∙◌, subst, IsTrue, Bool}
+use Rattle.std.proofs.Common.{sym, ◌∙◌, subst, IsTrue, Bool}
 use Rattle.page_store.proofs.Results.{holds_at_ok}
 use Rattle.shadow_root.proofs.making.create.Goals as goal
 

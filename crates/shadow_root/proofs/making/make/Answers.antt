@@ -1,4 +1,4 @@
-use Rattle.std.proofs.Common.{◌≡◌, ℕ, List, sym, subst, IsTrue, Bool}
+use Rattle.std.proofs.Common.{sym, subst, IsTrue, Bool}
 use Rattle.std.proofs.lemmas.Result.{on_ok_weaker}
 use Rattle.node_page.specs.Slots.{SpellsSlot}
 use Rattle.node_page.specs.declared.slot.Slot.{Slot}

@@ -1,4 +1,4 @@
-use Rattle.std.proofs.Common.{◌≡◌, refl, sym, Ok, Err}
+use Rattle.std.proofs.Common.{◌≡◌, sym, Ok}
 use Rattle.shadow_root.specs.Opening.{side_of}
 use Rattle.shadow_root.specs.declared.opening.Side.TheVariants.{First, Second}
 use Rattle.shadow_root.proofs.Opened.{open_on, generation_on, slots_refused, leads_at_ok, refused_at_err}

@@ -1,5 +1,4 @@
-use Rattle.std.proofs.Common.{◌≡◌, ℕ, List, ◌≤◌, length, IsTrue, Bool, sym, ◌∙◌, ap, subst, arith}
-use Rattle.disk_model.specs.Disk.{IsUnchanged}
+use Rattle.std.proofs.Common.{ℕ, List, IsTrue, Bool, sym, subst, arith}
 use Rattle.disk_model.specs.Moments.{then_unchanged}
 use Rattle.node_page.specs.Heads.{SpellsHead}
 use Rattle.node_page.specs.Opening.{page_of}
