@@ -20,7 +20,8 @@ use Rattle.page_store.proofs.Given.{numbered_long}
 use Rattle.page_store.proofs.Giving.{limit_small}
 use Rattle.bulk_load.specs.Causes.{node_count}
 use Rattle.bulk_load.specs.Postorder.{subtrees_of, is_top, last_of, below_groups, group_entries, nodes_at}
-use Rattle.bulk_load.specs.Sets.{load_of, top_height, top_nodes, IsLawfulLoad, IsSetFor}
+use Rattle.bulk_load.specs.Groupable.{load_of}
+use Rattle.bulk_load.specs.Sets.{top_height, top_nodes, IsLawfulLoad, IsSetFor}
 use Rattle.bulk_load.proofs.Lawful.{nodes_lawful}
 use Rattle.bulk_load.proofs.Suited.{same_load, top_fits, height_low, nodes_few, nodes_long}
 

@@ -1,6 +1,8 @@
 -- What can be parted into groups.
-use Rattle.std.specs.Prelude.{◌≡◌, ℕ, ◌+◌, ◌^◌, ◌<◌, ◌≤◌, Bool, true, false}
+use Rattle.std.specs.Prelude.{◌≡◌, ℕ, ◌+◌, ◌^◌, ◌<◌, ◌≤◌, Bool, true, false, List}
+use Rattle.metric_laws.specs.Space.{Space}
 use Rattle.tree_shape.specs.declared.filling.Bounds.{Bounds}
+use Rattle.tree_shape.specs.Bulk.{Load}
 use Rattle.tree_shape.specs.Fill.{most_for, least_for}
 
 -- these are the bounds of nodes over points of some dimension
@@ -16,3 +18,7 @@ pub record IsSized (fill : Bounds) (is_root : Bool) (h n : ℕ) : Type 0 where
   pub above : is_root ≡ true → fill.most ^ h < n
   pub enough : is_root ≡ false → fill.least ^ (h + 1) ≤ n
   pub at_most : n ≤ fill.most ^ (h + 1)
+
+-- what is loaded: these points with their tags, into nodes of these bounds
+abbrev pub load_of : Space → List (List ℕ) → List ℕ → Bounds → Load
+load_of s points tags fill = record { space = s; points = points; tags = tags; most = fill.most; least = fill.least }

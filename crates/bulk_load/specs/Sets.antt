@@ -2,18 +2,14 @@
 use Rattle.std.specs.Prelude.{◌≡◌, ℕ, ◌+◌, ◌^◌, ◌<◌, ◌≤◌, Bool, true, false, List, length, None, IsTrue}
 use Rattle.std.specs.List.{AllByRecursion}
 use Rattle.metric_laws.specs.Space.{Space}
-use Rattle.tree_shape.specs.declared.filling.Bounds.{Bounds}
 use Rattle.tree_shape.specs.declared.rules.Group.{Group}
 use Rattle.tree_shape.specs.Fill.{most_for, least_for}
 use Rattle.tree_shape.specs.declared.entry.Node.{Node}
 use Rattle.tree_shape.specs.Bulk.{Load, height_of, places}
 use Rattle.page_store.specs.Numbers.{Ascends, number_at}
 use Rattle.bulk_load.specs.declared.subtree.Loading.{Loading}
+use Rattle.bulk_load.specs.Groupable.{load_of}
 use Rattle.bulk_load.specs.Postorder.{nodes_at}
-
--- what is loaded into nodes of this fill
-abbrev pub load_of : Space → List (List ℕ) → List ℕ → Bounds → Load
-load_of s rows labels fill = record { space = s; points = rows; tags = labels; most = fill.most; least = fill.least }
 
 -- what a call loads, where its metric measures the space
 abbrev pub load_by : {M : Type 0} → Space → Loading M → Load

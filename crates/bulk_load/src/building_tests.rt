@@ -1,16 +1,18 @@
-ghost use Rattle.std.specs.Prelude.{◌≡◌, ◌≤◌, ◌-◌, ◌^◌, length, IfOk};
+ghost use Rattle.std.specs.Prelude.{◌≡◌, ◌*◌, ◌≤◌, ◌<◌, ◌^◌, All, IsTrue, length, IfOk};
+ghost use Rattle.vector_kinds.specs.Vectors.{vector_space};
 ghost use Rattle.node_page.specs.Heads.{IsLawfulHead};
+ghost use Rattle.node_page.specs.Opening.{IsLawfulLive};
 ghost use Rattle.page_store.specs.Numbers.{AreNumbers};
 
 use crate::tests::line;
 use crate::{BuildFault, build};
-use metric_laws::Memory;
+use metric_laws::{Memory, Rows};
 use node_page::Head;
 use page_store::Placed;
 use std::alloc::Global;
 use std::process::Abort;
 use std::thread::Threads;
-use tree_shape::{Live, Node};
+use tree_shape::{InnerEntry, LeafEntry, Live, Node};
 use vector_kinds::L1;
 
 /// The greatest number of pages of a file.
@@ -49,40 +51,77 @@ fn tags_of(alloc: Global, count: u32) -> Result<Vec<u64>, Memory>
     Ok(tags)
 }
 
-// Loads the numbers 0 to 32 into an index with no objects whose root is page 3.
-fn load<R: Threads + Sync>(
-    rt: &R,
-    alloc: Global,
-    workers: usize,
-    generation: u64,
-    pages: u32,
-    numbers: &[u32],
-) -> Result<Placed, BuildFault>
-    requires workers { (1 ≤ workers) × (workers ≤ 64) }
-    requires generation { (1 ≤ generation) × (generation ≤ 2 ^ 48 - 1) }
-    requires pages { (4 ≤ pages) × (pages ≤ 2 ^ 24) }
-    requires numbers { AreNumbers pages numbers.now }
+// The numbers 0 to 32, each as a point.
+fn numbers(alloc: Global) -> Result<Rows, BuildFault>
+    ensures points { IfOk result (λ rows. length rows.points ≡ 33) }
+    ensures fit { IfOk result (λ rows. All (λ p. IsTrue ((vector_space 2 1).fits p)) rows.points) }
 {
-    let live = Live {
+    match line(alloc, 33, 1) {
+        Ok((rows, _)) => Ok(rows),
+        Err(_) => Err(BuildFault::Memory),
+    }
+}
+
+// So many points out of order: row i is (i + 1) * 121509 modulo 65536.
+fn scattered(alloc: Global, count: u32) -> Result<Rows, BuildFault>
+    ensures points { IfOk result (λ rows. length rows.points ≡ count) }
+    ensures fit { IfOk result (λ rows. All (λ p. IsTrue ((vector_space 2 1).fits p)) rows.points) }
+{
+    let mut rows = Rows::new(alloc, 1);
+    for row in 0..count {
+        let x = (u64::from(row) + 1) * 121_509 % 65_536;
+        if rows.push(&[x as u32]).is_err() {
+            return Err(BuildFault::Memory);
+        }
+    }
+    Ok(rows)
+}
+
+// The live tree of an index with no objects, whose root is page 3.
+fn empty(generation: u64, pages: u32) -> Live
+    ensures { result ≡ record { side = 0; generation = generation; root = 3; height = 0; count = 0; pages = pages } }
+{
+    Live {
         side: 0,
         generation,
         root: 3,
         height: 0,
         count: 0,
         pages,
-    };
-    let (Ok((rows, _)), Ok(tags)) = (line(alloc, 33, 1), tags_of(alloc, 33)) else {
+    }
+}
+
+// Loads rows of one coordinate, with their tags.
+fn load<R: Threads + Sync>(
+    rt: &R,
+    alloc: Global,
+    workers: usize,
+    live: &Live,
+    numbers: &[u32],
+    rows: &Rows,
+) -> Result<Placed, BuildFault>
+    requires workers { (1 ≤ workers) × (workers ≤ 64) }
+    requires some { 0 < length rows.now.points }
+    requires few { length rows.now.points ≤ 2 ^ 24 }
+    requires fit { All (λ p. IsTrue ((vector_space 2 1).fits p)) rows.now.points }
+    requires live { IsLawfulLive (length rows.now.points) (live.now.pages * 4096) live.now }
+    requires empty { live.now.count ≡ 0 }
+    requires numbers { AreNumbers live.now.pages numbers.now }
+{
+    let count = rows.len() as u32;
+    let Ok(tags) = tags_of(alloc, count) else {
         return Err(BuildFault::Memory);
     };
+    let head = head_of(count);
     build(
         rt,
         alloc,
         L1::new(1),
         workers,
-        &head_of(33),
-        &live,
+        &head,
+        live,
         numbers,
-        &rows,
+        rows,
         &tags,
     )
 }
@@ -120,6 +159,49 @@ fn check_root(rt: &impl Abort, node: &Node, wanted: &[(u32, u64, u32)]) {
     }
 }
 
+// Whether two leaves have the same entries.
+fn are_leaves_same(left: &[LeafEntry], right: &[LeafEntry]) -> bool {
+    for (a, b) in left.iter().zip(right) {
+        if a.id != b.id || a.tag != b.tag || a.parent != b.parent {
+            return false;
+        }
+        if a.point.as_slice() != b.point.as_slice() {
+            return false;
+        }
+    }
+    left.len() == right.len()
+}
+
+// Whether two inner nodes have the same entries.
+fn are_inner_same(left: &[InnerEntry], right: &[InnerEntry]) -> bool {
+    for (a, b) in left.iter().zip(right) {
+        if a.child != b.child || a.radius != b.radius || a.parent != b.parent {
+            return false;
+        }
+        if a.point.as_slice() != b.point.as_slice() {
+            return false;
+        }
+    }
+    left.len() == right.len()
+}
+
+// Whether two nodes are the same.
+fn are_same(left: &Node, right: &Node) -> bool {
+    match (left, right) {
+        (Node::Leaf(left), Node::Leaf(right)) => {
+            are_leaves_same(left.as_slice(), right.as_slice())
+        }
+        (
+            Node::Inner { level, entries },
+            Node::Inner {
+                level: other,
+                entries: others,
+            },
+        ) => level == other && are_inner_same(entries.as_slice(), others.as_slice()),
+        _ => false,
+    }
+}
+
 #[test]
 fn children_are_numbered_before_their_parent(rt: HostRuntime) -> Result<(), BuildFault> {
     let leaves = [(0u32, 0u32, 6u32), (8, 6, 13), (16, 13, 21), (24, 21, 33)];
@@ -131,40 +213,62 @@ fn children_are_numbered_before_their_parent(rt: HostRuntime) -> Result<(), Buil
         count: 33,
         pages: 9,
     };
-    for workers in [1usize, 2, 64] {
-        let placed = load(&rt, rt.alloc(), workers, 1, 4, &[])?;
-        assert_eq!(&rt; placed.next, next);
-        assert_eq!(&rt; placed.left.as_slice(), [3].as_slice());
-        assert!(&rt; placed.staged.len() == 5);
-        for place in 0..4 {
-            let (seed, from, to) = leaves[place];
-            assert_eq!(&rt; placed.staged.page_at(place), 4 + place as u32);
-            check_leaf(&rt, placed.staged.node_at(place), seed, from, to);
+    let rows = numbers(rt.alloc())?;
+    let placed = load(&rt, rt.alloc(), 2, &empty(1, 4), &[], &rows)?;
+    assert_eq!(&rt; placed.next, next);
+    assert_eq!(&rt; placed.left.as_slice(), [3].as_slice());
+    assert!(&rt; placed.staged.len() == 5);
+    for place in 0..4 {
+        let (seed, from, to) = leaves[place];
+        assert_eq!(&rt; placed.staged.page_at(place), 4 + place as u32);
+        check_leaf(&rt, placed.staged.node_at(place), seed, from, to);
+    }
+    assert_eq!(&rt; placed.staged.page_at(4), 8);
+    let entries = [(4, 5, 0), (5, 4, 8), (6, 4, 16), (7, 8, 24)];
+    check_root(&rt, placed.staged.node_at(4), &entries);
+    Ok(())
+}
+
+#[test]
+fn any_number_of_workers_gives_the_same_nodes(rt: HostRuntime) -> Result<(), BuildFault> {
+    let rows = scattered(rt.alloc(), 65_536)?;
+    let live = empty(1, 4);
+    let by_one = load(&rt, rt.alloc(), 1, &live, &[], &rows)?;
+    assert_eq!(&rt; by_one.next.height, 3);
+    for workers in [2usize, 64] {
+        let placed = load(&rt, rt.alloc(), workers, &live, &[], &rows)?;
+        assert_eq!(&rt; placed.next, by_one.next);
+        assert_eq!(&rt; placed.staged.len(), by_one.staged.len());
+        for place in 0..placed.staged.len().min(by_one.staged.len()) {
+            let page = placed.staged.page_at(place);
+            assert_eq!(&rt; page, by_one.staged.page_at(place));
+            let node = placed.staged.node_at(place);
+            assert!(&rt; are_same(node, by_one.staged.node_at(place)));
         }
-        assert_eq!(&rt; placed.staged.page_at(4), 8);
-        let entries = [(4, 5, 0), (5, 4, 8), (6, 4, 16), (7, 8, 24)];
-        check_root(&rt, placed.staged.node_at(4), &entries);
     }
     Ok(())
 }
 
 #[test]
 fn a_full_file_has_room_for_what_numbers_are_handed_in(rt: HostRuntime) -> Result<(), BuildFault> {
-    let placed = load(&rt, rt.alloc(), 1, 1, MOST_PAGES, &[4, 6, 7, 8, 10])?;
+    let rows = numbers(rt.alloc())?;
+    let full = empty(1, MOST_PAGES);
+    let placed = load(&rt, rt.alloc(), 1, &full, &[4, 6, 7, 8, 10], &rows)?;
     assert_eq!(&rt; placed.next.root, 10);
     assert_eq!(&rt; placed.next.pages, MOST_PAGES);
     let refused = [
-        (load(&rt, rt.alloc(), 1, 1, MOST_PAGES, &[]), 5),
-        (load(&rt, rt.alloc(), 1, 1, MOST_PAGES, &[4, 6]), 3),
+        (load(&rt, rt.alloc(), 1, &full, &[], &rows), 5),
+        (load(&rt, rt.alloc(), 1, &full, &[4, 6], &rows), 3),
     ];
     for (result, needed) in refused {
-        let full = BuildFault::NoRoom {
+        let no_room = BuildFault::NoRoom {
             pages: MOST_PAGES,
             needed,
         };
-        assert!(&rt; result.is_err_and(|fault| fault == full));
+        assert!(&rt; result.is_err_and(|fault| fault == no_room));
     }
-    let worn = load(&rt, rt.alloc(), 1, LAST_GENERATION, 4, &[]);
+    let last = empty(LAST_GENERATION, 4);
+    let worn = load(&rt, rt.alloc(), 1, &last, &[], &rows);
     assert!(&rt; worn.is_err_and(|fault| fault == BuildFault::Worn));
     Ok(())
 }

@@ -4,7 +4,7 @@ ghost use Rattle.std.specs.Prelude.{◌≡◌, ℕ, List, ◌<◌, ◌≤◌, �
 ghost use Rattle.std.specs.List.Sorted.{IsStrictlyIncreasing};
 ghost use Rattle.tree_shape.specs.Bulk.{row_of, groups_from, groups_at};
 ghost use Rattle.tree_shape.specs.Groups.{members_from, entry, placed_from, filled_from};
-ghost use Rattle.bulk_load.specs.Groupable.{IsFill, IsSized};
+ghost use Rattle.bulk_load.specs.Groupable.{IsFill, IsSized, load_of};
 
 use crate::distances::Distances;
 use crate::filling::fill_up;
@@ -108,8 +108,7 @@ pub fn groups<R: Threads + Sync, M: Metric>(
     requires fill { IsFill fill.now }
     requires size { IsSized fill.now root level (length set.now) }
     requires workers { (1 ≤ workers) × (workers ≤ 64) }
-    ensures { IfOk result (λ gs. (tags : List ℕ) → gs.items
-        ≡ groups_at (record { space = M.space metric; points = rows.now.points; tags = tags; most = fill.now.most; least = fill.now.least }) root level set.now) }
+    ensures { IfOk result (λ gs. (tags : List ℕ) → gs.items ≡ groups_at (load_of (M.space metric) rows.now.points tags fill.now) root level set.now) }
 {
     let n = set.len();
     let room = fill.most.pow(level);

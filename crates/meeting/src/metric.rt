@@ -1,4 +1,3 @@
-ghost use Rattle.std.specs.Prelude.{◌≡◌, ◌≤◌};
 ghost use Rattle.vector_kinds.specs.Vectors.{vector_space};
 ghost use Rattle.vector_kinds.specs.VectorLaws.{l1_axioms};
 
@@ -6,31 +5,21 @@ use crate::Seen;
 use metric_laws::Metric;
 use vector_kinds::L1;
 
-/// L1's distances. Where exactly one of two points is among a distance's arguments, that point is noted and waits for the
-/// other.
+/// L1's distances, and two different points that are to meet. Where exactly one of them is among a distance's arguments,
+/// that point is noted and waits for the other.
 #[derive(Clone, Copy)]
 pub struct Meeting<'a> {
-    plain: L1,
-    first: &'a [u32],
-    second: &'a [u32],
-    seen: &'a Seen,
+    /// The metric that gives the distances.
+    pub plain: L1,
+    /// The point of the first event.
+    pub first: &'a [u32],
+    /// The point of the second event.
+    pub second: &'a [u32],
+    /// Where they are noted.
+    pub seen: &'a Seen,
 }
 
-impl<'a> Meeting<'a> {
-    /// The metric on points of `dim` coordinates, over two different points that are to meet.
-    pub fn new(dim: u8, first: &'a [u32], second: &'a [u32], seen: &'a Seen) -> Self
-        requires some { 1 ≤ dim }
-        requires few { dim ≤ 64 }
-        ensures { result.plain.dim ≡ dim }
-    {
-        Meeting {
-            plain: L1::new(dim),
-            first,
-            second,
-            seen,
-        }
-    }
-
+impl Meeting<'_> {
     fn see(&self, a: &[u32], b: &[u32]) {
         let first = a == self.first || b == self.first;
         let second = a == self.second || b == self.second;

@@ -1,5 +1,6 @@
 use crate::{Meeting, Seen};
 use metric_laws::Metric;
+use vector_kinds::L1;
 
 // The distance through the bound.
 fn distance<M: Metric>(metric: M, a: &[u32], b: &[u32]) -> u64 {
@@ -9,7 +10,12 @@ fn distance<M: Metric>(metric: M, a: &[u32], b: &[u32]) -> u64 {
 #[test]
 fn distances_are_those_of_l1(rt: HostRuntime) {
     let seen = Seen::new();
-    let metric = Meeting::new(2, &[1, 2], &[3, 4], &seen);
+    let metric = Meeting {
+        plain: L1::new(2),
+        first: &[1, 2],
+        second: &[3, 4],
+        seen: &seen,
+    };
     assert_eq!(rt; metric.words(), 2);
     assert_eq!(rt; (metric.fits(&[9, 9]), metric.fits(&[9])), (true, false));
     assert_eq!(rt; distance(metric, &[1, 2], &[3, 4]), 4);
@@ -20,7 +26,12 @@ fn distances_are_those_of_l1(rt: HostRuntime) {
 #[test]
 fn one_point_waits_in_vain_once(rt: HostRuntime) {
     let seen = Seen::new();
-    let metric = Meeting::new(1, &[1], &[32], &seen);
+    let metric = Meeting {
+        plain: L1::new(1),
+        first: &[1],
+        second: &[32],
+        seen: &seen,
+    };
     assert_eq!(rt; distance(metric, &[1], &[0]), 1);
     assert_eq!(rt; distance(metric, &[0], &[32]), 32);
     assert_eq!(rt; distance(metric, &[1], &[5]), 4);

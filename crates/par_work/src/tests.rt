@@ -75,11 +75,21 @@ fn two_workers_of_rows_meet(rt: HostRuntime) -> Result<(), Memory> {
     let alloc = rt.alloc();
     let points = line(alloc, 33)?;
     let seen = Seen::new();
-    let metric = Meeting::new(1, &[1], &[32], &seen);
+    let metric = Meeting {
+        plain: L1::new(1),
+        first: &[1],
+        second: &[32],
+        seen: &seen,
+    };
     rows(&rt, alloc, metric, &points, &[0], 2)?;
     assert!(rt; seen.met());
     let alone = Seen::new();
-    let metric = Meeting::new(1, &[1], &[32], &alone);
+    let metric = Meeting {
+        plain: L1::new(1),
+        first: &[1],
+        second: &[32],
+        seen: &alone,
+    };
     rows(&rt, alloc, metric, &points, &[0], 1)?;
     assert!(rt; !alone.met());
     Ok(())

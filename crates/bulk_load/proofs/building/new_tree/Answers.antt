@@ -1,7 +1,7 @@
 use Rattle.std.proofs.Common.{◌≡◌, arith, length, rules}
 use Rattle.tree_shape.specs.Bulk.{height_of}
 use Rattle.page_store.specs.Numbers.{number_at}
-use Rattle.bulk_load.specs.Sets.{load_of}
+use Rattle.bulk_load.specs.Groupable.{load_of}
 use Rattle.bulk_load.proofs.Suited.{most_some}
 use Rattle.bulk_load.proofs.Committed.{low, most_low, all_rows, first_few}
 use Rattle.bulk_load.proofs.building.new_tree.Goals as goal

@@ -2,6 +2,7 @@ use Rattle.std.proofs.Common.{◌≡◌, ℕ, ◌^◌, ◌≤◌, arith, ◌∙�
 use Rattle.std.proofs.Math.Nat.{one-le-pow, pow-le-pow_left}
 use Rattle.tree_shape.specs.Bulk.{groups_from, groups_at, Load}
 use Rattle.par_work.proofs.Joining.{if_ok}
+use Rattle.bulk_load.specs.Groupable.{load_of}
 use Rattle.bulk_load.proofs.Members.{groups_are}
 use Rattle.bulk_load.proofs.Sizes.{increasing_few, bounds_of, some_objects, some_groups, room_fits}
 use Rattle.bulk_load.proofs.grouping.groups.Goals as goal
@@ -61,4 +62,4 @@ returns g c =
     (let s = c.as_slice.ensures.value in let t = c.as_slice-3.ensures.value in cc))
   where
     load : List ℕ → Load
-    load tags = record { space = g.M.Metric.space c.args.metric; points = c.args.rows.now.points; tags = tags; most = c.args.fill.now.most; least = c.args.fill.now.least }
+    load tags = load_of (g.M.Metric.space c.args.metric) c.args.rows.now.points tags c.args.fill.now

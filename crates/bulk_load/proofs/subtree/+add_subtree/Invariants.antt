@@ -1,5 +1,5 @@
 use Rattle.page_store.specs.Numbers.{number_at}
-use Rattle.bulk_load.specs.Sets.{load_of}
+use Rattle.bulk_load.specs.Groupable.{load_of}
 use Rattle.bulk_load.proofs.Looped.{Loops}
 use Rattle.bulk_load.proofs.subtree.+add_subtree.Given as goal
 

@@ -1,6 +1,6 @@
 use Rattle.std.proofs.Common.{◌≡◌, map, drop, ◌++◌}
 use Rattle.bulk_load.specs.Postorder.{leaf_entry}
-use Rattle.bulk_load.specs.Sets.{load_of}
+use Rattle.bulk_load.specs.Groupable.{load_of}
 use Rattle.bulk_load.proofs.subtree.leaf_entries.Given as goal
 
 abbrev pub invariant-loop-row : goal.invariant-loop-row

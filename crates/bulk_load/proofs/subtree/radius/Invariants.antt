@@ -1,6 +1,6 @@
 use Rattle.std.proofs.Common.{◌≡◌, max, drop}
 use Rattle.tree_shape.specs.Bulk.{point_of, radius_of}
-use Rattle.bulk_load.specs.Sets.{load_of}
+use Rattle.bulk_load.specs.Groupable.{load_of}
 use Rattle.bulk_load.proofs.subtree.radius.Given as goal
 
 abbrev pub invariant-loop-row : goal.invariant-loop-row
