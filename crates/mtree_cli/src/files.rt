@@ -1,17 +1,17 @@
 // The real files that the words name.
 use crate::program::run;
 use disk_model::{Disk, FileDisk, MemoryDisk};
-use job_words::{Job, read_job};
+use job_words::{FileNames, Job, PlacesFault, places, read_job};
 use outside_io::{MemorySink, MemorySource, Sink, Source, Status, StdSource};
 use std::alloc::{AllocError, Global};
 use std::fs::{File, OpenOptions};
 use std::io;
 
-// Opens the index, and makes its file where `make` says so.
+// Opens the index for reading, and where `make` says so for writing too, and then makes its file.
 fn open_index(rt: &HostRuntime, name: &str, make: bool) -> io::Result<FileDisk> {
     let file = OpenOptions::new()
         .read(true)
-        .write(true)
+        .write(make)
         .create(make)
         .open(rt, name)?;
     Ok(FileDisk::new(file))
@@ -54,32 +54,30 @@ fn run_with<D: Disk, S: Source, L: Source, K: Sink>(
     )
 }
 
-// The names of the files of a job.
-#[derive(Clone, Copy)]
-struct Names<'a> {
-    index: &'a str,
-    make: bool,
-    log: Option<&'a str>,
+// Whether the program does the job of the words on files so far. For the jobs that it doesn't, no file is opened or made.
+fn is_on_files(alloc: Global, words: &[String]) -> bool {
+    matches!(
+        read_job(alloc, words),
+        Ok(
+            Job::Create { .. }
+                | Job::Audit { .. }
+                | Job::Verify { other: None, .. }
+                | Job::Check { other: None, .. }
+        )
+    )
 }
 
-// The names of the files that a job works on, where it is done on files.
-fn names_of<'a>(job: Job<&'a str>) -> Option<Names<'a>> {
-    let (index, make, log) = match job {
-        Job::Create { index, .. } => (index, true, None),
-        Job::Audit { index, .. } => (index, false, None),
-        Job::Verify {
-            index,
-            log,
-            other: None,
-        }
-        | Job::Check {
-            index,
-            log,
-            other: None,
-        } => (index, false, Some(log)),
-        _ => return None,
-    };
-    Some(Names { index, make, log })
+// Runs the job of the words on no file.
+fn run_without_files<S: Source, K: Sink>(
+    alloc: Global,
+    words: &[String],
+    input: &mut S,
+    out: &mut K,
+) -> Status {
+    match no_disk(alloc) {
+        Ok(mut index) => run_with(alloc, words, &mut index, input, &mut no_logs(alloc), out),
+        Err(_) => Status(8),
+    }
 }
 
 // Runs the job of the words on these files.
@@ -87,14 +85,17 @@ fn run_on_names<S: Source, K: Sink>(
     rt: &HostRuntime,
     alloc: Global,
     words: &[String],
-    names: Names<'_>,
+    names: FileNames<&str>,
     input: &mut S,
     out: &mut K,
 ) -> Status {
-    let Ok(mut index) = open_index(rt, names.index, names.make) else {
+    let Some(name) = names.index else {
+        return run_without_files(alloc, words, input, out);
+    };
+    let Ok(mut index) = open_index(rt, name, names.make) else {
         return Status(10);
     };
-    let Some(log) = names.log else {
+    let Some(log) = names.log_in else {
         return run_with(alloc, words, &mut index, input, &mut no_logs(alloc), out);
     };
     let Ok(file) = File::open(rt, log) else {
@@ -113,13 +114,11 @@ pub fn run_on_files<S: Source, K: Sink>(
     input: &mut S,
     out: &mut K,
 ) -> Status {
-    if let Ok(job) = read_job(alloc, words) {
-        if let Some(names) = names_of(job) {
-            return run_on_names(rt, alloc, words, names, input, out);
+    match places(alloc, words) {
+        Ok(names) if is_on_files(alloc, words) => {
+            run_on_names(rt, alloc, words, names, input, out)
         }
-    }
-    match no_disk(alloc) {
-        Ok(mut index) => run_with(alloc, words, &mut index, input, &mut no_logs(alloc), out),
-        Err(_) => Status(8),
+        Ok(_) | Err(PlacesFault::Usage) => run_without_files(alloc, words, input, out),
+        Err(PlacesFault::Memory) => Status(8),
     }
 }
