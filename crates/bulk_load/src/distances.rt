@@ -1,70 +1,119 @@
 //! The distances of a set's objects to its seeds.
 
-ghost use Rattle.std.specs.Prelude.{◌≡◌, ◌<◌, ◌≤◌, All, length, map, IfOk};
-ghost use Rattle.tree_shape.specs.Bulk.{row_of};
+ghost use Rattle.std.specs.Prelude.{◌≡◌, ◌<◌, ◌≤◌, ◌-◌, ◌*◌, All, length};
 ghost use Rattle.tree_shape.specs.Groups.{entry};
+ghost use Rattle.bulk_load.specs.Measured.{measured, cell_from};
 
-use metric_laws::{Memory, Metric, Rows};
-use par_work::rows;
+use crate::seeded::SeededSet;
+use metric_laws::{Memory, Metric};
+use par_work::{Job, fork};
 use std::alloc::Global;
 use std::marker::Model;
 use std::thread::Threads;
 
-/// The distances of a set's objects to its seeds, object by object.
+/// The number of objects whose distances are kept at a time.
+const BLOCK: usize = 16384;
+
+/// The distances of the objects from one place up to another, object by object.
 #[derive(Drop)]
-pub struct Distances {
-    cells: Vec<u64>,
-    seeds: usize,
-    objects: usize,
+struct Block<'a, M: Metric> {
+    metric: M,
+    set: &'a SeededSet<'a>,
+    first: usize,
+    last: usize,
+    ghost inside: { last ≤ length set.now.points },
 }
 
-impl Model for Distances {
-    ghost use Rattle.std.specs.Prelude.{◌≡◌, ◌*◌, length};
-    ghost use Rattle.metric_laws.specs.Rows.{rows_of};
-    ghost use Rattle.bulk_load.specs.Measured.{Measured};
+impl<M: Metric> Job for Block<'_, M> {
+    type Out = u64;
+
+    ghost places = { λ block. (block.last - block.first) * length block.set.now.seeds };
+
+    ghost answers = { λ block i x. x ≡ cell_from (measured (M.space block.metric) block.set.now) block.first i };
+
+    fn piece(&self, i: usize) -> u64 {
+        let seeds = self.set.seeds();
+        let object = self.set.object(self.first + i / seeds);
+        self.metric.dist(object, self.set.seed(i % seeds))
+    }
+}
+
+/// The distances of a set's objects to its seeds. Those of a block of objects may have been computed beforehand by several
+/// workers; each other one is computed when it is asked for, so that memory never holds those of the whole set.
+#[derive(Drop)]
+pub struct Distances<'a, M: Metric> {
+    metric: M,
+    set: SeededSet<'a>,
+    first: usize,
+    cells: Vec<u64>,
+}
+
+impl<'a, M: Metric> Model for Distances<'a, M> {
+    ghost use Rattle.bulk_load.specs.Measured.{Measured, AreCells, measured};
 
     ghost Value = { Measured };
 
-    ghost view = { λ d. record { width = d.seeds; table = rows_of d.seeds d.objects d.cells.items } };
+    ghost view = { λ d. measured (M.space d.metric) d.set };
 
-    ghost invariant = { λ d. d.objects * d.seeds ≡ length d.cells.items };
+    ghost invariant = { λ d. AreCells (measured (M.space d.metric) d.set) d.first d.cells.items };
 }
 
-impl Distances {
-    /// Measures by so many workers. The seeds are places of the points.
-    pub fn measure<R: Threads + Sync, M: Metric>(
-        rt: &R,
-        alloc: Global,
-        metric: M,
-        points: &Rows,
-        seeds: &[u32],
-        workers: usize,
-    ) -> Result<Self, Memory>
-        requires seeds { All (λ k. k < length points.now.points) seeds.now }
-        requires some { 1 ≤ workers }
-        requires few { workers ≤ 64 }
-        ensures width { IfOk result (λ d. d.width ≡ length seeds.now) }
-        ensures table { IfOk result (λ d. d.table ≡ map (row_of (M.space metric) points.now.points seeds.now) points.now.points) }
+impl<'a, M: Metric> Distances<'a, M> {
+    /// The distances of a set, of which none is computed yet.
+    pub fn new(alloc: Global, metric: M, set: SeededSet<'a>) -> Self
+        ensures { result ≡ measured (M.space metric) set.entry }
     {
-        Ok(Distances {
-            cells: rows(rt, alloc, metric, points, seeds, workers)?,
-            seeds: seeds.len(),
-            objects: points.len(),
-        })
+        Distances {
+            metric,
+            set,
+            first: 0,
+            cells: Vec::new(alloc),
+        }
     }
 
     /// The number of objects.
     pub fn objects(&self) -> usize
         ensures { result ≡ length self.now.table }
     {
-        self.objects
+        self.set.objects()
     }
 
     /// The number of seeds.
     pub fn seeds(&self) -> usize
         ensures { result ≡ self.now.width }
     {
-        self.seeds
+        self.set.seeds()
+    }
+
+    /// Has several workers compute the distances of the block of objects that begins at a place. One worker computes none
+    /// beforehand, and between the beginnings of blocks there is nothing to do.
+    pub fn measure_ahead<R: Threads + Sync>(
+        &mut self,
+        rt: &R,
+        alloc: Global,
+        place: usize,
+        workers: usize,
+    ) -> Result<(), Memory>
+        requires place { place < length self.old.table }
+        requires few_seeds { self.old.width ≤ 64 }
+        requires some { 1 ≤ workers }
+        requires few { workers ≤ 64 }
+        ensures { self.new ≡ self.old }
+    {
+        if workers == 1 || place % BLOCK != 0 {
+            return Ok(());
+        }
+        let last = place + BLOCK.min(self.objects() - place);
+        let block = Block {
+            metric: self.metric,
+            set: &self.set,
+            first: place,
+            last,
+        };
+        let count = (last - place) * self.seeds();
+        self.cells = fork(rt, alloc, &block, count, workers)?;
+        self.first = place;
+        Ok(())
     }
 
     /// How far the object at a place is from a group's seed.
@@ -73,6 +122,12 @@ impl Distances {
         requires group { group < self.now.width }
         ensures { result ≡ entry self.now.table place group }
     {
-        self.cells[place * self.seeds + group]
+        let seeds = self.seeds();
+        if place >= self.first && place - self.first < self.cells.len() / seeds {
+            self.cells[(place - self.first) * seeds + group]
+        } else {
+            self.metric
+                .dist(self.set.object(place), self.set.seed(group))
+        }
     }
 }
