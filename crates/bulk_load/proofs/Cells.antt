@@ -3,7 +3,8 @@ use Rattle.std.proofs.Common.{◌≡◌, ℕ, zero, suc, ◌+◌, ◌-◌, ◌*�
 use Rattle.std.proofs.lemmas.Option.{slice_get_read}
 use Rattle.std.proofs.lemmas.List.{get_or-map}
 use Rattle.std.proofs.lemmas.Nat.{div-mul-add, mod-mul-add}
-use Rattle.std.proofs.Math.Nat.{div-lt_iff_lt-mul, le-div_iff_mul-le, suc-mul, mul-zero}
+use Rattle.std.proofs.Math.Nat.{div-lt_iff_lt-mul, mul-zero}
+use Rattle.metric_laws.proofs.RowsLemmas.{row_room}
 use Rattle.metric_laws.specs.Space.{Space}
 use Rattle.tree_shape.specs.Bulk.{row_of}
 use Rattle.tree_shape.specs.Groups.{entry}
@@ -24,16 +25,12 @@ cell_at m w first k a is low here =
     ∙ ap (λ (j : ℕ). entry m.table (first + (k - first)) j) (mod-mul-add (k - first) w a here)
     ∙ ap (λ (j : ℕ). entry m.table j a) (let e : first + (k - first) ≡ k = omega arith in e)
 
-cell_inside : (j w a len : ℕ) → j < len / w → a < w → j * w + a < len
-cell_inside j w a len low here =
-    let more : suc j * w ≤ len = (le-div_iff_mul-le {k = w} {x = suc j} {y = len} (omega arith)).0 low in
-    omega (arith, suc-mul j w)
-
 -- what is found among the cells is the distance
-pub found_cell : (m : Measured) (w first : ℕ) (cells : List ℕ) (k a x : ℕ) → w ≡ m.width → AreCells m first cells → first ≤ k → a < w → k - first < length cells / w →
+pub found_cell : (m : Measured) (w first last : ℕ) (cells : List ℕ) (k a x : ℕ) → w ≡ m.width → (last - first) * w ≡ length cells → AreCells m first cells → first ≤ k → k < last → a < w →
     x ≡ get_or cells ((k - first) * w + a) x → x ≡ entry m.table k a
-found_cell m w first cells k a x is are low here inside e =
-    are ((k - first) * w + a) x (slice_get_read cells (length cells) ((k - first) * w + a) x refl (cell_inside (k - first) w a (length cells) inside here) e) ∙ cell_at m w first k a is low here
+found_cell m w first last cells k a x is long are low high here e =
+    let room = row_room w (last - first) (k - first) (length cells) long (omega arith) in
+    are ((k - first) * w + a) x (slice_get_read cells (length cells) ((k - first) * w + a) x refl (omega arith) e) ∙ cell_at m w first k a is low here
 
 -- a number among those of the objects from one on
 pub some_seeds : (last w first i : ℕ) → i < (last - first) * w → 0 < w

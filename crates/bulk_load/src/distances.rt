@@ -45,17 +45,19 @@ pub struct Distances<'a, M: Metric> {
     metric: M,
     set: SeededSet<'a>,
     first: usize,
+    last: usize,
     cells: Vec<u64>,
 }
 
 impl<'a, M: Metric> Model for Distances<'a, M> {
+    ghost use Rattle.std.specs.Prelude.{◌≡◌, ◌-◌, ◌*◌, length};
     ghost use Rattle.bulk_load.specs.Measured.{Measured, AreCells, measured};
 
     ghost Value = { Measured };
 
     ghost view = { λ d. measured (M.space d.metric) d.set };
 
-    ghost invariant = { λ d. AreCells (measured (M.space d.metric) d.set) d.first d.cells.items };
+    ghost invariant = { λ d. ((d.last - d.first) * length d.set.seeds ≡ length d.cells.items) × AreCells (measured (M.space d.metric) d.set) d.first d.cells.items };
 }
 
 impl<'a, M: Metric> Distances<'a, M> {
@@ -67,6 +69,7 @@ impl<'a, M: Metric> Distances<'a, M> {
             metric,
             set,
             first: 0,
+            last: 0,
             cells: Vec::new(alloc),
         }
     }
@@ -113,6 +116,7 @@ impl<'a, M: Metric> Distances<'a, M> {
         let count = (last - place) * self.seeds();
         self.cells = fork(rt, alloc, &block, count, workers)?;
         self.first = place;
+        self.last = last;
         Ok(())
     }
 
@@ -122,9 +126,8 @@ impl<'a, M: Metric> Distances<'a, M> {
         requires group { group < self.now.width }
         ensures { result ≡ entry self.now.table place group }
     {
-        let seeds = self.seeds();
-        if place >= self.first && place - self.first < self.cells.len() / seeds {
-            self.cells[(place - self.first) * seeds + group]
+        if self.first <= place && place < self.last {
+            self.cells[(place - self.first) * self.set.seeds() + group]
         } else {
             self.metric
                 .dist(self.set.object(place), self.set.seed(group))
