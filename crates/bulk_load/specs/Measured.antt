@@ -1,5 +1,5 @@
 -- Distances of objects to seeds.
-use Rattle.std.specs.Prelude.{◌≡◌, ℕ, ◌+◌, ◌/◌, ◌%◌, List, [], length, map, slice_get, slice_index_or, Some}
+use Rattle.std.specs.Prelude.{◌≡◌, ℕ, ◌+◌, ◌<◌, List, [], length, map, slice_get, slice_index, slice_index_or, Some}
 use Rattle.metric_laws.specs.Space.{Space}
 use Rattle.tree_shape.specs.Bulk.{row_of}
 use Rattle.tree_shape.specs.Groups.{entry}
@@ -22,10 +22,10 @@ seeded rows set seeds = record { points = map (λ k. slice_index_or rows k []) s
 abbrev pub measured : Space → Seeded → Measured
 measured s t = record { width = length t.seeds; table = map (row_of s t.points t.seeds) t.points }
 
--- distance number i from an object on, object by object
-abbrev pub cell_from : Measured → ℕ → ℕ → ℕ
-cell_from m first i = entry m.table (first + i / m.width) (i % m.width)
+-- a row begins with the distances of the object at a place
+abbrev pub IsRow : Measured → ℕ → List ℕ → Type 0
+IsRow m place row = (group : ℕ) → group < m.width → slice_index row group ≡ entry m.table place group
 
--- the cells are distances from an object on
-abbrev pub AreCells : Measured → ℕ → List ℕ → Type 0
-AreCells m first cells = (i x : ℕ) → slice_get cells i ≡ Some x → x ≡ cell_from m first i
+-- the rows are those of the objects from a place on
+abbrev pub AreRows : Measured → ℕ → List (List ℕ) → Type 0
+AreRows m first rows = (i : ℕ) (row : List ℕ) → slice_get rows i ≡ Some row → IsRow m (first + i) row

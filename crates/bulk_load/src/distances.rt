@@ -1,8 +1,8 @@
 //! The distances of a set's objects to its seeds.
 
-ghost use Rattle.std.specs.Prelude.{◌≡◌, ◌<◌, ◌≤◌, ◌-◌, ◌*◌, All, length};
+ghost use Rattle.std.specs.Prelude.{◌≡◌, ◌<◌, ◌≤◌, ◌-◌, ◌+◌, length};
 ghost use Rattle.tree_shape.specs.Groups.{entry};
-ghost use Rattle.bulk_load.specs.Measured.{measured, cell_from};
+ghost use Rattle.bulk_load.specs.Measured.{measured, IsRow};
 
 use crate::seeded::SeededSet;
 use metric_laws::{Memory, Metric};
@@ -14,7 +14,10 @@ use std::thread::Threads;
 /// The number of objects whose distances are kept at a time.
 const BLOCK: usize = 16384;
 
-/// The distances of the objects from one place up to another, object by object.
+/// The most seeds of a set.
+const SEEDS: usize = 32;
+
+/// The distances of the objects from one place up to another.
 #[derive(Drop)]
 struct Block<'a, M: Metric> {
     metric: M,
@@ -22,19 +25,24 @@ struct Block<'a, M: Metric> {
     first: usize,
     last: usize,
     ghost inside: { last ≤ length set.now.points },
+    ghost few: { length set.now.seeds ≤ 32 },
 }
 
 impl<M: Metric> Job for Block<'_, M> {
-    type Out = u64;
+    /// An object's distance to each seed, and then zeros.
+    type Out = [u64; SEEDS];
 
-    ghost places = { λ block. (block.last - block.first) * length block.set.now.seeds };
+    ghost places = { λ block. block.last - block.first };
 
-    ghost answers = { λ block i x. x ≡ cell_from (measured (M.space block.metric) block.set.now) block.first i };
+    ghost answers = { λ block i row. IsRow (measured (M.space block.metric) block.set.now) (block.first + i) row };
 
-    fn piece(&self, i: usize) -> u64 {
-        let seeds = self.set.seeds();
-        let object = self.set.object(self.first + i / seeds);
-        self.metric.dist(object, self.set.seed(i % seeds))
+    fn piece(&self, i: usize) -> [u64; SEEDS] {
+        let object = self.set.object(self.first + i);
+        let mut row = [0; SEEDS];
+        for group in 0..self.set.seeds() {
+            row[group] = self.metric.dist(object, self.set.seed(group));
+        }
+        row
     }
 }
 
@@ -44,33 +52,33 @@ impl<M: Metric> Job for Block<'_, M> {
 pub struct Distances<'a, M: Metric> {
     metric: M,
     set: SeededSet<'a>,
+    /// Where the block begins.
     first: usize,
-    last: usize,
-    cells: Vec<u64>,
+    block: Vec<[u64; SEEDS]>,
 }
 
 impl<'a, M: Metric> Model for Distances<'a, M> {
-    ghost use Rattle.std.specs.Prelude.{◌≡◌, ◌-◌, ◌*◌, length};
-    ghost use Rattle.bulk_load.specs.Measured.{Measured, AreCells, measured};
+    ghost use Rattle.std.specs.Prelude.{◌≤◌, length};
+    ghost use Rattle.bulk_load.specs.Measured.{Measured, AreRows, measured};
 
     ghost Value = { Measured };
 
     ghost view = { λ d. measured (M.space d.metric) d.set };
 
-    ghost invariant = { λ d. ((d.last - d.first) * length d.set.seeds ≡ length d.cells.items) × AreCells (measured (M.space d.metric) d.set) d.first d.cells.items };
+    ghost invariant = { λ d. (length d.set.seeds ≤ 32) × AreRows (measured (M.space d.metric) d.set) d.first d.block.items };
 }
 
 impl<'a, M: Metric> Distances<'a, M> {
     /// The distances of a set, of which none is computed yet.
     pub fn new(alloc: Global, metric: M, set: SeededSet<'a>) -> Self
+        requires few { length set.seeds ≤ 32 }
         ensures { result ≡ measured (M.space metric) set.entry }
     {
         Distances {
             metric,
             set,
             first: 0,
-            last: 0,
-            cells: Vec::new(alloc),
+            block: Vec::new(alloc),
         }
     }
 
@@ -98,7 +106,6 @@ impl<'a, M: Metric> Distances<'a, M> {
         workers: usize,
     ) -> Result<(), Memory>
         requires place { place < length self.old.table }
-        requires few_seeds { self.old.width ≤ 64 }
         requires some { 1 ≤ workers }
         requires few { workers ≤ 64 }
         ensures { self.new ≡ self.old }
@@ -113,10 +120,8 @@ impl<'a, M: Metric> Distances<'a, M> {
             first: place,
             last,
         };
-        let count = (last - place) * self.seeds();
-        self.cells = fork(rt, alloc, &block, count, workers)?;
+        self.block = fork(rt, alloc, &block, last - place, workers)?;
         self.first = place;
-        self.last = last;
         Ok(())
     }
 
@@ -126,8 +131,8 @@ impl<'a, M: Metric> Distances<'a, M> {
         requires group { group < self.now.width }
         ensures { result ≡ entry self.now.table place group }
     {
-        if self.first <= place && place < self.last {
-            self.cells[(place - self.first) * self.set.seeds() + group]
+        if self.first <= place && place - self.first < self.block.len() {
+            self.block[place - self.first][group]
         } else {
             self.metric
                 .dist(self.set.object(place), self.set.seed(group))

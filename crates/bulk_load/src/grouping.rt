@@ -66,7 +66,7 @@ fn parted<R: Threads + Sync, M: Metric>(
     least: usize,
     workers: usize,
 ) -> Result<Vec<Member>, Memory>
-    requires width { (0 < distances.old.width) × (distances.old.width ≤ 64) }
+    requires width { (0 < distances.old.width) × (distances.old.width ≤ 32) }
     requires seeds { length seeds.now ≡ distances.old.width }
     requires workers { (1 ≤ workers) × (workers ≤ 64) }
     ensures is { IfOk result (λ v. v.items ≡ filled_from (entry distances.old.table) least 0 distances.old.width

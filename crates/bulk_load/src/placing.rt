@@ -148,7 +148,7 @@ pub fn place_all<R: Threads + Sync, M: Metric>(
     seeds: &[u32],
     workers: usize,
 ) -> Result<Vec<Member>, Memory>
-    requires width { (0 < distances.old.width) × (distances.old.width ≤ 64) }
+    requires width { (0 < distances.old.width) × (distances.old.width ≤ 32) }
     requires seeds { length seeds.now ≡ distances.old.width }
     requires workers { (1 ≤ workers) × (workers ≤ 64) }
     ensures same { distances.new ≡ distances.old }
