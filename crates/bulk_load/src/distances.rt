@@ -11,7 +11,7 @@ use std::alloc::Global;
 use std::marker::Model;
 use std::thread::Threads;
 
-/// The number of objects whose distances are kept at a time.
+/// The number of objects whose distances are kept at a time, as rows of 256 bytes: 4 MiB.
 const BLOCK: usize = 16384;
 
 /// The most seeds of a set.
