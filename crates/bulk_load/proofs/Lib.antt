@@ -11,3 +11,4 @@ pub mod Whole
 pub mod Lawful
 pub mod Heights
 pub mod Committed
+pub mod Ahead

@@ -1,14 +1,10 @@
 -- Steps of the groups' making.
-use Rattle.std.proofs.Common.{◌≡◌, ℕ, suc, ◌+◌, ◌*◌, ◌<◌, Bool, true, false, List, [], ◌∷◌, ◌++◌, refl, sym, ap, ◌∙◌, arith, append_assoc, ◌≢◌, ◌^◌, length, length-append, take, drop, get_or, subst}
+use Rattle.std.proofs.Common.{◌≡◌, ℕ, ◌+◌, ◌<◌, Bool, true, false, List, [], ◌∷◌, ◌++◌, refl, sym, ap, ◌∙◌, arith, append_assoc, ◌≢◌, ◌^◌, length, drop, get_or}
 use Rattle.std.specs.Prelude.{◌==◌, if◌then◌else◌, slice_index, map, replicate}
-use Rattle.std.specs.List.{flat_map}
 use Rattle.std.proofs.lemmas.List.{length-map}
 use Rattle.std.proofs.lemmas.Bool.Decides.{nat_tests}
-use Rattle.metric_laws.specs.Space.{Space}
 use Rattle.tree_shape.specs.Bulk.{row_of}
-use Rattle.std.proofs.lemmas.List.{drop_more, drop_at}
-use Rattle.std.proofs.Math.Seq.{take-append_seam}
-use Rattle.metric_laws.specs.Rows.{rows_of}
+use Rattle.std.proofs.lemmas.List.{drop_more}
 use Rattle.tree_shape.specs.declared.rules.Member.{Member}
 use Rattle.tree_shape.specs.declared.rules.Group.{Group}
 use Rattle.tree_shape.specs.Groups.{members_from, entry, placed_from, filled_from, seeds_from, group_count}
@@ -23,17 +19,6 @@ pub groups_step : (a : ℕ) (seeds set : List ℕ) (ps : List Member) → a < le
     groups_from a (drop a seeds) set ps ≡ record { seed = slice_index set (get_or seeds a 0); members = members_from a set ps } ∷ groups_from (a + 1) (drop (a + 1) seeds) set ps
 groups_step a seeds set ps low = ap (λ ss. groups_from a ss set ps) (drop_more seeds a 0 low)
 
--- rows that lie one after another
-pub rows_apart : {X : Type 0} (f : X → List ℕ) (g : ℕ) (ps : List X) → ((x : X) → length (f x) ≡ g) → rows_of g (length ps) (flat_map f ps) ≡ map f ps
-rows_apart f g [] long = refl
-rows_apart f g (x ∷ ps) long =
-    ap (λ r. r ∷ rows_of g (length ps) (drop g (f x ++ flat_map f ps))) (subst (λ (k : ℕ). take k (f x ++ flat_map f ps) ≡ f x) (long x) (take-append_seam (f x) (flat_map f ps)))
-    ∙ ap (λ r. f x ∷ rows_of g (length ps) r) (drop_at (f x) (flat_map f ps) g (long x)) ∙ ap (λ r. f x ∷ r) (rows_apart f g ps long)
-
-pub length_rows_apart : {X : Type 0} (f : X → List ℕ) (g : ℕ) (ps : List X) → ((x : X) → length (f x) ≡ g) → length (flat_map f ps) ≡ length ps * g
-length_rows_apart f g [] long = omega arith
-length_rows_apart f g (x ∷ ps) long = let ih = length_rows_apart f g ps long in let l = long x in let a = length-append (f x) (flat_map f ps) in omega arith
-
 pub members_in : {X : Type 0} (a k : ℕ) (set : List X) (ps : List Member) (x : X) (d : Member) (out new : List X) → k < length set → k < length ps → (get_or ps k d).group ≡ a →
     new ≡ out ++ get_or set k x ∷ [] → new ++ members_from a (drop (k + 1) set) (drop (k + 1) ps) ≡ out ++ members_from a (drop k set) (drop k ps)
 members_in a k set ps x d out new low here is grown =
@@ -43,10 +28,6 @@ pub members_out : {X : Type 0} (a k : ℕ) (set : List X) (ps : List Member) (x 
     out ++ members_from a (drop (k + 1) set) (drop (k + 1) ps) ≡ out ++ members_from a (drop k set) (drop k ps)
 members_out a k set ps x d out low here other =
     ap (λ r. out ++ r) (sym (members_step a k set ps x d low here ∙ (let apart : ((get_or ps k d).group == a) ≡ false = grind (arith, nat_tests) in rw apart refl)))
-
-pub row_length : (s : Space) (points : List (List ℕ)) (seeds p : List ℕ) → length (row_of s points seeds p) ≡ length seeds
-row_length s points [] p = refl
-row_length s points (k ∷ seeds) p = ap suc (row_length s points seeds p)
 
 -- what the calls give, put together
 pub groups_are : (l : Load) (is_root : Bool) (h : ℕ) (set : List ℕ) (room least g : ℕ) (seeds : List ℕ) (points : List (List ℕ)) (width : ℕ) (table : List (List ℕ)) (placed : List Member) (gs : List Group) →

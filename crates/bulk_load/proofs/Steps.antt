@@ -1,17 +1,10 @@
 -- One step of each loop.
 use Rattle.std.proofs.Common.{◌≡◌, ℕ, suc, ◌+◌, ◌-◌, ◌*◌, ◌/◌, ◌<◌, true, false, List, [], ◌∷◌, refl, sym, ap, ◌∙◌, arith, length, length-drop, drop, get_or, subst, Option, None}
 use Rattle.std.specs.Prelude.{◌==◌, nat_lt}
-use Rattle.std.proofs.lemmas.List.{drop_more, get_or-take, get_or-drop}
+use Rattle.std.proofs.lemmas.List.{drop_more, get_or-drop}
 use Rattle.std.proofs.lemmas.Bool.Decides.{nat_tests}
 use Rattle.std.proofs.Math.Nat.{mul-lt-mul_of_pos_right, div-lt_iff_lt-mul, mul_comm}
-use Rattle.metric_laws.specs.Rows.{rows_of}
-use Rattle.metric_laws.proofs.RowsLemmas.{get_or-rows_of}
-use Rattle.tree_shape.specs.Groups.{Far, entry, seeds_from, nearer, nearest_from, placed_from, chosen, counted, seed_of, member_of}
-
--- an entry of a table whose rows lie one after another
-pub entry_at : (g n : ℕ) (dists : List ℕ) (k a : ℕ) → k < n → a < g → get_or dists (k * g + a) 0 ≡ entry (rows_of g n dists) k a
-entry_at g n dists k a low here =
-    sym (ap (λ (r : List ℕ). get_or r a 0) (get_or-rows_of g n k dists low) ∙ get_or-take g (drop (k * g) dists) a 0 here ∙ get_or-drop (k * g) dists a 0)
+use Rattle.tree_shape.specs.Groups.{Far, seeds_from, nearer, nearest_from, placed_from, chosen, counted, seed_of, member_of}
 
 pub seeds_step : (n g i left next : ℕ) → left ≡ next + 1 → seeds_from n g i left ≡ i * n / g ∷ seeds_from n g (i + 1) next
 seeds_step n g i left next e = ap (seeds_from n g i) (let s : left ≡ suc next = omega arith in s)

@@ -1,70 +1,128 @@
 //! The distances of a set's objects to its seeds.
 
-ghost use Rattle.std.specs.Prelude.{◌≡◌, ◌<◌, ◌≤◌, All, length, map, IfOk};
-ghost use Rattle.tree_shape.specs.Bulk.{row_of};
+ghost use Rattle.std.specs.Prelude.{◌≡◌, ◌<◌, ◌≤◌, ◌-◌, ◌+◌, length};
 ghost use Rattle.tree_shape.specs.Groups.{entry};
+ghost use Rattle.bulk_load.specs.Measured.{measured, IsRow};
 
-use metric_laws::{Memory, Metric, Rows};
-use par_work::rows;
+use crate::seeded::SeededSet;
+use metric_laws::{Memory, Metric};
+use par_work::{Job, fork};
 use std::alloc::Global;
 use std::marker::Model;
 use std::thread::Threads;
 
-/// The distances of a set's objects to its seeds, object by object.
+/// The number of objects whose distances are kept at a time.
+const BLOCK: usize = 16384;
+
+/// The most seeds of a set.
+const SEEDS: usize = 32;
+
+/// The distances of the objects from one place up to another.
 #[derive(Drop)]
-pub struct Distances {
-    cells: Vec<u64>,
-    seeds: usize,
-    objects: usize,
+struct Block<'a, M: Metric> {
+    metric: M,
+    set: &'a SeededSet<'a>,
+    first: usize,
+    last: usize,
+    ghost inside: { last ≤ length set.now.points },
+    ghost few: { length set.now.seeds ≤ 32 },
 }
 
-impl Model for Distances {
-    ghost use Rattle.std.specs.Prelude.{◌≡◌, ◌*◌, length};
-    ghost use Rattle.metric_laws.specs.Rows.{rows_of};
-    ghost use Rattle.bulk_load.specs.Measured.{Measured};
+impl<M: Metric> Job for Block<'_, M> {
+    /// An object's distance to each seed, and then zeros.
+    type Out = [u64; SEEDS];
+
+    ghost places = { λ block. block.last - block.first };
+
+    ghost answers = { λ block i row. IsRow (measured (M.space block.metric) block.set.now) (block.first + i) row };
+
+    fn piece(&self, i: usize) -> [u64; SEEDS] {
+        let object = self.set.object(self.first + i);
+        let mut row = [0; SEEDS];
+        for group in 0..self.set.seeds() {
+            row[group] = self.metric.dist(object, self.set.seed(group));
+        }
+        row
+    }
+}
+
+/// The distances of a set's objects to its seeds. Those of a block of objects may have been computed beforehand by several
+/// workers; each other one is computed when it is asked for, so that memory never holds those of the whole set.
+#[derive(Drop)]
+pub struct Distances<'a, M: Metric> {
+    metric: M,
+    set: SeededSet<'a>,
+    /// Where the block begins.
+    first: usize,
+    block: Vec<[u64; SEEDS]>,
+}
+
+impl<'a, M: Metric> Model for Distances<'a, M> {
+    ghost use Rattle.std.specs.Prelude.{◌≤◌, length};
+    ghost use Rattle.bulk_load.specs.Measured.{Measured, AreRows, measured};
 
     ghost Value = { Measured };
 
-    ghost view = { λ d. record { width = d.seeds; table = rows_of d.seeds d.objects d.cells.items } };
+    ghost view = { λ d. measured (M.space d.metric) d.set };
 
-    ghost invariant = { λ d. d.objects * d.seeds ≡ length d.cells.items };
+    ghost invariant = { λ d. (length d.set.seeds ≤ 32) × AreRows (measured (M.space d.metric) d.set) d.first d.block.items };
 }
 
-impl Distances {
-    /// Measures by so many workers. The seeds are places of the points.
-    pub fn measure<R: Threads + Sync, M: Metric>(
-        rt: &R,
-        alloc: Global,
-        metric: M,
-        points: &Rows,
-        seeds: &[u32],
-        workers: usize,
-    ) -> Result<Self, Memory>
-        requires seeds { All (λ k. k < length points.now.points) seeds.now }
-        requires some { 1 ≤ workers }
-        requires few { workers ≤ 64 }
-        ensures width { IfOk result (λ d. d.width ≡ length seeds.now) }
-        ensures table { IfOk result (λ d. d.table ≡ map (row_of (M.space metric) points.now.points seeds.now) points.now.points) }
+impl<'a, M: Metric> Distances<'a, M> {
+    /// The distances of a set, of which none is computed yet.
+    pub fn new(alloc: Global, metric: M, set: SeededSet<'a>) -> Self
+        requires few { length set.seeds ≤ 32 }
+        ensures { result ≡ measured (M.space metric) set.entry }
     {
-        Ok(Distances {
-            cells: rows(rt, alloc, metric, points, seeds, workers)?,
-            seeds: seeds.len(),
-            objects: points.len(),
-        })
+        Distances {
+            metric,
+            set,
+            first: 0,
+            block: Vec::new(alloc),
+        }
     }
 
     /// The number of objects.
     pub fn objects(&self) -> usize
         ensures { result ≡ length self.now.table }
     {
-        self.objects
+        self.set.objects()
     }
 
     /// The number of seeds.
     pub fn seeds(&self) -> usize
         ensures { result ≡ self.now.width }
     {
-        self.seeds
+        self.set.seeds()
+    }
+
+    /// Has several workers compute the distances of the block of objects that begins at a place. One worker computes none
+    /// beforehand, and between the beginnings of blocks there is nothing to do.
+    pub fn measure_ahead<R: Threads + Sync>(
+        &mut self,
+        rt: &R,
+        alloc: Global,
+        place: usize,
+        workers: usize,
+    ) -> Result<(), Memory>
+        requires place { place < length self.old.table }
+        requires some { 1 ≤ workers }
+        requires few { workers ≤ 64 }
+        ensures { self.new ≡ self.old }
+    {
+        if workers == 1 || place % BLOCK != 0 {
+            return Ok(());
+        }
+        let last = place + BLOCK.min(self.objects() - place);
+        let block = Block {
+            metric: self.metric,
+            set: &self.set,
+            first: place,
+            last,
+        };
+        self.block = fork(rt, alloc, &block, last - place, workers)?;
+        self.first = place;
+        Ok(())
     }
 
     /// How far the object at a place is from a group's seed.
@@ -73,6 +131,11 @@ impl Distances {
         requires group { group < self.now.width }
         ensures { result ≡ entry self.now.table place group }
     {
-        self.cells[place * self.seeds + group]
+        if self.first <= place && place - self.first < self.block.len() {
+            self.block[place - self.first][group]
+        } else {
+            self.metric
+                .dist(self.set.object(place), self.set.seed(group))
+        }
     }
 }

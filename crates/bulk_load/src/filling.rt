@@ -6,7 +6,7 @@ ghost use Rattle.tree_shape.specs.Groups.{entry, in_group, is_candidate, member_
 ghost use Rattle.bulk_load.specs.Candidates.{AreCounts, candidates_from, is_nearer};
 
 use crate::distances::Distances;
-use metric_laws::Memory;
+use metric_laws::{Memory, Metric};
 use std::alloc::Global;
 use tree_shape::Member;
 
@@ -36,9 +36,9 @@ fn may_leave(least: usize, placed: &[Member], counts: &[usize], place: usize) ->
 }
 
 // The objects that a group may receive, as their distances from its seed and their places, nearest first.
-fn candidates(
+fn candidates<M: Metric>(
     alloc: Global,
-    distances: &Distances,
+    distances: &Distances<'_, M>,
     least: usize,
     group: usize,
     placed: &[Member],
@@ -84,9 +84,9 @@ fn move_over(least: usize, group: usize, place: usize, placed: &mut [Member], co
 }
 
 // Fills up one group, if it has fewer than `least` objects.
-fn fill_one(
+fn fill_one<M: Metric>(
     alloc: Global,
-    distances: &Distances,
+    distances: &Distances<'_, M>,
     least: usize,
     group: usize,
     placed: &mut [Member],
@@ -118,9 +118,9 @@ fn fill_one(
 /// Fills up the groups that have fewer than `least` objects, in order. Each receives the objects nearest to its seed that
 /// are no seeds and whose groups have more than `least`.
 #[tactic(auto, using(crate::proofs::Received::filled_step))]
-pub fn fill_up(
+pub fn fill_up<M: Metric>(
     alloc: Global,
-    distances: &Distances,
+    distances: &Distances<'_, M>,
     least: usize,
     placed: &mut [Member],
 ) -> Result<(), Memory>

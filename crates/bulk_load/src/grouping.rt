@@ -9,6 +9,7 @@ ghost use Rattle.bulk_load.specs.Groupable.{IsFill, IsSized, load_of};
 use crate::distances::Distances;
 use crate::filling::fill_up;
 use crate::placing::{group_number, place_all, seed_places};
+use crate::seeded::SeededSet;
 use metric_laws::{Listed, Memory, Metric, Rows};
 use std::alloc::Global;
 use std::thread::Threads;
@@ -16,19 +17,6 @@ use tree_shape::{Bounds, Group, Member};
 
 /// The size from which a set below the root is worth several threads.
 const LARGE: usize = 8192;
-
-// The points of a set.
-fn points_of<M: Metric>(alloc: Global, metric: M, rows: &Rows, set: &[u32]) -> Result<Rows, Memory>
-    requires points { All (λ p. IsTrue ((M.space metric).fits p)) rows.now.points }
-    requires places { All (λ k. k < length rows.now.points) set.now }
-    ensures { IfOk result (λ r. r.points ≡ map (λ k. slice_index_or rows.now.points k []) set.now) }
-{
-    let mut points = Rows::new(alloc, metric.words());
-    for place in set {
-        points.push(rows.point(*place as usize))?;
-    }
-    Ok(points)
-}
 
 // The members of a group.
 fn members_of(alloc: Global, group: u32, set: &[u32], placed: &[Member]) -> Result<Vec<u32>, Memory>
@@ -69,20 +57,23 @@ fn groups_of(
 }
 
 // The group of each object, where each of the groups has `least` to `room`.
-fn parted(
+fn parted<R: Threads + Sync, M: Metric>(
+    rt: &R,
     alloc: Global,
-    distances: &Distances,
+    distances: &mut Distances<'_, M>,
     seeds: &[u32],
     room: usize,
     least: usize,
+    workers: usize,
 ) -> Result<Vec<Member>, Memory>
-    requires width { (0 < distances.now.width) × (distances.now.width ≤ 64) }
-    requires seeds { length seeds.now ≡ distances.now.width }
-    ensures is { IfOk result (λ v. v.items ≡ filled_from (entry distances.now.table) least 0 distances.now.width
-        (placed_from (entry distances.now.table) room 0 seeds.now 0 (replicate distances.now.width 1) (length distances.now.table))) }
-    ensures len { IfOk result (λ v. vec_len v ≡ length distances.now.table) }
+    requires width { (0 < distances.old.width) × (distances.old.width ≤ 32) }
+    requires seeds { length seeds.now ≡ distances.old.width }
+    requires workers { (1 ≤ workers) × (workers ≤ 64) }
+    ensures is { IfOk result (λ v. v.items ≡ filled_from (entry distances.old.table) least 0 distances.old.width
+        (placed_from (entry distances.old.table) room 0 seeds.now 0 (replicate distances.old.width 1) (length distances.old.table))) }
+    ensures len { IfOk result (λ v. vec_len v ≡ length distances.old.table) }
 {
-    let mut placed = place_all(alloc, distances, room, seeds)?;
+    let mut placed = place_all(rt, alloc, distances, room, seeds, workers)?;
     fill_up(alloc, distances, least, placed.as_mut_slice())?;
     Ok(placed)
 }
@@ -115,9 +106,15 @@ pub fn groups<R: Threads + Sync, M: Metric>(
     let least = fill.least.pow(level);
     let seeds = seed_places(alloc, n, group_number(fill, root, room, n))?;
     let hands = if root || n >= LARGE { workers } else { 1 };
-    let points = points_of(alloc, metric, rows, set)?;
-    let distances = Distances::measure(rt, alloc, metric, &points, seeds.as_slice(), hands)?;
-    drop(points);
-    let placed = parted(alloc, &distances, seeds.as_slice(), room, least)?;
+    let mut distances = Distances::new(alloc, metric, SeededSet::new(rows, set, seeds.as_slice()));
+    let placed = parted(
+        rt,
+        alloc,
+        &mut distances,
+        seeds.as_slice(),
+        room,
+        least,
+        hands,
+    )?;
     groups_of(alloc, seeds.as_slice(), set, placed.as_slice())
 }

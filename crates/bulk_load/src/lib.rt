@@ -8,6 +8,7 @@ mod faults;
 mod filling;
 mod grouping;
 mod placing;
+mod seeded;
 mod subtree;
 
 pub use building::build;

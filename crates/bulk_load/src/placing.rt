@@ -5,8 +5,9 @@ ghost use Rattle.tree_shape.specs.Groups.{entry, group_count, seeds_from, neares
 ghost use Rattle.tree_shape.specs.Groups.{nearer as nearer_of, chosen as chosen_of};
 
 use crate::distances::Distances;
-use metric_laws::Memory;
+use metric_laws::{Memory, Metric};
 use std::alloc::Global;
+use std::thread::Threads;
 use tree_shape::{Bounds, Member};
 
 /// The number of groups of a set of so many objects, where a group has at most `room`.
@@ -56,8 +57,8 @@ fn nearer(
 }
 
 // The nearest group that has room for the object at a place.
-fn nearest(
-    distances: &Distances,
+fn nearest<M: Metric>(
+    distances: &Distances<'_, M>,
     place: usize,
     room: usize,
     counts: &[usize],
@@ -75,7 +76,12 @@ fn nearest(
 }
 
 // Chooses a group with room for the object at a place, and counts it there.
-fn choose(distances: &Distances, place: usize, room: usize, counts: &mut [usize]) -> usize
+fn choose<M: Metric>(
+    distances: &Distances<'_, M>,
+    place: usize,
+    room: usize,
+    counts: &mut [usize],
+) -> usize
     requires place { place < length distances.now.table }
     requires width { (0 < distances.now.width) × (distances.now.width ≤ 64) }
     requires counts { length counts.old ≡ distances.now.width }
@@ -94,8 +100,8 @@ fn choose(distances: &Distances, place: usize, room: usize, counts: &mut [usize]
 
 // Where the object at a place goes, and how many seeds are before the next place, where so many are before this one.
 #[tactic(auto, using(crate::proofs::Steps::seed_step, crate::proofs::Steps::member_step))]
-fn place_one(
-    distances: &Distances,
+fn place_one<M: Metric>(
+    distances: &Distances<'_, M>,
     place: usize,
     room: usize,
     seeds: &[u32],
@@ -132,23 +138,29 @@ fn place_one(
     }
 }
 
-/// The group of each object, before small groups are filled up. A group takes objects up to `room`.
-pub fn place_all(
+/// The group of each object, before small groups are filled up. A group takes objects up to `room`. The distances are
+/// computed by so many workers.
+pub fn place_all<R: Threads + Sync, M: Metric>(
+    rt: &R,
     alloc: Global,
-    distances: &Distances,
+    distances: &mut Distances<'_, M>,
     room: usize,
     seeds: &[u32],
+    workers: usize,
 ) -> Result<Vec<Member>, Memory>
-    requires width { (0 < distances.now.width) × (distances.now.width ≤ 64) }
-    requires seeds { length seeds.now ≡ distances.now.width }
-    ensures is { IfOk result (λ v. v.items ≡ placed_from (entry distances.now.table) room 0 seeds.now 0 (replicate distances.now.width 1) (length distances.now.table)) }
-    ensures small { IfOk result (λ v. All (λ p. p.group < distances.now.width) v.items) }
-    ensures len { IfOk result (λ v. vec_len v ≡ length distances.now.table) }
+    requires width { (0 < distances.old.width) × (distances.old.width ≤ 32) }
+    requires seeds { length seeds.now ≡ distances.old.width }
+    requires workers { (1 ≤ workers) × (workers ≤ 64) }
+    ensures same { distances.new ≡ distances.old }
+    ensures is { IfOk result (λ v. v.items ≡ placed_from (entry distances.old.table) room 0 seeds.now 0 (replicate distances.old.width 1) (length distances.old.table)) }
+    ensures small { IfOk result (λ v. All (λ p. p.group < distances.old.width) v.items) }
+    ensures len { IfOk result (λ v. vec_len v ≡ length distances.old.table) }
 {
     let mut counts = vec![in alloc; 1usize; distances.seeds()]?;
     let mut placed = Vec::new(alloc);
     let mut before = 0;
     for place in 0..distances.objects() {
+        distances.measure_ahead(rt, alloc, place, workers)?;
         let (one, next) = place_one(distances, place, room, seeds, before, counts.as_mut_slice());
         placed.push(one)?;
         before = next;

@@ -7,7 +7,7 @@ use Rattle.bulk_load.proofs.Walking.{Walk, walk_begins, walk_step, walk_ends}
 use Rattle.bulk_load.proofs.filling.fill_one.Goals as goal
 
 pub loop-place-init : goal.loop-place-init
-loop-place-init c =
+loop-place-init g c =
     let far : Far = entry c.args.distances.now.table in
     let short = c.if-least-counts.false in
     let is = c.requires.counts c.args.group in
@@ -21,7 +21,7 @@ loop-place-init c =
     )
 
 pub loop-place-preserved : goal.loop-place-preserved
-loop-place-preserved c =
+loop-place-preserved g c =
     let far : Far = entry c.args.distances.now.table in
     let short = c.if-least-counts-2.false in
     let is = c.loop-place.invariant.1 c.args.group in
@@ -35,7 +35,7 @@ loop-place-preserved c =
     )
 
 pub returns-clause-placed : goal.returns-clause-placed
-returns-clause-placed c =
+returns-clause-placed g c =
     let far : Far = entry c.args.distances.now.table in
     let none : c.loop-place.place-iterator.rest.items ≡ [] = nil_from_length c.loop-place.place-iterator.rest.items (sym c.loop-place.place-iterator.rest.ok.0 ∙ c.in-None.ensures.steps.0) in
     walk_ends far c.args.least c.args.group c.args.placed.now c.loop-place.placed

@@ -1,8 +1,10 @@
-use Rattle.std.proofs.Common.{◌≡◌, ℕ, ◌^◌, ◌≤◌, arith, ◌∙◌, length, List}
+use Rattle.std.proofs.Common.{◌≡◌, ℕ, ◌^◌, ◌≤◌, arith, ◌∙◌, ap, refl, length, List}
+use Rattle.std.specs.Prelude.{map}
 use Rattle.std.proofs.Math.Nat.{one-le-pow, pow-le-pow_left}
-use Rattle.tree_shape.specs.Bulk.{groups_from, groups_at, Load}
+use Rattle.tree_shape.specs.Bulk.{groups_from, groups_at, point_of, Load}
 use Rattle.par_work.proofs.Joining.{if_ok}
 use Rattle.bulk_load.specs.Groupable.{load_of}
+use Rattle.bulk_load.specs.Measured.{Measured, measured, seeded}
 use Rattle.bulk_load.proofs.Members.{groups_are}
 use Rattle.bulk_load.proofs.Sizes.{increasing_few, bounds_of, some_objects, some_groups, room_fits}
 use Rattle.bulk_load.proofs.grouping.groups.Goals as goal
@@ -47,17 +49,21 @@ parted-requires-clause-width g c =
     let few = range.1 in
     let some = range.0 in
     let is = c.group_number.ensures in
-    let width : c.in_ok-distances.distances.width ≡ c.group_number.result = c.in_ok-distances.ensures.width ∙ c.as_slice.ensures.len ∙ c.in_ok-seeds.ensures.len in
-    (omega arith, omega arith)
+    let width : c.new-distances.result.width ≡ c.group_number.result =
+    ap (λ (m : Measured). m.width) (c.new-distances.ensures ∙ ap (measured (g.M.Metric.space c.args.metric)) c.new.ensures) ∙ c.as_slice.ensures.len ∙ c.in_ok-seeds.ensures.len in
+    λ κs outlive. (omega arith, omega arith)
 
 pub returns : goal.returns
 returns g c =
+    let s = g.M.Metric.space c.args.metric in
     let placed = c.as_slice-4.result.now in
+    let seeds = c.as_slice.result.now in
+    let is : c.new-distances.result ≡ measured s (seeded c.args.rows.now.points c.args.set.now seeds) = c.new-distances.ensures ∙ ap (measured s) c.new.ensures in
     if_ok (λ gs. gs.items ≡ groups_from 0 c.as_slice-3.result.now c.args.set.now placed)
     (λ gs. (tags : List ℕ) → gs.items ≡ groups_at (load tags) c.args.root c.args.level c.args.set.now) c.groups_of.result c.groups_of.ensures
-    (λ gs e tags. groups_are (load tags) c.args.root c.args.level c.args.set.now c.pow-room.result c.pow-least.result c.group_number.result c.as_slice.result.now c.in_ok-points.points.points
-    c.in_ok-distances.distances.width c.in_ok-distances.distances.table placed gs.items c.pow-room.ensures c.pow-least.ensures c.group_number.ensures
-    (c.as_slice.ensures.value ∙ c.in_ok-seeds.ensures.is) (c.as_slice.ensures.len ∙ c.in_ok-seeds.ensures.len) c.in_ok-points.ensures c.in_ok-distances.ensures.width c.in_ok-distances.ensures.table
+    (λ gs e tags. groups_are (load tags) c.args.root c.args.level c.args.set.now c.pow-room.result c.pow-least.result c.group_number.result seeds (map (point_of (load tags)) c.args.set.now)
+    c.new-distances.result.width c.new-distances.result.table placed gs.items c.pow-room.ensures c.pow-least.ensures c.group_number.ensures
+    (c.as_slice.ensures.value ∙ c.in_ok-seeds.ensures.is) (c.as_slice.ensures.len ∙ c.in_ok-seeds.ensures.len) refl (ap (λ (m : Measured). m.width) is) (ap (λ (m : Measured). m.table) is)
     (c.as_slice-4.ensures.value ∙ c.in_ok-placed.ensures.is ∙ (let s = c.as_slice.ensures.value in let t = c.as_slice-2.ensures.value in cc))
     (let s = c.as_slice.ensures.value in let t = c.as_slice-3.ensures.value in cc))
   where

@@ -1,39 +1,29 @@
-use Rattle.std.proofs.Common.{◌≡◌, ◌+◌, ◌*◌, ◌<◌, length, sym, ◌∙◌, ap, arith}
-use Rattle.metric_laws.proofs.RowsLemmas.{length-rows_of, row_room}
+use Rattle.std.proofs.Common.{◌≡◌, ◌-◌, ◌<◌, length, subst, ℕ, ◌∙◌, ap, arith}
 use Rattle.tree_shape.specs.Groups.{entry}
-use Rattle.bulk_load.specs.Measured.{Measured}
-use Rattle.bulk_load.proofs.Received.{now_is}
-use Rattle.bulk_load.proofs.Steps.{entry_at}
+use Rattle.bulk_load.specs.Measured.{Measured, measured}
+use Rattle.bulk_load.proofs.Ahead.{found_row}
 use Rattle.bulk_load.proofs.distances.Distances.far.Goals as goal
 
-pub overflow_mul-place : goal.overflow_mul-place
-overflow_mul-place c =
-    let count : length c.args.self.now.table ≡ c.self.inside.objects = sym (ap (λ (t : Measured). length t.table) c.self.view_is) ∙ length-rows_of _ _ _ in
-    let room = row_room c.self.inside.seeds c.self.inside.objects c.args.place _ c.self.invariant (omega arith) in
-    let o = c.self.inside.cells.ok in
+pub offset_bounds-index-group : goal.offset_bounds-index-group
+offset_bounds-index-group g c =
+    let width : length c.self.inside.set.seeds ≡ c.args.self.now.width = ap (λ (t : Measured). t.width) c.self.view_is in
+    let few = c.self.invariant.0 in
+    let low = c.requires.group in
     omega arith
 
-pub overflow_add-place : goal.overflow_add-place
-overflow_add-place c =
-    let count : length c.args.self.now.table ≡ c.self.inside.objects = sym (ap (λ (t : Measured). length t.table) c.self.view_is) ∙ length-rows_of _ _ _ in
-    let width : c.self.inside.seeds ≡ c.args.self.now.width = ap (λ (t : Measured). t.width) c.self.view_is in
-    let room = row_room c.self.inside.seeds c.self.inside.objects c.args.place _ c.self.invariant (omega arith) in
+pub bounds-index-group : goal.bounds-index-group
+bounds-index-group g c =
+    let width : length c.self.inside.set.seeds ≡ c.args.self.now.width = ap (λ (t : Measured). t.width) c.self.view_is in
+    let few = c.self.invariant.0 in
+    let low = c.requires.group in
     omega arith
 
-pub index-requires : goal.index-requires
-index-requires c =
-    let count : length c.args.self.now.table ≡ c.self.inside.objects = sym (ap (λ (t : Measured). length t.table) c.self.view_is) ∙ length-rows_of _ _ _ in
-    let width : c.self.inside.seeds ≡ c.args.self.now.width = ap (λ (t : Measured). t.width) c.self.view_is in
-    let room = row_room c.self.inside.seeds c.self.inside.objects c.args.place _ c.self.invariant (omega arith) in
-    let o = c.self.inside.cells.ok.0 in
-    omega arith
-
-pub returns : goal.returns
-returns c =
-    let count : length c.args.self.now.table ≡ c.self.inside.objects = sym (ap (λ (t : Measured). length t.table) c.self.view_is) ∙ length-rows_of _ _ _ in
-    let width : c.self.inside.seeds ≡ c.args.self.now.width = ap (λ (t : Measured). t.width) c.self.view_is in
-    let room = row_room c.self.inside.seeds c.self.inside.objects c.args.place _ c.self.invariant (omega arith) in
-    let low : c.args.place * c.self.inside.seeds + c.args.group < length c.self.inside.cells.items = omega arith in
-    now_is c.self.inside.cells.items (c.args.place * c.self.inside.seeds + c.args.group) c.index.result.now low c.index.ensures
-    ∙ entry_at c.self.inside.seeds c.self.inside.objects c.self.inside.cells.items c.args.place c.args.group (omega arith) (omega arith)
+pub returns-then-place-self : goal.returns-then-place-self
+returns-then-place-self g c =
+    let m : Measured = measured (g.M.Metric.space c.self.inside.metric) c.self.inside.set in
+    let width : length c.self.inside.set.seeds ≡ c.args.self.now.width = ap (λ (t : Measured). t.width) c.self.view_is in
+    let inside : c.args.place - c.self.inside.first < length c.self.inside.block.items =
+    subst (λ (n : ℕ). c.args.place - c.self.inside.first < n) (c.len.ensures ∙ c.self.inside.block.ok.0) c.if-place-self.true in
+    let here : c.args.group < length c.self.inside.set.seeds = let low = c.requires.group in omega arith in
+    found_row m c.self.inside.first c.self.inside.block.items c.args.place c.args.group c.index.result.now c.self.invariant.1 c.if-self-place.true inside here c.index.ensures
     ∙ ap (λ (t : Measured). entry t.table c.args.place c.args.group) c.self.view_is
