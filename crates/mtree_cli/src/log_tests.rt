@@ -7,7 +7,7 @@ use std::process::Abort;
 use std::test::Fail;
 
 // The fields of the pages of a small index: an insert of (3, 4) into an empty one under L1.
-const HEAD: [u8; 20] = *b"MTREEIDX\0\x02\x02\x02\x02\x01\0\0\x01\0\0\0";
+pub const HEAD: [u8; 20] = *b"MTREEIDX\0\x02\x02\x02\x02\x01\0\0\x01\0\0\0";
 
 const FIRST: [u8; 32] = [
     0xa5, 0, 0, 0, 0, 0, 0, 0, 0, 0, 0, 0, 0, 0, 0, 1, 0, 0, 0, 3, 0, 0, 0, 0, 0, 0, 0, 0, 0, 0, 0,
@@ -32,9 +32,9 @@ const FRAME: [u8; 69] = [
 ];
 
 // Puts bytes into a file.
-fn place(file: &mut [u8], at: usize, bytes: &[u8]) {
+pub fn place(file: &mut [u8], at: usize, bytes: &[u8]) {
     for i in 0..bytes.len() {
-        if let Some(byte) = file.get_mut(at + i) {
+        if let Some(byte) = file.get_mut(at.saturating_add(i)) {
             *byte = bytes[i];
         }
     }
@@ -94,10 +94,11 @@ fn index_of(alloc: Global, case: &Case<'_>) -> Result<MemoryDisk, AllocError> {
     if let Some((at, byte)) = case.file_change {
         place(&mut file, at, &[byte]);
     }
+    let room = (file.len() as u64).max(65536);
     MemoryDisk::new(
         alloc,
         file,
-        1 << 20,
+        room,
         1_000_000,
         Vec::new(alloc),
         case.disk_stop,
@@ -114,24 +115,28 @@ fn logs_of(alloc: Global, case: &Case<'_>) -> Result<Vec<u8>, AllocError> {
     }
     for (at, byte) in case.log_change {
         if *at < 61 {
-            place(&mut logs, last + 8 + *at, &[*byte]);
+            place(&mut logs, last.saturating_add(8 + *at), &[*byte]);
         }
     }
-    logs.truncate(last + case.size);
+    logs.truncate(last.saturating_add(case.size));
     Ok(logs)
 }
 
-// Runs a case.
-fn check<R: AllocGlobal + Abort>(rt: &R, case: &Case<'_>) -> Result<(), Fail> {
+// Runs a command on an index and on logs.
+pub fn check_run<R: AllocGlobal + Abort>(
+    rt: &R,
+    command: &str,
+    mut index: MemoryDisk,
+    mut log_in: MemorySource,
+    mut out: MemorySink,
+    (status, output): (u8, &str),
+) -> Result<(), Fail> {
     let alloc = rt.alloc();
-    let words = words(alloc, case.command)?;
-    let mut index = index_of(alloc, case)?;
+    let words = words(alloc, command)?;
     let mut other = empty_disk(alloc, 0)?;
     let mut input = MemorySource::new(Vec::new(alloc), 1, Vec::new(alloc));
-    let mut log_in = MemorySource::new(logs_of(alloc, case)?, 50, fails(alloc, case.log_fails)?);
-    let mut out = MemorySink::new(alloc, 1000, fails(alloc, case.out_fails)?)?;
     let mut log_out = MemorySink::new(alloc, 0, Vec::new(alloc))?;
-    let status = run(
+    let ended = run(
         alloc,
         &words,
         &mut index,
@@ -141,9 +146,25 @@ fn check<R: AllocGlobal + Abort>(rt: &R, case: &Case<'_>) -> Result<(), Fail> {
         &mut out,
         &mut log_out,
     );
-    assert_eq!(rt; out.written(), case.output.as_bytes(), "{}", case.output);
-    assert_eq!(rt; status, Status(case.status), "{}", case.output);
+    assert_eq!(rt; out.written(), output.as_bytes(), "{}", output);
+    assert_eq!(rt; ended, Status(status), "{}", output);
     Ok(())
+}
+
+// Runs a case.
+fn check<R: AllocGlobal + Abort>(rt: &R, case: &Case<'_>) -> Result<(), Fail> {
+    let alloc = rt.alloc();
+    let index = index_of(alloc, case)?;
+    let log_in = MemorySource::new(logs_of(alloc, case)?, 50, fails(alloc, case.log_fails)?);
+    let out = MemorySink::new(alloc, 1000, fails(alloc, case.out_fails)?)?;
+    check_run(
+        rt,
+        case.command,
+        index,
+        log_in,
+        out,
+        (case.status, case.output),
+    )
 }
 
 #[test]

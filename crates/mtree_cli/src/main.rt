@@ -4,6 +4,8 @@
 mod files;
 #[cfg(test)]
 mod log_tests;
+#[cfg(test)]
+mod number_tests;
 mod program;
 mod scan_job;
 #[cfg(test)]
