@@ -13,7 +13,7 @@ use Rattle.metric_laws.proofs.Lists.{all_weaker, all_in}
 use Rattle.tree_shape.specs.declared.rules.Member.{Member}
 use Rattle.tree_shape.specs.Groups.{Far, nearer, member_of, in_group, is_candidate, candidate_from, moved_to, received}
 use Rattle.tree_shape.proofs.Sized.{one_if, in_group-set, length_set}
-use Rattle.bulk_load.specs.Candidates.{candidates_from, is_nearer}
+use Rattle.bulk_load.specs.Candidates.{candidates_from, is_nearer, NotAfter}
 use Rattle.bulk_load.proofs.Received.{more_than}
 
 -- what stands past the end of a list
@@ -32,11 +32,6 @@ contains-in : {X : Type 0} (xs : List X) (k : ℕ) (x : X) → k < length xs →
 contains-in [] k x low is = absurd (omega arith)
 contains-in (y ∷ ys) zero x low is = inl (sym is)
 contains-in (y ∷ ys) (suc k) x low is = inr (contains-in ys k x (omega arith) is)
-
--- one comes no later than another, by distance and then by place
-pub record NotAfter (x y : ℕ × ℕ) : Type 0 where
-  pub near : x.0 ≤ y.0
-  pub low : y.0 ≤ x.0 → x.1 ≤ y.1
 
 not_after-trans : (x y z : ℕ × ℕ) → NotAfter x y → NotAfter y z → NotAfter x z
 not_after-trans x y z p q =

@@ -1,5 +1,5 @@
 -- The objects that a small group may receive.
-use Rattle.std.specs.Prelude.{◌≡◌, ℕ, ◌+◌, Bool, List, [], ◌∷◌, if◌then◌else◌, nat_lt, ◌==◌, ◌&&◌, ◌||◌, slice_index}
+use Rattle.std.specs.Prelude.{◌≡◌, ℕ, ◌+◌, ◌≤◌, Bool, List, [], ◌∷◌, if◌then◌else◌, nat_lt, ◌==◌, ◌&&◌, ◌||◌, slice_index}
 use Rattle.tree_shape.specs.declared.rules.Member.{Member}
 use Rattle.tree_shape.specs.Groups.{Far, in_group, is_candidate}
 
@@ -15,3 +15,8 @@ candidates_from far least a all k (p ∷ ps) = if is_candidate least all p then 
 -- one is nearer than another, or as near and at a lower place
 abbrev pub is_nearer : ℕ × ℕ → ℕ × ℕ → Bool
 is_nearer x y = nat_lt x.0 y.0 || ((x.0 == y.0) && nat_lt x.1 y.1)
+
+-- one comes no later than another, by distance and then by place
+pub record NotAfter (x y : ℕ × ℕ) : Type 0 where
+  pub near : x.0 ≤ y.0
+  pub low : y.0 ≤ x.0 → x.1 ≤ y.1

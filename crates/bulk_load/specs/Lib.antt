@@ -1,5 +1,6 @@
 pub mod Groupable
 pub mod Measured
+pub mod Hints
 pub mod Candidates
 pub mod Sets
 pub mod Postorder

@@ -8,15 +8,11 @@ ghost use Rattle.bulk_load.specs.Groupable.{IsFill, IsSized, load_of};
 
 use crate::distances::Distances;
 use crate::filling::fill_up;
-use crate::placing::{group_number, place_all, seed_places};
-use crate::seeded::SeededSet;
+use crate::placing::{Placing, group_number, place_all, seed_places};
 use metric_laws::{Listed, Memory, Metric, Rows};
 use std::alloc::Global;
 use std::thread::Threads;
 use tree_shape::{Bounds, Group, Member};
-
-/// The size from which a set below the root is worth several threads.
-const LARGE: usize = 8192;
 
 // The members of a group.
 fn members_of(alloc: Global, group: u32, set: &[u32], placed: &[Member]) -> Result<Vec<u32>, Memory>
@@ -56,25 +52,22 @@ fn groups_of(
     Ok(groups)
 }
 
-// The group of each object, where each of the groups has `least` to `room`.
+// The group of each object, where each of the groups has `least` objects or more.
 fn parted<R: Threads + Sync, M: Metric>(
     rt: &R,
     alloc: Global,
-    distances: &mut Distances<'_, M>,
-    seeds: &[u32],
-    room: usize,
+    placing: &Placing<'_, M>,
     least: usize,
-    workers: usize,
 ) -> Result<Vec<Member>, Memory>
-    requires width { (0 < distances.old.width) × (distances.old.width ≤ 32) }
-    requires seeds { length seeds.now ≡ distances.old.width }
-    requires workers { (1 ≤ workers) × (workers ≤ 64) }
-    ensures is { IfOk result (λ v. v.items ≡ filled_from (entry distances.old.table) least 0 distances.old.width
-        (placed_from (entry distances.old.table) room 0 seeds.now 0 (replicate distances.old.width 1) (length distances.old.table))) }
-    ensures len { IfOk result (λ v. vec_len v ≡ length distances.old.table) }
+    requires width { (0 < placing.now.distances.now.width) × (placing.now.distances.now.width ≤ 64) }
+    requires seeds { length placing.now.seeds.now ≡ placing.now.distances.now.width }
+    requires workers { (1 ≤ placing.now.workers) × (placing.now.workers ≤ 64) }
+    ensures is { IfOk result (λ v. v.items ≡ filled_from (entry placing.now.distances.now.table) least 0 placing.now.distances.now.width
+        (placed_from (entry placing.now.distances.now.table) placing.now.room 0 placing.now.seeds.now 0 (replicate placing.now.distances.now.width 1) (length placing.now.distances.now.table))) }
+    ensures len { IfOk result (λ v. vec_len v ≡ length placing.now.distances.now.table) }
 {
-    let mut placed = place_all(rt, alloc, distances, room, seeds, workers)?;
-    fill_up(alloc, distances, least, placed.as_mut_slice())?;
+    let mut placed = place_all(rt, alloc, placing)?;
+    fill_up(alloc, placing.distances, least, placed.as_mut_slice())?;
     Ok(placed)
 }
 
@@ -105,16 +98,13 @@ pub fn groups<R: Threads + Sync, M: Metric>(
     let room = fill.most.pow(level);
     let least = fill.least.pow(level);
     let seeds = seed_places(alloc, n, group_number(fill, root, room, n))?;
-    let hands = if root || n >= LARGE { workers } else { 1 };
-    let mut distances = Distances::new(alloc, metric, SeededSet::new(rows, set, seeds.as_slice()));
-    let placed = parted(
-        rt,
-        alloc,
-        &mut distances,
-        seeds.as_slice(),
+    let distances = Distances::new(metric, rows, set, seeds.as_slice());
+    let placing = Placing {
+        distances: &distances,
         room,
-        least,
-        hands,
-    )?;
+        seeds: seeds.as_slice(),
+        workers,
+    };
+    let placed = parted(rt, alloc, &placing, least)?;
     groups_of(alloc, seeds.as_slice(), set, placed.as_slice())
 }

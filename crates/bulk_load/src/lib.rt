@@ -7,8 +7,8 @@ mod distances;
 mod faults;
 mod filling;
 mod grouping;
+mod hints;
 mod placing;
-mod seeded;
 mod subtree;
 
 pub use building::build;

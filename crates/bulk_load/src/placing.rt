@@ -1,14 +1,28 @@
 //! Which group each object goes to while groups have room.
 
-ghost use Rattle.std.specs.Prelude.{◌≡◌, ℕ, ◌+◌, ◌<◌, ◌≤◌, ◌^◌, ◌∷◌, length, replicate, IfOk, IfSome, All, drop, slice_index, None, vec_len};
+ghost use Rattle.std.specs.Prelude.{◌≡◌, ℕ, ◌+◌, ◌<◌, ◌≤◌, ◌^◌, ◌∷◌, length, replicate, IfOk, IfSome, All, drop, slice_index, Some, None, vec_len};
 ghost use Rattle.tree_shape.specs.Groups.{entry, group_count, seeds_from, nearest_from, placed_from, counted};
 ghost use Rattle.tree_shape.specs.Groups.{nearer as nearer_of, chosen as chosen_of};
+ghost use Rattle.bulk_load.specs.Hints.{IsHint, HaveGrown};
 
 use crate::distances::Distances;
+use crate::hints::Hints;
 use metric_laws::{Memory, Metric};
 use std::alloc::Global;
 use std::thread::Threads;
 use tree_shape::{Bounds, Member};
+
+/// How the objects of a set are placed.
+#[derive(Clone, Copy)]
+pub struct Placing<'a, M: Metric> {
+    pub distances: &'a Distances<'a, M>,
+    /// The most objects of a group.
+    pub room: usize,
+    /// The places of the seeds, in order.
+    pub seeds: &'a [u32],
+    /// The number of threads that look for the nearest groups.
+    pub workers: usize,
+}
 
 /// The number of groups of a set of so many objects, where a group has at most `room`.
 pub fn group_number(fill: &Bounds, is_root: bool, room: usize, objects: usize) -> usize
@@ -56,8 +70,8 @@ fn nearer(
     }
 }
 
-// The nearest group that has room for the object at a place.
-fn nearest<M: Metric>(
+/// The nearest group that has room for the object at a place, and how far its seed is.
+pub fn nearest<M: Metric>(
     distances: &Distances<'_, M>,
     place: usize,
     room: usize,
@@ -67,6 +81,7 @@ fn nearest<M: Metric>(
     requires counts { length counts.now ≡ distances.now.width }
     ensures is { result ≡ nearest_from (entry distances.now.table) room place 0 None counts.now }
     ensures room { IfSome result (λ b. (b.1 < distances.now.width) × (slice_index counts.now b.1 < room)) }
+    ensures far { IfSome result (λ b. b.0 ≡ entry distances.now.table place b.1) }
 {
     let mut best = None;
     for (group, count) in counts.iter().enumerate() {
@@ -75,22 +90,59 @@ fn nearest<M: Metric>(
     best
 }
 
+// The group of a hint, if it still has room.
+fn with_room(hint: Option<u32>, room: usize, counts: &[usize]) -> Option<usize>
+    ensures { IfSome result (λ group. (hint ≡ Some group) × (group < length counts.now) × (slice_index counts.now group < room)) }
+{
+    let group = hint? as usize;
+    if group < counts.len() && counts[group] < room {
+        Some(group)
+    } else {
+        None
+    }
+}
+
+// The group for the object at a place: that of the hint while it has room, and else the nearest that has.
+#[tactic(auto, using(crate::proofs::Ahead::hinted))]
+fn group_for<M: Metric>(
+    placing: &Placing<'_, M>,
+    place: usize,
+    hint: Option<u32>,
+    counts: &[usize],
+) -> Option<usize>
+    requires place { place < length placing.now.distances.now.table }
+    requires counts { length counts.now ≡ placing.now.distances.now.width }
+    requires hint { IfSome hint (IsHint (entry placing.now.distances.now.table) placing.now.room place counts.now) }
+    ensures some { IfSome result (λ group. (group < placing.now.distances.now.width) × (slice_index counts.now group < placing.now.room)
+        × (nearest_from (entry placing.now.distances.now.table) placing.now.room place 0 None counts.now ≡ Some (entry placing.now.distances.now.table place group, group))) }
+    ensures none { result ≡ None → nearest_from (entry placing.now.distances.now.table) placing.now.room place 0 None counts.now ≡ None }
+{
+    if let Some(group) = with_room(hint, placing.room, counts) {
+        return Some(group);
+    }
+    match nearest(placing.distances, place, placing.room, counts) {
+        Some((_, group)) => Some(group),
+        None => None,
+    }
+}
+
 // Chooses a group with room for the object at a place, and counts it there.
 fn choose<M: Metric>(
-    distances: &Distances<'_, M>,
+    placing: &Placing<'_, M>,
     place: usize,
-    room: usize,
+    hint: Option<u32>,
     counts: &mut [usize],
 ) -> usize
-    requires place { place < length distances.now.table }
-    requires width { (0 < distances.now.width) × (distances.now.width ≤ 64) }
-    requires counts { length counts.old ≡ distances.now.width }
-    ensures is { result ≡ chosen_of (nearest_from (entry distances.now.table) room place 0 None counts.old) }
-    ensures counts { counts.new ≡ counted (nearest_from (entry distances.now.table) room place 0 None counts.old) counts.old }
-    ensures small { result < distances.now.width }
+    requires place { place < length placing.now.distances.now.table }
+    requires width { (0 < placing.now.distances.now.width) × (placing.now.distances.now.width ≤ 64) }
+    requires counts { length counts.old ≡ placing.now.distances.now.width }
+    requires hint { IfSome hint (IsHint (entry placing.now.distances.now.table) placing.now.room place counts.old) }
+    ensures is { result ≡ chosen_of (nearest_from (entry placing.now.distances.now.table) placing.now.room place 0 None counts.old) }
+    ensures counts { counts.new ≡ counted (nearest_from (entry placing.now.distances.now.table) placing.now.room place 0 None counts.old) counts.old }
+    ensures small { result < placing.now.distances.now.width }
 {
-    match nearest(distances, place, room, counts) {
-        Some((_, group)) => {
+    match group_for(placing, place, hint, counts) {
+        Some(group) => {
             counts[group] += 1;
             group
         }
@@ -101,23 +153,26 @@ fn choose<M: Metric>(
 // Where the object at a place goes, and how many seeds are before the next place, where so many are before this one.
 #[tactic(auto, using(crate::proofs::Steps::seed_step, crate::proofs::Steps::member_step))]
 fn place_one<M: Metric>(
-    distances: &Distances<'_, M>,
+    placing: &Placing<'_, M>,
     place: usize,
-    room: usize,
-    seeds: &[u32],
+    hint: Option<u32>,
     before: usize,
     counts: &mut [usize],
 ) -> (Member, usize)
-    requires place { place < length distances.now.table }
-    requires width { (0 < distances.now.width) × (distances.now.width ≤ 64) }
-    requires seeds { length seeds.now ≡ distances.now.width }
-    requires before { before ≤ distances.now.width }
-    requires counts { length counts.old ≡ distances.now.width }
-    ensures seeds { result.1 ≤ distances.now.width }
-    ensures small { result.0.group < distances.now.width }
-    ensures step { (left next : ℕ) → left ≡ next + 1 → placed_from (entry distances.now.table) room place (drop before seeds.now) before counts.old left
-        ≡ result.0 ∷ placed_from (entry distances.now.table) room (place + 1) (drop result.1 seeds.now) result.1 counts.new next }
+    requires place { place < length placing.now.distances.now.table }
+    requires width { (0 < placing.now.distances.now.width) × (placing.now.distances.now.width ≤ 64) }
+    requires seeds { length placing.now.seeds.now ≡ placing.now.distances.now.width }
+    requires before { before ≤ placing.now.distances.now.width }
+    requires counts { length counts.old ≡ placing.now.distances.now.width }
+    requires hint { IfSome hint (IsHint (entry placing.now.distances.now.table) placing.now.room place counts.old) }
+    ensures seeds { result.1 ≤ placing.now.distances.now.width }
+    ensures small { result.0.group < placing.now.distances.now.width }
+    ensures counts { length counts.new ≡ length counts.old }
+    ensures grown { HaveGrown counts.old counts.new }
+    ensures step { (left next : ℕ) → left ≡ next + 1 → placed_from (entry placing.now.distances.now.table) placing.now.room place (drop before placing.now.seeds.now) before counts.old left
+        ≡ result.0 ∷ placed_from (entry placing.now.distances.now.table) placing.now.room (place + 1) (drop result.1 placing.now.seeds.now) result.1 counts.new next }
 {
+    let seeds = placing.seeds;
     if before < seeds.len() && seeds[before] as usize == place {
         (
             Member {
@@ -127,7 +182,7 @@ fn place_one<M: Metric>(
             before + 1,
         )
     } else {
-        let group = choose(distances, place, room, counts);
+        let group = choose(placing, place, hint, counts);
         (
             Member {
                 group: group as u32,
@@ -138,30 +193,31 @@ fn place_one<M: Metric>(
     }
 }
 
-/// The group of each object, before small groups are filled up. A group takes objects up to `room`. The distances are
-/// computed by so many workers.
+/// The group of each object, before small groups are filled up. Several workers look ahead for each block of objects; one
+/// alone has nothing to look ahead for.
+#[tactic(auto, using(crate::proofs::Ahead::hints_grow))]
 pub fn place_all<R: Threads + Sync, M: Metric>(
     rt: &R,
     alloc: Global,
-    distances: &mut Distances<'_, M>,
-    room: usize,
-    seeds: &[u32],
-    workers: usize,
+    placing: &Placing<'_, M>,
 ) -> Result<Vec<Member>, Memory>
-    requires width { (0 < distances.old.width) × (distances.old.width ≤ 32) }
-    requires seeds { length seeds.now ≡ distances.old.width }
-    requires workers { (1 ≤ workers) × (workers ≤ 64) }
-    ensures same { distances.new ≡ distances.old }
-    ensures is { IfOk result (λ v. v.items ≡ placed_from (entry distances.old.table) room 0 seeds.now 0 (replicate distances.old.width 1) (length distances.old.table)) }
-    ensures small { IfOk result (λ v. All (λ p. p.group < distances.old.width) v.items) }
-    ensures len { IfOk result (λ v. vec_len v ≡ length distances.old.table) }
+    requires width { (0 < placing.now.distances.now.width) × (placing.now.distances.now.width ≤ 64) }
+    requires seeds { length placing.now.seeds.now ≡ placing.now.distances.now.width }
+    requires workers { (1 ≤ placing.now.workers) × (placing.now.workers ≤ 64) }
+    ensures is { IfOk result (λ v. v.items ≡ placed_from (entry placing.now.distances.now.table) placing.now.room 0 placing.now.seeds.now 0 (replicate placing.now.distances.now.width 1) (length placing.now.distances.now.table)) }
+    ensures small { IfOk result (λ v. All (λ p. p.group < placing.now.distances.now.width) v.items) }
+    ensures len { IfOk result (λ v. vec_len v ≡ length placing.now.distances.now.table) }
 {
-    let mut counts = vec![in alloc; 1usize; distances.seeds()]?;
-    let mut placed = Vec::new(alloc);
+    let objects = placing.distances.objects();
+    let mut counted = vec![in alloc; 1usize; placing.distances.seeds()]?;
+    let counts = counted.as_mut_slice();
+    let mut placed = Vec::with_capacity(alloc, objects)?;
+    let mut hints = Hints::none(alloc);
     let mut before = 0;
-    for place in 0..distances.objects() {
-        distances.measure_ahead(rt, alloc, place, workers)?;
-        let (one, next) = place_one(distances, place, room, seeds, before, counts.as_mut_slice());
+    for place in 0..objects {
+        hints.look_ahead(rt, alloc, placing, counts, place)?;
+        let hint = hints.at(place);
+        let (one, next) = place_one(placing, place, hint, before, counts);
         placed.push(one)?;
         before = next;
     }

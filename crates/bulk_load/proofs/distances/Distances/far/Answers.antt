@@ -1,29 +1,21 @@
-use Rattle.std.proofs.Common.{◌≡◌, ◌-◌, ◌<◌, length, subst, ℕ, ◌∙◌, ap, arith}
+use Rattle.std.proofs.Common.{◌≡◌, ◌<◌, ℕ, ◌∙◌, List, length, get_or, ap, sym, subst}
+use Rattle.tree_shape.specs.Bulk.{row_of}
 use Rattle.tree_shape.specs.Groups.{entry}
-use Rattle.bulk_load.specs.Measured.{Measured, measured}
-use Rattle.bulk_load.proofs.Ahead.{found_row}
+use Rattle.tree_shape.proofs.Kept.{length_map}
+use Rattle.bulk_load.specs.Measured.{Measured, points_of}
+use Rattle.bulk_load.proofs.Ahead.{far_is, points_long}
 use Rattle.bulk_load.proofs.distances.Distances.far.Goals as goal
 
-pub offset_bounds-index-group : goal.offset_bounds-index-group
-offset_bounds-index-group g c =
-    let width : length c.self.inside.set.seeds ≡ c.args.self.now.width = ap (λ (t : Measured). t.width) c.self.view_is in
-    let few = c.self.invariant.0 in
-    let low = c.requires.group in
-    omega arith
-
-pub bounds-index-group : goal.bounds-index-group
-bounds-index-group g c =
-    let width : length c.self.inside.set.seeds ≡ c.args.self.now.width = ap (λ (t : Measured). t.width) c.self.view_is in
-    let few = c.self.invariant.0 in
-    let low = c.requires.group in
-    omega arith
-
-pub returns-then-place-self : goal.returns-then-place-self
-returns-then-place-self g c =
-    let m : Measured = measured (g.M.Metric.space c.self.inside.metric) c.self.inside.set in
-    let width : length c.self.inside.set.seeds ≡ c.args.self.now.width = ap (λ (t : Measured). t.width) c.self.view_is in
-    let inside : c.args.place - c.self.inside.first < length c.self.inside.block.items =
-    subst (λ (n : ℕ). c.args.place - c.self.inside.first < n) (c.len.ensures ∙ c.self.inside.block.ok.0) c.if-place-self.true in
-    let here : c.args.group < length c.self.inside.set.seeds = let low = c.requires.group in omega arith in
-    found_row m c.self.inside.first c.self.inside.block.items c.args.place c.args.group c.index.result.now c.self.invariant.1 c.if-self-place.true inside here c.index.ensures
-    ∙ ap (λ (t : Measured). entry t.table c.args.place c.args.group) c.self.view_is
+pub returns : goal.returns
+returns g c =
+    let s = g.M.Metric.space c.self.inside.metric in
+    let rows : List (List ℕ) = c.self.inside.rows.now.points in
+    let places : List ℕ = c.self.inside.set.now in
+    let seeds : List ℕ = c.self.inside.seeds.now in
+    let wide : c.args.self.now.width ≡ length seeds = sym (ap (λ (m : Measured). m.width) c.self.view_is) in
+    let long : length c.args.self.now.table ≡ length places =
+    sym (ap (λ (m : Measured). length m.table) c.self.view_is) ∙ length_map (row_of s (points_of rows places) seeds) (points_of rows places) ∙ points_long rows places in
+    let low : c.args.place < length places = subst (λ (n : ℕ). c.args.place < n) long c.requires.place in
+    let here : c.args.group < length seeds = subst (λ (n : ℕ). c.args.group < n) wide c.requires.group in
+    far_is s rows places seeds c.args.place c.args.group c.dist.result c.point-object.result.now c.point.result.now low here (c.self.invariant.1 c.args.group 0 here) c.point-object.ensures c.point.ensures
+    c.dist.ensures.value ∙ ap (λ (m : Measured). entry m.table c.args.place c.args.group) c.self.view_is

@@ -1,0 +1,90 @@
+//! The nearest groups of many objects, found by several workers before the objects' turns come.
+
+ghost use Rattle.std.specs.Prelude.{◌≡◌, ℕ, List, ◌<◌, ◌≤◌, ◌+◌, ◌^◌, OnOk, IfSome, length};
+ghost use Rattle.tree_shape.specs.Groups.{Far, entry};
+ghost use Rattle.bulk_load.specs.Hints.{IsHint, AreHints};
+
+use crate::placing::{Placing, nearest};
+use metric_laws::{Memory, Metric};
+use par_work::share;
+use std::alloc::Global;
+use std::thread::Threads;
+
+/// The number of objects that are looked at together. The fewer they are, the more often threads are started; the more they
+/// are, the more hints are out of date when their turn comes.
+const BLOCK: usize = 16384;
+
+// The number of the nearest group that has room for the object at a place, where one has.
+fn hint_for<M: Metric>(placing: &Placing<'_, M>, counts: &[usize], place: usize) -> Option<u32>
+    requires place { place < length placing.now.distances.now.table }
+    requires width { placing.now.distances.now.width ≤ 64 }
+    requires counts { length counts.now ≡ placing.now.distances.now.width }
+    ensures { IfSome result (IsHint (entry placing.now.distances.now.table) placing.now.room place counts.now) }
+{
+    match nearest(placing.distances, place, placing.room, counts) {
+        Some((_, group)) => Some(group as u32),
+        None => None,
+    }
+}
+
+/// Hints for the objects of one block, from a place on.
+#[derive(Drop)]
+pub struct Hints {
+    pub first: usize,
+    pub groups: Vec<Option<u32>>,
+}
+
+impl Hints {
+    /// No hints.
+    pub fn none(alloc: Global) -> Self
+        ensures { (far : Far) (room : ℕ) (counts : List ℕ) → AreHints far room result.first counts result.groups.items }
+    {
+        Hints {
+            first: 0,
+            groups: Vec::new(alloc),
+        }
+    }
+
+    /// Has several workers look at the objects of the block that begins at a place, where the groups have so many objects.
+    /// Between the beginnings of blocks there is nothing to do, and for one worker never.
+    #[tactic(auto, using(crate::proofs::Ahead::hints_are))]
+    pub fn look_ahead<R: Threads + Sync, M: Metric>(
+        &mut self,
+        rt: &R,
+        alloc: Global,
+        placing: &Placing<'_, M>,
+        counts: &[usize],
+        place: usize,
+    ) -> Result<(), Memory>
+        requires place { place < length placing.now.distances.now.table }
+        requires width { placing.now.distances.now.width ≤ 64 }
+        requires counts { length counts.now ≡ placing.now.distances.now.width }
+        requires workers { (1 ≤ placing.now.workers) × (placing.now.workers ≤ 64) }
+        requires hints { AreHints (entry placing.now.distances.now.table) placing.now.room self.old.first counts.now self.old.groups.items }
+        ensures { OnOk result (AreHints (entry placing.now.distances.now.table) placing.now.room self.new.first counts.now self.new.groups.items) }
+    {
+        if placing.workers == 1 || place % BLOCK != 0 {
+            return Ok(());
+        }
+        let count = BLOCK.min(placing.distances.objects() - place);
+        let hint = |i: usize| -> Option<u32>
+            requires { (place + i < 2 ^ 64) × (place + i < length placing.now.distances.now.table) × (placing.now.distances.now.width ≤ 64) × (length counts.now ≡ placing.now.distances.now.width) }
+            ensures { IfSome result (IsHint (entry placing.entry.now.distances.now.table) placing.entry.now.room (place + i) counts.entry.now) }
+        { hint_for(placing, counts, place + i) };
+        self.groups = share(rt, alloc, count, placing.workers, &hint)?;
+        self.first = place;
+        Ok(())
+    }
+
+    /// What is known of the object at a place.
+    #[tactic(auto, using(crate::proofs::Ahead::hint_at))]
+    pub fn at(&self, place: usize) -> Option<u32>
+        ensures { (far : Far) (room : ℕ) (counts : List ℕ) → AreHints far room self.now.first counts self.now.groups.items → IfSome result (IsHint far room place counts) }
+    {
+        if self.first <= place && place - self.first < self.groups.len() {
+            self.groups[place - self.first]
+        } else {
+            None
+        }
+    }
+}
