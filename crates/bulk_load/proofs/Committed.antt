@@ -34,7 +34,7 @@ pub lawful_load : (s : Space) (rows : List (List ℕ)) (labels : List ℕ) (fill
 lawful_load s rows labels fill dim words most least fits tagged =
     record { fits = recursion_from_All (λ p. IsTrue (s.fits p)) rows fits; tagged = tagged; most = most ∙ ap most_for (sym words); least = least ∙ ap least_for (sym words) }
 
-nodes_some : (l : Load) (number : ℕ → ℕ) (h : ℕ) (seed : Option ℕ) (set : List ℕ) (i : ℕ) → 1 ≤ length (nodes_at l number h seed set i)
+pub nodes_some : (l : Load) (number : ℕ → ℕ) (h : ℕ) (seed : Option ℕ) (set : List ℕ) (i : ℕ) → 1 ≤ length (nodes_at l number h seed set i)
 nodes_some l number zero seed set i = omega arith
 nodes_some l number (suc h) seed set i =
     let more = length-append (below_groups (λ (g : Group) (j : ℕ). nodes_at l number h (Some g.seed) g.members j) i (groups_at l (is_top seed) (suc h) set))

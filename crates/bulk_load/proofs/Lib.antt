@@ -12,3 +12,5 @@ pub mod Lawful
 pub mod Heights
 pub mod Committed
 pub mod Ahead
+pub mod Moved
+pub mod Joined

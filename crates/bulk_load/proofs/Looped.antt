@@ -37,7 +37,7 @@ opened l number (suc h) seed set i high =
     ++ Inner (suc h) (group_entries l number seed (λ (g : Group) (j : ℕ). nodes_at l number k (Some g.seed) g.members j) i (groups_at l (is_top seed) (suc h) set)) ∷ [])
     (let e : h ≡ suc h - 1 = omega arith in e)
 
-groups_good : (l : Load) → IsSpace l.space → IsLawfulLoad l → (level : ℕ) (seed : Option ℕ) (set : List ℕ) → level ≢ 0 → IsSetFor l (is_top seed) level set →
+pub groups_good : (l : Load) → IsSpace l.space → IsLawfulLoad l → (level : ℕ) (seed : Option ℕ) (set : List ℕ) → level ≢ 0 → IsSetFor l (is_top seed) level set →
     AllByRecursion (IsGroupFor l (level - 1)) (groups_at l (is_top seed) level set)
 groups_good l space lawful zero seed set high k = absurd (high refl)
 groups_good l space lawful (suc h) seed set high k =

@@ -1,6 +1,6 @@
 -- Each group of a set can be built, and how many nodes there are.
 use Rattle.std.proofs.Common.{◌≡◌, ◌⊎◌, ℕ, zero, suc, ◌+◌, ◌*◌, ◌^◌, ◌<◌, ◌≤◌, Bool, true, false, List, [], ◌∷◌, ◌++◌, refl, sym, ap, ◌∙◌, arith, length, map, subst, inl, inr, length-append}
-use Rattle.std.specs.Prelude.{Option, Some, ◌==◌, if◌then◌else◌, IsTrue}
+use Rattle.std.specs.Prelude.{Option, Some, None, not, is_some, ◌==◌, if◌then◌else◌, IsTrue}
 use Rattle.std.specs.List.{AllByRecursion, flat_map}
 use Rattle.std.specs.List.Sorted.{IsStrictlyIncreasing}
 use Rattle.std.proofs.Math.Nat.{pow-suc, pow-zero, mul-le-mul_left}
@@ -239,3 +239,10 @@ nodes_long l number (suc h) seed set i = inner (groups_at l (is_top seed) (suc h
       where
         tall : Plain (suc h) → Tall
         tall t = record { height = suc h; tree = t }
+
+-- the set of the root is the one with no seed
+pub top_is : (seed : Option ℕ) (none : Bool) → is_some seed ≡ not none → none ≡ is_top seed
+top_is None true e = refl
+top_is None false e = cc
+top_is (Some k) true e = cc
+top_is (Some k) false e = refl

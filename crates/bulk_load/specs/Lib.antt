@@ -4,5 +4,6 @@ pub mod Hints
 pub mod Candidates
 pub mod Sets
 pub mod Postorder
+pub mod Apart
 pub mod Loaded
 pub mod Causes

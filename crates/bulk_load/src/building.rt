@@ -14,7 +14,8 @@ ghost use Rattle.bulk_load.specs.Postorder.{last_of};
 ghost use Rattle.bulk_load.specs.Sets.{load_by, page_by, IsLawfulLoad, top_height, top_nodes};
 
 use crate::BuildFault;
-use crate::subtree::{Loading, Set, add_subtree};
+use crate::sharing::add_tree;
+use crate::subtree::{Loading, Set};
 use metric_laws::{Memory, Metric, Rows};
 use node_page::Head;
 use page_store::{NewTree, Numbering, Placed, RoomFault, settle};
@@ -77,7 +78,7 @@ fn new_tree<R: Threads + Sync, M: Metric>(
         places: places.as_slice(),
     };
     let mut nodes = Vec::new(alloc);
-    let root = add_subtree(rt, alloc, loading, &set, &mut nodes)?;
+    let root = add_tree(rt, alloc, loading, &set, &mut nodes)?;
     let left = vec![in alloc; live.root]?;
     Ok(NewTree {
         nodes,

@@ -8,7 +8,9 @@ mod faults;
 mod filling;
 mod grouping;
 mod hints;
+mod moving;
 mod placing;
+mod sharing;
 mod subtree;
 
 pub use building::build;

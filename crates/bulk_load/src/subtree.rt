@@ -4,7 +4,7 @@ ghost use Rattle.std.specs.Prelude.{◌≡◌, ℕ, ◌+◌, ◌≤◌, ◌<◌,
 ghost use Rattle.metric_laws.specs.Space.{bound};
 ghost use Rattle.tree_shape.specs.declared.entry.Node.TheVariants.{Leaf, Inner};
 ghost use Rattle.tree_shape.specs.Tree.{parent_distance};
-ghost use Rattle.tree_shape.specs.Bulk.{point_of, radius_of};
+ghost use Rattle.tree_shape.specs.Bulk.{point_of, radius_of, groups_at};
 ghost use Rattle.bulk_load.specs.Sets.{load_by, page_by, IsLawfulLoad, IsSetFor};
 ghost use Rattle.bulk_load.specs.Postorder.{is_top, seed_point, leaf_entry, group_entry, last_of, nodes_at};
 
@@ -111,8 +111,8 @@ fn radius<M: Metric>(loading: &Loading<'_, M>, seed: u32, members: &[u32]) -> u6
     greatest
 }
 
-// The entry of a group whose root stands on a page.
-fn group_entry_of<M: Metric>(
+/// The entry of a group, the root of whose subtree stands on a page.
+pub fn group_entry_of<M: Metric>(
     alloc: Global,
     loading: &Loading<'_, M>,
     seed: Option<u32>,
@@ -152,6 +152,53 @@ fn push_node<M: Metric>(
     Ok(page)
 }
 
+/// Adds the node of a set above level 0 after the others, and gives its page.
+pub fn push_inner<M: Metric>(
+    loading: &Loading<'_, M>,
+    level: u32,
+    entries: Vec<InnerEntry>,
+    nodes: &mut Vec<Node>,
+) -> Result<u32, Memory>
+    requires level { level ≤ 14 }
+    requires first { loading.now.numbering.first ≤ 2 ^ 24 }
+    requires few { length nodes.old.items < 2 ^ 26 }
+    ensures page { IfOk result (λ page. page ≡ page_by loading.now (length nodes.old.items)) }
+    ensures nodes { OnOk result (nodes.new.items ≡ nodes.old.items ++ Inner level entries.items ∷ []) }
+{
+    let node = Node::Inner {
+        level: level as u8,
+        entries: Listed::new(entries),
+    };
+    push_node(loading, node, nodes)
+}
+
+/// The groups of a set above level 0.
+pub fn groups_in<R: Threads + Sync, M: Metric>(
+    rt: &R,
+    alloc: Global,
+    loading: &Loading<'_, M>,
+    set: &Set<'_>,
+) -> Result<Vec<Group>, Memory>
+    requires load { IsLawfulLoad (load_by (M.space loading.now.metric) loading.now) }
+    requires rows { length loading.now.rows.now.points < 2 ^ 32 }
+    requires workers { (1 ≤ loading.now.workers) × (loading.now.workers ≤ 64) }
+    requires set { IsSetFor (load_by (M.space loading.now.metric) loading.now) (is_top set.now.seed) set.now.level set.now.places.now }
+    requires level { (1 ≤ set.now.level) × (set.now.level ≤ 14) }
+    ensures { IfOk result (λ gs. gs.items ≡ groups_at (load_by (M.space loading.now.metric) loading.now) (is_top set.now.seed) set.now.level set.now.places.now) }
+{
+    groups(
+        rt,
+        alloc,
+        loading.metric,
+        loading.workers,
+        loading.rows,
+        set.places,
+        set.level,
+        set.seed.is_none(),
+        &loading.fill,
+    )
+}
+
 /// Adds the nodes of a set's subtree after the others, children before their parent, and gives the page of the subtree's
 /// root.
 pub fn add_subtree<R: Threads + Sync, M: Metric>(
@@ -176,20 +223,9 @@ pub fn add_subtree<R: Threads + Sync, M: Metric>(
 {
     if set.level == 0 {
         let entries = leaf_entries(alloc, loading, set)?;
-        let page = push_node(loading, Node::Leaf(Listed::new(entries)), nodes)?;
-        return Ok(page);
+        return push_node(loading, Node::Leaf(Listed::new(entries)), nodes);
     }
-    let groups = groups(
-        rt,
-        alloc,
-        loading.metric,
-        loading.workers,
-        loading.rows,
-        set.places,
-        set.level,
-        set.seed.is_none(),
-        &loading.fill,
-    )?;
+    let groups = groups_in(rt, alloc, loading, set)?;
     let mut entries = Vec::with_capacity(alloc, groups.len())?;
     for group in groups {
         let below = Set {
@@ -201,11 +237,6 @@ pub fn add_subtree<R: Threads + Sync, M: Metric>(
         let entry = group_entry_of(alloc, loading, set.seed, &group, page)?;
         entries.push(entry)?;
     }
-    let entries = Listed::new(entries);
-    let node = Node::Inner {
-        level: set.level as u8,
-        entries,
-    };
-    let page = push_node(loading, node, nodes)?;
+    let page = push_inner(loading, set.level, entries, nodes)?;
     Ok(page)
 }

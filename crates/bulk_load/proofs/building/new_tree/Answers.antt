@@ -11,17 +11,17 @@ height_for-requires-clause-most g c =
     let some = most_some (load_of (g.M.Metric.space c.args.loading.now.metric) c.args.loading.now.rows.now.points c.args.loading.now.tags.now c.args.loading.now.fill) (g.M.Metric.axioms c.args.loading.now.metric) c.requires.load in
     let few = most_low (load_of (g.M.Metric.space c.args.loading.now.metric) c.args.loading.now.rows.now.points c.args.loading.now.tags.now c.args.loading.now.fill) c.requires.load in (omega (arith, some), few)
 
-pub add_subtree-requires-clause-set : goal.add_subtree-requires-clause-set
-add_subtree-requires-clause-set g c κs within =
+pub add_tree-requires-clause-set : goal.add_tree-requires-clause-set
+add_tree-requires-clause-set g c κs within =
     all_rows (load_of (g.M.Metric.space c.args.loading.now.metric) c.args.loading.now.rows.now.points c.args.loading.now.tags.now c.args.loading.now.fill) (g.M.Metric.axioms c.args.loading.now.metric) c.requires.load c.requires.some
     c.height_for.result c.as_slice.result.now (search rules) (search rules)
 
-pub add_subtree-requires-clause-level : goal.add_subtree-requires-clause-level
-add_subtree-requires-clause-level g c κs within =
+pub add_tree-requires-clause-level : goal.add_tree-requires-clause-level
+add_tree-requires-clause-level g c κs within =
     let h = low (load_of (g.M.Metric.space c.args.loading.now.metric) c.args.loading.now.rows.now.points c.args.loading.now.tags.now c.args.loading.now.fill) (g.M.Metric.axioms c.args.loading.now.metric) c.requires.load c.requires.some c.requires.few in
     let same : c.height_for.result ≡ height_of c.args.loading.now.fill.most (length c.args.loading.now.rows.now.points) = search rules in omega (arith, h, same)
 
-pub add_subtree-requires-clause-few : goal.add_subtree-requires-clause-few
-add_subtree-requires-clause-few g c κs within =
+pub add_tree-requires-clause-few : goal.add_tree-requires-clause-few
+add_tree-requires-clause-few g c κs within =
     first_few (load_of (g.M.Metric.space c.args.loading.now.metric) c.args.loading.now.rows.now.points c.args.loading.now.tags.now c.args.loading.now.fill) (g.M.Metric.axioms c.args.loading.now.metric) c.requires.load c.requires.some c.requires.few
     (number_at c.args.loading.now.numbering.numbers.now c.args.loading.now.numbering.first) c.height_for.result c.as_slice.result.now c.new-nodes.result.items (search rules) (search rules) c.new-nodes.ensures.items
