@@ -6,6 +6,7 @@ ghost use Rattle.page_store.specs.Numbers.{AreNumbers};
 
 use crate::tests::line;
 use crate::{BuildFault, build};
+use meeting::{Meeting, Seen};
 use metric_laws::{Memory, Rows};
 use node_page::Head;
 use page_store::Placed;
@@ -245,6 +246,29 @@ fn any_number_of_workers_gives_the_same_nodes(rt: HostRuntime) -> Result<(), Bui
             let node = placed.staged.node_at(place);
             assert!(&rt; are_same(node, by_one.staged.node_at(place)));
         }
+    }
+    Ok(())
+}
+
+#[test]
+fn two_workers_of_a_load_meet(rt: HostRuntime) -> Result<(), BuildFault> {
+    let alloc = rt.alloc();
+    let rows = numbers(alloc)?;
+    let Ok(tags) = tags_of(alloc, 33) else {
+        return Err(BuildFault::Memory);
+    };
+    let head = head_of(33);
+    for workers in [2usize, 1] {
+        let seen = Seen::new();
+        let metric = Meeting {
+            plain: L1::new(1),
+            first: &[1],
+            second: &[32],
+            seen: &seen,
+        };
+        let live = empty(1, 4);
+        build(&rt, alloc, metric, workers, &head, &live, &[], &rows, &tags)?;
+        assert_eq!(&rt; seen.met(), workers == 2);
     }
     Ok(())
 }
