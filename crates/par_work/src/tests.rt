@@ -1,6 +1,6 @@
 ghost use Rattle.std.specs.Prelude.{◌≡◌, ◌*◌, ◌^◌, length, IfOk};
 
-use crate::{Job, fork, rows};
+use crate::{Job, fork, rows, share};
 use meeting::{Meeting, Seen};
 use metric_laws::{Memory, Rows};
 use std::alloc::Global;
@@ -64,6 +64,11 @@ fn places_are_answered_in_order_for_any_workers(rt: HostRuntime) -> Result<(), M
             assert_eq!(rt; found.len(), count);
             for (i, x) in found.iter().enumerate() {
                 assert_eq!(rt; *x, i * 2);
+            }
+            let places = share(&rt, alloc, count, workers, &|i| i)?;
+            assert_eq!(rt; places.len(), count);
+            for (i, x) in places.iter().enumerate() {
+                assert_eq!(rt; *x, i);
             }
         }
     }
