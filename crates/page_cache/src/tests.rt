@@ -1,10 +1,11 @@
 ghost use Rattle.std.specs.Prelude.{◌≤◌, false};
-ghost use Rattle.disk_model.specs.Memory.Images.{memory_state};
+ghost use Rattle.disk_model.specs.Disk.{IsUnchanged};
+ghost use Rattle.page_store.specs.Shelf.{HoldsSame};
 ghost use Rattle.page_store.specs.Shelves.{disk_shelf};
 ghost use Rattle.page_cache.specs.Keeping.{Agrees};
 
 use crate::{Cached, Kept, laws};
-use disk_model::MemoryDisk;
+use disk_model::{Disk, MemoryDisk};
 use page_store::{DiskPages, Memory, PageFault, Pages};
 use std::alloc::Global;
 use std::process::Abort;
@@ -103,7 +104,10 @@ fn shown(node: &Node) -> Shown {
 }
 
 // What the node of one of some pages shows.
-fn ask<P: Pages>(alloc: Global, pages: &mut P, page: u32) -> Result<Shown, PageFault> {
+fn ask<P: Pages>(alloc: Global, pages: &mut P, page: u32) -> Result<Shown, PageFault>
+    ensures same { HoldsSame (P.shelf pages.old) (P.shelf pages.new) }
+    ensures keeps { P.keeps pages.old pages.new }
+{
     let node = pages.node(alloc, page)?;
     Ok(shown(&node))
 }
@@ -180,22 +184,21 @@ fn a_refusal_keeps_what_is_kept(rt: HostRuntime) -> Result<(), Fail> {
 }
 
 // Lends a cache to the pages of a disk for one ask.
-fn look(
+fn look<D: Disk>(
     alloc: Global,
-    disk: &mut MemoryDisk,
+    disk: &mut D,
     kept: Kept,
     page: u32,
 ) -> (Result<Shown, PageFault>, Kept)
-    requires { Agrees kept (disk_shelf false 1 6 (memory_state disk.old) 0) }
-    ensures { Agrees result.1 (disk_shelf false 1 6 (memory_state disk.new) 0) }
+    requires { Agrees kept (disk_shelf false 1 6 (D.state disk.old) 0) }
+    ensures same { IsUnchanged (D.state disk.old) (D.state disk.new) }
+    ensures agrees { Agrees result.1 (disk_shelf false 1 6 (D.state disk.new) 0) }
 {
     laws::agrees_onwards();
     let mut pages = Cached::from_parts(DiskPages::new(disk, 1, 6), kept);
-    let answer = match pages.node(alloc, page) {
-        Ok(node) => Ok(shown(&node)),
-        Err(fault) => Err(fault),
-    };
-    let (_, kept) = pages.into_parts();
+    let answer = ask(alloc, &mut pages, page);
+    let (inner, kept) = pages.into_parts();
+    let _disk = inner.disk;
     (answer, kept)
 }
 
