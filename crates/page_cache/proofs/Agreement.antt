@@ -1,11 +1,9 @@
 -- What is kept agrees with the pages behind.
-use Rattle.std.proofs.Common.{◌≡◌, ◌⊎◌, ℕ, ◌≤◌, ◌<◌, Bool, true, false, nat_eq, List, [], ◌∷◌, filter, Option, Some, None, Result, Ok, Err, IfOk, IfErr, IsTrue, All, Contains, refl, sym, ◌∙◌, ap, subst, inl, inr, arith}
-use Rattle.std.specs.Map.{lookup}
-use Rattle.std.specs.Cmp.{nat_eq_equiv}
+use Rattle.std.proofs.Common.{◌≡◌, ◌⊎◌, ℕ, true, false, nat_eq, List, Some, None, IsTrue, All, Contains, refl, sym, ◌∙◌, ap, subst, inl, inr, arith}
 use Rattle.std.proofs.lemmas.Bool.{eqb-true}
 use Rattle.std.proofs.lemmas.Bool.Decides.{nat_tests}
-use Rattle.std.proofs.lemmas.List.Elements.{All-nil, All-weaker, All-contains, All-contains_itself, All-filter, All-get_or}
-use Rattle.lru.specs.LruCache.{LruCache, lru_cache, put_entries}
+use Rattle.std.proofs.lemmas.List.Elements.{All-weaker, All-contains, All-contains_itself}
+use Rattle.lru.specs.LruCache.{put_entries}
 use Rattle.lru.proofs.CallerLemmas.{Contains-lookup, Contains-put_entries, IsPut}
 use Rattle.tree_shape.specs.declared.entry.Node.{Node}
 use Rattle.node_page.specs.Nodes.{IsLawfulNode}
@@ -13,7 +11,7 @@ use Rattle.page_store.specs.declared.pages.PageFault.{PageFault}
 use Rattle.page_store.specs.declared.pages.PageFault.TheVariants.{Disk, Bad, Outside, Memory, Repeats, Level}
 use Rattle.page_store.specs.Reading.{IsWithin, is_within}
 use Rattle.page_store.specs.Shelf.{Shelf, HoldsSame, IsNodeOf, HasPageCause}
-use Rattle.page_cache.specs.Keeping.{Pairs, node_of, used, without, IsUsed, Agrees}
+use Rattle.page_cache.specs.Keeping.{Pairs, node_of, used, Agrees}
 use Rattle.page_cache.specs.Cache.{asked_for}
 use Rattle.page_cache.specs.Laws.{GrowsTo}
 
@@ -71,8 +69,8 @@ still_node old new page node grows reads is = record {
 }
 
 -- what is kept agrees as long as each kept page reads as before
-pub agrees_onwards : (kept : Pairs) (old new : Shelf) → GrowsTo old new → Agrees kept old → (IsTrue new.tells → All (λ pair. new.read pair.0 ≡ old.read pair.0) kept.entries) → Agrees kept new
-agrees_onwards kept old new grows agrees reads =
+pub agreement_lasts : (kept : Pairs) (old new : Shelf) → GrowsTo old new → Agrees kept old → (IsTrue new.tells → All (λ pair. new.read pair.0 ≡ old.read pair.0) kept.entries) → Agrees kept new
+agreement_lasts kept old new grows agrees reads =
     All-weaker (Contains kept.entries) (λ pair. IsNodeOf new pair.0 pair.1)
     (λ pair within. still_node old new pair.0 pair.1 grows (λ tells. All-contains (λ p. new.read p.0 ≡ old.read p.0) kept.entries pair (reads tells) within)
     (All-contains (λ p. IsNodeOf old p.0 p.1) kept.entries pair agrees within)) kept.entries (All-contains_itself kept.entries)
@@ -80,7 +78,7 @@ agrees_onwards kept old new grows agrees reads =
 -- pages that hold the same agree with what is kept as before
 pub agrees-same : (kept : Pairs) (old new : Shelf) → HoldsSame old new → Agrees kept old → Agrees kept new
 agrees-same kept old new same agrees =
-    agrees_onwards kept old new (record { dim = same.dim; pages = let e = same.pages in omega arith; tells = λ tells. subst IsTrue same.tells tells }) agrees
+    agreement_lasts kept old new (record { dim = same.dim; pages = let e = same.pages in omega arith; tells = λ tells. subst IsTrue same.tells tells }) agrees
     (λ tells. All-weaker (Contains kept.entries) (λ pair. new.read pair.0 ≡ old.read pair.0) (λ pair within. ap (λ read. read pair.0) same.read) kept.entries (All-contains_itself kept.entries))
 
 -- the node of a page for pages that hold the same

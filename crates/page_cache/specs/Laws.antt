@@ -5,22 +5,23 @@ use Rattle.page_store.specs.Shelf.{Shelf}
 use Rattle.page_cache.specs.Keeping.{Pairs, node_of, without, Agrees}
 
 -- an empty cache agrees with any pages
-abbrev pub NothingAgrees : Type 0
-NothingAgrees = (cap : ℕ) (shelf : Shelf) → Agrees (lru_cache [] cap) shelf
+abbrev pub EmptyCacheAgrees : Type 0
+EmptyCacheAgrees = (cap : ℕ) (shelf : Shelf) → Agrees (lru_cache [] cap) shelf
 
--- pages have so many coordinates as before, are no fewer, and tell no more
+-- points have as many coordinates as before, pages are no fewer, and they tell what they hold only if they did before
 pub record GrowsTo (old new : Shelf) : Type 0 where
   pub dim : new.dim ≡ old.dim
   pub pages : old.pages ≤ new.pages
   pub tells : IsTrue new.tells → IsTrue old.tells
 
--- what is kept agrees as long as each kept page reads as before
-abbrev pub AgreesOnwards : Type 0
-AgreesOnwards = (kept : Pairs) (old new : Shelf) → GrowsTo old new → Agrees kept old →
+-- What is kept agrees with pages that grow as long as each kept page holds what it held. So whoever writes pages anew has
+-- to forget these alone.
+abbrev pub AgreementLasts : Type 0
+AgreementLasts = (kept : Pairs) (old new : Shelf) → GrowsTo old new → Agrees kept old →
     (IsTrue new.tells → All (λ pair. new.read pair.0 ≡ old.read pair.0) kept.entries) → Agrees kept new
 
 -- a page that is forgotten is kept no more, and what is left agrees where the whole did
-abbrev pub ForgetsAndAgrees : Type 0
-ForgetsAndAgrees = (kept : Pairs) (page : ℕ) →
+abbrev pub ForgettingKeepsAgreement : Type 0
+ForgettingKeepsAgreement = (kept : Pairs) (page : ℕ) →
     (node_of (without kept page) page ≡ None) × All (λ pair. page ≢ pair.0) (without kept page).entries
     × ((shelf : Shelf) → Agrees kept shelf → Agrees (without kept page) shelf)

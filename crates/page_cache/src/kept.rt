@@ -1,4 +1,6 @@
-ghost use Rattle.std.specs.Prelude.{◌≡◌, ◌⊎◌, ◌≤◌, [], IfOk, MatchOption, MatchResult, Ok, None};
+ghost use Rattle.std.specs.Prelude.{◌≡◌, ◌⊎◌, ◌≤◌, ◌==◌, [], length, nat_eq, IfOk, MatchOption, MatchResult, Ok, None};
+ghost use Rattle.std.specs.List.{IsDistinct};
+ghost use Rattle.std.specs.Map.{keys_of};
 ghost use Rattle.lru.specs.LruCache.{lru_cache};
 ghost use Rattle.page_cache.specs.Keeping.{node_of, used, without};
 
@@ -37,11 +39,27 @@ impl Kept {
         })
     }
 
+    /// How many nodes are kept: never more than there may be, and none of one page twice.
+    pub fn len(&self) -> usize
+        ensures len { result ≡ length self.now.entries }
+        ensures few { length self.now.entries ≤ self.now.cap }
+        ensures distinct { IsDistinct nat_eq (keys_of self.now.entries) }
+    {
+        self.nodes.len()
+    }
+
+    /// Whether no node is kept.
+    pub fn is_empty(&self) -> bool
+        ensures { result ≡ (length self.now.entries == 0) }
+    {
+        self.nodes.is_empty()
+    }
+
     /// Drops the node of a page, if one is kept. Whoever writes a page anew calls this first.
     pub fn forget(&mut self, page: u32)
         ensures { self.new ≡ without self.old page }
     {
-        // No page is kept twice, so that none of its nodes is left.
+        // By the length no page is kept twice, so that no node of this one is left.
         let _len = self.nodes.len();
         drop(self.nodes.pop(&page));
     }

@@ -164,8 +164,8 @@ fn a_page_that_is_forgotten_is_read_again(rt: HostRuntime) -> Result<(), Fail> {
     for page in [5, 3, 4] {
         assert_eq!(rt; ask(alloc, &mut pages, page), expected(page));
     }
-    let (inner, _) = pages.into_parts();
-    assert_eq!(rt; inner.disk.moments(), 4);
+    let (inner, kept) = pages.into_parts();
+    assert_eq!(rt; (inner.disk.moments(), kept.len()), (4, 3));
     Ok(())
 }
 
@@ -194,7 +194,7 @@ fn look<D: Disk>(
     ensures same { IsUnchanged (D.state disk.old) (D.state disk.new) }
     ensures agrees { Agrees result.1 (disk_shelf false 1 6 (D.state disk.new) 0) }
 {
-    laws::agrees_onwards();
+    laws::agreement_lasts();
     let mut pages = Cached::from_parts(DiskPages::new(disk, 1, 6), kept);
     let answer = ask(alloc, &mut pages, page);
     let (inner, kept) = pages.into_parts();
@@ -204,11 +204,12 @@ fn look<D: Disk>(
 
 #[test]
 fn a_cache_is_lent(rt: HostRuntime) -> Result<(), Fail> {
-    laws::nothing_agrees();
-    laws::forgets_and_agrees();
+    laws::empty_cache_agrees();
+    laws::forgetting_keeps_agreement();
     let alloc = rt.alloc();
     let mut disk = disk_of(alloc, &[])?;
     let mut kept = Kept::new(alloc, 2)?;
+    assert_eq!(rt; kept.is_empty(), true);
     for (page, calls) in [(5, 1), (3, 2), (5, 2), (3, 2)] {
         let (answer, next) = look(alloc, &mut disk, kept, page);
         assert_eq!(rt; (answer, disk.moments()), (expected(page), calls));

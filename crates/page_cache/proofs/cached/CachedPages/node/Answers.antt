@@ -1,5 +1,4 @@
-use Rattle.std.proofs.Common.{◌≡◌, ℕ, Some, None, refl, sym, ◌∙◌, subst}
-use Rattle.tree_shape.specs.declared.entry.Node.{Node}
+use Rattle.std.proofs.Common.{◌≡◌, Some, sym, ◌∙◌, subst}
 use Rattle.page_cache.specs.Keeping.{Pairs, node_of, used, Agrees}
 use Rattle.page_cache.proofs.Agreement.{found_is_node, used_agrees, kept_agrees, none_outside, unkept_outside, agrees-same, is_node-same, is_node-asked}
 use Rattle.page_cache.proofs.cached.CachedPages.node.Goals as goal

@@ -1,7 +1,7 @@
 use Rattle.std.proofs.lemmas.List.Elements.{All-filter}
 use Rattle.page_store.specs.Shelf.{IsNodeOf}
 use Rattle.page_cache.proofs.Pairs.{is_other, lookup-filter, filter-others}
-use Rattle.page_cache.proofs.laws.forgets_and_agrees.Goals as goal
+use Rattle.page_cache.proofs.laws.forgetting_keeps_agreement.Goals as goal
 
 pub returns : goal.returns
 returns c = λ kept page.
