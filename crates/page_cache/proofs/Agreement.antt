@@ -11,12 +11,12 @@ use Rattle.page_store.specs.declared.pages.PageFault.{PageFault}
 use Rattle.page_store.specs.declared.pages.PageFault.TheVariants.{Disk, Bad, Outside, Memory, Repeats, Level}
 use Rattle.page_store.specs.Reading.{IsWithin, is_within}
 use Rattle.page_store.specs.Shelf.{Shelf, HoldsSame, IsNodeOf, HasPageCause}
-use Rattle.page_cache.specs.Keeping.{Pairs, node_of, used, Agrees}
+use Rattle.page_cache.specs.Keeping.{Pairs, kept_node, used, Agrees}
 use Rattle.page_cache.specs.Cache.{asked_for}
 use Rattle.page_cache.specs.Laws.{GrowsTo}
 
 -- what is found of a page is its node
-pub found_is_node : (kept : Pairs) (shelf : Shelf) (page : ℕ) (node : Node) → Agrees kept shelf → node_of kept page ≡ Some node → IsNodeOf shelf page node
+pub found_is_node : (kept : Pairs) (shelf : Shelf) (page : ℕ) (node : Node) → Agrees kept shelf → kept_node kept page ≡ Some node → IsNodeOf shelf page node
 found_is_node kept shelf page node agrees found =
     let pair = Contains-lookup (nat_eq page) kept.entries node found in
     subst (λ (k : ℕ). IsNodeOf shelf k node) (sym (eqb-true page pair.0 pair.2)) (All-contains (λ p. IsNodeOf shelf p.0 p.1) kept.entries (pair.0, node) agrees pair.1)
@@ -54,8 +54,8 @@ within-test pages page (from, below) = grind (arith, nat_tests)
 pub none_outside : (shelf : Shelf) (page : ℕ) (node : Node) → IsNodeOf shelf page node → is_within shelf.pages page ≡ false → ⊥
 none_outside shelf page node is out = let within = within-test shelf.pages page is.within in cc
 
-pub unkept_outside : (kept : Pairs) (shelf : Shelf) (page : ℕ) → Agrees kept shelf → is_within shelf.pages page ≡ false → node_of kept page ≡ None
-unkept_outside kept shelf page agrees out = (elim (node_of kept page) as (λ o. node_of kept page ≡ o → node_of kept page ≡ None) [
+pub unkept_outside : (kept : Pairs) (shelf : Shelf) (page : ℕ) → Agrees kept shelf → is_within shelf.pages page ≡ false → kept_node kept page ≡ None
+unkept_outside kept shelf page agrees out = (elim (kept_node kept page) as (λ o. kept_node kept page ≡ o → kept_node kept page ≡ None) [
   | None ↦ λ none. none
   | Some node ↦ λ some. absurd (none_outside shelf page node (found_is_node kept shelf page node agrees some) out)
 ]) refl

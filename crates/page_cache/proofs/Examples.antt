@@ -2,17 +2,17 @@
 use Rattle.std.proofs.Common.{◌≡◌, [], ◌∷◌, Some, None, refl}
 use Rattle.lru.specs.LruCache.{lru_cache}
 use Rattle.tree_shape.specs.declared.entry.Node.{Node}
-use Rattle.page_cache.specs.Keeping.{Pairs, node_of, used, without}
+use Rattle.page_cache.specs.Keeping.{Pairs, kept_node, used, without}
 
 module _ (a b c : Node) where
   -- page 3 was used last, and page 4 before it
   abbrev two : Pairs
   two = lru_cache ((3, a) ∷ (4, b) ∷ []) 2
 
-  found : node_of two 4 ≡ Some b
+  found : kept_node two 4 ≡ Some b
   found = refl
 
-  not_found : node_of two 5 ≡ None
+  not_found : kept_node two 5 ≡ None
   not_found = refl
 
   -- a page that is kept goes first

@@ -10,8 +10,8 @@ abbrev pub Pairs : Type 0
 Pairs = LruCache ℕ Node
 
 -- the node that is kept of a page
-abbrev pub node_of : Pairs → ℕ → Option Node
-node_of kept page = lookup (nat_eq page) kept.entries
+abbrev pub kept_node : Pairs → ℕ → Option Node
+kept_node kept page = lookup (nat_eq page) kept.entries
 
 -- what is kept once a page was used: its pair stands first, and a new pair pushes the last one out of a full cache
 abbrev pub used : Pairs → ℕ → Node → Pairs
@@ -23,7 +23,7 @@ without kept page = lru_cache (filter (λ pair. not (nat_eq page pair.0)) kept.e
 
 -- a page was used; one that was not kept may have stayed so
 abbrev pub IsUsed : Pairs → Pairs → ℕ → Node → Type 0
-IsUsed old new page node = (new ≡ used old page node) ⊎ ((node_of old page ≡ None) × (new ≡ old))
+IsUsed old new page node = (new ≡ used old page node) ⊎ ((kept_node old page ≡ None) × (new ≡ old))
 
 -- each kept page is one of the pages, and each kept node is one that a page can hold, and the one that they give for its
 -- page where they tell what they hold

@@ -2,7 +2,7 @@
 use Rattle.std.specs.Prelude.{◌≡◌, ◌≢◌, ℕ, ◌≤◌, [], IsTrue, None, All}
 use Rattle.lru.specs.LruCache.{lru_cache}
 use Rattle.page_store.specs.Shelf.{Shelf}
-use Rattle.page_cache.specs.Keeping.{Pairs, node_of, without, Agrees}
+use Rattle.page_cache.specs.Keeping.{Pairs, kept_node, without, Agrees}
 
 -- an empty cache agrees with any pages
 abbrev pub EmptyCacheAgrees : Type 0
@@ -23,5 +23,5 @@ AgreementLasts = (kept : Pairs) (old new : Shelf) → GrowsTo old new → Agrees
 -- a page that is forgotten is kept no more, and what is left agrees where the whole did
 abbrev pub ForgettingKeepsAgreement : Type 0
 ForgettingKeepsAgreement = (kept : Pairs) (page : ℕ) →
-    (node_of (without kept page) page ≡ None) × All (λ pair. page ≢ pair.0) (without kept page).entries
+    (kept_node (without kept page) page ≡ None) × All (λ pair. page ≢ pair.0) (without kept page).entries
     × ((shelf : Shelf) → Agrees kept shelf → Agrees (without kept page) shelf)

@@ -5,7 +5,7 @@ ghost use Rattle.tree_shape.specs.declared.entry.Node.{Node as TheNode};
 ghost use Rattle.page_store.specs.Reading.{is_within};
 ghost use Rattle.page_store.specs.Shelf.{HoldsSame, IsNodeOf, HasPageCause};
 ghost use Rattle.page_store.specs.declared.pages.PageFault.TheVariants.{Outside, Memory as NoMemory};
-ghost use Rattle.page_cache.specs.Keeping.{node_of, without, IsUsed, Agrees};
+ghost use Rattle.page_cache.specs.Keeping.{kept_node, without, IsUsed, Agrees};
 ghost use Rattle.page_cache.specs.Cache.{asked_for};
 
 use crate::Kept;
@@ -14,7 +14,8 @@ use std::alloc::Global;
 use std::marker::Model;
 use tree_shape::Node;
 
-/// Pages that keep the nodes which they gave last, and give them again without asking the pages behind.
+/// Pages behind a cache: the nodes that were asked for last are kept, and given again without asking the pages behind.
+/// Contracts see the pages behind, what is kept, and how often a page was asked for here.
 #[derive(Drop)]
 pub struct Cached<P: Pages> {
     inner: P,
@@ -45,7 +46,8 @@ impl<P: Pages + Drop> Cached<P> {
 }
 
 impl<P: Pages> Cached<P> {
-    /// These pages behind a cache that keeps these nodes. None of its pages has been asked for.
+    /// These pages behind a cache that keeps these nodes, of which each has to be what they give for its page. None of its
+    /// pages has been asked for.
     pub fn from_parts(inner: P, kept: Kept) -> Self
         requires { Agrees kept (P.shelf inner) }
         ensures { result ≡ record { inner = inner; kept = kept; asked = 0 } }
@@ -57,7 +59,8 @@ impl<P: Pages> Cached<P> {
         }
     }
 
-    /// The pages behind, and what is kept of them.
+    /// The pages behind, and what is kept of them. `from_parts` takes it again with these pages, or with others that give
+    /// it too.
     pub fn into_parts(self) -> (P, Kept)
         ensures inner { result.0 ≡ self.inner }
         ensures kept { result.1 ≡ self.kept }
@@ -67,7 +70,7 @@ impl<P: Pages> Cached<P> {
         (inner, kept)
     }
 
-    /// Drops the node of a page, if one is kept.
+    /// Drops the node of a page, if one is kept. The next ask for it asks the pages behind.
     pub fn forget(&mut self, page: u32)
         ensures { self.new ≡ record self.old { kept = without self.old.kept page } }
     {
@@ -100,11 +103,11 @@ impl<P: Pages> Pages for Cached<P> {
         ensures keeps { P.keeps self.old.inner self.new.inner }
 
         // What is kept of a page is answered, unless there is no memory for a copy, and the pages behind are not asked.
-        ensures hit { (node : TheNode) → node_of self.old.kept page ≡ Some node → MatchResult result (λ answer. answer ≡ node) (λ fault. fault ≡ NoMemory) }
-        ensures unasked { IsSome (node_of self.old.kept page) → self.new.inner ≡ self.old.inner }
+        ensures hit { (node : TheNode) → kept_node self.old.kept page ≡ Some node → MatchResult result (λ answer. answer ≡ node) (λ fault. fault ≡ NoMemory) }
+        ensures unasked { IsSome (kept_node self.old.kept page) → self.new.inner ≡ self.old.inner }
 
         // Of another page they are asked once.
-        ensures asks { node_of self.old.kept page ≡ None → (P.shelf self.new.inner).asked ≡ next_count (P.shelf self.old.inner).asked }
+        ensures asks { kept_node self.old.kept page ≡ None → (P.shelf self.new.inner).asked ≡ next_count (P.shelf self.old.inner).asked }
         ensures kept { MatchResult result (IsUsed self.old.kept self.new.kept page) (λ _. self.new.kept ≡ self.old.kept) }
     {
         self.asked = self.asked.saturating_add(1);

@@ -2,7 +2,7 @@ ghost use Rattle.std.specs.Prelude.{◌≡◌, ◌⊎◌, ◌≤◌, ◌==◌, [
 ghost use Rattle.std.specs.List.{IsDistinct};
 ghost use Rattle.std.specs.Map.{keys_of};
 ghost use Rattle.lru.specs.LruCache.{lru_cache};
-ghost use Rattle.page_cache.specs.Keeping.{node_of, used, without};
+ghost use Rattle.page_cache.specs.Keeping.{kept_node, used, without};
 
 use crate::copying::TryClone;
 use lru::LruCache;
@@ -28,7 +28,8 @@ impl Model for Kept {
 }
 
 impl Kept {
-    /// Nothing is kept yet, and at most so many nodes will be. Room for a node is taken when it comes.
+    /// Nothing is kept yet, and at most so many nodes will be, of which there has to be one. Room for a node is taken when
+    /// it comes.
     pub fn new(alloc: Global, pages: usize) -> Result<Self, Memory>
         requires { 1 ≤ pages }
         ensures { IfOk result (λ kept. kept ≡ lru_cache [] pages) }
@@ -66,8 +67,8 @@ impl Kept {
 
     // A copy of the node that is kept of a page, which becomes the last used.
     pub(crate) fn copy_of(&mut self, alloc: Global, page: u32) -> Result<Option<Node>, Memory>
-        ensures found { IfOk result (λ node. node ≡ node_of self.old page) }
-        ensures unkept { node_of self.old page ≡ None → result ≡ Ok None }
+        ensures found { IfOk result (λ node. node ≡ kept_node self.old page) }
+        ensures unkept { kept_node self.old page ≡ None → result ≡ Ok None }
         ensures kept { MatchResult result
             (λ found. MatchOption found (self.new ≡ self.old) (λ node. self.new ≡ used self.old page node))
             (λ _. self.new ≡ self.old) }

@@ -1,8 +1,9 @@
-ghost use Rattle.std.specs.Prelude.{◌≤◌, false};
+ghost use Rattle.std.specs.Prelude.{◌≡◌, ◌≤◌, ℕ, false, IsTrue, Contains};
 ghost use Rattle.disk_model.specs.Disk.{IsUnchanged};
-ghost use Rattle.page_store.specs.Shelf.{HoldsSame};
+ghost use Rattle.page_store.specs.Shelf.{Shelf, HoldsSame};
 ghost use Rattle.page_store.specs.Shelves.{disk_shelf};
 ghost use Rattle.page_cache.specs.Keeping.{Agrees};
+ghost use Rattle.page_cache.specs.Laws.{GrowsTo};
 
 use crate::{Cached, Kept, laws};
 use disk_model::{Disk, MemoryDisk};
@@ -202,6 +203,18 @@ fn look<D: Disk>(
     (answer, kept)
 }
 
+// Forgets pages that are written anew next: what is left agrees with the pages then, where the others hold what they held.
+fn forget_each(kept: &mut Kept, written: &[u32])
+    ensures { (old new : Shelf) → GrowsTo old new → Agrees kept.old old
+        → (IsTrue new.tells → (page : ℕ) → ¬ Contains written.now page → new.read page ≡ old.read page) → Agrees kept.new new }
+{
+    laws::agreement_lasts();
+    laws::forgetting_keeps_agreement();
+    for page in written {
+        kept.forget(*page);
+    }
+}
+
 #[test]
 fn a_cache_is_lent(rt: HostRuntime) -> Result<(), Fail> {
     laws::empty_cache_agrees();
@@ -215,7 +228,7 @@ fn a_cache_is_lent(rt: HostRuntime) -> Result<(), Fail> {
         assert_eq!(rt; (answer, disk.moments()), (expected(page), calls));
         kept = next;
     }
-    kept.forget(5);
+    forget_each(&mut kept, &[2, 5]);
     let (answer, kept) = look(alloc, &mut disk, kept, 3);
     assert_eq!(rt; (answer, disk.moments()), (Ok(LEFT), 2));
     let (answer, _) = look(alloc, &mut disk, kept, 5);
