@@ -1,0 +1,7 @@
+mod Ascending
+mod Flags
+mod Places
+mod Released
+mod SoundWalk
+mod Steps
+mod Whole
