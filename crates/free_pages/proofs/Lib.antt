@@ -1,5 +1,6 @@
 mod Ascending
 mod Flags
+mod Given
 mod Places
 mod Released
 mod SoundWalk

@@ -104,7 +104,8 @@ impl Free {
 
     /// The `n` least free pages in ascending order, or all where there are fewer. They stay free.
     pub fn least(&self, alloc: Global, n: usize) -> Result<Vec<u32>, Memory>
-        ensures { IfOk result (λ pages. pages.items ≡ take n self.now.free) }
+        ensures least { IfOk result (λ pages. pages.items ≡ take n self.now.free) }
+        ensures kept { IsKept self.now }
     {
         let count = n.min(self.free.len());
         let mut least = Vec::with_capacity(alloc, count)?;
@@ -118,6 +119,7 @@ impl Free {
     pub fn reserve(&mut self, n: usize) -> Result<(), Memory>
         ensures ok { OnOk result (self.new ≡ record self.old { spare = max self.old.spare n }) }
         ensures err { OnErr result (self.new ≡ self.old) }
+        ensures enough { n ≤ self.old.spare → IsOk result }
         ensures kept { IsKept self.new }
     {
         if n <= self.spare {
@@ -132,7 +134,8 @@ impl Free {
 
     // Whether the page is free or held.
     fn has(&self, page: u32) -> bool
-        ensures { result ≡ is_kept self.now page }
+        ensures is { result ≡ is_kept self.now page }
+        ensures kept { IsKept self.now }
     {
         is_free(&self.free, page) || is_held(&self.held, page)
     }
@@ -147,9 +150,7 @@ impl Free {
         if self.has(page) {
             return Ok(());
         }
-        if self.spare == 0 {
-            self.reserve(1)?;
-        }
+        self.reserve(1)?;
         put_free(&mut self.free, page);
         self.spare -= 1;
         Ok(())

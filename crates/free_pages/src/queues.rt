@@ -1,7 +1,7 @@
 // Pages in ascending order.
 ghost use Rattle.std.specs.Prelude.{◌≡◌, ◌≤◌, ◌<◌, ◌+◌, ◌^◌, ◌||◌, ℕ, List, length, IfOk, nat_lt};
 ghost use Rattle.std.specs.VecDeque.{deque_capacity};
-ghost use Rattle.page_store.specs.Numbers.{Ascends};
+ghost use Rattle.page_store.specs.Numbers.{Ascends, AreNumbers};
 ghost use Rattle.free_pages.specs.Keeping.{held_pages, is_among, is_pinned_below, put_by, with_page, with_pages, without_pin};
 ghost use Rattle.free_pages.specs.Stored.{is_below, held_below, freed_below, IsPlace, IsPlaceBy, IsReleasing};
 ghost use Rattle.free_pages.specs.declared.held.Held.{Held as HeldPage};
@@ -122,6 +122,7 @@ fn release_first(free: &mut VecDeque<u32>, held: &mut VecDeque<Held>, least: Opt
     ensures free_room { deque_capacity free.old ≤ deque_capacity free.new }
     ensures held_room { deque_capacity held.old ≤ deque_capacity held.new }
     ensures fewer { length free.new.items + length held.new.items ≤ length free.old.items + length held.old.items }
+    ensures shorter { length held.new.items ≤ length held.old.items }
 {
     if let Some(first) = held.pop_front() {
         if is_below(least, first.generation) {
@@ -141,6 +142,7 @@ pub fn release(free: &mut VecDeque<u32>, held: &mut VecDeque<Held>, least: Optio
     ensures free_room { deque_capacity free.old ≤ deque_capacity free.new }
     ensures held_room { deque_capacity held.old ≤ deque_capacity held.new }
     ensures fewer { length free.new.items + length held.new.items ≤ length free.old.items + length held.old.items }
+    ensures shorter { length held.new.items ≤ length held.old.items }
 {
     let count = held.len();
     for _ in 0..count {
@@ -151,7 +153,8 @@ pub fn release(free: &mut VecDeque<u32>, held: &mut VecDeque<Held>, least: Optio
 /// The pages that a walk didn't open, from 3 up.
 pub fn unopened(alloc: Global, opened: &[bool], count: usize) -> Result<VecDeque<u32>, Memory>
     requires { length opened.now < 2 ^ 32 }
-    ensures { IfOk result (λ free. (tree : List ℕ) → AreOpened opened.now tree → free.items ≡ outside_pages (length opened.now) tree) }
+    ensures outside { IfOk result (λ free. (tree : List ℕ) → AreOpened opened.now tree → free.items ≡ outside_pages (length opened.now) tree) }
+    ensures numbers { IfOk result (λ free. AreNumbers (length opened.now) free.items) }
 {
     let mut free = VecDeque::with_capacity(alloc, opened.len().saturating_sub(count))?;
     for page in 3..opened.len() {

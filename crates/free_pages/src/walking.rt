@@ -50,7 +50,8 @@ fn is_opened(opened: &[bool], page: u32) -> bool
 
 // Begins with the root.
 fn begin(alloc: Global, live: &Live) -> Result<Walk, Memory>
-    ensures { IfOk result (λ walk. (s : Shelf) → IsUnderWay s s live.now walk.count walk.opened.items (reverse walk.coming.items)) }
+    ensures few { IfOk result (λ walk. length walk.opened.items < 2 ^ 32) }
+    ensures begun { IfOk result (λ walk. (s : Shelf) → IsUnderWay s s live.now walk.count walk.opened.items (reverse walk.coming.items)) }
 {
     Ok(Walk {
         opened: vec![in alloc; false; live.pages as usize]?,
@@ -81,10 +82,13 @@ fn visit<P: Pages>(
     if is_opened(walk.opened.as_slice(), page) {
         return Err(PageFault::Repeats(page));
     }
-    let node = pages.node(alloc, page)?;
-    if name_children(&mut walk.coming, &node).is_err() {
+    let node = match pages.node(alloc, page) {
+        Ok(node) => node,
+        Err(fault) => return Err(fault),
+    };
+    let Ok(()) = name_children(&mut walk.coming, &node) else {
         return Err(PageFault::Memory);
-    }
+    };
     walk.opened[page as usize] = true;
     walk.count += 1;
     Ok(())
@@ -95,6 +99,7 @@ pub fn walk_tree<P: Pages>(alloc: Global, pages: &mut P, live: &Live) -> Result<
     requires pages { live.now.pages ≡ (P.shelf pages.old).pages }
     ensures same { HoldsSame (P.shelf pages.old) (P.shelf pages.new) }
     ensures keeps { P.keeps pages.old pages.new }
+    ensures few { IfOk result (λ walk. length walk.opened.items < 2 ^ 32) }
     ensures ok { IfOk result (λ walk. IsUnderWay (P.shelf pages.old) (P.shelf pages.new) live.now walk.count walk.opened.items []) }
     ensures err { IfErr result (IsWalkFault (P.shelf pages.old) (P.shelf pages.new) (tree_walk (P.shelf pages.old).read live.now)) }
     ensures asked { 1 ≤ live.now.pages → (P.shelf pages.new).asked ≤ (P.shelf pages.old).asked + live.now.pages }
