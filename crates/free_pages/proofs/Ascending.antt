@@ -156,7 +156,3 @@ times-with_pages k (page ∷ more) xs none =
   where
     other : page ≢ k
     other same = let e : (page == k) ≡ true = grind (arith, nat_tests) in let z : ◌≡◌ {A = ℕ} (if page == k then 1 else 0) 1 = ap (λ (b : Bool). if b then 1 else 0) e in absurd (omega arith)
-
-pub with_pages-push : (more : List ℕ) (page : ℕ) (xs : List ℕ) → with_pages (more ++ page ∷ []) xs ≡ with_page page (with_pages more xs)
-with_pages-push [] page xs = refl
-with_pages-push (p ∷ more) page xs = with_pages-push more page (with_page p xs)

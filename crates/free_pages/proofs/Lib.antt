@@ -4,5 +4,6 @@ mod Given
 mod Places
 mod Released
 mod SoundWalk
+mod Sorting
 mod Steps
 mod Whole

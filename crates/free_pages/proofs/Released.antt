@@ -13,7 +13,7 @@ use Rattle.page_store.specs.Numbers.{Ascends}
 use Rattle.free_pages.specs.declared.held.Held.{Held}
 use Rattle.free_pages.specs.Keeping.{FreePages, IsKept, held_pages, is_kept, is_among, is_pinned_below, put_by, with_page, with_pages, with_pins, without_pin, released, still_held}
 use Rattle.free_pages.specs.Stored.{is_below, held_below, freed_below, IsReleasing}
-use Rattle.free_pages.proofs.Ascending.{ascends_weaker, ascends_filter, ascends_put, ascends_with_page, ascends_with_pages, parted, times-put, times-with_page, times-with_pages, with_pages-push}
+use Rattle.free_pages.proofs.Ascending.{ascends_weaker, ascends_filter, ascends_put, ascends_with_page, ascends_with_pages, parted, times-put, times-with_page, times-with_pages}
 
 -- ---- pins
 
@@ -38,18 +38,18 @@ without_none g (pin ∷ pins) none =
 -- ---- one held page after another
 
 pub releasing_none : (least : Option ℕ) (free : List ℕ) (held : List Held) → IsReleasing least free held free held (length held)
-releasing_none least free held = record { done = []; rest = held; whole = refl; queue = sym (append-nil held); released = refl; count = refl }
+releasing_none least free held = record { done = []; rest = held; whole = refl; queue = sym (append-nil held); released = sym (append-nil free); count = refl }
 
 no_rest : {X : Type 0} (xs : List X) → length xs ≡ 0 → xs ≡ []
 no_rest [] e = refl
 no_rest (x ∷ xs) e = absurd (omega arith)
 
 pub releasing_all : (least : Option ℕ) (old_free : List ℕ) (old_held : List Held) (free : List ℕ) (held : List Held) → IsReleasing least old_free old_held free held 0 →
-    (free ≡ with_pages (freed_below least old_held) old_free) × (held ≡ held_below least old_held)
+    (free ≡ old_free ++ freed_below least old_held) × (held ≡ held_below least old_held)
 releasing_all least old_free old_held free held way =
     let none = no_rest way.rest way.count in
     let all : way.done ≡ old_held = sym (way.whole ∙ ap (λ (r : List Held). way.done ++ r) none ∙ append-nil way.done) in
-    (way.released ∙ ap (λ (d : List Held). with_pages (freed_below least d) old_free) all,
+    (way.released ∙ ap (λ (d : List Held). old_free ++ freed_below least d) all,
     way.queue ∙ ap (λ (r : List Held). r ++ held_below least way.done) none ∙ ap (held_below least) all)
 
 -- the first of a queue, of which some are left
@@ -73,7 +73,7 @@ module _ (least : Option ℕ) (old_free : List ℕ) (old_held : List Held) (free
     rest = parts.0;
     whole = whole;
     queue = ap (λ (q : List Held). q ++ first ∷ []) parts.2 ∙ append_assoc parts.0 (held_below least way.done) (first ∷ []) ∙ ap (λ (q : List Held). parts.0 ++ q) (sym (kept_more below));
-    released = way.released ∙ ap (λ (r : List ℕ). with_pages r old_free) (sym (same below));
+    released = way.released ∙ ap (λ (r : List ℕ). old_free ++ r) (sym (same below));
     count = parts.3;
   }
     where
@@ -81,13 +81,13 @@ module _ (least : Option ℕ) (old_free : List ℕ) (old_held : List Held) (free
       same below = ap held_pages (filter-append (λ h. not (is_below least h.generation)) way.done (first ∷ []) ∙ ap (λ (b : Bool). filter (λ h. not (is_below least h.generation)) way.done ++ cond (not b) (first ∷ []) []) below
           ∙ append-nil (filter (λ h. not (is_below least h.generation)) way.done))
 
-  pub releasing_free : is_below least first.generation ≡ false → IsReleasing least old_free old_held (with_page first.page free) queue left
+  pub releasing_free : is_below least first.generation ≡ false → IsReleasing least old_free old_held (free ++ first.page ∷ []) queue left
   releasing_free above = record {
     done = way.done ++ first ∷ [];
     rest = parts.0;
     whole = whole;
     queue = parts.2 ∙ ap (λ (q : List Held). parts.0 ++ q) (sym same);
-    released = ap (with_page first.page) way.released ∙ sym (with_pages-push (freed_below least way.done) first.page old_free) ∙ ap (λ (r : List ℕ). with_pages r old_free) (sym more);
+    released = ap (λ (xs : List ℕ). xs ++ first.page ∷ []) way.released ∙ append_assoc old_free (freed_below least way.done) (first.page ∷ []) ∙ ap (λ (r : List ℕ). old_free ++ r) (sym more);
     count = parts.3;
   }
     where

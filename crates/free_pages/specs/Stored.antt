@@ -1,7 +1,7 @@
 -- How free and held pages are kept in memory.
 use Rattle.std.specs.Prelude.{◌≡◌, ℕ, ◌+◌, ◌≤◌, nat_lt, Bool, true, false, Option, Some, None, Result, MatchResult, List, ◌++◌, filter, not, map, insert, length}
 use Rattle.free_pages.specs.declared.held.Held.{Held}
-use Rattle.free_pages.specs.Keeping.{FreePages, IsKept, held_pages, is_among, put_by, with_pages}
+use Rattle.free_pages.specs.Keeping.{FreePages, IsKept, held_pages, is_among, put_by}
 
 -- what the search for a key's place answers: a value with the key is there, or a value with the key belongs at this place
 abbrev pub IsPlaceBy : {X : Type 0} → (X → ℕ) → ℕ → List X → Result ℕ ℕ → Type 0
@@ -34,11 +34,11 @@ pub record IsStored (f : FreePages) (free_capacity held_capacity : ℕ) : Type 0
   pub free_room : length f.free + length f.held + f.spare ≤ free_capacity
   pub held_room : length f.held + f.spare ≤ held_capacity
 
--- each held page of a queue in turn goes to its back or becomes free; so many are left
+-- each held page of a queue in turn goes to its back or behind the free pages; so many are left
 pub record IsReleasing (least : Option ℕ) (old_free : List ℕ) (old_held : List Held) (free : List ℕ) (held : List Held) (left : ℕ) : Type 0 where
   pub done : List Held
   pub rest : List Held
   pub whole : old_held ≡ done ++ rest
   pub queue : held ≡ rest ++ held_below least done
-  pub released : free ≡ with_pages (freed_below least done) old_free
+  pub released : free ≡ old_free ++ freed_below least done
   pub count : length rest ≡ left

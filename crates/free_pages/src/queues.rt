@@ -1,6 +1,9 @@
 // Pages in ascending order.
 ghost use Rattle.std.specs.Prelude.{◌≡◌, ◌≤◌, ◌<◌, ◌+◌, ◌^◌, ◌||◌, ℕ, List, length, IfOk, nat_lt};
+ghost use Rattle.std.specs.List.{AllByRecursion};
+ghost use Rattle.std.specs.List.Sorted.{IsNonDecreasing, IsPermutation};
 ghost use Rattle.std.specs.VecDeque.{deque_capacity};
+ghost use Rattle.tree_shape.specs.Tree.{times};
 ghost use Rattle.page_store.specs.Numbers.{Ascends, AreNumbers};
 ghost use Rattle.free_pages.specs.Keeping.{held_pages, is_among, is_pinned_below, put_by, with_page, with_pages, without_pin};
 ghost use Rattle.free_pages.specs.Stored.{is_below, held_below, freed_below, IsPlace, IsPlaceBy, IsReleasing};
@@ -112,11 +115,19 @@ pub fn take_out(pins: &mut Vec<u64>, generation: u64)
     }
 }
 
-// The first held page goes to the back, where the least pin is below its generation, and else becomes free.
+// Puts the pages in ascending order, in place.
+fn sort_pages(free: &mut VecDeque<u32>)
+    ensures permutation { IsPermutation free.old.items free.new.items }
+    ensures sorted { IsNonDecreasing free.new.items }
+    ensures capacity { deque_capacity free.old ≤ deque_capacity free.new }
+{
+    free.make_contiguous().sort_unstable();
+}
+
+// The first held page goes to the back of its queue, where the least pin is below its generation, and else to the back of the
+// free pages.
 fn release_first(free: &mut VecDeque<u32>, held: &mut VecDeque<Held>, least: Option<u64>)
-    requires ascending { Ascends 0 free.old.items }
-    requires room { length free.old.items + length held.old.items ≤ deque_capacity free.old }
-    ensures ascending { Ascends 0 free.new.items }
+    requires { length free.old.items + length held.old.items ≤ deque_capacity free.old }
     ensures released { (old_free : List ℕ) (old_held : List HeldPage) (left : ℕ) → IsReleasing least old_free old_held free.old.items held.old.items (left + 1) →
         IsReleasing least old_free old_held free.new.items held.new.items left }
     ensures free_room { deque_capacity free.old ≤ deque_capacity free.new }
@@ -128,14 +139,16 @@ fn release_first(free: &mut VecDeque<u32>, held: &mut VecDeque<Held>, least: Opt
         if is_below(least, first.generation) {
             held.push_back_reserved(first);
         } else {
-            put_free(free, first.page);
+            free.push_back_reserved(first.page);
         }
     }
 }
 
 /// Each held page becomes free, unless the least pin is below its generation.
 pub fn release(free: &mut VecDeque<u32>, held: &mut VecDeque<Held>, least: Option<u64>)
-    requires ascending { Ascends 0 free.old.items }
+    requires free_ascend { Ascends 0 free.old.items }
+    requires held_ascend { Ascends 0 (held_pages held.old.items) }
+    requires apart { AllByRecursion (λ h. times h.page free.old.items ≡ 0) held.old.items }
     requires room { length free.old.items + length held.old.items ≤ deque_capacity free.old }
     ensures free { free.new.items ≡ with_pages (freed_below least held.old.items) free.old.items }
     ensures held { held.new.items ≡ held_below least held.old.items }
@@ -148,6 +161,7 @@ pub fn release(free: &mut VecDeque<u32>, held: &mut VecDeque<Held>, least: Optio
     for _ in 0..count {
         release_first(free, held, least);
     }
+    sort_pages(free);
 }
 
 /// The pages that a walk didn't open, from 3 up.

@@ -1,8 +1,6 @@
 use Rattle.std.proofs.Common.{◌≡◌, ℕ, ◌+◌, ◌∷◌, List, Option, length, ap, sym, subst, ◌∙◌, arith}
 use Rattle.free_pages.specs.declared.held.Held.{Held}
 use Rattle.free_pages.specs.Stored.{IsReleasing}
-use Rattle.free_pages.specs.Keeping.{with_page}
-use Rattle.free_pages.proofs.Ascending.{ascends_with_page, length-put}
 use Rattle.free_pages.proofs.Released.{releasing_back, releasing_free}
 use Rattle.free_pages.proofs.queues.release_first.Goals as goal
 
@@ -11,14 +9,7 @@ returns-then-is_below-clause-released c old_free old_held left way =
     rw c.push_back_reserved.ensures.items (releasing_back c.args.least old_free old_held c.args.free.now.items c.in-Some.first c.pop_front.new.self.items left
     (subst (λ (q : List Held). IsReleasing c.args.least old_free old_held c.args.free.now.items q (left + 1)) c.in-Some.ensures.items way) (sym c.is_below.ensures ∙ c.if-is_below.true))
 
-pub returns-else-is_below-clause-ascending : goal.returns-else-is_below-clause-ascending
-returns-else-is_below-clause-ascending c = rw c.put_free.ensures.items (ascends_with_page c.in-Some.first.page c.args.free.now.items c.requires.ascending)
-
 pub returns-else-is_below-clause-released : goal.returns-else-is_below-clause-released
 returns-else-is_below-clause-released c old_free old_held left way =
-    rw c.put_free.ensures.items (releasing_free c.args.least old_free old_held c.args.free.now.items c.in-Some.first c.pop_front.new.self.items left
+    rw c.push_back_reserved-else-is_below.ensures.items (releasing_free c.args.least old_free old_held c.args.free.now.items c.in-Some.first c.pop_front.new.self.items left
     (subst (λ (q : List Held). IsReleasing c.args.least old_free old_held c.args.free.now.items q (left + 1)) c.in-Some.ensures.items way) (sym c.is_below.ensures ∙ c.if-is_below.false))
-
-pub returns-else-is_below-clause-fewer : goal.returns-else-is_below-clause-fewer
-returns-else-is_below-clause-fewer c =
-    omega (arith, ap length c.put_free.ensures.items, length-put (λ (n : ℕ). n) c.in-Some.first.page c.args.free.now.items, ap length c.in-Some.ensures.items)
