@@ -48,9 +48,10 @@ pub releasing_all : (least : Option ℕ) (old_free : List ℕ) (old_held : List 
     (free ≡ old_free ++ freed_below least old_held) × (held ≡ held_below least old_held)
 releasing_all least old_free old_held free held way =
     let none = no_rest way.rest way.count in
-    let all : way.done ≡ old_held = sym (way.whole ∙ ap (λ (r : List Held). way.done ++ r) none ∙ append-nil way.done) in
-    (way.released ∙ ap (λ (d : List Held). old_free ++ freed_below least d) all,
-    way.queue ∙ ap (λ (r : List Held). r ++ held_below least way.done) none ∙ ap (held_below least) all)
+    let all : way.done ≡ old_held = sym (way.whole ∙ ap (λ (r : List Held). way.done ++ r) none ∙ append-nil way.done) in (
+      way.released ∙ ap (λ (d : List Held). old_free ++ freed_below least d) all,
+      way.queue ∙ ap (λ (r : List Held). r ++ held_below least way.done) none ∙ ap (held_below least) all,
+    )
 
 -- the first of a queue, of which some are left
 first_rest : (rest back : List Held) (first : Held) (queue : List Held) (left : ℕ) → length rest ≡ left + 1 → first ∷ queue ≡ rest ++ back → (more : List Held) × (rest ≡ first ∷ more) × (queue ≡ more ++ back) × (length more ≡ left)

@@ -186,9 +186,10 @@ module _ (old mid : Shelf) (t : Live) (count : ℕ) (flags : List Bool) (page : 
 
   pub way_repeats : (now : Shelf) → slice_index_or flags page false ≡ true → length flags ≡ mid.pages → IsWalkFault old now (tree_walk old.read t) (Repeats page)
   way_repeats now set limit =
-      let some = flagged_is flags way.opened page way.flagged set in
-      (within_from old.pages page way.opened (subst (λ (n : ℕ). AllByRecursion (IsWithin n) way.opened) (limit ∙ way.holds.pages) way.flagged.within) some,
-      λ tells. sym (told tells) ∙ (rw some refl))
+      let some = flagged_is flags way.opened page way.flagged set in (
+        within_from old.pages page way.opened (subst (λ (n : ℕ). AllByRecursion (IsWithin n) way.opened) (limit ∙ way.holds.pages) way.flagged.within) some,
+        λ tells. sym (told tells) ∙ (rw some refl),
+      )
 
   refused : (fault : PageFault) → slice_index_or flags page false ≡ false → IsTrue old.tells → (IsTrue mid.tells → mid.read page ≡ Err fault) → tree_walk old.read t ≡ Err fault
   refused fault unset tells why =
@@ -200,11 +201,14 @@ module _ (old mid : Shelf) (t : Live) (count : ℕ) (flags : List Bool) (page : 
   pub way_refused : (now : Shelf) (fault : PageFault) → slice_index_or flags page false ≡ false → HasPageCause mid now page fault → IsWalkFault old now (tree_walk old.read t) fault
   way_refused now Disk unset cause = rose old.faults mid.faults now.faults way.holds.faults cause
   way_refused now Memory unset cause = tt
-  way_refused now (Bad p fault) unset cause =
-      (cause.1, subst (λ (n : ℕ). IsWithin n p) way.holds.pages (subst (IsWithin mid.pages) (sym cause.0) cause.2),
-      λ tells. refused (Bad p fault) unset tells (λ m. cause.3 m ∙ ap (λ (q : ℕ). Err (Bad q fault)) (sym cause.0)))
-  way_refused now (Outside p) unset cause =
-      (subst (λ (n : ℕ). is_within n p ≡ false) way.holds.pages (subst (λ (q : ℕ). is_within mid.pages q ≡ false) (sym cause.0) cause.1),
-      λ tells. refused (Outside p) unset tells (λ m. cause.2 m ∙ ap (λ (q : ℕ). Err (Outside q)) (sym cause.0)))
+  way_refused now (Bad p fault) unset cause = (
+    cause.1,
+    subst (λ (n : ℕ). IsWithin n p) way.holds.pages (subst (IsWithin mid.pages) (sym cause.0) cause.2),
+    λ tells. refused (Bad p fault) unset tells (λ m. cause.3 m ∙ ap (λ (q : ℕ). Err (Bad q fault)) (sym cause.0)),
+  )
+  way_refused now (Outside p) unset cause = (
+    subst (λ (n : ℕ). is_within n p ≡ false) way.holds.pages (subst (λ (q : ℕ). is_within mid.pages q ≡ false) (sym cause.0) cause.1),
+    λ tells. refused (Outside p) unset tells (λ m. cause.2 m ∙ ap (λ (q : ℕ). Err (Outside q)) (sym cause.0)),
+  )
   way_refused now (Repeats p) unset cause = absurd cause
   way_refused now (Level p) unset cause = absurd cause

@@ -11,7 +11,9 @@ ghost use Rattle.free_pages.specs.Keeping.{IsKept, freed, is_kept, left, with_pi
 ghost use Rattle.free_pages.specs.Walk.{IsWalkFault, outside_pages, tree_walk};
 
 use crate::Held;
-use crate::queues::{is_below, is_free, is_held, least_pin, put_free, put_held, release, take_out, unopened};
+use crate::queues::{
+    is_below, is_free, is_held, least_pin, put_free, put_held, release, take_out, unopened,
+};
 use crate::walking::walk_tree;
 use page_store::{Memory, PageFault, Pages};
 use std::alloc::Global;
@@ -88,6 +90,13 @@ impl Free {
         self.free.pop_front()
     }
 
+    /// Free and held pages are in order and apart, and each page that is held is held by a pin.
+    pub fn are_kept(&self)
+        ensures { IsKept self.now }
+    {
+        let _free = &self.free;
+    }
+
     /// The number of free pages.
     pub fn len(&self) -> usize
         ensures { result ≡ length self.now.free }
@@ -104,8 +113,7 @@ impl Free {
 
     /// The `n` least free pages in ascending order, or all where there are fewer. They stay free.
     pub fn least(&self, alloc: Global, n: usize) -> Result<Vec<u32>, Memory>
-        ensures least { IfOk result (λ pages. pages.items ≡ take n self.now.free) }
-        ensures kept { IsKept self.now }
+        ensures { IfOk result (λ pages. pages.items ≡ take n self.now.free) }
     {
         let count = n.min(self.free.len());
         let mut least = Vec::with_capacity(alloc, count)?;
@@ -143,8 +151,10 @@ impl Free {
     /// Makes a page free. One that is free or held already stays so. It finds memory where room is spare.
     pub fn give_back(&mut self, page: u32) -> Result<(), Memory>
         ensures ok { OnOk result (self.new ≡ freed self.old page) }
+        ensures others { self.new ≡ record self.old { free = self.new.free; spare = self.new.spare } }
         ensures err { OnErr result (self.new ≡ self.old) }
         ensures room { 1 ≤ self.old.spare → IsOk result }
+        ensures spare { self.old.spare ≤ self.new.spare + 1 }
         ensures kept { IsKept self.new }
     {
         if self.has(page) {
@@ -183,6 +193,8 @@ impl Free {
     pub fn leave(&mut self, page: u32, generation: u64)
         requires { 1 ≤ self.old.spare }
         ensures left { self.new ≡ left self.old page generation }
+        ensures others { self.new ≡ record self.old { free = self.new.free; held = self.new.held; spare = self.new.spare; newest = max self.old.newest generation } }
+        ensures spare { self.old.spare ≤ self.new.spare + 1 }
         ensures kept { IsKept self.new }
     {
         self.newest = self.newest.max(generation);

@@ -1,5 +1,5 @@
 /// A page that is held back.
-#[derive(Clone, Copy, Debug, PartialEq, Eq)]
+#[derive(Clone, Copy, Debug)]
 pub struct Held {
     /// The page.
     pub page: u32,

@@ -12,7 +12,7 @@ returns-then-index-generation c =
     let same : c.loop-place.pins.items ≡ pins = c.loop-place.invariant.same in
     let within : at < length pins = omega (arith, c.loop-place-test.true, c.len-place-end.ensures, c.args.pins.now.ok.0) in
     let is : get_or pins at 0 ≡ c.args.generation =
-        get_or_default pins at 0 c.index.result.now within ∙ ap (λ (xs : List ℕ). get_or xs at c.index.result.now) (sym same) ∙ sym c.index.ensures ∙ c.if-index-generation.true in
+    get_or_default pins at 0 c.index.result.now within ∙ ap (λ (xs : List ℕ). get_or xs at c.index.result.now) (sym same) ∙ sym c.index.ensures ∙ c.if-index-generation.true in
     c.remove.ensures.items ∙ ap (λ (xs : List ℕ). remove xs at) same ∙ sym (without_at at c.args.generation pins c.loop-place.invariant.others within is)
 
 pub returns : goal.returns

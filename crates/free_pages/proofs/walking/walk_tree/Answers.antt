@@ -14,7 +14,7 @@ loop-page-smaller g c =
     let old = g.P.Pages.shelf c.args.pages.now in
     let coming : reverse c.loop-page.walk.coming.items ≡ c.in-Some.page ∷ reverse c.pop.new.self.items = grind (arith, common_steps, c.in-Some.ensures.items) in
     let way = c.in-Ok-visit.ensures.opened old c.args.live.now
-        (subst (λ (xs : List ℕ). IsUnderWay old (g.P.Pages.shelf c.loop-page.pages) c.args.live.now c.loop-page.walk.count c.loop-page.walk.opened.items xs) coming c.loop-page.invariant.way) in
+    (subst (λ (xs : List ℕ). IsUnderWay old (g.P.Pages.shelf c.loop-page.pages) c.args.live.now c.loop-page.walk.count c.loop-page.walk.opened.items xs) coming c.loop-page.invariant.way) in
     omega (arith, way.counted, way.pages, few_opened c.visit.new.walk.opened.items way.opened way.flagged, c.in-Ok-visit.ensures.one)
 
 pub returns-in-Err-clause-err : goal.returns-in-Err-clause-err

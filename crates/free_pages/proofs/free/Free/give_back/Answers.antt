@@ -9,7 +9,7 @@ invariant_of-self c =
     let new : is_kept c.args.self.now c.args.page ≡ false = sym c.has.ensures.is ∙ c.if-has.false in
     let spare : 1 ≤ c.self.inside.spare = omega (arith, ap (λ (f : FreePages). f.spare) (c.self.view_is ∙ c.in_ok-reserve.ensures.ok)) in
     let more : length c.put_free.new.free.items ≤ length c.self.inside.free.items + 1 =
-        omega (arith, ap length c.put_free.ensures.items, length-put (λ n. n) c.args.page c.self.inside.free.items) in
+    omega (arith, ap length c.put_free.ensures.items, length-put (λ n. n) c.args.page c.self.inside.free.items) in
     record {
       kept = rw c.put_free.ensures.items (kept_free _ c.args.page (c.self.inside.spare - 1) c.self.inside.newest
           (ap (λ (f : FreePages). is_kept f c.args.page) (c.self.view_is ∙ c.in_ok-reserve.ensures.ok) ∙ new) c.self.invariant.kept);

@@ -9,9 +9,9 @@ pub invariant_of-self-then-is_below : goal.invariant_of-self-then-is_below
 invariant_of-self-then-is_below c =
     let spare : 1 ≤ c.self.inside.spare = omega (arith, ap (λ (f : FreePages). f.spare) c.self.view_is, c.requires) in
     let more : length c.put_held.new.held.items ≤ length c.self.inside.held.items + 1 =
-        omega (arith, ap length c.put_held.ensures.items, length-put (λ (h : Held). h.page) (record { page = c.args.page; generation = c.args.generation }) c.self.inside.held.items) in
+    omega (arith, ap length c.put_held.ensures.items, length-put (λ (h : Held). h.page) (record { page = c.args.page; generation = c.args.generation }) c.self.inside.held.items) in
     let pinned : is_pinned_below c.args.generation c.self.inside.pins.items ≡ true =
-        ap (is_pinned_below c.args.generation) (sym c.as_slice.ensures.value) ∙ sym (c.least_pin.ensures c.args.generation) ∙ sym c.is_below.ensures ∙ c.if-is_below.true in
+    ap (is_pinned_below c.args.generation) (sym c.as_slice.ensures.value) ∙ sym (c.least_pin.ensures c.args.generation) ∙ sym c.is_below.ensures ∙ c.if-is_below.true in
     record {
       kept = rw c.put_held.ensures.items (kept_hold _ c.args.page c.args.generation (c.self.inside.spare - 1) c.max-self-inside.result (sym c.has.ensures.is ∙ c.if-has.false) pinned c.self.invariant.kept);
       free_room = omega (arith, more, spare, c.self.invariant.free_room);
@@ -22,7 +22,7 @@ pub invariant_of-self-else-is_below : goal.invariant_of-self-else-is_below
 invariant_of-self-else-is_below c =
     let spare : 1 ≤ c.self.inside.spare = omega (arith, ap (λ (f : FreePages). f.spare) c.self.view_is, c.requires) in
     let more : length c.put_free.new.free.items ≤ length c.self.inside.free.items + 1 =
-        omega (arith, ap length c.put_free.ensures.items, length-put (λ n. n) c.args.page c.self.inside.free.items) in
+    omega (arith, ap length c.put_free.ensures.items, length-put (λ n. n) c.args.page c.self.inside.free.items) in
     record {
       kept = rw c.put_free.ensures.items (kept_free _ c.args.page (c.self.inside.spare - 1) c.max-self-inside.result (sym c.has.ensures.is ∙ c.if-has.false) c.self.invariant.kept);
       free_room = omega (arith, more, spare, c.self.invariant.free_room, c.put_free.ensures.capacity);

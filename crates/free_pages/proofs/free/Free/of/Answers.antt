@@ -19,7 +19,7 @@ returns-clause-outside g c tells =
     let way = c.in-Ok.ensures.ok in
     let flags = c.in-Ok.walk.opened.items in
     let is : c.in-Ok-unopened.free.items ≡ outside_pages (length flags) way.opened =
-        rw (← c.as_slice.ensures.value) (c.in-Ok-unopened.ensures.outside way.opened (rw c.as_slice.ensures.value way.flagged)) in
+    rw (← c.as_slice.ensures.value) (c.in-Ok-unopened.ensures.outside way.opened (rw c.as_slice.ensures.value way.flagged)) in
     outside_tree c.args.live.now (g.P.Pages.shelf c.args.pages.now) (g.P.Pages.shelf c.walk_tree.new.pages) c.in-Ok.walk.count flags c.in-Ok-unopened.free.items way is tells
 
 pub returns-clause-sound : goal.returns-clause-sound
@@ -27,7 +27,7 @@ returns-clause-sound g c s tells sound =
     let way = c.in-Ok.ensures.ok in
     let flags = c.in-Ok.walk.opened.items in
     let is : c.in-Ok-unopened.free.items ≡ outside_pages (length flags) way.opened =
-        rw (← c.as_slice.ensures.value) (c.in-Ok-unopened.ensures.outside way.opened (rw c.as_slice.ensures.value way.flagged)) in
+    rw (← c.as_slice.ensures.value) (c.in-Ok-unopened.ensures.outside way.opened (rw c.as_slice.ensures.value way.flagged)) in
     outside_sound c.args.live.now (g.P.Pages.shelf c.args.pages.now) (g.P.Pages.shelf c.walk_tree.new.pages) c.in-Ok.walk.count flags c.in-Ok-unopened.free.items way is s tells sound
 
 pub returns-clause-numbers : goal.returns-clause-numbers

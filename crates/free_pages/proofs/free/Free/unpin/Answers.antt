@@ -11,7 +11,7 @@ invariant_of-self c =
     let least = c.least_pin-least.result in
     let same : (g : ℕ) → is_below least g ≡ is_pinned_below g pins = λ g. c.least_pin-least.ensures g ∙ ap (is_pinned_below g) c.as_slice.ensures.value in
     let free : c.release.new.free.items ≡ with_pages (released pins held) c.self.inside.free.items =
-        c.release.ensures.free ∙ ap (λ (more : List ℕ). with_pages more c.self.inside.free.items) (released_is least pins held same) in
+    c.release.ensures.free ∙ ap (λ (more : List ℕ). with_pages more c.self.inside.free.items) (released_is least pins held same) in
     let left : c.release.new.held.items ≡ still_held pins held = c.release.ensures.held ∙ still_held_is least pins held same in
     record {
       kept = rw (free, left) (kept_pins _ pins c.self.invariant.kept);
