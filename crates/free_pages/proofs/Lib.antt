@@ -1,9 +1,11 @@
 mod Ascending
 mod Flags
 mod Given
+mod Members
 mod Places
 mod Released
 mod SoundWalk
 mod Sorting
 mod Steps
 mod Whole
+mod WholeWalk

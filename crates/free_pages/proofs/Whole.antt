@@ -96,7 +96,7 @@ named-push nodes opened page k =
 one_is : (n : ℕ) → times n (n ∷ []) ≡ 1
 one_is n = let same : (n == n) ≡ true = grind (arith, nat_tests) in rw same refl
 
-course_step : (read : Read) (root : ℕ) (opened : List ℕ) (page : ℕ) (coming : List ℕ) (node : Node) → times page opened ≡ 0 → read page ≡ Ok node →
+pub course_step : (read : Read) (root : ℕ) (opened : List ℕ) (page : ℕ) (coming : List ℕ) (node : Node) → times page opened ≡ 0 → read page ≡ Ok node →
     Course (nodes_of read) root opened (page ∷ coming) → Course (nodes_of read) root (opened ++ page ∷ []) (children node ++ coming)
 course_step read root opened page coming node fresh e course = record {
   opened_reached = all_append (IsReached nodes root) opened (page ∷ []) course.opened_reached (course.coming_reached.0, tt);
@@ -127,7 +127,7 @@ course_step read root opened page coming node fresh e course = record {
 
 -- ---- at its end
 
-abbrev begun : (read : Read) (root : ℕ) → Course (nodes_of read) root [] (root ∷ [])
+abbrev pub begun : (read : Read) (root : ℕ) → Course (nodes_of read) root [] (root ∷ [])
 begun read root = record { opened_reached = tt; coming_reached = (at_root, tt); once = λ k. omega arith; named = λ k. omega arith }
 
 ended : (read : Read) (t : Live) (tree : List ℕ) → tree_walk read t ≡ Ok tree → Course (nodes_of read) t.root tree []

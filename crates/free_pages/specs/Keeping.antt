@@ -1,6 +1,7 @@
 -- Free and held pages.
-use Rattle.std.specs.Prelude.{◌≡◌, ℕ, ◌+◌, ◌-◌, ◌≤◌, ◌<◌, ◌==◌, ◌&&◌, ◌||◌, not, max, nat_lt, Bool, IsTrue, List, [], ◌∷◌, ◌++◌, map, filter, if◌then◌else◌}
+use Rattle.std.specs.Prelude.{◌≡◌, ◌⊎◌, ℕ, ◌+◌, ◌-◌, ◌≤◌, ◌<◌, ◌==◌, ◌&&◌, ◌||◌, not, max, nat_lt, Bool, IsTrue, List, [], ◌∷◌, ◌++◌, map, filter, if◌then◌else◌}
 use Rattle.std.specs.List.{AllByRecursion, list_any}
+use Rattle.metric_laws.specs.Lists.{IsIn}
 use Rattle.tree_shape.specs.Tree.{times}
 use Rattle.page_store.specs.Numbers.{Ascends}
 use Rattle.free_pages.specs.declared.held.Held.{Held}
@@ -37,6 +38,10 @@ is_among page pages = not (times page pages == 0)
 -- the page is free or held
 abbrev pub is_kept : FreePages → ℕ → Bool
 is_kept f page = is_among page f.free || is_among page (held_pages f.held)
+
+-- the same as a fact
+abbrev pub IsFreeOrHeld : FreePages → ℕ → Type 0
+IsFreeOrHeld f page = IsIn page f.free ⊎ IsIn page (held_pages f.held)
 
 -- a generation below this one is pinned
 abbrev pub is_pinned_below : ℕ → List ℕ → Bool

@@ -81,6 +81,10 @@ fn pages_outside_the_tree(rt: HostRuntime) -> Result<(), Fail> {
     free.are_kept();
     laws::sound_trees_are_walked();
     laws::least_are_numbers();
+    laws::whole_trees_are_walked();
+    laws::outside_is_outside();
+    laws::leaving_keeps_pages();
+    laws::pins_keep_pages();
     Ok(())
 }
 
