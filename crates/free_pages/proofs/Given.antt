@@ -1,13 +1,13 @@
 -- The free pages of a file whose tree was walked.
-use Rattle.std.proofs.Common.{◌≡◌, ℕ, zero, suc, ◌-◌, ◌≤◌, Bool, List, [], length, Result, Ok, Err, refl, sym, ap, subst, ◌∙◌, arith}
-use Rattle.std.specs.Prelude.{◌==◌, filter, IsTrue}
-use Rattle.std.specs.List.{AllByRecursion, range_with_len}
+use Rattle.std.proofs.Common.{◌≡◌, ℕ, zero, suc, ◌-◌, Bool, List, [], length, Result, Ok, refl, sym, ap, subst, ◌∙◌, arith}
+use Rattle.std.specs.Prelude.{IsTrue}
+use Rattle.std.specs.List.{AllByRecursion}
 use Rattle.metric_laws.specs.Space.{Space}
 use Rattle.tree_shape.specs.declared.live.Live.{Live}
-use Rattle.tree_shape.specs.Tree.{IsNodePage, IsSoundTree, times}
+use Rattle.tree_shape.specs.Tree.{IsSoundTree}
 use Rattle.page_store.specs.declared.pages.PageFault.{PageFault}
 use Rattle.page_store.specs.declared.pages.PageFault.TheVariants.{Disk, Bad, Outside, Memory, Repeats, Level}
-use Rattle.page_store.specs.Numbers.{Ascends, AreNumbers}
+use Rattle.page_store.specs.Numbers.{AreNumbers}
 use Rattle.page_store.specs.Placing.{live_pages}
 use Rattle.page_store.specs.Reading.{Read, IsWithin, nodes_of}
 use Rattle.page_store.specs.Shelf.{Shelf, IsPassing}
@@ -15,7 +15,7 @@ use Rattle.free_pages.specs.Free.{AreOutsideTree}
 use Rattle.free_pages.specs.Keeping.{IsKept}
 use Rattle.free_pages.specs.Opened.{IsUnderWay}
 use Rattle.free_pages.specs.Walk.{walked, outside_pages, tree_walk, IsWalkFault}
-use Rattle.free_pages.proofs.Ascending.{ascends_weaker, outside_numbers}
+use Rattle.free_pages.proofs.Ascending.{ascends_weaker}
 use Rattle.free_pages.proofs.SoundWalk.{sound_walk}
 use Rattle.free_pages.proofs.Whole.{whole_tree}
 

@@ -1,4 +1,5 @@
 mod Ascending
+mod Examples
 mod Flags
 mod Given
 mod Members

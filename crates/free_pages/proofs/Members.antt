@@ -1,16 +1,14 @@
 -- Which pages are free or held.
-use Rattle.std.proofs.Common.{◌≡◌, ◌≢◌, ℕ, zero, suc, ◌+◌, ◌-◌, ◌≤◌, ◌<◌, ◌⊎◌, ◌||◌, Bool, true, false, cond, List, [], ◌∷◌, ◌++◌, inl, inr, refl, sym, ap, subst, ◌∙◌, arith}
+use Rattle.std.proofs.Common.{◌≡◌, ℕ, zero, suc, ◌+◌, ◌-◌, ◌≤◌, ◌<◌, ◌⊎◌, ◌||◌, Bool, true, false, cond, List, [], ◌∷◌, inl, inr, refl, sym, ap, subst, ◌∙◌, arith}
 use Rattle.std.specs.Prelude.{◌↔◌, ◌==◌, nat_lt, not, map, filter, if◌then◌else◌}
-use Rattle.std.specs.List.{AllByRecursion, range_with_len}
+use Rattle.std.specs.List.{range_with_len}
 use Rattle.std.proofs.lemmas.Bool.{cases_lt}
 use Rattle.std.proofs.lemmas.Bool.Decides.{nat_tests}
 use Rattle.metric_laws.specs.Lists.{IsIn}
 use Rattle.tree_shape.specs.Tree.{times}
-use Rattle.page_store.specs.Reading.{IsWithin}
 use Rattle.free_pages.specs.declared.held.Held.{Held}
-use Rattle.free_pages.specs.Keeping.{FreePages, IsFreeOrHeld, freed, held_pages, held_since, is_among, is_kept, is_pinned_below, left, put_by, released, still_held, with_page, with_pages, with_pins}
+use Rattle.free_pages.specs.Keeping.{FreePages, IsFreeOrHeld, held_pages, is_among, is_kept, is_pinned_below, put_by, released, still_held, with_free, with_held, with_left, with_page, with_pages}
 use Rattle.free_pages.specs.Laws.{LeavingKeepsPages, OutsideIsOutside, PinsKeepPages}
-use Rattle.free_pages.specs.Walk.{outside_pages}
 use Rattle.free_pages.proofs.Whole.{in_from_times, times_from_in}
 
 -- ---- elements of a filter
@@ -102,8 +100,7 @@ in_with_pages : (k : ℕ) (more xs : List ℕ) → IsIn k (with_pages more xs) �
 in_with_pages k [] xs = (λ i. inr i, λ i. elim i [ inl n ↦ absurd n | inr w ↦ w ])
 in_with_pages k (page ∷ more) xs =
     let rest = in_with_pages k more (with_page page xs) in
-    let one = in_with_page page k xs in
-    (
+    let one = in_with_page page k xs in (
       λ i. elim (rest.0 i) [ inl m ↦ inl (inr m) | inr w ↦ elim (one.0 w) [ inl s ↦ inl (inl s) | inr u ↦ inr u ] ],
       λ i. elim i [ inl m ↦ elim m [ inl s ↦ rest.1 (inr (one.1 (inl s))) | inr u ↦ rest.1 (inl u) ] | inr w ↦ rest.1 (inr (one.1 (inr w))) ],
     )
@@ -124,35 +121,33 @@ kept_is f page e = elim (either (is_among page f.free) (is_among page (held_page
   | inr held ↦ inr (in_from_times page (held_pages f.held) (some_of (times page (held_pages f.held)) held))
 ]
 
-after_freed : (f : FreePages) (page p : ℕ) → IsFreeOrHeld (freed f page) p ↔ ((p ≡ page) ⊎ IsFreeOrHeld f p)
+after_freed : (f : FreePages) (page p : ℕ) → IsFreeOrHeld (with_free f page) p ↔ ((p ≡ page) ⊎ IsFreeOrHeld f p)
 after_freed f page p = tested (is_kept f page) refl
   where
     tested : (b : Bool) → is_kept f page ≡ b → IsFreeOrHeld (if b then f else record f { free = with_page page f.free; spare = f.spare - 1 }) p ↔ ((p ≡ page) ⊎ IsFreeOrHeld f p)
     tested true e = (λ i. inr i, λ i. elim i [ inl s ↦ subst (IsFreeOrHeld f) (sym s) (kept_is f page e) | inr w ↦ w ])
     tested false e =
-        let one = in_with_page page p f.free in
-        (
+        let one = in_with_page page p f.free in (
           λ i. elim i [ inl w ↦ elim (one.0 w) [ inl s ↦ inl s | inr u ↦ inr (inl u) ] | inr h ↦ inr (inr h) ],
           λ i. elim i [ inl s ↦ inl (one.1 (inl s)) | inr w ↦ elim w [ inl u ↦ inl (one.1 (inr u)) | inr h ↦ inr h ] ],
         )
 
-after_held : (f : FreePages) (page generation p : ℕ) → IsFreeOrHeld (held_since f page generation) p ↔ ((p ≡ page) ⊎ IsFreeOrHeld f p)
+after_held : (f : FreePages) (page generation p : ℕ) → IsFreeOrHeld (with_held f page generation) p ↔ ((p ≡ page) ⊎ IsFreeOrHeld f p)
 after_held f page generation p = tested (is_kept f page) refl
   where
     tested : (b : Bool) → is_kept f page ≡ b →
         IsFreeOrHeld (if b then f else record f { held = put_by (λ h. h.page) (record { page = page; generation = generation }) f.held; spare = f.spare - 1 }) p ↔ ((p ≡ page) ⊎ IsFreeOrHeld f p)
     tested true e = (λ i. inr i, λ i. elim i [ inl s ↦ subst (IsFreeOrHeld f) (sym s) (kept_is f page e) | inr w ↦ w ])
     tested false e =
-        let one = in_put (λ (h : Held). h.page) (record { page = page; generation = generation }) p f.held in
-        (
+        let one = in_put (λ (h : Held). h.page) (record { page = page; generation = generation }) p f.held in (
           λ i. elim i [ inl u ↦ inr (inl u) | inr w ↦ elim (one.0 w) [ inl s ↦ inl s | inr h ↦ inr (inr h) ] ],
           λ i. elim i [ inl s ↦ inr (one.1 (inl s)) | inr w ↦ elim w [ inl u ↦ inl u | inr h ↦ inr (one.1 (inr h)) ] ],
         )
 
-after_left : (f : FreePages) (page generation p : ℕ) → IsFreeOrHeld (left f page generation) p ↔ ((p ≡ page) ⊎ IsFreeOrHeld f p)
+after_left : (f : FreePages) (page generation p : ℕ) → IsFreeOrHeld (with_left f page generation) p ↔ ((p ≡ page) ⊎ IsFreeOrHeld f p)
 after_left f page generation p = tested (is_pinned_below generation f.pins)
   where
-    tested : (b : Bool) → IsFreeOrHeld (if b then held_since f page generation else freed f page) p ↔ ((p ≡ page) ⊎ IsFreeOrHeld f p)
+    tested : (b : Bool) → IsFreeOrHeld (if b then with_held f page generation else with_free f page) p ↔ ((p ≡ page) ⊎ IsFreeOrHeld f p)
     tested true = after_held f page generation p
     tested false = after_freed f page p
 

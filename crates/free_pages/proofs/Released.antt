@@ -1,7 +1,7 @@
 -- Pins, and the held pages that they hold no longer.
-use Rattle.std.proofs.Common.{◌≡◌, ◌≢◌, ℕ, zero, suc, ◌+◌, ◌-◌, ◌≤◌, ◌<◌, ◌||◌, Bool, true, false, cond, List, [], ◌∷◌, ◌++◌, length, length-append, get_or, Option, Some, None, refl, sym, ap, subst, ◌∙◌, arith, append_assoc, rules}
-use Rattle.std.specs.Prelude.{◌==◌, nat_lt, not, map, filter, take, drop, remove, min, max, IsTrue, if◌then◌else◌}
-use Rattle.std.specs.List.{AllByRecursion, list_any}
+use Rattle.std.proofs.Common.{◌≡◌, ◌≢◌, ℕ, zero, suc, ◌+◌, ◌<◌, ◌||◌, Bool, true, false, cond, List, [], ◌∷◌, ◌++◌, length, get_or, Option, Some, None, refl, sym, ap, subst, ◌∙◌, arith, append_assoc, rules}
+use Rattle.std.specs.Prelude.{◌==◌, nat_lt, not, filter, remove, min, IsTrue, if◌then◌else◌}
+use Rattle.std.specs.List.{AllByRecursion}
 use Rattle.std.specs.Option.{option_to_list}
 use Rattle.std.proofs.lemmas.Bool.Decides.{nat_tests}
 use Rattle.std.proofs.lemmas.List.{append-nil, map-append}
@@ -13,7 +13,7 @@ use Rattle.page_store.specs.Numbers.{Ascends}
 use Rattle.free_pages.specs.declared.held.Held.{Held}
 use Rattle.free_pages.specs.Keeping.{FreePages, IsKept, held_pages, is_kept, is_among, is_pinned_below, put_by, with_page, with_pages, with_pins, without_pin, released, still_held}
 use Rattle.free_pages.specs.Stored.{is_below, held_below, freed_below, IsReleasing}
-use Rattle.free_pages.proofs.Ascending.{ascends_weaker, ascends_filter, ascends_put, ascends_with_page, ascends_with_pages, parted, times-put, times-with_page, times-with_pages}
+use Rattle.free_pages.proofs.Ascending.{ascends_weaker, ascends_filter, ascends_put, ascends_with_page, ascends_with_pages, parted, times-with_page, times-with_pages}
 
 -- ---- pins
 

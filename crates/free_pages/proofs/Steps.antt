@@ -1,7 +1,7 @@
 -- The steps of a walk over flagged pages.
-use Rattle.std.proofs.Common.{◌≡◌, ◌≢◌, ℕ, zero, suc, ◌+◌, ◌-◌, ◌≤◌, ◌<◌, Bool, true, false, List, [], ◌∷◌, ◌++◌, length, length-append, set, slice_index_or, Result, Ok, Err, inl, inr, refl, sym, ap, subst, ◌∙◌, arith}
-use Rattle.std.specs.Prelude.{◌==◌, not, replicate, filter, if◌then◌else◌, IsTrue}
-use Rattle.std.specs.List.{AllByRecursion, range_with_len}
+use Rattle.std.proofs.Common.{◌≡◌, ◌≢◌, ℕ, suc, ◌+◌, ◌-◌, ◌≤◌, ◌<◌, Bool, true, false, List, [], ◌∷◌, ◌++◌, length, length-append, set, slice_index_or, Result, Err, inl, inr, refl, sym, ap, subst, ◌∙◌, arith}
+use Rattle.std.specs.Prelude.{◌==◌, not, replicate, if◌then◌else◌, IsTrue}
+use Rattle.std.specs.List.{AllByRecursion}
 use Rattle.std.proofs.lemmas.Bool.{cases_lt, cases_eq}
 use Rattle.std.proofs.lemmas.Bool.Decides.{nat_tests}
 use Rattle.std.proofs.lemmas.List.{length-set, get_or-set_same, get_or-set_other, get_or-replicate, get_or_past, length-replicate}
@@ -17,7 +17,7 @@ use Rattle.page_store.specs.Reading.{Read, IsWithin, is_within}
 use Rattle.page_store.specs.Shelf.{Shelf, HoldsSame, HasPageCause, IsNodeOf}
 use Rattle.free_pages.specs.Keeping.{is_among}
 use Rattle.free_pages.specs.Opened.{AreOpened, IsUnderWay}
-use Rattle.free_pages.specs.Walk.{children, on_children, walked, tree_walk, IsWalkFault}
+use Rattle.free_pages.specs.Walk.{children, walked, tree_walk, IsWalkFault}
 use Rattle.free_pages.proofs.SoundWalk.{opens}
 
 -- ---- flags

@@ -1,6 +1,6 @@
 -- The walk of a tree whose pages are named once.
-use Rattle.std.proofs.Common.{◌≡◌, ℕ, zero, suc, ◌+◌, ◌-◌, ◌≤◌, ◌<◌, Bool, true, false, List, [], ◌∷◌, ◌++◌, length, length-append, Option, Some, None, Result, Ok, Err, IsSome, inl, inr, refl, sym, ap, subst, ◌∙◌, arith}
-use Rattle.std.specs.Prelude.{◌==◌, map, if◌then◌else◌}
+use Rattle.std.proofs.Common.{◌≡◌, ℕ, zero, suc, ◌+◌, ◌≤◌, ◌<◌, Bool, true, false, List, [], ◌∷◌, ◌++◌, length, length-append, Result, Ok, Err, IsSome, refl, ap, ◌∙◌, arith}
+use Rattle.std.specs.Prelude.{◌==◌, if◌then◌else◌}
 use Rattle.std.specs.List.{AllByRecursion}
 use Rattle.std.proofs.lemmas.Bool.Decides.{nat_tests}
 use Rattle.metric_laws.specs.Lists.{IsIn}
@@ -14,7 +14,7 @@ use Rattle.page_store.specs.Reading.{Read, nodes_of, node_or_none}
 use Rattle.free_pages.specs.Keeping.{without_pin}
 use Rattle.free_pages.specs.Laws.{WholeTreesAreWalked}
 use Rattle.free_pages.specs.Reached.{IsReached, IsWholeTree, named_in}
-use Rattle.free_pages.specs.Walk.{children, walked, tree_walk}
+use Rattle.free_pages.specs.Walk.{children, walked}
 use Rattle.free_pages.proofs.SoundWalk.{opens}
 use Rattle.free_pages.proofs.Whole.{Course, begun, course_step, in_nodes, in_from_times, times_from_in}
 

@@ -1,5 +1,5 @@
 -- Free and held pages.
-use Rattle.std.specs.Prelude.{◌≡◌, ◌⊎◌, ℕ, ◌+◌, ◌-◌, ◌≤◌, ◌<◌, ◌==◌, ◌&&◌, ◌||◌, not, max, nat_lt, Bool, IsTrue, List, [], ◌∷◌, ◌++◌, map, filter, if◌then◌else◌}
+use Rattle.std.specs.Prelude.{◌≡◌, ◌⊎◌, ℕ, ◌-◌, ◌==◌, ◌||◌, not, max, nat_lt, Bool, IsTrue, List, [], ◌∷◌, map, filter, if◌then◌else◌}
 use Rattle.std.specs.List.{AllByRecursion, list_any}
 use Rattle.metric_laws.specs.Lists.{IsIn}
 use Rattle.tree_shape.specs.Tree.{times}
@@ -53,18 +53,18 @@ without_pin generation [] = []
 without_pin generation (pin ∷ pins) = if pin == generation then pins else pin ∷ without_pin generation pins
 
 -- a page that is neither free nor held becomes free
-abbrev pub freed : FreePages → ℕ → FreePages
-freed f page = if is_kept f page then f else record f { free = with_page page f.free; spare = f.spare - 1 }
+abbrev pub with_free : FreePages → ℕ → FreePages
+with_free f page = if is_kept f page then f else record f { free = with_page page f.free; spare = f.spare - 1 }
 
 -- a page that is neither free nor held becomes held
-abbrev pub held_since : FreePages → ℕ → ℕ → FreePages
-held_since f page generation =
+abbrev pub with_held : FreePages → ℕ → ℕ → FreePages
+with_held f page generation =
     if is_kept f page then f else record f { held = put_by (λ h. h.page) (record { page = page; generation = generation }) f.held; spare = f.spare - 1 }
 
 -- a page that a commit to this generation left is held while a pin below is there, and is free otherwise
-abbrev pub left : FreePages → ℕ → ℕ → FreePages
-left f page generation =
-    let kept = if is_pinned_below generation f.pins then held_since f page generation else freed f page in record kept { newest = max f.newest generation }
+abbrev pub with_left : FreePages → ℕ → ℕ → FreePages
+with_left f page generation =
+    let kept = if is_pinned_below generation f.pins then with_held f page generation else with_free f page in record kept { newest = max f.newest generation }
 
 -- the held pages for which a pin below is there, with these pins
 abbrev pub still_held : List ℕ → List Held → List Held

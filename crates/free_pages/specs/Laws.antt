@@ -1,5 +1,5 @@
 -- Laws of walks and of free pages.
-use Rattle.std.specs.Prelude.{◌≡◌, ◌↔◌, ◌⊎◌, ℕ, ◌≤◌, ◌<◌, List, take, IsSome, Ok, false}
+use Rattle.std.specs.Prelude.{◌≡◌, ◌↔◌, ◌⊎◌, ℕ, List, take, IsSome, Ok, false}
 use Rattle.std.specs.List.{AllByRecursion}
 use Rattle.metric_laws.specs.Lists.{IsIn}
 use Rattle.metric_laws.specs.Space.{Space}
@@ -9,7 +9,7 @@ use Rattle.page_store.specs.Numbers.{Ascends, AreNumbers}
 use Rattle.page_store.specs.Placing.{live_pages}
 use Rattle.page_store.specs.Reading.{Read, IsWithin, nodes_of}
 use Rattle.free_pages.specs.declared.held.Held.{Held}
-use Rattle.free_pages.specs.Keeping.{FreePages, IsFreeOrHeld, freed, is_pinned_below, left, with_pins}
+use Rattle.free_pages.specs.Keeping.{FreePages, IsFreeOrHeld, with_free, is_pinned_below, with_left, with_pins}
 use Rattle.free_pages.specs.Reached.{IsWholeTree}
 use Rattle.free_pages.specs.Walk.{outside_pages, tree_walk}
 
@@ -34,8 +34,8 @@ OutsideIsOutside = (pages : ℕ) (tree : List ℕ) (page : ℕ) → IsIn page (o
 -- a page that is given back or left is free or held from then on, and no other page becomes so or ceases to be so
 abbrev pub LeavingKeepsPages : Type 0
 LeavingKeepsPages =
-    (f : FreePages) (page generation : ℕ) (p : ℕ) → (IsFreeOrHeld (freed f page) p ↔ ((p ≡ page) ⊎ IsFreeOrHeld f p))
-    × (IsFreeOrHeld (left f page generation) p ↔ ((p ≡ page) ⊎ IsFreeOrHeld f p))
+    (f : FreePages) (page generation : ℕ) (p : ℕ) → (IsFreeOrHeld (with_free f page) p ↔ ((p ≡ page) ⊎ IsFreeOrHeld f p))
+    × (IsFreeOrHeld (with_left f page generation) p ↔ ((p ≡ page) ⊎ IsFreeOrHeld f p))
 
 -- with other pins the same pages are free or held; those become free for which no pin below is there
 abbrev pub PinsKeepPages : Type 0

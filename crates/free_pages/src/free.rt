@@ -7,7 +7,7 @@ ghost use Rattle.page_store.specs.Placing.{live_pages};
 ghost use Rattle.page_store.specs.Reading.{nodes_of};
 ghost use Rattle.page_store.specs.Shelf.{HoldsSame, IsPassing};
 ghost use Rattle.free_pages.specs.Free.{AreOutsideTree, IsFresh};
-ghost use Rattle.free_pages.specs.Keeping.{IsKept, freed, is_kept, left, with_pins, without_pin};
+ghost use Rattle.free_pages.specs.Keeping.{IsKept, is_kept, with_free, with_left, with_pins, without_pin};
 ghost use Rattle.free_pages.specs.Walk.{IsWalkFault, outside_pages, tree_walk};
 
 use crate::Held;
@@ -25,11 +25,15 @@ use tree_shape::Live;
 /// generation left is held while a generation below is pinned, and is free otherwise.
 #[derive(Debug, Drop)]
 pub struct Free {
-    // Both in ascending order.
+    // In ascending order, so that the least is in front, and pages go in at the nearer end.
     free: VecDeque<u32>,
+    // In ascending order of the pages.
     held: VecDeque<Held>,
+    // In the order of pinning.
     pins: Vec<u64>,
+    // For so many pages more there is room among the held ones, and for these and the held ones among the free ones.
     spare: usize,
+    // The greatest generation that `leave` named, 0 at first.
     newest: u64,
 }
 
@@ -46,10 +50,11 @@ impl Model for Free {
 }
 
 impl Free {
-    /// The pages of a file from 3 up that its live tree doesn't reach by child numbers. The tree is walked in pre-order, each
-    /// of its pages being asked for once and judged when the walk comes to it. One that the walk opened before is `Repeats`;
-    /// one that holds no node is `Bad`, and one below 3 or not below the number of pages `Outside`. None of these comes on a
-    /// sound tree. `Disk` comes where the disk failed. The walk takes a byte for each page, and the free pages 4 bytes each.
+    /// The pages of a file from 3 up that no child numbers lead to from the root of its live tree. The tree is walked in
+    /// pre-order, as deep as child numbers lead, whatever the height and the levels say: each of its pages is asked for once
+    /// and judged when the walk comes to it. One that the walk opened before is `Repeats`, unasked; one that holds no node is
+    /// `Bad`, and one below 3 or not below the number of pages `Outside`. None of these comes on a sound tree. `Disk` comes
+    /// where the disk failed. The walk takes a byte for each page of the file, and each free page takes 4.
     pub fn of<P: Pages>(alloc: Global, pages: &mut P, live: &Live) -> Result<Self, PageFault>
         requires pages { live.now.pages ≡ (P.shelf pages.old).pages }
         ensures same { HoldsSame (P.shelf pages.old) (P.shelf pages.new) }
@@ -63,6 +68,7 @@ impl Free {
         ensures err { IfErr result (IsWalkFault (P.shelf pages.old) (P.shelf pages.new) (tree_walk (P.shelf pages.old).read live.now)) }
         ensures passing { IfErr result (λ fault. (s : Space) → IsTrue (P.shelf pages.old).tells → IsSoundTree s (nodes_of (P.shelf pages.old).read) live.now → IsPassing fault) }
         ensures asked { 1 ≤ live.now.pages → (P.shelf pages.new).asked ≤ (P.shelf pages.old).asked + live.now.pages }
+        ensures reads { 1 ≤ live.now.pages → (P.shelf pages.new).reads ≤ (P.shelf pages.old).reads + live.now.pages }
     {
         let walk = match walk_tree(alloc, pages, live) {
             Ok(walk) => walk,
@@ -150,7 +156,7 @@ impl Free {
 
     /// Makes a page free. One that is free or held already stays so. It finds memory where room is spare.
     pub fn give_back(&mut self, page: u32) -> Result<(), Memory>
-        ensures ok { OnOk result (self.new ≡ freed self.old page) }
+        ensures ok { OnOk result (self.new ≡ with_free self.old page) }
         ensures others { self.new ≡ record self.old { free = self.new.free; spare = self.new.spare } }
         ensures err { OnErr result (self.new ≡ self.old) }
         ensures room { 1 ≤ self.old.spare → IsOk result }
@@ -166,7 +172,8 @@ impl Free {
         Ok(())
     }
 
-    /// Pins a generation once more. No commit that was named by `leave` made a later one.
+    /// Pins a generation once more: pages that later commits leave are held until it is unpinned as often. No earlier
+    /// `leave` named a later generation.
     pub fn pin(&mut self, generation: u64) -> Result<(), Memory>
         requires { self.old.newest ≤ generation }
         ensures ok { OnOk result (self.new ≡ record self.old { pins = self.old.pins ++ generation ∷ [] }) }
@@ -192,7 +199,7 @@ impl Free {
     /// One that is free or held already stays so.
     pub fn leave(&mut self, page: u32, generation: u64)
         requires { 1 ≤ self.old.spare }
-        ensures left { self.new ≡ left self.old page generation }
+        ensures left { self.new ≡ with_left self.old page generation }
         ensures others { self.new ≡ record self.old { free = self.new.free; held = self.new.held; spare = self.new.spare; newest = max self.old.newest generation } }
         ensures spare { self.old.spare ≤ self.new.spare + 1 }
         ensures kept { IsKept self.new }

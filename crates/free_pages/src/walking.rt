@@ -78,6 +78,7 @@ fn visit<P: Pages>(
     ensures err { IfErr result (λ fault. (old : Shelf) (t : Live) (coming : List ℕ) → IsUnderWay old (P.shelf pages.old) t walk.old.count walk.old.opened.items (page ∷ coming) →
         IsWalkFault old (P.shelf pages.new) (tree_walk old.read t) fault) }
     ensures asked { (P.shelf pages.new).asked ≤ (P.shelf pages.old).asked + 1 }
+    ensures reads { (P.shelf pages.new).reads ≤ (P.shelf pages.old).reads + 1 }
 {
     if is_opened(walk.opened.as_slice(), page) {
         return Err(PageFault::Repeats(page));
@@ -103,6 +104,7 @@ pub fn walk_tree<P: Pages>(alloc: Global, pages: &mut P, live: &Live) -> Result<
     ensures ok { IfOk result (λ walk. IsUnderWay (P.shelf pages.old) (P.shelf pages.new) live.now walk.count walk.opened.items []) }
     ensures err { IfErr result (IsWalkFault (P.shelf pages.old) (P.shelf pages.new) (tree_walk (P.shelf pages.old).read live.now)) }
     ensures asked { 1 ≤ live.now.pages → (P.shelf pages.new).asked ≤ (P.shelf pages.old).asked + live.now.pages }
+    ensures reads { 1 ≤ live.now.pages → (P.shelf pages.new).reads ≤ (P.shelf pages.old).reads + live.now.pages }
 {
     let Ok(mut walk) = begin(alloc, live) else {
         return Err(PageFault::Memory);

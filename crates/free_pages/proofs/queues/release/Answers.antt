@@ -1,8 +1,7 @@
-use Rattle.std.proofs.Common.{◌≡◌, ◌-◌, ◌++◌, ℕ, List, length, sym, ap, subst, ◌∙◌, arith}
+use Rattle.std.proofs.Common.{◌≡◌, ◌-◌, ℕ, List, subst, arith}
 use Rattle.std.specs.List.Sorted.{IsPermutation}
 use Rattle.std.proofs.lemmas.List.Sorted.{length_permutation}
-use Rattle.free_pages.specs.declared.held.Held.{Held}
-use Rattle.free_pages.specs.Stored.{IsReleasing, freed_below, held_below}
+use Rattle.free_pages.specs.Stored.{IsReleasing}
 use Rattle.free_pages.proofs.Released.{releasing_all}
 use Rattle.free_pages.proofs.Sorting.{sorted_is}
 use Rattle.free_pages.proofs.queues.release.Goals as goal

@@ -1,4 +1,4 @@
-use Rattle.std.proofs.Common.{◌≡◌, ℕ, ◌+◌, ◌∷◌, List, Option, length, ap, sym, subst, ◌∙◌, arith}
+use Rattle.std.proofs.Common.{◌+◌, List, sym, subst, ◌∙◌}
 use Rattle.free_pages.specs.declared.held.Held.{Held}
 use Rattle.free_pages.specs.Stored.{IsReleasing}
 use Rattle.free_pages.proofs.Released.{releasing_back, releasing_free}

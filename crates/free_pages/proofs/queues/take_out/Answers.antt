@@ -1,7 +1,6 @@
 use Rattle.std.proofs.Common.{◌≡◌, ◌<◌, ℕ, List, length, get_or, sym, ap, ◌∙◌, arith}
 use Rattle.std.specs.List.{remove}
 use Rattle.std.proofs.lemmas.List.{get_or_default}
-use Rattle.free_pages.specs.Keeping.{without_pin}
 use Rattle.free_pages.proofs.Released.{without_at, without_none}
 use Rattle.free_pages.proofs.queues.take_out.Goals as goal
 

@@ -1,6 +1,5 @@
 use Rattle.std.proofs.Common.{◌≡◌, ℕ, ◌-◌, ◌++◌, Bool, List, [], ◌∷◌, cond, not, slice_index_or, length, false, sym, ap, subst, ◌∙◌, arith}
 use Rattle.std.proofs.lemmas.List.{append-nil}
-use Rattle.std.specs.declared.collections.VecDeque.{VecDeque}
 use Rattle.page_store.specs.Numbers.{AreNumbers}
 use Rattle.free_pages.proofs.Ascending.{outside_numbers}
 use Rattle.free_pages.proofs.Flags.{unset_in, unset_more, unset_are}

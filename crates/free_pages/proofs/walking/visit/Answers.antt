@@ -1,5 +1,4 @@
-use Rattle.std.proofs.Common.{◌≡◌, ℕ, List, false, slice_index_or, sym, ap, subst, ◌∙◌, arith}
-use Rattle.free_pages.specs.Opened.{IsUnderWay}
+use Rattle.std.proofs.Common.{false, slice_index_or, sym, ap, ◌∙◌, arith}
 use Rattle.free_pages.proofs.Steps.{way_more, way_refused, way_repeats}
 use Rattle.free_pages.proofs.walking.visit.Goals as goal
 

@@ -1,4 +1,4 @@
-use Rattle.std.proofs.Common.{◌≡◌, ◌≤◌, ◌∷◌, ℕ, List, reverse, length, sym, ap, subst, ◌∙◌, arith}
+use Rattle.std.proofs.Common.{◌≡◌, ◌∷◌, ℕ, List, reverse, subst, arith}
 use Rattle.std.proofs.lemmas.Grind.{common_steps}
 use Rattle.free_pages.specs.Opened.{IsUnderWay}
 use Rattle.free_pages.proofs.Steps.{few_opened, fewer_opened}
@@ -36,3 +36,13 @@ returns-clause-asked g c some =
 
 pub returns-clause-few : goal.returns-clause-few
 returns-clause-few g c = omega (arith, c.loop-page.invariant.way.pages, (c.in-Ok.ensures.begun (g.P.Pages.shelf c.args.pages.now)).pages, c.in-Ok.ensures.few)
+
+pub returns-in-Err-clause-reads : goal.returns-in-Err-clause-reads
+returns-in-Err-clause-reads g c some =
+    let way = c.loop-page.invariant.way in
+    omega (arith, way.reads, way.pages, c.visit.ensures.reads, some, fewer_opened c.loop-page.walk.opened.items way.opened way.flagged (omega (arith, some, way.pages)))
+
+pub returns-clause-reads : goal.returns-clause-reads
+returns-clause-reads g c some =
+    let way = c.loop-page.invariant.way in
+    omega (arith, way.reads, way.pages, few_opened c.loop-page.walk.opened.items way.opened way.flagged)

@@ -1,6 +1,6 @@
-use Rattle.std.proofs.Common.{◌≡◌, ◌+◌, ◌-◌, ◌≤◌, length, true, false, sym, ap, ◌∙◌, arith}
+use Rattle.std.proofs.Common.{◌≡◌, ◌+◌, ◌-◌, ◌≤◌, length, true, sym, ap, ◌∙◌, arith}
 use Rattle.free_pages.specs.declared.held.Held.{Held}
-use Rattle.free_pages.specs.Keeping.{FreePages, is_kept, is_pinned_below}
+use Rattle.free_pages.specs.Keeping.{FreePages, is_pinned_below}
 use Rattle.free_pages.proofs.Ascending.{length-put}
 use Rattle.free_pages.proofs.Released.{kept_free, kept_hold}
 use Rattle.free_pages.proofs.free.Free.leave.Goals as goal

@@ -1,6 +1,5 @@
-use Rattle.std.proofs.Common.{◌≡◌, ℕ, ◌<◌, ◌≤◌, Bool, List, length, sym, ap, subst, ◌∙◌, arith}
+use Rattle.std.proofs.Common.{◌≡◌, ℕ, length, ap, subst, ◌∙◌, arith}
 use Rattle.page_store.specs.Numbers.{AreNumbers}
-use Rattle.free_pages.specs.Opened.{AreOpened}
 use Rattle.free_pages.specs.Walk.{outside_pages}
 use Rattle.free_pages.proofs.Given.{fresh_kept, outside_sound, outside_tree, passing}
 use Rattle.free_pages.proofs.SoundWalk.{sound_walk}

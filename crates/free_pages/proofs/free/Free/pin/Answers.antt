@@ -1,4 +1,3 @@
-use Rattle.std.proofs.Common.{arith}
 use Rattle.free_pages.proofs.Released.{kept_pin}
 use Rattle.free_pages.proofs.free.Free.pin.Goals as goal
 

@@ -1,5 +1,4 @@
-use Rattle.std.proofs.Common.{length, ap, arith}
-use Rattle.std.specs.VecDeque.{deque_len}
+use Rattle.std.proofs.Common.{arith}
 use Rattle.free_pages.proofs.Released.{kept_take}
 use Rattle.free_pages.proofs.free.Free.take.Goals as goal
 

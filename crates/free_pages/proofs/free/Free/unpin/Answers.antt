@@ -1,4 +1,4 @@
-use Rattle.std.proofs.Common.{◌≡◌, ℕ, List, length, sym, ap, subst, ◌∙◌, arith}
+use Rattle.std.proofs.Common.{◌≡◌, ℕ, List, ap, ◌∙◌, arith}
 use Rattle.free_pages.specs.Keeping.{is_pinned_below, released, still_held, with_pages}
 use Rattle.free_pages.specs.Stored.{is_below}
 use Rattle.free_pages.proofs.Released.{kept_pins, released_is, still_held_is}
