@@ -5,10 +5,11 @@ use Rattle.std.specs.List.{range_with_len}
 use Rattle.std.proofs.lemmas.Bool.{cases_lt}
 use Rattle.std.proofs.lemmas.Bool.Decides.{nat_tests}
 use Rattle.metric_laws.specs.Lists.{IsIn}
+use Rattle.metric_laws.proofs.Lists.{all_in}
 use Rattle.tree_shape.specs.Tree.{times}
 use Rattle.free_pages.specs.declared.held.Held.{Held}
-use Rattle.free_pages.specs.Keeping.{FreePages, IsFreeOrHeld, held_pages, is_among, is_kept, is_pinned_below, put_by, released, still_held, with_free, with_held, with_left, with_page, with_pages}
-use Rattle.free_pages.specs.Laws.{LeavingKeepsPages, OutsideIsOutside, PinsKeepPages}
+use Rattle.free_pages.specs.Keeping.{FreePages, IsFreeOrHeld, IsKept, held_pages, is_among, is_kept, is_pinned_below, put_by, released, still_held, with_free, with_held, with_left, with_page, with_pages}
+use Rattle.free_pages.specs.Laws.{HeldWhilePinned, LeavingKeepsPages, OutsideIsOutside, PinsKeepPages}
 use Rattle.free_pages.proofs.Whole.{in_from_times, times_from_in}
 
 -- ---- elements of a filter
@@ -211,3 +212,80 @@ pins_keep f pins p = ((all, back), (frees, freed_by))
       | inl w ↦ inl (freed_by (inl w))
       | inr q ↦ let h = in_pages p f.held q in held_or_freed h.0 h.1 h.2 (is_pinned_below h.0.generation pins) refl
     ]
+
+-- ---- while a pin is below
+
+module _ (v : Held) where
+  -- what was put in is there, unless its page was
+  put_in : (held : List Held) → (times v.page (held_pages held) == 0) ≡ true → IsIn v (put_by (λ h. h.page) v held)
+  put_in [] none = inl refl
+  put_in (h ∷ held) none = tested (nat_lt v.page h.page) refl (nat_lt h.page v.page) refl (put_in held)
+    where
+      tested : (a : Bool) → nat_lt v.page h.page ≡ a → (b : Bool) → nat_lt h.page v.page ≡ b → ((times v.page (held_pages held) == 0) ≡ true → IsIn v (put_by (λ h. h.page) v held)) →
+          IsIn v (if a then v ∷ h ∷ held else (if b then h ∷ put_by (λ h. h.page) v held else h ∷ held))
+      tested true e b f ih = inl refl
+      tested false e true f ih =
+          let z : times v.page (held_pages (h ∷ held)) ≡ 0 = grind (arith, nat_tests) in
+          let r : times v.page (held_pages held) ≡ 0 = omega arith in
+          inr (ih (ap (λ (m : ℕ). m == 0) r))
+      tested false e false f ih =
+          let same : (h.page == v.page) ≡ true = grind (arith, nat_tests) in
+          let one : ◌≡◌ {A = ℕ} (if h.page == v.page then 1 else 0) 1 = ap (λ (b : Bool). if b then 1 else 0) same in
+          let z : times v.page (held_pages (h ∷ held)) ≡ 0 = grind (arith, nat_tests) in
+          absurd (omega arith)
+
+  put_keeps : (h : Held) (held : List Held) → IsIn h held → IsIn h (put_by (λ h. h.page) v held)
+  put_keeps h [] i = absurd i
+  put_keeps h (g ∷ held) i = tested (nat_lt v.page g.page) (nat_lt g.page v.page) (put_keeps h held)
+    where
+      tested : (a b : Bool) → (IsIn h held → IsIn h (put_by (λ h. h.page) v held)) → IsIn h (if a then v ∷ g ∷ held else (if b then g ∷ put_by (λ h. h.page) v held else g ∷ held))
+      tested true b ih = inr i
+      tested false true ih = elim i [ inl s ↦ inl s | inr w ↦ inr (ih w) ]
+      tested false false ih = i
+
+none_kept : (f : FreePages) (page : ℕ) → is_kept f page ≡ false → (times page (held_pages f.held) == 0) ≡ true
+none_kept f page e = second (is_among page f.free) (times page (held_pages f.held) == 0) e
+  where
+    second : (a b : Bool) → (a || not b) ≡ false → b ≡ true
+    second true b e = absurd (cc)
+    second false true e = refl
+    second false false e = absurd (cc)
+
+left_held : (f : FreePages) (page generation : ℕ) → is_pinned_below generation f.pins ≡ true →
+    ((with_left f page generation).free ≡ f.free) × ((is_kept f page ≡ true) ⊎ IsIn (record { page = page; generation = generation }) (with_left f page generation).held)
+left_held f page generation pinned = rw pinned (tested (is_kept f page) refl)
+  where
+    tested : (b : Bool) → is_kept f page ≡ b →
+        ((if b then f else record f { held = put_by (λ h. h.page) (record { page = page; generation = generation }) f.held; spare = f.spare - 1 }).free ≡ f.free)
+        × ((b ≡ true) ⊎ IsIn (record { page = page; generation = generation }) (if b then f else record f { held = put_by (λ h. h.page) (record { page = page; generation = generation }) f.held; spare = f.spare - 1 }).held)
+    tested true e = (refl, inl refl)
+    tested false e = (refl, inr (put_in (record { page = page; generation = generation }) f.held (none_kept f page e)))
+
+held_stay : (f : FreePages) (page generation : ℕ) (h : Held) → IsIn h f.held → IsIn h (with_left f page generation).held
+held_stay f page generation h i = tested (is_pinned_below generation f.pins) (is_kept f page)
+  where
+    tested : (a b : Bool) →
+        IsIn h (if a then (if b then f else record f { held = put_by (λ h. h.page) (record { page = page; generation = generation }) f.held; spare = f.spare - 1 })
+        else (if b then f else record f { free = with_page page f.free; spare = f.spare - 1 })).held
+    tested true true = i
+    tested true false = put_keeps (record { page = page; generation = generation }) h f.held i
+    tested false true = i
+    tested false false = i
+
+held_apart : (f : FreePages) (page : ℕ) → IsKept f → IsIn page f.free → IsIn page (held_pages f.held) → ⊥
+held_apart f page kept free held =
+    let h = in_pages page f.held held in
+    let none = all_in (λ (h : Held). times h.page f.free ≡ 0) f.held h.0 kept.apart h.1 in
+    let some = times_from_in h.0.page f.free (subst (λ (p : ℕ). IsIn p f.free) (sym h.2) free) in
+    absurd (omega arith)
+
+pub while_pinned : HeldWhilePinned
+while_pinned = record {
+  left = left_held;
+  stay = held_stay;
+  pins = λ f pins h. (
+    λ i. in_filter (λ (h : Held). is_pinned_below h.generation pins) h f.held i,
+    λ both. filter_in (λ (h : Held). is_pinned_below h.generation pins) h f.held both.0 both.1,
+  );
+  apart = held_apart;
+}

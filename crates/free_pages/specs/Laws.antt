@@ -1,5 +1,5 @@
 -- Laws of walks and of free pages.
-use Rattle.std.specs.Prelude.{◌≡◌, ◌↔◌, ◌⊎◌, ℕ, List, take, IsSome, Ok, false}
+use Rattle.std.specs.Prelude.{◌≡◌, ◌↔◌, ◌⊎◌, ℕ, List, take, IsSome, Ok, true, false}
 use Rattle.std.specs.List.{AllByRecursion}
 use Rattle.metric_laws.specs.Lists.{IsIn}
 use Rattle.metric_laws.specs.Space.{Space}
@@ -9,7 +9,7 @@ use Rattle.page_store.specs.Numbers.{Ascends, AreNumbers}
 use Rattle.page_store.specs.Placing.{live_pages}
 use Rattle.page_store.specs.Reading.{Read, IsWithin, nodes_of}
 use Rattle.free_pages.specs.declared.held.Held.{Held}
-use Rattle.free_pages.specs.Keeping.{FreePages, IsFreeOrHeld, with_free, is_pinned_below, with_left, with_pins}
+use Rattle.free_pages.specs.Keeping.{FreePages, IsFreeOrHeld, IsKept, held_pages, is_kept, is_pinned_below, with_free, with_left, with_pins}
 use Rattle.free_pages.specs.Reached.{IsWholeTree}
 use Rattle.free_pages.specs.Walk.{outside_pages, tree_walk}
 
@@ -42,3 +42,13 @@ abbrev pub PinsKeepPages : Type 0
 PinsKeepPages =
     (f : FreePages) (pins : List ℕ) (p : ℕ) → (IsFreeOrHeld (with_pins f pins) p ↔ IsFreeOrHeld f p)
     × (IsIn p (with_pins f pins).free ↔ (IsIn p f.free ⊎ ((h : Held) × IsIn h f.held × (h.page ≡ p) × (is_pinned_below h.generation pins ≡ false))))
+
+-- while a generation below is pinned, a page that is left becomes held, where it isn't free or held already, and none becomes
+-- free; what is held stays so when a page is left; other pins hold exactly the held pages that have a pin below; and no held
+-- page is free
+pub record HeldWhilePinned : Type 0 where
+  pub left : (f : FreePages) (page generation : ℕ) → is_pinned_below generation f.pins ≡ true →
+      ((with_left f page generation).free ≡ f.free) × ((is_kept f page ≡ true) ⊎ IsIn (record { page = page; generation = generation }) (with_left f page generation).held)
+  pub stay : (f : FreePages) (page generation : ℕ) (h : Held) → IsIn h f.held → IsIn h (with_left f page generation).held
+  pub pins : (f : FreePages) (pins : List ℕ) (h : Held) → IsIn h (with_pins f pins).held ↔ (IsIn h f.held × (is_pinned_below h.generation pins ≡ true))
+  pub apart : (f : FreePages) (page : ℕ) → IsKept f → IsIn page f.free → IsIn page (held_pages f.held) → ⊥

@@ -1,6 +1,6 @@
 //! Laws of walks and of free pages.
 
-ghost use Rattle.free_pages.specs.Laws.{LeastAreNumbers, LeavingKeepsPages, OutsideIsOutside, PinsKeepPages, SoundTreesAreWalked, WholeTreesAreWalked};
+ghost use Rattle.free_pages.specs.Laws.{HeldWhilePinned, LeastAreNumbers, LeavingKeepsPages, OutsideIsOutside, PinsKeepPages, SoundTreesAreWalked, WholeTreesAreWalked};
 
 /// The walk of a sound tree opens its pages in pre-order.
 pub fn sound_trees_are_walked()
@@ -30,4 +30,9 @@ pub fn leaving_keeps_pages()
 /// An unpin leaves the same pages free or held, and frees those for which no pin below is left.
 pub fn pins_keep_pages()
     ensures { PinsKeepPages }
+{}
+
+/// A page that is left is held while a generation below is pinned, and no held page is free.
+pub fn held_while_pinned()
+    ensures { HeldWhilePinned }
 {}

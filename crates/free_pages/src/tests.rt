@@ -85,6 +85,7 @@ fn pages_outside_the_tree(rt: HostRuntime) -> Result<(), Fail> {
     laws::outside_is_outside();
     laws::leaving_keeps_pages();
     laws::pins_keep_pages();
+    laws::held_while_pinned();
     Ok(())
 }
 
