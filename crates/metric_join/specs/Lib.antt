@@ -1,0 +1,3 @@
+pub mod Tours
+pub mod Joined
+pub mod Steps
