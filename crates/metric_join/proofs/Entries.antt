@@ -1,5 +1,5 @@
 -- The entries of an opened node, one after the other.
-use Rattle.std.proofs.Common.{◌≡◌, ◌≢◌, ℕ, suc, ◌+◌, ◌<◌, ◌≤◌, Bool, true, false, Option, Some, List, [], ◌∷◌, ◌++◌, map, drop, get_or, length, refl, sym, ap, ◌∙◌, append_assoc, drop-cons, arith, subst}
+use Rattle.std.proofs.Common.{◌≡◌, ◌≢◌, ℕ, zero, suc, ◌+◌, ◌<◌, ◌≤◌, Bool, true, false, Option, Some, List, [], ◌∷◌, ◌++◌, map, drop, get_or, length, refl, sym, ap, ◌∙◌, append_assoc, drop-cons, arith, subst}
 use Rattle.std.specs.Prelude.{if◌then◌else◌, filter}
 use Rattle.std.proofs.lemmas.List.{map-append}
 use Rattle.std.proofs.lemmas.List.Elements.{filter-append}
@@ -19,9 +19,13 @@ use Rattle.metric_join.specs.Steps.{apart_from, least_at, paired, hits_among, ne
 apart_same : (s : Space) (n : JoinNeed) (e : Entry) (point : List ℕ) → centre_of e.item ≡ Some point → (with_entry s n e).apart ≡ apart_from s n point
 apart_same s n e point is = cases (opens_right n)
   where
-    cases : (b : Bool) → (if b then record { left = n.left; right = e.item; apart = apart_of s (centre_of n.left) (centre_of e.item) }
-    else record { left = e.item; right = n.right; apart = apart_of s (centre_of e.item) (centre_of n.right) }).apart
-        ≡ (if b then apart_of s (centre_of n.left) (Some point) else apart_of s (Some point) (centre_of n.right))
+    right : JoinNeed
+    right = record { left = n.left; right = e.item; apart = apart_of s (centre_of n.left) (centre_of e.item) }
+
+    left : JoinNeed
+    left = record { left = e.item; right = n.right; apart = apart_of s (centre_of e.item) (centre_of n.right) }
+
+    cases : (b : Bool) → (if b then right else left).apart ≡ (if b then apart_of s (centre_of n.left) (Some point) else apart_of s (Some point) (centre_of n.right))
     cases true = ap (apart_of s (centre_of n.left)) is
     cases false = ap (λ (c : Option _). apart_of s c (centre_of n.right)) is
 
@@ -94,14 +98,14 @@ hits_cons j n e es =
 needs_cons : (j : JoinSearch) (n : JoinNeed) (e : Entry) (es : List Entry) → needs_among (pairs_for j n (e ∷ es)) ≡ needs_among (pairs_for j n (e ∷ [])) ++ needs_among (pairs_for j n es)
 needs_cons j n e es = ap needs_among (pairs_cons j n e es) ∙ filter-append is_need (pairs_for j n (e ∷ [])) (pairs_for j n es)
 
-then : {X : Type 0} (a b c xs ys zs : List X) → b ≡ a ++ xs → c ≡ b ++ ys → zs ≡ xs ++ ys → c ≡ a ++ zs
-then a b c xs ys zs one two whole = two ∙ ap (λ (l : List _). l ++ ys) one ∙ append_assoc a xs ys ∙ ap (λ (l : List _). a ++ l) (sym whole)
+onward : {X : Type 0} (a b c xs ys zs : List X) → b ≡ a ++ xs → c ≡ b ++ ys → zs ≡ xs ++ ys → c ≡ a ++ zs
+onward a b c xs ys zs one two whole = two ∙ ap (λ (l : List _). l ++ ys) one ∙ append_assoc a xs ys ∙ ap (λ (l : List _). a ++ l) (sym whole)
 
 takes_cons : (j : JoinSearch) (n : JoinNeed) (e : Entry) (es : List Entry) (a b c : Opening) → TakesEntries j n (e ∷ []) a b → TakesEntries j n es b c → TakesEntries j n (e ∷ es) a c
 takes_cons j n e es a b c one rest = record {
-  marks = then _ _ _ _ _ _ one.marks rest.marks refl;
-  hits = then _ _ _ _ _ _ one.hits rest.hits (hits_cons j n e es);
-  needs = then _ _ _ _ _ _ one.needs rest.needs (needs_cons j n e es);
+  marks = onward _ _ _ _ _ _ one.marks rest.marks refl;
+  hits = onward _ _ _ _ _ _ one.hits rest.hits (hits_cons j n e es);
+  needs = onward _ _ _ _ _ _ one.needs rest.needs (needs_cons j n e es);
 }
 
 -- a loop that has taken the entries up to a place: what takes the others takes all
@@ -144,3 +148,15 @@ counts_both used used2 used3 old mid new one two =
 
 pub counts_none : (used : ℕ) (old : List Mark) → CountsMarks used used old old
 counts_none used old = (0, omega arith, refl)
+
+-- a loop that has taken all entries
+pub takes_all : {X : Type 0} (j : JoinSearch) (n : JoinNeed) (entry : X → Entry) (es : List X) (i : ℕ) (start old : Opening) → length es ≤ i →
+    ((last : Opening) → TakesEntries j n (map entry (drop i es)) old last → TakesEntries j n (map entry es) start last) → TakesEntries j n (map entry es) start old
+takes_all j n entry es i start old high so_far =
+    so_far old (subst (λ (l : List _). TakesEntries j n (map entry l) old old) (sym (nothing_left es i high)) (takes_nothing j n old))
+  where
+    nothing_left : {X : Type 0} (xs : List X) (k : ℕ) → length xs ≤ k → drop k xs ≡ []
+    nothing_left [] zero low = refl
+    nothing_left [] (suc k) low = refl
+    nothing_left (x ∷ xs) zero low = absurd (let e : ⊥ = omega arith in e)
+    nothing_left (x ∷ xs) (suc k) low = nothing_left xs k (omega (arith, low))

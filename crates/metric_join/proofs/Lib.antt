@@ -1,2 +1,3 @@
 pub mod Tours
+pub mod Course
 pub mod Entries

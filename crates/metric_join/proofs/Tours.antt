@@ -66,16 +66,16 @@ whole_opens nodes page room whole = opens whole.pages whole.walk whole.few
 pub whole_below : (nodes : Nodes) (page room : ℕ) (node : Node) → IsWhole nodes page room → nodes page ≡ Some node → AllByRecursion (λ c. IsWhole nodes c (room - 1)) (children node)
 whole_below nodes page room node whole is = below whole.pages whole.walk whole.few
   where
+    nothing : (l : List ℕ) → l ++ [] ≡ l
+    nothing [] = refl
+    nothing (x ∷ xs) = ap (λ (ys : List ℕ). x ∷ ys) (nothing xs)
+
     below : (os : List ℕ) → Tours nodes (page ∷ []) os [] → length os ≤ room → AllByRecursion (λ c. IsWhole nodes c (room - 1)) (children node)
     below [] walk few = absurd (let e : ◌≡◌ {A = List ℕ} [] (page ∷ []) = walk in cc)
     below (o ∷ os) walk few =
         let same = same_some nodes page node walk.0 is walk.1 in
         subst (λ (m : Node). AllByRecursion (λ c. IsWhole nodes c (room - 1)) (children m)) (sym same)
         (each_whole nodes (children walk.0) os (room - 1) (subst (λ (l : List ℕ). Tours nodes l os []) (nothing (children walk.0)) walk.3) (omega (arith, few)))
-
-    nothing : (l : List ℕ) → l ++ [] ≡ l
-    nothing [] = refl
-    nothing (x ∷ xs) = ap (λ (ys : List ℕ). x ∷ ys) (nothing xs)
 
 -- the walk by child numbers as one whose marks are all Near
 
@@ -85,11 +85,11 @@ Any f above node marks = Unit {0}
 abbrev need_pages : List Need → List ℕ
 need_pages ns = map (λ n. n.page) ns
 
-nears : {X : Type 0} → List X → List Mark
+abbrev nears : {X : Type 0} → List X → List Mark
 nears [] = []
 nears (x ∷ xs) = Near ∷ nears xs
 
-nears_of : Node → List Mark
+abbrev nears_of : Node → List Mark
 nears_of (Leaf es) = []
 nears_of (Inner level es) = nears es
 

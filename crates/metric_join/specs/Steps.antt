@@ -118,7 +118,7 @@ record_for w marks = record { right = opens_right w.need; page = page_of (opened
 pub record IsOpenedOn (side side2 other other2 : Shelf) (page room : ℕ) (node : Node) : Type 0 where
   pub is : IsNodeOf side page node
   pub asked : side2.asked ≡ next_count side.asked
-  pub room : 1 ≤ room
+  pub has_room : 1 ≤ room
   pub alone : other2 ≡ other
 
 abbrev pub IsOpened : Shelf → Shelf → Shelf → Shelf → Waiting → Node → Type 0

@@ -40,8 +40,9 @@ pub fn tour<P: Pages>(alloc: Global, pages: &mut P, live: &Live) -> Result<(), P
             return Err(PageFault::Repeats(page));
         }
         let node = pages.node(alloc, page)?;
-        if push_children(&mut stack, &node).is_err() {
-            return Err(PageFault::Memory);
+        match push_children(&mut stack, &node) {
+            Ok(()) => {}
+            Err(_) => return Err(PageFault::Memory),
         }
         opened += 1;
     }
