@@ -1,3 +1,5 @@
 pub mod Tours
 pub mod Course
 pub mod Entries
+pub mod Standing
+pub mod Pairs

@@ -98,11 +98,7 @@ impl JoinWalk {
         })?;
         let mut hits = opening.hits;
         self.hits.append(&mut hits)?;
-        let mut needs = opening.needs;
-        while let Some(need) = needs.pop() {
-            self.stack.push(follow(waiting, need))?;
-        }
-        Ok(())
+        put_on_top(&mut self.stack, waiting, opening.needs)
     }
 }
 
@@ -123,6 +119,21 @@ fn follow(waiting: &Waiting, need: JoinNeed) -> Waiting
             right_room: waiting.right_room,
         }
     }
+}
+
+// Puts the needs of an opened pair on the stack, so that the first of them is on top.
+fn put_on_top(
+    stack: &mut Vec<Waiting>,
+    waiting: &Waiting,
+    needs: Vec<JoinNeed>,
+) -> Result<(), Memory>
+    ensures { OnOk result (reverse stack.new.items ≡ map (following waiting.now) needs.items ++ reverse stack.old.items) }
+{
+    let mut left = needs;
+    while let Some(need) = left.pop() {
+        stack.push(follow(waiting, need))?;
+    }
+    Ok(())
 }
 
 // The node of a page of one side, where its path has room left.
