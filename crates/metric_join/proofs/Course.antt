@@ -10,7 +10,7 @@ use Rattle.page_store.specs.Reading.{Read, nodes_of, node_or_none, IsWithin, is_
 use Rattle.page_store.specs.Shelf.{Shelf, HoldsSame, IsNodeOf, HasPageCause}
 use Rattle.log_model.specs.Counts.{count_up}
 use Rattle.log_model.proofs.Reached.{count_up_more}
-use Rattle.metric_join.specs.Tours.{children, Tours, IsToured, Names}
+use Rattle.metric_join.specs.Tours.{Tours, IsToured, Names, OpensPage}
 use Rattle.metric_join.specs.Joined.{CountsUpTo, HasTourCause}
 use Rattle.metric_join.proofs.Tours.{tours_more}
 
@@ -47,18 +47,17 @@ module _ (live : Live) (old now : Shelf) (opened page : ℕ) (rest stack : List 
       let w = way.walk tells in
       (w.0, subst (λ (l : List ℕ). Tours (nodes_of old.read) (live.root ∷ []) w.0 l) top w.1, w.2)
 
-  pub tour_step : (next : Shelf) (node : Node) (opened2 : ℕ) (stack2 : List ℕ) → opened < live.pages → opened2 ≡ opened + 1 → IsNodeOf now page node → HoldsSame now next → next.asked ≡ next_count now.asked →
-      stack2 ≡ children node ++ rest → IsTouring live old next opened2 stack2
-  tour_step next node opened2 stack2 low more is same asked pushed = record {
+  pub tour_step : (next : Shelf) (opened2 : ℕ) (stack2 : List ℕ) → opened < live.pages → opened2 ≡ opened + 1 → HoldsSame now next → OpensPage now next page rest stack2 → IsTouring live old next opened2 stack2
+  tour_step next opened2 stack2 low more same opens = record {
     holds = same_trans old now next way.holds same;
-    asked = asked ∙ ap next_count way.asked ∙ count_up_more old.asked opened ∙ ap (count_up old.asked) (let e : suc opened ≡ opened2 = omega (arith, more) in e);
+    asked = opens.asked ∙ ap next_count way.asked ∙ count_up_more old.asked opened ∙ ap (count_up old.asked) (let e : suc opened ≡ opened2 = omega (arith, more) in e);
     low = omega (arith, more, low);
     walk = λ tells.
         let w = on_top tells in
         (
           w.0 ++ page ∷ [],
-          subst (λ (l : List ℕ). Tours (nodes_of old.read) (live.root ∷ []) (w.0 ++ page ∷ []) l) (sym pushed)
-              (tours_more (nodes_of old.read) (live.root ∷ []) w.0 page rest node (told_then old now page node way.holds is tells) w.1),
+          subst (λ (l : List ℕ). Tours (nodes_of old.read) (live.root ∷ []) (w.0 ++ page ∷ []) l) (sym opens.pushed)
+              (tours_more (nodes_of old.read) (live.root ∷ []) w.0 page rest opens.node (told_then old now page opens.node way.holds opens.is tells) w.1),
           (let l = length-append w.0 (page ∷ []) in let k = w.2 in omega (arith, more)),
         );
   }

@@ -3,3 +3,5 @@ pub mod Course
 pub mod Entries
 pub mod Standing
 pub mod Pairs
+pub mod Stops
+pub mod Ends

@@ -1,9 +1,11 @@
 -- The walk through a whole tree by child numbers.
 use Rattle.std.specs.Prelude.{◌≡◌, ℕ, ◌<◌, ◌≤◌, List, [], ◌∷◌, ◌++◌, map, length, Some}
+use Rattle.metric_laws.specs.Counts.{next_count}
 use Rattle.tree_shape.specs.declared.live.Live.{Live}
 use Rattle.tree_shape.specs.declared.entry.Node.{Node}
 use Rattle.tree_shape.specs.declared.entry.Node.TheVariants.{Leaf, Inner}
 use Rattle.tree_shape.specs.Tree.{Nodes}
+use Rattle.page_store.specs.Shelf.{Shelf, IsNodeOf}
 
 -- the pages that a node names
 abbrev pub children : Node → List ℕ
@@ -36,3 +38,10 @@ pub record Names (nodes : Nodes) (root opened page : ℕ) : Type 0 where
 -- the same, where it has opened fewer pages than there are
 abbrev pub NamesInside : Nodes → Live → ℕ → Type 0
 NamesInside nodes live page = (opened : ℕ) × (opened < live.pages) × Names nodes live.root opened page
+
+-- a page was asked for once, and the pages that its node names come before those that were left
+pub record OpensPage (old new : Shelf) (page : ℕ) (left after : List ℕ) : Type 0 where
+  pub node : Node
+  pub is : IsNodeOf old page node
+  pub asked : new.asked ≡ next_count old.asked
+  pub pushed : after ≡ children node ++ left

@@ -1,8 +1,8 @@
 // The walk through a whole tree by child numbers.
 ghost use Rattle.std.specs.Prelude.{◌≡◌, ◌++◌, ◌≤◌, IsTrue, IfErr, OnOk, reverse};
 ghost use Rattle.page_store.specs.Reading.{nodes_of};
-ghost use Rattle.page_store.specs.Shelf.{HoldsSame};
-ghost use Rattle.metric_join.specs.Tours.{children, IsToured};
+ghost use Rattle.page_store.specs.Shelf.{HoldsSame, HasPageCause};
+ghost use Rattle.metric_join.specs.Tours.{children, IsToured, OpensPage};
 ghost use Rattle.metric_join.specs.Joined.{CountsUpTo, HasTourCause};
 
 use metric_laws::Memory;
@@ -22,6 +22,25 @@ fn push_children(stack: &mut Vec<u32>, node: &Node) -> Result<(), Memory>
     Ok(())
 }
 
+// Opens a page, and puts the pages that its node names on the stack.
+fn open_page<P: Pages>(
+    alloc: Global,
+    pages: &mut P,
+    page: u32,
+    stack: &mut Vec<u32>,
+) -> Result<(), PageFault>
+    ensures same { HoldsSame (P.shelf pages.old) (P.shelf pages.new) }
+    ensures keeps { P.keeps pages.old pages.new }
+    ensures opened { OnOk result (OpensPage (P.shelf pages.old) (P.shelf pages.new) page (reverse stack.old.items) (reverse stack.new.items)) }
+    ensures cause { IfErr result (HasPageCause (P.shelf pages.old) (P.shelf pages.new) page) }
+{
+    let node = pages.node(alloc, page)?;
+    match push_children(stack, &node) {
+        Ok(()) => Ok(()),
+        Err(_) => Err(PageFault::Memory),
+    }
+}
+
 /// Walks the live tree by child numbers, each page before those that its node names. After as many pages as there are, a
 /// further one is refused unasked.
 pub fn tour<P: Pages>(alloc: Global, pages: &mut P, live: &Live) -> Result<(), PageFault>
@@ -39,11 +58,7 @@ pub fn tour<P: Pages>(alloc: Global, pages: &mut P, live: &Live) -> Result<(), P
         if opened == live.pages {
             return Err(PageFault::Repeats(page));
         }
-        let node = pages.node(alloc, page)?;
-        match push_children(&mut stack, &node) {
-            Ok(()) => {}
-            Err(_) => return Err(PageFault::Memory),
-        }
+        open_page(alloc, pages, page, &mut stack)?;
         opened += 1;
     }
     Ok(())
