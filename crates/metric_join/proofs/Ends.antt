@@ -6,7 +6,7 @@ use Rattle.metric_laws.specs.Space.{Space, IsSpace, bound}
 use Rattle.scan_model.specs.declared.hit.Pair.{Pair}
 use Rattle.scan_model.specs.Join.{join_pairs}
 use Rattle.tree_shape.specs.declared.live.Live.{Live}
-use Rattle.tree_shape.specs.Tree.{IsSoundTree, points_by_id}
+use Rattle.tree_shape.specs.Tree.{Nodes, IsSoundTree, points_by_id}
 use Rattle.page_store.specs.declared.pages.PageFault.{PageFault}
 use Rattle.page_store.specs.declared.pages.PageFault.TheVariants as pages
 use Rattle.page_store.specs.Reading.{Read, nodes_of, node_or_none, IsWithin, is_within}
@@ -23,7 +23,7 @@ use Rattle.log_model.proofs.Reached.{count_up_both}
 use Rattle.log_model.proofs.JoinScan.{join_complete}
 use Rattle.log_model.proofs.JoinLeast.{join_least_sound}
 use Rattle.metric_join.specs.Tours.{IsToured, Names}
-use Rattle.metric_join.specs.Joined.{IsJoinLogOf, IsAsked, CountsUpTo, HasSideCause, HasTourCause, HasJoinCause, IsPassing, opened_on, measured, fault_of}
+use Rattle.metric_join.specs.Joined.{IsJoinLogOf, IsJoined, IsAsked, CountsUpTo, HasSideCause, HasTourCause, HasJoinCause, IsPassing, opened_on, measured, fault_of}
 use Rattle.metric_join.specs.declared.faults.JoinFault.{JoinFault}
 use Rattle.metric_join.specs.declared.faults.JoinFault.TheVariants as join
 use Rattle.metric_join.specs.declared.walking.Waiting.{Waiting}
@@ -65,7 +65,7 @@ module _ (s : Space) (l r : Live) (radius : ℕ) (left0 left1 left2 right0 right
     (way : IsUnderWay (search_within s (min radius bound)) l r left1 left2 right1 right2 used used2 records hits []) (joined : Joined)
     (left : joined.log.left ≡ (l.generation, l.root)) (right : joined.log.right ≡ (r.generation, r.root)) (radius_is : joined.log.r ≡ radius)
     (records_are : joined.log.records ≡ records) (answers : joined.log.answers ≡ in_order pair_before hits) (pairs : joined.pairs ≡ joined.log.answers) where
-  pub log_is : (length joined.log.answers < 2 ^ 64) × (length joined.log.records < 2 ^ 64) → IsJoinLogOf l r radius joined
+  log_is : (length joined.log.answers < 2 ^ 64) × (length joined.log.records < 2 ^ 64) → IsJoinLogOf l r radius joined
   log_is few = record {
     pairs_are = pairs;
     left_is = left;
@@ -79,7 +79,7 @@ module _ (s : Space) (l r : Live) (radius : ℕ) (left0 left1 left2 right0 right
     };
   }
 
-  pub least_is : IsTrue left0.tells → IsTrue right0.tells → IsLeastJoinLog s (nodes_of left0.read) (nodes_of right0.read) l r radius joined.log
+  least_is : IsTrue left0.tells → IsTrue right0.tells → IsLeastJoinLog s (nodes_of left0.read) (nodes_of right0.read) l r radius joined.log
   least_is told_left told_right = (
     radius_is,
     record {
@@ -101,22 +101,33 @@ module _ (s : Space) (l r : Live) (radius : ℕ) (left0 left1 left2 right0 right
           (subst (λ (hs : List Pair). JoinWalksBy JoinLeast (search_within s (min radius bound)) (nodes_of left1.read) (nodes_of right1.read) (root_pair l r ∷ []) (records ++ []) hs) (append-nil hits)
           (way.walk (rw left_same.tells told_left) (rw right_same.tells told_right) [] [] refl))
 
-  pub left_asked_is : CountsUpTo left0.asked left1.asked l.pages → IsAsked l left0 left2 (opened_on false joined.log.records)
+  left_asked_is : CountsUpTo left0.asked left1.asked l.pages → IsAsked l left0 left2 (opened_on false joined.log.records)
   left_asked_is some = (some.0, some.1, rw records_are (way.left_asked ∙ ap (λ (u : ℕ). count_up u (opened_on false records)) some.2 ∙ count_up_both left0.asked some.0 (opened_on false records)))
 
-  pub right_asked_is : CountsUpTo right0.asked right1.asked r.pages → IsAsked r right0 right2 (opened_on true joined.log.records)
+  right_asked_is : CountsUpTo right0.asked right1.asked r.pages → IsAsked r right0 right2 (opened_on true joined.log.records)
   right_asked_is some = (some.0, some.1, rw records_are (way.right_asked ∙ ap (λ (u : ℕ). count_up u (opened_on true records)) some.2 ∙ count_up_both right0.asked some.0 (opened_on true records)))
 
-  pub used_is : CountsUpTo used used2 (measured joined.log.records)
+  used_is : CountsUpTo used used2 (measured joined.log.records)
   used_is = rw records_are way.used_up
 
-  pub scanned_is : IsSpace s → IsTrue left0.tells → IsTrue right0.tells → IsSoundTree s (nodes_of left0.read) l → IsSoundTree s (nodes_of right0.read) r →
-      joined.pairs ≡ join_pairs s (points_by_id (nodes_of left0.read) l) (points_by_id (nodes_of right0.read) r) radius
-  scanned_is axioms told_left told_right left_sound right_sound =
-      pairs
-      ∙ join_complete s (nodes_of left0.read) (nodes_of right0.read) l r joined.log axioms left_sound right_sound
-      (join_least_sound s (nodes_of left0.read) (nodes_of right0.read) l r radius joined.log (least_is told_left told_right))
-      ∙ ap (join_pairs s (points_by_id (nodes_of left0.read) l) (points_by_id (nodes_of right0.read) r)) radius_is
+  pub joined_is : (length joined.log.answers < 2 ^ 64) × (length joined.log.records < 2 ^ 64) → (IsTrue left0.tells → IsToured (nodes_of left0.read) l) → (IsTrue right0.tells → IsToured (nodes_of right0.read) r) →
+      CountsUpTo left0.asked left1.asked l.pages → CountsUpTo right0.asked right1.asked r.pages → IsJoined s l r radius left0 left2 right0 right2 used used2 joined
+  joined_is few left_toured right_toured lefts rights = record {
+    log = log_is few;
+    least = least_is;
+    left_toured = left_toured;
+    right_toured = right_toured;
+    left_asked = left_asked_is lefts;
+    right_asked = right_asked_is rights;
+    distances = used_is;
+  }
+
+-- on sound trees the pairs are those of the double loop
+pub scanned_is : (s : Space) → IsSpace s → (l r : Live) (radius : ℕ) (left right : Nodes) (joined : Joined) → joined.pairs ≡ joined.log.answers → IsLeastJoinLog s left right l r radius joined.log →
+    IsSoundTree s left l → IsSoundTree s right r → joined.pairs ≡ join_pairs s (points_by_id left l) (points_by_id right r) radius
+scanned_is s axioms l r radius left right joined pairs least left_sound right_sound =
+    pairs ∙ join_complete s left right l r joined.log axioms left_sound right_sound (join_least_sound s left right l r radius joined.log least)
+    ∙ ap (join_pairs s (points_by_id left l) (points_by_id right r)) least.0
 
 -- why a join is refused
 

@@ -1,12 +1,10 @@
-ghost use Rattle.std.specs.Prelude.{◌≡◌, ◌≤◌, ◌<◌, ◌^◌, true, false, length, IsTrue, IfOk, IfErr};
+ghost use Rattle.std.specs.Prelude.{◌≡◌, ◌≤◌, ◌<◌, ◌^◌, length, IsTrue, IfOk, IfErr};
 ghost use Rattle.scan_model.specs.Join.{join_pairs};
 ghost use Rattle.tree_shape.specs.Tree.{IsSoundTree, points_by_id};
 ghost use Rattle.page_store.specs.Reading.{nodes_of};
 ghost use Rattle.page_store.specs.Shelf.{HoldsSame};
-ghost use Rattle.log_model.specs.SoundJoin.{IsLeastJoinLog};
 ghost use Rattle.log_model.specs.InOrder.{in_order, pair_before};
-ghost use Rattle.metric_join.specs.Tours.{IsToured};
-ghost use Rattle.metric_join.specs.Joined.{IsJoinLogOf, IsAsked, CountsUpTo, HasJoinCause, IsPassing, opened_on, measured};
+ghost use Rattle.metric_join.specs.Joined.{IsJoined, HasJoinCause, IsPassing};
 
 use crate::JoinFault;
 use crate::faults::fault_of;
@@ -77,23 +75,12 @@ pub fn join<P: Pages, Q: Pages, R: Ruler>(
     ensures right_same { HoldsSame (Q.shelf right.old) (Q.shelf right.new) }
     ensures right_keeps { Q.keeps right.old right.new }
 
-    // The log has a spelling, whatever the pages hold, and it is the least one where they tell what they hold.
-    ensures log { IfOk result (IsJoinLogOf ll.now lr.now r) }
-    ensures least { IfOk result (λ joined. IsTrue (P.shelf left.old).tells → IsTrue (Q.shelf right.old).tells →
-        IsLeastJoinLog (R.M.space (R.metric ruler.old)) (nodes_of (P.shelf left.old).read) (nodes_of (Q.shelf right.old).read) ll.now lr.now r joined.log) }
-    ensures left_toured { IfOk result (λ joined. IsTrue (P.shelf left.old).tells → IsToured (nodes_of (P.shelf left.old).read) ll.now) }
-    ensures right_toured { IfOk result (λ joined. IsTrue (Q.shelf right.old).tells → IsToured (nodes_of (Q.shelf right.old).read) lr.now) }
+    ensures joined { IfOk result (IsJoined (R.M.space (R.metric ruler.old)) ll.now lr.now r (P.shelf left.old) (P.shelf left.new) (Q.shelf right.old) (Q.shelf right.new) (R.used ruler.old) (R.used ruler.new)) }
     // On two sound trees the pairs are those of the double loop over the points.
     ensures scanned { IfOk result (λ joined. IsTrue (P.shelf left.old).tells → IsTrue (Q.shelf right.old).tells →
         IsSoundTree (R.M.space (R.metric ruler.old)) (nodes_of (P.shelf left.old).read) ll.now → IsSoundTree (R.M.space (R.metric ruler.old)) (nodes_of (Q.shelf right.old).read) lr.now →
         joined.pairs ≡ join_pairs (R.M.space (R.metric ruler.old)) (points_by_id (nodes_of (P.shelf left.old).read) ll.now) (points_by_id (nodes_of (Q.shelf right.old).read) lr.now) r) }
 
-    // What it costs.
-    ensures left_asked { IfOk result (λ joined. IsAsked ll.now (P.shelf left.old) (P.shelf left.new) (opened_on false joined.log.records)) }
-    ensures right_asked { IfOk result (λ joined. IsAsked lr.now (Q.shelf right.old) (Q.shelf right.new) (opened_on true joined.log.records)) }
-    ensures used { IfOk result (λ joined. CountsUpTo (R.used ruler.old) (R.used ruler.new) (measured joined.log.records)) }
-
-    // Why it refuses.
     ensures cause { IfErr result (HasJoinCause ll.now lr.now (P.shelf left.old) (P.shelf left.new) (Q.shelf right.old) (Q.shelf right.new)) }
     ensures sound { IfErr result (λ fault. IsTrue (P.shelf left.old).tells → IsTrue (Q.shelf right.old).tells →
         IsSoundTree (R.M.space (R.metric ruler.old)) (nodes_of (P.shelf left.old).read) ll.now → IsSoundTree (R.M.space (R.metric ruler.old)) (nodes_of (Q.shelf right.old).read) lr.now →

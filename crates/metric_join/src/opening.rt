@@ -112,7 +112,7 @@ impl Opening {
 
     // Adds a pair: an answer where both items are objects, else a pair that is needed.
     fn push_pair(&mut self, pair: JoinNeed) -> Result<(), Memory>
-        ensures marks { self.new.marks ≡ self.old.marks }
+        ensures marks { self.new.marks.items ≡ self.old.marks.items }
         ensures hits { OnOk result (self.new.hits.items ≡ self.old.hits.items ++ hits_among (pair ∷ [])) }
         ensures needs { OnOk result (self.new.needs.items ≡ self.old.needs.items ++ needs_among (pair ∷ [])) }
     {
