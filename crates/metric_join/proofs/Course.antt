@@ -53,8 +53,7 @@ module _ (live : Live) (old now : Shelf) (opened page : ℕ) (rest stack : List 
     asked = opens.asked ∙ ap next_count way.asked ∙ count_up_more old.asked opened ∙ ap (count_up old.asked) (let e : suc opened ≡ opened2 = omega (arith, more) in e);
     low = omega (arith, more, low);
     walk = λ tells.
-        let w = on_top tells in
-        (
+        let w = on_top tells in (
           w.0 ++ page ∷ [],
           subst (λ (l : List ℕ). Tours (nodes_of old.read) (live.root ∷ []) (w.0 ++ page ∷ []) l) (sym opens.pushed)
               (tours_more (nodes_of old.read) (live.root ∷ []) w.0 page rest opens.node (told_then old now page opens.node way.holds opens.is tells) w.1),

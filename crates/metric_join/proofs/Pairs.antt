@@ -161,8 +161,7 @@ module _ (j : JoinSearch) (l r : Live) (left1 left left2 right1 right right2 : S
     walks_on told_left told_right rs hs walk =
         subst (λ (ps : List JoinRecord). JoinWalksBy JoinLeast j (nodes_of left1.read) (nodes_of right1.read) (root_pair l r ∷ []) ps ((hits ++ os) ++ hs)) (sym (append_assoc records (made ∷ []) rs))
         (subst (λ (ps : List Pair). JoinWalksBy JoinLeast j (nodes_of left1.read) (nodes_of right1.read) (root_pair l r ∷ []) (records ++ made ∷ rs) ps) (sym (append_assoc hits os hs))
-        (before.walk told_left told_right (made ∷ rs) (os ++ hs)
-        (
+        (before.walk told_left told_right (made ∷ rs) (os ++ hs) (
           node,
           node_is told_left told_right,
           refl,

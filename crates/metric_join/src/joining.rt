@@ -17,13 +17,7 @@ use std::alloc::Global;
 use tree_shape::Live;
 
 // What a walk that is whole answers.
-fn joined_of(
-    alloc: Global,
-    ll: &Live,
-    lr: &Live,
-    r: u64,
-    walk: JoinWalk,
-) -> Result<Joined, Memory>
+fn joined_of(alloc: Global, ll: &Live, lr: &Live, r: u64, walk: JoinWalk) -> Result<Joined, Memory>
     ensures left { IfOk result (λ joined. joined.log.left ≡ (ll.now.generation, ll.now.root)) }
     ensures right { IfOk result (λ joined. joined.log.right ≡ (lr.now.generation, lr.now.root)) }
     ensures radius { IfOk result (λ joined. joined.log.r ≡ r) }

@@ -220,11 +220,7 @@ fn mark_inner<R: Ruler>(
 }
 
 /// Opens the node of a pair's item of greater rank: its least marks, and the pairs that they leave.
-pub fn open_node<R: Ruler>(
-    ruler: &mut R,
-    probe: JoinProbe,
-    node: &Node,
-) -> Result<Opening, Memory>
+pub fn open_node<R: Ruler>(ruler: &mut R, probe: JoinProbe, node: &Node) -> Result<Opening, Memory>
     ensures metric { R.metric ruler.new ≡ R.metric ruler.old }
     ensures counted { IfOk result (λ opening. CountsUpTo (R.used ruler.old) (R.used ruler.new) (measured_by opening.marks.items)) }
     ensures marks { IfOk result (λ opening. opening.marks.items ≡ marks_for (search_within (R.M.space (R.metric ruler.old)) probe.entry.rho) probe.entry.need.now (entries_of node.now)) }
