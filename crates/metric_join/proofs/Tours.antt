@@ -52,7 +52,7 @@ each_whole nodes (c ∷ cs) os most walk few =
     let count = parts.count in
     (record { pages = parts.first; walk = parts.first_walk; few = omega arith }, each_whole nodes cs parts.last most parts.last_walk (omega arith))
 
-same_some : (nodes : Nodes) (page : ℕ) (one other : Node) → nodes page ≡ Some one → nodes page ≡ Some other → one ≡ other
+pub same_some : (nodes : Nodes) (page : ℕ) (one other : Node) → nodes page ≡ Some one → nodes page ≡ Some other → one ≡ other
 same_some nodes page one other is also = let e : Some one ≡ Some other = sym is ∙ also in cc
 
 -- a whole walk opens its first page, and has less room for each that this one names

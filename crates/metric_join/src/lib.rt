@@ -3,6 +3,7 @@
 
 mod faults;
 mod joining;
+pub mod laws;
 mod opening;
 mod pairing;
 mod touring;
