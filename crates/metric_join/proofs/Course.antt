@@ -1,5 +1,5 @@
 -- The steps of the walk through a whole tree.
-use Rattle.std.proofs.Common.{◌≡◌, ◌≢◌, ℕ, zero, suc, ◌+◌, ◌<◌, ◌≤◌, List, [], ◌∷◌, ◌++◌, refl, sym, ap, subst, ◌∙◌, Some, Err, arith, length, length-append, reverse}
+use Rattle.std.proofs.Common.{◌≡◌, ℕ, suc, ◌+◌, ◌<◌, ◌≤◌, List, [], ◌∷◌, ◌++◌, refl, sym, ap, subst, ◌∙◌, Some, Err, arith, length, length-append, reverse}
 use Rattle.std.specs.Prelude.{IsTrue, false}
 use Rattle.metric_laws.specs.Counts.{next_count}
 use Rattle.tree_shape.specs.declared.live.Live.{Live}

@@ -1,6 +1,6 @@
 -- Where the walk of pairs begins, and what a whole one answers.
-use Rattle.std.proofs.Common.{◌≡◌, ℕ, ◌+◌, ◌<◌, ◌≤◌, ◌^◌, Bool, true, false, List, [], ◌∷◌, ◌++◌, refl, sym, ap, subst, ◌∙◌, Some, None, Err, arith, length, min, reverse}
-use Rattle.std.specs.Prelude.{IsTrue, IfErr}
+use Rattle.std.proofs.Common.{◌≡◌, ℕ, ◌+◌, ◌<◌, ◌^◌, Bool, true, false, List, [], ◌∷◌, ◌++◌, refl, sym, ap, subst, ◌∙◌, None, Err, arith, length, min, reverse}
+use Rattle.std.specs.Prelude.{IsTrue}
 use Rattle.std.proofs.lemmas.List.{append-nil}
 use Rattle.metric_laws.specs.Space.{Space, IsSpace, bound}
 use Rattle.scan_model.specs.declared.hit.Pair.{Pair}

@@ -1,8 +1,8 @@
 -- The walk by child numbers has one course.
-use Rattle.std.proofs.Common.{◌≡◌, ℕ, suc, ◌<◌, ◌≤◌, List, [], ◌∷◌, ◌++◌, sym, ap, ◌∙◌, subst, Some, arith, length}
+use Rattle.std.proofs.Common.{◌≡◌, ℕ, ◌<◌, List, [], ◌∷◌, ◌++◌, sym, ◌∙◌, subst, Some, arith, length}
 use Rattle.tree_shape.specs.declared.entry.Node.{Node}
 use Rattle.tree_shape.specs.Tree.{Nodes}
-use Rattle.metric_join.specs.Tours.{children, Tours, IsWhole, Names}
+use Rattle.metric_join.specs.Tours.{children, Tours}
 use Rattle.metric_join.specs.Laws.{TourHasOneCourse}
 use Rattle.metric_join.proofs.Tours.{same_some}
 

@@ -1,6 +1,6 @@
 -- One step of the walk of pairs.
-use Rattle.std.proofs.Common.{◌≡◌, ℕ, zero, suc, ◌+◌, ◌-◌, ◌<◌, ◌≤◌, Bool, true, false, List, [], ◌∷◌, ◌++◌, refl, sym, ap, subst, ◌∙◌, Some, arith, length, map, append_assoc}
-use Rattle.std.specs.Prelude.{IsTrue, filter, if◌then◌else◌}
+use Rattle.std.proofs.Common.{◌≡◌, ℕ, suc, ◌+◌, ◌-◌, ◌<◌, ◌≤◌, Bool, true, false, List, [], ◌∷◌, ◌++◌, refl, sym, ap, subst, ◌∙◌, Some, arith, length, map, append_assoc}
+use Rattle.std.specs.Prelude.{IsTrue, filter}
 use Rattle.std.specs.List.{AllByRecursion}
 use Rattle.std.proofs.lemmas.List.{map-append, length-map}
 use Rattle.metric_laws.specs.Counts.{next_count}
@@ -8,7 +8,6 @@ use Rattle.metric_laws.proofs.Lists.{all_append, all_weaker}
 use Rattle.scan_model.specs.declared.hit.Pair.{Pair}
 use Rattle.tree_shape.specs.declared.live.Live.{Live}
 use Rattle.tree_shape.specs.declared.entry.Node.{Node}
-use Rattle.tree_shape.specs.Tree.{Nodes}
 use Rattle.node_page.specs.Nodes.{IsLawfulNode}
 use Rattle.page_store.specs.Reading.{nodes_of}
 use Rattle.page_store.specs.Shelf.{Shelf, HoldsSame, IsNodeOf}
@@ -21,12 +20,11 @@ use Rattle.log_model.specs.JoinWalk.{JoinSearch, JoinLeast, JoinWalksBy, Entry, 
 use Rattle.log_model.specs.SoundJoin.{root_pair}
 use Rattle.log_model.proofs.JoinNames.{with_side, opened_side}
 use Rattle.log_model.proofs.Reached.{count_up_more, count_up_both}
-use Rattle.metric_join.specs.Tours.{children, IsWhole}
 use Rattle.metric_join.specs.Joined.{is_on, opened_on, measured, CountsUpTo}
 use Rattle.metric_join.specs.declared.walking.Waiting.{Waiting}
-use Rattle.metric_join.specs.Steps.{following, record_for, weight, weight_of, needs_in, hits_among, needs_among, marks_for, pairs_for, IsStanding, IsWaiting, IsOpenedOn, IsOpened, IsUnderWay}
+use Rattle.metric_join.specs.Steps.{following, record_for, weight, weight_of, needs_in, hits_among, needs_among, marks_for, pairs_for, IsStanding, IsWaiting, IsOpened, IsUnderWay}
 use Rattle.metric_join.proofs.Tours.{whole_below}
-use Rattle.metric_join.proofs.Course.{same_trans, same_refl, told_then}
+use Rattle.metric_join.proofs.Course.{same_trans, told_then}
 use Rattle.metric_join.proofs.Standing.{shelf_on, room_on, left_after, right_after, opened_whole, entries_stand, needs_follow, needs_wait, needs_few, entries_few, lighter}
 
 opened_on_more : (side : Bool) (rs : List JoinRecord) (r : JoinRecord) → opened_on side (rs ++ r ∷ []) ≡ opened_on side rs + is_on side r.right

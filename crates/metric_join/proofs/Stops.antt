@@ -1,9 +1,8 @@
 -- Why the walk of pairs stops.
-use Rattle.std.proofs.Common.{◌≡◌, ◌≢◌, ℕ, ◌+◌, ◌<◌, ◌≤◌, Bool, true, false, List, [], ◌∷◌, refl, sym, ap, subst, ◌∙◌, Some, None, Err, arith}
+use Rattle.std.proofs.Common.{◌≡◌, ℕ, ◌+◌, ◌≤◌, Bool, true, false, List, ◌∷◌, refl, sym, ap, subst, ◌∙◌, None, Err, arith}
 use Rattle.std.specs.Prelude.{IsTrue}
 use Rattle.scan_model.specs.declared.hit.Pair.{Pair}
 use Rattle.tree_shape.specs.declared.live.Live.{Live}
-use Rattle.tree_shape.specs.declared.entry.Node.{Node}
 use Rattle.page_store.specs.declared.pages.PageFault.{PageFault}
 use Rattle.page_store.specs.declared.pages.PageFault.TheVariants.{Disk, Bad, Outside, Memory, Repeats, Level}
 use Rattle.page_store.specs.Reading.{Read, nodes_of, node_or_none, IsWithin, is_within}

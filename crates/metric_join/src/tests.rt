@@ -340,36 +340,42 @@ fn disk_of(alloc: Global, bytes: Vec<u8>, stop: Option<u64>) -> Result<MemoryDis
     MemoryDisk::new(alloc, bytes, room, 100, Vec::new(alloc), stop)
 }
 
+// Why a join of three numbers and two on disks is refused, each of which fails from a call on.
+fn refusal(
+    rt: &impl Abort,
+    alloc: Global,
+    left_stop: Option<u64>,
+    right_stop: Option<u64>,
+) -> Result<Option<JoinFault>, Memory> {
+    let tree = live(1, 3, 0, 4);
+    let left_bytes = one_leaf(alloc, &[0, 5, 9])?;
+    let right_bytes = one_leaf(alloc, &[4, 9])?;
+    let mut left = disk_of(alloc, left_bytes, left_stop)?;
+    let mut right = disk_of(alloc, right_bytes, right_stop)?;
+    let mut one = DiskPages::new(&mut left, 1, 4);
+    let mut other = DiskPages::new(&mut right, 1, 4);
+    let mut ruler = Meter::new(L1::new(1));
+    assert!(rt; tree.height <= 14);
+    let joined = join(alloc, &mut one, &mut other, &mut ruler, &tree, &tree, 1);
+    Ok(joined.err())
+}
+
 // The first walk reads one page of each side. Then the walk of pairs reads one left page, and the right one for each object.
 #[test]
-fn a_disk_that_fails(rt: HostRuntime) -> Result<(), Fail> {
-    let tree = live(1, 3, 0, 4);
+fn a_disk_that_fails(rt: HostRuntime) -> Result<(), Memory> {
+    let left = Some(JoinFault::Left(PageFault::Disk));
+    let right = Some(JoinFault::Right(PageFault::Disk));
     let stops = [
-        (Some(0u64), None, Some(JoinFault::Left(PageFault::Disk))),
-        (None, Some(0u64), Some(JoinFault::Right(PageFault::Disk))),
-        (Some(1), None, Some(JoinFault::Left(PageFault::Disk))),
-        (None, Some(1), Some(JoinFault::Right(PageFault::Disk))),
-        (None, Some(3), Some(JoinFault::Right(PageFault::Disk))),
+        (Some(0u64), None, left),
+        (None, Some(0u64), right),
+        (Some(1), None, left),
+        (None, Some(1), right),
+        (None, Some(3), right),
         (Some(2), Some(4), None),
     ];
     for (left_stop, right_stop, fault) in &stops {
-        let left_bytes = one_leaf(rt.alloc(), &[0, 5, 9])?;
-        let right_bytes = one_leaf(rt.alloc(), &[4, 9])?;
-        let mut left = disk_of(rt.alloc(), left_bytes, *left_stop)?;
-        let mut right = disk_of(rt.alloc(), right_bytes, *right_stop)?;
-        let mut one = DiskPages::new(&mut left, 1, 4);
-        let mut other = DiskPages::new(&mut right, 1, 4);
-        let mut ruler = Meter::new(L1::new(1));
-        let joined = join(
-            rt.alloc(),
-            &mut one,
-            &mut other,
-            &mut ruler,
-            &tree,
-            &tree,
-            1,
-        );
-        assert_eq!(rt; joined.err(), *fault);
+        let found = refusal(&rt, rt.alloc(), *left_stop, *right_stop)?;
+        assert_eq!(rt; found, *fault);
     }
     Ok(())
 }

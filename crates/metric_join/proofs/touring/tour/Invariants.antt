@@ -1,4 +1,4 @@
-use Rattle.std.proofs.Common.{◌≡◌, ◌-◌, reverse}
+use Rattle.std.proofs.Common.{◌-◌, reverse}
 use Rattle.metric_join.proofs.Course.{IsTouring}
 use Rattle.metric_join.proofs.touring.tour.Given as goal
 

@@ -1,7 +1,6 @@
-use Rattle.std.proofs.Common.{◌++◌, reverse, sym, subst, List, ◌<◌, ◌+◌, map}
+use Rattle.std.proofs.Common.{reverse}
 use Rattle.metric_join.proofs.Pairs.{goes_on, lighter_now}
-use Rattle.metric_join.specs.Steps.{search_within, IsUnderWay, weight, weight_of, following}
-use Rattle.metric_join.specs.declared.walking.Waiting.{Waiting}
+use Rattle.metric_join.specs.Steps.{search_within}
 use Rattle.metric_join.proofs.walking.open_pair.Goals as goal
 
 pub returns-clause-on : goal.returns-clause-on
