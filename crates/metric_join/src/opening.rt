@@ -152,7 +152,7 @@ fn mark_object<R: Ruler>(
     Ok(())
 }
 
-// Marks a subtree whose root has this level at most, and adds its pair where it is marked Near.
+// Marks a subtree that an inner node of this level names, and adds its pair where it is marked Near.
 fn mark_subtree<R: Ruler>(
     ruler: &mut R,
     probe: JoinProbe,

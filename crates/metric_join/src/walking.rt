@@ -213,7 +213,7 @@ fn open_pair<P: Pages, Q: Pages, R: Ruler>(
     Ok(())
 }
 
-/// Walks on until no pair waits. The first walks of both trees were whole.
+/// Walks on until no pair waits, or a page gives no node.
 pub fn walk_pairs<P: Pages, Q: Pages, R: Ruler>(
     alloc: Global,
     left: &mut P,
