@@ -13,7 +13,7 @@ use Rattle.page_store.specs.Reading.{Read, nodes_of, node_or_none, IsWithin, is_
 use Rattle.page_store.specs.Shelf.{Shelf, HoldsSame}
 use Rattle.log_model.specs.declared.logs.Joined.{Joined}
 use Rattle.log_model.specs.declared.marks.JoinRecord.{JoinRecord}
-use Rattle.log_model.specs.Counts.{count_up}
+use Rattle.log_model.specs.Counts.{count_up, CountsUpTo}
 use Rattle.log_model.specs.InOrder.{in_order, pair_before}
 use Rattle.log_model.specs.JoinWalk.{JoinSearch, JoinLeast, JoinWalksBy}
 use Rattle.log_model.specs.SoundJoin.{root_pair, IsLeastJoinLog}
@@ -22,12 +22,13 @@ use Rattle.log_model.proofs.Orders.{pair_order, ascending_pairs}
 use Rattle.log_model.proofs.Reached.{count_up_both}
 use Rattle.log_model.proofs.JoinScan.{join_complete}
 use Rattle.log_model.proofs.JoinLeast.{join_least_sound}
+use Rattle.log_model.specs.JoinSteps.{search_within}
 use Rattle.metric_join.specs.Tours.{IsToured, Names}
-use Rattle.metric_join.specs.Joined.{IsJoinLogOf, IsJoined, IsWalked, CountsUpTo, HasSideCause, HasTourCause, HasJoinCause, IsPassing, opened_on, measured, fault_of}
+use Rattle.metric_join.specs.Joined.{IsJoinLogOf, IsJoined, IsWalked, HasSideCause, HasTourCause, HasJoinCause, IsPassing, opened_on, measured, fault_of}
 use Rattle.metric_join.specs.declared.faults.JoinFault.{JoinFault}
 use Rattle.metric_join.specs.declared.faults.JoinFault.TheVariants as join
 use Rattle.metric_join.specs.declared.walking.Waiting.{Waiting}
-use Rattle.metric_join.specs.Steps.{search_within, IsUnderWay, HasSideStop, HasWalkCause}
+use Rattle.metric_join.specs.Steps.{IsUnderWay, HasSideStop, HasWalkCause}
 use Rattle.metric_join.proofs.Tours.{sound_names}
 use Rattle.metric_join.proofs.Course.{same_refl, toured_of}
 

@@ -10,7 +10,7 @@ use Rattle.page_store.specs.Reading.{IsWithin, is_within, nodes_of}
 use Rattle.page_store.specs.Shelf.{Shelf}
 use Rattle.log_model.specs.declared.logs.Joined.{Joined}
 use Rattle.log_model.specs.declared.marks.JoinRecord.{JoinRecord}
-use Rattle.log_model.specs.Counts.{count_up, measured_by}
+use Rattle.log_model.specs.Counts.{count_up, measured_by, CountsUpTo}
 use Rattle.log_model.specs.Grammar.{IsLawfulJoinLog}
 use Rattle.log_model.specs.SoundJoin.{IsLeastJoinLog}
 use Rattle.metric_join.specs.Tours.{Tours, IsToured, Names, NamesInside}
@@ -39,10 +39,6 @@ opened_on side (r ∷ rs) = is_on side r.right + opened_on side rs
 abbrev pub measured : List JoinRecord → ℕ
 measured [] = 0
 measured (r ∷ rs) = measured_by r.marks + measured rs
-
--- a count rose by one so many times, at most as often as is said
-abbrev pub CountsUpTo : ℕ → ℕ → ℕ → Type 0
-CountsUpTo old new most = (n : ℕ) × (n ≤ most) × (new ≡ count_up old n)
 
 -- the walk of the live tree by child numbers was whole and opened no more pages than there are; the side was asked for each
 -- of them once, and so many times after that

@@ -1,8 +1,9 @@
 use Rattle.std.proofs.Common.{true, false, subst, ℕ, []}
 use Rattle.std.proofs.lemmas.Result.{err_from_is_err_and}
 use Rattle.page_store.specs.Reading.{nodes_of}
+use Rattle.log_model.specs.JoinSteps.{search_within}
 use Rattle.metric_join.specs.Joined.{fault_of as join_fault_of}
-use Rattle.metric_join.specs.Steps.{search_within, IsUnderWay}
+use Rattle.metric_join.specs.Steps.{IsUnderWay}
 use Rattle.metric_join.proofs.Ends.{walk_begins, joined_is, scanned_is, left_refused, right_refused, walk_refused, passes}
 use Rattle.metric_join.proofs.joining.join.Goals as goal
 
