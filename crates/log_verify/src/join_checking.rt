@@ -4,9 +4,9 @@ ghost use Rattle.log_model.specs.declared.marks.Mark.TheVariants.{Near};
 ghost use Rattle.log_model.specs.declared.pairs.JoinNeed.{JoinNeed};
 ghost use Rattle.log_model.specs.Walk.{near_ones};
 ghost use Rattle.log_model.specs.JoinWalk.{allows_entry, object_entry, subtree_entry, join_hits, join_needs, within_apart};
+ghost use Rattle.log_model.specs.JoinSteps.{search_within, hits_among, needs_among, paired};
 ghost use Rattle.log_verify.specs.Judged.{entry_count};
 ghost use Rattle.log_verify.specs.JoinJudged.{join_wrong_in};
-ghost use Rattle.log_model.specs.JoinSteps.{search_within, hits_among, needs_among, paired};
 ghost use Rattle.log_verify.specs.JoinSteps.{object_pair, subtree_pair};
 
 use log_model::{Item, JoinNeed, Mark, Memory, is_far, is_skipped};

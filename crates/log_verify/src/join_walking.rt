@@ -4,9 +4,9 @@ ghost use Rattle.page_store.specs.Shelf.{HoldsSame};
 ghost use Rattle.log_model.specs.declared.marks.JoinRecord.{JoinRecord};
 ghost use Rattle.log_model.specs.JoinWalk.{opens_right, opened, page_of};
 ghost use Rattle.log_model.specs.SoundJoin.{root_item, root_pair};
+ghost use Rattle.log_model.specs.JoinSteps.{search_within};
 ghost use Rattle.log_verify.specs.Judged.{entry_count};
 ghost use Rattle.log_verify.specs.JoinJudged.{is_of, read_of, join_walked};
-ghost use Rattle.log_model.specs.JoinSteps.{search_within};
 ghost use Rattle.log_verify.specs.Causes.{IsNodeFault, verdict_of, IsJoinPageVerdict, HasJoinCause};
 
 use crate::JoinVerdict;
