@@ -1,7 +1,6 @@
 -- The steps of the join's walk.
-use Rattle.std.specs.Prelude.{◌≡◌, ◌≢◌, ℕ, ◌+◌, ◌-◌, ◌^◌, ◌≤◌, true, false, List, [], ◌∷◌, ◌++◌, map, filter, length, Option, Some, IsTrue, if◌then◌else◌}
+use Rattle.std.specs.Prelude.{◌≡◌, ◌≢◌, ℕ, ◌+◌, ◌-◌, ◌^◌, ◌≤◌, true, false, List, [], ◌∷◌, ◌++◌, map, length, IsTrue, if◌then◌else◌}
 use Rattle.std.specs.List.{AllByRecursion}
-use Rattle.metric_laws.specs.Space.{Space}
 use Rattle.metric_laws.specs.Counts.{next_count}
 use Rattle.scan_model.specs.declared.hit.Pair.{Pair}
 use Rattle.tree_shape.specs.declared.live.Live.{Live}
@@ -20,7 +19,7 @@ use Rattle.log_model.specs.declared.pairs.Item.TheVariants.{Subtree, Object}
 use Rattle.log_model.specs.declared.pairs.JoinNeed.{JoinNeed}
 use Rattle.log_model.specs.Counts.{count_up, measured_by, CountsUpTo}
 use Rattle.log_model.specs.Walk.{near_ones}
-use Rattle.log_model.specs.JoinWalk.{JoinSearch, JoinLeast, JoinWalksBy, Entry, centre_of, apart_of, radius_of, page_of, opens_right, opened, other, with_entry, far_apart, far_stored, is_hit, is_need, pair_of, least_for_entry}
+use Rattle.log_model.specs.JoinWalk.{JoinSearch, JoinLeast, JoinWalksBy, Entry, radius_of, page_of, opens_right, opened, other, with_entry, far_apart, far_stored, is_need, least_for_entry}
 use Rattle.log_model.specs.JoinSteps.{apart_from, hits_among, needs_among}
 use Rattle.log_model.specs.SoundJoin.{root_pair}
 use Rattle.metric_join.specs.Tours.{IsWhole}
