@@ -1,0 +1,220 @@
+-- Where the walk of pairs begins, and what a whole one answers.
+use Rattle.std.proofs.Common.{◌≡◌, ℕ, ◌+◌, ◌<◌, ◌^◌, Bool, true, false, List, [], ◌∷◌, ◌++◌, refl, sym, ap, subst, ◌∙◌, None, Err, arith, length, min, reverse}
+use Rattle.std.specs.Prelude.{IsTrue}
+use Rattle.std.proofs.lemmas.List.{append-nil}
+use Rattle.metric_laws.specs.Space.{Space, IsSpace, bound}
+use Rattle.scan_model.specs.declared.hit.Pair.{Pair}
+use Rattle.scan_model.specs.Join.{join_pairs}
+use Rattle.tree_shape.specs.declared.live.Live.{Live}
+use Rattle.tree_shape.specs.Tree.{Nodes, IsSoundTree, points_by_id}
+use Rattle.page_store.specs.declared.pages.PageFault.{PageFault}
+use Rattle.page_store.specs.declared.pages.PageFault.TheVariants as pages
+use Rattle.page_store.specs.Reading.{Read, nodes_of, node_or_none, IsWithin, is_within}
+use Rattle.page_store.specs.Shelf.{Shelf, HoldsSame}
+use Rattle.log_model.specs.declared.logs.Joined.{Joined}
+use Rattle.log_model.specs.declared.marks.JoinRecord.{JoinRecord}
+use Rattle.log_model.specs.Counts.{count_up}
+use Rattle.log_model.specs.InOrder.{in_order, pair_before}
+use Rattle.log_model.specs.JoinWalk.{JoinSearch, JoinLeast, JoinWalksBy}
+use Rattle.log_model.specs.SoundJoin.{root_pair, IsLeastJoinLog}
+use Rattle.log_model.proofs.Order.{rising-in_order}
+use Rattle.log_model.proofs.Orders.{pair_order, ascending_pairs}
+use Rattle.log_model.proofs.Reached.{count_up_both}
+use Rattle.log_model.proofs.JoinScan.{join_complete}
+use Rattle.log_model.proofs.JoinLeast.{join_least_sound}
+use Rattle.metric_join.specs.Tours.{IsToured, Names}
+use Rattle.metric_join.specs.Joined.{IsJoinLogOf, IsJoined, IsAsked, CountsUpTo, HasSideCause, HasTourCause, HasJoinCause, IsPassing, opened_on, measured, fault_of}
+use Rattle.metric_join.specs.declared.faults.JoinFault.{JoinFault}
+use Rattle.metric_join.specs.declared.faults.JoinFault.TheVariants as join
+use Rattle.metric_join.specs.declared.walking.Waiting.{Waiting}
+use Rattle.metric_join.specs.Steps.{search_within, IsUnderWay, HasSideStop, HasWalkCause}
+use Rattle.metric_join.proofs.Tours.{sound_names}
+use Rattle.metric_join.proofs.Course.{same_refl}
+
+-- pages that hold the same tell the same
+toured_then : (live : Live) (old now : Shelf) → HoldsSame old now → (IsTrue old.tells → IsToured (nodes_of old.read) live) → IsTrue now.tells → IsToured (nodes_of now.read) live
+toured_then live old now holds toured tells =
+    subst (λ (read : Read). IsToured (nodes_of read) live) (sym holds.read) (toured (subst (λ (b : Bool). IsTrue b) holds.tells tells))
+
+pub walk_begins : (j : JoinSearch) (l r : Live) (left0 left right0 right : Shelf) (used : ℕ) (records : List JoinRecord) (hits : List Pair) (stack : List Waiting) →
+    HoldsSame left0 left → HoldsSame right0 right → (IsTrue left0.tells → IsToured (nodes_of left0.read) l) → (IsTrue right0.tells → IsToured (nodes_of right0.read) r) →
+    records ≡ [] → hits ≡ [] → stack ≡ (record { need = root_pair l r; left_room = l.pages; right_room = r.pages }) ∷ [] →
+    IsUnderWay j l r left left right right used used records hits (reverse stack)
+walk_begins j l r left0 left right0 right used records hits stack left_same right_same left_toured right_toured none no_hits one = rw (none, no_hits, one) (record {
+  left_holds = same_refl left;
+  right_holds = same_refl right;
+  left_asked = refl;
+  right_asked = refl;
+  used_up = (0, omega arith, refl);
+  few_marks = tt;
+  waits = (
+    record {
+      need = refl;
+      left_stands = ((omega arith), toured_then l left0 left left_same left_toured);
+      right_stands = ((omega arith), toured_then r right0 right right_same right_toured);
+      left_room = omega arith;
+      right_room = omega arith;
+    },
+    tt,
+  );
+  walk = λ told_left told_right rs hs walk. walk;
+})
+
+module _ (s : Space) (l r : Live) (radius : ℕ) (left0 left1 left2 right0 right1 right2 : Shelf) (used used2 : ℕ) (records : List JoinRecord) (hits : List Pair)
+    (left_same : HoldsSame left0 left1) (right_same : HoldsSame right0 right1)
+    (way : IsUnderWay (search_within s (min radius bound)) l r left1 left2 right1 right2 used used2 records hits []) (joined : Joined)
+    (left : joined.log.left ≡ (l.generation, l.root)) (right : joined.log.right ≡ (r.generation, r.root)) (radius_is : joined.log.r ≡ radius)
+    (records_are : joined.log.records ≡ records) (answers : joined.log.answers ≡ in_order pair_before hits) (pairs : joined.pairs ≡ joined.log.answers) where
+  log_is : (length joined.log.answers < 2 ^ 64) × (length joined.log.records < 2 ^ 64) → IsJoinLogOf l r radius joined
+  log_is few = record {
+    pairs_are = pairs;
+    left_is = left;
+    right_is = right;
+    radius_is = radius_is;
+    lawful = record {
+      answers_ascend = rw answers (ascending_pairs (in_order pair_before hits) (rising-in_order pair_before pair_order hits));
+      few_answers = few.0;
+      few_records = few.1;
+      few_marks = rw records_are way.few_marks;
+    };
+  }
+
+  least_is : IsTrue left0.tells → IsTrue right0.tells → IsLeastJoinLog s (nodes_of left0.read) (nodes_of right0.read) l r radius joined.log
+  least_is told_left told_right = (
+    radius_is,
+    record {
+      left_generation_is = ap (λ (p : ℕ × ℕ). p.0) left;
+      left_root_is = ap (λ (p : ℕ × ℕ). p.1) left;
+      right_generation_is = ap (λ (p : ℕ × ℕ). p.0) right;
+      right_root_is = ap (λ (p : ℕ × ℕ). p.1) right;
+      hits = hits;
+      walk = rw (radius_is, records_are)
+          (subst (λ (read : Read). JoinWalksBy JoinLeast (search_within s (min radius bound)) (nodes_of read) (nodes_of right0.read) (root_pair l r ∷ []) records hits) left_same.read
+          (subst (λ (read : Read). JoinWalksBy JoinLeast (search_within s (min radius bound)) (nodes_of left1.read) (nodes_of read) (root_pair l r ∷ []) records hits) right_same.read whole));
+      answers_are = answers;
+    },
+  )
+    where
+      whole : JoinWalksBy JoinLeast (search_within s (min radius bound)) (nodes_of left1.read) (nodes_of right1.read) (root_pair l r ∷ []) records hits
+      whole =
+          subst (λ (rs : List JoinRecord). JoinWalksBy JoinLeast (search_within s (min radius bound)) (nodes_of left1.read) (nodes_of right1.read) (root_pair l r ∷ []) rs hits) (append-nil records)
+          (subst (λ (hs : List Pair). JoinWalksBy JoinLeast (search_within s (min radius bound)) (nodes_of left1.read) (nodes_of right1.read) (root_pair l r ∷ []) (records ++ []) hs) (append-nil hits)
+          (way.walk (rw left_same.tells told_left) (rw right_same.tells told_right) [] [] refl))
+
+  left_asked_is : CountsUpTo left0.asked left1.asked l.pages → IsAsked l left0 left2 (opened_on false joined.log.records)
+  left_asked_is some = (some.0, some.1, rw records_are (way.left_asked ∙ ap (λ (u : ℕ). count_up u (opened_on false records)) some.2 ∙ count_up_both left0.asked some.0 (opened_on false records)))
+
+  right_asked_is : CountsUpTo right0.asked right1.asked r.pages → IsAsked r right0 right2 (opened_on true joined.log.records)
+  right_asked_is some = (some.0, some.1, rw records_are (way.right_asked ∙ ap (λ (u : ℕ). count_up u (opened_on true records)) some.2 ∙ count_up_both right0.asked some.0 (opened_on true records)))
+
+  used_is : CountsUpTo used used2 (measured joined.log.records)
+  used_is = rw records_are way.used_up
+
+  pub joined_is : (length joined.log.answers < 2 ^ 64) × (length joined.log.records < 2 ^ 64) → (IsTrue left0.tells → IsToured (nodes_of left0.read) l) → (IsTrue right0.tells → IsToured (nodes_of right0.read) r) →
+      CountsUpTo left0.asked left1.asked l.pages → CountsUpTo right0.asked right1.asked r.pages → IsJoined s l r radius left0 left2 right0 right2 used used2 joined
+  joined_is few left_toured right_toured lefts rights = record {
+    log = log_is few;
+    least = least_is;
+    left_toured = left_toured;
+    right_toured = right_toured;
+    left_asked = left_asked_is lefts;
+    right_asked = right_asked_is rights;
+    distances = used_is;
+  }
+
+-- on sound trees the pairs are those of the double loop
+pub scanned_is : (s : Space) → IsSpace s → (l r : Live) (radius : ℕ) (left right : Nodes) (joined : Joined) → joined.pairs ≡ joined.log.answers → IsLeastJoinLog s left right l r radius joined.log →
+    IsSoundTree s left l → IsSoundTree s right r → joined.pairs ≡ join_pairs s (points_by_id left l) (points_by_id right r) radius
+scanned_is s axioms l r radius left right joined pairs least left_sound right_sound =
+    pairs ∙ join_complete s left right l r joined.log axioms left_sound right_sound (join_least_sound s left right l r radius joined.log least)
+    ∙ ap (join_pairs s (points_by_id left l) (points_by_id right r)) least.0
+
+-- why a join is refused
+
+-- the first walk of the left tree is refused
+pub left_refused : (l r : Live) (left0 left1 right : Shelf) (fault : PageFault) → HasTourCause l left0 left1 fault → HasJoinCause l r left0 left1 right right (fault_of false fault)
+left_refused l r left0 left1 right pages.Disk cause = cause
+left_refused l r left0 left1 right (pages.Bad p f) cause = cause
+left_refused l r left0 left1 right (pages.Outside p) cause = cause
+left_refused l r left0 left1 right pages.Memory cause = tt
+left_refused l r left0 left1 right (pages.Repeats p) cause = cause
+left_refused l r left0 left1 right (pages.Level p) cause = cause
+
+-- the first walk of the right tree is refused
+pub right_refused : (l r : Live) (left0 left1 right0 right1 : Shelf) (fault : PageFault) → (IsTrue left0.tells → IsToured (nodes_of left0.read) l) → HasTourCause r right0 right1 fault →
+    HasJoinCause l r left0 left1 right0 right1 (fault_of true fault)
+right_refused l r left0 left1 right0 right1 pages.Disk toured cause = (cause, toured)
+right_refused l r left0 left1 right0 right1 (pages.Bad p f) toured cause = (cause, toured)
+right_refused l r left0 left1 right0 right1 (pages.Outside p) toured cause = (cause, toured)
+right_refused l r left0 left1 right0 right1 pages.Memory toured cause = tt
+right_refused l r left0 left1 right0 right1 (pages.Repeats p) toured cause = (cause, toured)
+right_refused l r left0 left1 right0 right1 (pages.Level p) toured cause = (cause, toured)
+
+-- the walk of pairs is refused
+side_refused : (live : Live) (old mid new : Shelf) (fault : PageFault) → HoldsSame old mid → CountsUpTo old.asked mid.asked live.pages → HasSideStop live mid new fault → HasSideCause live old new fault
+side_refused live old mid new pages.Disk holds some stop = (let l = holds.faults in let c = stop in omega arith)
+side_refused live old mid new (pages.Bad p f) holds some stop = (stop.0, subst (λ (n : ℕ). IsWithin n p) holds.pages stop.1, λ tells. absurd (stop.2 (rw holds.tells tells)))
+side_refused live old mid new (pages.Outside p) holds some stop = (subst (λ (n : ℕ). is_within n p ≡ false) holds.pages stop.0, λ tells. absurd (stop.1 (rw holds.tells tells)))
+side_refused live old mid new pages.Memory holds some stop = absurd stop
+side_refused live old mid new (pages.Repeats p) holds some stop =
+    let asked = stop.0 in (
+      (some.0 + asked.0, (let most = asked.1 in omega (arith, most)), asked.2 ∙ ap (λ (u : ℕ). count_up u asked.0) some.2 ∙ count_up_both old.asked some.0 asked.0),
+      λ tells. absurd (stop.1 (rw holds.tells tells)),
+    )
+side_refused live old mid new (pages.Level p) holds some stop = absurd stop
+
+pub walk_refused : (l r : Live) (left0 left1 left2 right0 right1 right2 : Shelf) (fault : JoinFault) → HoldsSame left0 left1 → HoldsSame right0 right1 →
+    CountsUpTo left0.asked left1.asked l.pages → CountsUpTo right0.asked right1.asked r.pages → (IsTrue left0.tells → IsToured (nodes_of left0.read) l) →
+    HasWalkCause l r left1 left2 right1 right2 fault → HasJoinCause l r left0 left2 right0 right2 fault
+walk_refused l r left0 left1 left2 right0 right1 right2 join.Memory left_same right_same lefts rights toured cause = tt
+walk_refused l r left0 left1 left2 right0 right1 right2 (join.Left fault) left_same right_same lefts rights toured cause = side_refused l left0 left1 left2 fault left_same lefts cause
+walk_refused l r left0 left1 left2 right0 right1 right2 (join.Right fault) left_same right_same lefts rights toured cause = (side_refused r right0 right1 right2 fault right_same rights cause, toured)
+
+-- on sound trees nothing but a passing fault is refused
+
+no_node : (s : Space) (live : Live) (old : Shelf) (page opened : ℕ) (fault : PageFault) → old.read page ≡ Err fault → Names (nodes_of old.read) live.root opened page → IsSoundTree s (nodes_of old.read) live → ⊥
+no_node s live old page opened fault is named sound =
+    let there = (sound_names s (nodes_of old.read) live opened page sound named).1 in
+    let some = there.1 in
+    let none : nodes_of old.read page ≡ None = ap node_or_none is in
+    cc
+
+abbrev PassesSide : PageFault → Type 0
+PassesSide pages.Disk = Unit {0}
+PassesSide _ = ⊥
+
+side_passes : (s : Space) (live : Live) (old new : Shelf) (fault : PageFault) → HasSideCause live old new fault → IsTrue old.tells → IsSoundTree s (nodes_of old.read) live → PassesSide fault
+side_passes s live old new pages.Disk cause tells sound = tt
+side_passes s live old new (pages.Bad p f) cause tells sound =
+    let why = cause.2 tells in
+    absurd (no_node s live old p why.1.0 (pages.Bad p f) why.0 why.1.2 sound)
+side_passes s live old new (pages.Outside p) cause tells sound =
+    let why = cause.1 tells in
+    absurd (no_node s live old p why.1.0 (pages.Outside p) why.0 why.1.2 sound)
+side_passes s live old new pages.Memory cause tells sound = absurd cause
+side_passes s live old new (pages.Repeats p) cause tells sound =
+    let low = (sound_names s (nodes_of old.read) live live.pages p sound (cause.1 tells)).0 in
+    absurd (omega (arith, low))
+side_passes s live old new (pages.Level p) cause tells sound = absurd cause
+
+pub passes : (s : Space) (l r : Live) (left left2 right right2 : Shelf) (fault : JoinFault) → HasJoinCause l r left left2 right right2 fault → IsTrue left.tells → IsTrue right.tells →
+    IsSoundTree s (nodes_of left.read) l → IsSoundTree s (nodes_of right.read) r → IsPassing fault
+passes s l r left left2 right right2 join.Memory cause told_left told_right left_sound right_sound = tt
+passes s l r left left2 right right2 (join.Left fault) cause told_left told_right left_sound right_sound = cases fault (side_passes s l left left2 fault cause told_left left_sound)
+  where
+    cases : (f : PageFault) → PassesSide f → IsPassing (join.Left f)
+    cases pages.Disk p = tt
+    cases (pages.Bad q f) p = absurd p
+    cases (pages.Outside q) p = absurd p
+    cases pages.Memory p = absurd p
+    cases (pages.Repeats q) p = absurd p
+    cases (pages.Level q) p = absurd p
+passes s l r left left2 right right2 (join.Right fault) cause told_left told_right left_sound right_sound = cases fault (side_passes s r right right2 fault cause.0 told_right right_sound)
+  where
+    cases : (f : PageFault) → PassesSide f → IsPassing (join.Right f)
+    cases pages.Disk p = tt
+    cases (pages.Bad q f) p = absurd p
+    cases (pages.Outside q) p = absurd p
+    cases pages.Memory p = absurd p
+    cases (pages.Repeats q) p = absurd p
+    cases (pages.Level q) p = absurd p

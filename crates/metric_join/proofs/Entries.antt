@@ -1,0 +1,161 @@
+-- The entries of an opened node, one after the other.
+use Rattle.std.proofs.Common.{◌≡◌, ◌≢◌, ℕ, zero, suc, ◌+◌, ◌<◌, ◌≤◌, Bool, true, false, Option, Some, List, [], ◌∷◌, ◌++◌, map, drop, get_or, length, refl, sym, ap, ◌∙◌, append_assoc, drop-cons, arith, subst}
+use Rattle.std.specs.Prelude.{if◌then◌else◌, filter}
+use Rattle.std.proofs.lemmas.List.{map-append}
+use Rattle.std.proofs.lemmas.List.Elements.{filter-append}
+use Rattle.metric_laws.specs.Space.{Space}
+use Rattle.log_model.specs.declared.marks.Mark.{Mark}
+use Rattle.log_model.specs.declared.marks.Mark.TheVariants.{Skip, Far, Near}
+use Rattle.log_model.specs.declared.pairs.JoinNeed.{JoinNeed}
+use Rattle.log_model.specs.Counts.{count_up, measured_by}
+use Rattle.log_model.specs.Walk.{near_ones}
+use Rattle.log_model.specs.JoinWalk.{JoinSearch, Entry, opens_right, apart_of, centre_of, radius_of, with_entry, is_hit, is_need, pair_of, least_for_entry}
+use Rattle.log_model.proofs.Reached.{count_up_both}
+use Rattle.metric_join.specs.declared.opening.Opening.{Opening}
+use Rattle.metric_join.specs.Steps.{apart_from, least_at, paired, hits_among, needs_among, marks_for, pairs_for, TakesEntries, CountsMarks}
+
+-- an entry is as far from the other item as its point is
+apart_same : (s : Space) (n : JoinNeed) (e : Entry) (point : List ℕ) → centre_of e.item ≡ Some point → (with_entry s n e).apart ≡ apart_from s n point
+apart_same s n e point is = cases (opens_right n)
+  where
+    right : JoinNeed
+    right = record { left = n.left; right = e.item; apart = apart_of s (centre_of n.left) (centre_of e.item) }
+
+    left : JoinNeed
+    left = record { left = e.item; right = n.right; apart = apart_of s (centre_of e.item) (centre_of n.right) }
+
+    cases : (b : Bool) → (if b then right else left).apart ≡ (if b then apart_of s (centre_of n.left) (Some point) else apart_of s (Some point) (centre_of n.right))
+    cases true = ap (apart_of s (centre_of n.left)) is
+    cases false = ap (λ (c : Option _). apart_of s c (centre_of n.right)) is
+
+-- so its least mark is the one at its point
+least_same : (j : JoinSearch) (n : JoinNeed) (e : Entry) (point : List ℕ) → centre_of e.item ≡ Some point → least_for_entry j n e ≡ least_at j n point e.stored (radius_of e.item)
+least_same j n e point is = rw (apart_same j.space n e point is) refl
+
+-- an entry's item in the place of the opened one is the entry's pair
+paired_same : (s : Space) (n : JoinNeed) (e : Entry) → paired n e.item (with_entry s n e).apart ≡ with_entry s n e
+paired_same s n e = cases (opens_right n)
+  where
+    right : JoinNeed
+    right = record { left = n.left; right = e.item; apart = apart_of s (centre_of n.left) (centre_of e.item) }
+
+    left : JoinNeed
+    left = record { left = e.item; right = n.right; apart = apart_of s (centre_of e.item) (centre_of n.right) }
+
+    cases : (b : Bool) → (if b then record { left = n.left; right = e.item; apart = (if b then right else left).apart } else record { left = e.item; right = n.right; apart = (if b then right else left).apart })
+        ≡ (if b then right else left)
+    cases true = refl
+    cases false = refl
+
+module _ (j : JoinSearch) (n : JoinNeed) (e : Entry) (point : List ℕ) (centre : centre_of e.item ≡ Some point) (mark : Mark) (least : mark ≡ least_at j n point e.stored (radius_of e.item)) (old new : Opening)
+    (marked : new.marks.items ≡ old.marks.items ++ mark ∷ []) where
+  is_least : mark ≡ least_for_entry j n e
+  is_least = least ∙ sym (least_same j n e point centre)
+
+  -- an entry that is ruled out leaves no pair
+  pub takes_none : mark ≢ Near → new.hits ≡ old.hits → new.needs ≡ old.needs → TakesEntries j n (e ∷ []) old new
+  takes_none far hits needs = record {
+    marks = marked ∙ ap (λ (m : Mark). old.marks.items ++ m ∷ []) is_least;
+    hits = rw (← is_least, none mark far) (ap (λ v. v.items) hits ∙ nothing old.hits.items);
+    needs = rw (← is_least, none mark far) (ap (λ v. v.items) needs ∙ nothing old.needs.items);
+  }
+    where
+      none : (m : Mark) → m ≢ Near → near_ones (e ∷ []) (m ∷ []) ≡ []
+      none Skip differs = refl
+      none Far differs = refl
+      none Near differs = absurd (differs refl)
+
+      nothing : {X : Type 0} (l : List X) → l ≡ l ++ []
+      nothing [] = refl
+      nothing (x ∷ xs) = ap (λ (ys : List _). x ∷ ys) (nothing xs)
+
+  -- an entry that is marked Near leaves its pair
+  pub takes_pair : mark ≡ Near → (pair : JoinNeed) (apart : Option ℕ) → apart ≡ apart_from j.space n point → pair ≡ paired n e.item apart →
+      new.hits.items ≡ old.hits.items ++ hits_among (pair ∷ []) → new.needs.items ≡ old.needs.items ++ needs_among (pair ∷ []) → TakesEntries j n (e ∷ []) old new
+  takes_pair near pair apart far is hits needs =
+      let same : pair ≡ with_entry j.space n e = is ∙ ap (paired n e.item) (far ∙ sym (apart_same j.space n e point centre)) ∙ paired_same j.space n e in
+      record {
+        marks = marked ∙ ap (λ (m : Mark). old.marks.items ++ m ∷ []) is_least;
+        hits = rw (← is_least, near) (hits ∙ ap (λ (p : JoinNeed). old.hits.items ++ hits_among (p ∷ [])) same);
+        needs = rw (← is_least, near) (needs ∙ ap (λ (p : JoinNeed). old.needs.items ++ needs_among (p ∷ [])) same);
+      }
+
+-- entries one after the other
+pairs_cons : (j : JoinSearch) (n : JoinNeed) (e : Entry) (es : List Entry) → pairs_for j n (e ∷ es) ≡ pairs_for j n (e ∷ []) ++ pairs_for j n es
+pairs_cons j n e es = cases (least_for_entry j n e)
+  where
+    cases : (m : Mark) → map (with_entry j.space n) (near_ones (e ∷ es) (m ∷ marks_for j n es)) ≡ map (with_entry j.space n) (near_ones (e ∷ []) (m ∷ [])) ++ pairs_for j n es
+    cases Skip = refl
+    cases Far = refl
+    cases Near = refl
+
+hits_cons : (j : JoinSearch) (n : JoinNeed) (e : Entry) (es : List Entry) → hits_among (pairs_for j n (e ∷ es)) ≡ hits_among (pairs_for j n (e ∷ [])) ++ hits_among (pairs_for j n es)
+hits_cons j n e es =
+    ap hits_among (pairs_cons j n e es) ∙ ap (λ (l : List JoinNeed). map pair_of l) (filter-append is_hit (pairs_for j n (e ∷ [])) (pairs_for j n es))
+    ∙ map-append pair_of (filter is_hit (pairs_for j n (e ∷ []))) (filter is_hit (pairs_for j n es))
+
+needs_cons : (j : JoinSearch) (n : JoinNeed) (e : Entry) (es : List Entry) → needs_among (pairs_for j n (e ∷ es)) ≡ needs_among (pairs_for j n (e ∷ [])) ++ needs_among (pairs_for j n es)
+needs_cons j n e es = ap needs_among (pairs_cons j n e es) ∙ filter-append is_need (pairs_for j n (e ∷ [])) (pairs_for j n es)
+
+onward : {X : Type 0} (a b c xs ys zs : List X) → b ≡ a ++ xs → c ≡ b ++ ys → zs ≡ xs ++ ys → c ≡ a ++ zs
+onward a b c xs ys zs one two whole = two ∙ ap (λ (l : List _). l ++ ys) one ∙ append_assoc a xs ys ∙ ap (λ (l : List _). a ++ l) (sym whole)
+
+takes_cons : (j : JoinSearch) (n : JoinNeed) (e : Entry) (es : List Entry) (a b c : Opening) → TakesEntries j n (e ∷ []) a b → TakesEntries j n es b c → TakesEntries j n (e ∷ es) a c
+takes_cons j n e es a b c one rest = record {
+  marks = onward _ _ _ _ _ _ one.marks rest.marks refl;
+  hits = onward _ _ _ _ _ _ one.hits rest.hits (hits_cons j n e es);
+  needs = onward _ _ _ _ _ _ one.needs rest.needs (needs_cons j n e es);
+}
+
+-- a loop that has taken the entries up to a place: what takes the others takes all
+pub takes_next : {X : Type 0} (j h : JoinSearch) (n : JoinNeed) (entry : X → Entry) (es : List X) (i : ℕ) (e : X) (start old new : Opening) → h ≡ j → i < length es → e ≡ get_or es i e →
+    TakesEntries h n (entry e ∷ []) old new →
+    ((last : Opening) → TakesEntries j n (map entry (drop i es)) old last → TakesEntries j n (map entry es) start last) →
+    (last : Opening) → TakesEntries j n (map entry (drop (i + 1) es)) new last → TakesEntries j n (map entry es) start last
+takes_next j h n entry es i e start old new same low is one so_far last rest =
+    so_far last
+    (subst (λ (l : List _). TakesEntries j n (map entry l) old last) (sym drops)
+    (takes_cons j n (entry e) (map entry (drop (i + 1) es)) old new last (subst (λ (k : JoinSearch). TakesEntries k n (entry e ∷ []) old new) same one) rest))
+  where
+    drops : drop i es ≡ e ∷ drop (i + 1) es
+    drops = rw (drop-cons es i e low, ← is) (ap (λ (k : ℕ). e ∷ drop k es) (let k : suc i ≡ i + 1 = omega arith in k))
+
+-- nothing is left to take
+pub takes_nothing : (j : JoinSearch) (n : JoinNeed) (a : Opening) → TakesEntries j n [] a a
+takes_nothing j n a = record { marks = nothing a.marks.items; hits = nothing a.hits.items; needs = nothing a.needs.items }
+  where
+    nothing : {X : Type 0} (l : List X) → l ≡ l ++ []
+    nothing [] = refl
+    nothing (x ∷ xs) = ap (λ (ys : List _). x ∷ ys) (nothing xs)
+
+-- counts
+
+measured_append : (ms : List Mark) (m : Mark) → measured_by (ms ++ m ∷ []) ≡ measured_by ms + measured_by (m ∷ [])
+measured_append [] m = omega arith
+measured_append (Skip ∷ ms) m = measured_append ms m
+measured_append (Far ∷ ms) m = let ih = measured_append ms m in omega arith
+measured_append (Near ∷ ms) m = let ih = measured_append ms m in omega arith
+
+pub counts_one : (used used2 k : ℕ) (old new : List Mark) (m : Mark) → k ≤ measured_by (m ∷ []) → used2 ≡ count_up used k → new ≡ old ++ m ∷ [] → CountsMarks used used2 old new
+counts_one used used2 k old new m few is added =
+    let long = measured_append old m in
+    (k, rw added (omega arith), is)
+
+pub counts_both : (used used2 used3 : ℕ) (old mid new : List Mark) → CountsMarks used used2 old mid → CountsMarks used2 used3 mid new → CountsMarks used used3 old new
+counts_both used used2 used3 old mid new one two =
+    (one.0 + two.0, omega (arith, one.1, two.1), two.2 ∙ ap (λ (u : ℕ). count_up u two.0) one.2 ∙ count_up_both used one.0 two.0)
+
+pub counts_none : (used : ℕ) (old : List Mark) → CountsMarks used used old old
+counts_none used old = (0, omega arith, refl)
+
+-- a loop that has taken all entries
+pub takes_all : {X : Type 0} (j : JoinSearch) (n : JoinNeed) (entry : X → Entry) (es : List X) (i : ℕ) (start old : Opening) → length es ≤ i →
+    ((last : Opening) → TakesEntries j n (map entry (drop i es)) old last → TakesEntries j n (map entry es) start last) → TakesEntries j n (map entry es) start old
+takes_all j n entry es i start old high so_far =
+    so_far old (subst (λ (l : List _). TakesEntries j n (map entry l) old old) (sym (nothing_left es i high)) (takes_nothing j n old))
+  where
+    nothing_left : {X : Type 0} (xs : List X) (k : ℕ) → length xs ≤ k → drop k xs ≡ []
+    nothing_left [] zero low = refl
+    nothing_left [] (suc k) low = refl
+    nothing_left (x ∷ xs) zero low = absurd (let e : ⊥ = omega arith in e)
+    nothing_left (x ∷ xs) (suc k) low = nothing_left xs k (omega (arith, low))

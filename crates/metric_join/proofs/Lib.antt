@@ -1,0 +1,8 @@
+pub mod Tours
+pub mod OneTour
+pub mod Course
+pub mod Entries
+pub mod Standing
+pub mod Pairs
+pub mod Stops
+pub mod Ends

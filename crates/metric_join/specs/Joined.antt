@@ -1,0 +1,100 @@
+-- What a join answers, and why it may refuse.
+use Rattle.std.specs.Prelude.{◌≡◌, ◌≢◌, ℕ, ◌+◌, ◌≤◌, Bool, true, false, List, [], ◌∷◌, IsTrue, Err}
+use Rattle.metric_laws.specs.Space.{Space}
+use Rattle.outside_io.specs.Causes.{Rose}
+use Rattle.tree_shape.specs.declared.live.Live.{Live}
+use Rattle.node_page.specs.declared.node.NodeFault.TheVariants.{Memory as NodeMemory}
+use Rattle.page_store.specs.declared.pages.PageFault.{PageFault}
+use Rattle.page_store.specs.declared.pages.PageFault.TheVariants as pages
+use Rattle.page_store.specs.Reading.{IsWithin, is_within, nodes_of}
+use Rattle.page_store.specs.Shelf.{Shelf}
+use Rattle.log_model.specs.declared.logs.Joined.{Joined}
+use Rattle.log_model.specs.declared.marks.JoinRecord.{JoinRecord}
+use Rattle.log_model.specs.Counts.{count_up, measured_by}
+use Rattle.log_model.specs.Grammar.{IsLawfulJoinLog}
+use Rattle.log_model.specs.SoundJoin.{IsLeastJoinLog}
+use Rattle.metric_join.specs.Tours.{IsToured, Names, NamesInside}
+use Rattle.metric_join.specs.declared.faults.JoinFault.{JoinFault}
+use Rattle.metric_join.specs.declared.faults.JoinFault.TheVariants.{Left, Right, Memory}
+
+-- the log has a spelling, and names the live trees and the radius; the pairs are the log's answers
+pub record IsJoinLogOf (l r : Live) (radius : ℕ) (joined : Joined) : Type 0 where
+  pub pairs_are : joined.pairs ≡ joined.log.answers
+  pub left_is : joined.log.left ≡ (l.generation, l.root)
+  pub right_is : joined.log.right ≡ (r.generation, r.root)
+  pub radius_is : joined.log.r ≡ radius
+  pub lawful : IsLawfulJoinLog joined.log
+
+-- the number of a log's records on one side
+abbrev pub is_on : Bool → Bool → ℕ
+is_on true true = 1
+is_on false false = 1
+is_on _ _ = 0
+
+abbrev pub opened_on : Bool → List JoinRecord → ℕ
+opened_on side [] = 0
+opened_on side (r ∷ rs) = is_on side r.right + opened_on side rs
+
+-- the marks that a distance was computed for at the most
+abbrev pub measured : List JoinRecord → ℕ
+measured [] = 0
+measured (r ∷ rs) = measured_by r.marks + measured rs
+
+-- a count rose by one so many times, at most as often as is said
+abbrev pub CountsUpTo : ℕ → ℕ → ℕ → Type 0
+CountsUpTo old new most = (n : ℕ) × (n ≤ most) × (new ≡ count_up old n)
+
+-- a side was asked for each page of its tree once, and then once per record of that side
+abbrev pub IsAsked : Live → Shelf → Shelf → ℕ → Type 0
+IsAsked live old new opened = (n : ℕ) × (n ≤ live.pages) × (new.asked ≡ count_up old.asked (n + opened))
+
+-- What a join answers: where both trees' pages tell what they hold, the least log of the join. Each tree was walked whole by
+-- child numbers; a page was asked for once in that walk, and once per record; and a distance was computed for no entry that
+-- is marked Skip.
+pub record IsJoined (s : Space) (l r : Live) (radius : ℕ) (left left2 right right2 : Shelf) (used used2 : ℕ) (joined : Joined) : Type 0 where
+  pub log : IsJoinLogOf l r radius joined
+  pub least : IsTrue left.tells → IsTrue right.tells → IsLeastJoinLog s (nodes_of left.read) (nodes_of right.read) l r radius joined.log
+  pub left_toured : IsTrue left.tells → IsToured (nodes_of left.read) l
+  pub right_toured : IsTrue right.tells → IsToured (nodes_of right.read) r
+  pub left_asked : IsAsked l left left2 (opened_on false joined.log.records)
+  pub right_asked : IsAsked r right right2 (opened_on true joined.log.records)
+  pub distances : CountsUpTo used used2 (measured joined.log.records)
+
+-- why a side's page is refused: the disk failed; or the walk of the live tree by child numbers comes to a page that holds no
+-- node, or that is none of the file's, or it has opened as many pages as there are, and names this one besides. Where the
+-- pages don't tell what they hold, as many as there are were asked for at the least before a page repeats
+abbrev pub HasSideCause : Live → Shelf → Shelf → PageFault → Type 0
+HasSideCause live old new pages.Disk = Rose old.faults new.faults
+HasSideCause live old new (pages.Bad page fault) =
+    (fault ≢ NodeMemory) × IsWithin old.pages page
+    × (IsTrue old.tells → (old.read page ≡ Err (pages.Bad page fault)) × NamesInside (nodes_of old.read) live page)
+HasSideCause live old new (pages.Outside page) =
+    (is_within old.pages page ≡ false) × (IsTrue old.tells → (old.read page ≡ Err (pages.Outside page)) × NamesInside (nodes_of old.read) live page)
+HasSideCause live old new (pages.Repeats page) =
+    ((asked : ℕ) × (live.pages ≤ asked) × (new.asked ≡ count_up old.asked asked)) × (IsTrue old.tells → Names (nodes_of old.read) live.root live.pages page)
+HasSideCause live old new pages.Memory = ⊥
+HasSideCause live old new (pages.Level page) = ⊥
+
+-- why a join is refused: a page of the left tree, or one of the right tree after the left one was walked whole, or memory
+abbrev pub HasJoinCause : Live → Live → Shelf → Shelf → Shelf → Shelf → JoinFault → Type 0
+HasJoinCause l r left left2 right right2 (Left fault) = HasSideCause l left left2 fault
+HasJoinCause l r left left2 right right2 (Right fault) = HasSideCause r right right2 fault × (IsTrue left.tells → IsToured (nodes_of left.read) l)
+HasJoinCause l r left left2 right right2 Memory = Unit {0}
+
+-- what may come at any time: a disk failed, or memory ran out
+abbrev pub IsPassing : JoinFault → Type 0
+IsPassing (Left pages.Disk) = Unit {0}
+IsPassing (Right pages.Disk) = Unit {0}
+IsPassing Memory = Unit {0}
+IsPassing _ = ⊥
+
+-- the fault of a join whose page of one side gave no node
+abbrev pub fault_of : Bool → PageFault → JoinFault
+fault_of right pages.Memory = Memory
+fault_of true fault = Right fault
+fault_of false fault = Left fault
+
+-- the same of the first walk alone, which may want memory besides
+abbrev pub HasTourCause : Live → Shelf → Shelf → PageFault → Type 0
+HasTourCause live old new pages.Memory = Unit {0}
+HasTourCause live old new fault = HasSideCause live old new fault

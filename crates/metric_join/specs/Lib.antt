@@ -1,0 +1,4 @@
+pub mod Tours
+pub mod Laws
+pub mod Joined
+pub mod Steps

@@ -1,0 +1,159 @@
+-- The steps of the join's walk.
+use Rattle.std.specs.Prelude.{◌≡◌, ◌≢◌, ℕ, ◌+◌, ◌-◌, ◌^◌, ◌≤◌, true, false, List, [], ◌∷◌, ◌++◌, map, filter, length, Option, Some, IsTrue, if◌then◌else◌}
+use Rattle.std.specs.List.{AllByRecursion}
+use Rattle.metric_laws.specs.Space.{Space}
+use Rattle.metric_laws.specs.Counts.{next_count}
+use Rattle.scan_model.specs.declared.hit.Pair.{Pair}
+use Rattle.tree_shape.specs.declared.live.Live.{Live}
+use Rattle.tree_shape.specs.declared.entry.Node.{Node}
+use Rattle.page_store.specs.declared.pages.PageFault.{PageFault}
+use Rattle.page_store.specs.declared.pages.PageFault.TheVariants as pages
+use Rattle.outside_io.specs.Causes.{Rose}
+use Rattle.node_page.specs.declared.node.NodeFault.TheVariants.{Memory as NodeMemory}
+use Rattle.page_store.specs.Reading.{IsWithin, is_within, nodes_of}
+use Rattle.page_store.specs.Shelf.{Shelf, HoldsSame, IsNodeOf, HasPageCause}
+use Rattle.log_model.specs.declared.marks.Mark.{Mark}
+use Rattle.log_model.specs.declared.marks.Mark.TheVariants.{Skip, Far, Near}
+use Rattle.log_model.specs.declared.marks.JoinRecord.{JoinRecord}
+use Rattle.log_model.specs.declared.pairs.Item.{Item}
+use Rattle.log_model.specs.declared.pairs.Item.TheVariants.{Subtree, Object}
+use Rattle.log_model.specs.declared.pairs.JoinNeed.{JoinNeed}
+use Rattle.log_model.specs.Counts.{count_up, measured_by}
+use Rattle.log_model.specs.Walk.{near_ones}
+use Rattle.log_model.specs.JoinWalk.{JoinSearch, JoinLeast, JoinWalksBy, Entry, centre_of, apart_of, radius_of, page_of, opens_right, opened, other, with_entry, far_apart, far_stored, is_hit, is_need, pair_of, least_for_entry}
+use Rattle.log_model.specs.SoundJoin.{root_pair}
+use Rattle.metric_join.specs.Tours.{IsWhole}
+use Rattle.metric_join.specs.Joined.{opened_on, measured, CountsUpTo}
+use Rattle.metric_join.specs.declared.faults.JoinFault.{JoinFault}
+use Rattle.metric_join.specs.declared.faults.JoinFault.TheVariants.{Left, Right, Memory}
+use Rattle.metric_join.specs.declared.opening.Opening.{Opening}
+use Rattle.metric_join.specs.declared.walking.Waiting.{Waiting}
+
+-- what is joined by in a space within this radius
+abbrev pub search_within : Space → ℕ → JoinSearch
+search_within s rho = record { space = s; rho = rho }
+
+-- how far an entry with this point is from the other item, where that has a centre
+abbrev pub apart_from : Space → JoinNeed → List ℕ → Option ℕ
+apart_from s n point = if opens_right n then apart_of s (centre_of n.left) (Some point) else apart_of s (Some point) (centre_of n.right)
+
+-- the least mark of an entry with this point, this distance to the routing point above and this radius
+abbrev pub least_at : JoinSearch → JoinNeed → List ℕ → ℕ → ℕ → Mark
+least_at j n point stored radius =
+    if far_stored n.apart stored j.rho (radius + radius_of (other n)) then Skip else (if far_apart (apart_from j.space n point) j.rho radius (radius_of (other n)) then Far else Near)
+
+-- an item in the place of the opened one, so far from the other
+abbrev pub paired : JoinNeed → Item → Option ℕ → JoinNeed
+paired n item apart = if opens_right n then record { left = n.left; right = item; apart = apart } else record { left = item; right = n.right; apart = apart }
+
+-- the answers among pairs, and the pairs that are still needed
+abbrev pub hits_among : List JoinNeed → List Pair
+hits_among pairs = map pair_of (filter is_hit pairs)
+
+abbrev pub needs_among : List JoinNeed → List JoinNeed
+needs_among pairs = filter is_need pairs
+
+-- the least marks of entries, and the pairs that they leave
+abbrev pub marks_for : JoinSearch → JoinNeed → List Entry → List Mark
+marks_for j n es = map (least_for_entry j n) es
+
+abbrev pub pairs_for : JoinSearch → JoinNeed → List Entry → List JoinNeed
+pairs_for j n es = map (with_entry j.space n) (near_ones es (marks_for j n es))
+
+-- these entries were marked, and the pairs that they leave were added
+pub record TakesEntries (j : JoinSearch) (n : JoinNeed) (es : List Entry) (old new : Opening) : Type 0 where
+  pub marks : new.marks.items ≡ old.marks.items ++ marks_for j n es
+  pub hits : new.hits.items ≡ old.hits.items ++ hits_among (pairs_for j n es)
+  pub needs : new.needs.items ≡ old.needs.items ++ needs_among (pairs_for j n es)
+
+-- the pairs that wait, and how much there is still to walk
+abbrev pub needs_in : List Waiting → List JoinNeed
+needs_in ws = map (λ w. w.need) ws
+
+abbrev pub weight_of : Waiting → ℕ
+weight_of w = 33 ^ (w.left_room + w.right_room)
+
+abbrev pub weight : List Waiting → ℕ
+weight [] = 0
+weight (w ∷ ws) = weight_of w + weight ws
+
+-- a subtree was named by an inner node, or is a root; the walk from its page is whole within the room that is left
+abbrev pub IsStanding : Shelf → Item → ℕ → Type 0
+IsStanding shelf (Subtree page rank centre radius) room = (1 ≤ rank) × (IsTrue shelf.tells → IsWhole (nodes_of shelf.read) page room)
+IsStanding shelf (Object id point) room = Unit {0}
+
+-- a pair that waits, when so many nodes were opened on each side
+pub record IsWaiting (l r : Live) (left right : Shelf) (lefts rights : ℕ) (w : Waiting) : Type 0 where
+  pub need : IsTrue (is_need w.need)
+  pub left_stands : IsStanding left w.need.left w.left_room
+  pub right_stands : IsStanding right w.need.right w.right_room
+  pub left_room : l.pages ≤ w.left_room + lefts
+  pub right_room : r.pages ≤ w.right_room + rights
+
+-- a join that walked the least walk so far: what is left to walk makes the whole walk
+pub record IsUnderWay (j : JoinSearch) (l r : Live) (left left2 right right2 : Shelf) (used used2 : ℕ) (records : List JoinRecord) (hits : List Pair) (stack : List Waiting) : Type 0 where
+  pub left_holds : HoldsSame left left2
+  pub right_holds : HoldsSame right right2
+  pub left_asked : left2.asked ≡ count_up left.asked (opened_on false records)
+  pub right_asked : right2.asked ≡ count_up right.asked (opened_on true records)
+  pub used_up : CountsUpTo used used2 (measured records)
+  pub few_marks : AllByRecursion (λ r. length r.marks ≤ 32) records
+  pub waits : AllByRecursion (IsWaiting l r left right (opened_on false records) (opened_on true records)) stack
+  pub walk : IsTrue left.tells → IsTrue right.tells → (rs : List JoinRecord) (hs : List Pair) →
+      JoinWalksBy JoinLeast j (nodes_of left.read) (nodes_of right.read) (needs_in stack) rs hs →
+      JoinWalksBy JoinLeast j (nodes_of left.read) (nodes_of right.read) (root_pair l r ∷ []) (records ++ rs) (hits ++ hs)
+
+-- the pair of one of the needs that an opened pair leaves waits with the room that is left on each side
+abbrev pub following : Waiting → JoinNeed → Waiting
+following w need =
+    if opens_right w.need
+    then record { need = need; left_room = w.left_room; right_room = w.right_room - 1 }
+    else record { need = need; left_room = w.left_room - 1; right_room = w.right_room }
+
+-- the record of an opened pair
+abbrev pub record_for : Waiting → List Mark → JoinRecord
+record_for w marks = record { right = opens_right w.need; page = page_of (opened w.need); marks = marks }
+
+-- a page of one side was asked for once and gave this node; the other side was left alone
+pub record IsOpenedOn (side side2 other other2 : Shelf) (page room : ℕ) (node : Node) : Type 0 where
+  pub is : IsNodeOf side page node
+  pub asked : side2.asked ≡ next_count side.asked
+  pub has_room : 1 ≤ room
+  pub alone : other2 ≡ other
+
+abbrev pub IsOpened : Shelf → Shelf → Shelf → Shelf → Waiting → Node → Type 0
+IsOpened left left2 right right2 w node =
+    (opens_right w.need ≡ false → IsOpenedOn left left2 right right2 (page_of (opened w.need)) w.left_room node)
+    × (opens_right w.need ≡ true → IsOpenedOn right right2 left left2 (page_of (opened w.need)) w.right_room node)
+
+-- why a side's page gives no node: its path has no room left, or the page's own cause
+abbrev pub HasStop : ℕ → Shelf → Shelf → ℕ → PageFault → Type 0
+HasStop room old new page (pages.Repeats p) = (p ≡ page) × (room ≡ 0) × (new ≡ old)
+HasStop room old new page fault = HasPageCause old new page fault
+
+-- why a pair is not opened
+abbrev pub HasStopped : Shelf → Shelf → Shelf → Shelf → Waiting → JoinFault → Type 0
+HasStopped left left2 right right2 w (Left pages.Memory) = ⊥
+HasStopped left left2 right right2 w (Right pages.Memory) = ⊥
+HasStopped left left2 right right2 w (Left fault) = (opens_right w.need ≡ false) × HasStop w.left_room left left2 (page_of (opened w.need)) fault
+HasStopped left left2 right right2 w (Right fault) = (opens_right w.need ≡ true) × HasStop w.right_room right right2 (page_of (opened w.need)) fault
+HasStopped left left2 right right2 w Memory = Unit {0}
+
+-- distances were computed for some of the marks that were added, none of them Skip
+abbrev pub CountsMarks : ℕ → ℕ → List Mark → List Mark → Type 0
+CountsMarks used used2 old new = (n : ℕ) × (measured_by old + n ≤ measured_by new) × (used2 ≡ count_up used n)
+
+-- why the walk of pairs stops on a side: the disk failed; of pages that tell what they hold nothing else comes, since the first
+-- walk was whole
+abbrev pub HasSideStop : Live → Shelf → Shelf → PageFault → Type 0
+HasSideStop live old new pages.Disk = Rose old.faults new.faults
+HasSideStop live old new (pages.Bad page fault) = (fault ≢ NodeMemory) × IsWithin old.pages page × (IsTrue old.tells → ⊥)
+HasSideStop live old new (pages.Outside page) = (is_within old.pages page ≡ false) × (IsTrue old.tells → ⊥)
+HasSideStop live old new (pages.Repeats page) = ((asked : ℕ) × (live.pages ≤ asked) × (new.asked ≡ count_up old.asked asked)) × (IsTrue old.tells → ⊥)
+HasSideStop live old new pages.Memory = ⊥
+HasSideStop live old new (pages.Level page) = ⊥
+
+abbrev pub HasWalkCause : Live → Live → Shelf → Shelf → Shelf → Shelf → JoinFault → Type 0
+HasWalkCause l r left left2 right right2 (Left fault) = HasSideStop l left left2 fault
+HasWalkCause l r left left2 right right2 (Right fault) = HasSideStop r right right2 fault
+HasWalkCause l r left left2 right right2 Memory = Unit {0}

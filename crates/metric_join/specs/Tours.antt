@@ -1,0 +1,47 @@
+-- The walk through a whole tree by child numbers.
+use Rattle.std.specs.Prelude.{◌≡◌, ℕ, ◌<◌, ◌≤◌, List, [], ◌∷◌, ◌++◌, map, length, Some}
+use Rattle.metric_laws.specs.Counts.{next_count}
+use Rattle.tree_shape.specs.declared.live.Live.{Live}
+use Rattle.tree_shape.specs.declared.entry.Node.{Node}
+use Rattle.tree_shape.specs.declared.entry.Node.TheVariants.{Leaf, Inner}
+use Rattle.tree_shape.specs.Tree.{Nodes}
+use Rattle.page_store.specs.Shelf.{Shelf, IsNodeOf}
+
+-- the pages that a node names
+abbrev pub children : Node → List ℕ
+children (Leaf es) = []
+children (Inner level es) = map (λ e. e.child) es
+
+-- the walk that has these pages to open has opened these, each before those that it names, and has these still to open
+abbrev pub Tours : Nodes → List ℕ → List ℕ → List ℕ → Type 0
+Tours nodes pages [] left = left ≡ pages
+Tours nodes [] (o ∷ os) left = ⊥
+Tours nodes (p ∷ ps) (o ∷ os) left = (node : Node) × (nodes p ≡ Some node) × (o ≡ p) × Tours nodes (children node ++ ps) os left
+
+-- the walk from a page is whole, and opens at most so many
+pub record IsWhole (nodes : Nodes) (page most : ℕ) : Type 0 where
+  pub pages : List ℕ
+  pub walk : Tours nodes (page ∷ []) pages []
+  pub few : length pages ≤ most
+
+-- the walk of the live tree is whole and opens no more pages than there are
+abbrev pub IsToured : Nodes → Live → Type 0
+IsToured nodes live = IsWhole nodes live.root live.pages
+
+-- the walk from a root opens so many pages and then names this one
+pub record Names (nodes : Nodes) (root opened page : ℕ) : Type 0 where
+  pub before : List ℕ
+  pub rest : List ℕ
+  pub walk : Tours nodes (root ∷ []) before (page ∷ rest)
+  pub count : length before ≡ opened
+
+-- the same, where it has opened fewer pages than there are
+abbrev pub NamesInside : Nodes → Live → ℕ → Type 0
+NamesInside nodes live page = (opened : ℕ) × (opened < live.pages) × Names nodes live.root opened page
+
+-- a page was asked for once, and the pages that its node names come before those that were left
+pub record OpensPage (old new : Shelf) (page : ℕ) (left after : List ℕ) : Type 0 where
+  pub node : Node
+  pub is : IsNodeOf old page node
+  pub asked : new.asked ≡ next_count old.asked
+  pub pushed : after ≡ children node ++ left

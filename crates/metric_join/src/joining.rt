@@ -1,0 +1,93 @@
+ghost use Rattle.std.specs.Prelude.{◌≡◌, ◌≤◌, ◌<◌, ◌^◌, length, IsTrue, IfOk, IfErr};
+ghost use Rattle.scan_model.specs.Join.{join_pairs};
+ghost use Rattle.tree_shape.specs.Tree.{IsSoundTree, points_by_id};
+ghost use Rattle.page_store.specs.Reading.{nodes_of};
+ghost use Rattle.page_store.specs.Shelf.{HoldsSame};
+ghost use Rattle.log_model.specs.InOrder.{in_order, pair_before};
+ghost use Rattle.metric_join.specs.Joined.{IsJoined, HasJoinCause, IsPassing};
+
+use crate::JoinFault;
+use crate::faults::fault_of;
+use crate::touring::tour;
+use crate::walking::{JoinWalk, walk_pairs};
+use log_model::{JoinLog, Joined, Memory, put_pairs_in_order};
+use metric_laws::{Listed, Ruler};
+use page_store::Pages;
+use std::alloc::Global;
+use tree_shape::Live;
+
+// What a walk that is whole answers.
+fn joined_of(alloc: Global, ll: &Live, lr: &Live, r: u64, walk: JoinWalk) -> Result<Joined, Memory>
+    ensures left { IfOk result (λ joined. joined.log.left ≡ (ll.now.generation, ll.now.root)) }
+    ensures right { IfOk result (λ joined. joined.log.right ≡ (lr.now.generation, lr.now.root)) }
+    ensures radius { IfOk result (λ joined. joined.log.r ≡ r) }
+    ensures records { IfOk result (λ joined. joined.log.records ≡ walk.records.items) }
+    ensures answers { IfOk result (λ joined. joined.log.answers ≡ in_order pair_before walk.hits.items) }
+    ensures pairs { IfOk result (λ joined. joined.pairs ≡ joined.log.answers) }
+    ensures few { IfOk result (λ joined. (length joined.log.answers < 2 ^ 64) × (length joined.log.records < 2 ^ 64)) }
+{
+    let mut answers = walk.hits;
+    put_pairs_in_order(&mut answers);
+    let pairs = answers.iter().copied().collect(alloc)?;
+    Ok(Joined {
+        pairs: Listed::new(pairs),
+        log: JoinLog {
+            left: (ll.generation, ll.root),
+            right: (lr.generation, lr.root),
+            r,
+            answers: Listed::new(answers),
+            records: Listed::new(walk.records),
+        },
+    })
+}
+
+/// Every pair of a left and a right object within `r` of each other, by the left id, then by the right (after VLDB 1997,
+/// section 4.1), and the log that shows it. Each tree is walked once by child numbers, the left one first. Then the walk
+/// of pairs begins with the two roots: of two items the one of greater rank is opened, the left one at a tie, and each of
+/// its entries is skipped where stored distances rule it out, left out where its own distance does, and else paired with
+/// the other item. The rank of a root is its height plus 1, that of another node the level that its parent states, and
+/// that of an object 0.
+///
+/// `Left` and `Right` hold why a page of that side gave no node. A page that holds no node is `Bad`, one below 3 or not
+/// below the number of pages is `Outside`. Where the first walk of a tree has opened as many nodes as the live slot counts
+/// pages, or where a path of the walk of pairs has gone through as many, a further page is `Repeats`. None of these comes
+/// on sound trees. `Disk` comes where that side's disk failed. The heights are at most 14.
+pub fn join<P: Pages, Q: Pages, R: Ruler>(
+    alloc: Global,
+    left: &mut P,
+    right: &mut Q,
+    ruler: &mut R,
+    ll: &Live,
+    lr: &Live,
+    r: u64,
+) -> Result<Joined, JoinFault>
+    requires left_height { ll.now.height ≤ 14 }
+    requires right_height { lr.now.height ≤ 14 }
+    ensures metric { R.metric ruler.new ≡ R.metric ruler.old }
+    ensures left_same { HoldsSame (P.shelf left.old) (P.shelf left.new) }
+    ensures left_keeps { P.keeps left.old left.new }
+    ensures right_same { HoldsSame (Q.shelf right.old) (Q.shelf right.new) }
+    ensures right_keeps { Q.keeps right.old right.new }
+
+    ensures joined { IfOk result (IsJoined (R.M.space (R.metric ruler.old)) ll.now lr.now r (P.shelf left.old) (P.shelf left.new) (Q.shelf right.old) (Q.shelf right.new) (R.used ruler.old) (R.used ruler.new)) }
+    // On two sound trees the pairs are those of the double loop over the points.
+    ensures scanned { IfOk result (λ joined. IsTrue (P.shelf left.old).tells → IsTrue (Q.shelf right.old).tells →
+        IsSoundTree (R.M.space (R.metric ruler.old)) (nodes_of (P.shelf left.old).read) ll.now → IsSoundTree (R.M.space (R.metric ruler.old)) (nodes_of (Q.shelf right.old).read) lr.now →
+        joined.pairs ≡ join_pairs (R.M.space (R.metric ruler.old)) (points_by_id (nodes_of (P.shelf left.old).read) ll.now) (points_by_id (nodes_of (Q.shelf right.old).read) lr.now) r) }
+
+    ensures cause { IfErr result (HasJoinCause ll.now lr.now (P.shelf left.old) (P.shelf left.new) (Q.shelf right.old) (Q.shelf right.new)) }
+    ensures sound { IfErr result (λ fault. IsTrue (P.shelf left.old).tells → IsTrue (Q.shelf right.old).tells →
+        IsSoundTree (R.M.space (R.metric ruler.old)) (nodes_of (P.shelf left.old).read) ll.now → IsSoundTree (R.M.space (R.metric ruler.old)) (nodes_of (Q.shelf right.old).read) lr.now →
+        IsPassing fault) }
+{
+    if let Err(fault) = tour(alloc, left, ll) {
+        return Err(fault_of(false, fault));
+    }
+    if let Err(fault) = tour(alloc, right, lr) {
+        return Err(fault_of(true, fault));
+    }
+    let begun = JoinWalk::begin(alloc, ll, lr, r)?;
+    let walk = walk_pairs(alloc, left, right, ruler, begun)?;
+    let joined = joined_of(alloc, ll, lr, r, walk)?;
+    Ok(joined)
+}

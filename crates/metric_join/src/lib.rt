@@ -1,0 +1,16 @@
+//! Similarity join of two trees on pages, with the log that shows each decision.
+#![tactic(auto)]
+
+mod faults;
+mod joining;
+pub mod laws;
+mod opening;
+mod pairing;
+mod touring;
+mod walking;
+
+pub use faults::JoinFault;
+pub use joining::join;
+
+#[cfg(test)]
+mod tests;

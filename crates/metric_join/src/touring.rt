@@ -1,0 +1,65 @@
+// The walk through a whole tree by child numbers.
+ghost use Rattle.std.specs.Prelude.{◌≡◌, ◌++◌, ◌≤◌, IsTrue, IfErr, OnOk, reverse};
+ghost use Rattle.page_store.specs.Reading.{nodes_of};
+ghost use Rattle.page_store.specs.Shelf.{HoldsSame, HasPageCause};
+ghost use Rattle.metric_join.specs.Tours.{children, IsToured, OpensPage};
+ghost use Rattle.metric_join.specs.Joined.{CountsUpTo, HasTourCause};
+
+use metric_laws::Memory;
+use page_store::{PageFault, Pages};
+use std::alloc::Global;
+use tree_shape::{Live, Node};
+
+// Puts the pages that a node names on the stack, so that the first of them is on top.
+fn push_children(stack: &mut Vec<u32>, node: &Node) -> Result<(), Memory>
+    ensures { OnOk result (reverse stack.new.items ≡ children node.now ++ reverse stack.old.items) }
+{
+    if let Node::Inner { entries, .. } = node {
+        for entry in entries.as_slice().iter().rev() {
+            stack.push(entry.child)?;
+        }
+    }
+    Ok(())
+}
+
+// Opens a page, and puts the pages that its node names on the stack.
+fn open_page<P: Pages>(
+    alloc: Global,
+    pages: &mut P,
+    page: u32,
+    stack: &mut Vec<u32>,
+) -> Result<(), PageFault>
+    ensures same { HoldsSame (P.shelf pages.old) (P.shelf pages.new) }
+    ensures keeps { P.keeps pages.old pages.new }
+    ensures opened { OnOk result (OpensPage (P.shelf pages.old) (P.shelf pages.new) page (reverse stack.old.items) (reverse stack.new.items)) }
+    ensures cause { IfErr result (HasPageCause (P.shelf pages.old) (P.shelf pages.new) page) }
+{
+    let node = pages.node(alloc, page)?;
+    match push_children(stack, &node) {
+        Ok(()) => Ok(()),
+        Err(_) => Err(PageFault::Memory),
+    }
+}
+
+/// Walks the live tree by child numbers, each page before those that its node names. After as many pages as there are, a
+/// further one is refused unasked.
+pub fn tour<P: Pages>(alloc: Global, pages: &mut P, live: &Live) -> Result<(), PageFault>
+    ensures same { HoldsSame (P.shelf pages.old) (P.shelf pages.new) }
+    ensures keeps { P.keeps pages.old pages.new }
+    ensures asked { OnOk result (CountsUpTo (P.shelf pages.old).asked (P.shelf pages.new).asked live.now.pages) }
+    ensures toured { OnOk result (IsTrue (P.shelf pages.old).tells → IsToured (nodes_of (P.shelf pages.old).read) live.now) }
+    ensures cause { IfErr result (HasTourCause live.now (P.shelf pages.old) (P.shelf pages.new)) }
+{
+    let Ok(mut stack) = vec![in alloc; live.root] else {
+        return Err(PageFault::Memory);
+    };
+    let mut opened = 0u32;
+    while let Some(page) = stack.pop() {
+        if opened == live.pages {
+            return Err(PageFault::Repeats(page));
+        }
+        open_page(alloc, pages, page, &mut stack)?;
+        opened += 1;
+    }
+    Ok(())
+}
