@@ -1,0 +1,6 @@
+pub mod Within
+pub mod Frames
+pub mod Spaces
+pub mod Showing
+pub mod Refusals
+pub mod Ending
