@@ -13,6 +13,7 @@ use Rattle.page_store.specs.declared.pages.PageFault.TheVariants as pages
 use Rattle.log_model.specs.declared.logs.JoinLog.{JoinLog}
 use Rattle.metric_join.specs.declared.faults.JoinFault.{JoinFault}
 use Rattle.metric_join.specs.declared.faults.JoinFault.TheVariants as join
+use Rattle.file_jobs.specs.Jobs.{Refuses as RefusesFile}
 use Rattle.join_jobs.specs.declared.report.Report.{Report}
 use Rattle.join_jobs.specs.declared.opened.Trees.{Trees}
 use Rattle.join_jobs.specs.Lines.{status_of, spaces_text, damaged_text}
@@ -62,6 +63,14 @@ rose_before a b c le rose = omega arith
 pub either_before : (d0 d1 d2 e0 e1 e2 : DiskState) (l r : Head × Live) → Opened d0 d1 e0 e1 l r → EitherRose d1 d2 e1 e2 → EitherRose d0 d2 e0 e2
 either_before d0 d1 d2 e0 e1 e2 l r opened either =
     ⊎_elim (λ rose. inl (rose_before d0.faults d1.faults d2.faults opened.later rose)) (λ rose. inr (rose_before e0.faults e1.faults e2.faults opened.other_later rose)) either
+
+-- the index was opened, and the other file was not
+pub other_refuses : (d0 d1 e0 e1 : DiskState) (l : Head × Live) (w0 w1 : Option (List ℕ)) (status : ℕ) → (IsTrue d0.tells → IsOpened (tree_of d0 l)) → RefusesFile e0 e1 w0 w1 status → Refuses d0 d1 e0 e1 w0 w1 status
+other_refuses d0 d1 e0 e1 l w0 w1 status opens refuses = record {
+  disk = λ is. let told = refuses.disk is in (inr told.0, told.1);
+  not_index = λ is. let told = refuses.not_index is in (told.0, told.1, inr ((λ t. (tree_of d0 l, refl, opens t)), told.2));
+  statuses = refuses.statuses;
+}
 
 -- ---- verify and check
 
@@ -178,11 +187,11 @@ join_done radius d0 d1 d2 e0 e1 e2 l r log w0 w1 v0 v1 status opened same other 
   damaged = λ is. of_three status 0 4 8 9 statuses is (omega arith) (omega arith) (omega arith);
 }
 
-either_of : (trees : Trees) (d1 d2 e1 e2 : DiskState) (fault : JoinFault) → IsDiskFault fault → HasRefusal trees d1 d2 e1 e2 fault → EitherRose d1 d2 e1 e2
+either_of : (trees : Trees) (d1 d2 e1 e2 : DiskState) (fault : JoinFault) → IsDiskFault fault → HasRefusal trees d1 d2.faults e1 e2.faults fault → EitherRose d1 d2 e1 e2
 either_of trees d1 d2 e1 e2 fault is refusal =
-    ⊎_elim (λ e. inl (subst (HasRefusal trees d1 d2 e1 e2) e refusal)) (λ e. inr (subst (HasRefusal trees d1 d2 e1 e2) e refusal)) is
+    ⊎_elim (λ e. inl (subst (HasRefusal trees d1 d2.faults e1 e2.faults) e refusal)) (λ e. inr (subst (HasRefusal trees d1 d2.faults e1 e2.faults) e refusal)) is
 
-left_damage : (trees : Trees) (d1 d2 e1 e2 : DiskState) (page : PageFault) → page ≢ pages.Disk → HasRefusal trees d1 d2 e1 e2 (join.Left page) → HasDamage trees d1 e1 page
+left_damage : (trees : Trees) (d1 d2 e1 e2 : DiskState) (page : PageFault) → page ≢ pages.Disk → HasRefusal trees d1 d2.faults e1 e2.faults (join.Left page) → HasDamage trees d1 e1 page
 left_damage trees d1 d2 e1 e2 pages.Disk other refusal = absurd (other refl)
 left_damage trees d1 d2 e1 e2 (pages.Bad p f) other refusal = refusal
 left_damage trees d1 d2 e1 e2 (pages.Outside p) other refusal = refusal
@@ -190,7 +199,7 @@ left_damage trees d1 d2 e1 e2 (pages.Repeats p) other refusal = refusal
 left_damage trees d1 d2 e1 e2 pages.Memory other refusal = refusal
 left_damage trees d1 d2 e1 e2 (pages.Level p) other refusal = refusal
 
-right_damage : (trees : Trees) (d1 d2 e1 e2 : DiskState) (page : PageFault) → page ≢ pages.Disk → HasRefusal trees d1 d2 e1 e2 (join.Right page) → HasDamage trees d1 e1 page
+right_damage : (trees : Trees) (d1 d2 e1 e2 : DiskState) (page : PageFault) → page ≢ pages.Disk → HasRefusal trees d1 d2.faults e1 e2.faults (join.Right page) → HasDamage trees d1 e1 page
 right_damage trees d1 d2 e1 e2 pages.Disk other refusal = absurd (other refl)
 right_damage trees d1 d2 e1 e2 (pages.Bad p f) other refusal = refusal
 right_damage trees d1 d2 e1 e2 (pages.Outside p) other refusal = refusal
@@ -198,12 +207,12 @@ right_damage trees d1 d2 e1 e2 (pages.Repeats p) other refusal = refusal
 right_damage trees d1 d2 e1 e2 pages.Memory other refusal = refusal
 right_damage trees d1 d2 e1 e2 (pages.Level p) other refusal = refusal
 
-damage_of : (trees : Trees) (d1 d2 e1 e2 : DiskState) (fault : JoinFault) (page : PageFault) → IsDamage fault page → HasRefusal trees d1 d2 e1 e2 fault → HasDamage trees d1 e1 page
+damage_of : (trees : Trees) (d1 d2 e1 e2 : DiskState) (fault : JoinFault) (page : PageFault) → IsDamage fault page → HasRefusal trees d1 d2.faults e1 e2.faults fault → HasDamage trees d1 e1 page
 damage_of trees d1 d2 e1 e2 fault page is refusal =
-    ⊎_elim (λ e. left_damage trees d1 d2 e1 e2 page is.0 (subst (HasRefusal trees d1 d2 e1 e2) e refusal)) (λ e. right_damage trees d1 d2 e1 e2 page is.0 (subst (HasRefusal trees d1 d2 e1 e2) e refusal)) is.1
+    ⊎_elim (λ e. left_damage trees d1 d2 e1 e2 page is.0 (subst (HasRefusal trees d1 d2.faults e1 e2.faults) e refusal)) (λ e. right_damage trees d1 d2 e1 e2 page is.0 (subst (HasRefusal trees d1 d2.faults e1 e2.faults) e refusal)) is.1
 
 pub join_stopped : (radius : ℕ) (trees : Trees) (d0 d1 d2 e0 e1 e2 : DiskState) (fault : JoinFault) (w0 w1 v : Option (List ℕ)) (status : ℕ) → Opened d0 d1 e0 e1 trees.left trees.right → IsUnchanged d0 d2 → IsUnchanged e0 e2
-    → HasRefusal trees d1 d2 e1 e2 fault → EndsRefused fault w0 w1 status → Joins radius d0 d2 e0 e2 w0 w1 v v status
+    → HasRefusal trees d1 d2.faults e1 e2.faults fault → EndsRefused fault w0 w1 status → Joins radius d0 d2 e0 e2 w0 w1 v v status
 join_stopped radius trees d0 d1 d2 e0 e1 e2 fault w0 w1 v status opened same other refusal ends = record {
   unchanged = (same, other);
   done = λ is. of_three status 5 8 9 0 ends.statuses is (omega arith) (omega arith) (omega arith);

@@ -1,7 +1,8 @@
 -- One frame more.
-use Rattle.std.proofs.Common.{◌≡◌, ℕ, ◌+◌, ◌&&◌, Bool, true, false, List, ◌∷◌, ◌++◌, Option, refl, sym, subst, ◌∙◌, ap, append_assoc, arith}
+use Rattle.std.proofs.Common.{◌≡◌, ℕ, ◌+◌, ◌&&◌, Bool, true, false, List, ◌∷◌, ◌++◌, Option, Some, None, not, refl, sym, subst, ◌∙◌, ap, append_assoc, arith}
 use Rattle.std.specs.Prelude.{IsTrue}
-use Rattle.std.specs.Option.{is_none}
+use Rattle.std.specs.Option.{is_none, is_some}
+use Rattle.std.proofs.lemmas.Bool.{true≢false}
 use Rattle.metric_laws.specs.Space.{Space}
 use Rattle.tree_shape.specs.declared.live.Live.{Live}
 use Rattle.page_store.specs.Reading.{Read}
@@ -40,6 +41,12 @@ text_step what judge i log logs all front new fault is before next =
 and_assoc : (x y z : Bool) → (x && (y && z)) ≡ ((x && y) && z)
 and_assoc true y z = refl
 and_assoc false y z = refl
+
+pub none_of : (fault : Option JoinVerdict) (found : Bool) → is_some fault ≡ not found → found ≡ is_none fault
+none_of None true is = refl
+none_of None false is = absurd (true≢false (sym is))
+none_of (Some why) true is = absurd (true≢false is)
+none_of (Some why) false is = refl
 
 -- whether none of the logs so far has a fault
 pub good_step : (judge : Judge) (log : JoinLog) (logs : List JoinLog) (total good found : Bool) (fault : Option JoinVerdict) → judge log ≡ fault → found ≡ is_none fault

@@ -3,4 +3,5 @@ pub mod Frames
 pub mod Spaces
 pub mod Showing
 pub mod Refusals
+pub mod Joined
 pub mod Ending

@@ -80,18 +80,18 @@ damaged_right trees d0 e0 a b b2 fault sides other stays cause passes t u =
 rose_of : (a b c d : ℕ) → a ≡ c → b ≡ d → Rose a b → Rose c d
 rose_of a b c d first last rose = subst (λ (n : ℕ). Rose n d) first (subst (λ (n : ℕ). Rose a n) last rose)
 
-pub refusal : (trees : Trees) (d0 d1 e0 e1 : DiskState) (a a2 b b2 : Shelf) (fault : JoinFault) → Sides trees d0 e0 a b → a2.faults ≡ d1.faults → b2.faults ≡ e1.faults
-    → HasJoinCause trees.left.1 trees.right.1 a a2 b b2 fault → PassesOn trees a b d0 fault → HasRefusal trees d0 d1 e0 e1 fault
-refusal trees d0 d1 e0 e1 a a2 b b2 join.Memory sides af bf cause passes = tt
-refusal trees d0 d1 e0 e1 a a2 b b2 (join.Left pages.Disk) sides af bf cause passes = rose_of a.faults a2.faults d0.faults d1.faults sides.left.faults af cause
-refusal trees d0 d1 e0 e1 a a2 b b2 (join.Left (pages.Bad p f)) sides af bf cause passes = damaged_left trees d0 e0 a a2 b (pages.Bad p f) sides (λ is. cc is) (λ no. no) cause passes
-refusal trees d0 d1 e0 e1 a a2 b b2 (join.Left (pages.Outside p)) sides af bf cause passes = damaged_left trees d0 e0 a a2 b (pages.Outside p) sides (λ is. cc is) (λ no. no) cause passes
-refusal trees d0 d1 e0 e1 a a2 b b2 (join.Left (pages.Repeats p)) sides af bf cause passes = damaged_left trees d0 e0 a a2 b (pages.Repeats p) sides (λ is. cc is) (λ no. no) cause passes
-refusal trees d0 d1 e0 e1 a a2 b b2 (join.Left pages.Memory) sides af bf cause passes = absurd cause
-refusal trees d0 d1 e0 e1 a a2 b b2 (join.Left (pages.Level p)) sides af bf cause passes = absurd cause
-refusal trees d0 d1 e0 e1 a a2 b b2 (join.Right pages.Disk) sides af bf cause passes = rose_of b.faults b2.faults e0.faults e1.faults sides.right.faults bf cause.0
-refusal trees d0 d1 e0 e1 a a2 b b2 (join.Right (pages.Bad p f)) sides af bf cause passes = damaged_right trees d0 e0 a b b2 (pages.Bad p f) sides (λ is. cc is) (λ no. no) cause.0 passes
-refusal trees d0 d1 e0 e1 a a2 b b2 (join.Right (pages.Outside p)) sides af bf cause passes = damaged_right trees d0 e0 a b b2 (pages.Outside p) sides (λ is. cc is) (λ no. no) cause.0 passes
-refusal trees d0 d1 e0 e1 a a2 b b2 (join.Right (pages.Repeats p)) sides af bf cause passes = damaged_right trees d0 e0 a b b2 (pages.Repeats p) sides (λ is. cc is) (λ no. no) cause.0 passes
-refusal trees d0 d1 e0 e1 a a2 b b2 (join.Right pages.Memory) sides af bf cause passes = absurd cause.0
-refusal trees d0 d1 e0 e1 a a2 b b2 (join.Right (pages.Level p)) sides af bf cause passes = absurd cause.0
+pub refusal : (trees : Trees) (d0 : DiskState) (n : ℕ) (e0 : DiskState) (m : ℕ) (a a2 b b2 : Shelf) (fault : JoinFault) → Sides trees d0 e0 a b → a2.faults ≡ n → b2.faults ≡ m
+    → HasJoinCause trees.left.1 trees.right.1 a a2 b b2 fault → PassesOn trees a b d0 fault → HasRefusal trees d0 n e0 m fault
+refusal trees d0 n e0 m a a2 b b2 join.Memory sides af bf cause passes = tt
+refusal trees d0 n e0 m a a2 b b2 (join.Left pages.Disk) sides af bf cause passes = rose_of a.faults a2.faults d0.faults n sides.left.faults af cause
+refusal trees d0 n e0 m a a2 b b2 (join.Left (pages.Bad p f)) sides af bf cause passes = damaged_left trees d0 e0 a a2 b (pages.Bad p f) sides (λ is. cc is) (λ no. no) cause passes
+refusal trees d0 n e0 m a a2 b b2 (join.Left (pages.Outside p)) sides af bf cause passes = damaged_left trees d0 e0 a a2 b (pages.Outside p) sides (λ is. cc is) (λ no. no) cause passes
+refusal trees d0 n e0 m a a2 b b2 (join.Left (pages.Repeats p)) sides af bf cause passes = damaged_left trees d0 e0 a a2 b (pages.Repeats p) sides (λ is. cc is) (λ no. no) cause passes
+refusal trees d0 n e0 m a a2 b b2 (join.Left pages.Memory) sides af bf cause passes = absurd cause
+refusal trees d0 n e0 m a a2 b b2 (join.Left (pages.Level p)) sides af bf cause passes = absurd cause
+refusal trees d0 n e0 m a a2 b b2 (join.Right pages.Disk) sides af bf cause passes = rose_of b.faults b2.faults e0.faults m sides.right.faults bf cause.0
+refusal trees d0 n e0 m a a2 b b2 (join.Right (pages.Bad p f)) sides af bf cause passes = damaged_right trees d0 e0 a b b2 (pages.Bad p f) sides (λ is. cc is) (λ no. no) cause.0 passes
+refusal trees d0 n e0 m a a2 b b2 (join.Right (pages.Outside p)) sides af bf cause passes = damaged_right trees d0 e0 a b b2 (pages.Outside p) sides (λ is. cc is) (λ no. no) cause.0 passes
+refusal trees d0 n e0 m a a2 b b2 (join.Right (pages.Repeats p)) sides af bf cause passes = damaged_right trees d0 e0 a b b2 (pages.Repeats p) sides (λ is. cc is) (λ no. no) cause.0 passes
+refusal trees d0 n e0 m a a2 b b2 (join.Right pages.Memory) sides af bf cause passes = absurd cause.0
+refusal trees d0 n e0 m a a2 b b2 (join.Right (pages.Level p)) sides af bf cause passes = absurd cause.0

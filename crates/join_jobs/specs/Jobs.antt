@@ -132,17 +132,18 @@ pub record AreDamaged (fault : PageFault) (left right : Tree) : Type 0 where
   pub damaged : IsDamaged left fault ⊎ IsDamaged right fault
   pub unsound : IsSoundFile left → IsSoundFile right → ⊥
 
--- why the join of two opened files is refused: a disk failed, memory ran out, or a page gave no node
+-- a page of two opened files gave no node
 abbrev pub HasDamage : Trees → DiskState → DiskState → PageFault → Type 0
 HasDamage trees index other fault =
     IsTrue index.tells → IsTrue other.tells → AreDamaged fault (tree_of index trees.left) (tree_of other trees.right)
 
-abbrev pub HasRefusal : Trees → DiskState → DiskState → DiskState → DiskState → JoinFault → Type 0
-HasRefusal trees index0 index1 other0 other1 join.Memory = Unit {0}
-HasRefusal trees index0 index1 other0 other1 (join.Left pages.Disk) = Rose index0.faults index1.faults
-HasRefusal trees index0 index1 other0 other1 (join.Right pages.Disk) = Rose other0.faults other1.faults
-HasRefusal trees index0 index1 other0 other1 (join.Left fault) = HasDamage trees index0 other0 fault
-HasRefusal trees index0 index1 other0 other1 (join.Right fault) = HasDamage trees index0 other0 fault
+-- why their join is refused: a disk failed, memory ran out, or a page gave no node; the disks' counts of faults are so much now
+abbrev pub HasRefusal : Trees → DiskState → ℕ → DiskState → ℕ → JoinFault → Type 0
+HasRefusal trees index faults other other_faults join.Memory = Unit {0}
+HasRefusal trees index faults other other_faults (join.Left pages.Disk) = Rose index.faults faults
+HasRefusal trees index faults other other_faults (join.Right pages.Disk) = Rose other.faults other_faults
+HasRefusal trees index faults other other_faults (join.Left fault) = HasDamage trees index other fault
+HasRefusal trees index faults other other_faults (join.Right fault) = HasDamage trees index other fault
 
 -- a page that gave no node, and not because the disk failed
 abbrev pub IsDamage : JoinFault → PageFault → Type 0

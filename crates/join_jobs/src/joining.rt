@@ -38,7 +38,7 @@ pub fn join_opened<D: Disk, E: Disk>(
     ensures lawful { IfOk result (λ joined. IsLawfulJoinLog joined.log) }
     ensures joined { IfOk result (λ joined. IsTrue (D.state index.old).tells → IsTrue (E.state other.old).tells →
         IsJoinOf radius joined.log (tree_of (D.state index.old) trees.now.left) (tree_of (E.state other.old) trees.now.right)) }
-    ensures refused { IfErr result (HasRefusal trees.now (D.state index.old) (D.state index.new) (E.state other.old) (E.state other.new)) }
+    ensures refused { IfErr result (HasRefusal trees.now (D.state index.old) (D.state index.new).faults (E.state other.old) (E.state other.new).faults) }
 {
     let (left, right) = (&trees.left, &trees.right);
     let mut ruler = Meter::new(space_of(&left.0));
@@ -90,10 +90,10 @@ pub fn end_joined<K: Sink, T: Sink>(
     let Ok((lines, framed)) = joined_texts(alloc, joined) else {
         return end_with(out, FAULT_MEMORY, 8);
     };
-    if log_out.put(&framed).is_err() {
-        return Status(4);
+    match log_out.put(&framed) {
+        Ok(()) => put_line(out, &lines, 0),
+        Err(_) => Status(4),
     }
-    put_line(out, &lines, 0)
 }
 
 // Ends a join that met a page which gave no node.

@@ -1,5 +1,5 @@
 // What is said of two opened indexes and of the logs of their join.
-ghost use Rattle.std.specs.Prelude.{◌≡◌, ◌≤◌, ◌^◌, ◌++◌, false, IsTrue, IfOk, IsErrOf};
+ghost use Rattle.std.specs.Prelude.{◌≡◌, ◌≤◌, ◌^◌, ◌++◌, true, false, IsTrue, IfOk, IsErrOf};
 ghost use Rattle.outside_io.specs.Causes.{Rose};
 ghost use Rattle.disk_model.specs.Disk.{IsUnchanged};
 ghost use Rattle.node_page.specs.Heads.{IsLawfulHead};
@@ -72,7 +72,8 @@ fn judge_opened<D: Disk, E: Disk>(
     trees: &Trees,
     bytes: &[u8],
 ) -> Result<Said, Stop>
-    requires { AreLawful trees.now }
+    requires lawful { AreLawful trees.now }
+    requires one_space { is_one_space trees.now.left.0 trees.now.right.0 ≡ true }
     ensures same { IsUnchanged (D.state index.old) (D.state index.new) }
     ensures other_same { IsUnchanged (E.state other.old) (E.state other.new) }
     ensures text { IfOk result (λ said. IsTrue (D.state index.old).tells → IsTrue (E.state other.old).tells →
@@ -113,7 +114,8 @@ fn check_opened<D: Disk, E: Disk>(
     trees: &Trees,
     bytes: &[u8],
 ) -> Result<Said, Stop>
-    requires { AreLawful trees.now }
+    requires lawful { AreLawful trees.now }
+    requires one_space { is_one_space trees.now.left.0 trees.now.right.0 ≡ true }
     ensures same { IsUnchanged (D.state index.old) (D.state index.new) }
     ensures other_same { IsUnchanged (E.state other.old) (E.state other.new) }
     ensures text { IfOk result (λ said. IsTrue (D.state index.old).tells → IsTrue (E.state other.old).tells →
