@@ -100,7 +100,7 @@ fn judge_frames<M: Metric, P: Pages, Q: Pages>(
     ensures right_keeps { Q.keeps right.old right.new }
     ensures text { IfOk result (λ said. IsTrue (P.shelf left.old).tells → IsTrue (Q.shelf right.old).tells →
         said.text.items ≡ opening_text court.now.report
-            ++ frame_texts court.now.report (judge_by (M.space court.now.metric) (P.shelf left.old) (Q.shelf right.old) court.now.left court.now.right) 0 logs.items) }
+        ++ frame_texts court.now.report (judge_by (M.space court.now.metric) (P.shelf left.old) (Q.shelf right.old) court.now.left court.now.right) 0 logs.items) }
     ensures good { IfOk result (λ said. IsTrue (P.shelf left.old).tells → IsTrue (Q.shelf right.old).tells →
         said.good ≡ are_sound (judge_by (M.space court.now.metric) (P.shelf left.old) (Q.shelf right.old) court.now.left court.now.right) logs.items) }
     ensures disk { IsErrOf result Stop.Disk → Rose (P.shelf left.old).faults (P.shelf left.new).faults ⊎ Rose (Q.shelf right.old).faults (Q.shelf right.new).faults }
@@ -134,7 +134,7 @@ pub fn judge_bytes<M: Metric, P: Pages, Q: Pages>(
     ensures right_keeps { Q.keeps right.old right.new }
     ensures text { IfOk result (λ said. IsTrue (P.shelf left.old).tells → IsTrue (Q.shelf right.old).tells →
         said.text.items ≡ opening_text court.now.report
-            ++ (on_logs court.now.report (judge_by (M.space court.now.metric) (P.shelf left.old) (Q.shelf right.old) court.now.left court.now.right) (frames_at join_log_at bytes.now)).text) }
+        ++ (on_logs court.now.report (judge_by (M.space court.now.metric) (P.shelf left.old) (Q.shelf right.old) court.now.left court.now.right) (frames_at join_log_at bytes.now)).text) }
     ensures good { IfOk result (λ said. IsTrue (P.shelf left.old).tells → IsTrue (Q.shelf right.old).tells →
         said.good ≡ (on_logs court.now.report (judge_by (M.space court.now.metric) (P.shelf left.old) (Q.shelf right.old) court.now.left court.now.right) (frames_at join_log_at bytes.now)).good) }
     ensures disk { IsErrOf result Stop.Disk → Rose (P.shelf left.old).faults (P.shelf left.new).faults ⊎ Rose (Q.shelf right.old).faults (Q.shelf right.new).faults }
@@ -149,6 +149,7 @@ pub fn judge_bytes<M: Metric, P: Pages, Q: Pages>(
         }
     };
     let mut said = judge_frames(alloc, court, left, right, logs)?;
-    said.text.extend_from_slice(end_text(court.report, said.good))?;
+    said.text
+        .extend_from_slice(end_text(court.report, said.good))?;
     Ok(said)
 }

@@ -78,7 +78,7 @@ fn judge_opened<D: Disk, E: Disk>(
     ensures other_same { IsUnchanged (E.state other.old) (E.state other.new) }
     ensures text { IfOk result (λ said. IsTrue (D.state index.old).tells → IsTrue (E.state other.old).tells →
         said.text.items ≡ opening_text report
-            ++ (on_logs report (judge_of (tree_of (D.state index.old) trees.now.left) (tree_of (E.state other.old) trees.now.right)) (frames_at join_log_at bytes.now)).text) }
+        ++ (on_logs report (judge_of (tree_of (D.state index.old) trees.now.left) (tree_of (E.state other.old) trees.now.right)) (frames_at join_log_at bytes.now)).text) }
     ensures good { IfOk result (λ said. IsTrue (D.state index.old).tells → IsTrue (E.state other.old).tells →
         said.good ≡ (on_logs report (judge_of (tree_of (D.state index.old) trees.now.left) (tree_of (E.state other.old) trees.now.right)) (frames_at join_log_at bytes.now)).good) }
     ensures disk { IsErrOf result Stop.Disk → EitherRose (D.state index.old) (D.state index.new) (E.state other.old) (E.state other.new) }
@@ -120,10 +120,10 @@ fn check_opened<D: Disk, E: Disk>(
     ensures other_same { IsUnchanged (E.state other.old) (E.state other.new) }
     ensures text { IfOk result (λ said. IsTrue (D.state index.old).tells → IsTrue (E.state other.old).tells →
         said.text.items ≡ (saying Report.Answers (fault_of (tree_of (D.state index.old) trees.now.left)) (fault_of (tree_of (E.state other.old) trees.now.right))
-            (judge_of (tree_of (D.state index.old) trees.now.left) (tree_of (E.state other.old) trees.now.right)) (frames_at join_log_at bytes.now)).text) }
+        (judge_of (tree_of (D.state index.old) trees.now.left) (tree_of (E.state other.old) trees.now.right)) (frames_at join_log_at bytes.now)).text) }
     ensures good { IfOk result (λ said. IsTrue (D.state index.old).tells → IsTrue (E.state other.old).tells →
         said.good ≡ (saying Report.Answers (fault_of (tree_of (D.state index.old) trees.now.left)) (fault_of (tree_of (E.state other.old) trees.now.right))
-            (judge_of (tree_of (D.state index.old) trees.now.left) (tree_of (E.state other.old) trees.now.right)) (frames_at join_log_at bytes.now)).good) }
+        (judge_of (tree_of (D.state index.old) trees.now.left) (tree_of (E.state other.old) trees.now.right)) (frames_at join_log_at bytes.now)).good) }
     ensures disk { IsErrOf result Stop.Disk → EitherRose (D.state index.old) (D.state index.new) (E.state other.old) (E.state other.new) }
 {
     if let Some(why) = audit_file(alloc, index, &trees.left)? {

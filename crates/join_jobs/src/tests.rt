@@ -129,7 +129,8 @@ fn disk_of(
     if let Some((at, byte)) = change {
         place(&mut file, at, &[byte]);
     }
-    MemoryDisk::new(alloc, file, 65536, 1_000_000, Vec::new(alloc), stop)
+    let room = (file.len() as u64).max(65536);
+    MemoryDisk::new(alloc, file, room, 1_000_000, Vec::new(alloc), stop)
 }
 
 // Runs a job.
@@ -258,9 +259,17 @@ fn logs_that_are_rejected(rt: HostRuntime) -> Result<(), Fail> {
         (29, 4),
         "frame 0 rejected otherstate right 1 4 1 3\nlog rejected\n",
     )?;
-    check_log(&rt, (61, 0), "frame 0 rejected wronganswer 0\nlog rejected\n")?;
+    check_log(
+        &rt,
+        (61, 0),
+        "frame 0 rejected wronganswer 0\nlog rejected\n",
+    )?;
     check_log(&rt, (95, 0), "frame 0 rejected wrongpage 1\nlog rejected\n")?;
-    check_log(&rt, (109, 1), "frame 0 rejected wrongmark 2 0\nlog rejected\n")
+    check_log(
+        &rt,
+        (109, 1),
+        "frame 0 rejected wrongmark 2 0\nlog rejected\n",
+    )
 }
 
 #[test]

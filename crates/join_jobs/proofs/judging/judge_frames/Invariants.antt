@@ -17,9 +17,9 @@ invariant-loop-log g l = record {
   counted : l.frame + length l.log-iterator.rest.items ≡ length l.fn.logs.items;
   text : IsTrue (g.P.Pages.shelf l.fn.left).tells → IsTrue (g.Q.Pages.shelf l.fn.right).tells →
       opening_text l.court.report
-          ++ frame_texts l.court.report (judge_by (g.M.Metric.space l.court.metric) (g.P.Pages.shelf l.fn.left) (g.Q.Pages.shelf l.fn.right) l.court.left l.court.right) 0 l.fn.logs.items
+      ++ frame_texts l.court.report (judge_by (g.M.Metric.space l.court.metric) (g.P.Pages.shelf l.fn.left) (g.Q.Pages.shelf l.fn.right) l.court.left l.court.right) 0 l.fn.logs.items
       ≡ l.text.items
-          ++ frame_texts l.court.report (judge_by (g.M.Metric.space l.court.metric) (g.P.Pages.shelf l.fn.left) (g.Q.Pages.shelf l.fn.right) l.court.left l.court.right) l.frame l.log-iterator.rest.items;
+      ++ frame_texts l.court.report (judge_by (g.M.Metric.space l.court.metric) (g.P.Pages.shelf l.fn.left) (g.Q.Pages.shelf l.fn.right) l.court.left l.court.right) l.frame l.log-iterator.rest.items;
   good : IsTrue (g.P.Pages.shelf l.fn.left).tells → IsTrue (g.Q.Pages.shelf l.fn.right).tells →
       are_sound (judge_by (g.M.Metric.space l.court.metric) (g.P.Pages.shelf l.fn.left) (g.Q.Pages.shelf l.fn.right) l.court.left l.court.right) l.fn.logs.items
       ≡ (l.good && are_sound (judge_by (g.M.Metric.space l.court.metric) (g.P.Pages.shelf l.fn.left) (g.Q.Pages.shelf l.fn.right) l.court.left l.court.right) l.log-iterator.rest.items);
