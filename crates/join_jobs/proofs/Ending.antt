@@ -16,7 +16,7 @@ use Rattle.metric_join.specs.declared.faults.JoinFault.TheVariants as join
 use Rattle.file_jobs.specs.Jobs.{Refuses as RefusesFile}
 use Rattle.join_jobs.specs.declared.report.Report.{Report}
 use Rattle.join_jobs.specs.declared.opened.Trees.{Trees}
-use Rattle.join_jobs.specs.Lines.{status_of, spaces_text, damaged_text}
+use Rattle.join_jobs.specs.Lines.{status_of, spaces_text}
 use Rattle.join_jobs.specs.Trees.{Tree, tree_of, IsOpened, is_one_space, said_of}
 use Rattle.join_jobs.specs.Jobs.{EitherRose, Refuses, OnTrees, Judges, Joins, PutsJoin, CutsJoin, IsJoinOf, HaveOtherSpaces, HasRefusal, HasDamage, EndsRefused, IsDiskFault, IsDamage, AreDamaged}
 

@@ -15,7 +15,7 @@ use Rattle.join_jobs.specs.declared.opened.Trees.{Trees}
 use Rattle.join_jobs.specs.Trees.{tree_of, read_of, space_of}
 use Rattle.join_jobs.specs.Jobs.{IsJoinOf, HasRefusal}
 use Rattle.join_jobs.proofs.Spaces.{one_space}
-use Rattle.join_jobs.proofs.Refusals.{Sides, PassesOn, refusal}
+use Rattle.join_jobs.proofs.Refusals.{Sides, refusal}
 
 -- what a join tells of two sound trees, by what the pages of both hold
 abbrev pub Scans : Trees → ℕ → Joined → Space → Read → Read → Type 0

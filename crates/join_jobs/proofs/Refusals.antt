@@ -1,5 +1,5 @@
 -- Why the join of two opened files is refused, said of their disks.
-use Rattle.std.proofs.Common.{◌≡◌, ◌≢◌, ℕ, true, Bool, refl, sym, subst, inl, inr}
+use Rattle.std.proofs.Common.{◌≡◌, ◌≢◌, ℕ, true, refl, sym, subst, inl, inr}
 use Rattle.std.specs.Prelude.{IsTrue, Err}
 use Rattle.outside_io.specs.Causes.{Rose}
 use Rattle.disk_model.specs.Disk.{DiskState}

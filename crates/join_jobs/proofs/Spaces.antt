@@ -2,7 +2,6 @@
 use Rattle.std.proofs.Common.{◌≡◌, ℕ, ◌==◌, ◌&&◌, Bool, true, false, refl, sym, ◌∙◌, ap, arith}
 use Rattle.std.proofs.lemmas.Bool.{true≢false}
 use Rattle.std.proofs.lemmas.Bool.Decides.{nat_tests}
-use Rattle.metric_laws.specs.Space.{Space}
 use Rattle.metric_mix.specs.MixSpaces.{mix_space}
 use Rattle.node_page.specs.declared.head.Head.{Head}
 use Rattle.join_jobs.specs.Trees.{is_one_space}

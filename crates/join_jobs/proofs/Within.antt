@@ -1,5 +1,5 @@
 -- Nodes stand below a file's number of pages.
-use Rattle.std.proofs.Common.{◌≡◌, ℕ, Bool, true, false, List, Ok, refl, sym, ◌∙◌}
+use Rattle.std.proofs.Common.{◌≡◌, ℕ, Bool, true, false, Ok, refl, sym, ◌∙◌}
 use Rattle.tree_shape.specs.declared.entry.Node.{Node}
 use Rattle.node_page.specs.declared.node.Version.TheVariants.{Second}
 use Rattle.page_store.specs.Reading.{IsWithin, is_within}

@@ -16,7 +16,7 @@ use Rattle.file_jobs.specs.Lines.{not_index_text}
 use Rattle.file_jobs.specs.Jobs.{IsNoIndex}
 use Rattle.join_jobs.specs.declared.report.Report.{Report}
 use Rattle.join_jobs.specs.declared.opened.Trees.{Trees}
-use Rattle.join_jobs.specs.Lines.{Saying, status_of, pairs_text, spaces_text, damaged_text}
+use Rattle.join_jobs.specs.Lines.{status_of, pairs_text, spaces_text, damaged_text}
 use Rattle.join_jobs.specs.Trees.{Tree, tree_of, IsOpened, IsSoundFile, IsLeastLog, is_one_space, read_of, tree_nodes, scanned_pairs, said_of}
 
 -- ---- opening

@@ -4,7 +4,7 @@ use Rattle.log_model.specs.declared.logs.JoinLog.{JoinLog}
 use Rattle.log_verify.specs.declared.faults.JoinVerdict.{JoinVerdict}
 use Rattle.join_jobs.specs.declared.report.Report.TheVariants as report
 use Rattle.join_jobs.specs.Lines.{complete_frame, rejected_frame, frame_texts}
-use Rattle.join_jobs.specs.Trees.{Tree, IsOpened, IsSoundFile, IsSoundLog, fault_of, is_one_space, judge_of, scanned_pairs}
+use Rattle.join_jobs.specs.Trees.{Tree, IsSoundFile, IsSoundLog, fault_of, is_one_space, judge_of, scanned_pairs}
 
 -- the log is sound on the two live trees, and its answers are the pairs of the double loop over both files' points in order of id
 pub record IsCompleteLog (left right : Tree) (log : JoinLog) : Type 0 where
