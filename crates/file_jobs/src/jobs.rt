@@ -164,6 +164,7 @@ pub fn open_index<D: Disk, K: Sink>(disk: &mut D, out: &mut K) -> Result<(Head, 
     // Also of a disk that does not tell its bytes what is answered is lawful.
     ensures head { IfOk result (λ opened. IsLawfulHead opened.0) }
     ensures pages { IfOk result (λ opened. opened.1.pages ≤ 2 ^ 24) }
+    ensures height { IfOk result (λ opened. opened.1.height ≤ 14) }
     ensures silent { OnOk result (out.new ≡ out.old) }
     ensures refuses { IfErr result (λ status. Refuses (D.state disk.old) (D.state disk.new) (K.written out.old) (K.written out.new) status.0) }
     ensures later { (D.state disk.old).faults ≤ (D.state disk.new).faults }

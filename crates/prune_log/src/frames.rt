@@ -107,6 +107,8 @@ pub fn decode_frames(alloc: Global, bytes: &[u8]) -> Result<Vec<Log>, LogFault>
 /// Reads the joins' logs of frames, or names the first fault from left to right, be it a frame's or its log's. No bytes
 /// are no frames.
 pub fn decode_join_frames(alloc: Global, bytes: &[u8]) -> Result<Vec<JoinLog>, LogFault>
+    // What is answered is what reading from left to right gives.
+    ensures gives { Gives (λ logs. logs.items) result (frames_at join_log_at bytes.now) }
     // What is read is spelled so.
     ensures ok { IfOk result (λ logs. frames_bytes join_log_bytes logs.items ≡ bytes.now) }
     // What is read can be written.

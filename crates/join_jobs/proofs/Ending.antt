@@ -1,0 +1,229 @@
+-- How a job ends, by what its parts told.
+use Rattle.std.proofs.Common.{◌≡◌, ◌≢◌, ◌⊎◌, inl, inr, ⊎_elim, ℕ, Bool, true, false, List, Option, refl, sym, subst, ◌∙◌, ap, arith}
+use Rattle.std.specs.Prelude.{codes, ◌≤◌, IsTrue}
+use Rattle.std.specs.Io.KnownBytes.{Appends}
+use Rattle.outside_io.specs.Bytes.{AppendsPrefix}
+use Rattle.outside_io.specs.Causes.{Rose}
+use Rattle.disk_model.specs.Disk.{DiskState, IsUnchanged, MayLeave}
+use Rattle.disk_model.specs.Moments.{started}
+use Rattle.tree_shape.specs.declared.live.Live.{Live}
+use Rattle.node_page.specs.declared.head.Head.{Head}
+use Rattle.page_store.specs.declared.pages.PageFault.{PageFault}
+use Rattle.page_store.specs.declared.pages.PageFault.TheVariants as pages
+use Rattle.log_model.specs.declared.logs.JoinLog.{JoinLog}
+use Rattle.metric_join.specs.declared.faults.JoinFault.{JoinFault}
+use Rattle.metric_join.specs.declared.faults.JoinFault.TheVariants as join
+use Rattle.file_jobs.specs.Jobs.{Refuses as RefusesFile}
+use Rattle.join_jobs.specs.declared.report.Report.{Report}
+use Rattle.join_jobs.specs.declared.opened.Trees.{Trees}
+use Rattle.join_jobs.specs.Lines.{status_of, spaces_text}
+use Rattle.join_jobs.specs.Trees.{Tree, tree_of, IsOpened, is_one_space, said_of}
+use Rattle.join_jobs.specs.Jobs.{EitherRose, Refuses, OnTrees, Judges, Joins, PutsJoin, CutsJoin, IsJoinOf, HaveOtherSpaces, HasRefusal, HasDamage, EndsRefused, IsDiskFault, IsDamage, AreDamaged}
+
+-- two numbers that differ
+pub clash : {P : Type 0} (n a b : ℕ) → n ≡ a → n ≡ b → a ≢ b → P
+clash n a b one other differ = absurd (differ (sym one ∙ other))
+
+-- one of two or three, and none of them
+pub of_two : {P : Type 0} (n a b x : ℕ) → (n ≡ a) ⊎ (n ≡ b) → n ≡ x → a ≢ x → b ≢ x → P
+of_two n a b x either is p q = ⊎_elim (λ e. clash n a x e is p) (λ e. clash n b x e is q) either
+
+pub of_three : {P : Type 0} (n a b c x : ℕ) → (n ≡ a) ⊎ ((n ≡ b) ⊎ (n ≡ c)) → n ≡ x → a ≢ x → b ≢ x → c ≢ x → P
+of_three n a b c x either is p q r = ⊎_elim (λ e. clash n a x e is p) (λ rest. of_two n b c x rest is q r) either
+
+-- ---- what opening both files tells
+
+-- both files opened to these trees
+pub record Opened (d0 d1 e0 e1 : DiskState) (l r : Head × Live) : Type 0 where
+  pub same : IsUnchanged d0 d1
+  pub other_same : IsUnchanged e0 e1
+  pub opens : IsTrue d0.tells → IsOpened (tree_of d0 l)
+  pub other_opens : IsTrue e0.tells → IsOpened (tree_of e0 r)
+  pub later : d0.faults ≤ d1.faults
+  pub other_later : e0.faults ≤ e1.faults
+
+-- what is told of the bytes after opening is told of those before
+pub on_trees : (Holds : Tree → Tree → Type 0) (d0 d1 e0 e1 : DiskState) (l r : Head × Live) → Opened d0 d1 e0 e1 l r
+    → (IsTrue d1.tells → IsTrue e1.tells → Holds (tree_of d1 l) (tree_of e1 r)) → OnTrees d0 e0 Holds
+on_trees Holds d0 d1 e0 e1 l r opened holds t u = (
+  tree_of d0 l,
+  tree_of e0 r,
+  refl,
+  refl,
+  opened.opens t,
+  opened.other_opens u,
+  subst (λ (file : List ℕ). Holds (record { file = file; head = l.0; live = l.1 }) (tree_of e0 r)) opened.same.same_bytes
+      (subst (λ (file : List ℕ). Holds (tree_of d1 l) (record { file = file; head = r.0; live = r.1 })) opened.other_same.same_bytes
+      (holds (subst IsTrue (sym opened.same.same_tells) t) (subst IsTrue (sym opened.other_same.same_tells) u))),
+)
+
+rose_before : (a b c : ℕ) → a ≤ b → Rose b c → Rose a c
+rose_before a b c le rose = omega arith
+
+pub either_before : (d0 d1 d2 e0 e1 e2 : DiskState) (l r : Head × Live) → Opened d0 d1 e0 e1 l r → EitherRose d1 d2 e1 e2 → EitherRose d0 d2 e0 e2
+either_before d0 d1 d2 e0 e1 e2 l r opened either =
+    ⊎_elim (λ rose. inl (rose_before d0.faults d1.faults d2.faults opened.later rose)) (λ rose. inr (rose_before e0.faults e1.faults e2.faults opened.other_later rose)) either
+
+-- the index was opened, and the other file was not
+pub other_refuses : (d0 d1 e0 e1 : DiskState) (l : Head × Live) (w0 w1 : Option (List ℕ)) (status : ℕ) → (IsTrue d0.tells → IsOpened (tree_of d0 l)) → RefusesFile e0 e1 w0 w1 status → Refuses d0 d1 e0 e1 w0 w1 status
+other_refuses d0 d1 e0 e1 l w0 w1 status opens refuses = record {
+  disk = λ is. let told = refuses.disk is in (inr told.0, told.1);
+  not_index = λ is. let told = refuses.not_index is in (told.0, told.1, inr ((λ t. (tree_of d0 l, refl, opens t)), told.2));
+  statuses = refuses.statuses;
+}
+
+-- ---- verify and check
+
+pub judge_refused : (what : Report) (d0 d1 e0 e1 : DiskState) (bytes : List ℕ) (w0 w1 : Option (List ℕ)) (status : ℕ) → IsUnchanged d0 d1 → IsUnchanged e0 e1
+    → Refuses d0 d1 e0 e1 w0 w1 status → Judges what d0 d1 e0 e1 bytes w0 w1 status
+judge_refused what d0 d1 e0 e1 bytes w0 w1 status same other refuses = record {
+  unchanged = (same, other);
+  done = λ either. ⊎_elim (λ is. of_two status 5 6 0 refuses.statuses is (omega arith) (omega arith)) (λ is. of_two status 5 6 1 refuses.statuses is (omega arith) (omega arith)) either;
+  output = λ is. of_two status 5 6 4 refuses.statuses is (omega arith) (omega arith);
+  disk = refuses.disk;
+  not_index = refuses.not_index;
+  memory = λ is. of_two status 5 6 8 refuses.statuses is (omega arith) (omega arith);
+}
+
+good_or_not : (good : Bool) → (status_of good ≡ 0) ⊎ (status_of good ≡ 1)
+good_or_not true = inl refl
+good_or_not false = inr refl
+
+not_status : {P : Type 0} (good : Bool) (n x : ℕ) → (n ≡ status_of good) ⊎ (n ≡ 4) → n ≡ x → 0 ≢ x → 1 ≢ x → 4 ≢ x → P
+not_status good n x either is a b c =
+    ⊎_elim (λ e. ⊎_elim (λ z. clash n 0 x (e ∙ z) is a) (λ z. clash n 1 x (e ∙ z) is b) (good_or_not good)) (λ e. clash n 4 x e is c) either
+
+pub judge_said : (what : Report) (d0 d1 d2 e0 e1 e2 : DiskState) (bytes : List ℕ) (l r : Head × Live) (w0 w1 : Option (List ℕ)) (text : List ℕ) (good : Bool) (status : ℕ) → Opened d0 d1 e0 e1 l r
+    → IsUnchanged d0 d2 → IsUnchanged e0 e2
+    → (IsTrue d1.tells → IsTrue e1.tells → text ≡ (said_of what (tree_of d1 l) (tree_of e1 r) bytes).text)
+    → (IsTrue d1.tells → IsTrue e1.tells → good ≡ (said_of what (tree_of d1 l) (tree_of e1 r) bytes).good)
+    → (status ≡ status_of good) ⊎ (status ≡ 4) → (status ≡ status_of good → Appends w0 w1 text) → (status ≡ 4 → AppendsPrefix w0 w1 text)
+    → Judges what d0 d2 e0 e2 bytes w0 w1 status
+judge_said what d0 d1 d2 e0 e1 e2 bytes l r w0 w1 text good status opened same other said_text said_good either whole part = record {
+  unchanged = (same, other);
+  done = λ zero_one.
+      let is : status ≡ status_of good = ⊎_elim (λ e. e) (λ four. ⊎_elim (λ z. clash status 4 0 four z (omega arith)) (λ z. clash status 4 1 four z (omega arith)) zero_one) either in
+      on_trees _ d0 d1 e0 e1 l r opened (λ t u. (is ∙ ap (λ (g : Bool). status_of g) (said_good t u), subst (λ (x : List ℕ). Appends w0 w1 x) (said_text t u) (whole is)));
+  output = λ is. on_trees _ d0 d1 e0 e1 l r opened (λ t u. subst (λ (x : List ℕ). AppendsPrefix w0 w1 x) (said_text t u) (part is));
+  disk = λ is. not_status good status 5 either is (omega arith) (omega arith) (omega arith);
+  not_index = λ is. not_status good status 6 either is (omega arith) (omega arith) (omega arith);
+  memory = λ is. not_status good status 8 either is (omega arith) (omega arith) (omega arith);
+}
+
+pub judge_disk : (what : Report) (d0 d1 e0 e1 : DiskState) (bytes : List ℕ) (w0 w1 : Option (List ℕ)) (status : ℕ) → IsUnchanged d0 d1 → IsUnchanged e0 e1
+    → status ≡ 5 → EitherRose d0 d1 e0 e1 → AppendsPrefix w0 w1 (codes "fault disk\n") → Judges what d0 d1 e0 e1 bytes w0 w1 status
+judge_disk what d0 d1 e0 e1 bytes w0 w1 status same other five rose line = record {
+  unchanged = (same, other);
+  done = λ either. ⊎_elim (λ is. clash status 5 0 five is (omega arith)) (λ is. clash status 5 1 five is (omega arith)) either;
+  output = λ is. clash status 5 4 five is (omega arith);
+  disk = λ is. (rose, line);
+  not_index = λ is. clash status 5 6 five is (omega arith);
+  memory = λ is. clash status 5 8 five is (omega arith);
+}
+
+pub judge_memory : (what : Report) (d0 d1 e0 e1 : DiskState) (bytes : List ℕ) (w0 w1 : Option (List ℕ)) (status : ℕ) → IsUnchanged d0 d1 → IsUnchanged e0 e1
+    → status ≡ 8 → AppendsPrefix w0 w1 (codes "fault memory\n") → Judges what d0 d1 e0 e1 bytes w0 w1 status
+judge_memory what d0 d1 e0 e1 bytes w0 w1 status same other eight line = record {
+  unchanged = (same, other);
+  done = λ either. ⊎_elim (λ is. clash status 8 0 eight is (omega arith)) (λ is. clash status 8 1 eight is (omega arith)) either;
+  output = λ is. clash status 8 4 eight is (omega arith);
+  disk = λ is. clash status 8 5 eight is (omega arith);
+  not_index = λ is. clash status 8 6 eight is (omega arith);
+  memory = λ is. line;
+}
+
+-- no call was made
+pub unchanged : (disk : DiskState) → IsUnchanged disk disk
+unchanged disk = record {
+  same_tells = refl;
+  same_bytes = refl;
+  same_images = λ image. (λ left. left, λ left. left);
+  time = started disk (MayLeave disk) (λ image left. left);
+}
+
+pub early_memory : (what : Report) (d e : DiskState) (bytes : List ℕ) (w0 w1 : Option (List ℕ)) (status : ℕ) → status ≡ 8 → AppendsPrefix w0 w1 (codes "fault memory\n") → Judges what d d e e bytes w0 w1 status
+early_memory what d e bytes w0 w1 status eight line = judge_memory what d d e e bytes w0 w1 status (unchanged d) (unchanged e) eight line
+
+-- ---- join
+
+pub join_refused : (radius : ℕ) (d0 d1 e0 e1 : DiskState) (w0 w1 v : Option (List ℕ)) (status : ℕ) → IsUnchanged d0 d1 → IsUnchanged e0 e1
+    → Refuses d0 d1 e0 e1 w0 w1 status → Joins radius d0 d1 e0 e1 w0 w1 v v status
+join_refused radius d0 d1 e0 e1 w0 w1 v status same other refuses = record {
+  unchanged = (same, other);
+  done = λ is. of_two status 5 6 0 refuses.statuses is (omega arith) (omega arith);
+  spaces = λ is. of_two status 5 6 1 refuses.statuses is (omega arith) (omega arith);
+  output = λ is. of_two status 5 6 4 refuses.statuses is (omega arith) (omega arith);
+  disk = refuses.disk;
+  not_index = refuses.not_index;
+  memory = λ is. of_two status 5 6 8 refuses.statuses is (omega arith) (omega arith);
+  damaged = λ is. of_two status 5 6 9 refuses.statuses is (omega arith) (omega arith);
+}
+
+pub join_spaces : (radius : ℕ) (d0 d1 e0 e1 : DiskState) (l r : Head × Live) (w0 w1 v : Option (List ℕ)) (status : ℕ) → Opened d0 d1 e0 e1 l r → is_one_space l.0 r.0 ≡ false
+    → (status ≡ 1) ⊎ (status ≡ 4) → (status ≡ 1 → Appends w0 w1 spaces_text) → (status ≡ 4 → AppendsPrefix w0 w1 spaces_text) → Joins radius d0 d1 e0 e1 w0 w1 v v status
+join_spaces radius d0 d1 e0 e1 l r w0 w1 v status opened differ either whole part = record {
+  unchanged = (opened.same, opened.other_same);
+  done = λ is. of_two status 1 4 0 either is (omega arith) (omega arith);
+  spaces = λ is. (whole is, on_trees HaveOtherSpaces d0 d1 e0 e1 l r opened (λ t u. differ));
+  output = λ is. inl (part is, refl, on_trees HaveOtherSpaces d0 d1 e0 e1 l r opened (λ t u. differ));
+  disk = λ is. of_two status 1 4 5 either is (omega arith) (omega arith);
+  not_index = λ is. of_two status 1 4 6 either is (omega arith) (omega arith);
+  memory = λ is. of_two status 1 4 8 either is (omega arith) (omega arith);
+  damaged = λ is. of_two status 1 4 9 either is (omega arith) (omega arith);
+}
+
+pub join_done : (radius : ℕ) (d0 d1 d2 e0 e1 e2 : DiskState) (l r : Head × Live) (log : JoinLog) (w0 w1 v0 v1 : Option (List ℕ)) (status : ℕ) → Opened d0 d1 e0 e1 l r → IsUnchanged d0 d2 → IsUnchanged e0 e2
+    → (IsTrue d1.tells → IsTrue e1.tells → IsJoinOf radius log (tree_of d1 l) (tree_of e1 r))
+    → (status ≡ 0) ⊎ ((status ≡ 4) ⊎ (status ≡ 8)) → (status ≡ 0 → PutsJoin log w0 w1 v0 v1) → (status ≡ 4 → CutsJoin log w0 w1 v0 v1) → (status ≡ 8 → AppendsPrefix w0 w1 (codes "fault memory\n"))
+    → Joins radius d0 d2 e0 e2 w0 w1 v0 v1 status
+join_done radius d0 d1 d2 e0 e1 e2 l r log w0 w1 v0 v1 status opened same other joined statuses whole part memory = record {
+  unchanged = (same, other);
+  done = λ is. (log, whole is, on_trees (IsJoinOf radius log) d0 d1 e0 e1 l r opened joined);
+  spaces = λ is. of_three status 0 4 8 1 statuses is (omega arith) (omega arith) (omega arith);
+  output = λ is. inr (log, part is, on_trees (IsJoinOf radius log) d0 d1 e0 e1 l r opened joined);
+  disk = λ is. of_three status 0 4 8 5 statuses is (omega arith) (omega arith) (omega arith);
+  not_index = λ is. of_three status 0 4 8 6 statuses is (omega arith) (omega arith) (omega arith);
+  memory = memory;
+  damaged = λ is. of_three status 0 4 8 9 statuses is (omega arith) (omega arith) (omega arith);
+}
+
+either_of : (trees : Trees) (d1 d2 e1 e2 : DiskState) (fault : JoinFault) → IsDiskFault fault → HasRefusal trees d1 d2.faults e1 e2.faults fault → EitherRose d1 d2 e1 e2
+either_of trees d1 d2 e1 e2 fault is refusal =
+    ⊎_elim (λ e. inl (subst (HasRefusal trees d1 d2.faults e1 e2.faults) e refusal)) (λ e. inr (subst (HasRefusal trees d1 d2.faults e1 e2.faults) e refusal)) is
+
+left_damage : (trees : Trees) (d1 d2 e1 e2 : DiskState) (page : PageFault) → page ≢ pages.Disk → HasRefusal trees d1 d2.faults e1 e2.faults (join.Left page) → HasDamage trees d1 e1 page
+left_damage trees d1 d2 e1 e2 pages.Disk other refusal = absurd (other refl)
+left_damage trees d1 d2 e1 e2 (pages.Bad p f) other refusal = refusal
+left_damage trees d1 d2 e1 e2 (pages.Outside p) other refusal = refusal
+left_damage trees d1 d2 e1 e2 (pages.Repeats p) other refusal = refusal
+left_damage trees d1 d2 e1 e2 pages.Memory other refusal = refusal
+left_damage trees d1 d2 e1 e2 (pages.Level p) other refusal = refusal
+
+right_damage : (trees : Trees) (d1 d2 e1 e2 : DiskState) (page : PageFault) → page ≢ pages.Disk → HasRefusal trees d1 d2.faults e1 e2.faults (join.Right page) → HasDamage trees d1 e1 page
+right_damage trees d1 d2 e1 e2 pages.Disk other refusal = absurd (other refl)
+right_damage trees d1 d2 e1 e2 (pages.Bad p f) other refusal = refusal
+right_damage trees d1 d2 e1 e2 (pages.Outside p) other refusal = refusal
+right_damage trees d1 d2 e1 e2 (pages.Repeats p) other refusal = refusal
+right_damage trees d1 d2 e1 e2 pages.Memory other refusal = refusal
+right_damage trees d1 d2 e1 e2 (pages.Level p) other refusal = refusal
+
+damage_of : (trees : Trees) (d1 d2 e1 e2 : DiskState) (fault : JoinFault) (page : PageFault) → IsDamage fault page → HasRefusal trees d1 d2.faults e1 e2.faults fault → HasDamage trees d1 e1 page
+damage_of trees d1 d2 e1 e2 fault page is refusal =
+    ⊎_elim (λ e. left_damage trees d1 d2 e1 e2 page is.0 (subst (HasRefusal trees d1 d2.faults e1 e2.faults) e refusal)) (λ e. right_damage trees d1 d2 e1 e2 page is.0 (subst (HasRefusal trees d1 d2.faults e1 e2.faults) e refusal)) is.1
+
+pub join_stopped : (radius : ℕ) (trees : Trees) (d0 d1 d2 e0 e1 e2 : DiskState) (fault : JoinFault) (w0 w1 v : Option (List ℕ)) (status : ℕ) → Opened d0 d1 e0 e1 trees.left trees.right → IsUnchanged d0 d2 → IsUnchanged e0 e2
+    → HasRefusal trees d1 d2.faults e1 e2.faults fault → EndsRefused fault w0 w1 status → Joins radius d0 d2 e0 e2 w0 w1 v v status
+join_stopped radius trees d0 d1 d2 e0 e1 e2 fault w0 w1 v status opened same other refusal ends = record {
+  unchanged = (same, other);
+  done = λ is. of_three status 5 8 9 0 ends.statuses is (omega arith) (omega arith) (omega arith);
+  spaces = λ is. of_three status 5 8 9 1 ends.statuses is (omega arith) (omega arith) (omega arith);
+  output = λ is. of_three status 5 8 9 4 ends.statuses is (omega arith) (omega arith) (omega arith);
+  disk = λ is.
+      let told = ends.disk is in
+      (either_before d0 d1 d2 e0 e1 e2 trees.left trees.right opened (either_of trees d1 d2 e1 e2 fault told.0 refusal), told.1);
+  not_index = λ is. of_three status 5 8 9 6 ends.statuses is (omega arith) (omega arith) (omega arith);
+  memory = ends.memory;
+  damaged = λ is.
+      let told = ends.damaged is in
+      (told.0, told.2, on_trees (AreDamaged told.0) d0 d1 e0 e1 trees.left trees.right opened (damage_of trees d1 d2 e1 e2 fault told.0 told.1 refusal));
+}

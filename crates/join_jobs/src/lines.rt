@@ -1,0 +1,153 @@
+// The lines on two files and the logs of their join.
+ghost use Rattle.std.specs.Prelude.{◌≡◌, ◌++◌, OnOk, IfOk};
+ghost use Rattle.join_jobs.specs.Lines.{pairs_text, damaged_text, side_name, state_text, verdict_text, frame_text, end_text, undecoded_text, opening_text, unsound_text};
+
+use crate::Report;
+use file_jobs::{push_numbered, push_page_fault, rejected_text};
+use log_model::JoinLog;
+use log_verify::JoinVerdict;
+use metric_laws::Listed;
+use outside_io::Memory;
+use page_store::PageFault;
+use prune_log::LogFault;
+use rows_text::{Reply, reply_text};
+use scan_model::Pair;
+use std::alloc::Global;
+use tree_audit::AuditFault;
+
+/// Appends the lines of a join's pairs.
+pub fn push_pairs(pairs: Listed<Pair>, out: &mut Vec<u8>) -> Result<(), Memory>
+    ensures { OnOk result (out.new.items ≡ out.old.items ++ pairs_text pairs) }
+{
+    reply_text(&Reply::Pairs(pairs), false, out)
+}
+
+/// The line of a page that gave no node.
+pub fn damaged_text(alloc: Global, fault: PageFault) -> Result<Vec<u8>, Memory>
+    ensures { IfOk result (λ text. text.items ≡ damaged_text fault) }
+{
+    let mut text = Vec::new(alloc);
+    text.extend_from_slice(b"fault damaged ")?;
+    push_page_fault(fault, &mut text)?;
+    text.extend_from_slice(b"\n")?;
+    Ok(text)
+}
+
+fn side_name(right: bool) -> &'static [u8]
+    ensures { result.now ≡ side_name right }
+{
+    if right { b"right" } else { b"left" }
+}
+
+// A generation and a root.
+fn push_state(state: (u64, u32), out: &mut Vec<u8>) -> Result<(), Memory>
+    ensures { OnOk result (out.new.items ≡ out.old.items ++ state_text state) }
+{
+    push_numbered(b" ", state.0, out)?;
+    push_numbered(b" ", u64::from(state.1), out)
+}
+
+fn push_verdict(why: JoinVerdict, out: &mut Vec<u8>) -> Result<(), Memory>
+    ensures { OnOk result (out.new.items ≡ out.old.items ++ verdict_text why) }
+{
+    match why {
+        JoinVerdict::OtherState { right, named, live } => {
+            out.extend_from_slice(b"otherstate ")?;
+            out.extend_from_slice(side_name(right))?;
+            push_state(named, out)?;
+            push_state(live, out)
+        }
+        JoinVerdict::Page { right, fault } => {
+            out.extend_from_slice(b"page ")?;
+            out.extend_from_slice(side_name(right))?;
+            out.extend_from_slice(b" ")?;
+            push_page_fault(fault, out)
+        }
+        JoinVerdict::WrongPage(record) => push_numbered(b"wrongpage ", record, out),
+        JoinVerdict::WrongCount(record) => push_numbered(b"wrongcount ", record, out),
+        JoinVerdict::WrongMark(record, entry) => {
+            push_numbered(b"wrongmark ", record, out)?;
+            push_numbered(b" ", u64::from(entry), out)
+        }
+        JoinVerdict::WrongAnswer(answer) => push_numbered(b"wronganswer ", answer, out),
+        JoinVerdict::LeftOver(record) => push_numbered(b"leftover ", record, out),
+        JoinVerdict::Memory => out.extend_from_slice(b"memory"),
+    }
+}
+
+/// Appends the lines on the log of a frame with this first fault, or with none.
+pub fn push_frame(
+    report: Report,
+    frame: u64,
+    log: JoinLog,
+    fault: Option<JoinVerdict>,
+    out: &mut Vec<u8>,
+) -> Result<(), Memory>
+    ensures { OnOk result (out.new.items ≡ out.old.items ++ frame_text report frame log fault) }
+{
+    push_numbered(b"frame ", frame, out)?;
+    match (fault, report) {
+        (Some(why), _) => {
+            out.extend_from_slice(b" rejected ")?;
+            push_verdict(why, out)?;
+            out.extend_from_slice(b"\n")
+        }
+        (None, Report::Verdicts) => out.extend_from_slice(b" accepted\n"),
+        (None, Report::Answers) => {
+            push_numbered(b" complete\njoin,", log.r, out)?;
+            out.extend_from_slice(b"\n")?;
+            push_pairs(log.answers, out)
+        }
+    }
+}
+
+/// The line behind all frames.
+pub fn end_text(report: Report, sound: bool) -> &'static [u8]
+    ensures { result.now ≡ end_text report sound }
+{
+    match (sound, report) {
+        (false, _) => b"log rejected\n",
+        (true, Report::Verdicts) => b"log accepted, file not audited\n",
+        (true, Report::Answers) => b"log complete\n",
+    }
+}
+
+/// The line of bytes that are no logs.
+pub fn undecoded_text(fault: LogFault) -> &'static [u8]
+    ensures { result.now ≡ undecoded_text fault }
+{
+    match fault {
+        LogFault::Magic => b"log rejected magic\n",
+        LogFault::Version => b"log rejected version\n",
+        LogFault::Kind => b"log rejected kind\n",
+        LogFault::Cut => b"log rejected cut\n",
+        LogFault::Mark => b"log rejected mark\n",
+        LogFault::Order => b"log rejected order\n",
+        LogFault::Tail => b"log rejected tail\n",
+        LogFault::Memory => b"log rejected memory\n",
+    }
+}
+
+/// The lines before all frames, where answers are given on sound files alone.
+pub fn opening_text(report: Report) -> &'static [u8]
+    ensures { result.now ≡ opening_text report }
+{
+    match report {
+        Report::Verdicts => b"",
+        Report::Answers => b"file sound\nother sound\n",
+    }
+}
+
+/// The lines on two files of which one has this first fault: the right one, where the left has none.
+pub fn unsound_text(alloc: Global, right: bool, why: AuditFault) -> Result<Vec<u8>, Memory>
+    ensures { IfOk result (λ text. text.items ≡ unsound_text right why) }
+{
+    let mut text = Vec::new(alloc);
+    text.extend_from_slice(if right {
+        b"file sound\nother "
+    } else {
+        b"file "
+    })?;
+    text.extend_from_slice(&rejected_text(alloc, why)?)?;
+    Ok(text)
+}
