@@ -5,7 +5,6 @@ use Rattle.std.specs.List.{AllByRecursion, flat_map}
 use Rattle.std.proofs.lemmas.List.{append-nil}
 use Rattle.metric_laws.specs.Space.{Space}
 use Rattle.metric_laws.specs.Counts.{next_count}
-use Rattle.metric_laws.specs.Lists.{IsIn}
 use Rattle.metric_laws.proofs.Lists.{all_append, all_weaker, flat_map-append, flat_map-map}
 use Rattle.tree_shape.specs.declared.entry.InnerEntry.{InnerEntry}
 use Rattle.tree_shape.specs.declared.entry.Node.{Node}
@@ -21,10 +20,9 @@ use Rattle.page_store.specs.Shelf.{Shelf, HoldsSame, IsNodeOf, HasPageCause, IsP
 use Rattle.log_model.specs.Counts.{count_up}
 use Rattle.log_model.proofs.Reached.{count_up_more}
 use Rattle.log_model.proofs.Walk.{same_node}
-use Rattle.nearest_search.specs.Searched.{IsReached, IsReachedBy, HasNearestCause}
 use Rattle.index_core.specs.declared.shape.ShapeLine.{ShapeLine}
 use Rattle.index_core.specs.declared.shape.Named.{Named}
-use Rattle.index_core.specs.Shapes.{root_named, named_by, line_of, lines_of, lines_at, tree_lines, IsDrawn, Spot, IsSoundSpot, AreFront, IsDrawing}
+use Rattle.index_core.specs.Shapes.{root_named, named_by, line_of, lines_of, lines_at, tree_lines, IsDrawn, Spot, IsSoundSpot, AreFront, IsDrawing, DrawsTo, ComesTo, HasShapeCause}
 
 same_trans : (a b c : Shelf) → HoldsSame a b → HoldsSame b c → HoldsSame a c
 same_trans a b c first second = record {
@@ -173,14 +171,20 @@ module _ (s : Space) (nodes : Nodes) (t : Live) where
 
 -- ---- one step of the walk
 
-child_reached : (nodes : Nodes) (page p : ℕ) (path : List ℕ) (e : InnerEntry) → IsIn e (inner_entries (nodes p)) → IsReachedBy nodes page path p → IsReachedBy nodes page (path ++ e.child ∷ []) e.child
-child_reached nodes page p [] e k by = (e, subst (λ (n : ℕ). IsIn e (inner_entries (nodes n))) (sym by) k, refl, refl)
-child_reached nodes page p (c ∷ path) e k by = (by.0, by.1, by.2, child_reached nodes c p path e k by.3)
-
--- what the entries of a reached page name is reached
-named_reached : (nodes : Nodes) (root : ℕ) (es : List InnerEntry) → ((e : InnerEntry) → IsIn e es → IsReached nodes root e.child) → AllByRecursion (λ n. IsReached nodes root n.page) (map named_by es)
-named_reached nodes root [] reached = tt
-named_reached nodes root (e ∷ es) reached = (reached e (inl refl), named_reached nodes root es (λ f k. reached f (inr k)))
+-- one more node is opened
+draws_more : (nodes : Nodes) (ns : List Named) (lines : List ShapeLine) (n : Named) (rest : List Named) (node : Node) → nodes n.page ≡ Some node → DrawsTo nodes ns lines (n ∷ rest) →
+    DrawsTo nodes ns (lines ++ line_of n node ∷ []) (map named_by (inner_entries (Some node)) ++ rest)
+draws_more nodes [] [] n rest node is walk = absurd (let e : ◌≡◌ {A = List Named} (n ∷ rest) [] = walk in cc)
+draws_more nodes (m ∷ ms) [] n rest node is walk =
+    let first : n ≡ m = cc (walk) in
+    let others : rest ≡ ms = cc (walk) in (
+      node,
+      subst (λ (k : Named). nodes k.page ≡ Some node) first is,
+      ap (λ (k : Named). line_of k node) first,
+      ap (λ (l : List Named). map named_by (inner_entries (Some node)) ++ l) others,
+    )
+draws_more nodes [] (l ∷ ls) n rest node is walk = absurd walk
+draws_more nodes (m ∷ ms) (l ∷ ls) n rest node is walk = (walk.0, walk.1, walk.2, draws_more nodes (map named_by (inner_entries (Some walk.0)) ++ ms) ls n rest node is walk.3)
 
 told_then : (old now : Shelf) (page : ℕ) (node : Node) → HoldsSame old now → IsNodeOf now page node → IsTrue old.tells → nodes_of old.read page ≡ Some node
 told_then old now page node holds is tells =
@@ -192,7 +196,7 @@ module _ (old : Shelf) (t : Live) where
     same = record { dim = refl; pages = refl; tells = refl; read = refl; faults = (omega arith) };
     asked = refl;
     reads = omega arith;
-    reached = λ tells. (([], refl), tt);
+    walk = λ tells. refl;
     front = λ tells s sound. front_begins s (nodes_of old.read) t sound;
   }
 
@@ -205,50 +209,52 @@ module _ (old : Shelf) (t : Live) where
           same = same_trans old now new before.same same;
           asked = asked ∙ ap next_count before.asked ∙ count_up_more old.asked (length lines) ∙ ap (count_up old.asked) (sym long);
           reads = (let b = before.reads in omega arith);
-          reached = λ tells.
-              let here = (before.reached tells).0 in
-              let there = told_then old now n.page drawn.node before.same drawn.is tells in
-              subst (λ (c : List Named). AllByRecursion (λ m. IsReached (nodes_of old.read) t.root m.page) c) (sym drawn.named)
-                  (all_append (λ m. IsReached (nodes_of old.read) t.root m.page) (map named_by (inner_entries (Some drawn.node))) rest
-                  (named_reached (nodes_of old.read) t.root (inner_entries (Some drawn.node))
-                  (λ e k. (here.0 ++ e.child ∷ [], child_reached (nodes_of old.read) t.root n.page here.0 e (subst (λ (o : Option Node). IsIn e (inner_entries o)) (sym there) k) here.1)))
-                  (before.reached tells).1);
+          walk = λ tells.
+              subst (λ (c : List Named). DrawsTo (nodes_of old.read) (root_named t.root ∷ []) lines' c) (sym drawn.named)
+                  (subst (λ (l : List ShapeLine). DrawsTo (nodes_of old.read) (root_named t.root ∷ []) l (map named_by (inner_entries (Some drawn.node)) ++ rest)) (sym drawn.line)
+                  (draws_more (nodes_of old.read) (root_named t.root ∷ []) lines n rest drawn.node (told_then old now n.page drawn.node before.same drawn.is tells) (before.walk tells)));
           front = λ tells s sound.
               subst (λ (c : List Named). AreFront s (nodes_of old.read) t lines' c) (sym drawn.named)
                   (subst (λ (l : List ShapeLine). AreFront s (nodes_of old.read) t l (map named_by (inner_entries (Some drawn.node)) ++ rest)) (sym drawn.line)
                   (front_goes_on s (nodes_of old.read) t lines n rest drawn.node (told_then old now n.page drawn.node before.same drawn.is tells) (before.front tells s sound)));
         }
 
-    pub refused : (new : Shelf) (fault : PageFault) → HasPageCause now new n.page fault → HasNearestCause t old new fault
-    refused new Disk cause = (let l = before.same.faults in let c = cause in omega arith)
-    refused new (Bad page fault) cause = (
+    comes_to : (page : ℕ) → page ≡ n.page → IsTrue old.tells → ComesTo (nodes_of old.read) t.root (length lines) page
+    comes_to page same tells = record { lines = lines; next = n; rest = rest; walk = before.walk tells; is = sym same; count = refl }
+
+    pub refused : length lines < t.pages → (new : Shelf) (fault : PageFault) → HasPageCause now new n.page fault → HasShapeCause t old new fault
+    refused low new Disk cause = (let l = before.same.faults in let c = cause in omega arith)
+    refused low new (Bad page fault) cause = (
       cause.1,
       subst (λ (p : ℕ). IsWithin p page) before.same.pages (subst (λ (p : ℕ). IsWithin now.pages p) (sym cause.0) cause.2),
       λ tells. (
         subst (λ (p : ℕ). old.read p ≡ Err (Bad page fault)) (sym cause.0)
             (subst (λ (p : ℕ). old.read n.page ≡ Err (Bad p fault)) (sym cause.0)
             (ap (λ (r : Read). r n.page) (sym before.same.read) ∙ cause.3 (rw before.same.tells tells))),
-        subst (λ (p : ℕ). IsReached (nodes_of old.read) t.root p) (sym cause.0) (before.reached tells).0,
+        (length lines, low, comes_to page cause.0 tells),
       ),
     )
-    refused new (Outside page) cause = (
+    refused low new (Outside page) cause = (
       subst (λ (p : ℕ). is_within p page ≡ false) before.same.pages (subst (λ (p : ℕ). is_within now.pages p ≡ false) (sym cause.0) cause.1),
       λ tells. (
         subst (λ (p : ℕ). old.read p ≡ Err (Outside page)) (sym cause.0)
             (subst (λ (p : ℕ). old.read n.page ≡ Err (Outside p)) (sym cause.0)
             (ap (λ (r : Read). r n.page) (sym before.same.read) ∙ cause.2 (rw before.same.tells tells))),
-        subst (λ (p : ℕ). IsReached (nodes_of old.read) t.root p) (sym cause.0) (before.reached tells).0,
+        (length lines, low, comes_to page cause.0 tells),
       ),
     )
-    refused new Memory cause = tt
-    refused new (Repeats page) cause = absurd cause
-    refused new (Level page) cause = absurd cause
+    refused low new Memory cause = tt
+    refused low new (Repeats page) cause = absurd cause
+    refused low new (Level page) cause = absurd cause
 
-    pub repeats : length lines ≡ t.pages → HasNearestCause t old now (Repeats n.page)
-    repeats all = (before.asked ∙ ap (count_up old.asked) all, λ tells. (before.reached tells).0)
+    pub repeats : length lines ≡ t.pages → HasShapeCause t old now (Repeats n.page)
+    repeats all = (before.asked ∙ ap (count_up old.asked) all, λ tells. subst (λ (k : ℕ). ComesTo (nodes_of old.read) t.root k n.page) all (comes_to n.page refl tells))
+
+    inside : IsTrue old.tells → (s : Space) → IsSoundTree s (nodes_of old.read) t → length lines < t.pages
+    inside tells s sound = (front_inside s (nodes_of old.read) t lines n rest sound (before.front tells s sound)).0
 
     pub has_room : length lines ≡ t.pages → IsTrue old.tells → (s : Space) → IsSoundTree s (nodes_of old.read) t → ⊥
-    has_room all tells s sound = let r = (front_inside s (nodes_of old.read) t lines n rest sound (before.front tells s sound)).0 in omega arith
+    has_room all tells s sound = let r = inside tells s sound in omega arith
 
     no_node : (page : ℕ) (fault : PageFault) → page ≡ n.page → old.read page ≡ Err fault → IsTrue old.tells → (s : Space) → IsSoundTree s (nodes_of old.read) t → ⊥
     no_node page fault same is tells s sound =
@@ -261,8 +267,8 @@ module _ (old : Shelf) (t : Live) where
     pub passes : (new : Shelf) (fault : PageFault) → HasPageCause now new n.page fault → IsTrue old.tells → (s : Space) → IsSoundTree s (nodes_of old.read) t → IsPassing fault
     passes new Disk cause tells s sound = tt
     passes new Memory cause tells s sound = tt
-    passes new (Bad page fault) cause tells s sound = absurd (no_node page (Bad page fault) cause.0 (((refused new (Bad page fault) cause).2 tells).0) tells s sound)
-    passes new (Outside page) cause tells s sound = absurd (no_node page (Outside page) cause.0 (((refused new (Outside page) cause).1 tells).0) tells s sound)
+    passes new (Bad page fault) cause tells s sound = absurd (no_node page (Bad page fault) cause.0 (((refused (inside tells s sound) new (Bad page fault) cause).2 tells).0) tells s sound)
+    passes new (Outside page) cause tells s sound = absurd (no_node page (Outside page) cause.0 (((refused (inside tells s sound) new (Outside page) cause).1 tells).0) tells s sound)
     passes new (Repeats page) cause tells s sound = absurd cause
     passes new (Level page) cause tells s sound = absurd cause
 

@@ -53,29 +53,9 @@ pages_then file old new now holds reads faults same = shelf_is now (pages_on fil
 
 -- ---- what is kept
 
-node_still : (old new : Shelf) (page : ℕ) (node : Node) → HoldsSame old new → IsNodeOf old page node → IsNodeOf new page node
-node_still old new page node same is = record {
-  within = subst (λ (n : ℕ). IsWithin n page) (sym same.pages) is.within;
-  lawful = subst (λ (n : ℕ). IsLawfulNode n node) (sym same.dim) is.lawful;
-  told = λ tells. ap (λ (r : Read). r page) same.read ∙ is.told (rw (sym same.tells) tells);
-}
-
-pub agrees_still : (kept : Option Pairs) (old new : Shelf) → HoldsSame old new → KeptAgrees kept old → KeptAgrees kept new
-agrees_still None old new same agrees = tt
-agrees_still (Some pairs) old new same agrees = All-weaker (λ pair. IsNodeOf old pair.0 pair.1) (λ pair. IsNodeOf new pair.0 pair.1) (λ pair is. node_still old new pair.0 pair.1 same is) pairs.entries agrees
-
 pub kept_lawful : (kept : Option Pairs) (shelf : Shelf) → KeptAgrees kept shelf → IsLawfulKept shelf.dim shelf.pages kept
 kept_lawful None shelf agrees = tt
 kept_lawful (Some pairs) shelf agrees = All-weaker (λ pair. IsNodeOf shelf pair.0 pair.1) (λ pair. IsWithin shelf.pages pair.0 × IsLawfulNode shelf.dim pair.1) (λ pair is. (is.within, is.lawful)) pairs.entries agrees
-
-pub holds_same : {M : Type 0} (file : OpenFile M) (old new : DiskState) → IsUnchanged old new → old.faults ≤ new.faults → HoldsSame (pages_on file old 0) (pages_on file new 0)
-holds_same file old new same later = record {
-  dim = refl;
-  pages = refl;
-  tells = same.same_tells;
-  read = ap (λ (bytes : List ℕ). reading file.head.dim file.live.pages bytes) same.same_bytes;
-  faults = later;
-}
 
 -- ---- answers of lent pages
 

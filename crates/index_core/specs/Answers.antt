@@ -11,6 +11,7 @@ use Rattle.range_search.specs.Searched.{IsFound, HasWalkCause}
 use Rattle.nearest_search.specs.Searched.{HasNearestCause}
 use Rattle.index_core.specs.declared.faults.IndexFault.{IndexFault}
 use Rattle.index_core.specs.Causes.{HasReadCause}
+use Rattle.index_core.specs.Shapes.{HasShapeCause}
 use Rattle.index_core.specs.Files.{OpenFile, pages_on, nodes_on}
 
 -- the disk tells its bytes, and the live tree in them is sound in the space
@@ -31,6 +32,10 @@ IsFoundOn s file query old new found =
 abbrev pub HasRangeCause : {M : Type 0} → Space → OpenFile M → List ℕ → ℕ → DiskState → DiskState → IndexFault → Type 0
 HasRangeCause s file q r old new = HasReadCause (HasWalkCause (search_at s q (min r bound)) file.live (pages_on file old 0) (pages_on file new (count_up 0 file.live.pages)))
 
--- why a search for the nearest or the walk of a shape refuses: the disk failed, memory ran out, or a reached page is damaged
+-- why a search for the nearest refuses: the disk failed, memory ran out, or a reached page is damaged
 abbrev pub HasReachCause : {M : Type 0} → OpenFile M → DiskState → DiskState → IndexFault → Type 0
 HasReachCause file old new = HasReadCause (HasNearestCause file.live (pages_on file old 0) (pages_on file new (count_up 0 file.live.pages)))
+
+-- why the walk of a shape refuses: the disk failed, memory ran out, or the walk in pre-order came to a damaged page
+abbrev pub HasDrawCause : {M : Type 0} → OpenFile M → DiskState → DiskState → IndexFault → Type 0
+HasDrawCause file old new = HasReadCause (HasShapeCause file.live (pages_on file old 0) (pages_on file new (count_up 0 file.live.pages)))

@@ -1,6 +1,6 @@
 -- What an opened index is, and on which disks it stands.
 use Rattle.std.specs.Prelude.{◌≡◌, ℕ, ◌≤◌, ◌^◌, false, IsTrue, Option, MatchOption, All}
-use Rattle.disk_model.specs.Disk.{DiskState}
+use Rattle.disk_model.specs.Disk.{DiskState, LeavesOnly}
 use Rattle.tree_shape.specs.declared.live.Live.{Live}
 use Rattle.tree_shape.specs.Tree.{Nodes}
 use Rattle.node_page.specs.declared.head.Head.{Head}
@@ -47,3 +47,13 @@ pub record IsLawfulFile {M : Type 0} (words : ℕ) (file : OpenFile M) : Type 0 
   pub side : file.live.side ≤ 1
   pub live : (size : ℕ) × IsLawfulLive file.head.limit size file.live
   pub kept : IsLawfulKept file.head.dim file.live.pages file.kept
+
+-- An index that is opened for writing stands on the disk alone: what the disk tells is all that a crash may leave.
+pub record StandsAlone {M : Type 0} (file : OpenFile M) (disk : DiskState) : Type 0 where
+  pub stands : StandsOn file disk
+  pub only : IsTrue disk.tells → LeavesOnly disk disk.bytes
+
+-- an index that is opened for writing, and how many threads a load may use
+pub record OpenIndex (M : Type 0) : Type 0 where
+  pub file : OpenFile M
+  pub workers : ℕ

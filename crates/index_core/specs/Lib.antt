@@ -3,3 +3,4 @@ pub mod Files
 pub mod Causes
 pub mod Shapes
 pub mod Answers
+pub mod Still

@@ -1,4 +1,4 @@
-ghost use Rattle.std.specs.Prelude.{◌≡◌, ◌≤◌, ◌+◌, length, [], IsTrue, IfOk, IfErr, OnOk, OnErr, None, Some};
+ghost use Rattle.std.specs.Prelude.{◌≡◌, ◌≤◌, ◌+◌, length, [], ◌∷◌, IsTrue, IfOk, IfErr, OnOk, OnErr, None, Some};
 ghost use Rattle.lru.specs.LruCache.{lru_cache};
 ghost use Rattle.scan_model.specs.Scan.{range_hits, nearest_hits};
 ghost use Rattle.scan_model.specs.declared.query.Query.TheVariants.{Range, Nearest};
@@ -8,8 +8,8 @@ ghost use Rattle.page_store.specs.Shelf.{Shelf};
 ghost use Rattle.index_core.specs.Files.{StandsOn, IsLawfulFile, nodes_on};
 ghost use Rattle.index_core.specs.Causes.{HasReaderCause, MayComeAnytime};
 ghost use Rattle.index_core.specs.Lending.{KeptAgrees};
-ghost use Rattle.index_core.specs.Answers.{IsSoundOn, points_on, IsFoundOn, HasRangeCause, HasReachCause};
-ghost use Rattle.index_core.specs.Shapes.{tree_lines, IsCounted};
+ghost use Rattle.index_core.specs.Answers.{IsSoundOn, points_on, IsFoundOn, HasRangeCause, HasReachCause, HasDrawCause};
+ghost use Rattle.index_core.specs.Shapes.{root_named, tree_lines, DrawsTo, IsCounted};
 
 use crate::opened::Opened;
 use crate::{IndexFault, Memory, Shape};
@@ -160,7 +160,8 @@ impl<M: Metric> View<M> {
         ensures counted { IfOk result (IsCounted self.old.live) }
         ensures reads { IfOk result (λ shape. (D.state disk.new).reads ≤ (D.state disk.old).reads + length shape.lines) }
         ensures lines { IfOk result (λ shape. IsSoundOn (M.space self.old.metric) self.old (D.state disk.old) → shape.lines ≡ tree_lines (nodes_on self.old (D.state disk.old)) self.old.live) }
-        ensures cause { IfErr result (HasReachCause self.old (D.state disk.old) (D.state disk.new)) }
+        ensures walk { IfOk result (λ shape. IsTrue (D.state disk.old).tells → DrawsTo (nodes_on self.old (D.state disk.old)) (root_named self.old.live.root ∷ []) shape.lines []) }
+        ensures cause { IfErr result (HasDrawCause self.old (D.state disk.old) (D.state disk.new)) }
         ensures sound { IfErr result (λ fault. IsSoundOn (M.space self.old.metric) self.old (D.state disk.old) → MayComeAnytime fault) }
     {
         self.opened.shape(alloc, disk)

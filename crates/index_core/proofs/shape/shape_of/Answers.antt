@@ -3,7 +3,7 @@ use Rattle.std.proofs.lemmas.Grind.{common_steps}
 use Rattle.index_core.specs.declared.shape.Named.{Named}
 use Rattle.index_core.specs.declared.shape.ShapeLine.{ShapeLine}
 use Rattle.index_core.specs.Shapes.{IsDrawing, IsDrawn}
-use Rattle.index_core.proofs.Shaping.{begins, goes_on, has_room, passes}
+use Rattle.index_core.proofs.Shaping.{begins, goes_on, has_room, passes, refused, repeats}
 use Rattle.index_core.proofs.shape.shape_of.Goals as goal
 
 pub loop-named-init : goal.loop-named-init
@@ -41,3 +41,17 @@ loop-named-preserved g c =
       low = (let n = c.loop-named.invariant.low in let other = c.if-nodes-live.false in omega arith);
       drawing = after;
     }
+
+pub returns-then-nodes-live-clause-cause : goal.returns-then-nodes-live-clause-cause
+returns-then-nodes-live-clause-cause g c =
+    let stack : reverse c.loop-named.coming.items ≡ c.in-Some.named ∷ reverse c.pop.new.self.items = grind (arith, common_steps, c.in-Some.ensures.items) in
+    repeats (g.P.Pages.shelf c.args.pages.now) c.args.live.now (g.P.Pages.shelf c.loop-named.pages) c.loop-named.lines.items c.in-Some.named (reverse c.pop.new.self.items)
+    (subst (λ (coming : List Named). IsDrawing (g.P.Pages.shelf c.args.pages.now) (g.P.Pages.shelf c.loop-named.pages) c.args.live.now c.loop-named.lines.items coming) stack c.loop-named.invariant.drawing)
+    (sym c.loop-named.invariant.count ∙ c.if-nodes-live.true)
+
+pub returns-in-Err-clause-cause : goal.returns-in-Err-clause-cause
+returns-in-Err-clause-cause g c =
+    let stack : reverse c.loop-named.coming.items ≡ c.in-Some.named ∷ reverse c.pop.new.self.items = grind (arith, common_steps, c.in-Some.ensures.items) in
+    refused (g.P.Pages.shelf c.args.pages.now) c.args.live.now (g.P.Pages.shelf c.loop-named.pages) c.loop-named.lines.items c.in-Some.named (reverse c.pop.new.self.items)
+    (subst (λ (coming : List Named). IsDrawing (g.P.Pages.shelf c.args.pages.now) (g.P.Pages.shelf c.loop-named.pages) c.args.live.now c.loop-named.lines.items coming) stack c.loop-named.invariant.drawing)
+    (let n = c.loop-named.invariant.count in let l = c.loop-named.invariant.low in let other = c.if-nodes-live.false in omega arith) (g.P.Pages.shelf c.draw.new.pages) c.in-Err.fault c.in-Err.ensures.cause
