@@ -211,12 +211,12 @@ module _ (old : Shelf) (t : Live) where
           reads = (let b = before.reads in omega arith);
           walk = λ tells.
               subst (λ (c : List Named). DrawsTo (nodes_of old.read) (root_named t.root ∷ []) lines' c) (sym drawn.named)
-                  (subst (λ (l : List ShapeLine). DrawsTo (nodes_of old.read) (root_named t.root ∷ []) l (map named_by (inner_entries (Some drawn.node)) ++ rest)) (sym drawn.line)
-                  (draws_more (nodes_of old.read) (root_named t.root ∷ []) lines n rest drawn.node (told_then old now n.page drawn.node before.same drawn.is tells) (before.walk tells)));
+              (subst (λ (l : List ShapeLine). DrawsTo (nodes_of old.read) (root_named t.root ∷ []) l (map named_by (inner_entries (Some drawn.node)) ++ rest)) (sym drawn.line)
+              (draws_more (nodes_of old.read) (root_named t.root ∷ []) lines n rest drawn.node (told_then old now n.page drawn.node before.same drawn.is tells) (before.walk tells)));
           front = λ tells s sound.
               subst (λ (c : List Named). AreFront s (nodes_of old.read) t lines' c) (sym drawn.named)
-                  (subst (λ (l : List ShapeLine). AreFront s (nodes_of old.read) t l (map named_by (inner_entries (Some drawn.node)) ++ rest)) (sym drawn.line)
-                  (front_goes_on s (nodes_of old.read) t lines n rest drawn.node (told_then old now n.page drawn.node before.same drawn.is tells) (before.front tells s sound)));
+              (subst (λ (l : List ShapeLine). AreFront s (nodes_of old.read) t l (map named_by (inner_entries (Some drawn.node)) ++ rest)) (sym drawn.line)
+              (front_goes_on s (nodes_of old.read) t lines n rest drawn.node (told_then old now n.page drawn.node before.same drawn.is tells) (before.front tells s sound)));
         }
 
     comes_to : (page : ℕ) → page ≡ n.page → IsTrue old.tells → ComesTo (nodes_of old.read) t.root (length lines) page

@@ -188,7 +188,13 @@ fn check_nearest<D: Disk, M: Metric>(
             let hits = found.hits.as_slice();
             assert_eq!(rt; Ok(hits.len()), expected);
             for i in 0..hits.len() {
-                assert_eq!(rt; hits[i], Hit { id: i as u32, dist: i as u64 });
+                assert_eq!(rt;
+                    hits[i],
+                    Hit {
+                        id: i as u32,
+                        dist: i as u64
+                    }
+                );
             }
         }
         Err(fault) => assert_eq!(rt; Err(fault), expected),
@@ -220,7 +226,10 @@ fn check_shape<D: Disk, M: Metric>(
     let alloc = rt.alloc();
     match view.shape(alloc, disk) {
         Ok(shape) => {
-            assert_eq!(rt; (shape.height, shape.objects), (view.live().height, view.count()));
+            assert_eq!(rt;
+                (shape.height, shape.objects),
+                (view.live().height, view.count())
+            );
             assert_eq!(rt; shape.nodes as usize, shape.lines.as_slice().len());
             let mut lines = Vec::new(alloc);
             for line in shape.lines.as_slice() {
@@ -246,7 +255,10 @@ fn the_numbers_to_32_are_searched(rt: HostRuntime) -> Result<(), Fail> {
     let alloc = rt.alloc();
     let mut disk = disk_of(alloc, numbers(alloc)?, &[])?;
     let mut view = open_on(&mut disk)?;
-    assert_eq!(rt; (view.count(), view.live(), view.head()), (33, NUMBERS, HEAD));
+    assert_eq!(rt;
+        (view.count(), view.live(), view.head()),
+        (33, NUMBERS, HEAD)
+    );
     check_range(&rt, &mut view, &mut disk, 0, 2, Ok(&NEAR))?;
     check_range(&rt, &mut view, &mut disk, 100, 2, Ok(&[]))?;
     check_nearest(&rt, &mut view, &mut disk, 0, 50, Ok(33))?;
@@ -292,10 +304,31 @@ fn check_damaged(
     let alloc = rt.alloc();
     let mut disk = disk_of(alloc, six_entries(alloc, child)?, &[])?;
     let mut view = open_on(&mut disk)?;
-    check_range(rt, &mut view, &mut disk, 0, 0, Err(IndexFault::Damaged(fault)))?;
+    check_range(
+        rt,
+        &mut view,
+        &mut disk,
+        0,
+        0,
+        Err(IndexFault::Damaged(fault)),
+    )?;
     view.use_cache(alloc, 2)?;
-    check_range(rt, &mut view, &mut disk, 0, 0, Err(IndexFault::Damaged(fault)))?;
-    check_nearest(rt, &mut view, &mut disk, 0, 40, Err(IndexFault::Damaged(fault)))?;
+    check_range(
+        rt,
+        &mut view,
+        &mut disk,
+        0,
+        0,
+        Err(IndexFault::Damaged(fault)),
+    )?;
+    check_nearest(
+        rt,
+        &mut view,
+        &mut disk,
+        0,
+        40,
+        Err(IndexFault::Damaged(fault)),
+    )?;
     check_shape(rt, &mut view, &mut disk, Err(IndexFault::Damaged(fault)))
 }
 
@@ -325,7 +358,10 @@ fn a_file_that_is_not_opened(rt: HostRuntime) -> Result<(), Fail> {
     assert_eq!(rt; refusal(alloc, 9, 2, 1)?, None);
     assert_eq!(rt; refusal(alloc, 9, 1, 1)?, version);
     assert_eq!(rt; refusal(alloc, 9, 1, 2)?, version);
-    assert_eq!(rt; refusal(alloc, 9, 2, 2)?, Some(OpenFault::Head(HeadFault::Space)));
+    assert_eq!(rt;
+        refusal(alloc, 9, 2, 2)?,
+        Some(OpenFault::Head(HeadFault::Space))
+    );
     assert_eq!(rt; refusal(alloc, 4096, 0, 2)?, Some(OpenFault::Unfinished));
     Ok(())
 }
@@ -340,7 +376,10 @@ fn check_index<D: Disk, M: Metric>(
     ensures { StandsAlone index.new.file (D.state disk.new) }
 {
     let alloc = rt.alloc();
-    assert_eq!(rt; (index.count(), index.live(), index.head()), (33, NUMBERS, HEAD));
+    assert_eq!(rt;
+        (index.count(), index.live(), index.head()),
+        (33, NUMBERS, HEAD)
+    );
     assert!(rt; index.metric().fits(&[0]));
     let found = index.range(alloc, disk, &[0], 2)?;
     assert_eq!(rt; found.hits.as_slice(), NEAR.as_slice());
@@ -355,9 +394,15 @@ fn check_index<D: Disk, M: Metric>(
 fn an_index_is_opened_after_a_sync(rt: HostRuntime) -> Result<(), Fail> {
     let alloc = rt.alloc();
     let mut disk = disk_of(alloc, numbers(alloc)?, &[0, 3])?;
-    assert_eq!(rt; Index::open_write(&mut disk, L1::new(1)).err(), Some(OpenFault::Disk));
+    assert_eq!(rt;
+        Index::open_write(&mut disk, L1::new(1)).err(),
+        Some(OpenFault::Disk)
+    );
     assert_eq!(rt; disk.moments(), 1);
-    assert_eq!(rt; Index::open_write(&mut disk, L1::new(1)).err(), Some(OpenFault::Disk));
+    assert_eq!(rt;
+        Index::open_write(&mut disk, L1::new(1)).err(),
+        Some(OpenFault::Disk)
+    );
     let mut index = Index::open_write(&mut disk, L1::new(1))?;
     assert_eq!(rt; disk.moments(), 9);
     index.set_workers(64);

@@ -31,7 +31,7 @@ pub struct View<M: Metric> {
 
 impl<M: Metric> Model for View<M> {
     ghost use Rattle.page_store.specs.Shelf.{Shelf};
-ghost use Rattle.index_core.specs.Files.{OpenFile};
+    ghost use Rattle.index_core.specs.Files.{OpenFile};
 
     ghost Value = { OpenFile M };
 
