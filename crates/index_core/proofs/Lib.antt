@@ -1,2 +1,2 @@
+pub mod Opening
 pub mod Shaping
-pub mod Standing

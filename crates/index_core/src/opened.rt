@@ -41,7 +41,6 @@ pub struct Opened<M: Metric> {
 }
 
 impl<M: Metric> Model for Opened<M> {
-    ghost use Rattle.page_store.specs.Shelf.{Shelf};
     ghost use Rattle.index_core.specs.Files.{OpenFile, IsLawfulFile};
 
     ghost Value = { OpenFile M };

@@ -147,6 +147,15 @@ fn open_on<D: Disk>(disk: &mut D) -> Result<View<L1>, OpenFault>
     View::open_read(disk, L1::new(1))
 }
 
+// Looks at the disk behind the view's back.
+fn look_aside<D: Disk, M: Metric>(view: &View<M>, disk: &mut D) -> Option<u64>
+    requires { StandsOn view.now (D.state disk.old) }
+    ensures { StandsOn view.now (D.state disk.new) }
+{
+    let _metric = view.metric();
+    disk.size().ok()
+}
+
 // The answers of a range query of a point of one coordinate are these.
 fn check_range<D: Disk, M: Metric>(
     rt: &(impl AllocGlobal + Abort),
@@ -262,6 +271,7 @@ fn the_numbers_to_32_are_searched(rt: HostRuntime) -> Result<(), Fail> {
     check_range(&rt, &mut view, &mut disk, 0, 2, Ok(&NEAR))?;
     check_range(&rt, &mut view, &mut disk, 100, 2, Ok(&[]))?;
     check_nearest(&rt, &mut view, &mut disk, 0, 50, Ok(33))?;
+    assert_eq!(rt; look_aside(&view, &mut disk), Some(6 * 4096));
     check_nearest(&rt, &mut view, &mut disk, 0, 3, Ok(3))?;
     check_shape(&rt, &mut view, &mut disk, Ok(&LINES))
 }

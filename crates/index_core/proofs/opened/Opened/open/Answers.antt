@@ -1,5 +1,5 @@
 use Rattle.std.proofs.Common.{inl, inr, refl}
-use Rattle.index_core.proofs.Standing.{is_first}
+use Rattle.index_core.proofs.Opening.{is_first}
 use Rattle.index_core.proofs.opened.Opened.open.Goals as goal
 
 pub returns-then-head-ne2-clause-cause : goal.returns-then-head-ne2-clause-cause
