@@ -1,5 +1,5 @@
 -- What the reading calls of an opened index answer, and why they refuse.
-use Rattle.std.specs.Prelude.{◌≡◌, ℕ, ◌+◌, ◌≤◌, min, List, length, IsTrue}
+use Rattle.std.specs.Prelude.{ℕ, min, List, length, IsTrue}
 use Rattle.metric_laws.specs.Space.{Space, bound}
 use Rattle.disk_model.specs.Disk.{DiskState}
 use Rattle.scan_model.specs.declared.query.Query.{Query}

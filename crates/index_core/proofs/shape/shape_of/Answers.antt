@@ -1,4 +1,4 @@
-use Rattle.std.proofs.Common.{◌≡◌, ◌∙◌, ◌∷◌, [], List, arith, length, sym, ap, subst, refl, reverse}
+use Rattle.std.proofs.Common.{◌≡◌, ◌∙◌, ◌∷◌, List, arith, length, sym, ap, subst, refl, reverse}
 use Rattle.std.proofs.lemmas.Grind.{common_steps}
 use Rattle.index_core.specs.declared.shape.Named.{Named}
 use Rattle.index_core.specs.declared.shape.ShapeLine.{ShapeLine}
