@@ -5,5 +5,6 @@ pub mod Counts
 pub mod Steps
 pub mod Sound
 pub mod JoinWalk
+pub mod JoinSteps
 pub mod SoundJoin
 pub mod Laws

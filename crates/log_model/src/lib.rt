@@ -7,6 +7,7 @@ pub mod laws;
 mod logs;
 mod marking;
 mod marks;
+mod pairing;
 mod pairs;
 mod traversal;
 
@@ -14,6 +15,7 @@ pub use answering::{put_hits_in_order, put_pairs_in_order, radius_of, select};
 pub use logs::{Found, JoinLog, Joined, Log};
 pub use marking::{Probe, is_ruled_out, mark_inner, mark_leaf};
 pub use marks::{JoinRecord, Mark, Need, Record};
+pub use pairing::{is_far, is_skipped};
 pub use pairs::{Item, JoinNeed};
 pub use traversal::Traversal;
 

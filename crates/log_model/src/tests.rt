@@ -1,4 +1,7 @@
-use crate::{laws, put_hits_in_order, put_pairs_in_order, radius_of, select};
+use crate::{
+    Item, JoinNeed, is_far, is_skipped, laws, put_hits_in_order, put_pairs_in_order, radius_of,
+    select,
+};
 use metric_laws::{BOUND, Point};
 use scan_model::{Hit, Pair, Query};
 use std::test::Fail;
@@ -59,4 +62,50 @@ fn pairs_are_in_order_and_each_once(rt: HostRuntime) -> Result<(), Fail> {
     put_pairs_in_order(&mut pairs);
     assert_eq!(rt; pairs.as_slice(), [first, second].as_slice());
     Ok(())
+}
+
+#[test]
+fn the_item_of_greater_rank_is_opened(rt: HostRuntime) -> Result<(), Fail> {
+    let pair = JoinNeed {
+        left: Item::Object {
+            id: 7,
+            point: Point::new(rt.alloc(), &[5])?,
+        },
+        right: Item::Subtree {
+            page: 3,
+            rank: 2,
+            centre: Some(Point::new(rt.alloc(), &[1])?),
+            radius: 9,
+        },
+        apart: Some(4),
+    };
+    assert!(rt; pair.opens_right());
+    assert_eq!(rt; pair.opened().page(), 3);
+    assert_eq!(rt; pair.opened().radius(), 9);
+    let kept = pair.other().try_clone(rt.alloc())?;
+    assert!(rt; kept.is_object());
+    assert_eq!(rt; kept.id(), 7);
+    let tie = JoinNeed {
+        left: pair.right,
+        right: Item::Subtree {
+            page: 8,
+            rank: 2,
+            centre: None,
+            radius: 0,
+        },
+        apart: None,
+    };
+    assert!(rt; !tie.opens_right());
+    assert_eq!(rt; tie.opened().page(), 3);
+    Ok(())
+}
+
+#[test]
+fn pairs_at_the_bound_are_not_ruled_out(rt: HostRuntime) {
+    assert!(rt; !is_far(Some(10), 5, 3, 2));
+    assert!(rt; is_far(Some(11), 5, 3, 2));
+    assert!(rt; !is_far(None, 0, 0, 0));
+    assert!(rt; !is_skipped(Some(4), 14, 5, 3, 2));
+    assert!(rt; is_skipped(Some(4), 15, 5, 3, 2));
+    assert!(rt; !is_skipped(None, 15, 0, 0, 0));
 }

@@ -3,8 +3,7 @@ use Rattle.std.proofs.Common.{◌≡◌, ℕ, zero, suc, ◌+◌, ◌<◌, ◌�
 use Rattle.metric_laws.specs.Counts.{next_count}
 use Rattle.log_model.specs.declared.marks.Mark.{Mark}
 use Rattle.log_model.specs.declared.marks.Mark.TheVariants.{Skip, Far, Near}
-use Rattle.log_model.specs.Counts.{count_up, measured_by}
-use Rattle.log_verify.specs.Causes.{CountsUpTo}
+use Rattle.log_model.specs.Counts.{count_up, measured_by, CountsUpTo}
 
 -- a count that rises so often, and so often again
 pub count_up-add : (c m n : ℕ) → count_up c (m + n) ≡ count_up (count_up c m) n

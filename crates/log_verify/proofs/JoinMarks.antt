@@ -1,57 +1,17 @@
 -- One mark of a join's record that is allowed.
-use Rattle.std.proofs.Common.{◌≡◌, ℕ, ◌+◌, ◌<◌, Bool, true, false, Option, Some, List, [], ◌∷◌, ◌++◌, length, map, drop, get_or, refl, sym, ap, ◌∙◌, append_assoc}
-use Rattle.std.specs.Prelude.{if◌then◌else◌, filter}
+use Rattle.std.proofs.Common.{◌≡◌, ℕ, ◌+◌, ◌<◌, Bool, true, Option, Some, List, [], ◌∷◌, ◌++◌, length, map, drop, get_or, refl, sym, ap, ◌∙◌, append_assoc}
+use Rattle.std.specs.Prelude.{if◌then◌else◌}
 use Rattle.metric_laws.specs.Space.{Space}
 use Rattle.scan_model.specs.declared.hit.Pair.{Pair}
 use Rattle.log_model.specs.declared.marks.Mark.{Mark}
 use Rattle.log_model.specs.declared.marks.Mark.TheVariants.{Skip, Far, Near}
 use Rattle.log_model.specs.declared.pairs.JoinNeed.{JoinNeed}
 use Rattle.log_model.specs.Walk.{near_ones}
-use Rattle.log_model.specs.JoinWalk.{Entry, opens_right, apart_of, centre_of, with_entry, is_hit, is_need, pair_of}
+use Rattle.log_model.specs.JoinWalk.{Entry, with_entry}
+use Rattle.log_model.specs.JoinSteps.{paired, hits_among, needs_among}
+use Rattle.log_model.proofs.JoinSteps.{paired_same, hits_append, needs_append}
 use Rattle.log_verify.specs.Judged.{first_wrong}
-use Rattle.log_verify.specs.JoinSteps.{paired, hits_among, needs_among}
 use Rattle.log_verify.proofs.OneMark.{one_left, one_named, near_same}
-
-hits_cons : (p : JoinNeed) (ps : List JoinNeed) → hits_among (p ∷ ps) ≡ hits_among (p ∷ []) ++ hits_among ps
-hits_cons p ps = cases (is_hit p)
-  where
-    cases : (b : Bool) → map pair_of (if b then p ∷ filter is_hit ps else filter is_hit ps) ≡ map pair_of (if b then p ∷ [] else []) ++ map pair_of (filter is_hit ps)
-    cases true = refl
-    cases false = refl
-
-hits_append : (ps qs : List JoinNeed) → hits_among (ps ++ qs) ≡ hits_among ps ++ hits_among qs
-hits_append [] qs = refl
-hits_append (p ∷ ps) qs =
-    hits_cons p (ps ++ qs) ∙ ap (λ (t : List Pair). hits_among (p ∷ []) ++ t) (hits_append ps qs) ∙ sym (append_assoc (hits_among (p ∷ [])) (hits_among ps) (hits_among qs))
-    ∙ ap (λ (t : List Pair). t ++ hits_among qs) (sym (hits_cons p ps))
-
-needs_cons : (p : JoinNeed) (ps : List JoinNeed) → needs_among (p ∷ ps) ≡ needs_among (p ∷ []) ++ needs_among ps
-needs_cons p ps = cases (is_need p)
-  where
-    cases : (b : Bool) → (if b then p ∷ filter is_need ps else filter is_need ps) ≡ (if b then p ∷ [] else []) ++ filter is_need ps
-    cases true = refl
-    cases false = refl
-
-needs_append : (ps qs : List JoinNeed) → needs_among (ps ++ qs) ≡ needs_among ps ++ needs_among qs
-needs_append [] qs = refl
-needs_append (p ∷ ps) qs =
-    needs_cons p (ps ++ qs) ∙ ap (λ (t : List JoinNeed). needs_among (p ∷ []) ++ t) (needs_append ps qs) ∙ sym (append_assoc (needs_among (p ∷ [])) (needs_among ps) (needs_among qs))
-    ∙ ap (λ (t : List JoinNeed). t ++ needs_among qs) (sym (needs_cons p ps))
-
--- an entry's item in the place of the opened one is the entry's pair
-paired_is : (s : Space) (n : JoinNeed) (e : Entry) → paired n e.item (with_entry s n e).apart ≡ with_entry s n e
-paired_is s n e = cases (opens_right n)
-  where
-    right : JoinNeed
-    right = record { left = n.left; right = e.item; apart = apart_of s (centre_of n.left) (centre_of e.item) }
-
-    left : JoinNeed
-    left = record { left = e.item; right = n.right; apart = apart_of s (centre_of e.item) (centre_of n.right) }
-
-    cases : (b : Bool) → (if b then record { left = n.left; right = e.item; apart = (if b then right else left).apart } else record { left = e.item; right = n.right; apart = (if b then right else left).apart })
-        ≡ (if b then right else left)
-    cases true = refl
-    cases false = refl
 
 -- entries as a list of their own
 wrong_map : {X Y : Type 0} (f : X → Y) (allows : Y → Mark → Bool) (es : List X) (marks : List Mark) (k : ℕ) → first_wrong allows (map f es) marks k ≡ first_wrong (λ e m. allows (f e) m) es marks k
@@ -74,7 +34,7 @@ module _ {X : Type 0} (s : Space) (n : JoinNeed) (entry : X → Entry) (es : Lis
       near_map entry (with_entry s n) (drop i es) (drop i marks)
       ∙ one_named (λ x. with_entry s n (entry x)) es marks i e low long is
       ∙ ap (λ (t : List JoinNeed). t ++ map (λ x. with_entry s n (entry x)) (near_ones (drop (i + 1) es) (drop (i + 1) marks)))
-      (sym (near_same (get_or marks i Skip) (paired n (entry e).item apart) (with_entry s n (entry e)) (λ near. ap (paired n (entry e).item) (dist near) ∙ paired_is s n (entry e))))
+      (sym (near_same (get_or marks i Skip) (paired n (entry e).item apart) (with_entry s n (entry e)) (λ near. ap (paired n (entry e).item) (dist near) ∙ paired_same s n (entry e))))
       ∙ ap (λ (t : List JoinNeed). near_ones (paired n (entry e).item apart ∷ []) (get_or marks i Skip ∷ []) ++ t) (sym (near_map entry (with_entry s n) (drop (i + 1) es) (drop (i + 1) marks)))
 
   pub hits_next : (old new all : List Pair) → new ≡ old ++ hits_among (near_ones (paired n (entry e).item apart ∷ []) (get_or marks i Skip ∷ []))

@@ -13,10 +13,10 @@ use Rattle.log_model.specs.declared.logs.JoinLog.{JoinLog}
 use Rattle.log_model.specs.InOrder.{in_order, pair_before}
 use Rattle.log_model.specs.JoinWalk.{JoinSearch}
 use Rattle.log_model.specs.SoundJoin.{join_at, root_pair, IsSoundJoinLog}
+use Rattle.log_model.specs.JoinSteps.{search_within}
 use Rattle.log_verify.specs.declared.faults.JoinVerdict.{JoinVerdict}
 use Rattle.log_verify.specs.declared.faults.JoinVerdict.TheVariants.{OtherState, Page, WrongPage, WrongCount, WrongMark, WrongAnswer, LeftOver, Memory}
 use Rattle.log_verify.specs.JoinJudged.{join_walked, pair_difference, join_walk_of, names, join_fault}
-use Rattle.log_verify.specs.JoinSteps.{search_within}
 use Rattle.log_verify.specs.Causes.{HasJoinCause, IsJoinPassing}
 use Rattle.log_verify.proofs.JoinSoundness.{walked_from_join, join_none_from_sound}
 

@@ -9,12 +9,12 @@ use Rattle.page_store.specs.Reading.{Read, IsWithin, is_within}
 use Rattle.page_store.specs.Shelf.{Shelf, HoldsSame}
 use Rattle.log_model.specs.declared.marks.Record.{Record}
 use Rattle.log_model.specs.declared.marks.Need.{Need}
-use Rattle.log_model.specs.Counts.{count_up, measured_by, measured}
+use Rattle.log_model.specs.Counts.{count_up, measured_by, measured, CountsUpTo}
 use Rattle.log_model.specs.Walk.{Search}
 use Rattle.log_verify.specs.declared.faults.Verdict.{Verdict}
 use Rattle.log_verify.specs.declared.faults.Verdict.TheVariants.{OtherState, Point, Page, WrongPage, WrongCount, WrongMark, WrongAnswer, LeftOver, Memory}
 use Rattle.log_verify.specs.Judged.{walked}
-use Rattle.log_verify.specs.Causes.{HasRefusal, HasCause, CountsUpTo}
+use Rattle.log_verify.specs.Causes.{HasRefusal, HasCause}
 use Rattle.log_verify.proofs.Counting.{count_up-add}
 
 pub holds_both : (old mid new : Shelf) → HoldsSame old mid → HoldsSame mid new → HoldsSame old new

@@ -1,12 +1,11 @@
 -- Why a verdict is given, and what it cost.
-use Rattle.std.specs.Prelude.{◌≡◌, ◌≢◌, ℕ, ◌≤◌, Bool, true, false, IsTrue, Err}
+use Rattle.std.specs.Prelude.{◌≡◌, ◌≢◌, ℕ, Bool, true, false, IsTrue, Err}
 use Rattle.outside_io.specs.Causes.{Rose}
 use Rattle.node_page.specs.declared.node.NodeFault.TheVariants.{Memory as NodeMemory}
 use Rattle.page_store.specs.declared.pages.PageFault.{PageFault}
 use Rattle.page_store.specs.declared.pages.PageFault.TheVariants as pages
 use Rattle.page_store.specs.Reading.{IsWithin, is_within}
 use Rattle.page_store.specs.Shelf.{Shelf}
-use Rattle.log_model.specs.Counts.{count_up}
 use Rattle.log_model.specs.declared.pairs.JoinNeed.{JoinNeed}
 use Rattle.log_model.specs.JoinWalk.{opens_right, opened, page_of}
 use Rattle.log_verify.specs.declared.faults.JoinVerdict.{JoinVerdict}
@@ -71,7 +70,3 @@ abbrev pub IsPassing : Verdict → Type 0
 IsPassing Memory = Unit {0}
 IsPassing (Page pages.Disk) = Unit {0}
 IsPassing _ = ⊥
-
--- a count rose by one so many times, at most as often as is said
-abbrev pub CountsUpTo : ℕ → ℕ → ℕ → Type 0
-CountsUpTo old new most = (n : ℕ) × (n ≤ most) × (new ≡ count_up old n)

@@ -1,16 +1,10 @@
 -- The steps of the join's walk.
-use Rattle.std.specs.Prelude.{ℕ, List, map, filter, Option, Some, if◌then◌else◌}
+use Rattle.std.specs.Prelude.{ℕ}
 use Rattle.metric_laws.specs.Space.{Space}
-use Rattle.scan_model.specs.declared.hit.Pair.{Pair}
 use Rattle.tree_shape.specs.declared.entry.LeafEntry.{LeafEntry}
 use Rattle.tree_shape.specs.declared.entry.InnerEntry.{InnerEntry}
-use Rattle.log_model.specs.declared.pairs.Item.{Item}
 use Rattle.log_model.specs.declared.pairs.JoinNeed.{JoinNeed}
-use Rattle.log_model.specs.JoinWalk.{JoinSearch, centre_of, apart_of, opens_right, object_entry, subtree_entry, with_entry, is_hit, is_need, pair_of}
-
--- how far an entry with this point is from the other item, where that has a centre
-abbrev pub apart_from : Space → JoinNeed → List ℕ → Option ℕ
-apart_from s n point = if opens_right n then apart_of s (centre_of n.left) (Some point) else apart_of s (Some point) (centre_of n.right)
+use Rattle.log_model.specs.JoinWalk.{object_entry, subtree_entry, with_entry}
 
 -- the pairs that an object and a subtree make
 abbrev pub object_pair : Space → JoinNeed → LeafEntry → JoinNeed
@@ -18,18 +12,3 @@ object_pair s n e = with_entry s n (object_entry e)
 
 abbrev pub subtree_pair : Space → JoinNeed → ℕ → InnerEntry → JoinNeed
 subtree_pair s n level e = with_entry s n (subtree_entry level e)
-
--- the answers among pairs, and the pairs that are still needed
-abbrev pub hits_among : List JoinNeed → List Pair
-hits_among pairs = map pair_of (filter is_hit pairs)
-
-abbrev pub needs_among : List JoinNeed → List JoinNeed
-needs_among pairs = filter is_need pairs
-
--- an item in the place of the opened one, so far from the other
-abbrev pub paired : JoinNeed → Item → Option ℕ → JoinNeed
-paired n item apart = if opens_right n then record { left = n.left; right = item; apart = apart } else record { left = item; right = n.right; apart = apart }
-
--- what is joined by in a space within this radius
-abbrev pub search_within : Space → ℕ → JoinSearch
-search_within s rho = record { space = s; rho = rho }

@@ -1,10 +1,9 @@
 // The marks of one record against its node.
 ghost use Rattle.std.specs.Prelude.{◌≡◌, ◌++◌, ◌+◌, ◌≤◌, ◌<◌, ◌^◌, [], ◌∷◌, map, length, IfOk, IfNone, OnOk};
 ghost use Rattle.log_model.specs.declared.marks.Mark.TheVariants.{Near};
-ghost use Rattle.log_model.specs.Counts.{count_up, measured_by};
+ghost use Rattle.log_model.specs.Counts.{count_up, measured_by, CountsUpTo};
 ghost use Rattle.log_model.specs.Walk.{search_at, away, allows_object, allows_subtree, near_ones, hit_of, need_of};
 ghost use Rattle.log_verify.specs.Judged.{first_wrong};
-ghost use Rattle.log_verify.specs.Causes.{CountsUpTo};
 
 use log_model::{Mark, Memory, Need, Probe, is_ruled_out};
 use metric_laws::{Ruler, centre_test};

@@ -3,16 +3,13 @@ ghost use Rattle.std.specs.Prelude.{◌≡◌, ◌++◌, ◌<◌, ◌^◌, [], �
 ghost use Rattle.log_model.specs.declared.marks.Mark.TheVariants.{Near};
 ghost use Rattle.log_model.specs.declared.pairs.JoinNeed.{JoinNeed};
 ghost use Rattle.log_model.specs.Walk.{near_ones};
-ghost use Rattle.log_model.specs.JoinWalk.{allows_entry, object_entry, subtree_entry, join_hits, join_needs};
+ghost use Rattle.log_model.specs.JoinWalk.{allows_entry, object_entry, subtree_entry, join_hits, join_needs, within_apart};
+ghost use Rattle.log_model.specs.JoinSteps.{search_within, hits_among, needs_among, paired};
 ghost use Rattle.log_verify.specs.Judged.{entry_count};
 ghost use Rattle.log_verify.specs.JoinJudged.{join_wrong_in};
-ghost use Rattle.log_verify.specs.JoinSteps.{search_within, object_pair, subtree_pair, hits_among, needs_among, paired};
+ghost use Rattle.log_verify.specs.JoinSteps.{object_pair, subtree_pair};
 
-use crate::pairing::{
-    apart_from, copy_of, id_of, is_far, is_object, is_skipped, is_within, opens_right, other,
-    radius_of,
-};
-use log_model::{Item, JoinNeed, Mark, Memory};
+use log_model::{Item, JoinNeed, Mark, Memory, is_far, is_skipped};
 use metric_laws::{Point, Ruler};
 use scan_model::Pair;
 use std::alloc::Global;
@@ -47,6 +44,16 @@ pub struct Named {
     pub needs: Vec<JoinNeed>,
 }
 
+// Whether two objects are an answer.
+fn is_within(apart: Option<u64>, rho: u64) -> bool
+    ensures { result ≡ within_apart apart rho }
+{
+    match apart {
+        None => false,
+        Some(dist) => dist <= rho,
+    }
+}
+
 // Whether a mark of an object is allowed.
 fn check_object<R: Ruler>(
     ruler: &mut R,
@@ -59,7 +66,7 @@ fn check_object<R: Ruler>(
     ensures allowed { result.allowed ≡ allows_entry (search_within (R.M.space (R.metric ruler.old)) rho) need.now (object_entry entry.now) mark }
     ensures apart { mark ≡ Near → result.apart ≡ (object_pair (R.M.space (R.metric ruler.old)) need.now entry.now).apart }
 {
-    let radius = radius_of(other(need));
+    let radius = need.other().radius();
     match mark {
         Mark::Skip => JoinChecked {
             allowed: is_skipped(need.apart, entry.parent, rho, 0, radius),
@@ -67,7 +74,7 @@ fn check_object<R: Ruler>(
         },
         Mark::Far => JoinChecked {
             allowed: is_far(
-                apart_from(ruler, need, entry.point.as_slice()),
+                need.apart_from(ruler, entry.point.as_slice()),
                 rho,
                 0,
                 radius,
@@ -75,9 +82,9 @@ fn check_object<R: Ruler>(
             apart: None,
         },
         Mark::Near => {
-            let apart = apart_from(ruler, need, entry.point.as_slice());
+            let apart = need.apart_from(ruler, entry.point.as_slice());
             JoinChecked {
-                allowed: !is_object(other(need)) || is_within(apart, rho),
+                allowed: !need.other().is_object() || is_within(apart, rho),
                 apart,
             }
         }
@@ -97,7 +104,7 @@ fn check_subtree<R: Ruler>(
     ensures allowed { result.allowed ≡ allows_entry (search_within (R.M.space (R.metric ruler.old)) rho) need.now (subtree_entry level entry.now) mark }
     ensures apart { mark ≡ Near → result.apart ≡ (subtree_pair (R.M.space (R.metric ruler.old)) need.now level entry.now).apart }
 {
-    let radius = radius_of(other(need));
+    let radius = need.other().radius();
     match mark {
         Mark::Skip => JoinChecked {
             allowed: is_skipped(need.apart, entry.parent, rho, entry.radius, radius),
@@ -105,7 +112,7 @@ fn check_subtree<R: Ruler>(
         },
         Mark::Far => JoinChecked {
             allowed: is_far(
-                apart_from(ruler, need, entry.point.as_slice()),
+                need.apart_from(ruler, entry.point.as_slice()),
                 rho,
                 entry.radius,
                 radius,
@@ -114,7 +121,7 @@ fn check_subtree<R: Ruler>(
         },
         Mark::Near => JoinChecked {
             allowed: true,
-            apart: apart_from(ruler, need, entry.point.as_slice()),
+            apart: need.apart_from(ruler, entry.point.as_slice()),
         },
     }
 }
@@ -128,8 +135,8 @@ fn pair_with(
 ) -> Result<JoinNeed, Memory>
     ensures { IfOk result (λ pair. pair ≡ paired need.now item apart) }
 {
-    let kept = copy_of(alloc, other(need))?;
-    if opens_right(need) {
+    let kept = need.other().try_clone(alloc)?;
+    if need.opens_right() {
         Ok(JoinNeed {
             left: kept,
             right: item,
@@ -149,10 +156,10 @@ fn push_pair(named: &mut Named, pair: JoinNeed) -> Result<(), Memory>
     ensures hits { OnOk result (named.new.hits.items ≡ named.old.hits.items ++ hits_among (pair ∷ [])) }
     ensures needs { OnOk result (named.new.needs.items ≡ named.old.needs.items ++ needs_among (pair ∷ [])) }
 {
-    if is_object(&pair.left) && is_object(&pair.right) {
+    if pair.left.is_object() && pair.right.is_object() {
         named.hits.push(Pair {
-            left: id_of(&pair.left),
-            right: id_of(&pair.right),
+            left: pair.left.id(),
+            right: pair.right.id(),
             dist: pair.apart.unwrap_or(0),
         })?;
     } else {

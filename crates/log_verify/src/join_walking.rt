@@ -4,14 +4,13 @@ ghost use Rattle.page_store.specs.Shelf.{HoldsSame};
 ghost use Rattle.log_model.specs.declared.marks.JoinRecord.{JoinRecord};
 ghost use Rattle.log_model.specs.JoinWalk.{opens_right, opened, page_of};
 ghost use Rattle.log_model.specs.SoundJoin.{root_item, root_pair};
+ghost use Rattle.log_model.specs.JoinSteps.{search_within};
 ghost use Rattle.log_verify.specs.Judged.{entry_count};
 ghost use Rattle.log_verify.specs.JoinJudged.{is_of, read_of, join_walked};
-ghost use Rattle.log_verify.specs.JoinSteps.{search_within};
 ghost use Rattle.log_verify.specs.Causes.{IsNodeFault, verdict_of, IsJoinPageVerdict, HasJoinCause};
 
 use crate::JoinVerdict;
 use crate::join_checking::{JoinProbe, Named, check_node};
-use crate::pairing::{opened, opens_right, page_of};
 use crate::walking::{entry_count, put_on_top};
 use log_model::{Item, JoinNeed, JoinRecord, Memory};
 use metric_laws::Ruler;
@@ -79,7 +78,7 @@ impl JoinWalk {
 fn is_of(need: &JoinNeed, told: &JoinRecord) -> bool
     ensures { result ≡ is_of need.now told.now }
 {
-    told.right == opens_right(need) && told.page == page_of(opened(need))
+    told.right == need.opens_right() && told.page == need.opened().page()
 }
 
 // The node of a page of one side.
@@ -119,8 +118,8 @@ fn opened_node<P: Pages, Q: Pages>(
         read_of (P.shelf left.old).read (Q.shelf right.old).read (opens_right need.now) (page_of (opened need.now)) ≡ Ok node) }
     ensures cause { IfErr result (λ v. IsJoinPageVerdict (P.shelf left.old) (P.shelf left.new) (Q.shelf right.old) (Q.shelf right.new) need.now v) }
 {
-    let page = page_of(opened(need));
-    if opens_right(need) {
+    let page = need.opened().page();
+    if need.opens_right() {
         match node_at(alloc, right, page) {
             Ok(node) => Ok(node),
             Err(fault) => Err(verdict_of(true, fault)),

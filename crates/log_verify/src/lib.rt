@@ -8,7 +8,6 @@ mod join_verifying;
 mod join_walking;
 mod judging;
 pub mod laws;
-mod pairing;
 mod verifying;
 mod walking;
 

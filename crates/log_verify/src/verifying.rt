@@ -1,11 +1,11 @@
 ghost use Rattle.std.specs.Prelude.{◌≡◌, ◌≤◌, ◌+◌, length, None, Some, IsTrue, IfOk, IfErr, OnOk};
 ghost use Rattle.page_store.specs.Reading.{nodes_of};
 ghost use Rattle.page_store.specs.Shelf.{HoldsSame};
-ghost use Rattle.log_model.specs.Counts.{count_up, measured};
+ghost use Rattle.log_model.specs.Counts.{count_up, measured, CountsUpTo};
 ghost use Rattle.log_model.specs.Grammar.{IsLawfulLog};
 ghost use Rattle.log_model.specs.Sound.{IsSoundLog};
 ghost use Rattle.log_verify.specs.Judged.{log_fault};
-ghost use Rattle.log_verify.specs.Causes.{CountsUpTo, HasCause, IsPassing};
+ghost use Rattle.log_verify.specs.Causes.{HasCause, IsPassing};
 
 use crate::judging::{compare, point_of};
 use crate::walking::walk_records;

@@ -3,10 +3,10 @@ ghost use Rattle.std.specs.Prelude.{◌≡◌, ◌++◌, ◌+◌, ◌≤◌, ◌
 ghost use Rattle.metric_laws.specs.Counts.{next_count};
 ghost use Rattle.page_store.specs.Shelf.{HoldsSame};
 ghost use Rattle.log_model.specs.declared.marks.Record.{Record};
-ghost use Rattle.log_model.specs.Counts.{count_up, measured_by, measured};
+ghost use Rattle.log_model.specs.Counts.{count_up, measured_by, measured, CountsUpTo};
 ghost use Rattle.log_model.specs.Walk.{search_at, root_need};
 ghost use Rattle.log_verify.specs.Judged.{entry_count, first_wrong_in, walked};
-ghost use Rattle.log_verify.specs.Causes.{CountsUpTo, HasCause, IsPageVerdict};
+ghost use Rattle.log_verify.specs.Causes.{HasCause, IsPageVerdict};
 ghost use Rattle.log_verify.specs.Steps.{NamesNode};
 
 use crate::Verdict;

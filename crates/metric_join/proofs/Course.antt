@@ -11,7 +11,7 @@ use Rattle.page_store.specs.Shelf.{Shelf, HoldsSame, IsNodeOf, HasPageCause}
 use Rattle.log_model.specs.Counts.{count_up}
 use Rattle.log_model.proofs.Reached.{count_up_more}
 use Rattle.metric_join.specs.Tours.{Tours, IsToured, Names, OpensPage}
-use Rattle.metric_join.specs.Joined.{CountsUpTo, HasTourCause}
+use Rattle.metric_join.specs.Joined.{IsWalked, HasTourCause}
 use Rattle.metric_join.proofs.Tours.{tours_more}
 
 pub same_trans : (a b c : Shelf) → HoldsSame a b → HoldsSame b c → HoldsSame a c
@@ -99,11 +99,20 @@ module _ (live : Live) (old now : Shelf) (opened page : ℕ) (rest stack : List 
   )
 
 -- nothing is left to open
-pub tour_ends : (live : Live) (old now : Shelf) (opened : ℕ) (stack : List ℕ) → stack ≡ [] → IsTouring live old now opened stack →
-    CountsUpTo old.asked now.asked live.pages × (IsTrue old.tells → IsToured (nodes_of old.read) live)
-tour_ends live old now opened stack none way = (
-  (opened, way.low, way.asked),
-  λ tells.
+pub tour_ends : (live : Live) (old now : Shelf) (opened : ℕ) (stack : List ℕ) → stack ≡ [] → IsTouring live old now opened stack → IsWalked live old now 0
+tour_ends live old now opened stack none way = record {
+  opened = opened;
+  few = way.low;
+  whole = λ tells.
       let w = way.walk tells in
-      record { pages = w.0; walk = subst (λ (l : List ℕ). Tours (nodes_of old.read) (live.root ∷ []) w.0 l) none w.1; few = (let l = way.low in let k = w.2 in omega arith) },
-)
+      (w.0, subst (λ (l : List ℕ). Tours (nodes_of old.read) (live.root ∷ []) w.0 l) none w.1, w.2);
+  asked = way.asked ∙ ap (count_up old.asked) (let e : opened ≡ opened + 0 = omega arith in e);
+}
+
+-- a whole walk as one that has room enough
+pub toured_of : (live : Live) (old new : Shelf) (further : ℕ) → IsWalked live old new further → IsTrue old.tells → IsToured (nodes_of old.read) live
+toured_of live old new further walked tells =
+    let w = walked.whole tells in
+    let low = walked.few in
+    let long = w.2 in
+    record { pages = w.0; walk = w.1; few = omega arith }

@@ -13,7 +13,7 @@ use Rattle.page_store.specs.Reading.{Read, nodes_of, node_or_none, IsWithin, is_
 use Rattle.page_store.specs.Shelf.{Shelf, HoldsSame}
 use Rattle.log_model.specs.declared.logs.Joined.{Joined}
 use Rattle.log_model.specs.declared.marks.JoinRecord.{JoinRecord}
-use Rattle.log_model.specs.Counts.{count_up}
+use Rattle.log_model.specs.Counts.{count_up, CountsUpTo}
 use Rattle.log_model.specs.InOrder.{in_order, pair_before}
 use Rattle.log_model.specs.JoinWalk.{JoinSearch, JoinLeast, JoinWalksBy}
 use Rattle.log_model.specs.SoundJoin.{root_pair, IsLeastJoinLog}
@@ -22,22 +22,23 @@ use Rattle.log_model.proofs.Orders.{pair_order, ascending_pairs}
 use Rattle.log_model.proofs.Reached.{count_up_both}
 use Rattle.log_model.proofs.JoinScan.{join_complete}
 use Rattle.log_model.proofs.JoinLeast.{join_least_sound}
+use Rattle.log_model.specs.JoinSteps.{search_within}
 use Rattle.metric_join.specs.Tours.{IsToured, Names}
-use Rattle.metric_join.specs.Joined.{IsJoinLogOf, IsJoined, IsAsked, CountsUpTo, HasSideCause, HasTourCause, HasJoinCause, IsPassing, opened_on, measured, fault_of}
+use Rattle.metric_join.specs.Joined.{IsJoinLogOf, IsJoined, IsWalked, HasSideCause, HasTourCause, HasJoinCause, IsPassing, opened_on, measured, fault_of}
 use Rattle.metric_join.specs.declared.faults.JoinFault.{JoinFault}
 use Rattle.metric_join.specs.declared.faults.JoinFault.TheVariants as join
 use Rattle.metric_join.specs.declared.walking.Waiting.{Waiting}
-use Rattle.metric_join.specs.Steps.{search_within, IsUnderWay, HasSideStop, HasWalkCause}
+use Rattle.metric_join.specs.Steps.{IsUnderWay, HasSideStop, HasWalkCause}
 use Rattle.metric_join.proofs.Tours.{sound_names}
-use Rattle.metric_join.proofs.Course.{same_refl}
+use Rattle.metric_join.proofs.Course.{same_refl, toured_of}
 
 -- pages that hold the same tell the same
-toured_then : (live : Live) (old now : Shelf) → HoldsSame old now → (IsTrue old.tells → IsToured (nodes_of old.read) live) → IsTrue now.tells → IsToured (nodes_of now.read) live
-toured_then live old now holds toured tells =
-    subst (λ (read : Read). IsToured (nodes_of read) live) (sym holds.read) (toured (subst (λ (b : Bool). IsTrue b) holds.tells tells))
+toured_then : (live : Live) (old now : Shelf) → HoldsSame old now → IsWalked live old now 0 → IsTrue now.tells → IsToured (nodes_of now.read) live
+toured_then live old now holds walked tells =
+    subst (λ (read : Read). IsToured (nodes_of read) live) (sym holds.read) (toured_of live old now 0 walked (subst (λ (b : Bool). IsTrue b) holds.tells tells))
 
 pub walk_begins : (j : JoinSearch) (l r : Live) (left0 left right0 right : Shelf) (used : ℕ) (records : List JoinRecord) (hits : List Pair) (stack : List Waiting) →
-    HoldsSame left0 left → HoldsSame right0 right → (IsTrue left0.tells → IsToured (nodes_of left0.read) l) → (IsTrue right0.tells → IsToured (nodes_of right0.read) r) →
+    HoldsSame left0 left → HoldsSame right0 right → IsWalked l left0 left 0 → IsWalked r right0 right 0 →
     records ≡ [] → hits ≡ [] → stack ≡ (record { need = root_pair l r; left_room = l.pages; right_room = r.pages }) ∷ [] →
     IsUnderWay j l r left left right right used used records hits (reverse stack)
 walk_begins j l r left0 left right0 right used records hits stack left_same right_same left_toured right_toured none no_hits one = rw (none, no_hits, one) (record {
@@ -101,24 +102,25 @@ module _ (s : Space) (l r : Live) (radius : ℕ) (left0 left1 left2 right0 right
           (subst (λ (hs : List Pair). JoinWalksBy JoinLeast (search_within s (min radius bound)) (nodes_of left1.read) (nodes_of right1.read) (root_pair l r ∷ []) (records ++ []) hs) (append-nil hits)
           (way.walk (rw left_same.tells told_left) (rw right_same.tells told_right) [] [] refl))
 
-  left_asked_is : CountsUpTo left0.asked left1.asked l.pages → IsAsked l left0 left2 (opened_on false joined.log.records)
-  left_asked_is some = (some.0, some.1, rw records_are (way.left_asked ∙ ap (λ (u : ℕ). count_up u (opened_on false records)) some.2 ∙ count_up_both left0.asked some.0 (opened_on false records)))
-
-  right_asked_is : CountsUpTo right0.asked right1.asked r.pages → IsAsked r right0 right2 (opened_on true joined.log.records)
-  right_asked_is some = (some.0, some.1, rw records_are (way.right_asked ∙ ap (λ (u : ℕ). count_up u (opened_on true records)) some.2 ∙ count_up_both right0.asked some.0 (opened_on true records)))
+  walked_after : (live : Live) (old mid new : Shelf) (further : ℕ) → IsWalked live old mid 0 → new.asked ≡ count_up mid.asked further → IsWalked live old new further
+  walked_after live old mid new further walked asked = record {
+    opened = walked.opened;
+    few = walked.few;
+    whole = walked.whole;
+    asked = asked ∙ ap (λ (u : ℕ). count_up u further) walked.asked ∙ count_up_both old.asked (walked.opened + 0) further
+        ∙ ap (λ (n : ℕ). count_up old.asked (n + further)) (let e : walked.opened + 0 ≡ walked.opened = omega arith in e);
+  }
 
   used_is : CountsUpTo used used2 (measured joined.log.records)
   used_is = rw records_are way.used_up
 
-  pub joined_is : (length joined.log.answers < 2 ^ 64) × (length joined.log.records < 2 ^ 64) → (IsTrue left0.tells → IsToured (nodes_of left0.read) l) → (IsTrue right0.tells → IsToured (nodes_of right0.read) r) →
-      CountsUpTo left0.asked left1.asked l.pages → CountsUpTo right0.asked right1.asked r.pages → IsJoined s l r radius left0 left2 right0 right2 used used2 joined
-  joined_is few left_toured right_toured lefts rights = record {
+  pub joined_is : (length joined.log.answers < 2 ^ 64) × (length joined.log.records < 2 ^ 64) → IsWalked l left0 left1 0 → IsWalked r right0 right1 0 →
+      IsJoined s l r radius left0 left2 right0 right2 used used2 joined
+  joined_is few left_walked right_walked = record {
     log = log_is few;
     least = least_is;
-    left_toured = left_toured;
-    right_toured = right_toured;
-    left_asked = left_asked_is lefts;
-    right_asked = right_asked_is rights;
+    left_walked = rw records_are (walked_after l left0 left1 left2 (opened_on false records) left_walked way.left_asked);
+    right_walked = rw records_are (walked_after r right0 right1 right2 (opened_on true records) right_walked way.right_asked);
     distances = used_is;
   }
 
@@ -141,34 +143,33 @@ left_refused l r left0 left1 right (pages.Repeats p) cause = cause
 left_refused l r left0 left1 right (pages.Level p) cause = cause
 
 -- the first walk of the right tree is refused
-pub right_refused : (l r : Live) (left0 left1 right0 right1 : Shelf) (fault : PageFault) → (IsTrue left0.tells → IsToured (nodes_of left0.read) l) → HasTourCause r right0 right1 fault →
-    HasJoinCause l r left0 left1 right0 right1 (fault_of true fault)
-right_refused l r left0 left1 right0 right1 pages.Disk toured cause = (cause, toured)
-right_refused l r left0 left1 right0 right1 (pages.Bad p f) toured cause = (cause, toured)
-right_refused l r left0 left1 right0 right1 (pages.Outside p) toured cause = (cause, toured)
-right_refused l r left0 left1 right0 right1 pages.Memory toured cause = tt
-right_refused l r left0 left1 right0 right1 (pages.Repeats p) toured cause = (cause, toured)
-right_refused l r left0 left1 right0 right1 (pages.Level p) toured cause = (cause, toured)
+pub right_refused : (l r : Live) (left0 left1 right0 right1 : Shelf) (fault : PageFault) → IsWalked l left0 left1 0 → HasTourCause r right0 right1 fault → HasJoinCause l r left0 left1 right0 right1 (fault_of true fault)
+right_refused l r left0 left1 right0 right1 pages.Disk walked cause = (cause, toured_of l left0 left1 0 walked)
+right_refused l r left0 left1 right0 right1 (pages.Bad p f) walked cause = (cause, toured_of l left0 left1 0 walked)
+right_refused l r left0 left1 right0 right1 (pages.Outside p) walked cause = (cause, toured_of l left0 left1 0 walked)
+right_refused l r left0 left1 right0 right1 pages.Memory walked cause = tt
+right_refused l r left0 left1 right0 right1 (pages.Repeats p) walked cause = (cause, toured_of l left0 left1 0 walked)
+right_refused l r left0 left1 right0 right1 (pages.Level p) walked cause = (cause, toured_of l left0 left1 0 walked)
 
 -- the walk of pairs is refused
-side_refused : (live : Live) (old mid new : Shelf) (fault : PageFault) → HoldsSame old mid → CountsUpTo old.asked mid.asked live.pages → HasSideStop live mid new fault → HasSideCause live old new fault
-side_refused live old mid new pages.Disk holds some stop = (let l = holds.faults in let c = stop in omega arith)
-side_refused live old mid new (pages.Bad p f) holds some stop = (stop.0, subst (λ (n : ℕ). IsWithin n p) holds.pages stop.1, λ tells. absurd (stop.2 (rw holds.tells tells)))
-side_refused live old mid new (pages.Outside p) holds some stop = (subst (λ (n : ℕ). is_within n p ≡ false) holds.pages stop.0, λ tells. absurd (stop.1 (rw holds.tells tells)))
-side_refused live old mid new pages.Memory holds some stop = absurd stop
-side_refused live old mid new (pages.Repeats p) holds some stop =
+side_refused : (live : Live) (old mid new : Shelf) (fault : PageFault) → HoldsSame old mid → IsWalked live old mid 0 → HasSideStop live mid new fault → HasSideCause live old new fault
+side_refused live old mid new pages.Disk holds walked stop = (let l = holds.faults in let c = stop in omega arith)
+side_refused live old mid new (pages.Bad p f) holds walked stop = (stop.0, subst (λ (n : ℕ). IsWithin n p) holds.pages stop.1, λ tells. absurd (stop.2 (rw holds.tells tells)))
+side_refused live old mid new (pages.Outside p) holds walked stop = (subst (λ (n : ℕ). is_within n p ≡ false) holds.pages stop.0, λ tells. absurd (stop.1 (rw holds.tells tells)))
+side_refused live old mid new pages.Memory holds walked stop = absurd stop
+side_refused live old mid new (pages.Repeats p) holds walked stop =
     let asked = stop.0 in (
-      (some.0 + asked.0, (let most = asked.1 in omega (arith, most)), asked.2 ∙ ap (λ (u : ℕ). count_up u asked.0) some.2 ∙ count_up_both old.asked some.0 asked.0),
+      (walked.opened + 0 + asked.0, (let most = asked.1 in omega (arith, most)), asked.2 ∙ ap (λ (u : ℕ). count_up u asked.0) walked.asked ∙ count_up_both old.asked (walked.opened + 0) asked.0),
       λ tells. absurd (stop.1 (rw holds.tells tells)),
     )
-side_refused live old mid new (pages.Level p) holds some stop = absurd stop
+side_refused live old mid new (pages.Level p) holds walked stop = absurd stop
 
-pub walk_refused : (l r : Live) (left0 left1 left2 right0 right1 right2 : Shelf) (fault : JoinFault) → HoldsSame left0 left1 → HoldsSame right0 right1 →
-    CountsUpTo left0.asked left1.asked l.pages → CountsUpTo right0.asked right1.asked r.pages → (IsTrue left0.tells → IsToured (nodes_of left0.read) l) →
+pub walk_refused : (l r : Live) (left0 left1 left2 right0 right1 right2 : Shelf) (fault : JoinFault) → HoldsSame left0 left1 → HoldsSame right0 right1 → IsWalked l left0 left1 0 → IsWalked r right0 right1 0 →
     HasWalkCause l r left1 left2 right1 right2 fault → HasJoinCause l r left0 left2 right0 right2 fault
-walk_refused l r left0 left1 left2 right0 right1 right2 join.Memory left_same right_same lefts rights toured cause = tt
-walk_refused l r left0 left1 left2 right0 right1 right2 (join.Left fault) left_same right_same lefts rights toured cause = side_refused l left0 left1 left2 fault left_same lefts cause
-walk_refused l r left0 left1 left2 right0 right1 right2 (join.Right fault) left_same right_same lefts rights toured cause = (side_refused r right0 right1 right2 fault right_same rights cause, toured)
+walk_refused l r left0 left1 left2 right0 right1 right2 join.Memory left_same right_same lefts rights cause = tt
+walk_refused l r left0 left1 left2 right0 right1 right2 (join.Left fault) left_same right_same lefts rights cause = side_refused l left0 left1 left2 fault left_same lefts cause
+walk_refused l r left0 left1 left2 right0 right1 right2 (join.Right fault) left_same right_same lefts rights cause =
+    (side_refused r right0 right1 right2 fault right_same rights cause, toured_of l left0 left1 0 lefts)
 
 -- on sound trees nothing but a passing fault is refused
 

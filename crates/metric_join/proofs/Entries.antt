@@ -1,18 +1,18 @@
 -- The entries of an opened node, one after the other.
 use Rattle.std.proofs.Common.{◌≡◌, ◌≢◌, ℕ, zero, suc, ◌+◌, ◌<◌, ◌≤◌, Bool, true, false, Option, Some, List, [], ◌∷◌, ◌++◌, map, drop, get_or, length, refl, sym, ap, ◌∙◌, append_assoc, drop-cons, arith, subst}
-use Rattle.std.specs.Prelude.{if◌then◌else◌, filter}
-use Rattle.std.proofs.lemmas.List.{map-append}
-use Rattle.std.proofs.lemmas.List.Elements.{filter-append}
+use Rattle.std.specs.Prelude.{if◌then◌else◌}
 use Rattle.metric_laws.specs.Space.{Space}
 use Rattle.log_model.specs.declared.marks.Mark.{Mark}
 use Rattle.log_model.specs.declared.marks.Mark.TheVariants.{Skip, Far, Near}
 use Rattle.log_model.specs.declared.pairs.JoinNeed.{JoinNeed}
 use Rattle.log_model.specs.Counts.{count_up, measured_by}
 use Rattle.log_model.specs.Walk.{near_ones}
-use Rattle.log_model.specs.JoinWalk.{JoinSearch, Entry, opens_right, apart_of, centre_of, radius_of, with_entry, is_hit, is_need, pair_of, least_for_entry}
+use Rattle.log_model.specs.JoinWalk.{JoinSearch, Entry, opens_right, apart_of, centre_of, radius_of, with_entry, least_for_entry}
+use Rattle.log_model.specs.JoinSteps.{apart_from, paired, hits_among, needs_among}
+use Rattle.log_model.proofs.JoinSteps.{paired_same, hits_append, needs_append}
 use Rattle.log_model.proofs.Reached.{count_up_both}
 use Rattle.metric_join.specs.declared.opening.Opening.{Opening}
-use Rattle.metric_join.specs.Steps.{apart_from, least_at, paired, hits_among, needs_among, marks_for, pairs_for, TakesEntries, CountsMarks}
+use Rattle.metric_join.specs.Steps.{least_at, marks_for, pairs_for, TakesEntries, CountsMarks}
 
 -- an entry is as far from the other item as its point is
 apart_same : (s : Space) (n : JoinNeed) (e : Entry) (point : List ℕ) → centre_of e.item ≡ Some point → (with_entry s n e).apart ≡ apart_from s n point
@@ -31,21 +31,6 @@ apart_same s n e point is = cases (opens_right n)
 -- so its least mark is the one at its point
 least_same : (j : JoinSearch) (n : JoinNeed) (e : Entry) (point : List ℕ) → centre_of e.item ≡ Some point → least_for_entry j n e ≡ least_at j n point e.stored (radius_of e.item)
 least_same j n e point is = rw (apart_same j.space n e point is) refl
-
--- an entry's item in the place of the opened one is the entry's pair
-paired_same : (s : Space) (n : JoinNeed) (e : Entry) → paired n e.item (with_entry s n e).apart ≡ with_entry s n e
-paired_same s n e = cases (opens_right n)
-  where
-    right : JoinNeed
-    right = record { left = n.left; right = e.item; apart = apart_of s (centre_of n.left) (centre_of e.item) }
-
-    left : JoinNeed
-    left = record { left = e.item; right = n.right; apart = apart_of s (centre_of e.item) (centre_of n.right) }
-
-    cases : (b : Bool) → (if b then record { left = n.left; right = e.item; apart = (if b then right else left).apart } else record { left = e.item; right = n.right; apart = (if b then right else left).apart })
-        ≡ (if b then right else left)
-    cases true = refl
-    cases false = refl
 
 module _ (j : JoinSearch) (n : JoinNeed) (e : Entry) (point : List ℕ) (centre : centre_of e.item ≡ Some point) (mark : Mark) (least : mark ≡ least_at j n point e.stored (radius_of e.item)) (old new : Opening)
     (marked : new.marks.items ≡ old.marks.items ++ mark ∷ []) where
@@ -90,12 +75,10 @@ pairs_cons j n e es = cases (least_for_entry j n e)
     cases Near = refl
 
 hits_cons : (j : JoinSearch) (n : JoinNeed) (e : Entry) (es : List Entry) → hits_among (pairs_for j n (e ∷ es)) ≡ hits_among (pairs_for j n (e ∷ [])) ++ hits_among (pairs_for j n es)
-hits_cons j n e es =
-    ap hits_among (pairs_cons j n e es) ∙ ap (λ (l : List JoinNeed). map pair_of l) (filter-append is_hit (pairs_for j n (e ∷ [])) (pairs_for j n es))
-    ∙ map-append pair_of (filter is_hit (pairs_for j n (e ∷ []))) (filter is_hit (pairs_for j n es))
+hits_cons j n e es = ap hits_among (pairs_cons j n e es) ∙ hits_append (pairs_for j n (e ∷ [])) (pairs_for j n es)
 
 needs_cons : (j : JoinSearch) (n : JoinNeed) (e : Entry) (es : List Entry) → needs_among (pairs_for j n (e ∷ es)) ≡ needs_among (pairs_for j n (e ∷ [])) ++ needs_among (pairs_for j n es)
-needs_cons j n e es = ap needs_among (pairs_cons j n e es) ∙ filter-append is_need (pairs_for j n (e ∷ [])) (pairs_for j n es)
+needs_cons j n e es = ap needs_among (pairs_cons j n e es) ∙ needs_append (pairs_for j n (e ∷ [])) (pairs_for j n es)
 
 onward : {X : Type 0} (a b c xs ys zs : List X) → b ≡ a ++ xs → c ≡ b ++ ys → zs ≡ xs ++ ys → c ≡ a ++ zs
 onward a b c xs ys zs one two whole = two ∙ ap (λ (l : List _). l ++ ys) one ∙ append_assoc a xs ys ∙ ap (λ (l : List _). a ++ l) (sym whole)

@@ -1,3 +1,4 @@
+pub mod Examples
 pub mod Tours
 pub mod OneTour
 pub mod Course

@@ -14,15 +14,16 @@ use Rattle.page_store.specs.Shelf.{Shelf, HoldsSame, IsNodeOf}
 use Rattle.log_model.specs.declared.marks.Mark.{Mark}
 use Rattle.log_model.specs.declared.marks.JoinRecord.{JoinRecord}
 use Rattle.log_model.specs.declared.pairs.JoinNeed.{JoinNeed}
-use Rattle.log_model.specs.Counts.{count_up, measured_by}
+use Rattle.log_model.specs.Counts.{count_up, measured_by, CountsUpTo}
 use Rattle.log_model.specs.Walk.{near_ones}
 use Rattle.log_model.specs.JoinWalk.{JoinSearch, JoinLeast, JoinWalksBy, Entry, entries_of, page_of, opens_right, opened, with_entry, is_need, least_for_entry, join_needs, join_hits, side_of}
 use Rattle.log_model.specs.SoundJoin.{root_pair}
 use Rattle.log_model.proofs.JoinNames.{with_side, opened_side}
 use Rattle.log_model.proofs.Reached.{count_up_more, count_up_both}
-use Rattle.metric_join.specs.Joined.{is_on, opened_on, measured, CountsUpTo}
+use Rattle.log_model.specs.JoinSteps.{hits_among, needs_among}
+use Rattle.metric_join.specs.Joined.{is_on, opened_on, measured}
 use Rattle.metric_join.specs.declared.walking.Waiting.{Waiting}
-use Rattle.metric_join.specs.Steps.{following, record_for, weight, weight_of, needs_in, hits_among, needs_among, marks_for, pairs_for, IsStanding, IsWaiting, IsOpened, IsUnderWay}
+use Rattle.metric_join.specs.Steps.{following, record_for, weight, weight_of, needs_in, marks_for, pairs_for, IsStanding, IsWaiting, IsOpened, IsUnderWay}
 use Rattle.metric_join.proofs.Tours.{whole_below}
 use Rattle.metric_join.proofs.Course.{same_trans, told_then}
 use Rattle.metric_join.proofs.Standing.{shelf_on, room_on, left_after, right_after, opened_whole, entries_stand, needs_follow, needs_wait, needs_few, entries_few, lighter}

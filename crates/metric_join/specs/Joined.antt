@@ -1,5 +1,5 @@
 -- What a join answers, and why it may refuse.
-use Rattle.std.specs.Prelude.{◌≡◌, ◌≢◌, ℕ, ◌+◌, ◌≤◌, Bool, true, false, List, [], ◌∷◌, IsTrue, Err}
+use Rattle.std.specs.Prelude.{◌≡◌, ◌≢◌, ℕ, ◌+◌, ◌≤◌, Bool, true, false, List, [], ◌∷◌, length, IsTrue, Err}
 use Rattle.metric_laws.specs.Space.{Space}
 use Rattle.outside_io.specs.Causes.{Rose}
 use Rattle.tree_shape.specs.declared.live.Live.{Live}
@@ -10,10 +10,10 @@ use Rattle.page_store.specs.Reading.{IsWithin, is_within, nodes_of}
 use Rattle.page_store.specs.Shelf.{Shelf}
 use Rattle.log_model.specs.declared.logs.Joined.{Joined}
 use Rattle.log_model.specs.declared.marks.JoinRecord.{JoinRecord}
-use Rattle.log_model.specs.Counts.{count_up, measured_by}
+use Rattle.log_model.specs.Counts.{count_up, measured_by, CountsUpTo}
 use Rattle.log_model.specs.Grammar.{IsLawfulJoinLog}
 use Rattle.log_model.specs.SoundJoin.{IsLeastJoinLog}
-use Rattle.metric_join.specs.Tours.{IsToured, Names, NamesInside}
+use Rattle.metric_join.specs.Tours.{Tours, IsToured, Names, NamesInside}
 use Rattle.metric_join.specs.declared.faults.JoinFault.{JoinFault}
 use Rattle.metric_join.specs.declared.faults.JoinFault.TheVariants.{Left, Right, Memory}
 
@@ -40,24 +40,21 @@ abbrev pub measured : List JoinRecord → ℕ
 measured [] = 0
 measured (r ∷ rs) = measured_by r.marks + measured rs
 
--- a count rose by one so many times, at most as often as is said
-abbrev pub CountsUpTo : ℕ → ℕ → ℕ → Type 0
-CountsUpTo old new most = (n : ℕ) × (n ≤ most) × (new ≡ count_up old n)
+-- the walk of the live tree by child numbers was whole and opened no more pages than there are; the side was asked for each
+-- of them once, and so many times after that
+pub record IsWalked (live : Live) (old new : Shelf) (further : ℕ) : Type 0 where
+  pub opened : ℕ
+  pub few : opened ≤ live.pages
+  pub whole : IsTrue old.tells → (pages : List ℕ) × Tours (nodes_of old.read) (live.root ∷ []) pages [] × (length pages ≡ opened)
+  pub asked : new.asked ≡ count_up old.asked (opened + further)
 
--- a side was asked for each page of its tree once, and then once per record of that side
-abbrev pub IsAsked : Live → Shelf → Shelf → ℕ → Type 0
-IsAsked live old new opened = (n : ℕ) × (n ≤ live.pages) × (new.asked ≡ count_up old.asked (n + opened))
-
--- What a join answers: where both trees' pages tell what they hold, the least log of the join. Each tree was walked whole by
--- child numbers; a page was asked for once in that walk, and once per record; and a distance was computed for no entry that
--- is marked Skip.
+-- What a join answers: where both trees' pages tell what they hold, the least log of the join. Each tree was walked whole
+-- first; then a page was asked for once per record of its side, and no distance was computed for an entry that is marked Skip.
 pub record IsJoined (s : Space) (l r : Live) (radius : ℕ) (left left2 right right2 : Shelf) (used used2 : ℕ) (joined : Joined) : Type 0 where
   pub log : IsJoinLogOf l r radius joined
   pub least : IsTrue left.tells → IsTrue right.tells → IsLeastJoinLog s (nodes_of left.read) (nodes_of right.read) l r radius joined.log
-  pub left_toured : IsTrue left.tells → IsToured (nodes_of left.read) l
-  pub right_toured : IsTrue right.tells → IsToured (nodes_of right.read) r
-  pub left_asked : IsAsked l left left2 (opened_on false joined.log.records)
-  pub right_asked : IsAsked r right right2 (opened_on true joined.log.records)
+  pub left_walked : IsWalked l left left2 (opened_on false joined.log.records)
+  pub right_walked : IsWalked r right right2 (opened_on true joined.log.records)
   pub distances : CountsUpTo used used2 (measured joined.log.records)
 
 -- why a side's page is refused: the disk failed; or the walk of the live tree by child numbers comes to a page that holds no

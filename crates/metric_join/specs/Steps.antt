@@ -1,7 +1,6 @@
 -- The steps of the join's walk.
-use Rattle.std.specs.Prelude.{◌≡◌, ◌≢◌, ℕ, ◌+◌, ◌-◌, ◌^◌, ◌≤◌, true, false, List, [], ◌∷◌, ◌++◌, map, filter, length, Option, Some, IsTrue, if◌then◌else◌}
+use Rattle.std.specs.Prelude.{◌≡◌, ◌≢◌, ℕ, ◌+◌, ◌-◌, ◌^◌, ◌≤◌, true, false, List, [], ◌∷◌, ◌++◌, map, length, IsTrue, if◌then◌else◌}
 use Rattle.std.specs.List.{AllByRecursion}
-use Rattle.metric_laws.specs.Space.{Space}
 use Rattle.metric_laws.specs.Counts.{next_count}
 use Rattle.scan_model.specs.declared.hit.Pair.{Pair}
 use Rattle.tree_shape.specs.declared.live.Live.{Live}
@@ -18,40 +17,22 @@ use Rattle.log_model.specs.declared.marks.JoinRecord.{JoinRecord}
 use Rattle.log_model.specs.declared.pairs.Item.{Item}
 use Rattle.log_model.specs.declared.pairs.Item.TheVariants.{Subtree, Object}
 use Rattle.log_model.specs.declared.pairs.JoinNeed.{JoinNeed}
-use Rattle.log_model.specs.Counts.{count_up, measured_by}
+use Rattle.log_model.specs.Counts.{count_up, measured_by, CountsUpTo}
 use Rattle.log_model.specs.Walk.{near_ones}
-use Rattle.log_model.specs.JoinWalk.{JoinSearch, JoinLeast, JoinWalksBy, Entry, centre_of, apart_of, radius_of, page_of, opens_right, opened, other, with_entry, far_apart, far_stored, is_hit, is_need, pair_of, least_for_entry}
+use Rattle.log_model.specs.JoinWalk.{JoinSearch, JoinLeast, JoinWalksBy, Entry, radius_of, page_of, opens_right, opened, other, with_entry, far_apart, far_stored, is_need, least_for_entry}
+use Rattle.log_model.specs.JoinSteps.{apart_from, hits_among, needs_among}
 use Rattle.log_model.specs.SoundJoin.{root_pair}
 use Rattle.metric_join.specs.Tours.{IsWhole}
-use Rattle.metric_join.specs.Joined.{opened_on, measured, CountsUpTo}
+use Rattle.metric_join.specs.Joined.{opened_on, measured}
 use Rattle.metric_join.specs.declared.faults.JoinFault.{JoinFault}
 use Rattle.metric_join.specs.declared.faults.JoinFault.TheVariants.{Left, Right, Memory}
 use Rattle.metric_join.specs.declared.opening.Opening.{Opening}
 use Rattle.metric_join.specs.declared.walking.Waiting.{Waiting}
 
--- what is joined by in a space within this radius
-abbrev pub search_within : Space → ℕ → JoinSearch
-search_within s rho = record { space = s; rho = rho }
-
--- how far an entry with this point is from the other item, where that has a centre
-abbrev pub apart_from : Space → JoinNeed → List ℕ → Option ℕ
-apart_from s n point = if opens_right n then apart_of s (centre_of n.left) (Some point) else apart_of s (Some point) (centre_of n.right)
-
 -- the least mark of an entry with this point, this distance to the routing point above and this radius
 abbrev pub least_at : JoinSearch → JoinNeed → List ℕ → ℕ → ℕ → Mark
 least_at j n point stored radius =
     if far_stored n.apart stored j.rho (radius + radius_of (other n)) then Skip else (if far_apart (apart_from j.space n point) j.rho radius (radius_of (other n)) then Far else Near)
-
--- an item in the place of the opened one, so far from the other
-abbrev pub paired : JoinNeed → Item → Option ℕ → JoinNeed
-paired n item apart = if opens_right n then record { left = n.left; right = item; apart = apart } else record { left = item; right = n.right; apart = apart }
-
--- the answers among pairs, and the pairs that are still needed
-abbrev pub hits_among : List JoinNeed → List Pair
-hits_among pairs = map pair_of (filter is_hit pairs)
-
-abbrev pub needs_among : List JoinNeed → List JoinNeed
-needs_among pairs = filter is_need pairs
 
 -- the least marks of entries, and the pairs that they leave
 abbrev pub marks_for : JoinSearch → JoinNeed → List Entry → List Mark

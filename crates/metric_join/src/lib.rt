@@ -5,7 +5,6 @@ mod faults;
 mod joining;
 pub mod laws;
 mod opening;
-mod pairing;
 mod touring;
 mod walking;
 

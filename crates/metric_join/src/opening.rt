@@ -1,15 +1,12 @@
 // The least marks of an opened node, and the pairs that they leave.
 ghost use Rattle.std.specs.Prelude.{◌≡◌, ◌++◌, ◌≤◌, [], ◌∷◌, map, IfOk, OnOk};
-ghost use Rattle.log_model.specs.Counts.{measured_by};
+ghost use Rattle.log_model.specs.Counts.{measured_by, CountsUpTo};
 ghost use Rattle.log_model.specs.declared.marks.Mark.TheVariants.{Near};
 ghost use Rattle.log_model.specs.JoinWalk.{object_entry, subtree_entry, entries_of};
-ghost use Rattle.metric_join.specs.Joined.{CountsUpTo};
-ghost use Rattle.metric_join.specs.Steps.{search_within, apart_from, least_at, paired, marks_for, pairs_for, hits_among, needs_among, TakesEntries, CountsMarks};
+ghost use Rattle.log_model.specs.JoinSteps.{search_within, apart_from, paired, hits_among, needs_among};
+ghost use Rattle.metric_join.specs.Steps.{least_at, marks_for, pairs_for, TakesEntries, CountsMarks};
 
-use crate::pairing::{
-    apart_from, copy_of, id_of, is_far, is_object, is_skipped, opens_right, other, radius_of,
-};
-use log_model::{Item, JoinNeed, Mark, Memory};
+use log_model::{Item, JoinNeed, Mark, Memory, is_far, is_skipped};
 use metric_laws::{Point, Ruler};
 use scan_model::Pair;
 use std::alloc::Global;
@@ -60,14 +57,14 @@ fn least_mark<R: Ruler>(
     ensures mark { result.mark ≡ least_at (search_within (R.M.space (R.metric ruler.old)) probe.entry.rho) probe.entry.need.now point.now stored radius }
     ensures apart { result.mark ≡ Near → result.apart ≡ apart_from (R.M.space (R.metric ruler.old)) probe.entry.need.now point.now }
 {
-    let reach = radius_of(other(probe.need));
+    let reach = probe.need.other().radius();
     if is_skipped(probe.need.apart, stored, probe.rho, radius, reach) {
         return Marked {
             mark: Mark::Skip,
             apart: None,
         };
     }
-    let apart = apart_from(ruler, probe.need, point);
+    let apart = probe.need.apart_from(ruler, point);
     let mark = if is_far(apart, probe.rho, radius, reach) {
         Mark::Far
     } else {
@@ -80,8 +77,8 @@ fn least_mark<R: Ruler>(
 fn pair_with(probe: JoinProbe, item: Item, apart: Option<u64>) -> Result<JoinNeed, Memory>
     ensures { IfOk result (λ pair. pair ≡ paired probe.entry.need.now item apart) }
 {
-    let kept = copy_of(probe.alloc, other(probe.need))?;
-    if opens_right(probe.need) {
+    let kept = probe.need.other().try_clone(probe.alloc)?;
+    if probe.need.opens_right() {
         Ok(JoinNeed {
             left: kept,
             right: item,
@@ -116,10 +113,10 @@ impl Opening {
         ensures hits { OnOk result (self.new.hits.items ≡ self.old.hits.items ++ hits_among (pair ∷ [])) }
         ensures needs { OnOk result (self.new.needs.items ≡ self.old.needs.items ++ needs_among (pair ∷ [])) }
     {
-        if is_object(&pair.left) && is_object(&pair.right) {
+        if pair.left.is_object() && pair.right.is_object() {
             self.hits.push(Pair {
-                left: id_of(&pair.left),
-                right: id_of(&pair.right),
+                left: pair.left.id(),
+                right: pair.right.id(),
                 dist: pair.apart.unwrap_or(0),
             })?;
         } else {
@@ -152,7 +149,7 @@ fn mark_object<R: Ruler>(
     Ok(())
 }
 
-// Marks a subtree whose root has this level at most, and adds its pair where it is marked Near.
+// Marks a subtree that an inner node of this level names, and adds its pair where it is marked Near.
 fn mark_subtree<R: Ruler>(
     ruler: &mut R,
     probe: JoinProbe,

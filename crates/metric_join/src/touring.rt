@@ -1,9 +1,8 @@
 // The walk through a whole tree by child numbers.
-ghost use Rattle.std.specs.Prelude.{◌≡◌, ◌++◌, ◌≤◌, IsTrue, IfErr, OnOk, reverse};
-ghost use Rattle.page_store.specs.Reading.{nodes_of};
+ghost use Rattle.std.specs.Prelude.{◌≡◌, ◌++◌, IfErr, OnOk, reverse};
 ghost use Rattle.page_store.specs.Shelf.{HoldsSame, HasPageCause};
-ghost use Rattle.metric_join.specs.Tours.{children, IsToured, OpensPage};
-ghost use Rattle.metric_join.specs.Joined.{CountsUpTo, HasTourCause};
+ghost use Rattle.metric_join.specs.Tours.{children, OpensPage};
+ghost use Rattle.metric_join.specs.Joined.{IsWalked, HasTourCause};
 
 use metric_laws::Memory;
 use page_store::{PageFault, Pages};
@@ -46,8 +45,7 @@ fn open_page<P: Pages>(
 pub fn tour<P: Pages>(alloc: Global, pages: &mut P, live: &Live) -> Result<(), PageFault>
     ensures same { HoldsSame (P.shelf pages.old) (P.shelf pages.new) }
     ensures keeps { P.keeps pages.old pages.new }
-    ensures asked { OnOk result (CountsUpTo (P.shelf pages.old).asked (P.shelf pages.new).asked live.now.pages) }
-    ensures toured { OnOk result (IsTrue (P.shelf pages.old).tells → IsToured (nodes_of (P.shelf pages.old).read) live.now) }
+    ensures walked { OnOk result (IsWalked live.now (P.shelf pages.old) (P.shelf pages.new) 0) }
     ensures cause { IfErr result (HasTourCause live.now (P.shelf pages.old) (P.shelf pages.new)) }
 {
     let Ok(mut stack) = vec![in alloc; live.root] else {

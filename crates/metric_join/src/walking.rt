@@ -5,12 +5,12 @@ ghost use Rattle.tree_shape.specs.declared.live.Live.{Live};
 ghost use Rattle.metric_laws.specs.Counts.{next_count};
 ghost use Rattle.page_store.specs.Shelf.{Shelf, HoldsSame, IsNodeOf};
 ghost use Rattle.log_model.specs.SoundJoin.{root_item, root_pair};
-ghost use Rattle.metric_join.specs.Steps.{search_within, following, record_for, weight, weight_of, HasStop, HasStopped, HasWalkCause, IsOpened, IsUnderWay};
+ghost use Rattle.log_model.specs.JoinSteps.{search_within};
+ghost use Rattle.metric_join.specs.Steps.{following, record_for, weight, weight_of, HasStop, HasStopped, HasWalkCause, IsOpened, IsUnderWay};
 
 use crate::JoinFault;
 use crate::faults::fault_of;
 use crate::opening::{JoinProbe, Opening, open_node};
-use crate::pairing::{opened, opens_right, page_of};
 use log_model::{Item, JoinNeed, JoinRecord, Memory};
 use metric_laws::{BOUND, Listed, Ruler};
 use page_store::{PageFault, Pages};
@@ -92,8 +92,8 @@ impl JoinWalk {
         ensures stack { OnOk result (reverse self.new.stack.items ≡ map (following waiting.now) opening.needs.items ++ reverse self.old.stack.items) }
     {
         self.records.push(JoinRecord {
-            right: opens_right(&waiting.need),
-            page: page_of(opened(&waiting.need)),
+            right: waiting.need.opens_right(),
+            page: waiting.need.opened().page(),
             marks: Listed::new(opening.marks),
         })?;
         let mut hits = opening.hits;
@@ -106,7 +106,7 @@ impl JoinWalk {
 fn follow(waiting: &Waiting, need: JoinNeed) -> Waiting
     ensures { result ≡ following waiting.now need }
 {
-    if opens_right(&waiting.need) {
+    if waiting.need.opens_right() {
         Waiting {
             need,
             left_room: waiting.left_room,
@@ -165,8 +165,8 @@ fn opened_node<P: Pages, Q: Pages>(
     ensures ok { IfOk result (IsOpened (P.shelf left.old) (P.shelf left.new) (Q.shelf right.old) (Q.shelf right.new) waiting.now) }
     ensures cause { IfErr result (HasStopped (P.shelf left.old) (P.shelf left.new) (Q.shelf right.old) (Q.shelf right.new) waiting.now) }
 {
-    let page = page_of(opened(&waiting.need));
-    if opens_right(&waiting.need) {
+    let page = waiting.need.opened().page();
+    if waiting.need.opens_right() {
         match node_at(alloc, right, page, waiting.right_room) {
             Ok(node) => Ok(node),
             Err(fault) => Err(fault_of(true, fault)),
@@ -213,7 +213,7 @@ fn open_pair<P: Pages, Q: Pages, R: Ruler>(
     Ok(())
 }
 
-/// Walks on until no pair waits. The first walks of both trees were whole.
+/// Walks on until no pair waits, or a page gives no node.
 pub fn walk_pairs<P: Pages, Q: Pages, R: Ruler>(
     alloc: Global,
     left: &mut P,

@@ -1,4 +1,4 @@
-use Rattle.std.proofs.Common.{◌≡◌, [], ◌∷◌, Ok, List, refl, sym, ap, ◌∙◌, arith, subst, Result}
+use Rattle.std.proofs.Common.{◌≡◌, [], ◌∷◌, refl, sym, ap, ◌∙◌, arith, Result}
 use Rattle.std.proofs.lemmas.List.{nil_from_length}
 use Rattle.bulk_load.specs.Groupable.{load_of}
 use Rattle.bulk_load.specs.Postorder.{is_top}

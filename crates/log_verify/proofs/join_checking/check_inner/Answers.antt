@@ -4,7 +4,7 @@ use Rattle.log_model.specs.declared.marks.Mark.{Mark}
 use Rattle.log_model.specs.declared.marks.Mark.TheVariants.{Skip}
 use Rattle.log_model.specs.declared.pairs.JoinNeed.{JoinNeed}
 use Rattle.log_model.specs.JoinWalk.{allows_entry, with_entry, subtree_entry}
-use Rattle.log_verify.specs.JoinSteps.{search_within}
+use Rattle.log_model.specs.JoinSteps.{search_within}
 use Rattle.log_verify.proofs.OneMark.{not_false}
 use Rattle.log_verify.proofs.JoinMarks.{hits_next, needs_next, left_mapped}
 use Rattle.log_verify.proofs.join_checking.check_inner.Goals as goal

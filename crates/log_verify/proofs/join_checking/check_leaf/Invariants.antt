@@ -1,8 +1,8 @@
 use Rattle.std.proofs.Common.{◌≡◌, ◌++◌, map, drop}
 use Rattle.log_model.specs.Walk.{near_ones}
 use Rattle.log_model.specs.JoinWalk.{allows_entry, with_entry, object_entry}
+use Rattle.log_model.specs.JoinSteps.{search_within, hits_among, needs_among}
 use Rattle.log_verify.specs.Judged.{first_wrong}
-use Rattle.log_verify.specs.JoinSteps.{search_within, hits_among, needs_among}
 use Rattle.log_verify.proofs.join_checking.check_leaf.Given as goal
 
 -- what is left to check and to name

@@ -6,8 +6,8 @@ use Rattle.page_store.specs.Shelf.{Shelf}
 use Rattle.log_model.specs.declared.marks.JoinRecord.{JoinRecord}
 use Rattle.log_model.specs.InOrder.{in_order, pair_before}
 use Rattle.log_model.specs.SoundJoin.{join_at}
+use Rattle.log_model.specs.JoinSteps.{search_within}
 use Rattle.log_verify.specs.JoinJudged.{join_walked, pair_difference, join_fault}
-use Rattle.log_verify.specs.JoinSteps.{search_within}
 use Rattle.log_verify.proofs.JoinSoundness.{join_sound_from_none}
 use Rattle.log_verify.proofs.JoinVerdicts.{difference_cause, begun_is, fault_differs, sound_walks, sound_faults, passing}
 use Rattle.log_verify.proofs.join_verifying.verify_join.Goals as goal

@@ -1,8 +1,8 @@
 use Rattle.std.proofs.Common.{◌≡◌, ◌∙◌, ◌∷◌, true, reverse, sym, arith}
 use Rattle.std.proofs.lemmas.Grind.{common_steps}
 use Rattle.std.proofs.lemmas.Result.{err_from_is_err_and}
+use Rattle.log_model.specs.JoinSteps.{search_within}
 use Rattle.log_verify.specs.JoinJudged.{is_of}
-use Rattle.log_verify.specs.JoinSteps.{search_within}
 use Rattle.log_verify.proofs.JoinWays.{page_stops}
 use Rattle.log_verify.proofs.join_walking.take_record.Goals as goal
 

@@ -1,8 +1,8 @@
 use Rattle.std.proofs.Common.{◌≡◌, ◌∙◌, reverse, ap, arith}
 use Rattle.std.proofs.lemmas.Result.{err_from_is_err_and}
 use Rattle.log_model.specs.JoinWalk.{JoinSearch}
+use Rattle.log_model.specs.JoinSteps.{search_within}
 use Rattle.log_verify.specs.JoinJudged.{join_walked}
-use Rattle.log_verify.specs.JoinSteps.{search_within}
 use Rattle.log_verify.proofs.Ways.{holds_both}
 use Rattle.log_verify.proofs.JoinWays.{join_next, join_ends}
 use Rattle.log_verify.proofs.join_walking.walk_records.Goals as goal

@@ -1,8 +1,8 @@
 use Rattle.std.proofs.Common.{◌≡◌, reverse, drop}
 use Rattle.std.specs.Prelude.{IsTrue}
 use Rattle.page_store.specs.Shelf.{HoldsSame}
+use Rattle.log_model.specs.JoinSteps.{search_within}
 use Rattle.log_verify.specs.JoinJudged.{join_walked}
-use Rattle.log_verify.specs.JoinSteps.{search_within}
 use Rattle.log_verify.proofs.join_walking.walk_records.Given as goal
 
 -- the walk of what is left is the whole walk

@@ -1,6 +1,6 @@
 use Rattle.std.proofs.Common.{◌∙◌, ap}
 use Rattle.log_model.specs.JoinWalk.{subtree_entry}
-use Rattle.metric_join.specs.Steps.{search_within}
+use Rattle.log_model.specs.JoinSteps.{search_within}
 use Rattle.metric_join.proofs.Entries.{takes_next, takes_all, counts_both}
 use Rattle.metric_join.proofs.opening.mark_inner.Goals as goal
 

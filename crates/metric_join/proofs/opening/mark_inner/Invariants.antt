@@ -1,6 +1,7 @@
 use Rattle.std.proofs.Common.{◌≡◌, map, drop}
 use Rattle.log_model.specs.JoinWalk.{subtree_entry}
-use Rattle.metric_join.specs.Steps.{search_within, TakesEntries, CountsMarks}
+use Rattle.log_model.specs.JoinSteps.{search_within}
+use Rattle.metric_join.specs.Steps.{TakesEntries, CountsMarks}
 use Rattle.metric_join.specs.declared.opening.Opening.{Opening}
 use Rattle.metric_join.proofs.opening.mark_inner.Given as goal
 

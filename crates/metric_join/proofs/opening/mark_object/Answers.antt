@@ -1,7 +1,7 @@
 use Rattle.std.proofs.Common.{◌∙◌, ap, refl, sym, List, ℕ, Some}
 use Rattle.log_model.specs.declared.pairs.Item.TheVariants.{Object}
 use Rattle.log_model.specs.JoinWalk.{object_entry}
-use Rattle.metric_join.specs.Steps.{search_within, paired}
+use Rattle.log_model.specs.JoinSteps.{search_within, paired}
 use Rattle.metric_join.proofs.Entries.{takes_none, takes_pair, counts_one}
 use Rattle.metric_join.proofs.opening.mark_object.Goals as goal
 

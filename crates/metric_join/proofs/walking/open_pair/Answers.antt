@@ -1,6 +1,6 @@
 use Rattle.std.proofs.Common.{reverse}
+use Rattle.log_model.specs.JoinSteps.{search_within}
 use Rattle.metric_join.proofs.Pairs.{goes_on, lighter_now}
-use Rattle.metric_join.specs.Steps.{search_within}
 use Rattle.metric_join.proofs.walking.open_pair.Goals as goal
 
 pub returns-clause-on : goal.returns-clause-on

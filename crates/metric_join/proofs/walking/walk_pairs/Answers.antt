@@ -2,8 +2,9 @@ use Rattle.std.proofs.Common.{◌≡◌, ◌∙◌, ◌∷◌, [], List, ap, ari
 use Rattle.std.proofs.lemmas.Grind.{common_steps}
 use Rattle.std.proofs.lemmas.Result.{err_from_is_err_and}
 use Rattle.log_model.specs.JoinWalk.{JoinSearch}
+use Rattle.log_model.specs.JoinSteps.{search_within}
 use Rattle.metric_join.specs.declared.walking.Waiting.{Waiting}
-use Rattle.metric_join.specs.Steps.{search_within, IsUnderWay}
+use Rattle.metric_join.specs.Steps.{IsUnderWay}
 use Rattle.metric_join.proofs.Course.{same_trans}
 use Rattle.metric_join.proofs.Stops.{on_with, stops_with}
 use Rattle.metric_join.proofs.walking.walk_pairs.Goals as goal

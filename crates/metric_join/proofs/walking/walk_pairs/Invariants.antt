@@ -1,7 +1,8 @@
 use Rattle.std.proofs.Common.{◌≡◌, reverse}
 use Rattle.tree_shape.specs.declared.live.Live.{Live}
 use Rattle.page_store.specs.Shelf.{HoldsSame}
-use Rattle.metric_join.specs.Steps.{search_within, weight, IsUnderWay}
+use Rattle.log_model.specs.JoinSteps.{search_within}
+use Rattle.metric_join.specs.Steps.{weight, IsUnderWay}
 use Rattle.metric_join.proofs.walking.walk_pairs.Given as goal
 
 -- a walk that was under way is under way

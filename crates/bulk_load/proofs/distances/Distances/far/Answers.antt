@@ -1,4 +1,4 @@
-use Rattle.std.proofs.Common.{◌≡◌, ◌<◌, ℕ, ◌∙◌, List, length, get_or, ap, sym, subst}
+use Rattle.std.proofs.Common.{◌≡◌, ◌<◌, ℕ, ◌∙◌, List, length, ap, sym, subst}
 use Rattle.tree_shape.specs.Bulk.{row_of}
 use Rattle.tree_shape.specs.Groups.{entry}
 use Rattle.tree_shape.proofs.Kept.{length_map}

@@ -1,0 +1,12 @@
+mod Ascending
+mod Examples
+mod Flags
+mod Given
+mod Members
+mod Places
+mod Released
+mod SoundWalk
+mod Sorting
+mod Steps
+mod Whole
+mod WholeWalk

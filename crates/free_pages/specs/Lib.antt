@@ -1,0 +1,7 @@
+pub mod Walk
+pub mod Reached
+pub mod Keeping
+pub mod Stored
+pub mod Free
+pub mod Opened
+pub mod Laws

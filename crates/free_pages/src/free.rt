@@ -1,0 +1,218 @@
+ghost use Rattle.std.specs.Prelude.{◌≡◌, ◌≤◌, ◌<◌, ◌+◌, [], ◌∷◌, ◌++◌, ◌==◌, max, take, length, IsTrue, IsOk, IfOk, IfErr, OnOk, OnErr, IfNone, IfSome};
+ghost use Rattle.metric_laws.specs.Lists.{IsIn};
+ghost use Rattle.metric_laws.specs.Space.{Space};
+ghost use Rattle.tree_shape.specs.Tree.{IsSoundTree};
+ghost use Rattle.page_store.specs.Numbers.{AreNumbers};
+ghost use Rattle.page_store.specs.Placing.{live_pages};
+ghost use Rattle.page_store.specs.Reading.{nodes_of};
+ghost use Rattle.page_store.specs.Shelf.{HoldsSame, IsPassing};
+ghost use Rattle.free_pages.specs.Free.{AreOutsideTree, IsFresh};
+ghost use Rattle.free_pages.specs.Keeping.{IsKept, is_kept, with_free, with_left, with_pins, without_pin};
+ghost use Rattle.free_pages.specs.Walk.{IsWalkFault, outside_pages, tree_walk};
+
+use crate::Held;
+use crate::queues::{
+    is_below, is_free, is_held, least_pin, put_free, put_held, release, take_out, unopened,
+};
+use crate::walking::walk_tree;
+use page_store::{Memory, PageFault, Pages};
+use std::alloc::Global;
+use std::collections::VecDeque;
+use std::marker::Model;
+use tree_shape::Live;
+
+/// The pages of a file that its live tree doesn't need. New nodes get the least of the free ones. A page that a commit to a
+/// generation left is held while a generation below is pinned, and is free otherwise.
+#[derive(Debug, Drop)]
+pub struct Free {
+    // In ascending order, so that the least is in front, and pages go in at the nearer end.
+    free: VecDeque<u32>,
+    // In ascending order of the pages.
+    held: VecDeque<Held>,
+    // In the order of pinning.
+    pins: Vec<u64>,
+    // For so many pages more there is room among the held ones, and for these and the held ones among the free ones.
+    spare: usize,
+    // The greatest generation that `leave` named, 0 at first.
+    newest: u64,
+}
+
+impl Model for Free {
+    ghost use Rattle.std.specs.VecDeque.{deque_capacity};
+    ghost use Rattle.free_pages.specs.Keeping.{FreePages};
+    ghost use Rattle.free_pages.specs.Stored.{IsStored};
+
+    ghost Value = { FreePages };
+
+    ghost view = { λ f. record { free = f.free.items; pins = f.pins.items; held = f.held.items; spare = f.spare; newest = f.newest } };
+
+    ghost invariant = { λ f. IsStored (record { free = f.free.items; pins = f.pins.items; held = f.held.items; spare = f.spare; newest = f.newest }) (deque_capacity f.free) (deque_capacity f.held) };
+}
+
+impl Free {
+    /// The pages of a file from 3 up that no child numbers lead to from the root of its live tree. The tree is walked in
+    /// pre-order, as deep as child numbers lead, whatever the height and the levels say: each of its pages is asked for once
+    /// and judged when the walk comes to it. One that the walk opened before is `Repeats`, unasked; one that holds no node is
+    /// `Bad`, and one below 3 or not below the number of pages `Outside`. None of these comes on a sound tree. `Disk` comes
+    /// where the disk failed. The walk takes a byte for each page of the file, and each free page takes 4.
+    pub fn of<P: Pages>(alloc: Global, pages: &mut P, live: &Live) -> Result<Self, PageFault>
+        requires pages { live.now.pages ≡ (P.shelf pages.old).pages }
+        ensures same { HoldsSame (P.shelf pages.old) (P.shelf pages.new) }
+        ensures keeps { P.keeps pages.old pages.new }
+        ensures outside { IfOk result (λ f. IsTrue (P.shelf pages.old).tells → AreOutsideTree live.now (P.shelf pages.old) (P.shelf pages.new) f.free) }
+        ensures sound { IfOk result (λ f. (s : Space) → IsTrue (P.shelf pages.old).tells → IsSoundTree s (nodes_of (P.shelf pages.old).read) live.now →
+            f.free ≡ outside_pages live.now.pages (live_pages (nodes_of (P.shelf pages.old).read) live.now)) }
+        ensures numbers { IfOk result (λ f. AreNumbers live.now.pages f.free) }
+        ensures fresh { IfOk result IsFresh }
+        ensures kept { IfOk result IsKept }
+        ensures err { IfErr result (IsWalkFault (P.shelf pages.old) (P.shelf pages.new) (tree_walk (P.shelf pages.old).read live.now)) }
+        ensures passing { IfErr result (λ fault. (s : Space) → IsTrue (P.shelf pages.old).tells → IsSoundTree s (nodes_of (P.shelf pages.old).read) live.now → IsPassing fault) }
+        ensures asked { 1 ≤ live.now.pages → (P.shelf pages.new).asked ≤ (P.shelf pages.old).asked + live.now.pages }
+        ensures reads { 1 ≤ live.now.pages → (P.shelf pages.new).reads ≤ (P.shelf pages.old).reads + live.now.pages }
+    {
+        let walk = match walk_tree(alloc, pages, live) {
+            Ok(walk) => walk,
+            Err(fault) => return Err(fault),
+        };
+        let Ok(free) = unopened(alloc, walk.opened.as_slice(), walk.count) else {
+            return Err(PageFault::Memory);
+        };
+        Ok(Free {
+            free,
+            held: VecDeque::new(alloc),
+            pins: Vec::new(alloc),
+            spare: 0,
+            newest: 0,
+        })
+    }
+
+    /// The least free page, which is free no longer, or `None` where no page is free.
+    pub fn take(&mut self) -> Option<u32>
+        ensures none { IfNone result ((self.old.free ≡ []) × (self.new ≡ self.old)) }
+        ensures least { IfSome result (λ page. self.old.free ≡ page ∷ self.new.free) }
+        ensures rest { self.new ≡ record self.old { free = self.new.free } }
+        ensures kept { IsKept self.new }
+    {
+        self.free.pop_front()
+    }
+
+    /// Free and held pages are in order and apart, and each page that is held is held by a pin.
+    pub fn are_kept(&self)
+        ensures { IsKept self.now }
+    {
+        let _free = &self.free;
+    }
+
+    /// The number of free pages.
+    pub fn len(&self) -> usize
+        ensures { result ≡ length self.now.free }
+    {
+        self.free.len()
+    }
+
+    /// Whether no page is free.
+    pub fn is_empty(&self) -> bool
+        ensures { result ≡ (length self.now.free == 0) }
+    {
+        self.free.is_empty()
+    }
+
+    /// The `n` least free pages in ascending order, or all where there are fewer. They stay free.
+    pub fn least(&self, alloc: Global, n: usize) -> Result<Vec<u32>, Memory>
+        ensures { IfOk result (λ pages. pages.items ≡ take n self.now.free) }
+    {
+        let count = n.min(self.free.len());
+        let mut least = Vec::with_capacity(alloc, count)?;
+        for place in 0..count {
+            least.push(self.free[place])?;
+        }
+        Ok(least)
+    }
+
+    /// Makes room for `n` pages, so that as many can be given back or left with no memory.
+    pub fn reserve(&mut self, n: usize) -> Result<(), Memory>
+        ensures ok { OnOk result (self.new ≡ record self.old { spare = max self.old.spare n }) }
+        ensures err { OnErr result (self.new ≡ self.old) }
+        ensures enough { n ≤ self.old.spare → IsOk result }
+        ensures kept { IsKept self.new }
+    {
+        if n <= self.spare {
+            return Ok(());
+        }
+        // Each held page may become free, so it has room among the free ones too.
+        self.held.reserve(n)?;
+        self.free.reserve(self.held.len() + n)?;
+        self.spare = n;
+        Ok(())
+    }
+
+    // Whether the page is free or held.
+    fn has(&self, page: u32) -> bool
+        ensures is { result ≡ is_kept self.now page }
+        ensures kept { IsKept self.now }
+    {
+        is_free(&self.free, page) || is_held(&self.held, page)
+    }
+
+    /// Makes a page free. One that is free or held already stays so. It finds memory where room is spare.
+    pub fn give_back(&mut self, page: u32) -> Result<(), Memory>
+        ensures ok { OnOk result (self.new ≡ with_free self.old page) }
+        ensures others { self.new ≡ record self.old { free = self.new.free; spare = self.new.spare } }
+        ensures err { OnErr result (self.new ≡ self.old) }
+        ensures room { 1 ≤ self.old.spare → IsOk result }
+        ensures spare { self.old.spare ≤ self.new.spare + 1 }
+        ensures kept { IsKept self.new }
+    {
+        if self.has(page) {
+            return Ok(());
+        }
+        self.reserve(1)?;
+        put_free(&mut self.free, page);
+        self.spare -= 1;
+        Ok(())
+    }
+
+    /// Pins a generation once more: pages that later commits leave are held until it is unpinned as often. No earlier
+    /// `leave` named a later generation.
+    pub fn pin(&mut self, generation: u64) -> Result<(), Memory>
+        requires { self.old.newest ≤ generation }
+        ensures ok { OnOk result (self.new ≡ record self.old { pins = self.old.pins ++ generation ∷ [] }) }
+        ensures err { OnErr result (self.new ≡ self.old) }
+        ensures kept { IsKept self.new }
+    {
+        self.pins.push(generation)?;
+        Ok(())
+    }
+
+    /// Takes back one pin of a generation. The held pages for which no pin below is left become free.
+    pub fn unpin(&mut self, generation: u64)
+        requires { IsIn generation self.old.pins }
+        ensures pins { self.new ≡ with_pins self.old (without_pin generation self.old.pins) }
+        ensures kept { IsKept self.new }
+    {
+        take_out(&mut self.pins, generation);
+        let least = least_pin(self.pins.as_slice());
+        release(&mut self.free, &mut self.held, least);
+    }
+
+    /// Leaves a page after a commit to this generation: it is held while a generation below is pinned, and free otherwise.
+    /// One that is free or held already stays so.
+    pub fn leave(&mut self, page: u32, generation: u64)
+        requires { 1 ≤ self.old.spare }
+        ensures left { self.new ≡ with_left self.old page generation }
+        ensures others { self.new ≡ record self.old { free = self.new.free; held = self.new.held; spare = self.new.spare; newest = max self.old.newest generation } }
+        ensures spare { self.old.spare ≤ self.new.spare + 1 }
+        ensures kept { IsKept self.new }
+    {
+        self.newest = self.newest.max(generation);
+        if self.has(page) {
+            return;
+        }
+        self.spare -= 1;
+        if is_below(least_pin(self.pins.as_slice()), generation) {
+            put_held(&mut self.held, Held { page, generation });
+        } else {
+            put_free(&mut self.free, page);
+        }
+    }
+}

@@ -1,0 +1,119 @@
+// The walk of the live tree.
+ghost use Rattle.std.specs.Prelude.{◌≡◌, ◌≤◌, ◌<◌, ◌+◌, ◌^◌, ◌++◌, [], ◌∷◌, map, length, reverse, IfOk, IfErr, OnOk, false, List, ℕ, slice_index_or};
+ghost use Rattle.tree_shape.specs.declared.live.Live.{Live};
+ghost use Rattle.page_store.specs.Shelf.{Shelf, HoldsSame};
+ghost use Rattle.free_pages.specs.Opened.{IsUnderWay};
+ghost use Rattle.free_pages.specs.Walk.{children, tree_walk, IsWalkFault};
+
+use page_store::{Memory, PageFault, Pages};
+use std::alloc::Global;
+use tree_shape::{InnerEntry, Live, Node};
+
+/// A walk by child numbers.
+#[derive(Debug, Drop)]
+pub struct Walk {
+    /// For each page whether it was opened.
+    pub opened: Vec<bool>,
+    /// How many were.
+    pub count: usize,
+    /// The pages that were named and are still to come, the next one last.
+    pub coming: Vec<u32>,
+}
+
+// Puts the children on top, the first one topmost.
+fn put_on_top(coming: &mut Vec<u32>, entries: &[InnerEntry]) -> Result<(), Memory>
+    ensures { OnOk result (reverse coming.new.items ≡ map (λ e. e.child) entries.now ++ reverse coming.old.items) }
+{
+    for done in 0..entries.len() {
+        coming.push(entries[entries.len() - 1 - done].child)?;
+    }
+    Ok(())
+}
+
+// Puts the pages that a node names on top.
+fn name_children(coming: &mut Vec<u32>, node: &Node) -> Result<(), Memory>
+    ensures { OnOk result (reverse coming.new.items ≡ children node.now ++ reverse coming.old.items) }
+{
+    match node {
+        Node::Leaf(_) => Ok(()),
+        Node::Inner { entries, .. } => put_on_top(coming, entries.as_slice()),
+    }
+}
+
+// Whether a page was opened.
+fn is_opened(opened: &[bool], page: u32) -> bool
+    ensures { result ≡ slice_index_or opened.now page false }
+{
+    let page = page as usize;
+    page < opened.len() && opened[page]
+}
+
+// Begins with the root.
+fn begin(alloc: Global, live: &Live) -> Result<Walk, Memory>
+    ensures few { IfOk result (λ walk. length walk.opened.items < 2 ^ 32) }
+    ensures begun { IfOk result (λ walk. (s : Shelf) → IsUnderWay s s live.now walk.count walk.opened.items (reverse walk.coming.items)) }
+{
+    Ok(Walk {
+        opened: vec![in alloc; false; live.pages as usize]?,
+        count: 0,
+        coming: vec![in alloc; live.root]?,
+    })
+}
+
+// Opens a page to which the walk comes.
+fn visit<P: Pages>(
+    alloc: Global,
+    pages: &mut P,
+    walk: &mut Walk,
+    page: u32,
+) -> Result<(), PageFault>
+    requires limit { length walk.old.opened.items ≡ (P.shelf pages.old).pages }
+    requires few { walk.old.count ≤ length walk.old.opened.items }
+    ensures same { HoldsSame (P.shelf pages.old) (P.shelf pages.new) }
+    ensures keeps { P.keeps pages.old pages.new }
+    ensures opened { OnOk result ((old : Shelf) (t : Live) → IsUnderWay old (P.shelf pages.old) t walk.old.count walk.old.opened.items (page ∷ reverse walk.old.coming.items) →
+        IsUnderWay old (P.shelf pages.new) t walk.new.count walk.new.opened.items (reverse walk.new.coming.items)) }
+    ensures one { OnOk result (walk.new.count ≡ walk.old.count + 1) }
+    ensures flags { length walk.new.opened.items ≡ length walk.old.opened.items }
+    ensures err { IfErr result (λ fault. (old : Shelf) (t : Live) (coming : List ℕ) → IsUnderWay old (P.shelf pages.old) t walk.old.count walk.old.opened.items (page ∷ coming) →
+        IsWalkFault old (P.shelf pages.new) (tree_walk old.read t) fault) }
+    ensures asked { (P.shelf pages.new).asked ≤ (P.shelf pages.old).asked + 1 }
+    ensures reads { (P.shelf pages.new).reads ≤ (P.shelf pages.old).reads + 1 }
+{
+    if is_opened(walk.opened.as_slice(), page) {
+        return Err(PageFault::Repeats(page));
+    }
+    let node = match pages.node(alloc, page) {
+        Ok(node) => node,
+        Err(fault) => return Err(fault),
+    };
+    let Ok(()) = name_children(&mut walk.coming, &node) else {
+        return Err(PageFault::Memory);
+    };
+    walk.opened[page as usize] = true;
+    walk.count += 1;
+    Ok(())
+}
+
+/// Walks the live tree in pre-order, and opens each of its pages once.
+pub fn walk_tree<P: Pages>(alloc: Global, pages: &mut P, live: &Live) -> Result<Walk, PageFault>
+    requires pages { live.now.pages ≡ (P.shelf pages.old).pages }
+    ensures same { HoldsSame (P.shelf pages.old) (P.shelf pages.new) }
+    ensures keeps { P.keeps pages.old pages.new }
+    ensures few { IfOk result (λ walk. length walk.opened.items < 2 ^ 32) }
+    ensures ok { IfOk result (λ walk. IsUnderWay (P.shelf pages.old) (P.shelf pages.new) live.now walk.count walk.opened.items []) }
+    ensures err { IfErr result (IsWalkFault (P.shelf pages.old) (P.shelf pages.new) (tree_walk (P.shelf pages.old).read live.now)) }
+    ensures asked { 1 ≤ live.now.pages → (P.shelf pages.new).asked ≤ (P.shelf pages.old).asked + live.now.pages }
+    ensures reads { 1 ≤ live.now.pages → (P.shelf pages.new).reads ≤ (P.shelf pages.old).reads + live.now.pages }
+{
+    let Ok(mut walk) = begin(alloc, live) else {
+        return Err(PageFault::Memory);
+    };
+    while let Some(page) = walk.coming.pop() {
+        match visit(alloc, pages, &mut walk, page) {
+            Ok(()) => {}
+            Err(fault) => return Err(fault),
+        }
+    }
+    Ok(walk)
+}

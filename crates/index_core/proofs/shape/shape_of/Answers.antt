@@ -1,0 +1,57 @@
+use Rattle.std.proofs.Common.{◌≡◌, ◌∙◌, ◌∷◌, List, arith, length, sym, ap, subst, refl, reverse}
+use Rattle.std.proofs.lemmas.Grind.{common_steps}
+use Rattle.index_core.specs.declared.shape.Named.{Named}
+use Rattle.index_core.specs.declared.shape.ShapeLine.{ShapeLine}
+use Rattle.index_core.specs.Shapes.{IsDrawing, IsDrawn}
+use Rattle.index_core.proofs.Shaping.{begins, goes_on, has_room, passes, refused, repeats}
+use Rattle.index_core.proofs.shape.shape_of.Goals as goal
+
+pub loop-named-init : goal.loop-named-init
+loop-named-init g c = record {
+  keeps = g.met.P.Pages.keeps_none c.args.pages.now;
+  count = rw c.new-lines.ensures.items refl;
+  low = omega arith;
+  drawing = rw (c.new-lines.ensures.items, c.in-Ok.ensures.items) (begins (g.P.Pages.shelf c.args.pages.now) c.args.live.now);
+}
+
+pub returns-then-nodes-live-clause-sound : goal.returns-then-nodes-live-clause-sound
+returns-then-nodes-live-clause-sound g c =
+    let stack : reverse c.loop-named.coming.items ≡ c.in-Some.named ∷ reverse c.pop.new.self.items = grind (arith, common_steps, c.in-Some.ensures.items) in
+    has_room (g.P.Pages.shelf c.args.pages.now) c.args.live.now (g.P.Pages.shelf c.loop-named.pages) c.loop-named.lines.items c.in-Some.named (reverse c.pop.new.self.items)
+    (subst (λ (coming : List Named). IsDrawing (g.P.Pages.shelf c.args.pages.now) (g.P.Pages.shelf c.loop-named.pages) c.args.live.now c.loop-named.lines.items coming) stack c.loop-named.invariant.drawing)
+    (sym c.loop-named.invariant.count ∙ c.if-nodes-live.true)
+
+pub returns-in-Err-clause-sound : goal.returns-in-Err-clause-sound
+returns-in-Err-clause-sound g c =
+    let stack : reverse c.loop-named.coming.items ≡ c.in-Some.named ∷ reverse c.pop.new.self.items = grind (arith, common_steps, c.in-Some.ensures.items) in
+    passes (g.P.Pages.shelf c.args.pages.now) c.args.live.now (g.P.Pages.shelf c.loop-named.pages) c.loop-named.lines.items c.in-Some.named (reverse c.pop.new.self.items)
+    (subst (λ (coming : List Named). IsDrawing (g.P.Pages.shelf c.args.pages.now) (g.P.Pages.shelf c.loop-named.pages) c.args.live.now c.loop-named.lines.items coming) stack c.loop-named.invariant.drawing)
+    (g.P.Pages.shelf c.draw.new.pages) c.in-Err.fault c.in-Err.ensures.cause
+
+pub loop-named-preserved : goal.loop-named-preserved
+loop-named-preserved g c =
+    let stack : reverse c.loop-named.coming.items ≡ c.in-Some.named ∷ reverse c.pop.new.self.items = grind (arith, common_steps, c.in-Some.ensures.items) in
+    let drawn : IsDrawn (g.P.Pages.shelf c.loop-named.pages) c.in-Some.named c.loop-named.lines.items c.draw.new.lines.items (reverse c.pop.new.self.items) (reverse c.draw.new.coming.items) = c.in-Ok-draw.ensures.drawn in
+    let after = goes_on (g.P.Pages.shelf c.args.pages.now) c.args.live.now (g.P.Pages.shelf c.loop-named.pages) c.loop-named.lines.items c.in-Some.named (reverse c.pop.new.self.items)
+    (subst (λ (coming : List Named). IsDrawing (g.P.Pages.shelf c.args.pages.now) (g.P.Pages.shelf c.loop-named.pages) c.args.live.now c.loop-named.lines.items coming) stack c.loop-named.invariant.drawing)
+    (g.P.Pages.shelf c.draw.new.pages) c.draw.new.lines.items (reverse c.draw.new.coming.items) c.draw.ensures.same c.draw.ensures.asked c.draw.ensures.reads drawn in
+    record {
+      keeps = g.met.P.Pages.keeps_both c.args.pages.now c.loop-named.pages c.draw.new.pages c.loop-named.invariant.keeps c.draw.ensures.keeps;
+      count = (let l = ap (λ (ls : List ShapeLine). length ls) drawn.line in let n = c.loop-named.invariant.count in grind (arith, common_steps));
+      low = (let n = c.loop-named.invariant.low in let other = c.if-nodes-live.false in omega arith);
+      drawing = after;
+    }
+
+pub returns-then-nodes-live-clause-cause : goal.returns-then-nodes-live-clause-cause
+returns-then-nodes-live-clause-cause g c =
+    let stack : reverse c.loop-named.coming.items ≡ c.in-Some.named ∷ reverse c.pop.new.self.items = grind (arith, common_steps, c.in-Some.ensures.items) in
+    repeats (g.P.Pages.shelf c.args.pages.now) c.args.live.now (g.P.Pages.shelf c.loop-named.pages) c.loop-named.lines.items c.in-Some.named (reverse c.pop.new.self.items)
+    (subst (λ (coming : List Named). IsDrawing (g.P.Pages.shelf c.args.pages.now) (g.P.Pages.shelf c.loop-named.pages) c.args.live.now c.loop-named.lines.items coming) stack c.loop-named.invariant.drawing)
+    (sym c.loop-named.invariant.count ∙ c.if-nodes-live.true)
+
+pub returns-in-Err-clause-cause : goal.returns-in-Err-clause-cause
+returns-in-Err-clause-cause g c =
+    let stack : reverse c.loop-named.coming.items ≡ c.in-Some.named ∷ reverse c.pop.new.self.items = grind (arith, common_steps, c.in-Some.ensures.items) in
+    refused (g.P.Pages.shelf c.args.pages.now) c.args.live.now (g.P.Pages.shelf c.loop-named.pages) c.loop-named.lines.items c.in-Some.named (reverse c.pop.new.self.items)
+    (subst (λ (coming : List Named). IsDrawing (g.P.Pages.shelf c.args.pages.now) (g.P.Pages.shelf c.loop-named.pages) c.args.live.now c.loop-named.lines.items coming) stack c.loop-named.invariant.drawing)
+    (let n = c.loop-named.invariant.count in let l = c.loop-named.invariant.low in let other = c.if-nodes-live.false in omega arith) (g.P.Pages.shelf c.draw.new.pages) c.in-Err.fault c.in-Err.ensures.cause

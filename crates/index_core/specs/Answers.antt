@@ -1,0 +1,41 @@
+-- What the reading calls of an opened index answer, and why they refuse.
+use Rattle.std.specs.Prelude.{ℕ, min, List, length, IsTrue}
+use Rattle.metric_laws.specs.Space.{Space, bound}
+use Rattle.disk_model.specs.Disk.{DiskState}
+use Rattle.scan_model.specs.declared.query.Query.{Query}
+use Rattle.tree_shape.specs.Tree.{IsSoundTree, points_by_id}
+use Rattle.log_model.specs.declared.logs.Found.{Found}
+use Rattle.log_model.specs.Counts.{count_up, measured}
+use Rattle.log_model.specs.Walk.{search_at}
+use Rattle.range_search.specs.Searched.{IsFound, HasWalkCause}
+use Rattle.nearest_search.specs.Searched.{HasNearestCause}
+use Rattle.index_core.specs.declared.faults.IndexFault.{IndexFault}
+use Rattle.index_core.specs.Causes.{HasReadCause}
+use Rattle.index_core.specs.Shapes.{HasShapeCause}
+use Rattle.index_core.specs.Files.{OpenFile, pages_on, nodes_on}
+
+-- the disk tells its bytes, and the live tree in them is sound in the space
+abbrev pub IsSoundOn : {M : Type 0} → Space → OpenFile M → DiskState → Type 0
+IsSoundOn s file disk = IsTrue disk.tells × IsSoundTree s (nodes_on file disk) file.live
+
+-- the points of the objects, in order of id
+abbrev pub points_on : {M : Type 0} → OpenFile M → DiskState → List (List ℕ)
+points_on file disk = points_by_id (nodes_on file disk) file.live
+
+-- What a range search finds: where the disk tells its bytes, the least log of the query. The disk was read at most once per
+-- record of it.
+abbrev pub IsFoundOn : {M : Type 0} → Space → OpenFile M → Query → DiskState → DiskState → Found → Type 0
+IsFoundOn s file query old new found =
+    IsFound s file.live query (pages_on file old 0) (pages_on file new (count_up 0 (length found.log.records))) 0 (count_up 0 (measured found.log.records)) found
+
+-- why a range search refuses: the disk failed, memory ran out, or the walk with the least marks came to a damaged page
+abbrev pub HasRangeCause : {M : Type 0} → Space → OpenFile M → List ℕ → ℕ → DiskState → DiskState → IndexFault → Type 0
+HasRangeCause s file q r old new = HasReadCause (HasWalkCause (search_at s q (min r bound)) file.live (pages_on file old 0) (pages_on file new (count_up 0 file.live.pages)))
+
+-- why a search for the nearest refuses: the disk failed, memory ran out, or a reached page is damaged
+abbrev pub HasReachCause : {M : Type 0} → OpenFile M → DiskState → DiskState → IndexFault → Type 0
+HasReachCause file old new = HasReadCause (HasNearestCause file.live (pages_on file old 0) (pages_on file new (count_up 0 file.live.pages)))
+
+-- why the walk of a shape refuses: the disk failed, memory ran out, or the walk in pre-order came to a damaged page
+abbrev pub HasDrawCause : {M : Type 0} → OpenFile M → DiskState → DiskState → IndexFault → Type 0
+HasDrawCause file old new = HasReadCause (HasShapeCause file.live (pages_on file old 0) (pages_on file new (count_up 0 file.live.pages)))

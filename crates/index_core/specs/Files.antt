@@ -1,0 +1,59 @@
+-- What an opened index is, and on which disks it stands.
+use Rattle.std.specs.Prelude.{◌≡◌, ℕ, ◌≤◌, false, IsTrue, Option, MatchOption, All}
+use Rattle.disk_model.specs.Disk.{DiskState, LeavesOnly}
+use Rattle.tree_shape.specs.declared.live.Live.{Live}
+use Rattle.tree_shape.specs.Tree.{Nodes}
+use Rattle.node_page.specs.declared.head.Head.{Head}
+use Rattle.node_page.specs.Heads.{IsLawfulHead}
+use Rattle.node_page.specs.Nodes.{IsLawfulNode}
+use Rattle.node_page.specs.Opening.{OpensTo, IsLawfulLive}
+use Rattle.page_store.specs.Reading.{IsWithin, nodes_of}
+use Rattle.page_store.specs.Shelf.{Shelf}
+use Rattle.page_store.specs.Shelves.{disk_shelf}
+use Rattle.page_cache.specs.Keeping.{Pairs}
+use Rattle.index_core.specs.Lending.{KeptAgrees}
+
+-- an opened index: its head, its live slot, the metric that it was opened with, and what is kept of its pages, where
+-- something is
+pub record OpenFile (M : Type 0) : Type 0 where
+  pub head : Head
+  pub live : Live
+  pub metric : M
+  pub kept : Option Pairs
+
+-- the pages of an opened index on a disk, of which so many were asked for
+abbrev pub pages_on : {M : Type 0} → OpenFile M → DiskState → ℕ → Shelf
+pages_on file disk asked = disk_shelf false file.head.dim file.live.pages disk asked
+
+-- their nodes
+abbrev pub nodes_on : {M : Type 0} → OpenFile M → DiskState → Nodes
+nodes_on file disk = nodes_of (pages_on file disk 0).read
+
+-- The index stands on the disk: where the disk tells its bytes, they open to the head and the live slot; and what is kept
+-- agrees with its pages.
+pub record StandsOn {M : Type 0} (file : OpenFile M) (disk : DiskState) : Type 0 where
+  pub opens : IsTrue disk.tells → OpensTo disk.bytes file.head file.live
+  pub agrees : KeptAgrees file.kept (pages_on file disk 0)
+
+-- what is kept can be nodes of these pages, whatever a disk holds
+abbrev pub IsLawfulKept : ℕ → ℕ → Option Pairs → Type 0
+IsLawfulKept dim pages kept = MatchOption kept (Unit {0}) (λ pairs. All (λ pair. IsWithin pages pair.0 × IsLawfulNode dim pair.1) pairs.entries)
+
+-- what always holds of an opened index whose points have so many coordinates, wherever it stands
+pub record IsLawfulFile {M : Type 0} (words : ℕ) (file : OpenFile M) : Type 0 where
+  pub head : IsLawfulHead file.head
+  pub version : file.head.version ≡ 2
+  pub words_are : words ≡ file.head.dim
+  pub side : file.live.side ≤ 1
+  pub live : (size : ℕ) × IsLawfulLive file.head.limit size file.live
+  pub kept : IsLawfulKept file.head.dim file.live.pages file.kept
+
+-- An index that is opened for writing stands on the disk alone: what the disk tells is all that a crash may leave.
+pub record StandsAlone {M : Type 0} (file : OpenFile M) (disk : DiskState) : Type 0 where
+  pub stands : StandsOn file disk
+  pub only : IsTrue disk.tells → LeavesOnly disk disk.bytes
+
+-- an index that is opened for writing, and how many threads a load may use
+pub record OpenIndex (M : Type 0) : Type 0 where
+  pub file : OpenFile M
+  pub workers : ℕ

@@ -1,0 +1,67 @@
+// The pages of an opened file, through what is kept of them where something is.
+ghost use Rattle.std.specs.Prelude.{◌≡◌, ◌+◌, ◌≤◌, IfOk, IfErr, Err, false, None, Some};
+ghost use Rattle.index_core.specs.Lending.{lent_inner, lent_kept, lent_shelf, KeptAgrees};
+
+use page_cache::{Cached, Kept};
+use page_store::{PageFault, Pages};
+use std::alloc::Global;
+use tree_shape::Node;
+
+/// Pages as they are, or behind what is kept of them.
+#[derive(Drop)]
+pub enum Lent<P: Pages> {
+    /// The pages themselves.
+    Plain(P),
+    /// The pages behind a cache.
+    Behind(Cached<P>),
+}
+
+impl<P: Pages> Lent<P> {
+    /// These pages, behind what is kept of them where something is.
+    pub fn of(inner: P, kept: Option<Kept>) -> Self
+        requires agrees { KeptAgrees kept (P.shelf inner) }
+        requires unasked { (P.shelf inner).asked ≡ 0 }
+        ensures inner { lent_inner result ≡ inner }
+        ensures kept { lent_kept result ≡ kept }
+        ensures shelf { lent_shelf P.shelf result ≡ P.shelf inner }
+    {
+        match kept {
+            None => Lent::Plain(inner),
+            Some(kept) => Lent::Behind(Cached::from_parts(inner, kept)),
+        }
+    }
+
+    /// The pages, and what is kept of them now.
+    pub fn into_parts(self) -> (P, Option<Kept>)
+        ensures inner { result.0 ≡ lent_inner self }
+        ensures kept { result.1 ≡ lent_kept self }
+        ensures agrees { KeptAgrees result.1 (P.shelf result.0) }
+    {
+        match self {
+            Lent::Plain(inner) => (inner, None),
+            Lent::Behind(cached) => {
+                let (inner, kept) = cached.into_parts();
+                (inner, Some(kept))
+            }
+        }
+    }
+}
+
+impl<P: Pages> Pages for Lent<P> {
+    ghost use Rattle.index_core.specs.Lending.{lent_inner, lent_shelf};
+
+    ghost shelf = { λ l. lent_shelf P.shelf l };
+
+    ghost keeps = { λ l m. P.keeps (lent_inner l) (lent_inner m) };
+
+    ghost keeps_none = { λ l. P.keeps_none (lent_inner l) };
+
+    ghost keeps_both = { λ l m n first second. P.keeps_both (lent_inner l) (lent_inner m) (lent_inner n) first second };
+
+    fn node(&mut self, alloc: Global, page: u32) -> Result<Node, PageFault> {
+        match self {
+            Lent::Plain(inner) => inner.node(alloc, page),
+            Lent::Behind(cached) => cached.node(alloc, page),
+        }
+    }
+}

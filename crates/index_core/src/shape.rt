@@ -1,0 +1,164 @@
+// The shape of a tree, by a walk in pre-order.
+ghost use Rattle.std.specs.Prelude.{◌≡◌, ◌≤◌, ◌+◌, ◌++◌, [], ◌∷◌, map, length, reverse, Some, IsTrue, IfOk, IfErr, OnOk};
+ghost use Rattle.metric_laws.specs.Counts.{next_count};
+ghost use Rattle.metric_laws.specs.Space.{Space};
+ghost use Rattle.tree_shape.specs.Tree.{IsSoundTree, inner_entries};
+ghost use Rattle.page_store.specs.Reading.{nodes_of};
+ghost use Rattle.page_store.specs.Shelf.{HoldsSame, HasPageCause, IsPassing};
+ghost use Rattle.log_model.specs.Counts.{count_up, entry_count};
+ghost use Rattle.index_core.specs.Shapes.{root_named, named_by, line_of, tree_lines, DrawsTo, HasShapeCause, IsCounted, IsDrawn};
+
+use metric_laws::{Listed, Point};
+use page_store::{Memory, PageFault, Pages};
+use std::alloc::Global;
+use tree_shape::{InnerEntry, Live, Node};
+
+/// A node of an index's tree.
+#[derive(Debug, Drop)]
+pub struct ShapeLine {
+    /// The node's level: 0 for a leaf.
+    pub level: u8,
+    /// How many entries it has.
+    pub entries: u32,
+    /// The routing point of the entry that names it; the root has none.
+    pub centre: Option<Point>,
+    /// The covering radius of that entry.
+    pub radius: Option<u64>,
+}
+
+/// The tree of an index.
+#[derive(Debug, Drop)]
+pub struct Shape {
+    /// The root's level.
+    pub height: u32,
+    /// How many objects there are.
+    pub objects: u32,
+    /// How many nodes there are.
+    pub nodes: u32,
+    /// The nodes, in pre-order.
+    pub lines: Listed<ShapeLine>,
+}
+
+/// A node that a walk has still to open, as the entry above it names it.
+#[derive(Debug, Drop)]
+pub struct Named {
+    /// The node's page.
+    pub page: u32,
+    /// The routing point of the entry; the root has none.
+    pub centre: Option<Point>,
+    /// The covering radius of the entry.
+    pub radius: Option<u64>,
+}
+
+// Puts the nodes that these entries name on top, the first one topmost.
+fn put_on_top(coming: &mut Vec<Named>, entries: Vec<InnerEntry>) -> Result<(), Memory>
+    ensures { OnOk result (reverse coming.new.items ≡ map named_by entries.items ++ reverse coming.old.items) }
+{
+    let mut left = entries;
+    while let Some(entry) = left.pop() {
+        coming.push(Named {
+            page: entry.child,
+            centre: Some(entry.point),
+            radius: Some(entry.radius),
+        })?;
+    }
+    Ok(())
+}
+
+// The line of a node.
+fn line_of(named: Named, node: &Node) -> ShapeLine
+    requires { entry_count node.now ≤ 32 }
+    ensures { result ≡ line_of named node.now }
+{
+    let (level, entries) = match node {
+        Node::Leaf(entries) => (0, entries.as_slice().len()),
+        Node::Inner { level, entries } => (*level, entries.as_slice().len()),
+    };
+    ShapeLine {
+        level,
+        entries: entries as u32,
+        centre: named.centre,
+        radius: named.radius,
+    }
+}
+
+// The entries of an inner node; a leaf has none.
+fn into_entries(alloc: Global, node: Node) -> Vec<InnerEntry>
+    ensures { result.items ≡ inner_entries (Some node) }
+{
+    match node {
+        Node::Leaf(entries) => {
+            drop(entries);
+            Vec::new(alloc)
+        }
+        Node::Inner { entries, .. } => entries.into_vec(),
+    }
+}
+
+// Opens a node.
+fn draw<P: Pages>(
+    alloc: Global,
+    pages: &mut P,
+    named: Named,
+    lines: &mut Vec<ShapeLine>,
+    coming: &mut Vec<Named>,
+) -> Result<(), PageFault>
+    ensures same { HoldsSame (P.shelf pages.old) (P.shelf pages.new) }
+    ensures keeps { P.keeps pages.old pages.new }
+    ensures asked { (P.shelf pages.new).asked ≡ next_count (P.shelf pages.old).asked }
+    ensures reads { (P.shelf pages.new).reads ≤ (P.shelf pages.old).reads + 1 }
+    ensures drawn { OnOk result (IsDrawn (P.shelf pages.old) named lines.old.items lines.new.items (reverse coming.old.items) (reverse coming.new.items)) }
+    ensures cause { IfErr result (HasPageCause (P.shelf pages.old) (P.shelf pages.new) named.page) }
+{
+    let node = pages.node(alloc, named.page)?;
+    if lines.push(line_of(named, &node)).is_err() {
+        return Err(PageFault::Memory);
+    }
+    match put_on_top(coming, into_entries(alloc, node)) {
+        Ok(()) => Ok(()),
+        Err(_) => Err(PageFault::Memory),
+    }
+}
+
+/// Walks the live tree in pre-order by its child numbers. After the last page that the file has, a further one is refused
+/// unasked.
+pub fn shape_of<P: Pages>(alloc: Global, pages: &mut P, live: &Live) -> Result<Shape, PageFault>
+    ensures same { HoldsSame (P.shelf pages.old) (P.shelf pages.new) }
+    ensures keeps { P.keeps pages.old pages.new }
+    ensures counted { IfOk result (IsCounted live.now) }
+    ensures asked { IfOk result (λ shape. (P.shelf pages.new).asked ≡ count_up (P.shelf pages.old).asked (length shape.lines)) }
+    ensures reads { IfOk result (λ shape. (P.shelf pages.new).reads ≤ (P.shelf pages.old).reads + length shape.lines) }
+    ensures lines { IfOk result (λ shape. IsTrue (P.shelf pages.old).tells → (s : Space) → IsSoundTree s (nodes_of (P.shelf pages.old).read) live.now →
+        shape.lines ≡ tree_lines (nodes_of (P.shelf pages.old).read) live.now) }
+    ensures walk { IfOk result (λ shape. IsTrue (P.shelf pages.old).tells → DrawsTo (nodes_of (P.shelf pages.old).read) (root_named live.now.root ∷ []) shape.lines []) }
+    ensures cause { IfErr result (HasShapeCause live.now (P.shelf pages.old) (P.shelf pages.new)) }
+    ensures sound { IfErr result (λ fault. IsTrue (P.shelf pages.old).tells → (s : Space) → IsSoundTree s (nodes_of (P.shelf pages.old).read) live.now → IsPassing fault) }
+{
+    let mut lines = Vec::new(alloc);
+    let Ok(mut coming) = vec![in alloc;
+        Named {
+            page: live.root,
+            centre: None,
+            radius: None
+        },
+    ] else {
+        return Err(PageFault::Memory);
+    };
+    let mut nodes = 0u32;
+    while let Some(named) = coming.pop() {
+        if nodes == live.pages {
+            return Err(PageFault::Repeats(named.page));
+        }
+        match draw(alloc, pages, named, &mut lines, &mut coming) {
+            Ok(()) => {}
+            Err(fault) => return Err(fault),
+        }
+        nodes += 1;
+    }
+    Ok(Shape {
+        height: live.height,
+        objects: live.count,
+        nodes,
+        lines: Listed::new(lines),
+    })
+}

@@ -1,0 +1,3 @@
+mod Examples
+pub mod Pairs
+pub mod Agreement

@@ -1,0 +1,124 @@
+ghost use Rattle.std.specs.Prelude.{◌≡◌, ◌+◌, ◌≤◌, [], false, IfOk, IfErr, IsSome, MatchResult, Some, None, Err};
+ghost use Rattle.lru.specs.LruCache.{lru_cache};
+ghost use Rattle.metric_laws.specs.Counts.{next_count};
+ghost use Rattle.tree_shape.specs.declared.entry.Node.{Node as TheNode};
+ghost use Rattle.page_store.specs.Reading.{is_within};
+ghost use Rattle.page_store.specs.Shelf.{HoldsSame, IsNodeOf, HasPageCause};
+ghost use Rattle.page_store.specs.declared.pages.PageFault.TheVariants.{Outside, Memory as NoMemory};
+ghost use Rattle.page_cache.specs.Keeping.{kept_node, without, IsUsed, Agrees};
+ghost use Rattle.page_cache.specs.Cache.{asked_for};
+
+use crate::Kept;
+use page_store::{Memory, PageFault, Pages};
+use std::alloc::Global;
+use std::marker::Model;
+use tree_shape::Node;
+
+/// Pages behind a cache: the nodes that were asked for last are kept, and given again without asking the pages behind.
+/// Contracts see the pages behind, what is kept, and how often a page was asked for here.
+#[derive(Drop)]
+pub struct Cached<P: Pages> {
+    inner: P,
+    kept: Kept,
+    asked: u64,
+}
+
+impl<P: Pages> Model for Cached<P> {
+    ghost use Rattle.page_cache.specs.Keeping.{Agrees};
+    ghost use Rattle.page_cache.specs.Cache.{Cache};
+
+    ghost Value = { Cache P };
+
+    ghost view = { λ c. record { inner = c.inner; kept = c.kept; asked = c.asked } };
+
+    ghost invariant = { λ c. Agrees c.kept (P.shelf c.inner) };
+}
+
+impl<P: Pages + Drop> Cached<P> {
+    /// These pages behind a cache that keeps nothing yet, and at most so many nodes. None of its pages has been asked for.
+    pub fn new(alloc: Global, inner: P, pages: usize) -> Result<Self, Memory>
+        requires { 1 ≤ pages }
+        ensures { IfOk result (λ cached. cached ≡ record { inner = inner; kept = lru_cache [] pages; asked = 0 }) }
+    {
+        let kept = Kept::new(alloc, pages)?;
+        Ok(Cached::from_parts(inner, kept))
+    }
+}
+
+impl<P: Pages> Cached<P> {
+    /// These pages behind a cache that keeps these nodes, of which each has to be what they give for its page. None of its
+    /// pages has been asked for.
+    pub fn from_parts(inner: P, kept: Kept) -> Self
+        requires { Agrees kept (P.shelf inner) }
+        ensures { result ≡ record { inner = inner; kept = kept; asked = 0 } }
+    {
+        Cached {
+            inner,
+            kept,
+            asked: 0,
+        }
+    }
+
+    /// The pages behind, and what is kept of them. `from_parts` takes it again with these pages, or with others that give
+    /// it too.
+    pub fn into_parts(self) -> (P, Kept)
+        ensures inner { result.0 ≡ self.inner }
+        ensures kept { result.1 ≡ self.kept }
+        ensures agrees { Agrees result.1 (P.shelf result.0) }
+    {
+        let Cached { inner, kept, .. } = self;
+        (inner, kept)
+    }
+
+    /// Drops the node of a page, if one is kept. The next ask for it asks the pages behind.
+    pub fn forget(&mut self, page: u32)
+        ensures { self.new ≡ record self.old { kept = without self.old.kept page } }
+    {
+        self.kept.forget(page);
+    }
+}
+
+impl<P: Pages> Pages for Cached<P> {
+    ghost use Rattle.page_cache.specs.Cache.{asked_for};
+
+    ghost shelf = { λ c. asked_for (P.shelf c.inner) c.asked };
+
+    ghost keeps = { λ c d. P.keeps c.inner d.inner };
+
+    ghost keeps_none = { λ c. P.keeps_none c.inner };
+
+    ghost keeps_both = { λ c d e first second. P.keeps_both c.inner d.inner e.inner first second };
+
+    /// The node of a page: a copy of the one that is kept, or what the pages behind give, which is kept then. A refusal
+    /// changes nothing of what is kept, and nor does want of memory for what is to be kept. `Memory` comes also where
+    /// there is none for the copy.
+    fn node(&mut self, alloc: Global, page: u32) -> Result<Node, PageFault>
+        ensures ok { IfOk result (IsNodeOf (asked_for (P.shelf self.old.inner) self.old.asked) page) }
+        ensures cause { IfErr result (HasPageCause (asked_for (P.shelf self.old.inner) self.old.asked) (asked_for (P.shelf self.new.inner) self.new.asked) page) }
+        ensures outside { is_within (P.shelf self.old.inner).pages page ≡ false → result ≡ Err (Outside page) }
+        ensures unread { is_within (P.shelf self.old.inner).pages page ≡ false → (P.shelf self.new.inner).reads ≡ (P.shelf self.old.inner).reads }
+        ensures same { HoldsSame (asked_for (P.shelf self.old.inner) self.old.asked) (asked_for (P.shelf self.new.inner) self.new.asked) }
+        ensures asked { self.new.asked ≡ next_count self.old.asked }
+        ensures reads { (P.shelf self.new.inner).reads ≤ (P.shelf self.old.inner).reads + 1 }
+        ensures keeps { P.keeps self.old.inner self.new.inner }
+
+        // What is kept of a page is answered, unless there is no memory for a copy, and the pages behind are not asked.
+        ensures hit { (node : TheNode) → kept_node self.old.kept page ≡ Some node → MatchResult result (λ answer. answer ≡ node) (λ fault. fault ≡ NoMemory) }
+        ensures unasked { IsSome (kept_node self.old.kept page) → self.new.inner ≡ self.old.inner }
+
+        // Of another page they are asked once.
+        ensures asks { kept_node self.old.kept page ≡ None → (P.shelf self.new.inner).asked ≡ next_count (P.shelf self.old.inner).asked }
+        ensures kept { MatchResult result (IsUsed self.old.kept self.new.kept page) (λ _. self.new.kept ≡ self.old.kept) }
+    {
+        self.asked = self.asked.saturating_add(1);
+        match self.kept.copy_of(alloc, page) {
+            Ok(Some(node)) => Ok(node),
+            Ok(None) => {
+                let node = self.inner.node(alloc, page)?;
+                self.kept.keep(alloc, page, &node);
+                Ok(node)
+            }
+            Err(_) => Err(PageFault::Memory),
+        }
+    }
+}

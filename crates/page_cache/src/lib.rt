@@ -1,0 +1,13 @@
+//! Pages behind a bounded cache of decoded nodes, so that a page that was asked for lately is not read again.
+#![tactic(auto)]
+
+mod cached;
+mod copying;
+mod kept;
+pub mod laws;
+
+pub use cached::Cached;
+pub use kept::Kept;
+
+#[cfg(test)]
+mod tests;

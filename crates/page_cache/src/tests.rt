@@ -1,0 +1,237 @@
+ghost use Rattle.std.specs.Prelude.{◌≡◌, ◌≤◌, ℕ, false, IsTrue, Contains};
+ghost use Rattle.disk_model.specs.Disk.{IsUnchanged};
+ghost use Rattle.page_store.specs.Shelf.{Shelf, HoldsSame};
+ghost use Rattle.page_store.specs.Shelves.{disk_shelf};
+ghost use Rattle.page_cache.specs.Keeping.{Agrees};
+ghost use Rattle.page_cache.specs.Laws.{GrowsTo};
+
+use crate::{Cached, Kept, laws};
+use disk_model::{Disk, MemoryDisk};
+use page_store::{DiskPages, Memory, PageFault, Pages};
+use std::alloc::Global;
+use std::process::Abort;
+use std::test::Fail;
+use tree_shape::Node;
+
+// A page of zeros up to this place.
+fn pad(bytes: &mut Vec<u8>, end: usize) -> Result<(), Memory> {
+    for _ in bytes.len()..end {
+        bytes.push(0)?;
+    }
+    Ok(())
+}
+
+// The level and the number of entries of a node.
+fn put_head(bytes: &mut Vec<u8>, level: u8, count: u8) -> Result<(), Memory> {
+    bytes.extend_from_slice(&[level, 0, 0, count, 0, 0, 0, 0, 0, 0, 0, 0, 0, 0, 0, 0])
+}
+
+// An entry of a leaf without a tag, or of an inner node with the child's page as id and the radius as tag.
+fn put_entry(
+    bytes: &mut Vec<u8>,
+    id: u32,
+    radius: u64,
+    parent: u64,
+    point: u32,
+) -> Result<(), Memory> {
+    bytes.extend_from_slice(&id.to_be_bytes())?;
+    bytes.extend_from_slice(&radius.to_be_bytes())?;
+    bytes.extend_from_slice(&parent.to_be_bytes())?;
+    bytes.extend_from_slice(&point.to_be_bytes())
+}
+
+// A leaf of the objects from one number up to another, each at its number, below a routing point.
+fn put_leaf(bytes: &mut Vec<u8>, from: u8, to: u8, centre: u8) -> Result<(), Memory> {
+    put_head(bytes, 0, to.saturating_sub(from))?;
+    for id in from..to {
+        put_entry(
+            bytes,
+            u32::from(id),
+            0,
+            u64::from(id.abs_diff(centre)),
+            u32::from(id),
+        )?;
+    }
+    Ok(())
+}
+
+// The numbers 0 to 32 in two leaves, on pages 3 and 4, below a root on page 5.
+fn two_leaves(alloc: Global) -> Result<Vec<u8>, Memory> {
+    let mut bytes = Vec::new(alloc);
+    pad(&mut bytes, 3 * 4096)?;
+    put_leaf(&mut bytes, 0, 16, 7)?;
+    pad(&mut bytes, 4 * 4096)?;
+    put_leaf(&mut bytes, 16, 33, 24)?;
+    pad(&mut bytes, 5 * 4096)?;
+    put_head(&mut bytes, 1, 2)?;
+    put_entry(&mut bytes, 3, 8, 0, 7)?;
+    put_entry(&mut bytes, 4, 8, 0, 24)?;
+    pad(&mut bytes, 6 * 4096)?;
+    Ok(bytes)
+}
+
+// A disk that holds them, of which these calls fail.
+fn disk_of(alloc: Global, fails: &[u64]) -> Result<MemoryDisk, Memory> {
+    let bytes = two_leaves(alloc)?;
+    let room = bytes.len() as u64;
+    MemoryDisk::new(alloc, bytes, room, 100, fails.to_vec(alloc)?, None)
+}
+
+// What a node shows of itself: its level, and the sum of its ids or of its children's pages.
+type Shown = (u8, u32);
+
+const LEFT: Shown = (0, 120);
+
+const RIGHT: Shown = (0, 408);
+
+const ROOT: Shown = (1, 7);
+
+fn shown(node: &Node) -> Shown {
+    let mut sum = 0u32;
+    match node {
+        Node::Leaf(entries) => {
+            for entry in entries.as_slice() {
+                sum = sum.wrapping_add(entry.id);
+            }
+            (0, sum)
+        }
+        Node::Inner { level, entries } => {
+            for entry in entries.as_slice() {
+                sum = sum.wrapping_add(entry.child);
+            }
+            (*level, sum)
+        }
+    }
+}
+
+// What the node of one of some pages shows.
+fn ask<P: Pages>(alloc: Global, pages: &mut P, page: u32) -> Result<Shown, PageFault>
+    ensures same { HoldsSame (P.shelf pages.old) (P.shelf pages.new) }
+    ensures keeps { P.keeps pages.old pages.new }
+{
+    let node = pages.node(alloc, page)?;
+    Ok(shown(&node))
+}
+
+// What that page is to answer, where its disk doesn't fail.
+fn expected(page: u32) -> Result<Shown, PageFault> {
+    match page {
+        3 => Ok(LEFT),
+        4 => Ok(RIGHT),
+        5 => Ok(ROOT),
+        _ => Err(PageFault::Outside(page)),
+    }
+}
+
+// A cache of at most so many nodes answers these pages in turn, and makes so many calls of the disk.
+fn check_calls(
+    rt: &(impl AllocGlobal + Abort),
+    most: usize,
+    wanted: &[u32],
+    calls: u64,
+) -> Result<(), Fail>
+    requires { 1 ≤ most }
+{
+    let alloc = rt.alloc();
+    let mut disk = disk_of(alloc, &[])?;
+    let mut pages = Cached::new(alloc, DiskPages::new(&mut disk, 1, 6), most)?;
+    for page in wanted {
+        assert_eq!(rt; ask(alloc, &mut pages, *page), expected(*page));
+    }
+    let (inner, _) = pages.into_parts();
+    assert_eq!(rt; inner.disk.moments(), calls);
+    Ok(())
+}
+
+#[test]
+fn a_kept_page_is_not_read_again(rt: HostRuntime) -> Result<(), Fail> {
+    check_calls(&rt, 256, &[5, 3, 5, 3], 2)?;
+    check_calls(&rt, 256, &[5, 2, 6, 3, 5, 2, 6, 3], 2)?;
+    check_calls(&rt, 1, &[5, 5, 3, 3, 5], 3)?;
+    // The page that was used last stays, and not the one that came last.
+    check_calls(&rt, 2, &[3, 4, 3, 5, 3, 4], 4)
+}
+
+#[test]
+fn a_page_that_is_forgotten_is_read_again(rt: HostRuntime) -> Result<(), Fail> {
+    let alloc = rt.alloc();
+    let mut disk = disk_of(alloc, &[])?;
+    let mut pages = Cached::new(alloc, DiskPages::new(&mut disk, 1, 6), 9)?;
+    for page in [5, 3, 4] {
+        assert_eq!(rt; ask(alloc, &mut pages, page), expected(page));
+    }
+    pages.forget(3);
+    pages.forget(3);
+    for page in [5, 3, 4] {
+        assert_eq!(rt; ask(alloc, &mut pages, page), expected(page));
+    }
+    let (inner, kept) = pages.into_parts();
+    assert_eq!(rt; (inner.disk.moments(), kept.len()), (4, 3));
+    Ok(())
+}
+
+#[test]
+fn a_refusal_keeps_what_is_kept(rt: HostRuntime) -> Result<(), Fail> {
+    let alloc = rt.alloc();
+    let mut disk = disk_of(alloc, &[1])?;
+    let mut pages = Cached::new(alloc, DiskPages::new(&mut disk, 1, 6), 1)?;
+    assert_eq!(rt; ask(alloc, &mut pages, 3), Ok(LEFT));
+    assert_eq!(rt; ask(alloc, &mut pages, 4), Err(PageFault::Disk));
+    assert_eq!(rt; ask(alloc, &mut pages, 3), Ok(LEFT));
+    assert_eq!(rt; ask(alloc, &mut pages, 4), Ok(RIGHT));
+    let (inner, _) = pages.into_parts();
+    assert_eq!(rt; inner.disk.moments(), 3);
+    Ok(())
+}
+
+// Lends a cache to the pages of a disk for one ask.
+fn look<D: Disk>(
+    alloc: Global,
+    disk: &mut D,
+    kept: Kept,
+    page: u32,
+) -> (Result<Shown, PageFault>, Kept)
+    requires { Agrees kept (disk_shelf false 1 6 (D.state disk.old) 0) }
+    ensures same { IsUnchanged (D.state disk.old) (D.state disk.new) }
+    ensures agrees { Agrees result.1 (disk_shelf false 1 6 (D.state disk.new) 0) }
+{
+    laws::agreement_lasts();
+    let mut pages = Cached::from_parts(DiskPages::new(disk, 1, 6), kept);
+    let answer = ask(alloc, &mut pages, page);
+    let (inner, kept) = pages.into_parts();
+    let _disk = inner.disk;
+    (answer, kept)
+}
+
+// Forgets pages that are written anew next: what is left agrees with the pages then, where the others hold what they held.
+fn forget_each(kept: &mut Kept, written: &[u32])
+    ensures { (old new : Shelf) → GrowsTo old new → Agrees kept.old old
+        → (IsTrue new.tells → (page : ℕ) → ¬ Contains written.now page → new.read page ≡ old.read page) → Agrees kept.new new }
+{
+    laws::agreement_lasts();
+    laws::forgetting_keeps_agreement();
+    for page in written {
+        kept.forget(*page);
+    }
+}
+
+#[test]
+fn a_cache_is_lent(rt: HostRuntime) -> Result<(), Fail> {
+    laws::empty_cache_agrees();
+    laws::forgetting_keeps_agreement();
+    let alloc = rt.alloc();
+    let mut disk = disk_of(alloc, &[])?;
+    let mut kept = Kept::new(alloc, 2)?;
+    assert_eq!(rt; kept.is_empty(), true);
+    for (page, calls) in [(5, 1), (3, 2), (5, 2), (3, 2)] {
+        let (answer, next) = look(alloc, &mut disk, kept, page);
+        assert_eq!(rt; (answer, disk.moments()), (expected(page), calls));
+        kept = next;
+    }
+    forget_each(&mut kept, &[2, 5]);
+    let (answer, kept) = look(alloc, &mut disk, kept, 3);
+    assert_eq!(rt; (answer, disk.moments()), (Ok(LEFT), 2));
+    let (answer, _) = look(alloc, &mut disk, kept, 5);
+    assert_eq!(rt; (answer, disk.moments()), (Ok(ROOT), 3));
+    Ok(())
+}
