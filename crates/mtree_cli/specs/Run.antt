@@ -110,7 +110,7 @@ task_of other = Nothing
 
 -- what a run finds or leaves: the index and the other index, what is left of the logs, and what was put to out and to the log's
 -- output
-pub record Scene : Type 0 where
+pub record Scene : Type 1 where
   pub index : DiskState
   pub other : DiskState
   pub left : Option (List ℕ)

@@ -1,4 +1,4 @@
-ghost use Rattle.std.specs.Prelude.{◌≡◌, ◌⊎◌, ◌≤◌, ◌^◌, List, ℕ, length, IfSome};
+ghost use Rattle.std.specs.Prelude.{◌≡◌, ◌≢◌, ◌⊎◌, ◌≤◌, ◌^◌, List, ℕ, length, IfSome};
 ghost use Rattle.std.specs.Io.KnownBytes.{IsAtEnd};
 ghost use Rattle.outside_io.specs.Causes.{Rose};
 ghost use Rattle.disk_model.specs.Disk.{IsUnchanged};
@@ -58,7 +58,7 @@ pub fn run<D: Disk, E: Disk, S: Source, L: Source, K: Sink, T: Sink>(
     out: &mut K,
     log_out: &mut T,
 ) -> Status
-    // What the job of the words does to the file, and what it writes. Words without a job give the usage line.
+    // What the job of the words does to the files, and what it writes. Words without a job give the usage line.
     ensures does { Does (task_of (job_of (texts_of words.now)))
         (record { index = D.state index.old; other = E.state other.old; left = L.left log_in.old; out = K.written out.old; log_out = T.written log_out.old })
         (record { index = D.state index.new; other = E.state other.new; left = L.left log_in.new; out = K.written out.new; log_out = T.written log_out.new })
@@ -71,19 +71,23 @@ pub fn run<D: Disk, E: Disk, S: Source, L: Source, K: Sink, T: Sink>(
     // There are no other answers.
     ensures statuses { IsStatusOf (task_of (job_of (texts_of words.now))) result.0 }
 
-    // Want of memory leaves the index as it is, and words without a scan, without an index or without logs take none.
+    // Want of memory leaves the index as it is, no run changes the other index, and words without a scan, without an index,
+    // without logs, without another index or without a join take none.
     ensures memory { result.0 ≡ 8 → IsUnchanged (D.state index.old) (D.state index.new) }
-    ensures memory_log { result.0 ≡ 8 → log_out.new ≡ log_out.old }
+    ensures other_same { IsUnchanged (E.state other.old) (E.state other.new) }
     ensures index { TakesNoIndex (task_of (job_of (texts_of words.now))) → index.new ≡ index.old }
     ensures untouched { HasNoScan (texts_of words.now) → input.new ≡ input.old }
     ensures log_untouched { TakesNoLog (task_of (job_of (texts_of words.now))) → log_in.new ≡ log_in.old }
     ensures other { TakesNoOther (task_of (job_of (texts_of words.now))) → other.new ≡ other.old }
     ensures log_out { PutsNoLog (task_of (job_of (texts_of words.now))) → log_out.new ≡ log_out.old }
+    ensures kept { result.0 ≢ 0 → result.0 ≢ 4 → log_out.new ≡ log_out.old }
 
     // A failed read or write is told only where the object's count of faults rose.
     ensures input { result.0 ≡ 3 → Rose (S.faults input.old) (S.faults input.new) ⊎ Rose (L.faults log_in.old) (L.faults log_in.new) }
-    ensures output { result.0 ≡ 4 → Rose (K.faults out.old) (K.faults out.new) ⊎ Rose (T.faults log_out.old) (T.faults log_out.new) }
-    ensures disk { result.0 ≡ 5 → Rose (D.state index.old).faults (D.state index.new).faults ⊎ Rose (E.state other.old).faults (E.state other.new).faults }
+    ensures output { PutsNoLog (task_of (job_of (texts_of words.now))) → result.0 ≡ 4 → Rose (K.faults out.old) (K.faults out.new) }
+    ensures either_output { result.0 ≡ 4 → Rose (K.faults out.old) (K.faults out.new) ⊎ Rose (T.faults log_out.old) (T.faults log_out.new) }
+    ensures disk { TakesNoOther (task_of (job_of (texts_of words.now))) → result.0 ≡ 5 → Rose (D.state index.old).faults (D.state index.new).faults }
+    ensures either_disk { result.0 ≡ 5 → Rose (D.state index.old).faults (D.state index.new).faults ⊎ Rose (E.state other.old).faults (E.state other.new).faults }
 
     // Too much is told exactly where more than 2 ^ 26 bytes of input or 2 ^ 30 bytes of logs were taken.
     ensures long { TakesTooMuch (S.left input.old) (S.left input.new) (L.left log_in.old) (L.left log_in.new) result.0 }
@@ -117,7 +121,9 @@ pub fn run<D: Disk, E: Disk, S: Source, L: Source, K: Sink, T: Sink>(
         Ok(Job::Audit { .. }) => audit_index(alloc, index, out),
         Ok(Job::Verify { other: None, .. }) => verify_logs(alloc, index, log_in, out),
         Ok(Job::Check { other: None, .. }) => check_logs(alloc, index, log_in, out),
-        Ok(Job::Verify { other: Some(_), .. }) => verify_join_logs(alloc, index, other, log_in, out),
+        Ok(Job::Verify { other: Some(_), .. }) => verify_join_logs(
+            alloc, index, other, log_in, out,
+        ),
         Ok(Job::Check { other: Some(_), .. }) => check_join_logs(alloc, index, other, log_in, out),
         Ok(Job::Join { radius, .. }) => join_indexes(alloc, index, other, radius, out, log_out),
         Ok(_) | Err(JobFault::Usage) => put_line(out, USAGE, 2),

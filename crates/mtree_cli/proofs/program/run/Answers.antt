@@ -1,9 +1,9 @@
-use Rattle.std.proofs.Common.{ℕ, List, Option, sym, subst, arith}
+use Rattle.std.proofs.Common.{ℕ, List, Option, inl, sym, subst, arith}
 use Rattle.job_words.specs.Words.{texts_of}
 use Rattle.job_words.specs.Jobs.{job_of}
 use Rattle.job_words.specs.declared.job.Job.{Job}
 use Rattle.mtree_cli.specs.Run.{Does, task_of}
-use Rattle.mtree_cli.proofs.TaskLemmas.{scene, scan_named, unchanged, memory_does, memory_status, nothing_taken, input_taken, logs_taken, join_logs_taken, join_logs_rose, join_rose}
+use Rattle.mtree_cli.proofs.TaskLemmas.{scene, scan_named, unchanged, memory_does, memory_status, nothing_taken, input_taken, logs_taken, logs_rose, join_logs_taken, join_logs_rose, join_rose}
 use Rattle.mtree_cli.proofs.program.run.Goals as goal
 
 pub returns-in-Ok-Scan-clause-does : goal.returns-in-Ok-Scan-clause-does
@@ -70,3 +70,60 @@ returns-in-Ok-Verify-default-default-Some-clause-long g c =
 pub returns-in-Ok-Check-default-default-Some-clause-long : goal.returns-in-Ok-Check-default-default-Some-clause-long
 returns-in-Ok-Check-default-default-Some-clause-long g c =
     join_logs_taken (g.S.Source.left c.args.input.now) _ _ _ _ _ _ _ _ _ c.check_join_logs.result.0 c.check_join_logs.ensures.judges
+
+pub returns-in-Ok-Scan-clause-other_same : goal.returns-in-Ok-Scan-clause-other_same
+returns-in-Ok-Scan-clause-other_same g c = unchanged (g.E.Disk.state c.args.other.now)
+
+pub returns-in-Ok-Create-clause-other_same : goal.returns-in-Ok-Create-clause-other_same
+returns-in-Ok-Create-clause-other_same g c = unchanged (g.E.Disk.state c.args.other.now)
+
+pub returns-in-Ok-Audit-clause-other_same : goal.returns-in-Ok-Audit-clause-other_same
+returns-in-Ok-Audit-clause-other_same g c = unchanged (g.E.Disk.state c.args.other.now)
+
+pub returns-in-Ok-Verify-default-default-None-clause-other_same : goal.returns-in-Ok-Verify-default-default-None-clause-other_same
+returns-in-Ok-Verify-default-default-None-clause-other_same g c = unchanged (g.E.Disk.state c.args.other.now)
+
+pub returns-in-Ok-Check-default-default-None-clause-other_same : goal.returns-in-Ok-Check-default-default-None-clause-other_same
+returns-in-Ok-Check-default-default-None-clause-other_same g c = unchanged (g.E.Disk.state c.args.other.now)
+
+pub returns-in-Ok-clause-other_same : goal.returns-in-Ok-clause-other_same
+returns-in-Ok-clause-other_same g c = unchanged (g.E.Disk.state c.args.other.now)
+
+pub returns-in-Err-Memory-clause-other_same : goal.returns-in-Err-Memory-clause-other_same
+returns-in-Err-Memory-clause-other_same g c = unchanged (g.E.Disk.state c.args.other.now)
+
+pub returns-in-Ok-Verify-default-default-Some-clause-other_same : goal.returns-in-Ok-Verify-default-default-Some-clause-other_same
+returns-in-Ok-Verify-default-default-Some-clause-other_same g c = c.verify_join_logs.ensures.judges.unchanged.1
+
+pub returns-in-Ok-Check-default-default-Some-clause-other_same : goal.returns-in-Ok-Check-default-default-Some-clause-other_same
+returns-in-Ok-Check-default-default-Some-clause-other_same g c = c.check_join_logs.ensures.judges.unchanged.1
+
+pub returns-in-Ok-Join-clause-other_same : goal.returns-in-Ok-Join-clause-other_same
+returns-in-Ok-Join-clause-other_same g c = c.join_indexes.ensures.joins.unchanged.1
+
+pub returns-in-Ok-Verify-default-default-None-clause-either_disk : goal.returns-in-Ok-Verify-default-default-None-clause-either_disk
+returns-in-Ok-Verify-default-default-None-clause-either_disk g c = λ is. inl (logs_rose _ _ _ _ _ _ _ c.verify_logs.result.0 c.verify_logs.ensures.judges is)
+
+pub returns-in-Ok-Check-default-default-None-clause-either_disk : goal.returns-in-Ok-Check-default-default-None-clause-either_disk
+returns-in-Ok-Check-default-default-None-clause-either_disk g c = λ is. inl (logs_rose _ _ _ _ _ _ _ c.check_logs.result.0 c.check_logs.ensures.judges is)
+
+pub returns-in-Ok-Verify-default-default-Some-clause-memory : goal.returns-in-Ok-Verify-default-default-Some-clause-memory
+returns-in-Ok-Verify-default-default-Some-clause-memory g c = λ is. c.verify_join_logs.ensures.judges.unchanged.0
+
+pub returns-in-Ok-Verify-default-default-Some-clause-either_disk : goal.returns-in-Ok-Verify-default-default-Some-clause-either_disk
+returns-in-Ok-Verify-default-default-Some-clause-either_disk g c = λ is. join_logs_rose _ _ _ _ _ _ _ _ _ c.verify_join_logs.result.0 c.verify_join_logs.ensures.judges is
+
+pub returns-in-Ok-Check-default-default-Some-clause-memory : goal.returns-in-Ok-Check-default-default-Some-clause-memory
+returns-in-Ok-Check-default-default-Some-clause-memory g c = λ is. c.check_join_logs.ensures.judges.unchanged.0
+
+pub returns-in-Ok-Check-default-default-Some-clause-either_disk : goal.returns-in-Ok-Check-default-default-Some-clause-either_disk
+returns-in-Ok-Check-default-default-Some-clause-either_disk g c = λ is. join_logs_rose _ _ _ _ _ _ _ _ _ c.check_join_logs.result.0 c.check_join_logs.ensures.judges is
+
+pub returns-in-Ok-Join-clause-either_disk : goal.returns-in-Ok-Join-clause-either_disk
+returns-in-Ok-Join-clause-either_disk g c = λ is. join_rose _ _ _ _ _ _ _ _ _ c.join_indexes.result.0 c.join_indexes.ensures.joins is
+
+pub returns-in-Ok-Create-clause-either_disk : goal.returns-in-Ok-Create-clause-either_disk
+returns-in-Ok-Create-clause-either_disk g c = λ is. inl ((c.create_index.ensures.creates.disk is).0)
+
+pub returns-in-Ok-Audit-clause-either_disk : goal.returns-in-Ok-Audit-clause-either_disk
+returns-in-Ok-Audit-clause-either_disk g c = λ is. inl ((c.audit_index.ensures.audits.disk is).0)
