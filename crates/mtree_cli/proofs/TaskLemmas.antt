@@ -1,5 +1,5 @@
 -- What stands of each task where a run met want of memory before it began.
-use Rattle.std.proofs.Common.{◌≡◌, ◌≢◌, inl, inr, ⊎_elim, ℕ, ◌≤◌, ◌%◌, ◌<◌, length, List, [], Option, Some, Bool, true, IsTrue, refl, sym, ◌∙◌, ap, subst, arith}
+use Rattle.std.proofs.Common.{◌≡◌, ◌≢◌, ◌⊎◌, inl, inr, ⊎_elim, ℕ, ◌≤◌, ◌%◌, ◌<◌, length, List, [], Option, Some, Bool, true, IsTrue, refl, sym, ◌∙◌, ap, subst, arith}
 use Rattle.std.specs.Prelude.{codes, ◌↔◌}
 use Rattle.std.specs.Io.KnownBytes.{Consumes}
 use Rattle.std.proofs.KnownBytes.{Consumes-nil}
@@ -22,8 +22,10 @@ use Rattle.job_words.specs.declared.job.Job.TheVariants as job
 use Rattle.job_words.specs.declared.names.SpaceName.{SpaceName}
 use Rattle.log_jobs.specs.declared.report.Report.{Report}
 use Rattle.log_jobs.specs.Jobs.{JudgesLogs}
-use Rattle.mtree_cli.specs.Run.{Task, Does, IsStatusOf, TakesTooMuch, scan_texts}
-use Rattle.mtree_cli.specs.Run.Task.{Scans, Makes, Judges, Reports, Nothing}
+use Rattle.join_jobs.specs.declared.report.Report.{Report as JoinReport}
+use Rattle.join_jobs.specs.Jobs.{Joins, JudgesLogs as JudgesJoinLogs}
+use Rattle.mtree_cli.specs.Run.{Task, Scene, Does, IsStatusOf, TakesTooMuch, scan_texts}
+use Rattle.mtree_cli.specs.Run.Task.{Scans, Makes, Judges, Reports, JoinsWithin, ReportsJoins, Nothing}
 use Rattle.mtree_cli.proofs.ProgramLemmas.{always, fault_writes, memory_ends}
 
 -- the words of a scan
@@ -59,9 +61,32 @@ no_logs_judged what disk left o0 o1 line = record {
   long_line = λ is. absurd (omega arith);
 }
 
-pub does_at_memory : (task : Task) (disk : DiskState) (input left o0 o1 : Option (List ℕ)) → AppendsPrefix o0 o1 (codes "fault memory\n") → Does task disk disk input left left o0 o1 8
-does_at_memory (Scans asked) disk input left o0 o1 line = always _ _ (λ bytes. fault_writes o0 o1 (scan_texts asked bytes) 8 _ line (λ front part. memory_ends 8 [] _ front refl part))
-does_at_memory (Makes head) disk input left o0 o1 line = record {
+no_join_logs_judged : (what : JoinReport) (disk other : DiskState) (left o0 o1 : Option (List ℕ)) → AppendsPrefix o0 o1 (codes "fault memory\n") → JudgesJoinLogs what disk disk other other left left o0 o1 8
+no_join_logs_judged what disk other left o0 o1 line = record {
+  bytes = [];
+  taken = Consumes-nil left;
+  long = (λ is. absurd (omega arith), λ many. absurd (omega arith));
+  all = λ a b c. absurd (c refl);
+  judges = λ a b. record {
+    unchanged = (unchanged disk, unchanged other);
+    done = λ is. ⊎_elim (λ e. absurd (omega arith)) (λ e. absurd (omega arith)) is;
+    output = λ is. absurd (omega arith);
+    disk = λ is. absurd (omega arith);
+    not_index = λ is. absurd (omega arith);
+    memory = λ is. line;
+  };
+  unchanged = (unchanged disk, unchanged other);
+  input_line = λ is. absurd (omega arith);
+  long_line = λ is. absurd (omega arith);
+}
+
+-- a scene in which this was put to out
+abbrev pub scene : DiskState → DiskState → Option (List ℕ) → Option (List ℕ) → Option (List ℕ) → Scene
+scene disk other left log_out out = record { index = disk; other = other; left = left; out = out; log_out = log_out }
+
+pub does_at_memory : (task : Task) (disk other : DiskState) (input left v o0 o1 : Option (List ℕ)) → AppendsPrefix o0 o1 (codes "fault memory\n") → Does task (scene disk other left v o0) (scene disk other left v o1) input 8
+does_at_memory (Scans asked) disk other input left v o0 o1 line = always _ _ (λ bytes. fault_writes o0 o1 (scan_texts asked bytes) 8 _ line (λ front part. memory_ends 8 [] _ front refl part))
+does_at_memory (Makes head) disk other input left v o0 o1 line = record {
   made = λ is. ⊎_elim (λ e. absurd (omega arith)) (λ e. absurd (omega arith)) is;
   done = λ is. absurd (omega arith);
   part = λ is. absurd (omega arith);
@@ -69,7 +94,7 @@ does_at_memory (Makes head) disk input left o0 o1 line = record {
   not_empty = λ is. absurd (omega arith);
   memory = λ is. (unchanged disk, line);
 }
-does_at_memory Judges disk input left o0 o1 line = record {
+does_at_memory Judges disk other input left v o0 o1 line = record {
   unchanged = unchanged disk;
   sound = λ is. absurd (omega arith);
   rejected = λ is. absurd (omega arith);
@@ -78,17 +103,30 @@ does_at_memory Judges disk input left o0 o1 line = record {
   not_index = λ is. absurd (omega arith);
   memory = λ is. line;
 }
-does_at_memory (Reports what) disk input left o0 o1 line = no_logs_judged what disk left o0 o1 line
-does_at_memory Nothing disk input left o0 o1 line = inr (inr (refl, line))
+does_at_memory (Reports what) disk other input left v o0 o1 line = no_logs_judged what disk left o0 o1 line
+does_at_memory (JoinsWithin radius) disk other input left v o0 o1 line = record {
+  unchanged = (unchanged disk, unchanged other);
+  done = λ is. absurd (omega arith);
+  spaces = λ is. absurd (omega arith);
+  output = λ is. absurd (omega arith);
+  disk = λ is. absurd (omega arith);
+  not_index = λ is. absurd (omega arith);
+  memory = λ is. line;
+  damaged = λ is. absurd (omega arith);
+}
+does_at_memory (ReportsJoins what) disk other input left v o0 o1 line = no_join_logs_judged what disk other left o0 o1 line
+does_at_memory Nothing disk other input left v o0 o1 line = inr (inr (refl, line))
 
-pub memory_does : (task : Task) (disk : DiskState) (input left o0 o1 : Option (List ℕ)) (status : ℕ) → status ≡ 8 → AppendsPrefix o0 o1 (codes "fault memory\n") → Does task disk disk input left left o0 o1 status
-memory_does task disk input left o0 o1 status is line = subst (Does task disk disk input left left o0 o1) (sym is) (does_at_memory task disk input left o0 o1 line)
+pub memory_does : (task : Task) (disk other : DiskState) (input left v o0 o1 : Option (List ℕ)) (status : ℕ) → status ≡ 8 → AppendsPrefix o0 o1 (codes "fault memory\n") → Does task (scene disk other left v o0) (scene disk other left v o1) input status
+memory_does task disk other input left v o0 o1 status is line = subst (Does task (scene disk other left v o0) (scene disk other left v o1) input) (sym is) (does_at_memory task disk other input left v o0 o1 line)
 
 status_eight : (task : Task) → IsStatusOf task 8
 status_eight (Scans asked) = inr (inr (inr (inr refl)))
 status_eight (Makes head) = inr (inr (inr (inr refl)))
 status_eight Judges = inr (inr (inr (inr (inr refl))))
 status_eight (Reports what) = inr (inr (inr (inr (inr (inr (inr refl))))))
+status_eight (JoinsWithin radius) = inr (inr (inr (inr (inr (inl refl)))))
+status_eight (ReportsJoins what) = inr (inr (inr (inr (inr (inr (inr refl))))))
 status_eight Nothing = inr (inr refl)
 
 pub memory_status : (task : Task) (status : ℕ) → status ≡ 8 → IsStatusOf task status
@@ -106,9 +144,18 @@ input_taken input0 input1 left status took = (took.0, [], took.1, Consumes-nil l
 pub logs_taken : (input left0 left1 : Option (List ℕ)) (what : Report) (d0 d1 : DiskState) (o0 o1 : Option (List ℕ)) (status : ℕ) → JudgesLogs what d0 d1 left0 left1 o0 o1 status → TakesTooMuch input input left0 left1 status
 logs_taken input left0 left1 what d0 d1 o0 o1 status told = ([], told.bytes, Consumes-nil input, told.taken, (λ is. inr (told.long.0 is), λ long. ⊎_elim (λ l. absurd (omega arith)) (λ l. told.long.1 l) long))
 
+pub join_logs_taken : (input left0 left1 : Option (List ℕ)) (what : JoinReport) (d0 d1 e0 e1 : DiskState) (o0 o1 : Option (List ℕ)) (status : ℕ) → JudgesJoinLogs what d0 d1 e0 e1 left0 left1 o0 o1 status → TakesTooMuch input input left0 left1 status
+join_logs_taken input left0 left1 what d0 d1 e0 e1 o0 o1 status told = ([], told.bytes, Consumes-nil input, told.taken, (λ is. inr (told.long.0 is), λ long. ⊎_elim (λ l. absurd (omega arith)) (λ l. told.long.1 l) long))
+
 -- the disk's failure is told only where it failed
 pub logs_rose : (left0 left1 : Option (List ℕ)) (what : Report) (d0 d1 : DiskState) (o0 o1 : Option (List ℕ)) (status : ℕ) → JudgesLogs what d0 d1 left0 left1 o0 o1 status → status ≡ 5 → Rose d0.faults d1.faults
 logs_rose left0 left1 what d0 d1 o0 o1 status told is = ((told.judges (omega arith) (omega arith)).disk is).0
+
+pub join_logs_rose : (left0 left1 : Option (List ℕ)) (what : JoinReport) (d0 d1 e0 e1 : DiskState) (o0 o1 : Option (List ℕ)) (status : ℕ) → JudgesJoinLogs what d0 d1 e0 e1 left0 left1 o0 o1 status → status ≡ 5 → Rose d0.faults d1.faults ⊎ Rose e0.faults e1.faults
+join_logs_rose left0 left1 what d0 d1 e0 e1 o0 o1 status told is = ((told.judges (omega arith) (omega arith)).disk is).0
+
+pub join_rose : (radius : ℕ) (d0 d1 e0 e1 : DiskState) (o0 o1 v0 v1 : Option (List ℕ)) (status : ℕ) → Joins radius d0 d1 e0 e1 o0 o1 v0 v1 status → status ≡ 5 → Rose d0.faults d1.faults ⊎ Rose e0.faults e1.faults
+join_rose radius d0 d1 e0 e1 o0 o1 v0 v1 status told is = (told.disk is).0
 
 -- a lawful space is one of a head
 pub lawful_space : (metric : MetricName) (dim : ℕ) → 1 ≤ dim → dim ≤ 64 → (is_halved metric ≡ true → dim % 2 ≡ 0) → IsTrue (is_space (kind_of metric) dim)

@@ -13,6 +13,9 @@ use Rattle.file_jobs.specs.Jobs.{Creates, Audits, IsAuditStatus}
 use Rattle.log_jobs.specs.declared.report.Report.{Report}
 use Rattle.log_jobs.specs.declared.report.Report.TheVariants as report
 use Rattle.log_jobs.specs.Jobs.{JudgesLogs, IsLogStatus}
+use Rattle.join_jobs.specs.declared.report.Report.{Report as JoinReport}
+use Rattle.join_jobs.specs.declared.report.Report.TheVariants as join_report
+use Rattle.join_jobs.specs.Jobs.{Joins, IsJoinStatus, JudgesLogs as JudgesJoinLogs, IsLogStatus as IsJoinLogStatus}
 use Rattle.job_words.specs.declared.job.Job.TheVariants as job
 use Rattle.job_words.specs.declared.names.SpaceName.{SpaceName}
 use Rattle.metric_mix.specs.MixSpaces.{mix_space}
@@ -90,6 +93,8 @@ pub data Task : Type 0 where
   Makes : Head → Task
   Judges : Task
   Reports : Report → Task
+  JoinsWithin : ℕ → Task
+  ReportsJoins : JoinReport → Task
   Nothing : Task
 
 abbrev pub task_of : Option (Job (List ℕ)) → Task
@@ -98,16 +103,29 @@ task_of (Some (job.Create index space policies limit)) = Makes (new_head space p
 task_of (Some (job.Audit index workers)) = Judges
 task_of (Some (job.Verify index log None)) = Reports report.Verdicts
 task_of (Some (job.Check index log None)) = Reports report.Answers
+task_of (Some (job.Join index other radius log)) = JoinsWithin radius
+task_of (Some (job.Verify index log (Some other))) = ReportsJoins join_report.Verdicts
+task_of (Some (job.Check index log (Some other))) = ReportsJoins join_report.Answers
 task_of other = Nothing
 
--- what a run does to the disk and writes, where `input` is what was left to read, and `left0` and `left1` are what is left of
--- the logs
-abbrev pub Does : Task → DiskState → DiskState → Option (List ℕ) → Option (List ℕ) → Option (List ℕ) → Option (List ℕ) → Option (List ℕ) → ℕ → Type 0
-Does (Scans asked) disk0 disk1 input left0 left1 out0 out1 status = IfSome input (λ bytes. WritesScan out0 out1 (scan_texts asked bytes) status)
-Does (Makes head) disk0 disk1 input left0 left1 out0 out1 status = Creates head disk0 disk1 out0 out1 status
-Does Judges disk0 disk1 input left0 left1 out0 out1 status = Audits disk0 disk1 out0 out1 status
-Does (Reports what) disk0 disk1 input left0 left1 out0 out1 status = JudgesLogs what disk0 disk1 left0 left1 out0 out1 status
-Does Nothing disk0 disk1 input left0 left1 out0 out1 status = WritesUsage out0 out1 status
+-- what a run finds or leaves: the index and the other index, what is left of the logs, and what was put to out and to the log's
+-- output
+pub record Scene : Type 1 where
+  pub index : DiskState
+  pub other : DiskState
+  pub left : Option (List ℕ)
+  pub out : Option (List ℕ)
+  pub log_out : Option (List ℕ)
+
+-- what a run does to what it found, where `input` is what was left to read
+abbrev pub Does : Task → Scene → Scene → Option (List ℕ) → ℕ → Type 0
+Does (Scans asked) a b input status = IfSome input (λ bytes. WritesScan a.out b.out (scan_texts asked bytes) status)
+Does (Makes head) a b input status = Creates head a.index b.index a.out b.out status
+Does Judges a b input status = Audits a.index b.index a.out b.out status
+Does (Reports what) a b input status = JudgesLogs what a.index b.index a.left b.left a.out b.out status
+Does (JoinsWithin radius) a b input status = Joins radius a.index b.index a.other b.other a.out b.out a.log_out b.log_out status
+Does (ReportsJoins what) a b input status = JudgesJoinLogs what a.index b.index a.other b.other a.left b.left a.out b.out status
+Does Nothing a b input status = WritesUsage a.out b.out status
 
 -- the task takes no index
 abbrev pub TakesNoIndex : Task → Type 0
@@ -115,6 +133,8 @@ TakesNoIndex (Scans asked) = Unit {0}
 TakesNoIndex (Makes head) = ⊥
 TakesNoIndex Judges = ⊥
 TakesNoIndex (Reports what) = ⊥
+TakesNoIndex (JoinsWithin radius) = ⊥
+TakesNoIndex (ReportsJoins what) = ⊥
 TakesNoIndex Nothing = Unit {0}
 
 -- the task takes no logs
@@ -123,7 +143,29 @@ TakesNoLog (Scans asked) = Unit {0}
 TakesNoLog (Makes head) = Unit {0}
 TakesNoLog Judges = Unit {0}
 TakesNoLog (Reports what) = ⊥
+TakesNoLog (JoinsWithin radius) = Unit {0}
+TakesNoLog (ReportsJoins what) = ⊥
 TakesNoLog Nothing = Unit {0}
+
+-- the task takes no other index
+abbrev pub TakesNoOther : Task → Type 0
+TakesNoOther (Scans asked) = Unit {0}
+TakesNoOther (Makes head) = Unit {0}
+TakesNoOther Judges = Unit {0}
+TakesNoOther (Reports what) = Unit {0}
+TakesNoOther (JoinsWithin radius) = ⊥
+TakesNoOther (ReportsJoins what) = ⊥
+TakesNoOther Nothing = Unit {0}
+
+-- the task puts no log
+abbrev pub PutsNoLog : Task → Type 0
+PutsNoLog (Scans asked) = Unit {0}
+PutsNoLog (Makes head) = Unit {0}
+PutsNoLog Judges = Unit {0}
+PutsNoLog (Reports what) = Unit {0}
+PutsNoLog (JoinsWithin radius) = ⊥
+PutsNoLog (ReportsJoins what) = Unit {0}
+PutsNoLog Nothing = Unit {0}
 
 -- the status tells exactly whether too much was taken: more than 2 ^ 26 bytes of input, or 2 ^ 30 bytes of logs
 abbrev pub TakesTooMuch : Option (List ℕ) → Option (List ℕ) → Option (List ℕ) → Option (List ℕ) → ℕ → Type 0
@@ -141,4 +183,6 @@ IsStatusOf (Scans asked) n = IsScanStatus n
 IsStatusOf (Makes head) n = (n ≡ 0) ⊎ ((n ≡ 4) ⊎ ((n ≡ 5) ⊎ ((n ≡ 6) ⊎ (n ≡ 8))))
 IsStatusOf Judges n = IsAuditStatus n
 IsStatusOf (Reports what) n = IsLogStatus n
+IsStatusOf (JoinsWithin radius) n = IsJoinStatus n
+IsStatusOf (ReportsJoins what) n = IsJoinLogStatus n
 IsStatusOf Nothing n = (n ≡ 2) ⊎ ((n ≡ 4) ⊎ (n ≡ 8))

@@ -2,7 +2,7 @@
 use crate::program::run;
 use disk_model::{Disk, FileDisk, MemoryDisk};
 use job_words::{FileNames, Job, PlacesFault, places, read_job};
-use outside_io::{MemorySink, MemorySource, Sink, Source, Status, StdSource};
+use outside_io::{MemorySink, MemorySource, Sink, Source, Status, StdSink, StdSource};
 use std::alloc::{AllocError, Global};
 use std::fs::{File, OpenOptions};
 use std::io;
@@ -61,8 +61,9 @@ fn is_on_files(alloc: Global, words: &[String]) -> bool {
         Ok(
             Job::Create { .. }
                 | Job::Audit { .. }
-                | Job::Verify { other: None, .. }
-                | Job::Check { other: None, .. }
+                | Job::Verify { .. }
+                | Job::Check { .. }
+                | Job::Join { .. }
         )
     )
 }
@@ -80,8 +81,76 @@ fn run_without_files<S: Source, K: Sink>(
     }
 }
 
-// Runs the job of the words on these files.
+// Makes the file of a log anew, and empty.
+fn make_log(rt: &HostRuntime, name: &str) -> io::Result<File> {
+    OpenOptions::new()
+        .write(true)
+        .create(true)
+        .truncate(true)
+        .open(rt, name)
+}
+
+// Runs the job of the words on two indexes and on logs.
+fn run_on_two<L: Source, S: Source, K: Sink, T: Sink>(
+    alloc: Global,
+    words: &[String],
+    (index, other): (&mut FileDisk, &mut FileDisk),
+    (log_in, log_out): (&mut L, &mut T),
+    input: &mut S,
+    out: &mut K,
+) -> Status {
+    run(alloc, words, index, other, input, log_in, out, log_out)
+}
+
+// Opens the two indexes that are named, the second one for reading.
+fn open_both(rt: &HostRuntime, names: &FileNames<&str>) -> Option<(FileDisk, FileDisk)> {
+    let index = open_index(rt, names.index?, names.make).ok()?;
+    let other = open_index(rt, names.other?, false).ok()?;
+    Some((index, other))
+}
+
+// Runs the job of the words on the files that they name. A log is discarded where no word names its file.
 fn run_on_names<S: Source, K: Sink>(
+    rt: &HostRuntime,
+    alloc: Global,
+    words: &[String],
+    names: FileNames<&str>,
+    input: &mut S,
+    out: &mut K,
+) -> Status {
+    if names.other.is_none() {
+        return run_on_one(rt, alloc, words, names, input, out);
+    }
+    let Some((mut index, mut other)) = open_both(rt, &names) else {
+        return Status(10);
+    };
+    let indexes = (&mut index, &mut other);
+    let mut no_logs = no_logs(alloc);
+    let mut no_log = StdSink::new(io::sink());
+    match (names.log_in, names.log_out) {
+        (Some(log), _) => match File::open(rt, log) {
+            Ok(file) => {
+                let logs = (&mut StdSource::new(file), &mut no_log);
+                run_on_two(alloc, words, indexes, logs, input, out)
+            }
+            Err(_) => Status(10),
+        },
+        (None, Some(log)) => match make_log(rt, log) {
+            Ok(file) => {
+                let logs = (&mut no_logs, &mut StdSink::new(file));
+                run_on_two(alloc, words, indexes, logs, input, out)
+            }
+            Err(_) => Status(10),
+        },
+        (None, None) => {
+            let logs = (&mut no_logs, &mut no_log);
+            run_on_two(alloc, words, indexes, logs, input, out)
+        }
+    }
+}
+
+// Runs the job of the words on one index at the most.
+fn run_on_one<S: Source, K: Sink>(
     rt: &HostRuntime,
     alloc: Global,
     words: &[String],

@@ -3,6 +3,8 @@
 
 mod files;
 #[cfg(test)]
+mod join_tests;
+#[cfg(test)]
 mod log_tests;
 #[cfg(test)]
 mod number_tests;

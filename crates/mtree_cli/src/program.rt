@@ -1,4 +1,4 @@
-ghost use Rattle.std.specs.Prelude.{◌≡◌, ◌⊎◌, ◌≤◌, ◌^◌, List, ℕ, length, IfSome};
+ghost use Rattle.std.specs.Prelude.{◌≡◌, ◌≢◌, ◌⊎◌, ◌≤◌, ◌^◌, List, ℕ, length, IfSome};
 ghost use Rattle.std.specs.Io.KnownBytes.{IsAtEnd};
 ghost use Rattle.outside_io.specs.Causes.{Rose};
 ghost use Rattle.disk_model.specs.Disk.{IsUnchanged};
@@ -7,12 +7,16 @@ ghost use Rattle.job_words.specs.Jobs.{job_of};
 ghost use Rattle.job_words.specs.Lawful.{IsLawfulSpace, IsLimit};
 ghost use Rattle.node_page.specs.Heads.{IsLawfulHead};
 ghost use Rattle.log_jobs.specs.Laws.{FaultlessIsComplete};
-ghost use Rattle.mtree_cli.specs.Run.{Asked, Does, HasNoScan, IsScan, IsStatusOf, TakesNoIndex, TakesNoLog, TakesTooMuch, new_head, task_of};
+ghost use Rattle.join_jobs.specs.Trees.{Tree, IsOpened};
+ghost use Rattle.join_jobs.specs.Laws.{FaultlessIsComplete as JoinFaultlessIsComplete};
+ghost use Rattle.mtree_cli.specs.Run.{Asked, Does, HasNoScan, IsScan, IsStatusOf, PutsNoLog, TakesNoIndex, TakesNoLog, TakesNoOther, TakesTooMuch, new_head, task_of};
 
 use crate::scan_job::run_scan;
 use disk_model::Disk;
 use file_jobs::{FAULT_MEMORY, audit_index, create_index, end_with, put_line};
 use job_words::{Job, JobFault, PolicyNames, SpaceName, read_job};
+use join_jobs::laws::faultless_is_complete as joins_are_complete;
+use join_jobs::{check_join_logs, join_indexes, verify_join_logs};
 use log_jobs::laws::faultless_is_complete;
 use log_jobs::{check_logs, verify_logs};
 use node_page::Head;
@@ -40,10 +44,10 @@ fn new_head(space: SpaceName, policies: PolicyNames, limit: u32) -> Head
 
 /// Does what the words after the program's name ask for, and answers the status.
 ///
-/// The program does five jobs so far: `scan` runs the script of `input` on a plain list, `create` makes an empty index of
-/// `index`, `audit` tells whether `index` is sound, `verify` judges the logs of `log_in` by `index`, and `check` does both.
-/// Every other job of the words is answered as no job, and so are `verify` and `check` with `--other`. No job takes `other`
-/// or puts to `log_out` so far.
+/// The program does six jobs so far: `scan` runs the script of `input` on a plain list, `create` makes an empty index of
+/// `index`, `audit` tells whether `index` is sound, `verify` judges the logs of `log_in` by `index`, `check` does both, and
+/// `join` joins `index` with `other` and puts its log to `log_out`. With `--other`, `verify` and `check` take join logs and
+/// both indexes. Every other job of the words is answered as no job.
 pub fn run<D: Disk, E: Disk, S: Source, L: Source, K: Sink, T: Sink>(
     alloc: Global,
     words: &[String],
@@ -54,28 +58,36 @@ pub fn run<D: Disk, E: Disk, S: Source, L: Source, K: Sink, T: Sink>(
     out: &mut K,
     log_out: &mut T,
 ) -> Status
-    // What the job of the words does to the file, and what it writes. Words without a job give the usage line.
-    ensures does { Does (task_of (job_of (texts_of words.now))) (D.state index.old) (D.state index.new)
-        (S.left input.old) (L.left log_in.old) (L.left log_in.new) (K.written out.old) (K.written out.new) result.0 }
+    // What the job of the words does to the files, and what it writes. Words without a job give the usage line.
+    ensures does { Does (task_of (job_of (texts_of words.now)))
+        (record { index = D.state index.old; other = E.state other.old; left = L.left log_in.old; out = K.written out.old; log_out = T.written log_out.old })
+        (record { index = D.state index.new; other = E.state other.new; left = L.left log_in.new; out = K.written out.new; log_out = T.written log_out.new })
+        (S.left input.old) result.0 }
 
     // What `check` says of a file and of its logs is so: no fault is soundness, and a complete log has the plain scan's answers.
     ensures check_is_true { (file : List ℕ) → FaultlessIsComplete file }
+    ensures join_check_is_true { (left right : Tree) → IsOpened left → IsOpened right → JoinFaultlessIsComplete left right }
 
     // There are no other answers.
     ensures statuses { IsStatusOf (task_of (job_of (texts_of words.now))) result.0 }
 
-    // Want of memory leaves the index as it is, and words without a scan, without an index or without logs take none.
+    // Want of memory leaves the index as it is, no run changes the other index, and words without a scan, without an index,
+    // without logs, without another index or without a join take none.
     ensures memory { result.0 ≡ 8 → IsUnchanged (D.state index.old) (D.state index.new) }
+    ensures other_same { IsUnchanged (E.state other.old) (E.state other.new) }
     ensures index { TakesNoIndex (task_of (job_of (texts_of words.now))) → index.new ≡ index.old }
     ensures untouched { HasNoScan (texts_of words.now) → input.new ≡ input.old }
     ensures log_untouched { TakesNoLog (task_of (job_of (texts_of words.now))) → log_in.new ≡ log_in.old }
-    ensures other { other.new ≡ other.old }
-    ensures log_out { log_out.new ≡ log_out.old }
+    ensures other { TakesNoOther (task_of (job_of (texts_of words.now))) → other.new ≡ other.old }
+    ensures log_out { PutsNoLog (task_of (job_of (texts_of words.now))) → log_out.new ≡ log_out.old }
+    ensures kept { result.0 ≢ 0 → result.0 ≢ 4 → log_out.new ≡ log_out.old }
 
     // A failed read or write is told only where the object's count of faults rose.
     ensures input { result.0 ≡ 3 → Rose (S.faults input.old) (S.faults input.new) ⊎ Rose (L.faults log_in.old) (L.faults log_in.new) }
-    ensures output { result.0 ≡ 4 → Rose (K.faults out.old) (K.faults out.new) }
-    ensures disk { result.0 ≡ 5 → Rose (D.state index.old).faults (D.state index.new).faults }
+    ensures output { PutsNoLog (task_of (job_of (texts_of words.now))) → result.0 ≡ 4 → Rose (K.faults out.old) (K.faults out.new) }
+    ensures either_output { result.0 ≡ 4 → Rose (K.faults out.old) (K.faults out.new) ⊎ Rose (T.faults log_out.old) (T.faults log_out.new) }
+    ensures disk { TakesNoOther (task_of (job_of (texts_of words.now))) → result.0 ≡ 5 → Rose (D.state index.old).faults (D.state index.new).faults }
+    ensures either_disk { result.0 ≡ 5 → Rose (D.state index.old).faults (D.state index.new).faults ⊎ Rose (E.state other.old).faults (E.state other.new).faults }
 
     // Too much is told exactly where more than 2 ^ 26 bytes of input or 2 ^ 30 bytes of logs were taken.
     ensures long { TakesTooMuch (S.left input.old) (S.left input.new) (L.left log_in.old) (L.left log_in.new) result.0 }
@@ -86,9 +98,10 @@ pub fn run<D: Disk, E: Disk, S: Source, L: Source, K: Sink, T: Sink>(
     // With no fault and an input within its limit a scan is done, but for want of memory.
     ensures complete { (asked : Asked) → IsScan (texts_of words.now) asked → IfSome (S.left input.old) (λ bytes. length bytes ≤ 2 ^ 26 →
         ¬ Rose (S.faults input.old) (S.faults input.new) → ¬ Rose (K.faults out.old) (K.faults out.new) → (result.0 ≡ 0) ⊎ (result.0 ≡ 8)) }
-    ensures counts { (S.faults input.old ≤ S.faults input.new) × (L.faults log_in.old ≤ L.faults log_in.new) × (K.faults out.old ≤ K.faults out.new) }
+    ensures counts { (S.faults input.old ≤ S.faults input.new) × (L.faults log_in.old ≤ L.faults log_in.new) × (K.faults out.old ≤ K.faults out.new) × (T.faults log_out.old ≤ T.faults log_out.new) }
 {
     faultless_is_complete();
+    joins_are_complete();
     match read_job(alloc, words) {
         Ok(
             Job::Scan {
@@ -108,6 +121,11 @@ pub fn run<D: Disk, E: Disk, S: Source, L: Source, K: Sink, T: Sink>(
         Ok(Job::Audit { .. }) => audit_index(alloc, index, out),
         Ok(Job::Verify { other: None, .. }) => verify_logs(alloc, index, log_in, out),
         Ok(Job::Check { other: None, .. }) => check_logs(alloc, index, log_in, out),
+        Ok(Job::Verify { other: Some(_), .. }) => verify_join_logs(
+            alloc, index, other, log_in, out,
+        ),
+        Ok(Job::Check { other: Some(_), .. }) => check_join_logs(alloc, index, other, log_in, out),
+        Ok(Job::Join { radius, .. }) => join_indexes(alloc, index, other, radius, out, log_out),
         Ok(_) | Err(JobFault::Usage) => put_line(out, USAGE, 2),
         Err(JobFault::Memory) => end_with(out, FAULT_MEMORY, 8),
     }

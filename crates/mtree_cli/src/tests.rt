@@ -257,7 +257,8 @@ fn words_without_a_scan(rt: HostRuntime) -> Result<(), Fail> {
             "shape",
             "audit a.mt --radius 1",
             "create a.mt --metric l1",
-            "verify a.mt --log a.log --other b.mt",
+            "verify a.mt --other b.mt",
+            "join a.mt --other b.mt",
             "check a.mt",
         ],
     )
