@@ -5,9 +5,9 @@ use Rattle.std.proofs.lemmas.List.{get_or-map}
 use Rattle.std.proofs.lemmas.Option.{slice_get_read}
 use Rattle.std.proofs.lemmas.Bool.Decides.{nat_tests}
 use Rattle.metric_laws.specs.Space.{Space}
-use Rattle.tree_shape.specs.Bulk.{row_of}
-use Rattle.tree_shape.specs.Groups.{Far, entry, nearer, nearest_from, counted, one_more}
-use Rattle.tree_shape.proofs.Sized.{nearest_some, length_more}
+use Rattle.tree_growth.specs.Bulk.{row_of}
+use Rattle.tree_growth.specs.Groups.{Far, entry, nearer, nearest_from, counted, one_more}
+use Rattle.tree_growth.proofs.Sized.{nearest_some, length_more}
 use Rattle.bulk_load.specs.Candidates.{NotAfter}
 use Rattle.bulk_load.specs.Measured.{points_of, measured}
 use Rattle.bulk_load.specs.Hints.{IsHint, AreHints, HaveGrown}

@@ -7,10 +7,10 @@ use Rattle.metric_laws.specs.Space.{Space, IsSpace}
 use Rattle.tree_shape.specs.declared.entry.Node.{Node}
 use Rattle.tree_shape.specs.declared.entry.Node.TheVariants.{Inner}
 use Rattle.tree_shape.specs.declared.filling.Bounds.{Bounds}
-use Rattle.tree_shape.specs.declared.rules.Group.{Group}
+use Rattle.tree_growth.specs.declared.rules.Group.{Group}
 use Rattle.tree_shape.specs.Fill.{most_for, least_for}
-use Rattle.tree_shape.specs.Bulk.{Load, built_of, groups_at, places}
-use Rattle.tree_shape.proofs.LoadSound.{places_long}
+use Rattle.tree_growth.specs.Bulk.{Load, built_of, groups_at, places}
+use Rattle.tree_growth.proofs.LoadSound.{places_long}
 use Rattle.node_page.specs.Heads.{IsLawfulHead}
 use Rattle.node_page.specs.Nodes.{IsLawfulNode}
 use Rattle.node_page.specs.declared.head.Head.{Head}

@@ -3,7 +3,7 @@ use Rattle.std.proofs.Common.{◌≡◌, ℕ, zero, suc, ◌+◌, ◌-◌, ◌*�
 use Rattle.std.specs.Prelude.{nat_le}
 use Rattle.std.proofs.lemmas.Bool.Decides.{nat_tests}
 use Rattle.std.proofs.Math.Nat.{pow-suc}
-use Rattle.tree_shape.specs.Bulk.{height_from, height_of, places_from}
+use Rattle.tree_growth.specs.Bulk.{height_from, height_of, places_from}
 
 pub high_enough : (most n h left : ℕ) → n ≤ most ^ (h + 1) → height_from most n h left ≡ h
 high_enough most n h zero up = refl

@@ -3,11 +3,11 @@ use Rattle.std.proofs.Common.{◌≡◌, ◌≢◌, ℕ, ◌+◌, ◌-◌, ◌�
 use Rattle.std.specs.List.{AllByRecursion}
 use Rattle.std.specs.declared.alloc.AllocError.{AllocError}
 use Rattle.std.proofs.lemmas.List.{drop-drop}
+use Rattle.metric_laws.proofs.Lists.{length_map}
 use Rattle.tree_shape.specs.declared.entry.InnerEntry.{InnerEntry}
 use Rattle.tree_shape.specs.declared.entry.Node.{Node}
-use Rattle.tree_shape.specs.declared.rules.Group.{Group}
-use Rattle.tree_shape.specs.Bulk.{Load}
-use Rattle.tree_shape.proofs.Kept.{length_map}
+use Rattle.tree_growth.specs.declared.rules.Group.{Group}
+use Rattle.tree_growth.specs.Bulk.{Load}
 use Rattle.bulk_load.specs.declared.sharing.Made.{Made}
 use Rattle.bulk_load.specs.Postorder.{group_entry, last_of, nodes_at}
 use Rattle.bulk_load.specs.Apart.{apart, node_to, AreChildrenBelow, IsMadeOf, AreMadeOf}

@@ -7,7 +7,7 @@ use Rattle.metric_laws.proofs.Lists.{all_in, map-in}
 use Rattle.tree_shape.specs.declared.entry.LeafEntry.{LeafEntry}
 use Rattle.tree_shape.specs.Tree.{point_of, points_from, tag_of, tags_from}
 use Rattle.tree_shape.specs.Plain.{Object, object_of}
-use Rattle.tree_shape.specs.Bulk.{Load, object_at, places_from}
+use Rattle.tree_growth.specs.Bulk.{Load, object_at, places_from}
 use Rattle.tree_shape.proofs.ById.{object_of as object_with, point_of-in}
 use Rattle.page_store.proofs.Ids.{tally, AreCounted, once_counted, there_counted, tag_of-in}
 

@@ -6,8 +6,8 @@ use Rattle.metric_laws.specs.Space.{IsSpace}
 use Rattle.tree_shape.specs.declared.entry.InnerEntry.{InnerEntry}
 use Rattle.tree_shape.specs.declared.entry.Node.{Node}
 use Rattle.tree_shape.specs.declared.entry.Node.TheVariants.{Inner}
-use Rattle.tree_shape.specs.declared.rules.Group.{Group}
-use Rattle.tree_shape.specs.Bulk.{Load, groups_at}
+use Rattle.tree_growth.specs.declared.rules.Group.{Group}
+use Rattle.tree_growth.specs.Bulk.{Load, groups_at}
 use Rattle.bulk_load.specs.Sets.{IsLawfulLoad, IsSetFor, IsGroupFor}
 use Rattle.bulk_load.specs.Postorder.{is_top, group_entry, last_of, below_groups, group_entries, nodes_at}
 use Rattle.bulk_load.proofs.Suited.{groups_fit}

@@ -3,12 +3,12 @@ use Rattle.std.proofs.Common.{◌≡◌, ℕ, ◌+◌, ◌<◌, Bool, true, fals
 use Rattle.std.specs.Prelude.{◌==◌, if◌then◌else◌, slice_index, map, replicate}
 use Rattle.std.proofs.lemmas.List.{length-map}
 use Rattle.std.proofs.lemmas.Bool.Decides.{nat_tests}
-use Rattle.tree_shape.specs.Bulk.{row_of}
+use Rattle.tree_growth.specs.Bulk.{row_of}
 use Rattle.std.proofs.lemmas.List.{drop_more}
-use Rattle.tree_shape.specs.declared.rules.Member.{Member}
-use Rattle.tree_shape.specs.declared.rules.Group.{Group}
-use Rattle.tree_shape.specs.Groups.{members_from, entry, placed_from, filled_from, seeds_from, group_count}
-use Rattle.tree_shape.specs.Bulk.{groups_from, groups_at, Load, point_of}
+use Rattle.tree_growth.specs.declared.rules.Member.{Member}
+use Rattle.tree_growth.specs.declared.rules.Group.{Group}
+use Rattle.tree_growth.specs.Groups.{members_from, entry, placed_from, filled_from, seeds_from, group_count}
+use Rattle.tree_growth.specs.Bulk.{groups_from, groups_at, Load, point_of}
 
 pub members_step : {X : Type 0} (a k : ℕ) (set : List X) (ps : List Member) (x : X) (d : Member) → k < length set → k < length ps →
     members_from a (drop k set) (drop k ps)

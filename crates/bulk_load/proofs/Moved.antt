@@ -9,13 +9,12 @@ use Rattle.std.proofs.Math.ListN.{set}
 use Rattle.std.proofs.lemmas.List.{map-append, drop_more, drop-set-lt}
 use Rattle.std.proofs.lemmas.List.Elements.{All-from_recursion}
 use Rattle.metric_laws.specs.Space.{IsSpace}
-use Rattle.metric_laws.proofs.Lists.{all_append, all_weaker}
+use Rattle.metric_laws.proofs.Lists.{all_append, all_weaker, length_map}
 use Rattle.tree_shape.specs.declared.entry.InnerEntry.{InnerEntry}
 use Rattle.tree_shape.specs.declared.entry.Node.{Node}
 use Rattle.tree_shape.specs.declared.entry.Node.TheVariants.{Leaf, Inner}
-use Rattle.tree_shape.specs.declared.rules.Group.{Group}
-use Rattle.tree_shape.specs.Bulk.{Load, groups_at}
-use Rattle.tree_shape.proofs.Kept.{length_map}
+use Rattle.tree_growth.specs.declared.rules.Group.{Group}
+use Rattle.tree_growth.specs.Bulk.{Load, groups_at}
 use Rattle.bulk_load.specs.Sets.{IsLawfulLoad, IsSetFor, IsGroupFor}
 use Rattle.bulk_load.specs.Postorder.{is_top, last_of, below_groups, group_entry, group_entries, nodes_at}
 use Rattle.bulk_load.specs.Apart.{apart, entry_to, node_to, AreChildrenBelow, IsMadeOf, AreMadeOf}

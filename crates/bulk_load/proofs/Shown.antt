@@ -5,10 +5,10 @@ use Rattle.std.specs.List.{AllByRecursion, flat_map}
 use Rattle.tree_shape.specs.declared.entry.LeafEntry.{LeafEntry}
 use Rattle.tree_shape.specs.declared.entry.Node.{Node}
 use Rattle.tree_shape.specs.declared.entry.Node.TheVariants.{Leaf, Inner}
-use Rattle.tree_shape.specs.declared.rules.Group.{Group}
+use Rattle.tree_growth.specs.declared.rules.Group.{Group}
 use Rattle.tree_shape.specs.Tree.{Nodes, leaf_entries, inner_entries, pages_at, times, parent_distance}
 use Rattle.tree_shape.specs.Plain.{Object, Branch, Plain, Tall, object_of, tree_at}
-use Rattle.tree_shape.specs.Bulk.{Load, point_of, object_at, radius_of, groups_at, built_at}
+use Rattle.tree_growth.specs.Bulk.{Load, point_of, object_at, radius_of, groups_at, built_at}
 use Rattle.tree_shape.proofs.Counting.{times-append}
 use Rattle.page_store.proofs.Standing.{HoldsFrom, holds_append, pages_from, pages_append, trees_from, trees_append}
 use Rattle.page_store.proofs.Stored.{branch_at, below_in, IsStoredAt, IsStoredEntry}

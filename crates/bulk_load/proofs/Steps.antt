@@ -4,7 +4,7 @@ use Rattle.std.specs.Prelude.{◌==◌, nat_lt}
 use Rattle.std.proofs.lemmas.List.{drop_more, get_or-drop}
 use Rattle.std.proofs.lemmas.Bool.Decides.{nat_tests}
 use Rattle.std.proofs.Math.Nat.{mul-lt-mul_of_pos_right, div-lt_iff_lt-mul, mul_comm}
-use Rattle.tree_shape.specs.Groups.{Far, seeds_from, nearer, nearest_from, placed_from, chosen, counted, seed_of, member_of}
+use Rattle.tree_growth.specs.Groups.{Far, seeds_from, nearer, nearest_from, placed_from, chosen, counted, seed_of, member_of}
 
 pub seeds_step : (n g i left next : ℕ) → left ≡ next + 1 → seeds_from n g i left ≡ i * n / g ∷ seeds_from n g (i + 1) next
 seeds_step n g i left next e = ap (seeds_from n g i) (let s : left ≡ suc next = omega arith in s)

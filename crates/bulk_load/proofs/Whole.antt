@@ -12,10 +12,10 @@ use Rattle.tree_shape.specs.Fill.{root_least}
 use Rattle.tree_shape.specs.Tree.{Nodes, pages_at, times, objects, IsNodePage, IsSoundTree, point_of, points_by_id, points_from, tag_of, tags_by_id, tags_from}
 use Rattle.tree_shape.specs.Plain.{Tall, objects_of, object_of, tree_at, tree_of}
 use Rattle.tree_shape.specs.Sound.{IsSoundTall}
-use Rattle.tree_shape.specs.Bulk.{Load, object_at, built_at, built_of, built, places}
+use Rattle.tree_growth.specs.Bulk.{Load, object_at, built_at, built_of, built, places}
 use Rattle.tree_shape.proofs.Height.{height_is_small}
-use Rattle.tree_shape.proofs.Loaded.{load_keeps_objects}
-use Rattle.tree_shape.proofs.LoadSound.{load_is_sound, built_all}
+use Rattle.tree_growth.proofs.Loaded.{load_keeps_objects}
+use Rattle.tree_growth.proofs.LoadSound.{load_is_sound, built_all}
 use Rattle.tree_shape.proofs.Reading.{same_objects}
 use Rattle.page_store.specs.declared.staging.StagedNode.{StagedNode}
 use Rattle.page_store.specs.declared.staging.Placed.{Placed}

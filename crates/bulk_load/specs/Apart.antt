@@ -5,8 +5,8 @@ use Rattle.std.specs.declared.alloc.AllocError.{AllocError}
 use Rattle.tree_shape.specs.declared.entry.InnerEntry.{InnerEntry}
 use Rattle.tree_shape.specs.declared.entry.Node.{Node}
 use Rattle.tree_shape.specs.declared.entry.Node.TheVariants.{Leaf, Inner}
-use Rattle.tree_shape.specs.declared.rules.Group.{Group}
-use Rattle.tree_shape.specs.Bulk.{Load}
+use Rattle.tree_growth.specs.declared.rules.Group.{Group}
+use Rattle.tree_growth.specs.Bulk.{Load}
 use Rattle.page_store.specs.Numbers.{number_at}
 use Rattle.bulk_load.specs.declared.sharing.Made.{Made}
 use Rattle.bulk_load.specs.Postorder.{group_entry, nodes_at}

@@ -1,7 +1,7 @@
 -- The objects that a small group may receive.
 use Rattle.std.specs.Prelude.{◌≡◌, ℕ, ◌+◌, ◌≤◌, Bool, List, [], ◌∷◌, if◌then◌else◌, nat_lt, ◌==◌, ◌&&◌, ◌||◌, slice_index}
-use Rattle.tree_shape.specs.declared.rules.Member.{Member}
-use Rattle.tree_shape.specs.Groups.{Far, in_group, is_candidate}
+use Rattle.tree_growth.specs.declared.rules.Member.{Member}
+use Rattle.tree_growth.specs.Groups.{Far, in_group, is_candidate}
 
 -- the counts are those of the groups
 abbrev pub AreCounts : List ℕ → List Member → Type 0

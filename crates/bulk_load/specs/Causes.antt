@@ -2,7 +2,7 @@
 use Rattle.std.specs.Prelude.{◌≡◌, ◌≢◌, ℕ, ◌+◌, ◌-◌, ◌^◌, ◌<◌, List, length}
 use Rattle.metric_laws.specs.Space.{Space}
 use Rattle.tree_shape.specs.declared.live.Live.{Live}
-use Rattle.tree_shape.specs.Bulk.{built}
+use Rattle.tree_growth.specs.Bulk.{built}
 use Rattle.bulk_load.specs.declared.faults.BuildFault.{BuildFault}
 use Rattle.bulk_load.specs.declared.faults.BuildFault.TheVariants.{NoRoom, Worn, Memory}
 use Rattle.bulk_load.specs.Postorder.{subtrees_of}

@@ -2,7 +2,7 @@
 use Rattle.std.specs.Prelude.{◌≡◌, ℕ, ◌+◌, ◌^◌, ◌<◌, ◌≤◌, Bool, true, false, List}
 use Rattle.metric_laws.specs.Space.{Space}
 use Rattle.tree_shape.specs.declared.filling.Bounds.{Bounds}
-use Rattle.tree_shape.specs.Bulk.{Load}
+use Rattle.tree_growth.specs.Bulk.{Load}
 use Rattle.tree_shape.specs.Fill.{most_for, least_for}
 
 -- these are the bounds of nodes over points of some dimension

@@ -1,6 +1,6 @@
 -- What is found out about an object before its turn comes.
 use Rattle.std.specs.Prelude.{◌≡◌, ℕ, ◌+◌, ◌<◌, ◌≤◌, List, length, Option, Some, slice_get, slice_index}
-use Rattle.tree_shape.specs.Groups.{Far}
+use Rattle.tree_growth.specs.Groups.{Far}
 use Rattle.bulk_load.specs.Candidates.{NotAfter}
 
 -- no group with room comes before this one for the object at place k, where the groups have so many objects

@@ -6,7 +6,7 @@ use Rattle.metric_laws.specs.Lists.{IsIn}
 use Rattle.tree_shape.specs.declared.live.Live.{Live}
 use Rattle.tree_shape.specs.Tree.{Nodes, IsSoundTree, points_by_id, tags_by_id}
 use Rattle.tree_shape.specs.Plain.{tree_of}
-use Rattle.tree_shape.specs.Bulk.{built}
+use Rattle.tree_growth.specs.Bulk.{built}
 use Rattle.page_store.specs.declared.staging.Placed.{Placed}
 use Rattle.page_store.specs.declared.staging.StagedNode.{StagedNode}
 use Rattle.page_store.specs.Placing.{AreOutside, live_pages, staged_tree}

@@ -1,7 +1,7 @@
 -- Distances of objects to seeds.
 use Rattle.std.specs.Prelude.{ℕ, List, [], length, map, slice_index_or}
 use Rattle.metric_laws.specs.Space.{Space}
-use Rattle.tree_shape.specs.Bulk.{row_of}
+use Rattle.tree_growth.specs.Bulk.{row_of}
 
 -- a row for each object, with a distance to each of the seeds, which are `width` many
 pub record Measured : Type 0 where

@@ -5,10 +5,10 @@ use Rattle.tree_shape.specs.declared.entry.LeafEntry.{LeafEntry}
 use Rattle.tree_shape.specs.declared.entry.InnerEntry.{InnerEntry}
 use Rattle.tree_shape.specs.declared.entry.Node.{Node}
 use Rattle.tree_shape.specs.declared.entry.Node.TheVariants.{Leaf, Inner}
-use Rattle.tree_shape.specs.declared.rules.Group.{Group}
+use Rattle.tree_growth.specs.declared.rules.Group.{Group}
 use Rattle.tree_shape.specs.Tree.{parent_distance}
 use Rattle.tree_shape.specs.Plain.{Plain, Tall}
-use Rattle.tree_shape.specs.Bulk.{Load, point_of, radius_of, groups_at}
+use Rattle.tree_growth.specs.Bulk.{Load, point_of, radius_of, groups_at}
 
 -- the subtrees of a tree, children before their parent
 abbrev pub subtrees : (h : ℕ) → Plain h → List Tall

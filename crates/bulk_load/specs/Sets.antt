@@ -2,10 +2,10 @@
 use Rattle.std.specs.Prelude.{◌≡◌, ℕ, ◌+◌, ◌^◌, ◌<◌, ◌≤◌, Bool, true, false, List, length, None, IsTrue}
 use Rattle.std.specs.List.{AllByRecursion}
 use Rattle.metric_laws.specs.Space.{Space}
-use Rattle.tree_shape.specs.declared.rules.Group.{Group}
+use Rattle.tree_growth.specs.declared.rules.Group.{Group}
 use Rattle.tree_shape.specs.Fill.{most_for, least_for}
 use Rattle.tree_shape.specs.declared.entry.Node.{Node}
-use Rattle.tree_shape.specs.Bulk.{Load, height_of, places}
+use Rattle.tree_growth.specs.Bulk.{Load, height_of, places}
 use Rattle.page_store.specs.Numbers.{Ascends, number_at}
 use Rattle.bulk_load.specs.declared.subtree.Loading.{Loading}
 use Rattle.bulk_load.specs.Groupable.{load_of}

@@ -1,7 +1,7 @@
 //! The tree of a load.
 
 ghost use Rattle.std.specs.Prelude.{◌≡◌, ◌≢◌, ◌↔◌, ◌+◌, ◌-◌, ◌*◌, ◌^◌, ◌≤◌, ◌<◌, ◌∷◌, [], All, Err, IsTrue, IfOk, IfErr, None, length};
-ghost use Rattle.tree_shape.specs.Bulk.{height_of, places_from};
+ghost use Rattle.tree_growth.specs.Bulk.{height_of, places_from};
 ghost use Rattle.tree_shape.specs.Tree.{Nodes, IsSoundTree};
 ghost use Rattle.node_page.specs.Heads.{IsLawfulHead};
 ghost use Rattle.node_page.specs.Opening.{IsLawfulLive};

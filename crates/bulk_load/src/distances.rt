@@ -1,7 +1,7 @@
 //! The distances of a set's objects to its seeds.
 
 ghost use Rattle.std.specs.Prelude.{◌≡◌, ◌<◌, All, [], length, slice_index, slice_index_or};
-ghost use Rattle.tree_shape.specs.Groups.{entry};
+ghost use Rattle.tree_growth.specs.Groups.{entry};
 ghost use Rattle.bulk_load.specs.Measured.{measured, points_of};
 
 use metric_laws::{Metric, Rows};

@@ -2,13 +2,13 @@
 
 ghost use Rattle.std.specs.Prelude.{◌≡◌, ◌<◌, ◌≤◌, ◌-◌, length, IfOk, OnOk, All, if◌then◌else◌, slice_index_or, slice_set, vec_len, IsPermutation};
 ghost use Rattle.std.specs.List.Sorted.{IsSortedBy};
-ghost use Rattle.tree_shape.specs.Groups.{entry, in_group, is_candidate, member_of, received, filled_from};
+ghost use Rattle.tree_growth.specs.Groups.{entry, in_group, is_candidate, member_of, received, filled_from};
 ghost use Rattle.bulk_load.specs.Candidates.{AreCounts, candidates_from, is_nearer};
 
 use crate::distances::Distances;
 use metric_laws::{Memory, Metric};
 use std::alloc::Global;
-use tree_shape::Member;
+use tree_growth::Member;
 
 /// How many objects each of so many groups has.
 #[tactic(auto, using(crate::proofs::Received::in_group_more, crate::proofs::Received::in_group_few))]

@@ -2,8 +2,8 @@
 
 ghost use Rattle.std.specs.Prelude.{◌≡◌, ℕ, List, ◌<◌, ◌≤◌, ◌^◌, length, map, IfOk, IsTrue, All, slice_index_or, vec_len, [], replicate};
 ghost use Rattle.std.specs.List.Sorted.{IsStrictlyIncreasing};
-ghost use Rattle.tree_shape.specs.Bulk.{row_of, groups_from, groups_at};
-ghost use Rattle.tree_shape.specs.Groups.{members_from, entry, placed_from, filled_from};
+ghost use Rattle.tree_growth.specs.Bulk.{row_of, groups_from, groups_at};
+ghost use Rattle.tree_growth.specs.Groups.{members_from, entry, placed_from, filled_from};
 ghost use Rattle.bulk_load.specs.Groupable.{IsFill, IsSized, load_of};
 
 use crate::distances::Distances;
@@ -12,7 +12,8 @@ use crate::placing::{Placing, group_number, place_all, seed_places};
 use metric_laws::{Listed, Memory, Metric, Rows};
 use std::alloc::Global;
 use std::thread::Threads;
-use tree_shape::{Bounds, Group, Member};
+use tree_growth::{Group, Member};
+use tree_shape::Bounds;
 
 // The members of a group.
 fn members_of(alloc: Global, group: u32, set: &[u32], placed: &[Member]) -> Result<Vec<u32>, Memory>

@@ -1,7 +1,7 @@
 //! The nearest groups of many objects, found by several workers before the objects' turns come.
 
 ghost use Rattle.std.specs.Prelude.{◌≡◌, ℕ, List, ◌<◌, ◌≤◌, ◌+◌, ◌^◌, OnOk, IfSome, length};
-ghost use Rattle.tree_shape.specs.Groups.{Far, entry};
+ghost use Rattle.tree_growth.specs.Groups.{Far, entry};
 ghost use Rattle.bulk_load.specs.Hints.{IsHint, AreHints};
 
 use crate::placing::{Placing, nearest};

@@ -1,8 +1,8 @@
 //! Which group each object goes to while groups have room.
 
 ghost use Rattle.std.specs.Prelude.{◌≡◌, ℕ, ◌+◌, ◌<◌, ◌≤◌, ◌^◌, ◌∷◌, length, replicate, IfOk, IfSome, All, drop, slice_index, Some, None, vec_len};
-ghost use Rattle.tree_shape.specs.Groups.{entry, group_count, seeds_from, nearest_from, placed_from, counted};
-ghost use Rattle.tree_shape.specs.Groups.{nearer as nearer_of, chosen as chosen_of};
+ghost use Rattle.tree_growth.specs.Groups.{entry, group_count, seeds_from, nearest_from, placed_from, counted};
+ghost use Rattle.tree_growth.specs.Groups.{nearer as nearer_of, chosen as chosen_of};
 ghost use Rattle.bulk_load.specs.Hints.{IsHint, HaveGrown};
 
 use crate::distances::Distances;
@@ -10,7 +10,8 @@ use crate::hints::Hints;
 use metric_laws::{Memory, Metric};
 use std::alloc::Global;
 use std::thread::Threads;
-use tree_shape::{Bounds, Member};
+use tree_growth::Member;
+use tree_shape::Bounds;
 
 /// How the objects of a set are placed.
 #[derive(Clone, Copy)]

@@ -1,7 +1,7 @@
 //! The tree of all rows, of which several workers make the subtrees of the root's groups apart from one another.
 
 ghost use Rattle.std.specs.Prelude.{◌≡◌, ℕ, ◌+◌, ◌-◌, ◌≤◌, ◌<◌, ◌^◌, ◌++◌, All, IfSome, Some, length, slice_index_or, IfOk, OnOk};
-ghost use Rattle.tree_shape.specs.Bulk.{groups_at};
+ghost use Rattle.tree_growth.specs.Bulk.{groups_at};
 ghost use Rattle.bulk_load.specs.Sets.{load_by, page_by, IsLawfulLoad, IsSetFor, IsGroupFor};
 ghost use Rattle.bulk_load.specs.Postorder.{is_top, last_of, nodes_at};
 ghost use Rattle.bulk_load.specs.Apart.{IsMadeOf, AreMadeOf};
@@ -13,7 +13,8 @@ use page_store::Numbering;
 use par_work::share;
 use std::alloc::Global;
 use std::thread::Threads;
-use tree_shape::{Group, InnerEntry, Node};
+use tree_growth::Group;
+use tree_shape::{InnerEntry, Node};
 
 /// What a worker makes of a group.
 #[derive(Drop)]

@@ -4,7 +4,7 @@ ghost use Rattle.std.specs.Prelude.{◌≡◌, ℕ, ◌+◌, ◌≤◌, ◌<◌,
 ghost use Rattle.metric_laws.specs.Space.{bound};
 ghost use Rattle.tree_shape.specs.declared.entry.Node.TheVariants.{Leaf, Inner};
 ghost use Rattle.tree_shape.specs.Tree.{parent_distance};
-ghost use Rattle.tree_shape.specs.Bulk.{point_of, radius_of, groups_at};
+ghost use Rattle.tree_growth.specs.Bulk.{point_of, radius_of, groups_at};
 ghost use Rattle.bulk_load.specs.Sets.{load_by, page_by, IsLawfulLoad, IsSetFor};
 ghost use Rattle.bulk_load.specs.Postorder.{is_top, seed_point, leaf_entry, group_entry, last_of, nodes_at};
 
@@ -13,7 +13,8 @@ use metric_laws::{Listed, Memory, Metric, Point, Rows};
 use page_store::Numbering;
 use std::alloc::Global;
 use std::thread::Threads;
-use tree_shape::{Bounds, Group, InnerEntry, LeafEntry, Node};
+use tree_growth::Group;
+use tree_shape::{Bounds, InnerEntry, LeafEntry, Node};
 
 /// What a load goes by.
 #[derive(Clone, Copy)]

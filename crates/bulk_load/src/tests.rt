@@ -6,7 +6,8 @@ use metric_laws::{Memory, Rows};
 use std::alloc::Global;
 use std::process::Abort;
 use std::thread::Threads;
-use tree_shape::{Group, fill};
+use tree_growth::Group;
+use tree_shape::fill;
 use vector_kinds::L1;
 
 // So many points of one coordinate, each so far above the one before, and their places.

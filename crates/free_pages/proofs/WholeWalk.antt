@@ -13,7 +13,7 @@ use Rattle.page_store.specs.declared.pages.PageFault.{PageFault}
 use Rattle.page_store.specs.Reading.{Read, nodes_of, node_or_none}
 use Rattle.free_pages.specs.Keeping.{without_pin}
 use Rattle.free_pages.specs.Laws.{WholeTreesAreWalked}
-use Rattle.free_pages.specs.Reached.{IsReached, IsWholeTree, named_in}
+use Rattle.page_store.specs.Reached.{IsReached, IsWholeTree, named_in}
 use Rattle.free_pages.specs.Walk.{children, walked}
 use Rattle.free_pages.proofs.SoundWalk.{opens}
 use Rattle.free_pages.proofs.Whole.{Course, begun, course_step, in_nodes, in_from_times, times_from_in}

@@ -4,7 +4,7 @@ use Rattle.tree_shape.specs.declared.live.Live.{Live}
 use Rattle.page_store.specs.Reading.{nodes_of}
 use Rattle.page_store.specs.Shelf.{Shelf}
 use Rattle.free_pages.specs.Keeping.{FreePages}
-use Rattle.free_pages.specs.Reached.{IsWholeTree}
+use Rattle.page_store.specs.Reached.{IsWholeTree}
 use Rattle.free_pages.specs.Walk.{outside_pages, tree_walk}
 
 -- the free pages are those outside the live tree, each page of which was asked for once

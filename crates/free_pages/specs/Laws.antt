@@ -10,7 +10,7 @@ use Rattle.page_store.specs.Placing.{live_pages}
 use Rattle.page_store.specs.Reading.{Read, IsWithin, nodes_of}
 use Rattle.free_pages.specs.declared.held.Held.{Held}
 use Rattle.free_pages.specs.Keeping.{FreePages, IsFreeOrHeld, IsKept, held_pages, is_kept, is_pinned_below, with_free, with_left, with_pins}
-use Rattle.free_pages.specs.Reached.{IsWholeTree}
+use Rattle.page_store.specs.Reached.{IsWholeTree}
 use Rattle.free_pages.specs.Walk.{outside_pages, tree_walk}
 
 -- the walk of a sound tree opens its pages

@@ -1,5 +1,4 @@
 pub mod Walk
-pub mod Reached
 pub mod Keeping
 pub mod Stored
 pub mod Free

@@ -8,7 +8,7 @@ use Rattle.tree_shape.specs.declared.entry.Node.{Node}
 use Rattle.tree_shape.specs.Fill.{most_for, least_for}
 use Rattle.tree_shape.specs.Plain.{tree_at, tree_of}
 use Rattle.tree_shape.proofs.Height.{three_at_least}
-use Rattle.tree_shape.specs.Insertion.{Rules, rules, rules_for, inserted}
+use Rattle.tree_growth.specs.Insertion.{Rules, rules, rules_for, inserted}
 use Rattle.node_page.specs.Heads.{IsLawfulHead}
 use Rattle.node_page.specs.Nodes.{IsLawfulNode}
 use Rattle.node_page.specs.declared.head.Head.{Head}

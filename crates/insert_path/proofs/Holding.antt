@@ -2,6 +2,7 @@
 use Rattle.std.proofs.Common.{◌≡◌, ℕ, zero, suc, ◌+◌, ◌<◌, ◌≤◌, true, false, List, [], ◌∷◌, ◌++◌, refl, sym, ap, ◌∙◌, arith, length, map, subst, get_or, inl, inr}
 use Rattle.std.specs.Prelude.{Option, Some, max, nat_le, slice_index_or}
 use Rattle.std.proofs.lemmas.Bool.Decides.{nat_tests}
+use Rattle.metric_laws.proofs.Lists.{length_map}
 use Rattle.metric_laws.specs.Space.{Space}
 use Rattle.metric_laws.specs.Lists.{IsIn}
 use Rattle.tree_shape.specs.declared.entry.LeafEntry.{LeafEntry}
@@ -10,9 +11,9 @@ use Rattle.tree_shape.specs.declared.entry.Node.{Node}
 use Rattle.tree_shape.specs.declared.entry.Node.TheVariants.{Leaf, Inner}
 use Rattle.tree_shape.specs.Tree.{Nodes, leaf_entries, inner_entries, pages_at}
 use Rattle.tree_shape.specs.Plain.{Object, Branch, Plain, object_of, tree_at}
-use Rattle.tree_shape.specs.Dealing.{Ball, split_of}
-use Rattle.tree_shape.specs.Insertion.{Grown, One as Whole, Two as Halves2, taken, left, branch, fit, object_ball, branch_ball, with_grown, grown_at}
-use Rattle.tree_shape.proofs.Kept.{taken_map, left_map, length_map}
+use Rattle.tree_growth.specs.Dealing.{Ball, split_of}
+use Rattle.tree_growth.specs.Insertion.{Grown, One as Whole, Two as Halves2, taken, left, branch, fit, object_ball, branch_ball, with_grown, grown_at}
+use Rattle.tree_growth.proofs.Kept.{taken_map, left_map}
 use Rattle.tree_shape.proofs.Within.{Agree, child_agrees}
 use Rattle.promote_split.specs.declared.halves.Half.{Half}
 use Rattle.promote_split.specs.declared.halves.Halves.{Halves}

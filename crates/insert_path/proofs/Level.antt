@@ -12,9 +12,9 @@ use Rattle.tree_shape.specs.declared.entry.Node.TheVariants.{Leaf, Inner}
 use Rattle.tree_shape.specs.declared.filling.Bounds.{Bounds}
 use Rattle.tree_shape.specs.Tree.{parent_distance}
 use Rattle.tree_shape.specs.Plain.{Object}
-use Rattle.tree_shape.specs.Dealing.{Ball}
-use Rattle.tree_shape.specs.Insertion.{chosen}
-use Rattle.tree_shape.proofs.Lawful.{get_map}
+use Rattle.tree_growth.specs.Dealing.{Ball}
+use Rattle.tree_growth.specs.Insertion.{chosen}
+use Rattle.tree_growth.proofs.Lawful.{get_map}
 use Rattle.node_page.specs.Nodes.{IsLawfulNode}
 use Rattle.promote_split.specs.declared.promoting.Policy.{Policy}
 use Rattle.page_store.specs.declared.pages.PageFault.{PageFault}

@@ -9,8 +9,8 @@ use Rattle.metric_laws.proofs.Lists.{all_append, all_in, in-map, map-in}
 use Rattle.tree_shape.specs.declared.entry.LeafEntry.{LeafEntry}
 use Rattle.tree_shape.specs.Tree.{times, point_of, points_from, tag_of, tags_from}
 use Rattle.tree_shape.specs.Plain.{Object, Plain, Tall, objects_in, objects_of, object_of}
-use Rattle.tree_shape.specs.Insertion.{Rules, Grown, One, Two, inserted, new_root, placed_by}
-use Rattle.tree_shape.proofs.Kept.{GrownAll, inserted_all}
+use Rattle.tree_growth.specs.Insertion.{Rules, Grown, One, Two, inserted, new_root, placed_by}
+use Rattle.tree_growth.proofs.Kept.{GrownAll, inserted_all}
 use Rattle.tree_shape.proofs.ById.{ids_of, times-in, object_of as object_with, point_of-in}
 
 -- as many of an id as the rules say

@@ -9,8 +9,8 @@ use Rattle.tree_shape.specs.declared.entry.InnerEntry.{InnerEntry}
 use Rattle.tree_shape.specs.declared.entry.Node.{Node}
 use Rattle.tree_shape.specs.declared.entry.Node.TheVariants.{Leaf, Inner}
 use Rattle.tree_shape.specs.Tree.{Nodes, inner_entries, pages_at, times, parent_distance}
-use Rattle.tree_shape.specs.Dealing.{Ball, split_of}
-use Rattle.tree_shape.specs.Insertion.{taken, left, chosen}
+use Rattle.tree_growth.specs.Dealing.{Ball, split_of}
+use Rattle.tree_growth.specs.Insertion.{taken, left, chosen}
 use Rattle.tree_shape.proofs.Counting.{times-append}
 use Rattle.tree_shape.proofs.Within.{Agree, same_pages, flat_map_agree, in-flat_map}
 use Rattle.promote_split.specs.declared.halves.Half.{Half}

@@ -12,7 +12,7 @@ use Rattle.tree_shape.specs.declared.entry.InnerEntry.{InnerEntry}
 use Rattle.tree_shape.specs.Fill.{most_for}
 use Rattle.tree_shape.specs.Tree.{Nodes, inner_entries, pages_at, times}
 use Rattle.tree_shape.specs.Plain.{Plain, Tall, Branch, tree_at}
-use Rattle.tree_shape.specs.Insertion.{Grown, One as Whole, Two as Halves2, inserted, new_root}
+use Rattle.tree_growth.specs.Insertion.{Grown, One as Whole, Two as Halves2, inserted, new_root}
 use Rattle.tree_shape.proofs.Counting.{times-append}
 use Rattle.node_page.specs.Nodes.{IsLawfulNode}
 use Rattle.page_store.specs.declared.pages.PageFault.{PageFault}

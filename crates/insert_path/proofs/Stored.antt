@@ -10,9 +10,9 @@ use Rattle.tree_shape.specs.declared.entry.Node.{Node}
 use Rattle.tree_shape.specs.declared.entry.Node.TheVariants.{Leaf, Inner}
 use Rattle.tree_shape.specs.Fill.{least_for}
 use Rattle.tree_shape.specs.Tree.{Nodes, leaf_entries, inner_entries, pages_at, objects_at, parent_distance, IsSoundObject, IsSoundEntry, IsSoundAt}
-use Rattle.tree_shape.specs.Dealing.{Ball, split_of}
-use Rattle.tree_shape.specs.Insertion.{taken, left, chosen}
-use Rattle.tree_shape.proofs.Kept.{all_taken, all_left}
+use Rattle.tree_growth.specs.Dealing.{Ball, split_of}
+use Rattle.tree_growth.specs.Insertion.{taken, left, chosen}
+use Rattle.tree_growth.proofs.Kept.{all_taken, all_left}
 use Rattle.tree_shape.proofs.Within.{Agree, all_within}
 use Rattle.promote_split.specs.declared.halves.Half.{Half}
 use Rattle.promote_split.specs.Halves.{IsHalf}

@@ -11,10 +11,11 @@ use Rattle.tree_shape.specs.Fill.{root_least}
 use Rattle.tree_shape.specs.Tree.{Nodes, pages_at, times, objects, IsNodePage, IsSoundTree, points_by_id, points_from, tags_by_id, tags_from}
 use Rattle.tree_shape.specs.Plain.{Object, Plain, Tall, objects_of, object_of, tree_at, tree_of}
 use Rattle.tree_shape.specs.Sound.{ObjectFits, IsSoundTall}
-use Rattle.tree_shape.specs.Insertion.{Rules, Grown, new_root, rules, placed_by}
-use Rattle.tree_shape.proofs.Added.{insertion_adds_one}
-use Rattle.tree_shape.proofs.Bare.{sound_without_pages, sound_has_entries}
-use Rattle.tree_shape.proofs.Lawful.{insertion_keeps_sound}
+use Rattle.tree_growth.specs.Insertion.{Rules, Grown, new_root, rules, placed_by}
+use Rattle.tree_growth.proofs.Added.{insertion_adds_one}
+use Rattle.tree_shape.proofs.Bare.{sound_without_pages}
+use Rattle.tree_growth.proofs.Entries.{sound_has_entries}
+use Rattle.tree_growth.proofs.Lawful.{insertion_keeps_sound}
 use Rattle.tree_shape.proofs.Reading.{same_objects}
 use Rattle.tree_shape.proofs.Within.{Agree}
 use Rattle.page_store.specs.declared.staging.StagedNode.{StagedNode}

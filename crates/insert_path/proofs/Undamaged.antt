@@ -6,7 +6,7 @@ use Rattle.std.proofs.Math.Nat.{mul-le-mul_right, pow-succ'}
 use Rattle.std.proofs.lemmas.List.Recursion.{is_count_by}
 use Rattle.std.proofs.lemmas.Bool.Decides.{nat_tests}
 use Rattle.metric_laws.specs.Space.{Space, IsSpace}
-use Rattle.metric_laws.proofs.Lists.{all_in, all_weaker}
+use Rattle.metric_laws.proofs.Lists.{all_in, all_weaker, length_map}
 use Rattle.tree_shape.specs.declared.live.Live.{Live}
 use Rattle.tree_shape.specs.declared.entry.Node.{Node}
 use Rattle.tree_shape.specs.declared.entry.Node.TheVariants.{Leaf, Inner}
@@ -15,13 +15,13 @@ use Rattle.tree_shape.specs.Fill.{least_for, root_least}
 use Rattle.tree_shape.specs.Tree.{Nodes, objects, objects_at, IsSoundAt, IsSoundEntry, IsSoundTree}
 use Rattle.tree_shape.specs.Plain.{Object, Branch, Plain, object_of, objects_in, objects_of, tree_at, tree_of}
 use Rattle.tree_shape.specs.Sound.{ObjectFits, BranchCovers, IsSoundPlain, IsSoundTall}
-use Rattle.tree_shape.specs.Insertion.{Grown, One, Two, inserted, chosen, new_root, placed, rules}
-use Rattle.tree_shape.proofs.Added.{chosen_low, insertion_adds_one}
-use Rattle.tree_shape.proofs.Bare.{sound_without_pages, sound_has_entries}
+use Rattle.tree_growth.specs.Insertion.{Grown, One, Two, inserted, chosen, new_root, placed, rules}
+use Rattle.tree_growth.proofs.Added.{chosen_low, insertion_adds_one}
+use Rattle.tree_shape.proofs.Bare.{sound_without_pages}
+use Rattle.tree_growth.proofs.Entries.{sound_has_entries}
 use Rattle.tree_shape.proofs.Counting.{each_once_back}
 use Rattle.tree_shape.proofs.Height.{three_at_least, flat_long, not_higher}
-use Rattle.tree_shape.proofs.Kept.{length_map}
-use Rattle.tree_shape.proofs.Lawful.{insertion_keeps_sound}
+use Rattle.tree_growth.proofs.Lawful.{insertion_keeps_sound}
 use Rattle.tree_shape.proofs.Reading.{same_objects}
 use Rattle.page_store.specs.declared.pages.PageFault.{PageFault}
 use Rattle.page_store.specs.declared.pages.PageFault.TheVariants.{Disk, Bad, Outside, Memory, Repeats, Level}

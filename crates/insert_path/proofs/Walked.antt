@@ -2,14 +2,14 @@
 use Rattle.std.proofs.Common.{◌≡◌, ℕ, zero, suc, ◌+◌, ◌<◌, Bool, true, false, not, List, [], ◌∷◌, ◌++◌, refl, sym, ap, ◌∙◌, arith, length, map, get_or, inl, inr, append_assoc, length-append}
 use Rattle.std.specs.Prelude.{Option, Some, None, Ok, IsTrue, nat_le, if◌then◌else◌, ◌==◌}
 use Rattle.std.proofs.lemmas.Bool.Decides.{nat_tests}
+use Rattle.metric_laws.proofs.Lists.{length_map}
 use Rattle.tree_shape.specs.declared.entry.InnerEntry.{InnerEntry}
 use Rattle.tree_shape.specs.declared.entry.Node.{Node}
 use Rattle.tree_shape.specs.declared.entry.Node.TheVariants.{Leaf, Inner}
 use Rattle.tree_shape.specs.Tree.{Nodes, leaf_entries, inner_entries, pages_at, parent_distance}
 use Rattle.tree_shape.specs.Plain.{Branch, Plain, Tall, object_of, tree_at}
-use Rattle.tree_shape.specs.Dealing.{Ball}
-use Rattle.tree_shape.specs.Insertion.{Rules, Grown, One as Whole, Two as Halves2, fit, object_ball, branch_ball, with_grown, grown_at, inserted, chosen}
-use Rattle.tree_shape.proofs.Kept.{length_map}
+use Rattle.tree_growth.specs.Dealing.{Ball}
+use Rattle.tree_growth.specs.Insertion.{Rules, Grown, One as Whole, Two as Halves2, fit, object_ball, branch_ball, with_grown, grown_at, inserted, chosen}
 use Rattle.tree_shape.proofs.Within.{Agree}
 use Rattle.page_store.specs.declared.pages.PageFault.TheVariants.{Level}
 use Rattle.page_store.specs.Shelf.{Shelf}

@@ -3,17 +3,17 @@ use Rattle.std.proofs.Common.{◌≡◌, ℕ, zero, suc, ◌+◌, ◌<◌, ◌�
 use Rattle.std.specs.Prelude.{Option, Some}
 use Rattle.std.specs.List.{AllByRecursion}
 use Rattle.metric_laws.specs.Space.{Space, bound}
-use Rattle.metric_laws.proofs.Lists.{all_append, all_weaker}
+use Rattle.metric_laws.proofs.Lists.{all_append, all_weaker, length_map}
 use Rattle.tree_shape.specs.declared.entry.LeafEntry.{LeafEntry}
 use Rattle.tree_shape.specs.declared.entry.InnerEntry.{InnerEntry}
 use Rattle.tree_shape.specs.declared.entry.Node.{Node}
 use Rattle.tree_shape.specs.declared.entry.Node.TheVariants.{Leaf, Inner}
 use Rattle.tree_shape.specs.Fill.{most_for}
 use Rattle.tree_shape.specs.Tree.{parent_distance}
-use Rattle.tree_shape.specs.Dealing.{Ball, size, table_of, promoted, point_at, split_of, IsPair}
-use Rattle.tree_shape.specs.Insertion.{taken, left, chosen}
-use Rattle.tree_shape.proofs.Kept.{all_taken, all_left, length_map}
-use Rattle.tree_shape.proofs.Lawful.{promoted_pair}
+use Rattle.tree_growth.specs.Dealing.{Ball, size, table_of, promoted, point_at, split_of, IsPair}
+use Rattle.tree_growth.specs.Insertion.{taken, left, chosen}
+use Rattle.tree_growth.proofs.Kept.{all_taken, all_left}
+use Rattle.tree_growth.proofs.Lawful.{promoted_pair}
 use Rattle.node_page.specs.Nodes.{IsLawfulNode}
 use Rattle.promote_split.specs.declared.halves.Half.{Half}
 use Rattle.promote_split.specs.declared.halves.Halves.{Halves}

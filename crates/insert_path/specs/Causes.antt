@@ -3,7 +3,7 @@ use Rattle.std.specs.Prelude.{◌≡◌, ◌≢◌, ℕ, ◌+◌, ◌-◌, ◌^�
 use Rattle.metric_laws.specs.Space.{Space}
 use Rattle.tree_shape.specs.declared.live.Live.{Live}
 use Rattle.tree_shape.specs.Plain.{Object, tree_of}
-use Rattle.tree_shape.specs.Insertion.{Rules}
+use Rattle.tree_growth.specs.Insertion.{Rules}
 use Rattle.insert_path.specs.declared.faults.PlaceFault.{PlaceFault}
 use Rattle.insert_path.specs.declared.faults.PlaceFault.TheVariants.{Page, Full, NoRoom, Worn, Memory as NoMemory}
 use Rattle.insert_path.specs.Placing.{place_fault, fresh_of}

@@ -10,8 +10,8 @@ use Rattle.tree_shape.specs.declared.filling.Bounds.{Bounds}
 use Rattle.tree_shape.specs.declared.live.Live.{Live}
 use Rattle.tree_shape.specs.Tree.{parent_distance}
 use Rattle.tree_shape.specs.Plain.{Object}
-use Rattle.tree_shape.specs.Dealing.{Ball}
-use Rattle.tree_shape.specs.Insertion.{Rules, rules_for, chosen}
+use Rattle.tree_growth.specs.Dealing.{Ball}
+use Rattle.tree_growth.specs.Insertion.{Rules, rules_for, chosen}
 use Rattle.promote_split.specs.declared.halves.Half.{Half}
 use Rattle.promote_split.specs.declared.halves.Halves.{Halves}
 use Rattle.promote_split.specs.declared.promoting.Policy.{Policy}

@@ -5,7 +5,7 @@ use Rattle.metric_laws.specs.Lists.{IsIn}
 use Rattle.tree_shape.specs.declared.live.Live.{Live}
 use Rattle.tree_shape.specs.Tree.{Nodes, inner_entries, IsSoundTree, points_by_id, tags_by_id}
 use Rattle.tree_shape.specs.Plain.{Object, Branch, Plain, Tall, tree_at, tree_of}
-use Rattle.tree_shape.specs.Insertion.{Rules, Grown, One, Two, inserted, branch_ball, placed_by}
+use Rattle.tree_growth.specs.Insertion.{Rules, Grown, One, Two, inserted, branch_ball, placed_by}
 use Rattle.page_store.specs.declared.pages.PageFault.{PageFault}
 use Rattle.page_store.specs.declared.pages.PageFault.TheVariants.{Level}
 use Rattle.page_store.specs.declared.staging.Placed.{Placed}

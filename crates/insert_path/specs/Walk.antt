@@ -4,8 +4,8 @@ use Rattle.metric_laws.specs.Space.{Space}
 use Rattle.tree_shape.specs.declared.entry.InnerEntry.{InnerEntry}
 use Rattle.tree_shape.specs.declared.entry.Node.{Node}
 use Rattle.tree_shape.specs.declared.entry.Node.TheVariants.{Leaf, Inner}
-use Rattle.tree_shape.specs.Dealing.{Ball}
-use Rattle.tree_shape.specs.Insertion.{chosen}
+use Rattle.tree_growth.specs.Dealing.{Ball}
+use Rattle.tree_growth.specs.Insertion.{chosen}
 use Rattle.page_store.specs.declared.pages.PageFault.{PageFault}
 use Rattle.page_store.specs.declared.pages.PageFault.TheVariants.{Level}
 use Rattle.page_store.specs.Reading.{Read}

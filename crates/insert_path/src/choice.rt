@@ -1,12 +1,13 @@
 ghost use Rattle.std.specs.Prelude.{◌≡◌, ◌<◌, length, map, filter, IfSome, IsTrue};
-ghost use Rattle.tree_shape.specs.Dealing.{first_least};
-ghost use Rattle.tree_shape.specs.Insertion.{aims, chosen, excess, is_inside, is_outside, or_else, place_of};
+ghost use Rattle.tree_growth.specs.Dealing.{first_least};
+ghost use Rattle.tree_growth.specs.Insertion.{aims, chosen, excess, is_inside, is_outside, or_else, place_of};
 ghost use Rattle.promote_split.specs.Steps.{kept, kept_if};
 ghost use Rattle.promote_split.specs.Tables.{HasCounted};
 ghost use Rattle.insert_path.specs.Walk.{inner_ball};
 
 use metric_laws::Ruler;
-use tree_shape::{Aim, InnerEntry};
+use tree_growth::Aim;
+use tree_shape::InnerEntry;
 
 // The nearer one of two entries that hold the point, the earlier one if they are equal.
 fn nearer(best: Option<Aim>, aim: Aim) -> Option<Aim>

@@ -1,5 +1,5 @@
 ghost use Rattle.std.specs.Prelude.{◌≡◌, ◌≢◌, ◌↔◌, ◌+◌, ◌-◌, ◌*◌, ◌^◌, ◌≤◌, Err, IsTrue, IfOk, IfErr};
-ghost use Rattle.tree_shape.specs.Insertion.{rules};
+ghost use Rattle.tree_growth.specs.Insertion.{rules};
 ghost use Rattle.tree_shape.specs.Tree.{Nodes, IsSoundTree};
 ghost use Rattle.node_page.specs.Heads.{IsLawfulHead};
 ghost use Rattle.node_page.specs.Opening.{IsLawfulLive};

@@ -3,8 +3,11 @@ pub mod Reading
 pub mod Shelf
 pub mod Files
 pub mod Staging
+pub mod Reached
 pub mod Kept
 pub mod Answers
 pub mod Shelves
 pub mod Numbers
 pub mod Placing
+pub mod Succession
+pub mod Laws

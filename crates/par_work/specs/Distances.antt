@@ -2,7 +2,7 @@
 use Rattle.std.specs.Prelude.{ℕ, List}
 use Rattle.std.specs.List.{flat_map}
 use Rattle.metric_laws.specs.Space.{Space}
-use Rattle.tree_shape.specs.Bulk.{row_of}
+use Rattle.tree_growth.specs.Bulk.{row_of}
 
 -- the distances to the seeds, which are places of the points, of these points, point by point
 abbrev pub distances : Space → List (List ℕ) → List ℕ → List (List ℕ) → List ℕ

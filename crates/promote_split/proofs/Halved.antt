@@ -2,17 +2,18 @@
 use Rattle.std.proofs.Common.{◌≡◌, ◌≢◌, ℕ, ◌+◌, ◌*◌, ◌<◌, ◌≤◌, Bool, true, false, List, [], ◌∷◌, refl, sym, ap, arith, ◌∙◌, length, map, subst}
 use Rattle.std.specs.Prelude.{if◌then◌else◌}
 use Rattle.std.specs.List.{AllByRecursion}
+use Rattle.metric_laws.proofs.Lists.{all_map, length_map}
 use Rattle.metric_laws.specs.Space.{Space, bound}
-use Rattle.tree_shape.specs.Dealing.{Ball, Table, size, row, table_of, is_on, count_on, members, partitioned, promoted, point_at, IsPair}
-use Rattle.tree_shape.specs.Insertion.{taken, left}
-use Rattle.tree_shape.specs.Splits.{IsFairPartition}
-use Rattle.tree_shape.specs.declared.rules.Side.{Side}
-use Rattle.tree_shape.specs.declared.rules.Side.TheVariants.{First, Second, Open}
-use Rattle.tree_shape.proofs.Fair.{tally, count_is_tally, tally_members, IsFair, fair}
-use Rattle.tree_shape.proofs.Lawful.{taken_tally, left_tally}
-use Rattle.tree_shape.proofs.Kept.{parts_long, all_map}
-use Rattle.tree_shape.proofs.Parted.{partition_is_fair}
-use Rattle.tree_shape.proofs.TableRows.{row_of_table, length_map}
+use Rattle.tree_growth.specs.Dealing.{Ball, Table, size, row, table_of, is_on, count_on, members, partitioned, promoted, point_at, IsPair}
+use Rattle.tree_growth.specs.Insertion.{taken, left}
+use Rattle.tree_growth.specs.Splits.{IsFairPartition}
+use Rattle.tree_growth.specs.declared.rules.Side.{Side}
+use Rattle.tree_growth.specs.declared.rules.Side.TheVariants.{First, Second, Open}
+use Rattle.tree_growth.proofs.Fair.{tally, count_is_tally, tally_members, IsFair, fair}
+use Rattle.tree_growth.proofs.Lawful.{taken_tally, left_tally}
+use Rattle.tree_growth.proofs.Kept.{parts_long}
+use Rattle.tree_growth.proofs.Parted.{partition_is_fair}
+use Rattle.tree_growth.proofs.TableRows.{row_of_table}
 use Rattle.promote_split.specs.declared.halves.Halves.{Halves}
 use Rattle.promote_split.specs.Steps.{half_entries}
 use Rattle.promote_split.specs.Halves.{AreNear, IsSplitBy, IsSplit}

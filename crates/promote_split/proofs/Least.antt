@@ -3,8 +3,8 @@ use Rattle.std.proofs.Common.{◌≡◌, ℕ, zero, suc, ◌+◌, ◌-◌, ◌<�
 use Rattle.metric_laws.specs.Space.{Space}
 use Rattle.std.specs.Prelude.{filter, Option, Some, None, if◌then◌else◌, nat_lt, max}
 use Rattle.std.specs.List.{range_with_len, flat_map, AllByRecursion}
-use Rattle.tree_shape.specs.declared.rules.Side.{Side}
-use Rattle.tree_shape.specs.Dealing.{Ball, is_on, first_least, least_from, in_turn, greatest, pairs, pairs_with, or_pair}
+use Rattle.tree_growth.specs.declared.rules.Side.{Side}
+use Rattle.tree_growth.specs.Dealing.{Ball, is_on, first_least, least_from, in_turn, greatest, pairs, pairs_with, or_pair}
 use Rattle.promote_split.specs.Steps.{kept, kept_if, later, half_entries}
 use Rattle.promote_split.specs.Tables.{HasCounted}
 

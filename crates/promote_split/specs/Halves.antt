@@ -2,10 +2,10 @@
 use Rattle.std.specs.Prelude.{◌≡◌, ◌≤◌, ℕ, List, map}
 use Rattle.std.specs.List.{AllByRecursion}
 use Rattle.metric_laws.specs.Space.{Space, bound}
-use Rattle.tree_shape.specs.Dealing.{Ball, Table, row, partitioned, promoted, group_radius, split_of, point_at}
-use Rattle.tree_shape.specs.Insertion.{taken, left}
-use Rattle.tree_shape.specs.declared.rules.Side.{Side}
-use Rattle.tree_shape.specs.declared.rules.Side.TheVariants.{First, Second}
+use Rattle.tree_growth.specs.Dealing.{Ball, Table, row, partitioned, promoted, group_radius, split_of, point_at}
+use Rattle.tree_growth.specs.Insertion.{taken, left}
+use Rattle.tree_growth.specs.declared.rules.Side.{Side}
+use Rattle.tree_growth.specs.declared.rules.Side.TheVariants.{First, Second}
 use Rattle.promote_split.specs.Steps.{half_entries}
 use Rattle.promote_split.specs.declared.halves.Half.{Half}
 use Rattle.promote_split.specs.declared.halves.Halves.{Halves}

@@ -1,7 +1,7 @@
 -- What a step of a split's loops gives.
 use Rattle.std.specs.Prelude.{ℕ, Bool, List, [], ◌∷◌, Option, Some, None, if◌then◌else◌, nat_lt}
-use Rattle.tree_shape.specs.Dealing.{is_on, first_least, least_from}
-use Rattle.tree_shape.specs.declared.rules.Side.{Side}
+use Rattle.tree_growth.specs.Dealing.{is_on, first_least, least_from}
+use Rattle.tree_growth.specs.declared.rules.Side.{Side}
 
 -- the one of two elements with the lesser number, the earlier one if they are equal
 abbrev pub kept : {X : Type 0} → (X → ℕ) → Option X → X → Option X

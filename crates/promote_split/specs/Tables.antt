@@ -2,7 +2,7 @@
 use Rattle.std.specs.Prelude.{◌≡◌, ℕ, ◌+◌, ◌*◌, ◌^◌, ◌≤◌, ◌<◌, length}
 use Rattle.std.specs.List.{AllByRecursion}
 use Rattle.metric_laws.specs.Space.{bound}
-use Rattle.tree_shape.specs.Dealing.{Table, size}
+use Rattle.tree_growth.specs.Dealing.{Table, size}
 
 -- a distance of each entry to each, and nothing above the bound
 pub record IsTable (t : Table) : Type 0 where

@@ -1,12 +1,12 @@
 ghost use Rattle.std.specs.Prelude.{◌≡◌, ◌≢◌, ◌-◌, ◌*◌, ◌≤◌, ◌<◌, ◌++◌, ◌∷◌, [], length, map, filter, IfOk, IfSome, OnOk, slice_index_or, nat_le, ◌==◌, if◌then◌else◌};
 ghost use Rattle.std.specs.List.{range_with_len};
-ghost use Rattle.tree_shape.specs.Dealing.{size, is_on, side_at, first_least, in_turn, may_leave, members, received, filled_up, by_nearer, hyperplane, balanced, only_promoted, partitioned};
+ghost use Rattle.tree_growth.specs.Dealing.{size, is_on, side_at, first_least, in_turn, may_leave, members, received, filled_up, by_nearer, hyperplane, balanced, only_promoted, partitioned};
 ghost use Rattle.promote_split.specs.Steps.{kept, kept_if};
 
 use crate::Matrix;
 use metric_laws::Memory;
 use std::alloc::Global;
-use tree_shape::Side;
+use tree_growth::Side;
 
 // Whether two sides are the same.
 pub fn is_same(on: Side, side: Side) -> bool

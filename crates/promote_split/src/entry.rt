@@ -1,5 +1,5 @@
 ghost use Rattle.std.specs.Prelude.{◌≡◌, ℕ, refl};
-ghost use Rattle.tree_shape.specs.Dealing.{Ball};
+ghost use Rattle.tree_growth.specs.Dealing.{Ball};
 
 use tree_shape::{InnerEntry, LeafEntry};
 

@@ -1,7 +1,7 @@
 ghost use Rattle.std.specs.Prelude.{◌≡◌, ◌+◌, ◌*◌, ◌≤◌, ◌<◌, ◌++◌, ◌==◌, length, map, IfOk, OnOk};
 ghost use Rattle.std.specs.List.{AllByRecursion};
 ghost use Rattle.metric_laws.specs.Space.{bound};
-ghost use Rattle.tree_shape.specs.Dealing.{Ball, Table, row, size, table_of};
+ghost use Rattle.tree_growth.specs.Dealing.{Ball, Table, row, size, table_of};
 ghost use Rattle.promote_split.specs.Tables.{IsTable, HasCounted};
 
 use crate::Entry;

@@ -2,13 +2,13 @@ ghost use Rattle.std.specs.Prelude.{◌≡◌, ◌≤◌, ◌<◌, length, max, 
 ghost use Rattle.std.specs.List.{AllByRecursion};
 ghost use Rattle.metric_laws.specs.Space.{bound};
 ghost use Rattle.metric_laws.specs.Pruning.{capped};
-ghost use Rattle.tree_shape.specs.Dealing.{size, is_on, side_at, least_from, group_radius, pair_cost, pairs_with, promoted, IsPair};
+ghost use Rattle.tree_growth.specs.Dealing.{size, is_on, side_at, least_from, group_radius, pair_cost, pairs_with, promoted, IsPair};
 
 use crate::Matrix;
 use crate::dealing::{Promoted, is_same, partition_into};
 use metric_laws::{Memory, cap};
 use std::alloc::Global;
-use tree_shape::Side;
+use tree_growth::Side;
 
 /// How a node is split.
 #[derive(Clone, Copy, Debug, PartialEq, Eq)]

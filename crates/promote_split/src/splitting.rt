@@ -1,7 +1,7 @@
 ghost use Rattle.std.specs.Prelude.{◌≡◌, ◌+◌, ◌*◌, ◌≤◌, ◌++◌, ◌∷◌, [], length, reverse, IfOk, OnOk, if◌then◌else◌};
 ghost use Rattle.std.specs.List.{AllByRecursion};
 ghost use Rattle.metric_laws.specs.Space.{bound};
-ghost use Rattle.tree_shape.specs.Dealing.{size, row, is_on, promoted, IsPair};
+ghost use Rattle.tree_growth.specs.Dealing.{size, row, is_on, promoted, IsPair};
 ghost use Rattle.promote_split.specs.Steps.{half_entries};
 ghost use Rattle.promote_split.specs.Halves.{IsSplitBy, IsSplit, AreNear};
 ghost use Rattle.promote_split.specs.Tables.{HasCounted};
@@ -11,7 +11,7 @@ use crate::promoting::radius_of;
 use crate::{Entry, Half, Halves, Matrix, Policy, promote};
 use metric_laws::{Listed, Memory, Point, Ruler};
 use std::alloc::Global;
-use tree_shape::Side;
+use tree_growth::Side;
 
 // The entries of the two groups.
 #[derive(Drop)]

@@ -8,10 +8,8 @@ use Rattle.tree_shape.specs.declared.entry.InnerEntry.{InnerEntry}
 use Rattle.tree_shape.specs.Fill.{IsFilled, least_for, root_least}
 use Rattle.tree_shape.specs.Tree.{Nodes, IsSoundAt, IsSoundObject, IsSoundEntry, objects_at}
 use Rattle.tree_shape.specs.Plain.{Object, Branch, Plain, Tall, object_of, tree_at}
-use Rattle.tree_shape.specs.Insertion.{HasEntries}
 use Rattle.tree_shape.specs.Sound.{ObjectFits, BranchCovers, IsSoundPlain, IsSoundTall}
 use Rattle.tree_shape.proofs.Reading.{same_objects}
-use Rattle.tree_shape.proofs.Height.{three_at_least}
 
 pub all_mapped : {X Y : Type 0} (P : X → Type 0) (Q : Y → Type 0) (f : X → Y) (xs : List X) → ((x : X) → P x → Q (f x)) → AllByRecursion P xs → AllByRecursion Q (map f xs)
 all_mapped P Q f [] h all = tt
@@ -42,23 +40,5 @@ module _ (s : Space) (nodes : Nodes) where
       covers e all = subst (AllByRecursion (λ (o : Object). s.dist o.point e.point ≤ e.radius)) (sym (same_objects nodes h e.child))
           (all_mapped (λ o. s.dist o.point e.point ≤ e.radius) (λ (o : Object). s.dist o.point e.point ≤ e.radius) object_of (objects_at nodes h e.child) (λ o k. k) all)
 
-module _ (s : Space) (few : s.words ≤ 64) where
-  pub has_entries : (h least : ℕ) → (0 < h → 1 ≤ least) → (t : Plain h) → IsSoundPlain s h least t → HasEntries h t
-  has_entries zero least some os sound = tt
-  has_entries (suc h) least some bs sound =
-      ((let e = sound.0.enough in let l = some (omega arith) in omega arith), each bs (λ t k. has_entries h (least_for s.words) (λ z. let three = three_at_least s.words few in omega arith) t k) sound.1)
-    where
-      each : (cs : List (Branch (Plain h))) → ((t : Plain h) → IsSoundPlain s h (least_for s.words) t → HasEntries h t) →
-          AllByRecursion (λ b. IsTrue (s.fits b.point) × BranchCovers s h b × IsSoundPlain s h (least_for s.words) b.below) cs → AllByRecursion (λ b. HasEntries h b.below) cs
-      each [] ih all = tt
-      each (c ∷ cs) ih all = (ih c.below all.0.2, each cs ih all.1)
-
 pub sound_without_pages : (s : Space) (nodes : Nodes) (h least : ℕ) (above : Option (List ℕ)) (page : ℕ) → IsSoundAt s nodes h least above page → IsSoundPlain s h least (tree_at nodes h page)
 sound_without_pages s nodes h least above page sound = without_pages s nodes h least above page sound
-
-pub sound_has_entries : (s : Space) → s.words ≤ 64 → (t : Tall) → IsSoundTall s t → HasEntries t.height t.tree
-sound_has_entries s few t sound = has_entries s few t.height (root_least t.height) (some t.height) t.tree sound
-  where
-    some : (h : ℕ) → 0 < h → 1 ≤ root_least h
-    some zero high = absurd (omega arith)
-    some (suc h) high = omega arith

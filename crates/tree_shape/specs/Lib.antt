@@ -2,9 +2,4 @@ pub mod Fill
 pub mod Tree
 pub mod Laws
 pub mod Plain
-pub mod Dealing
-pub mod Insertion
-pub mod Groups
-pub mod Bulk
 pub mod Sound
-pub mod Splits

@@ -1,12 +1,10 @@
 -- Sound trees without pages.
 use Rattle.std.specs.Prelude.{ℕ, zero, suc, ◌≤◌, List, length, IsTrue, Option}
 use Rattle.std.specs.List.{AllByRecursion}
-use Rattle.metric_laws.specs.Space.{Space, IsSpace}
+use Rattle.metric_laws.specs.Space.{Space}
 use Rattle.tree_shape.specs.Fill.{IsFilled, least_for, root_least}
 use Rattle.tree_shape.specs.Tree.{Nodes, IsSoundAt}
 use Rattle.tree_shape.specs.Plain.{Object, Branch, Plain, Tall, objects_in, tree_at}
-use Rattle.tree_shape.specs.Insertion.{placed, HasEntries}
-use Rattle.tree_shape.specs.Bulk.{built}
 
 -- a point that fits
 abbrev pub ObjectFits : Space → Object → Type 0
@@ -30,16 +28,3 @@ IsSoundTall s t = IsSoundPlain s t.height (root_least t.height) t.tree
 abbrev pub SoundWithoutPages : Type 0
 SoundWithoutPages =
     (s : Space) (nodes : Nodes) (h least : ℕ) (above : Option (List ℕ)) (page : ℕ) → IsSoundAt s nodes h least above page → IsSoundPlain s h least (tree_at nodes h page)
-
--- each inner node of a sound tree has an entry
-abbrev pub SoundHasEntries : Type 0
-SoundHasEntries = (s : Space) → s.words ≤ 64 → (t : Tall) → IsSoundTall s t → HasEntries t.height t.tree
-
--- an insertion keeps a tree sound
-abbrev pub InsertionKeepsSound : Type 0
-InsertionKeepsSound =
-    (s : Space) → IsSpace s → (promote split : ℕ) (o : Object) → ObjectFits s o → (t : Tall) → IsSoundTall s t → IsSoundTall s (placed s promote split o t)
-
--- a bulk load of points that fit makes a sound tree
-abbrev pub LoadIsSound : Type 0
-LoadIsSound = (s : Space) → IsSpace s → (rows : List (List ℕ)) (tags : List ℕ) → AllByRecursion (λ p. IsTrue (s.fits p)) rows → IsSoundTall s (built s rows tags)

@@ -1,12 +1,8 @@
 //! Laws of trees.
 
-ghost use Rattle.tree_shape.specs.Bulk.{LoadKeepsObjects};
-ghost use Rattle.tree_shape.specs.Groups.{GroupsAreSized};
-ghost use Rattle.tree_shape.specs.Insertion.{InsertionAddsOne};
 ghost use Rattle.tree_shape.specs.Laws.{HeightIsSmall, ObjectsFit, SameSubtree};
 ghost use Rattle.tree_shape.specs.Plain.{SameObjects};
-ghost use Rattle.tree_shape.specs.Sound.{InsertionKeepsSound, LoadIsSound, SoundHasEntries, SoundWithoutPages};
-ghost use Rattle.tree_shape.specs.Splits.{ChosenIsPlace, PartitionIsFair, PromotedIsPair, RowHasDistances};
+ghost use Rattle.tree_shape.specs.Sound.{SoundWithoutPages};
 
 /// Each object of a sound tree is a point of the space.
 pub fn objects_fit()
@@ -30,57 +26,7 @@ pub fn same_objects()
     ensures { SameObjects }
 {}
 
-/// An insertion adds its object and loses none.
-pub fn insertion_adds_one()
-    ensures { InsertionAddsOne }
-{}
-
-/// A bulk load keeps its objects.
-pub fn load_keeps_objects()
-    ensures { LoadKeepsObjects }
-{}
-
-/// Each group of a bulk load has as many objects as its subtree needs, and no more than it has room for.
-pub fn groups_are_sized()
-    ensures { GroupsAreSized }
-{}
-
 /// A tree that is sound on its pages is sound without them.
 pub fn sound_without_pages()
     ensures { SoundWithoutPages }
-{}
-
-/// Each inner node of a sound tree has an entry.
-pub fn sound_has_entries()
-    ensures { SoundHasEntries }
-{}
-
-/// An insertion keeps a tree sound: its fill, its points and its covering radii.
-pub fn insertion_keeps_sound()
-    ensures { InsertionKeepsSound }
-{}
-
-/// A bulk load makes a sound tree.
-pub fn load_is_sound()
-    ensures { LoadIsSound }
-{}
-
-/// The choice is an entry of the node.
-pub fn chosen_is_place()
-    ensures { ChosenIsPlace }
-{}
-
-/// Two entries are promoted, the first below the second.
-pub fn promoted_is_pair()
-    ensures { PromotedIsPair }
-{}
-
-/// Each entry is in one of the two groups of a partition, and each group has its least.
-pub fn partition_is_fair()
-    ensures { PartitionIsFair }
-{}
-
-/// A row of a node's table has the distances to one entry.
-pub fn row_has_distances()
-    ensures { RowHasDistances }
 {}

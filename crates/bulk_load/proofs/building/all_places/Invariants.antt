@@ -1,5 +1,5 @@
 use Rattle.std.proofs.Common.{◌≡◌, ◌-◌, ◌++◌}
-use Rattle.tree_shape.specs.Bulk.{places_from}
+use Rattle.tree_growth.specs.Bulk.{places_from}
 use Rattle.bulk_load.proofs.building.all_places.Given as goal
 
 abbrev pub invariant-loop-row : goal.invariant-loop-row

@@ -1,5 +1,5 @@
 use Rattle.std.proofs.Common.{◌≡◌, ◌+◌, ◌-◌, ◌^◌, ◌<◌}
-use Rattle.tree_shape.specs.Bulk.{height_from, height_of}
+use Rattle.tree_growth.specs.Bulk.{height_from, height_of}
 use Rattle.bulk_load.proofs.building.height_for.Given as goal
 
 abbrev pub invariant-loop-room : goal.invariant-loop-room

@@ -1,5 +1,5 @@
 use Rattle.std.proofs.Common.{◌≡◌, arith, length, rules}
-use Rattle.tree_shape.specs.Bulk.{height_of}
+use Rattle.tree_growth.specs.Bulk.{height_of}
 use Rattle.page_store.specs.Numbers.{number_at}
 use Rattle.bulk_load.specs.Groupable.{load_of}
 use Rattle.bulk_load.proofs.Suited.{most_some}

@@ -1,5 +1,5 @@
 use Rattle.std.proofs.Common.{◌≡◌, ◌++◌, drop}
-use Rattle.tree_shape.specs.Groups.{entry}
+use Rattle.tree_growth.specs.Groups.{entry}
 use Rattle.bulk_load.specs.Candidates.{candidates_from}
 use Rattle.bulk_load.proofs.filling.candidates.Given as goal
 

@@ -1,8 +1,8 @@
 use Rattle.std.proofs.Common.{◌≡◌, ℕ, ◌<◌, ◌∙◌, [], ◌∷◌, List, refl, sym, subst, arith}
 use Rattle.std.specs.Prelude.{All}
 use Rattle.std.proofs.lemmas.List.{nil_from_length}
-use Rattle.tree_shape.specs.declared.rules.Member.{Member}
-use Rattle.tree_shape.specs.Groups.{Far, entry}
+use Rattle.tree_growth.specs.declared.rules.Member.{Member}
+use Rattle.tree_growth.specs.Groups.{Far, entry}
 use Rattle.bulk_load.proofs.Walking.{Walk, walk_begins, walk_step, walk_ends}
 use Rattle.bulk_load.proofs.filling.fill_one.Goals as goal
 

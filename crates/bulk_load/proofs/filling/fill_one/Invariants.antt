@@ -1,7 +1,7 @@
 use Rattle.std.proofs.Common.{◌≡◌, ◌<◌, length}
 use Rattle.std.specs.Prelude.{All}
-use Rattle.tree_shape.specs.declared.rules.Member.{Member}
-use Rattle.tree_shape.specs.Groups.{entry}
+use Rattle.tree_growth.specs.declared.rules.Member.{Member}
+use Rattle.tree_growth.specs.Groups.{entry}
 use Rattle.bulk_load.specs.Candidates.{AreCounts}
 use Rattle.bulk_load.proofs.Walking.{Walk}
 use Rattle.bulk_load.proofs.filling.fill_one.Given as goal

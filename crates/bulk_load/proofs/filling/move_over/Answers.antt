@@ -1,5 +1,5 @@
 use Rattle.std.proofs.Common.{◌∙◌, sym, rules}
-use Rattle.tree_shape.specs.Groups.{member_of}
+use Rattle.tree_growth.specs.Groups.{member_of}
 use Rattle.bulk_load.proofs.Received.{moved_room, moved_counts}
 use Rattle.bulk_load.proofs.filling.move_over.Goals as goal
 

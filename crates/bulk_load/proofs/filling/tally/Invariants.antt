@@ -1,5 +1,5 @@
 use Rattle.std.proofs.Common.{◌≡◌, ℕ, take, get_or, vec_len}
-use Rattle.tree_shape.specs.Groups.{in_group}
+use Rattle.tree_growth.specs.Groups.{in_group}
 use Rattle.bulk_load.proofs.filling.tally.Given as goal
 
 abbrev pub invariant-loop-p : goal.invariant-loop-p

@@ -1,7 +1,7 @@
 use Rattle.std.proofs.Common.{◌≡◌, ℕ, ◌^◌, ◌≤◌, arith, ◌∙◌, ap, refl, length, List}
 use Rattle.std.specs.Prelude.{map}
 use Rattle.std.proofs.Math.Nat.{one-le-pow, pow-le-pow_left}
-use Rattle.tree_shape.specs.Bulk.{groups_from, groups_at, point_of, Load}
+use Rattle.tree_growth.specs.Bulk.{groups_from, groups_at, point_of, Load}
 use Rattle.par_work.proofs.Joining.{if_ok}
 use Rattle.bulk_load.specs.Groupable.{load_of}
 use Rattle.bulk_load.specs.Measured.{Measured, measured, points_of}

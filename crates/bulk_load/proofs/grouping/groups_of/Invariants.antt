@@ -1,5 +1,5 @@
 use Rattle.std.proofs.Common.{◌≡◌, drop, ◌++◌}
-use Rattle.tree_shape.specs.Bulk.{groups_from}
+use Rattle.tree_growth.specs.Bulk.{groups_from}
 use Rattle.bulk_load.proofs.grouping.groups_of.Given as goal
 
 abbrev pub invariant-loop-group : goal.invariant-loop-group

@@ -1,5 +1,5 @@
 use Rattle.std.proofs.Common.{◌+◌, ◌<◌, ◌++◌, length, arith, false, drop, ◌∙◌, ap}
-use Rattle.tree_shape.specs.Groups.{members_from}
+use Rattle.tree_growth.specs.Groups.{members_from}
 use Rattle.bulk_load.proofs.Members.{members_in, members_out}
 use Rattle.bulk_load.proofs.grouping.members_of.Goals as goal
 use Rattle.bulk_load.proofs.grouping.members_of.Goals.{then-member-group+in_ok-push, else-member-group}

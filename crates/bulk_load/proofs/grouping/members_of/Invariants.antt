@@ -1,5 +1,5 @@
 use Rattle.std.proofs.Common.{◌≡◌, drop, ◌++◌}
-use Rattle.tree_shape.specs.Groups.{members_from}
+use Rattle.tree_growth.specs.Groups.{members_from}
 use Rattle.bulk_load.proofs.grouping.members_of.Given as goal
 
 abbrev pub invariant-loop-place : goal.invariant-loop-place

@@ -1,5 +1,5 @@
 use Rattle.std.proofs.Common.{sym, ◌∙◌}
-use Rattle.tree_shape.specs.Groups.{entry}
+use Rattle.tree_growth.specs.Groups.{entry}
 use Rattle.bulk_load.proofs.Ahead.{hint_of}
 use Rattle.bulk_load.proofs.hints.hint_for.Goals as goal
 

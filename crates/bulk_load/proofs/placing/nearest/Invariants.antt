@@ -1,6 +1,6 @@
 use Rattle.std.proofs.Common.{◌≡◌, ◌<◌, drop, get_or, None}
 use Rattle.std.specs.Prelude.{IfSome}
-use Rattle.tree_shape.specs.Groups.{nearest_from, entry}
+use Rattle.tree_growth.specs.Groups.{nearest_from, entry}
 use Rattle.bulk_load.proofs.placing.nearest.Given as goal
 
 abbrev pub invariant-loop-group : goal.invariant-loop-group

@@ -1,7 +1,7 @@
 use Rattle.std.proofs.Common.{◌≡◌, ℕ, ◌+◌, ◌-◌, ◌<◌, ◌++◌, ◌∷◌, [], List, length, ap, sym, ◌∙◌, arith, append_assoc}
 use Rattle.std.proofs.lemmas.List.Elements.{All-push}
-use Rattle.tree_shape.specs.declared.rules.Member.{Member}
-use Rattle.tree_shape.specs.Groups.{Far, entry}
+use Rattle.tree_growth.specs.declared.rules.Member.{Member}
+use Rattle.tree_growth.specs.Groups.{Far, entry}
 use Rattle.bulk_load.proofs.Ahead.{hints_grow}
 use Rattle.bulk_load.proofs.placing.place_all.Goals as goal
 

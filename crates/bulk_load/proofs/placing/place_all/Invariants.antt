@@ -1,7 +1,7 @@
 use Rattle.std.proofs.Common.{◌≡◌, ◌≤◌, ◌<◌, ◌++◌, ◌-◌, drop, vec_len, length}
 use Rattle.std.specs.Prelude.{replicate, All}
-use Rattle.tree_shape.specs.declared.rules.Member.{Member}
-use Rattle.tree_shape.specs.Groups.{placed_from, entry}
+use Rattle.tree_growth.specs.declared.rules.Member.{Member}
+use Rattle.tree_growth.specs.Groups.{placed_from, entry}
 use Rattle.bulk_load.specs.Hints.{AreHints}
 use Rattle.bulk_load.proofs.placing.place_all.Given as goal
 

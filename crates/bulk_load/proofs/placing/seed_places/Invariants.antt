@@ -1,6 +1,6 @@
 use Rattle.std.proofs.Common.{◌≡◌, ◌++◌, ◌-◌, ◌<◌, vec_len}
 use Rattle.std.specs.Prelude.{All}
-use Rattle.tree_shape.specs.Groups.{seeds_from}
+use Rattle.tree_growth.specs.Groups.{seeds_from}
 use Rattle.bulk_load.proofs.placing.seed_places.Given as goal
 
 abbrev pub invariant-loop-i : goal.invariant-loop-i

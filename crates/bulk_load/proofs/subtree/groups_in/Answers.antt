@@ -1,6 +1,6 @@
 use Rattle.std.proofs.Common.{◌≡◌, Bool, ◌∙◌, ap}
 use Rattle.par_work.proofs.Joining.{if_ok}
-use Rattle.tree_shape.specs.Bulk.{groups_at}
+use Rattle.tree_growth.specs.Bulk.{groups_at}
 use Rattle.bulk_load.specs.Groupable.{load_of}
 use Rattle.bulk_load.specs.Postorder.{is_top}
 use Rattle.bulk_load.proofs.Suited.{increasing, top_is}

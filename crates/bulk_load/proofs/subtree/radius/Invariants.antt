@@ -1,5 +1,5 @@
 use Rattle.std.proofs.Common.{◌≡◌, max, drop}
-use Rattle.tree_shape.specs.Bulk.{point_of, radius_of}
+use Rattle.tree_growth.specs.Bulk.{point_of, radius_of}
 use Rattle.bulk_load.specs.Groupable.{load_of}
 use Rattle.bulk_load.proofs.subtree.radius.Given as goal
 

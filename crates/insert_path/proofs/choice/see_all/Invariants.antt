@@ -1,7 +1,7 @@
 use Rattle.std.proofs.Common.{◌≡◌, map, drop}
 use Rattle.std.specs.Prelude.{filter, IfSome, IsTrue}
-use Rattle.tree_shape.specs.Dealing.{first_least}
-use Rattle.tree_shape.specs.Insertion.{aims, is_inside, is_outside, excess}
+use Rattle.tree_growth.specs.Dealing.{first_least}
+use Rattle.tree_growth.specs.Insertion.{aims, is_inside, is_outside, excess}
 use Rattle.promote_split.specs.Steps.{later}
 use Rattle.promote_split.specs.Tables.{HasCounted}
 use Rattle.insert_path.specs.Walk.{inner_ball}

@@ -4,7 +4,7 @@ use Rattle.std.specs.List.{AllByRecursion}
 use Rattle.tree_shape.specs.Fill.{most_for}
 use Rattle.node_page.specs.Nodes.{IsLawfulNode}
 use Rattle.tree_shape.specs.declared.live.Live.{Live}
-use Rattle.tree_shape.specs.Insertion.{Rules, rules}
+use Rattle.tree_growth.specs.Insertion.{Rules, rules}
 use Rattle.page_store.specs.Reading.{nodes_of}
 use Rattle.insert_path.specs.Descent.{plan_of, Walks}
 use Rattle.insert_path.proofs.Final.{count_small, rules_same, fill_room, walks_given, walks_height, walks_writable, room_cause, has_walked}

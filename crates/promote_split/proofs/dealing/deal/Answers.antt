@@ -1,7 +1,7 @@
 use Rattle.std.proofs.Common.{rules}
-use Rattle.tree_shape.specs.declared.rules.Side.TheVariants.{Open}
-use Rattle.tree_shape.specs.Dealing.{size}
-use Rattle.tree_shape.specs.Dealing.{received}
+use Rattle.tree_growth.specs.declared.rules.Side.TheVariants.{Open}
+use Rattle.tree_growth.specs.Dealing.{size}
+use Rattle.tree_growth.specs.Dealing.{received}
 use Rattle.promote_split.proofs.Least.{turn_next}
 use Rattle.promote_split.proofs.dealing.deal.Goals as goal
 

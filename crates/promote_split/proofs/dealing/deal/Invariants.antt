@@ -1,7 +1,7 @@
 use Rattle.std.proofs.Common.{◌≡◌, ◌-◌, ◌<◌}
-use Rattle.tree_shape.specs.declared.rules.Side.TheVariants.{First, Second, Open}
-use Rattle.tree_shape.specs.Dealing.{size}
-use Rattle.tree_shape.specs.Dealing.{in_turn, received}
+use Rattle.tree_growth.specs.declared.rules.Side.TheVariants.{First, Second, Open}
+use Rattle.tree_growth.specs.Dealing.{size}
+use Rattle.tree_growth.specs.Dealing.{in_turn, received}
 use Rattle.promote_split.proofs.dealing.deal.Given as goal
 
 abbrev pub invariant-loop-turn : goal.invariant-loop-turn

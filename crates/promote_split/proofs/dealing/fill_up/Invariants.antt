@@ -1,5 +1,5 @@
 use Rattle.std.proofs.Common.{◌≡◌, ◌-◌}
-use Rattle.tree_shape.specs.Dealing.{in_turn, received, filled_up}
+use Rattle.tree_growth.specs.Dealing.{in_turn, received, filled_up}
 use Rattle.promote_split.proofs.dealing.fill_up.Given as goal
 
 abbrev pub invariant-loop-turn : goal.invariant-loop-turn

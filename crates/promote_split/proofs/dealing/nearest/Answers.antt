@@ -1,5 +1,5 @@
 use Rattle.std.proofs.Common.{length, rules, slice_index_or}
-use Rattle.tree_shape.specs.Dealing.{may_leave}
+use Rattle.tree_growth.specs.Dealing.{may_leave}
 use Rattle.promote_split.proofs.Least.{least_more}
 use Rattle.promote_split.proofs.dealing.nearest.Goals as goal
 

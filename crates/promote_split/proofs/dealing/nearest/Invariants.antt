@@ -1,7 +1,7 @@
 use Rattle.std.proofs.Common.{◌≡◌, ◌<◌, ◌-◌, length, slice_index_or}
 use Rattle.std.specs.Prelude.{filter, IfSome}
 use Rattle.std.specs.List.{range_with_len}
-use Rattle.tree_shape.specs.Dealing.{first_least, may_leave}
+use Rattle.tree_growth.specs.Dealing.{first_least, may_leave}
 use Rattle.promote_split.specs.Steps.{later}
 use Rattle.promote_split.proofs.dealing.nearest.Given as goal
 

@@ -1,5 +1,5 @@
 use Rattle.std.proofs.Common.{length}
-use Rattle.tree_shape.specs.Dealing.{is_on, side_at}
+use Rattle.tree_growth.specs.Dealing.{is_on, side_at}
 use Rattle.promote_split.proofs.Least.{filter_more}
 use Rattle.promote_split.proofs.dealing.places_on.Goals as goal
 

@@ -1,7 +1,7 @@
 use Rattle.std.proofs.Common.{◌≡◌, ◌++◌, ◌-◌, length}
 use Rattle.std.specs.Prelude.{filter}
 use Rattle.std.specs.List.{range_with_len}
-use Rattle.tree_shape.specs.Dealing.{is_on, side_at, members}
+use Rattle.tree_growth.specs.Dealing.{is_on, side_at, members}
 use Rattle.promote_split.proofs.dealing.places_on.Given as goal
 
 abbrev pub invariant-loop-i : goal.invariant-loop-i

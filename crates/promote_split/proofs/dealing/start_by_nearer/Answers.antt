@@ -1,6 +1,6 @@
 use Rattle.std.proofs.Common.{◌≡◌, rules, ◌++◌, ◌∷◌, []}
-use Rattle.tree_shape.specs.Dealing.{size}
-use Rattle.tree_shape.specs.Dealing.{nearer}
+use Rattle.tree_growth.specs.Dealing.{size}
+use Rattle.tree_growth.specs.Dealing.{nearer}
 use Rattle.promote_split.proofs.Least.{map_more}
 use Rattle.promote_split.proofs.dealing.start_by_nearer.Goals as goal
 

@@ -1,7 +1,7 @@
 use Rattle.std.proofs.Common.{◌≡◌, ◌++◌, ◌-◌, map, length}
 use Rattle.std.specs.List.{range_with_len}
-use Rattle.tree_shape.specs.Dealing.{size}
-use Rattle.tree_shape.specs.Dealing.{nearer, by_nearer}
+use Rattle.tree_growth.specs.Dealing.{size}
+use Rattle.tree_growth.specs.Dealing.{nearer, by_nearer}
 use Rattle.promote_split.proofs.dealing.start_by_nearer.Given as goal
 
 abbrev pub invariant-loop-i : goal.invariant-loop-i

@@ -1,5 +1,5 @@
 use Rattle.std.proofs.Common.{◌≡◌, rules, ◌++◌, ◌∷◌, []}
-use Rattle.tree_shape.specs.Dealing.{only_promoted}
+use Rattle.tree_growth.specs.Dealing.{only_promoted}
 use Rattle.promote_split.proofs.Least.{map_more}
 use Rattle.promote_split.proofs.dealing.start_open.Goals as goal
 

@@ -1,6 +1,6 @@
 use Rattle.std.proofs.Common.{◌≡◌, ◌++◌, ◌-◌, map, length}
 use Rattle.std.specs.List.{range_with_len}
-use Rattle.tree_shape.specs.Dealing.{only_promoted}
+use Rattle.tree_growth.specs.Dealing.{only_promoted}
 use Rattle.promote_split.proofs.dealing.start_open.Given as goal
 
 abbrev pub invariant-loop-i : goal.invariant-loop-i

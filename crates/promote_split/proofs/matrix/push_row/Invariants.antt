@@ -1,7 +1,7 @@
 use Rattle.std.proofs.Common.{◌≡◌, ◌++◌, ◌≤◌, map, drop}
 use Rattle.std.specs.List.{AllByRecursion}
 use Rattle.metric_laws.specs.Space.{bound}
-use Rattle.tree_shape.specs.Dealing.{Ball}
+use Rattle.tree_growth.specs.Dealing.{Ball}
 use Rattle.promote_split.specs.Tables.{HasCounted}
 use Rattle.promote_split.proofs.matrix.push_row.Given as goal
 

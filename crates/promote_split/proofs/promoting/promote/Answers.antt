@@ -1,6 +1,6 @@
 use Rattle.std.proofs.Common.{rules}
-use Rattle.tree_shape.specs.Dealing.{size}
-use Rattle.tree_shape.specs.Dealing.{pair_cost, pairs_with}
+use Rattle.tree_growth.specs.Dealing.{size}
+use Rattle.tree_growth.specs.Dealing.{pair_cost, pairs_with}
 use Rattle.promote_split.proofs.Least.{pairs_more}
 use Rattle.promote_split.proofs.promoting.promote.Goals as goal
 

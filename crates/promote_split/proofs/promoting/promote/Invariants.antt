@@ -1,7 +1,7 @@
 use Rattle.std.proofs.Common.{◌≡◌, ◌-◌}
 use Rattle.std.specs.List.{range_with_len, flat_map}
-use Rattle.tree_shape.specs.Dealing.{size, least_from}
-use Rattle.tree_shape.specs.Dealing.{pair_cost, pairs_with, pairs, IsPair}
+use Rattle.tree_growth.specs.Dealing.{size, least_from}
+use Rattle.tree_growth.specs.Dealing.{pair_cost, pairs_with, pairs, IsPair}
 use Rattle.promote_split.proofs.promoting.promote.Given as goal
 
 abbrev pub invariant-loop-a : goal.invariant-loop-a

@@ -1,6 +1,6 @@
 use Rattle.std.proofs.Common.{rules, length}
-use Rattle.tree_shape.specs.Dealing.{is_on}
-use Rattle.tree_shape.specs.Dealing.{side_at, reach}
+use Rattle.tree_growth.specs.Dealing.{is_on}
+use Rattle.tree_growth.specs.Dealing.{side_at, reach}
 use Rattle.promote_split.proofs.Least.{greatest_more}
 use Rattle.promote_split.proofs.promoting.radius_of.Goals as goal
 

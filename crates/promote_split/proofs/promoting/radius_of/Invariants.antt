@@ -2,8 +2,8 @@ use Rattle.std.proofs.Common.{◌≡◌, ◌≤◌, ◌-◌, map, length}
 use Rattle.std.specs.Prelude.{filter, max}
 use Rattle.std.specs.List.{range_with_len}
 use Rattle.metric_laws.specs.Space.{bound}
-use Rattle.tree_shape.specs.Dealing.{is_on}
-use Rattle.tree_shape.specs.Dealing.{side_at, greatest, group_radius, reach}
+use Rattle.tree_growth.specs.Dealing.{is_on}
+use Rattle.tree_growth.specs.Dealing.{side_at, greatest, group_radius, reach}
 use Rattle.promote_split.proofs.promoting.radius_of.Given as goal
 
 abbrev pub invariant-loop-i : goal.invariant-loop-i

@@ -1,6 +1,6 @@
 use Rattle.std.proofs.Common.{rules}
-use Rattle.tree_shape.specs.Dealing.{size}
-use Rattle.tree_shape.specs.Dealing.{pair_cost, IsPair}
+use Rattle.tree_growth.specs.Dealing.{size}
+use Rattle.tree_growth.specs.Dealing.{pair_cost, IsPair}
 use Rattle.promote_split.proofs.Least.{pair_more, cost_kept, pair_kept}
 use Rattle.promote_split.proofs.promoting.try_with.Goals as goal
 

@@ -1,7 +1,7 @@
 use Rattle.std.proofs.Common.{◌≡◌, ◌-◌, map}
 use Rattle.std.specs.List.{range_with_len}
-use Rattle.tree_shape.specs.Dealing.{size, least_from}
-use Rattle.tree_shape.specs.Dealing.{pair_cost, pairs_with, IsPair}
+use Rattle.tree_growth.specs.Dealing.{size, least_from}
+use Rattle.tree_growth.specs.Dealing.{pair_cost, pairs_with, IsPair}
 use Rattle.promote_split.proofs.promoting.try_with.Given as goal
 
 abbrev pub invariant-loop-b : goal.invariant-loop-b

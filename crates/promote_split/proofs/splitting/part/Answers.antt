@@ -1,6 +1,6 @@
 use Rattle.std.proofs.Common.{◌≡◌, rules, arith, ◌∷◌, reverse}
 use Rattle.std.proofs.lemmas.Grind.{common_steps}
-use Rattle.tree_shape.specs.declared.rules.Side.TheVariants.{First, Second}
+use Rattle.tree_growth.specs.declared.rules.Side.TheVariants.{First, Second}
 use Rattle.promote_split.proofs.Least.{half_more}
 use Rattle.promote_split.proofs.splitting.part.Goals as goal
 

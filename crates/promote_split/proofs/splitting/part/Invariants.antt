@@ -1,5 +1,5 @@
 use Rattle.std.proofs.Common.{◌≡◌, ◌+◌, ◌++◌, drop, length, reverse}
-use Rattle.tree_shape.specs.declared.rules.Side.TheVariants.{First, Second}
+use Rattle.tree_growth.specs.declared.rules.Side.TheVariants.{First, Second}
 use Rattle.promote_split.specs.Steps.{half_entries}
 use Rattle.promote_split.proofs.splitting.part.Given as goal
 

@@ -1,7 +1,7 @@
 use Rattle.std.proofs.Common.{◌≡◌, ◌<◌, ℕ, ◌∙◌, List, length, ap, sym, subst}
-use Rattle.tree_shape.specs.Bulk.{row_of}
-use Rattle.tree_shape.specs.Groups.{entry}
-use Rattle.tree_shape.proofs.Kept.{length_map}
+use Rattle.metric_laws.proofs.Lists.{length_map}
+use Rattle.tree_growth.specs.Bulk.{row_of}
+use Rattle.tree_growth.specs.Groups.{entry}
 use Rattle.bulk_load.specs.Measured.{Measured, points_of}
 use Rattle.bulk_load.proofs.Ahead.{far_is, points_long}
 use Rattle.bulk_load.proofs.distances.Distances.far.Goals as goal

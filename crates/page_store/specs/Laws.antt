@@ -1,0 +1,41 @@
+-- Laws of trees on pages.
+use Rattle.std.specs.Prelude.{◌≡◌, ℕ, ◌≤◌, List, ◌++◌}
+use Rattle.std.specs.List.{AllByRecursion}
+use Rattle.metric_laws.specs.Lists.{IsIn}
+use Rattle.metric_laws.specs.Space.{Space}
+use Rattle.tree_shape.specs.declared.live.Live.{Live}
+use Rattle.tree_shape.specs.Tree.{Nodes, IsNodePage, IsSoundTree, times}
+use Rattle.page_store.specs.declared.staging.Placed.{Placed}
+use Rattle.page_store.specs.Placing.{live_pages}
+use Rattle.page_store.specs.Reached.{IsReached, IsWholeTree, StandsOnPages}
+use Rattle.page_store.specs.Staging.{AreApart, pages_of}
+use Rattle.page_store.specs.Succession.{TakesPlace, StandsByItself, IsWritten, without}
+
+-- a sound tree is whole, on its pages in pre-order
+abbrev pub SoundTreesAreWhole : Type 0
+SoundTreesAreWhole = (s : Space) (nodes : Nodes) (t : Live) → IsSoundTree s nodes t → IsWholeTree nodes t (live_pages nodes t)
+
+-- a whole tree stands on its pages; and where a tree stands on pages, each page that is reached is one of them
+pub record TreesStandOnPages : Type 0 where
+  pub whole : (nodes : Nodes) (t : Live) (tree : List ℕ) → IsWholeTree nodes t tree → StandsOnPages nodes t tree
+  pub reached : (nodes : Nodes) (t : Live) (tree : List ℕ) (page : ℕ) → StandsOnPages nodes t tree → IsReached nodes t.root page → IsIn page tree
+
+-- new pages that may hold nodes, each once, none of which the live tree stands on
+pub record AreNew (t next : Live) (tree pages : List ℕ) : Type 0 where
+  pub within : AllByRecursion (IsNodePage next) pages
+  pub once : (page : ℕ) → times page pages ≤ 1
+  pub outside : (page : ℕ) → IsIn page pages → IsIn page tree → ⊥
+
+-- Where a tree stands on pages, and new nodes that take the place of the left ones are written to new pages, the next tree stands
+-- on the old pages but the left ones, and on the new ones.
+abbrev pub TreesGoOn : Type 0
+TreesGoOn =
+    (old new : Nodes) (t : Live) (tree : List ℕ) (placed : Placed) → StandsOnPages old t tree → t.pages ≤ placed.next.pages → TakesPlace old t placed →
+    AreNew t placed.next tree (pages_of placed.staged) → IsWritten old tree placed.staged new →
+    StandsOnPages new placed.next (without placed.left tree ++ pages_of placed.staged)
+
+-- where the new nodes stand by themselves, the next tree stands on the new pages alone
+abbrev pub NewTreesStand : Type 0
+NewTreesStand =
+    (old new : Nodes) (t : Live) (tree : List ℕ) (placed : Placed) → StandsByItself placed → AreNew t placed.next tree (pages_of placed.staged) → IsWritten old tree placed.staged new →
+    StandsOnPages new placed.next (pages_of placed.staged)

@@ -1,0 +1,12 @@
+pub mod Added
+pub mod Sized
+pub mod Fitting
+pub mod Loaded
+pub mod Fair
+pub mod TableRows
+pub mod Kept
+pub mod Lawful
+pub mod Entries
+pub mod LoadSound
+pub mod Parted
+pub mod Examples

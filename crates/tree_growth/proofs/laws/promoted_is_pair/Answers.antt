@@ -1,0 +1,5 @@
+use Rattle.tree_growth.proofs.Lawful.{promoted_pair}
+use Rattle.tree_growth.proofs.laws.promoted_is_pair.Goals as goal
+
+pub returns : goal.returns
+returns c = promoted_pair

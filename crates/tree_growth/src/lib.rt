@@ -1,0 +1,10 @@
+//! The rules by which a tree grows: insertion (VLDB 1997, sections 3.2 and 3.3), and this project's own bulk loading.
+#![tactic(auto)]
+
+pub mod laws;
+mod rules;
+
+pub use rules::{Aim, Group, Member, Side};
+
+#[cfg(test)]
+mod tests;

@@ -1,5 +1,0 @@
-use Rattle.tree_shape.proofs.Added.{chosen_low}
-use Rattle.tree_shape.proofs.laws.chosen_is_place.Goals as goal
-
-pub returns : goal.returns
-returns c = chosen_low

@@ -1,5 +1,0 @@
-use Rattle.tree_shape.proofs.Loaded.{load_keeps_objects}
-use Rattle.tree_shape.proofs.laws.load_keeps_objects.Goals as goal
-
-pub returns : goal.returns
-returns c = load_keeps_objects

@@ -1,5 +1,0 @@
-use Rattle.tree_shape.proofs.TableRows.{row_of_table}
-use Rattle.tree_shape.proofs.laws.row_has_distances.Goals as goal
-
-pub returns : goal.returns
-returns c = row_of_table
