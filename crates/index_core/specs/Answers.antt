@@ -1,17 +1,20 @@
 -- What the reading calls of an opened index answer, and why they refuse.
-use Rattle.std.specs.Prelude.{ℕ, min, List, length, IsTrue}
+use Rattle.std.specs.Prelude.{◌≡◌, ℕ, ◌+◌, ◌≤◌, min, List, [], ◌∷◌, length, IsTrue, Result, IfOk, IfErr, MatchResult}
 use Rattle.metric_laws.specs.Space.{Space, bound}
 use Rattle.disk_model.specs.Disk.{DiskState}
 use Rattle.scan_model.specs.declared.query.Query.{Query}
-use Rattle.tree_shape.specs.Tree.{IsSoundTree, points_by_id}
+use Rattle.tree_shape.specs.Tree.{IsSoundTree, points_by_id, tags_by_id}
 use Rattle.log_model.specs.declared.logs.Found.{Found}
 use Rattle.log_model.specs.Counts.{count_up, measured}
+use Rattle.log_model.specs.Laws.{scan_answers}
+use Rattle.log_model.specs.Sound.{IsLogOf, IsLeastLog}
 use Rattle.log_model.specs.Walk.{search_at}
 use Rattle.range_search.specs.Searched.{IsFound, HasWalkCause}
 use Rattle.nearest_search.specs.Searched.{HasNearestCause}
 use Rattle.index_core.specs.declared.faults.IndexFault.{IndexFault}
-use Rattle.index_core.specs.Causes.{HasReadCause}
-use Rattle.index_core.specs.Shapes.{HasShapeCause}
+use Rattle.tree_outline.specs.declared.outline.Shape.{Shape}
+use Rattle.tree_outline.specs.Shapes.{root_named, tree_lines, DrawsTo, IsCounted, HasShapeCause}
+use Rattle.index_core.specs.Causes.{HasReadCause, MayComeAnytime}
 use Rattle.index_core.specs.Files.{OpenFile, pages_on, nodes_on}
 
 -- the disk tells its bytes, and the live tree in them is sound in the space
@@ -21,6 +24,23 @@ IsSoundOn s file disk = IsTrue disk.tells × IsSoundTree s (nodes_on file disk) 
 -- the points of the objects, in order of id
 abbrev pub points_on : {M : Type 0} → OpenFile M → DiskState → List (List ℕ)
 points_on file disk = points_by_id (nodes_on file disk) file.live
+
+-- and their tags
+abbrev pub tags_on : {M : Type 0} → OpenFile M → DiskState → List ℕ
+tags_on file disk = tags_by_id (nodes_on file disk) file.live
+
+-- What a search finds on a sound file: the plain scan's answers and the least log of the query. The disk was read at most once per
+-- record of it.
+pub record IsAnswerOn {M : Type 0} (s : Space) (file : OpenFile M) (query : Query) (old new : DiskState) (found : Found) : Type 0 where
+  pub hits : found.hits ≡ scan_answers s query (points_on file old)
+  pub least : IsLeastLog s (nodes_on file old) file.live query found.log
+  pub reads : new.reads ≤ old.reads + length found.log.records
+
+-- What a search gives: a log of the query that can be spelled; on a sound file the answer, and no refusal but for the disk or memory.
+pub record HasSearched {M : Type 0} (s : Space) (file : OpenFile M) (query : Query) (old new : DiskState) (result : Result Found IndexFault) : Type 0 where
+  pub log : IfOk result (IsLogOf file.live query)
+  pub answer : IsSoundOn s file old → IfOk result (IsAnswerOn s file query old new)
+  pub undamaged : IsSoundOn s file old → IfErr result MayComeAnytime
 
 -- What a range search finds: where the disk tells its bytes, the least log of the query. The disk was read at most once per
 -- record of it.
@@ -39,3 +59,13 @@ HasReachCause file old new = HasReadCause (HasNearestCause file.live (pages_on f
 -- why the walk of a shape refuses: the disk failed, memory ran out, or the walk in pre-order came to a damaged page
 abbrev pub HasDrawCause : {M : Type 0} → OpenFile M → DiskState → DiskState → IndexFault → Type 0
 HasDrawCause file old new = HasReadCause (HasShapeCause file.live (pages_on file old 0) (pages_on file new (count_up 0 file.live.pages)))
+
+-- What the walk of a shape gives: a line for each node that the disk was read for; where the disk tells its bytes, the lines of the
+-- nodes that child numbers lead to, in pre-order; on a sound file those of the live tree, and no refusal but for the disk or memory.
+pub record HasDrawn {M : Type 0} (s : Space) (file : OpenFile M) (old new : DiskState) (result : Result Shape IndexFault) : Type 0 where
+  pub counted : IfOk result (IsCounted file.live)
+  pub reads : IfOk result (λ shape. new.reads ≤ old.reads + length shape.lines)
+  pub walk : IfOk result (λ shape. IsTrue old.tells → DrawsTo (nodes_on file old) (root_named file.live.root ∷ []) shape.lines [])
+  pub lines : IfOk result (λ shape. IsSoundOn s file old → shape.lines ≡ tree_lines (nodes_on file old) file.live)
+  pub cause : IfErr result (HasDrawCause file old new)
+  pub undamaged : IsSoundOn s file old → IfErr result MayComeAnytime

@@ -43,9 +43,10 @@ abbrev pub HasReadCause : (PageFault → Type 0) → IndexFault → Type 0
 HasReadCause walk Disk = walk page.Disk
 HasReadCause walk (Damaged fault) = IsDamage fault × walk fault
 HasReadCause walk Memory = Unit {0}
+HasReadCause walk _ = ⊥
 
 -- what may come at any time: the disk failed, or memory ran out
 abbrev pub MayComeAnytime : IndexFault → Type 0
 MayComeAnytime Disk = Unit {0}
 MayComeAnytime Memory = Unit {0}
-MayComeAnytime (Damaged fault) = ⊥
+MayComeAnytime _ = ⊥

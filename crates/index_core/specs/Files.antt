@@ -1,6 +1,6 @@
 -- What an opened index is, and on which disks it stands.
-use Rattle.std.specs.Prelude.{◌≡◌, ℕ, ◌≤◌, false, IsTrue, Option, MatchOption, All}
-use Rattle.disk_model.specs.Disk.{DiskState, LeavesOnly}
+use Rattle.std.specs.Prelude.{◌≡◌, ℕ, ◌≤◌, false, IsTrue, Option, Some, None, MatchOption, All}
+use Rattle.disk_model.specs.Disk.{DiskState, IsUnchanged}
 use Rattle.tree_shape.specs.declared.live.Live.{Live}
 use Rattle.tree_shape.specs.Tree.{Nodes}
 use Rattle.node_page.specs.declared.head.Head.{Head}
@@ -11,7 +11,7 @@ use Rattle.page_store.specs.Reading.{IsWithin, nodes_of}
 use Rattle.page_store.specs.Shelf.{Shelf}
 use Rattle.page_store.specs.Shelves.{disk_shelf}
 use Rattle.page_cache.specs.Keeping.{Pairs}
-use Rattle.index_core.specs.Lending.{KeptAgrees}
+use Rattle.index_core.specs.Lending.{KeptAgrees, SameRoom}
 
 -- an opened index: its head, its live slot, the metric that it was opened with, and what is kept of its pages, where
 -- something is
@@ -48,12 +48,9 @@ pub record IsLawfulFile {M : Type 0} (words : ℕ) (file : OpenFile M) : Type 0 
   pub live : (size : ℕ) × IsLawfulLive file.head.limit size file.live
   pub kept : IsLawfulKept file.head.dim file.live.pages file.kept
 
--- An index that is opened for writing stands on the disk alone: what the disk tells is all that a crash may leave.
-pub record StandsAlone {M : Type 0} (file : OpenFile M) (disk : DiskState) : Type 0 where
-  pub stands : StandsOn file disk
-  pub only : IsTrue disk.tells → LeavesOnly disk disk.bytes
-
--- an index that is opened for writing, and how many threads a load may use
-pub record OpenIndex (M : Type 0) : Type 0 where
-  pub file : OpenFile M
-  pub workers : ℕ
+-- a call only reads the disk, and changes nothing of the index but what is kept of its pages
+pub record OnlyReads {M : Type 0} (old new : OpenFile M) (before after : DiskState) : Type 0 where
+  pub rest : new ≡ record old { kept = new.kept }
+  pub room : SameRoom old.kept new.kept
+  pub same : IsUnchanged before after
+  pub later : before.faults ≤ after.faults

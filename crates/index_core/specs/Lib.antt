@@ -1,6 +1,6 @@
 pub mod Lending
 pub mod Files
+pub mod Index
 pub mod Causes
-pub mod Shapes
 pub mod Answers
 pub mod Still

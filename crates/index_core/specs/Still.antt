@@ -1,16 +1,17 @@
 -- An opened index stands on its disk as long as that is only read.
-use Rattle.std.specs.Prelude.{ℕ, ◌≤◌, List, Option, Some, None, refl}
+use Rattle.std.specs.Prelude.{ℕ, ◌≤◌, List, IsTrue, Option, MatchOption, Some, None, refl}
 use Rattle.std.proofs.Common.{sym, ap, ◌∙◌, subst}
 use Rattle.std.proofs.lemmas.List.Elements.{All-weaker}
 use Rattle.disk_model.specs.Disk.{DiskState, IsUnchanged}
 use Rattle.tree_shape.specs.declared.entry.Node.{Node}
 use Rattle.node_page.specs.Nodes.{IsLawfulNode}
 use Rattle.node_page.specs.Opening.{OpensTo}
-use Rattle.page_store.specs.Reading.{Read, IsWithin, reading}
+use Rattle.page_store.specs.Reading.{Read, IsWithin, nodes_of, reading}
 use Rattle.page_store.specs.Shelf.{Shelf, HoldsSame, IsNodeOf}
 use Rattle.page_cache.specs.Keeping.{Pairs}
 use Rattle.index_core.specs.Lending.{KeptAgrees}
-use Rattle.index_core.specs.Files.{OpenFile, StandsOn, StandsAlone, pages_on}
+use Rattle.index_core.specs.Files.{OpenFile, StandsOn, OnlyReads, pages_on, nodes_on}
+use Rattle.index_core.specs.Index.{OpenIndex, StandsAlone, AreSpare}
 
 node_still : (old new : Shelf) (page : ℕ) (node : Node) → HoldsSame old new → IsNodeOf old page node → IsNodeOf new page node
 node_still old new page node same is = record {
@@ -38,8 +39,15 @@ stands_still file old new same later stands = record {
   agrees = agrees_still file.kept (pages_on file old 0) (pages_on file new 0) (holds_same file old new same later) stands.agrees;
 }
 
-pub stands_alone_still : {M : Type 0} (file : OpenFile M) (old new : DiskState) → IsUnchanged old new → old.faults ≤ new.faults → StandsAlone file old → StandsAlone file new
-stands_alone_still file old new same later alone = record {
-  stands = stands_still file old new same later alone.stands;
-  only = λ tells image left. alone.only (rw (sym same.same_tells) tells) image ((same.same_images image).0 left) ∙ sym same.same_bytes;
+pub stands_alone_still : {M : Type 0} (index : OpenIndex M) (file : OpenFile M) (old new : DiskState) →
+    OnlyReads index.file file old new → StandsOn file new → StandsAlone index old → StandsAlone (record index { file = file }) new
+stands_alone_still {M} index file old new reads stands alone = record {
+  stands = stands;
+  only = λ tells image left. alone.only (before tells) image ((reads.same.same_images image).0 left) ∙ sym reads.same.same_bytes;
+  spare = λ tells. subst (λ (f : OpenFile M). MatchOption index.free (Unit {0}) (AreSpare (nodes_on f new) f.live)) (sym reads.rest)
+      (subst (λ (bytes : List ℕ). MatchOption index.free (Unit {0}) (AreSpare (nodes_of (reading index.file.head.dim index.file.live.pages bytes)) index.file.live)) (sym reads.same.same_bytes)
+      (alone.spare (before tells)));
 }
+  where
+    before : IsTrue new.tells → IsTrue old.tells
+    before tells = rw (sym reads.same.same_tells) tells

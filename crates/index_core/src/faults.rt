@@ -10,12 +10,31 @@ pub enum IndexFault {
     /// A page could not be read.
     #[error("the disk failed")]
     Disk,
-    /// The file is no sound index: a page holds no node, or is none of the file's, or is reached twice.
+    /// The file is no sound index: a page holds no node, or is none of the file's, or is reached twice, or an
+    /// insertion met a page at another level than its depth asks for.
     #[error("a damaged index: {0}")]
     Damaged(PageFault),
+    /// The index has as many objects as its head allows, or would have more.
+    #[error("the index is full")]
+    Full,
+    /// A load found objects.
+    #[error("the index has objects")]
+    NotEmpty,
+    /// The new nodes need so many pages more than the file has, and a file may have no more.
+    #[error("{needed} pages more than {pages} are too many")]
+    NoRoom { pages: u32, needed: u32 },
+    /// There is no further generation.
+    #[error("no further commit can be numbered")]
+    Worn,
+    /// A commit failed before: the file has to be opened anew.
+    #[error("a commit failed before")]
+    Stopped,
     /// There was no memory.
     #[error("out of memory")]
     Memory,
+    /// The disk failed in the commit: the file has the tree before or the one after, and has to be opened anew.
+    #[error("the commit failed")]
+    Commit,
 }
 
 // What the refusal of a walk is to whoever called the index.

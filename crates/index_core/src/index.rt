@@ -1,19 +1,18 @@
-ghost use Rattle.std.specs.Prelude.{◌≡◌, ◌≤◌, ◌⊎◌, ◌+◌, length, [], ◌∷◌, List, ℕ, IsTrue, IfOk, IfErr, OnOk, OnErr, None, Some};
+ghost use Rattle.std.specs.Prelude.{◌≡◌, ◌⊎◌, ◌+◌, ◌≤◌, [], false, true, List, ℕ, Err, IsTrue, IfOk, IfErr, OnOk, OnErr, None, Some};
 ghost use Rattle.lru.specs.LruCache.{lru_cache};
-ghost use Rattle.scan_model.specs.Scan.{range_hits, nearest_hits};
 ghost use Rattle.scan_model.specs.declared.query.Query.TheVariants.{Range, Nearest};
-ghost use Rattle.disk_model.specs.Disk.{MayLeave, LeavesOnly, EachImage, IsUnchanged};
-ghost use Rattle.log_model.specs.Sound.{IsLogOf, IsLeastLog};
+ghost use Rattle.disk_model.specs.Disk.{MayLeave, LeavesOnly, EachImage};
 ghost use Rattle.page_store.specs.Shelf.{Shelf};
-ghost use Rattle.index_core.specs.Files.{StandsAlone, IsLawfulFile, nodes_on};
-ghost use Rattle.index_core.specs.Causes.{HasReaderCause, MayComeAnytime};
+ghost use Rattle.index_core.specs.Files.{IsLawfulFile, OnlyReads};
+ghost use Rattle.index_core.specs.Index.{StandsAlone, MayGoOn};
+ghost use Rattle.index_core.specs.Causes.{HasReaderCause};
 ghost use Rattle.index_core.specs.Lending.{KeptAgrees};
-ghost use Rattle.index_core.specs.Answers.{IsSoundOn, points_on, IsFoundOn, HasRangeCause, HasReachCause, HasDrawCause};
-ghost use Rattle.index_core.specs.Shapes.{root_named, tree_lines, DrawsTo, IsCounted};
+ghost use Rattle.index_core.specs.Answers.{HasSearched, IsFoundOn, HasRangeCause, HasReachCause, HasDrawn};
 
-use crate::opened::Opened;
+use crate::view::View;
 use crate::{IndexFault, Memory, Shape};
 use disk_model::Disk;
+use free_pages::Free;
 use log_model::Found;
 use metric_laws::Metric;
 use node_page::Head;
@@ -22,35 +21,35 @@ use std::alloc::Global;
 use std::marker::Model;
 use tree_shape::Live;
 
-/// An index file that is opened for writing. It does not hold its disk, which each call that reads is lent. Contracts see
-/// what they see of a `View`, and how many threads a load may use.
+/// An index file that is opened for writing. It does not hold its disk, which each call that reads or writes is lent.
+/// Contracts see what they see of a `View`, the free list once it is made, whether the index is stopped, and how many threads
+/// a load may use.
 #[derive(Drop)]
 pub struct Index<M: Metric> {
-    opened: Opened<M>,
+    pub(crate) view: View<M>,
+    pub(crate) free: Option<Free>,
+    pub(crate) stopped: bool,
     workers: usize,
 }
 
 impl<M: Metric> Model for Index<M> {
-    ghost use Rattle.std.specs.Prelude.{◌≤◌};
-    ghost use Rattle.index_core.specs.Files.{OpenIndex};
+    ghost use Rattle.index_core.specs.Index.{OpenIndex, IsLawfulIndex};
 
     ghost Value = { OpenIndex M };
 
-    ghost view = { λ i. record { file = i.opened; workers = i.workers } };
+    ghost view = { λ i. record { file = i.view; free = i.free; stopped = i.stopped; workers = i.workers } };
 
-    ghost invariant = { λ i. (1 ≤ i.workers) × (i.workers ≤ 64) };
+    ghost invariant = { λ i. IsLawfulIndex (record { file = i.view; free = i.free; stopped = i.stopped; workers = i.workers }) };
 }
 
 impl<M: Metric> Index<M> {
     /// Opens an index file whose points this metric measures, after a sync: what a read gives then is all that a crash may
     /// leave. The faults are those of `View::open_read`, and `Disk` comes also where the sync failed. A load uses one
-    /// thread.
+    /// thread, and no free list is made yet.
     pub fn open_write<D: Disk>(disk: &mut D, metric: M) -> Result<Self, OpenFault>
-        ensures stands { IfOk result (λ index. StandsAlone index.file (D.state disk.new)) }
+        ensures stands { IfOk result (λ index. StandsAlone index (D.state disk.new)) }
         ensures lawful { IfOk result (λ index. IsLawfulFile (M.space metric).words index.file) }
-        ensures metric { IfOk result (λ index. index.file.metric ≡ metric) }
-        ensures none_kept { IfOk result (λ index. index.file.kept ≡ None) }
-        ensures workers { IfOk result (λ index. index.workers ≡ 1) }
+        ensures opened { IfOk result (λ index. index ≡ record { file = record index.file { metric = metric; kept = None }; free = None; stopped = false; workers = 1 }) }
         ensures cause { IfErr result (HasReaderCause (M.space metric).words (D.state disk.old) (D.state disk.new)) }
         ensures bytes { (D.state disk.new).bytes ≡ (D.state disk.old).bytes }
         ensures tells { (D.state disk.new).tells ≡ (D.state disk.old).tells }
@@ -64,8 +63,13 @@ impl<M: Metric> Index<M> {
         if disk.sync().is_err() {
             return Err(OpenFault::Disk);
         }
-        match Opened::open(disk, metric) {
-            Ok(opened) => Ok(Index { opened, workers: 1 }),
+        match View::open_read(disk, metric) {
+            Ok(view) => Ok(Index {
+                view,
+                free: None,
+                stopped: false,
+                workers: 1,
+            }),
             Err(fault) => Err(fault),
         }
     }
@@ -79,6 +83,15 @@ impl<M: Metric> Index<M> {
         self.workers = workers;
     }
 
+    /// How many threads a load may use.
+    pub fn workers(&self) -> usize
+        ensures is { result ≡ self.now.workers }
+        ensures some { 1 ≤ result }
+        ensures few { result ≤ 64 }
+    {
+        self.workers
+    }
+
     /// Keeps the nodes that are asked for last from now on, at most so many, of which there has to be one: a page whose node
     /// is kept is not read again. What was kept before is dropped. `Memory` changes nothing.
     pub fn use_cache(&mut self, alloc: Global, nodes: usize) -> Result<(), Memory>
@@ -88,40 +101,39 @@ impl<M: Metric> Index<M> {
         // Nothing is kept yet that a disk could gainsay.
         ensures agrees { OnOk result ((pages : Shelf) → KeptAgrees self.new.file.kept pages) }
     {
-        self.opened.use_cache(alloc, nodes)
+        self.view.use_cache(alloc, nodes)
     }
 
     /// How many objects there are.
     pub fn count(&self) -> u32
         ensures { result ≡ self.now.file.live.count }
     {
-        self.opened.live().count
+        self.view.count()
     }
 
     /// The live slot of the file.
     pub fn live(&self) -> Live
         ensures { result ≡ self.now.file.live }
     {
-        self.opened.live()
+        self.view.live()
     }
 
     /// The head of the file.
     pub fn head(&self) -> Head
         ensures { result ≡ self.now.file.head }
     {
-        self.opened.head()
+        self.view.head()
     }
 
     /// The metric with which the file was opened.
     pub fn metric(&self) -> M
         ensures { result ≡ self.now.file.metric }
     {
-        self.opened.metric()
+        self.view.metric()
     }
 
-    /// Every object within `r` of `q`, by distance, then by id, and the log that shows it. `Damaged` holds `Bad`, `Outside`
-    /// or `Repeats` with the page to which the walk came; none of these comes on a sound file. `Disk` comes where the disk
-    /// failed. The disk is read at most once per record of the log.
+    /// Every object within `r` of `q`, by distance, then by id, and the log that shows it. `Stopped` comes where a commit
+    /// failed before, and touches nothing. The other refusals are those of `View::range`.
     pub fn range<D: Disk>(
         &mut self,
         alloc: Global,
@@ -129,22 +141,23 @@ impl<M: Metric> Index<M> {
         q: &[u32],
         r: u64,
     ) -> Result<Found, IndexFault>
-        requires stands { StandsAlone self.old.file (D.state disk.old) }
+        requires stands { MayGoOn self.old (D.state disk.old) }
         requires point { IsTrue ((M.space self.old.file.metric).fits q.now) }
-        ensures stands { StandsAlone self.new.file (D.state disk.new) }
-        ensures rest { self.new ≡ record self.old { file = record self.old.file { kept = self.new.file.kept } } }
-        ensures same { IsUnchanged (D.state disk.old) (D.state disk.new) }
-        ensures later { (D.state disk.old).faults ≤ (D.state disk.new).faults }
+        ensures stopped { self.old.stopped ≡ true → (result ≡ Err IndexFault.Stopped) × (self.new ≡ self.old) × (disk.new ≡ disk.old) }
+        ensures stands { MayGoOn self.new (D.state disk.new) }
+        ensures reads { OnlyReads self.old.file self.new.file (D.state disk.old) (D.state disk.new) }
+        ensures rest { self.new ≡ record self.old { file = self.new.file } }
+        ensures searched { self.old.stopped ≡ false → HasSearched (M.space self.old.file.metric) self.old.file (Range q.now r) (D.state disk.old) (D.state disk.new) result }
         ensures found { IfOk result (IsFoundOn (M.space self.old.file.metric) self.old.file (Range q.now r) (D.state disk.old) (D.state disk.new)) }
-        ensures cause { IfErr result (HasRangeCause (M.space self.old.file.metric) self.old.file q.now r (D.state disk.old) (D.state disk.new)) }
-        ensures scanned { IfOk result (λ found. IsSoundOn (M.space self.old.file.metric) self.old.file (D.state disk.old) → found.hits ≡ range_hits (M.space self.old.file.metric) (points_on self.old.file (D.state disk.old)) q.now r) }
-        ensures sound { IfErr result (λ fault. IsSoundOn (M.space self.old.file.metric) self.old.file (D.state disk.old) → MayComeAnytime fault) }
+        ensures cause { self.old.stopped ≡ false → IfErr result (HasRangeCause (M.space self.old.file.metric) self.old.file q.now r (D.state disk.old) (D.state disk.new)) }
     {
-        self.opened.range(alloc, disk, q, r)
+        if self.stopped {
+            return Err(IndexFault::Stopped);
+        }
+        self.view.range(alloc, disk, q, r)
     }
 
     /// The `k` objects nearest to `q`, by distance, then by id, and the log that shows it. The refusals are those of `range`.
-    /// On a sound file the disk is read at most once per record of the log.
     pub fn nearest<D: Disk>(
         &mut self,
         alloc: Global,
@@ -152,39 +165,35 @@ impl<M: Metric> Index<M> {
         q: &[u32],
         k: u64,
     ) -> Result<Found, IndexFault>
-        requires stands { StandsAlone self.old.file (D.state disk.old) }
+        requires stands { MayGoOn self.old (D.state disk.old) }
         requires point { IsTrue ((M.space self.old.file.metric).fits q.now) }
         requires some { 1 ≤ k }
-        ensures stands { StandsAlone self.new.file (D.state disk.new) }
-        ensures rest { self.new ≡ record self.old { file = record self.old.file { kept = self.new.file.kept } } }
-        ensures same { IsUnchanged (D.state disk.old) (D.state disk.new) }
-        ensures later { (D.state disk.old).faults ≤ (D.state disk.new).faults }
-        ensures log { IfOk result (IsLogOf self.old.file.live (Nearest q.now k)) }
-        ensures scanned { IfOk result (λ found. IsSoundOn (M.space self.old.file.metric) self.old.file (D.state disk.old) → found.hits ≡ nearest_hits (M.space self.old.file.metric) (points_on self.old.file (D.state disk.old)) q.now k) }
-        ensures least { IfOk result (λ found. IsSoundOn (M.space self.old.file.metric) self.old.file (D.state disk.old) → IsLeastLog (M.space self.old.file.metric) (nodes_on self.old.file (D.state disk.old)) self.old.file.live (Nearest q.now k) found.log) }
-        ensures reads { IfOk result (λ found. IsSoundOn (M.space self.old.file.metric) self.old.file (D.state disk.old) → (D.state disk.new).reads ≤ (D.state disk.old).reads + length found.log.records) }
-        ensures cause { IfErr result (HasReachCause self.old.file (D.state disk.old) (D.state disk.new)) }
-        ensures sound { IfErr result (λ fault. IsSoundOn (M.space self.old.file.metric) self.old.file (D.state disk.old) → MayComeAnytime fault) }
+        ensures stopped { self.old.stopped ≡ true → (result ≡ Err IndexFault.Stopped) × (self.new ≡ self.old) × (disk.new ≡ disk.old) }
+        ensures stands { MayGoOn self.new (D.state disk.new) }
+        ensures reads { OnlyReads self.old.file self.new.file (D.state disk.old) (D.state disk.new) }
+        ensures rest { self.new ≡ record self.old { file = self.new.file } }
+        ensures searched { self.old.stopped ≡ false → HasSearched (M.space self.old.file.metric) self.old.file (Nearest q.now k) (D.state disk.old) (D.state disk.new) result }
+        ensures cause { self.old.stopped ≡ false → IfErr result (HasReachCause self.old.file (D.state disk.old) (D.state disk.new)) }
     {
-        self.opened.nearest(alloc, disk, q, k)
+        if self.stopped {
+            return Err(IndexFault::Stopped);
+        }
+        self.view.nearest(alloc, disk, q, k)
     }
 
-    /// The height, the number of objects, and of each node of the tree, in pre-order, its level, its number of entries, and
-    /// the routing point and the covering radius by which it is named. The refusals are those of `range`, where the walk by
-    /// child numbers comes to such a page.
+    /// The levels, numbers of entries, routing points and covering radii of the tree's nodes, in pre-order. The refusals are
+    /// those of `range`.
     pub fn shape<D: Disk>(&mut self, alloc: Global, disk: &mut D) -> Result<Shape, IndexFault>
-        requires stands { StandsAlone self.old.file (D.state disk.old) }
-        ensures stands { StandsAlone self.new.file (D.state disk.new) }
-        ensures rest { self.new ≡ record self.old { file = record self.old.file { kept = self.new.file.kept } } }
-        ensures same { IsUnchanged (D.state disk.old) (D.state disk.new) }
-        ensures later { (D.state disk.old).faults ≤ (D.state disk.new).faults }
-        ensures counted { IfOk result (IsCounted self.old.file.live) }
-        ensures reads { IfOk result (λ shape. (D.state disk.new).reads ≤ (D.state disk.old).reads + length shape.lines) }
-        ensures lines { IfOk result (λ shape. IsSoundOn (M.space self.old.file.metric) self.old.file (D.state disk.old) → shape.lines ≡ tree_lines (nodes_on self.old.file (D.state disk.old)) self.old.file.live) }
-        ensures walk { IfOk result (λ shape. IsTrue (D.state disk.old).tells → DrawsTo (nodes_on self.old.file (D.state disk.old)) (root_named self.old.file.live.root ∷ []) shape.lines []) }
-        ensures cause { IfErr result (HasDrawCause self.old.file (D.state disk.old) (D.state disk.new)) }
-        ensures sound { IfErr result (λ fault. IsSoundOn (M.space self.old.file.metric) self.old.file (D.state disk.old) → MayComeAnytime fault) }
+        requires stands { MayGoOn self.old (D.state disk.old) }
+        ensures stopped { self.old.stopped ≡ true → (result ≡ Err IndexFault.Stopped) × (self.new ≡ self.old) × (disk.new ≡ disk.old) }
+        ensures stands { MayGoOn self.new (D.state disk.new) }
+        ensures reads { OnlyReads self.old.file self.new.file (D.state disk.old) (D.state disk.new) }
+        ensures rest { self.new ≡ record self.old { file = self.new.file } }
+        ensures drawn { self.old.stopped ≡ false → HasDrawn (M.space self.old.file.metric) self.old.file (D.state disk.old) (D.state disk.new) result }
     {
-        self.opened.shape(alloc, disk)
+        if self.stopped {
+            return Err(IndexFault::Stopped);
+        }
+        self.view.shape(alloc, disk)
     }
 }

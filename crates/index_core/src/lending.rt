@@ -48,15 +48,19 @@ impl<P: Pages> Lent<P> {
 }
 
 impl<P: Pages> Pages for Lent<P> {
-    ghost use Rattle.index_core.specs.Lending.{lent_inner, lent_shelf};
+    ghost use Rattle.index_core.specs.Lending.{lent_inner, lent_kept, lent_shelf, SameRoom, same_room_by_none, same_room_by_both};
 
     ghost shelf = { λ l. lent_shelf P.shelf l };
 
-    ghost keeps = { λ l m. P.keeps (lent_inner l) (lent_inner m) };
+    // What the pages keep, and how many nodes may be kept.
+    ghost keeps = { λ l m. P.keeps (lent_inner l) (lent_inner m) × SameRoom (lent_kept l) (lent_kept m) };
 
-    ghost keeps_none = { λ l. P.keeps_none (lent_inner l) };
+    ghost keeps_none = { λ l. (P.keeps_none (lent_inner l), same_room_by_none (lent_kept l)) };
 
-    ghost keeps_both = { λ l m n first second. P.keeps_both (lent_inner l) (lent_inner m) (lent_inner n) first second };
+    ghost keeps_both = { λ l m n first second. (
+      P.keeps_both (lent_inner l) (lent_inner m) (lent_inner n) first.0 second.0,
+      same_room_by_both (lent_kept l) (lent_kept m) (lent_kept n) first.1 second.1,
+    ) };
 
     fn node(&mut self, alloc: Global, page: u32) -> Result<Node, PageFault> {
         match self {

@@ -1,16 +1,14 @@
-//! An index file opened for reading: searches, and the shape of its tree.
+//! An index file, opened for reading or for writing, without its disk.
 #![tactic(auto)]
 
 mod faults;
 mod index;
 mod lending;
-mod opened;
-mod shape;
 mod view;
 
 pub use faults::IndexFault;
 pub use index::Index;
-pub use shape::{Shape, ShapeLine};
+pub use tree_outline::{Shape, ShapeLine};
 pub use view::View;
 
 /// Want of memory.

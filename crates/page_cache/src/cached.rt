@@ -79,15 +79,18 @@ impl<P: Pages> Cached<P> {
 }
 
 impl<P: Pages> Pages for Cached<P> {
+    ghost use Rattle.std.specs.Prelude.{◌≡◌, refl};
+    ghost use Rattle.std.proofs.Common.{◌∙◌};
     ghost use Rattle.page_cache.specs.Cache.{asked_for};
 
     ghost shelf = { λ c. asked_for (P.shelf c.inner) c.asked };
 
-    ghost keeps = { λ c d. P.keeps c.inner d.inner };
+    // What the pages behind keep, and how many nodes may be kept.
+    ghost keeps = { λ c d. P.keeps c.inner d.inner × (d.kept.cap ≡ c.kept.cap) };
 
-    ghost keeps_none = { λ c. P.keeps_none c.inner };
+    ghost keeps_none = { λ c. (P.keeps_none c.inner, refl) };
 
-    ghost keeps_both = { λ c d e first second. P.keeps_both c.inner d.inner e.inner first second };
+    ghost keeps_both = { λ c d e first second. (P.keeps_both c.inner d.inner e.inner first.0 second.0, second.1 ∙ first.1) };
 
     /// The node of a page: a copy of the one that is kept, or what the pages behind give, which is kept then. A refusal
     /// changes nothing of what is kept, and nor does want of memory for what is to be kept. `Memory` comes also where
@@ -100,7 +103,7 @@ impl<P: Pages> Pages for Cached<P> {
         ensures same { HoldsSame (asked_for (P.shelf self.old.inner) self.old.asked) (asked_for (P.shelf self.new.inner) self.new.asked) }
         ensures asked { self.new.asked ≡ next_count self.old.asked }
         ensures reads { (P.shelf self.new.inner).reads ≤ (P.shelf self.old.inner).reads + 1 }
-        ensures keeps { P.keeps self.old.inner self.new.inner }
+        ensures keeps { P.keeps self.old.inner self.new.inner × (self.new.kept.cap ≡ self.old.kept.cap) }
 
         // What is kept of a page is answered, unless there is no memory for a copy, and the pages behind are not asked.
         ensures hit { (node : TheNode) → kept_node self.old.kept page ≡ Some node → MatchResult result (λ answer. answer ≡ node) (λ fault. fault ≡ NoMemory) }

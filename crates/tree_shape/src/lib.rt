@@ -8,7 +8,7 @@ mod live;
 
 pub use entry::{InnerEntry, LeafEntry, Node};
 pub use filling::{Bounds, fill};
-pub use live::Live;
+pub use live::{LAST_GENERATION, Live, MOST_PAGES, PAGE};
 
 #[cfg(test)]
 mod tests;

@@ -14,3 +14,12 @@ pub struct Live {
     /// The number of pages of the file that count; nodes stand below.
     pub pages: u32,
 }
+
+/// The last generation.
+pub const LAST_GENERATION: u64 = (1 << 48) - 1;
+
+/// The most pages of a file: 64 GiB.
+pub const MOST_PAGES: u32 = 1 << 24;
+
+/// The bytes of a page.
+pub const PAGE: usize = 4096;

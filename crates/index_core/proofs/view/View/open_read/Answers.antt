@@ -1,6 +1,6 @@
 use Rattle.std.proofs.Common.{inl, inr, refl}
 use Rattle.index_core.proofs.Opening.{is_first}
-use Rattle.index_core.proofs.opened.Opened.open.Goals as goal
+use Rattle.index_core.proofs.view.View.open_read.Goals as goal
 
 pub returns-then-head-ne2-clause-cause : goal.returns-then-head-ne2-clause-cause
 returns-then-head-ne2-clause-cause g c =

@@ -14,9 +14,9 @@ use Rattle.page_store.specs.declared.pages.PageFault.TheVariants.{Disk, Bad, Out
 use Rattle.page_store.specs.Reading.{IsWithin, is_within, nodes_of}
 use Rattle.page_store.specs.Shelf.{Shelf, HoldsSame, IsNodeOf}
 use Rattle.log_model.specs.Counts.{count_up}
-use Rattle.index_core.specs.declared.shape.Shape.{Shape}
-use Rattle.index_core.specs.declared.shape.ShapeLine.{ShapeLine}
-use Rattle.index_core.specs.declared.shape.Named.{Named}
+use Rattle.tree_outline.specs.declared.outline.Shape.{Shape}
+use Rattle.tree_outline.specs.declared.outline.ShapeLine.{ShapeLine}
+use Rattle.tree_outline.specs.declared.outline.Named.{Named}
 
 -- the root, and the node that an entry names
 abbrev pub root_named : ℕ → Named

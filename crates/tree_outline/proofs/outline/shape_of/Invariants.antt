@@ -1,6 +1,6 @@
 use Rattle.std.proofs.Common.{◌≡◌, ◌≤◌, ◌-◌, length, reverse}
-use Rattle.index_core.specs.Shapes.{IsDrawing}
-use Rattle.index_core.proofs.shape.shape_of.Given as goal
+use Rattle.tree_outline.specs.Shapes.{IsDrawing}
+use Rattle.tree_outline.proofs.outline.shape_of.Given as goal
 
 abbrev pub invariant-loop-named : goal.invariant-loop-named
 invariant-loop-named g l = record {

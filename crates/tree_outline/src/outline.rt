@@ -6,7 +6,7 @@ ghost use Rattle.tree_shape.specs.Tree.{IsSoundTree, inner_entries};
 ghost use Rattle.page_store.specs.Reading.{nodes_of};
 ghost use Rattle.page_store.specs.Shelf.{HoldsSame, HasPageCause, IsPassing};
 ghost use Rattle.log_model.specs.Counts.{count_up, entry_count};
-ghost use Rattle.index_core.specs.Shapes.{root_named, named_by, line_of, tree_lines, DrawsTo, HasShapeCause, IsCounted, IsDrawn};
+ghost use Rattle.tree_outline.specs.Shapes.{root_named, named_by, line_of, tree_lines, DrawsTo, HasShapeCause, IsCounted, IsDrawn};
 
 use metric_laws::{Listed, Point};
 use page_store::{Memory, PageFault, Pages};

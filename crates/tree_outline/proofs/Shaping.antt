@@ -20,9 +20,9 @@ use Rattle.page_store.specs.Shelf.{Shelf, HoldsSame, IsNodeOf, HasPageCause, IsP
 use Rattle.log_model.specs.Counts.{count_up}
 use Rattle.log_model.proofs.Reached.{count_up_more}
 use Rattle.log_model.proofs.Walk.{same_node}
-use Rattle.index_core.specs.declared.shape.ShapeLine.{ShapeLine}
-use Rattle.index_core.specs.declared.shape.Named.{Named}
-use Rattle.index_core.specs.Shapes.{root_named, named_by, line_of, lines_of, lines_at, tree_lines, IsDrawn, Spot, IsSoundSpot, AreFront, IsDrawing, DrawsTo, ComesTo, HasShapeCause}
+use Rattle.tree_outline.specs.declared.outline.ShapeLine.{ShapeLine}
+use Rattle.tree_outline.specs.declared.outline.Named.{Named}
+use Rattle.tree_outline.specs.Shapes.{root_named, named_by, line_of, lines_of, lines_at, tree_lines, IsDrawn, Spot, IsSoundSpot, AreFront, IsDrawing, DrawsTo, ComesTo, HasShapeCause}
 
 same_trans : (a b c : Shelf) → HoldsSame a b → HoldsSame b c → HoldsSame a c
 same_trans a b c first second = record {

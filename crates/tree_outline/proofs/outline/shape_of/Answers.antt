@@ -1,10 +1,10 @@
 use Rattle.std.proofs.Common.{◌≡◌, ◌∙◌, ◌∷◌, List, arith, length, sym, ap, subst, refl, reverse}
 use Rattle.std.proofs.lemmas.Grind.{common_steps}
-use Rattle.index_core.specs.declared.shape.Named.{Named}
-use Rattle.index_core.specs.declared.shape.ShapeLine.{ShapeLine}
-use Rattle.index_core.specs.Shapes.{IsDrawing, IsDrawn}
-use Rattle.index_core.proofs.Shaping.{begins, goes_on, has_room, passes, refused, repeats}
-use Rattle.index_core.proofs.shape.shape_of.Goals as goal
+use Rattle.tree_outline.specs.declared.outline.Named.{Named}
+use Rattle.tree_outline.specs.declared.outline.ShapeLine.{ShapeLine}
+use Rattle.tree_outline.specs.Shapes.{IsDrawing, IsDrawn}
+use Rattle.tree_outline.proofs.Shaping.{begins, goes_on, has_room, passes, refused, repeats}
+use Rattle.tree_outline.proofs.outline.shape_of.Goals as goal
 
 pub loop-named-init : goal.loop-named-init
 loop-named-init g c = record {

@@ -1,5 +1,5 @@
 use Rattle.std.proofs.Common.{◌∙◌, refl}
-use Rattle.index_core.proofs.opened.Opened.lend.Goals as goal
+use Rattle.index_core.proofs.view.View.lend.Goals as goal
 
 pub returns-clause-shelf : goal.returns-clause-shelf
 returns-clause-shelf g c =
