@@ -228,6 +228,15 @@ fn a_real_file_is_read_written_and_opened_again(rt: HostRuntime) -> Result<(), F
     Ok(())
 }
 
+// The system refuses to sync the null device, so a disk over it fails: a sync of a real file asks the system.
+#[test]
+fn a_sync_of_a_file_asks_the_system(rt: HostRuntime) -> Result<(), Fail> {
+    let mut disk = FileDisk::new(File::open(&rt, "/dev/null")?);
+    assert_eq!(rt; disk.size()?, 0);
+    assert_eq!(rt; disk.sync(), Err(Failed));
+    Ok(())
+}
+
 /// What every file has.
 struct Any;
 

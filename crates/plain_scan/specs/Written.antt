@@ -22,7 +22,7 @@ abbrev pub first_text : List (List ℕ) → List ℕ
 first_text [] = []
 first_text (t ∷ texts) = t
 
--- what one put of a text did, or its want of memory
+-- what a put of a text did, or its want of memory
 abbrev pub Puts : Option (List ℕ) → Option (List ℕ) → List ℕ → Result (Unit {0}) Stop → Type 0
 Puts old new text (Ok done) = Appends old new text
 Puts old new text (Err stop.Memory) = Keeps old new

@@ -64,7 +64,7 @@ fn answer<M: Metric, K: Sink>(
     }
 }
 
-/// Does each command of a script in turn on an empty list, and writes each reply by one put.
+/// Does each command of a script in turn on an empty list, and writes its reply.
 ///
 /// After [`Stop::Sink`] a front of the next reply may be written; [`Stop::Memory`] comes only for want of memory.
 pub fn run_script<M: Metric, K: Sink>(

@@ -26,7 +26,7 @@ loop-i-preserved g c =
           (apart_at staged c.are_apart.ensures) (written (told tells)) (i.in_place tells);
       long = λ tells. long_more staged c.loop-i.i here (4096 * c.from.result) c.encode_node.new.page mid.bytes new.bytes stands place size (written (told tells)) (i.long tells);
       reads = c.write_at.ensures.reads ∙ i.reads;
-      faults = omega (arith, i.faults, c.write_at.ensures.cause.later);
+      faults = c.in_ok-write_at.ensures.cause.done ∙ i.faults;
     }
 
 pub returns-in_err-write_at-clause-images : goal.returns-in_err-write_at-clause-images

@@ -14,5 +14,5 @@ invariant-loop-i g l = record {
   in_place : IsTrue (g.D.Disk.state l.fn.disk).tells → (k : ℕ) (s : StagedNode) → k < l.i → IsStagedAs l.staged k s → SpellsNode l.dim (page_of (g.D.Disk.state l.disk).bytes s.page) s.node;
   long : IsTrue (g.D.Disk.state l.fn.disk).tells → (k : ℕ) (s : StagedNode) → k < l.i → IsStagedAs l.staged k s → 4096 * s.page + 4096 ≤ length (g.D.Disk.state l.disk).bytes;
   reads : (g.D.Disk.state l.disk).reads ≡ (g.D.Disk.state l.fn.disk).reads;
-  faults : (g.D.Disk.state l.fn.disk).faults ≤ (g.D.Disk.state l.disk).faults;
+  faults : (g.D.Disk.state l.disk).faults ≡ (g.D.Disk.state l.fn.disk).faults;
 }
