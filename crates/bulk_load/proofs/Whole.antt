@@ -21,7 +21,7 @@ use Rattle.page_store.specs.declared.staging.StagedNode.{StagedNode}
 use Rattle.page_store.specs.declared.staging.Placed.{Placed}
 use Rattle.page_store.specs.Numbers.{number_at, numbered, AreNumbers}
 use Rattle.page_store.specs.Placing.{live_pages, AreOutside, staged_tree}
-use Rattle.page_store.proofs.Standing.{HoldsFrom, pages_from, trees_from, trees_numbered, stand_holds, in_times, times_in, all_times}
+use Rattle.page_store.proofs.Standing.{HoldsFrom, pages_from, trees_from, trees_numbered, stand_holds, in_times, times_in, all_each}
 use Rattle.page_store.proofs.Given.{number_up, number_within, given_once}
 use Rattle.page_store.proofs.Giving.{given_out, given_apart, given_each}
 use Rattle.page_store.proofs.Stored.{IsStoredAt, sound_of_stored}
@@ -82,7 +82,7 @@ module _ (l : Load) (space : IsSpace l.space) (lawful : IsLawfulLoad l) (number 
     parts = sound_of_stored l.space new next.height (root_least next.height) None next.root
         (subst (λ (k : ℕ). IsStoredAt l.space new next.height None k) (sym at_root) (subst (λ (k : ℕ). IsStoredAt l.space new k None (last_of number 0 (top_nodes l number))) (sym at_height) is.stored))
         (subst (IsSoundTall l.space) (sym next_tree) (load_is_sound l.space space l.points l.tags lawful.fits));
-    within = all_times (IsNodePage next) (live_pages new next) (λ n k.
+    within = all_each (IsNodePage next) (live_pages new next) (λ n k.
         let here = in_times n (live_pages new next) k in let same = next_pages n in
         all_in (IsNodePage next) (pages_from number 0 (top_nodes l number)) n (given_each (IsNodePage next) number 0 (length (top_nodes l number)) (top_nodes l number) (omega arith) within)
         (times_in n (pages_from number 0 (top_nodes l number)) (omega (arith, here, same))));

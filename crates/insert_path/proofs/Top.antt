@@ -35,7 +35,7 @@ use Rattle.insert_path.proofs.Rooted.{tall, root_holds, root_tree, root_stored, 
 use Rattle.insert_path.proofs.Listing.{ids_more, placed_all, old_one, new_one, points_more, tags_more}
 use Rattle.page_store.specs.Placing.{live_pages, staged_tree, IsOver}
 use Rattle.page_store.specs.Numbers.{numbered}
-use Rattle.page_store.proofs.Standing.{HoldsFrom, trees_from, pages_from, stand_holds, trees_numbered, in_times, times_in, all_times}
+use Rattle.page_store.proofs.Standing.{HoldsFrom, trees_from, pages_from, stand_holds, trees_numbered, in_times, times_in, all_each}
 use Rattle.page_store.proofs.Given.{lower_or, given_once, free_none}
 use Rattle.page_store.proofs.Giving.{given_free, given_apart, given_each}
 
@@ -104,7 +104,7 @@ module _ (P : Plan) (shelf : Shelf) (tells : IsTrue shelf.tells) (t : Live) (lef
           (subst (λ (k : ℕ). IsStoredAt P.space new next.height None k) (sym at_root) (subst (λ (k : ℕ). IsStoredAt P.space new k None root) (sym at_height)
           (new_stored (stored_of_sound P.space (nodes_of shelf.read) t.height (root_least t.height) None t.root sound.parts))))
           now_sound;
-      within = all_times (IsNodePage next) (live_pages new next) (λ n k.
+      within = all_each (IsNodePage next) (live_pages new next) (λ n k.
           lower_or 0 (times n (live_pages (nodes_of shelf.read) t))
           (λ some. let old = all_in (IsNodePage t) (live_pages (nodes_of shelf.read) t) n sound.within (times_in n (live_pages (nodes_of shelf.read) t) some) in let a = old.0 in let b = old.1 in let w = wide in (a, omega (arith, b, w)))
           (λ none. let here = in_times n (live_pages new next) k in let sum = balance n in

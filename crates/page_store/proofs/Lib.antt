@@ -5,3 +5,6 @@ pub mod Standing
 pub mod Giving
 pub mod Stored
 pub mod Ids
+pub mod Named
+pub mod Whole
+pub mod Following

@@ -92,6 +92,6 @@ times_in n (x ∷ xs) k = cases (x == n) refl (times_in n xs) k
     cases true e ih k = inl (let s : n ≡ x = grind (arith, nat_tests) in s)
     cases false e ih k = inr (ih (omega arith))
 
-pub all_times : (Q : ℕ → Type 0) (xs : List ℕ) → ((n : ℕ) → IsIn n xs → Q n) → AllByRecursion Q xs
-all_times Q [] each = tt
-all_times Q (x ∷ xs) each = (each x (inl refl), all_times Q xs (λ n k. each n (inr k)))
+pub all_each : {X : Type 0} (Q : X → Type 0) (xs : List X) → ((x : X) → IsIn x xs → Q x) → AllByRecursion Q xs
+all_each Q [] each = tt
+all_each Q (x ∷ xs) each = (each x (inl refl), all_each Q xs (λ y k. each y (inr k)))

@@ -1,15 +1,17 @@
 -- Laws of trees on pages.
-use Rattle.std.specs.Prelude.{◌≡◌, ℕ, ◌≤◌, List, ◌++◌}
+use Rattle.std.specs.Prelude.{ℕ, ◌≤◌, List, ◌++◌}
 use Rattle.std.specs.List.{AllByRecursion}
 use Rattle.metric_laws.specs.Lists.{IsIn}
 use Rattle.metric_laws.specs.Space.{Space}
 use Rattle.tree_shape.specs.declared.live.Live.{Live}
 use Rattle.tree_shape.specs.Tree.{Nodes, IsNodePage, IsSoundTree, times}
+use Rattle.node_page.specs.declared.head.Head.{Head}
 use Rattle.page_store.specs.declared.staging.Placed.{Placed}
-use Rattle.page_store.specs.Placing.{live_pages}
+use Rattle.page_store.specs.Numbers.{AreNumbers}
+use Rattle.page_store.specs.Placing.{IsPlacement, live_pages}
 use Rattle.page_store.specs.Reached.{IsReached, IsWholeTree, StandsOnPages}
-use Rattle.page_store.specs.Staging.{AreApart, pages_of}
-use Rattle.page_store.specs.Succession.{TakesPlace, StandsByItself, IsWritten, without}
+use Rattle.page_store.specs.Staging.{pages_of}
+use Rattle.page_store.specs.Succession.{ShareNone, TakesPlace, StandsByItself, IsWritten, without}
 
 -- a sound tree is whole, on its pages in pre-order
 abbrev pub SoundTreesAreWhole : Type 0
@@ -20,22 +22,28 @@ pub record TreesStandOnPages : Type 0 where
   pub whole : (nodes : Nodes) (t : Live) (tree : List ℕ) → IsWholeTree nodes t tree → StandsOnPages nodes t tree
   pub reached : (nodes : Nodes) (t : Live) (tree : List ℕ) (page : ℕ) → StandsOnPages nodes t tree → IsReached nodes t.root page → IsIn page tree
 
--- new pages that may hold nodes, each once, none of which the live tree stands on
-pub record AreNew (t next : Live) (tree pages : List ℕ) : Type 0 where
+-- these pages may hold nodes of the next tree, each stands here once, and the live tree stands on none of them
+pub record AreNew (next : Live) (tree pages : List ℕ) : Type 0 where
   pub within : AllByRecursion (IsNodePage next) pages
   pub once : (page : ℕ) → times page pages ≤ 1
-  pub outside : (page : ℕ) → IsIn page pages → IsIn page tree → ⊥
+  pub outside : ShareNone pages tree
+
+-- what is placed has new pages, where the live tree stands on none of the pages that were handed in
+abbrev pub PlacementsAreNew : Type 0
+PlacementsAreNew =
+    (head : Head) (t : Live) (tree numbers : List ℕ) (added : ℕ) (placed : Placed) → AllByRecursion (IsNodePage t) tree → AreNumbers t.pages numbers →
+    ShareNone numbers tree → IsPlacement head t numbers added placed → AreNew placed.next tree (pages_of placed.staged)
 
 -- Where a tree stands on pages, and new nodes that take the place of the left ones are written to new pages, the next tree stands
 -- on the old pages but the left ones, and on the new ones.
 abbrev pub TreesGoOn : Type 0
 TreesGoOn =
     (old new : Nodes) (t : Live) (tree : List ℕ) (placed : Placed) → StandsOnPages old t tree → t.pages ≤ placed.next.pages → TakesPlace old t placed →
-    AreNew t placed.next tree (pages_of placed.staged) → IsWritten old tree placed.staged new →
+    AreNew placed.next tree (pages_of placed.staged) → IsWritten old tree placed.staged new →
     StandsOnPages new placed.next (without placed.left tree ++ pages_of placed.staged)
 
 -- where the new nodes stand by themselves, the next tree stands on the new pages alone
 abbrev pub NewTreesStand : Type 0
 NewTreesStand =
-    (old new : Nodes) (t : Live) (tree : List ℕ) (placed : Placed) → StandsByItself placed → AreNew t placed.next tree (pages_of placed.staged) → IsWritten old tree placed.staged new →
+    (old new : Nodes) (tree : List ℕ) (placed : Placed) → StandsByItself placed → AreNew placed.next tree (pages_of placed.staged) → IsWritten old tree placed.staged new →
     StandsOnPages new placed.next (pages_of placed.staged)

@@ -8,6 +8,6 @@ pub mod Kept
 pub mod Answers
 pub mod Shelves
 pub mod Numbers
-pub mod Placing
 pub mod Succession
+pub mod Placing
 pub mod Laws

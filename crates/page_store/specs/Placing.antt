@@ -1,5 +1,5 @@
 -- What new nodes make of a file.
-use Rattle.std.specs.Prelude.{◌⊎◌, ◌≡◌, ℕ, ◌+◌, ◌-◌, ◌*◌, ◌^◌, ◌<◌, ◌≤◌, List, length, map, None, Some}
+use Rattle.std.specs.Prelude.{◌⊎◌, ◌≡◌, ℕ, ◌+◌, ◌-◌, ◌*◌, ◌^◌, ◌<◌, ◌≤◌, List, length, map}
 use Rattle.std.specs.List.{AllByRecursion, range_with_len}
 use Rattle.metric_laws.specs.Lists.{IsIn}
 use Rattle.tree_shape.specs.declared.live.Live.{Live}
@@ -13,7 +13,8 @@ use Rattle.node_page.specs.declared.head.Head.{Head}
 use Rattle.page_store.specs.declared.staging.Placed.{Placed}
 use Rattle.page_store.specs.declared.staging.StagedNode.{StagedNode}
 use Rattle.page_store.specs.Reading.{IsWithin}
-use Rattle.page_store.specs.Staging.{pages_of, staged_for}
+use Rattle.page_store.specs.Staging.{pages_of}
+use Rattle.page_store.specs.Succession.{IsWritten}
 use Rattle.page_store.specs.Numbers.{number_at}
 use Rattle.page_store.specs.declared.settling.RoomFault.{RoomFault}
 use Rattle.page_store.specs.declared.settling.RoomFault.TheVariants.{NoRoom, Memory}
@@ -35,9 +36,8 @@ abbrev pub AreOutside : Nodes → Live → List ℕ → Type 0
 AreOutside nodes t pages = AllByRecursion (λ n. times n (live_pages nodes t) ≡ 0) pages
 
 -- a file's nodes after a commit: the staged nodes stand on their pages, and each other page of the old live tree is as it was
-pub record IsOver (old : Nodes) (t : Live) (staged : List StagedNode) (new : Nodes) : Type 0 where
-  pub stand : AllByRecursion (λ s. new s.page ≡ Some s.node) staged
-  pub stay : (page : ℕ) → IsIn page (live_pages old t) → staged_for staged page ≡ None → new page ≡ old page
+abbrev pub IsOver : Nodes → Live → List StagedNode → Nodes → Type 0
+IsOver old t staged new = IsWritten old (live_pages old t) staged new
 
 -- what is placed can be committed: the next live slot, which has so many objects more, and the staged nodes, node i on page i
 -- of the numbers and then from the end on

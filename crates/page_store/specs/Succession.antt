@@ -27,6 +27,10 @@ pub record StandsByItself (placed : Placed) : Type 0 where
   pub root : IsIn placed.next.root (pages_of placed.staged)
   pub names : (page : ℕ) → times page (placed.next.root ∷ named_by placed.staged) ≡ times page (pages_of placed.staged)
 
+-- no page is one of both
+abbrev pub ShareNone : List ℕ → List ℕ → Type 0
+ShareNone pages tree = (page : ℕ) → IsIn page pages → IsIn page tree → ⊥
+
 -- some pages without these
 abbrev pub without : List ℕ → List ℕ → List ℕ
 without left tree = filter (λ page. times page left == 0) tree

@@ -4,6 +4,7 @@
 
 mod disk_pages;
 mod image_pages;
+pub mod laws;
 mod numbering;
 mod pages;
 mod reading;

@@ -1,6 +1,6 @@
 ghost use Rattle.std.specs.Prelude.{◌≡◌, length, IfOk};
 
-use crate::{DiskPages, ImagePages, PageFault, Pages, Staged};
+use crate::{DiskPages, ImagePages, PageFault, Pages, Staged, laws};
 use disk_model::MemoryDisk;
 use metric_laws::Listed;
 use node_page::NodeFault;
@@ -86,5 +86,10 @@ fn nodes_are_staged(rt: HostRuntime) -> Result<(), Fail> {
     assert_eq!(rt; staged.get(7).is_some(), true);
     assert_eq!(rt; staged.get(8).is_none(), true);
     staged.are_apart();
+    laws::sound_trees_are_whole();
+    laws::trees_stand_on_pages();
+    laws::placements_are_new();
+    laws::trees_go_on();
+    laws::new_trees_stand();
     Ok(())
 }
