@@ -8,3 +8,4 @@ pub mod Listing
 pub mod NodeLaws
 pub mod Putting
 pub mod Written
+pub mod OneNode

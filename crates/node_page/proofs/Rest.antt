@@ -1,7 +1,8 @@
 -- Bytes that are 0.
-use Rattle.std.proofs.Common.{◌≡◌, inl, inr, ℕ, zero, suc, ◌+◌, ◌<◌, ◌≤◌, Bool, true, false, List, slice_index, refl, arith}
+use Rattle.std.proofs.Common.{◌≡◌, inl, inr, ℕ, zero, suc, ◌+◌, ◌-◌, ◌<◌, ◌≤◌, ◌==◌, Bool, true, false, List, take, drop, slice_index, refl, sym, ◌∙◌, arith, eq-eqb}
+use Rattle.std.proofs.lemmas.List.{get_or-drop, get_or-take}
 use Rattle.std.proofs.lemmas.Bool.Decides.{nat_tests}
-use Rattle.std.proofs.lemmas.Bool.{cases_lt}
+use Rattle.std.proofs.lemmas.Bool.{cases_lt, eqb-true}
 use Rattle.node_page.specs.Bytes.{AreZero, are_zero}
 
 -- the test says that the bytes are 0
@@ -29,3 +30,29 @@ not_by_place at n k page from to differs = by_cases (are_zero at n page) refl
     by_cases : (b : Bool) → are_zero at n page ≡ b → are_zero at n page ≡ false
     by_cases true is = absurd (differs (zero_by_test at n page is k from to))
     by_cases false is = is
+
+same_tests : (a b : Bool) → (a ≡ true → b ≡ true) → (b ≡ true → a ≡ true) → a ≡ b
+same_tests true b f g = sym (f refl)
+same_tests false true f g = g refl
+same_tests false false f g = refl
+
+-- The bytes of a part of a page are 0 exactly where a number is that is at least each of them, and 0 where they all are.
+pub test_in_part : (at n : ℕ) (page : List ℕ) (any i : ℕ) → i ≡ n → ((k : ℕ) → k < i → slice_index (take n (drop at page)) k ≤ any)
+    → (((k : ℕ) → k < i → slice_index (take n (drop at page)) k ≡ 0) → any ≡ 0) → (any == 0) ≡ are_zero at n page
+test_in_part at n page any i whole least none = same_tests (any == 0) (are_zero at n page) all_zero nothing
+  where
+    place : (k : ℕ) → k < n → slice_index (take n (drop at page)) k ≡ slice_index page (at + k)
+    place k below = get_or-take n (drop at page) k 0 below ∙ get_or-drop at page k 0
+
+    low : any ≡ 0 → (k : ℕ) → k < n → slice_index page (at + k) ≤ 0
+    low zero_is k below = omega (arith, place k below, least k (omega arith))
+
+    all_zero : (any == 0) ≡ true → are_zero at n page ≡ true
+    all_zero is = test_by_zero at n page (λ k from to.
+        let there : at + (k - at) ≡ k = omega arith in
+        let le : slice_index page (at + (k - at)) ≤ 0 = low (eqb-true any 0 is) (k - at) (omega arith) in
+        let here : slice_index page k ≤ 0 = rw (← there) le in
+        omega (arith, here))
+
+    nothing : are_zero at n page ≡ true → (any == 0) ≡ true
+    nothing is = eq-eqb any 0 (none (λ k below. place k (omega arith) ∙ zero_by_test at n page is (at + k) (omega arith) (omega arith)))

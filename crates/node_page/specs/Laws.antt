@@ -1,13 +1,14 @@
--- Laws of the spellings of heads and slots, and of the files that open.
+-- Laws of the spellings of heads, slots and nodes, and of the files that open.
 use Rattle.std.specs.Prelude.{◌≡◌, ◌↔◌, ℕ, ◌<◌, List, length, slice_index, IsTrue, None}
 use Rattle.tree_shape.specs.declared.live.Live.{Live}
 use Rattle.node_page.specs.Heads.{SpellsHead, head_fault}
 use Rattle.node_page.specs.Slots.{SpellsSlot}
 use Rattle.node_page.specs.Opening.{OpensTo, open_fault, live_of}
-use Rattle.node_page.specs.Nodes.{SpellsNode, node_fault, SpellsOldNode, old_node_fault}
+use Rattle.node_page.specs.Nodes.{SpellsIn, SpellsNode, node_fault, SpellsOldNode, old_node_fault}
 use Rattle.tree_shape.specs.declared.entry.Node.{Node}
 use Rattle.node_page.specs.declared.head.Head.{Head}
 use Rattle.node_page.specs.declared.slot.Slot.{Slot}
+use Rattle.node_page.specs.declared.node.Version.{Version}
 
 -- 4096 bytes
 pub record IsPage (page : List ℕ) : Type 0 where
@@ -45,3 +46,9 @@ FaultIsNoNode = (dim : ℕ) (page : List ℕ) → (node_fault dim page ≡ None)
 -- a page of the first version has no fault exactly where it spells some node
 abbrev pub FaultIsNoOldNode : Type 0
 FaultIsNoOldNode = (dim : ℕ) (page : List ℕ) → (old_node_fault dim page ≡ None) ↔ ((node : Node) × SpellsOldNode dim page node)
+
+-- pages that spell one node, both by one version, are one page
+abbrev pub OneNodePage : Type 0
+OneNodePage =
+    (version : Version) (dim : ℕ) (one other : List ℕ) (node : Node) → IsPage one → IsPage other →
+    SpellsIn version dim one node → SpellsIn version dim other node → one ≡ other

@@ -19,12 +19,11 @@ pub fn are_zero(page: &[u8], from: usize, to: usize) -> bool
     requires within { to ≤ length page.now }
     ensures { result ≡ are_zero from (to - from) page.now }
 {
-    for at in from..to {
-        if page[at] != 0 {
-            return false;
-        }
+    let mut any = 0u8;
+    for byte in &page[from..to] {
+        any |= *byte;
     }
-    true
+    any == 0
 }
 
 // The number in two bytes.

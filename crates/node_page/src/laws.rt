@@ -1,6 +1,6 @@
 //! Laws of the spellings of heads, slots and nodes, and of the files that open.
 
-ghost use Rattle.node_page.specs.Laws.{FaultIsNoHead, FaultIsNoNode, FaultIsNoOldNode, OneHeadPage, OneSlotPage, FaultIsNotOpen, OneLiveSlot};
+ghost use Rattle.node_page.specs.Laws.{FaultIsNoHead, FaultIsNoNode, FaultIsNoOldNode, OneHeadPage, OneSlotPage, OneNodePage, FaultIsNotOpen, OneLiveSlot};
 
 /// A page has no fault exactly where it spells a head.
 pub fn fault_is_no_head()
@@ -25,6 +25,11 @@ pub fn fault_is_no_node()
 /// A page of the first version has no fault exactly where it spells a node over points of so many coordinates.
 pub fn fault_is_no_old_node()
     ensures { FaultIsNoOldNode }
+{}
+
+/// A node has one page by each version.
+pub fn one_node_page()
+    ensures { OneNodePage }
 {}
 
 /// The bytes of a file have no fault exactly where they open to some head and some live slot.

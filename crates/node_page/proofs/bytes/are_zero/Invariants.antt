@@ -1,5 +1,9 @@
 use Rattle.std.proofs.Common.{◌≡◌, ℕ, ◌<◌, ◌≤◌, slice_index}
 use Rattle.node_page.proofs.bytes.are_zero.Given as goal
 
-abbrev pub invariant-loop-at : goal.invariant-loop-at
-invariant-loop-at l = (k : ℕ) → l.from ≤ k → k < l.at → slice_index l.page k ≡ 0
+-- the bytes so far are 0 exactly where all of them together are
+abbrev pub invariant-loop-byte : goal.invariant-loop-byte
+invariant-loop-byte l = record {
+  least : (k : ℕ) → k < l.byte-index → slice_index l.byte-items k ≤ l.any;
+  none : ((k : ℕ) → k < l.byte-index → slice_index l.byte-items k ≡ 0) → l.any ≡ 0;
+}
