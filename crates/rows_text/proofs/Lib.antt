@@ -6,3 +6,4 @@ pub mod FieldsLemmas
 pub mod LoadLemmas
 pub mod StartLemmas
 pub mod ReadableLemmas
+pub mod Unhindered

@@ -1,6 +1,6 @@
 -- What each command does to a list of objects and to the open cursors, and what it is answered.
-use Rattle.std.specs.Prelude.{◌≡◌, ℕ, zero, suc, ◌+◌, Bool, true, List, [], ◌∷◌, ◌++◌, length, map, take, drop, filter, find, not, ◌==◌, nat_lt, slice_index_or, Option, Some, None, if◌then◌else◌}
-use Rattle.std.specs.List.{list_all}
+use Rattle.std.specs.Prelude.{◌≡◌, ℕ, zero, suc, ◌+◌, Bool, true, false, List, [], ◌∷◌, ◌++◌, length, map, take, drop, filter, find, not, ◌==◌, nat_lt, slice_index_or, Option, Some, None, if◌then◌else◌}
+use Rattle.std.specs.List.{AllByRecursion, list_all}
 use Rattle.metric_laws.specs.Space.{Space}
 use Rattle.scan_model.specs.declared.hit.Hit.{Hit}
 use Rattle.scan_model.specs.Scan.{range_hits, nearest_hits}
@@ -146,6 +146,18 @@ execute setting state (command.Close cursor) = close_from state cursor (cursor_n
 abbrev pub step : Setting → State → Command → Step
 step setting state command = if has_points_of setting.space command then execute setting state command else refused state refusal.Unfit
 
+-- the reply accepts objects
+abbrev pub accepts : Reply → Bool
+accepts (reply.Id id) = true
+accepts (reply.Loaded count) = true
+accepts other = false
+
+-- Where a file has no room for new nodes, or no number for a further commit, a step that would accept objects is refused for this
+-- reason, and changes nothing.
+abbrev pub hindered : Option Refusal → State → Step → Step
+hindered None state done = done
+hindered (Some why) state done = if accepts done.reply then refused state why else done
+
 -- the replies to commands, one after another
 abbrev pub replies : Setting → State → List Command → List Reply
 replies setting state [] = []
@@ -155,6 +167,25 @@ replies setting state (c ∷ commands) = (step setting state c).reply ∷ replie
 abbrev pub after : Setting → State → List Command → State
 after setting state [] = state
 after setting state (c ∷ commands) = after setting (step setting state c).state commands
+
+-- the replies to as many commands as there are reasons, each of which may stand in the way of its command
+abbrev pub hindered_replies : Setting → State → List Command → List (Option Refusal) → List Reply
+hindered_replies setting state [] whys = []
+hindered_replies setting state (c ∷ commands) [] = []
+hindered_replies setting state (c ∷ commands) (why ∷ whys) =
+    let done = hindered why state (step setting state c) in done.reply ∷ hindered_replies setting done.state commands whys
+
+-- the state after them
+abbrev pub hindered_after : Setting → State → List Command → List (Option Refusal) → State
+hindered_after setting state [] whys = state
+hindered_after setting state (c ∷ commands) [] = state
+hindered_after setting state (c ∷ commands) (why ∷ whys) = hindered_after setting (hindered why state (step setting state c)).state commands whys
+
+-- what nothing stands in the way of is what the commands do
+abbrev pub UnhinderedIsPlain : Type 0
+UnhinderedIsPlain =
+    (setting : Setting) (state : State) (commands : List Command) (whys : List (Option Refusal)) → length whys ≡ length commands → AllByRecursion (λ why. why ≡ None) whys →
+    (hindered_replies setting state commands whys ≡ replies setting state commands) × (hindered_after setting state commands whys ≡ after setting state commands)
 
 abbrev pub RunIsItsSteps : Type 0
 RunIsItsSteps =
