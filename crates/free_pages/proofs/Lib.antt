@@ -7,6 +7,7 @@ mod Places
 mod Released
 mod SoundWalk
 mod Sorting
+pub mod Commits
 mod Steps
 mod Whole
 mod WholeWalk

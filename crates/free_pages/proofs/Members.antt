@@ -33,14 +33,14 @@ module _ {X : Type 0} (p : X → Bool) where
 
 -- ---- the pages outside a tree
 
-in_range : (n a page : ℕ) → IsIn page (range_with_len a n) → (a ≤ page) × (page < a + n)
+pub in_range : (n a page : ℕ) → IsIn page (range_with_len a n) → (a ≤ page) × (page < a + n)
 in_range zero a page i = absurd i
 in_range (suc n) a page i = elim i [
   | inl s ↦ (omega arith, omega arith)
   | inr w ↦ let b = in_range n (a + 1) page w in let l = b.0 in let h = b.1 in (omega arith, omega arith)
 ]
 
-range_in : (n a page : ℕ) → a ≤ page → page < a + n → IsIn page (range_with_len a n)
+pub range_in : (n a page : ℕ) → a ≤ page → page < a + n → IsIn page (range_with_len a n)
 range_in zero a page le lt = absurd (omega arith)
 range_in (suc n) a page le lt = elim (cases_lt a page) [
   | inl more ↦ inr (range_in n (a + 1) page (omega arith) (omega arith))
@@ -157,14 +157,14 @@ leaving_keeps f page generation p = (after_freed f page p, after_left f page gen
 
 -- ---- with other pins
 
-in_pages : (p : ℕ) (held : List Held) → IsIn p (held_pages held) → (h : Held) × IsIn h held × (h.page ≡ p)
+pub in_pages : (p : ℕ) (held : List Held) → IsIn p (held_pages held) → (h : Held) × IsIn h held × (h.page ≡ p)
 in_pages p [] i = absurd i
 in_pages p (h ∷ held) i = elim i [
   | inl s ↦ (h, inl refl, sym s)
   | inr w ↦ let r = in_pages p held w in (r.0, inr r.1, r.2)
 ]
 
-pages_in : (p : ℕ) (h : Held) (held : List Held) → IsIn h held → h.page ≡ p → IsIn p (held_pages held)
+pub pages_in : (p : ℕ) (h : Held) (held : List Held) → IsIn h held → h.page ≡ p → IsIn p (held_pages held)
 pages_in p h [] i s = absurd i
 pages_in p h (g ∷ held) i s = elim i [ inl e ↦ inl (sym s ∙ ap (λ (x : Held). x.page) e) | inr w ↦ inr (pages_in p h held w s) ]
 

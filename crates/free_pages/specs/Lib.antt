@@ -4,3 +4,4 @@ pub mod Stored
 pub mod Free
 pub mod Opened
 pub mod Laws
+pub mod Commits

@@ -6,6 +6,7 @@ ghost use Rattle.page_store.specs.Numbers.{AreNumbers};
 ghost use Rattle.page_store.specs.Placing.{live_pages};
 ghost use Rattle.page_store.specs.Reading.{nodes_of};
 ghost use Rattle.page_store.specs.Shelf.{HoldsSame, IsPassing};
+ghost use Rattle.free_pages.specs.Commits.{after_commit};
 ghost use Rattle.free_pages.specs.Free.{AreOutsideTree, IsFresh};
 ghost use Rattle.free_pages.specs.Keeping.{IsKept, is_kept, with_free, with_left, with_pins, without_pin};
 ghost use Rattle.free_pages.specs.Walk.{IsWalkFault, outside_pages, tree_walk};
@@ -214,5 +215,22 @@ impl Free {
         } else {
             put_free(&mut self.free, page);
         }
+    }
+
+    /// Settles the list after a commit to this generation, which gave its first `used` pages to new nodes and left these: each
+    /// is held while a generation below is pinned, and free otherwise.
+    pub fn settle(&mut self, used: usize, left: &[u32], generation: u64)
+        requires used { used ≤ length self.old.free }
+        requires room { length left.now ≤ self.old.spare }
+        ensures settled { self.new ≡ after_commit used left.now generation self.old }
+        ensures kept { IsKept self.new }
+    {
+        'uses: for _ in 0..used {
+            let _page = self.take();
+        }
+        'leaves: for page in left {
+            self.leave(*page, generation);
+        }
+        self.are_kept();
     }
 }

@@ -1,5 +1,6 @@
 //! Laws of walks and of free pages.
 
+ghost use Rattle.free_pages.specs.Commits.{CommitsKeepBeside, CommitsKeepOutside, CommitsKeepWithin, FreePagesAreNumbers, PinsGuard, PlacementsExchange};
 ghost use Rattle.free_pages.specs.Laws.{HeldWhilePinned, LeastAreNumbers, LeavingKeepsPages, OutsideIsOutside, PinsKeepPages, SoundTreesAreWalked, WholeTreesAreWalked};
 
 /// The walk of a sound tree opens its pages in pre-order.
@@ -35,4 +36,34 @@ pub fn pins_keep_pages()
 /// A page that is left is held while a generation below is pinned, and no held page is free.
 pub fn held_while_pinned()
     ensures { HeldWhilePinned }
+{}
+
+/// The first of the free pages can be handed in for new nodes.
+pub fn free_pages_are_numbers()
+    ensures { FreePagesAreNumbers }
+{}
+
+/// What is placed on the first free pages uses exactly these, and each page from the file's end on.
+pub fn placements_exchange()
+    ensures { PlacementsExchange }
+{}
+
+/// After a commit free and held pages may still hold nodes.
+pub fn commits_keep_within()
+    ensures { CommitsKeepWithin }
+{}
+
+/// A commit keeps free and held pages beside the tree.
+pub fn commits_keep_beside()
+    ensures { CommitsKeepBeside }
+{}
+
+/// Where free and held pages are exactly those outside the tree, they are so after a commit.
+pub fn commits_keep_outside()
+    ensures { CommitsKeepOutside }
+{}
+
+/// A pin guards the pages of its tree from commits to later generations.
+pub fn pins_guard()
+    ensures { PinsGuard }
 {}
