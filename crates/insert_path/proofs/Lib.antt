@@ -13,3 +13,4 @@ pub mod Top
 pub mod Final
 pub mod Tested
 pub mod Undamaged
+pub mod Replaced

@@ -25,7 +25,9 @@ use Rattle.insert_path.specs.declared.grew.Stem.{Stem}
 use Rattle.insert_path.specs.declared.grew.Grew.{Grew}
 use Rattle.insert_path.specs.declared.grew.Grew.TheVariants.{One, Two}
 use Rattle.insert_path.specs.Placing.{place_fault, or_level, is_split, fresh_root}
-use Rattle.insert_path.specs.Causes.{HasTreeCause}
+use Rattle.page_store.specs.declared.pages.PageFault.TheVariants as page
+use Rattle.page_store.specs.declared.pages.PageFault.TheVariants.{Disk, Bad, Outside, Repeats, Level}
+use Rattle.insert_path.specs.Causes.{HasTreeCause, HasWalkCause, fault_of}
 use Rattle.insert_path.specs.Roots.{HasRootCause}
 use Rattle.insert_path.specs.Descent.{Plan, rules_of, root_entry, is_two, IsSmall, Roots, Descends}
 use Rattle.insert_path.proofs.Holding.{grown_tree}
@@ -48,6 +50,15 @@ root_cause P old new t l0 l1 before nodes g Full d cause = cause
 root_cause P old new t l0 l1 before nodes g (NoRoom pages needed) d cause = cause
 root_cause P old new t l0 l1 before nodes g Worn d cause = cause
 root_cause P old new t l0 l1 before nodes g Memory d cause = tt
+
+-- the walk stopped
+pub walk_cause : (old new : Shelf) (first : Option PageFault) (f : PageFault) → HasWalkCause old new first f → HasTreeCause old new first (fault_of f)
+walk_cause old new first Disk cause = cause
+walk_cause old new first (Bad page fault) cause = cause
+walk_cause old new first (Outside page) cause = cause
+walk_cause old new first page.Memory cause = tt
+walk_cause old new first (Repeats page) cause = cause
+walk_cause old new first (Level page) cause = cause
 
 -- a new root comes only below height 14, so there is no fault
 pub root_faultless : (P : Plan) (old : Shelf) → IsTrue old.tells → (t : Live) (l1 : List ℕ) (mid nodes : List Node) (g : Grew) (root height : ℕ) → Descends P old t.height t.root None [] [] l1 mid g → Roots P.number t.height g mid nodes root height →

@@ -22,7 +22,7 @@ use Rattle.page_store.specs.declared.staging.StagedNode.{StagedNode}
 use Rattle.page_store.specs.declared.staging.Placed.{Placed}
 use Rattle.page_store.specs.Shelf.{Shelf}
 use Rattle.page_store.specs.Reading.{nodes_of}
-use Rattle.page_store.specs.Staging.{staged_for}
+use Rattle.page_store.specs.Staging.{pages_of, staged_for}
 use Rattle.page_store.proofs.Stored.{IsStoredAt, sound_of_stored}
 use Rattle.page_store.proofs.Ids.{AreCounted, with_id}
 use Rattle.insert_path.specs.Placing.{fresh, fresh_root, fresh_of, HasInserted}
@@ -36,7 +36,7 @@ use Rattle.insert_path.proofs.Listing.{ids_more, placed_all, old_one, new_one, p
 use Rattle.page_store.specs.Placing.{live_pages, staged_tree, IsOver}
 use Rattle.page_store.specs.Numbers.{numbered}
 use Rattle.page_store.proofs.Standing.{HoldsFrom, trees_from, pages_from, stand_holds, trees_numbered, in_times, times_in, all_each}
-use Rattle.page_store.proofs.Given.{lower_or, given_once, free_none}
+use Rattle.page_store.proofs.Given.{lower_or, given_once, free_none, pages_numbered}
 use Rattle.page_store.proofs.Giving.{given_free, given_apart, given_each}
 
 module _ (P : Plan) (shelf : Shelf) (tells : IsTrue shelf.tells) (t : Live) (left : List ℕ) (nodes : List Node) (root height : ℕ) (walks : Walks P shelf t left nodes root height) (new : Nodes)
@@ -169,4 +169,5 @@ has_inserted P shelf tells t nodes root height placed walks staged at_root at_he
       tags = next_tags P shelf tells t placed.left nodes root height walks new holds agree placed.next at_root at_height counted space fits same named sound up out within wide;
       fresh = ap (map (staged_tree new)) staged ∙ trees_numbered new P.number 0 nodes ∙ new_fresh P shelf tells t placed.left nodes root height walks new holds agree ∙ ap (λ (R : Rules). fresh_of R P.object (tree_of (nodes_of shelf.read) t)) same;
       left = next_left P shelf tells t placed.left nodes root height walks new holds agree placed.next at_root at_height counted space fits same named sound up out within wide;
+      balance = λ page. balance P shelf tells t placed.left nodes root height walks new holds agree placed.next at_root at_height counted space fits same named sound up out within wide page ∙ ap (λ (ps : List ℕ). times page (live_pages (nodes_of shelf.read) t) + times page ps) (sym (ap pages_of staged ∙ pages_numbered P.number 0 nodes));
     }

@@ -133,7 +133,7 @@ pub tree_undamaged : (old new : Shelf) (first : Option PageFault) (f : PlaceFaul
 tree_undamaged old new first (Page Disk) cause tells none = tt
 tree_undamaged old new first (Page (Bad page fault)) cause tells none = absurd (let is = cause.1 tells in cc)
 tree_undamaged old new first (Page (Outside page)) cause tells none = absurd (let is = cause.1 tells in cc)
-tree_undamaged old new first (Page Memory) cause tells none = tt
+tree_undamaged old new first (Page Memory) cause tells none = cause
 tree_undamaged old new first (Page (Repeats page)) cause tells none = cause
 tree_undamaged old new first (Page (Level page)) cause tells none = absurd (let is = cause tells in cc)
 tree_undamaged old new first Full cause tells none = tt

@@ -29,8 +29,14 @@ HasWalkCause old new first Memory = Unit {0}
 HasWalkCause old new first (Repeats page) = ⊥
 HasWalkCause old new first (Level page) = IsTrue old.tells → first ≡ Some (Level page)
 
+-- the fault of an insertion whose walk stopped: want of memory is the insertion's own
+abbrev pub fault_of : PageFault → PlaceFault
+fault_of Memory = NoMemory
+fault_of fault = Page fault
+
 -- why an insertion into a file stops; that it is full or worn is said by itself
 abbrev pub HasPlaceCause : Space → Rules → List ℕ → Live → Object → Shelf → Shelf → PlaceFault → Type 0
+HasPlaceCause s R numbers t o old new (Page Memory) = ⊥
 HasPlaceCause s R numbers t o old new (Page fault) = HasWalkCause old new (place_fault s R old.read t o) fault
 HasPlaceCause s R numbers t o old new Full = Unit {0}
 HasPlaceCause s R numbers t o old new Worn = Unit {0}
@@ -41,6 +47,7 @@ HasPlaceCause s R numbers t o old new (NoRoom pages needed) =
 
 -- the same before the room is known
 abbrev pub HasTreeCause : Shelf → Shelf → Option PageFault → PlaceFault → Type 0
+HasTreeCause old new first (Page Memory) = ⊥
 HasTreeCause old new first (Page fault) = HasWalkCause old new first fault
 HasTreeCause old new first Full = ⊥
 HasTreeCause old new first Worn = ⊥
@@ -50,7 +57,7 @@ HasTreeCause old new first (NoRoom pages needed) = ⊥
 -- no page of the file is at fault
 abbrev pub IsUndamaged : PlaceFault → Type 0
 IsUndamaged (Page Disk) = Unit {0}
-IsUndamaged (Page Memory) = Unit {0}
+IsUndamaged (Page Memory) = ⊥
 IsUndamaged (Page (Bad page fault)) = ⊥
 IsUndamaged (Page (Outside page)) = ⊥
 IsUndamaged (Page (Repeats page)) = ⊥

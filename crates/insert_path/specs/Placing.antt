@@ -1,15 +1,16 @@
 -- What an insertion makes of the tree of a file.
-use Rattle.std.specs.Prelude.{◌≡◌, ◌↔◌, ℕ, zero, suc, Bool, true, false, List, [], ◌∷◌, ◌++◌, length, map, Option, Some, None, ◌==◌, ◌&&◌}
+use Rattle.std.specs.Prelude.{◌≡◌, ◌↔◌, ℕ, ◌+◌, zero, suc, Bool, true, false, List, [], ◌∷◌, ◌++◌, length, map, Option, Some, None, ◌==◌, ◌&&◌}
 use Rattle.metric_laws.specs.Space.{Space}
 use Rattle.metric_laws.specs.Lists.{IsIn}
 use Rattle.tree_shape.specs.declared.live.Live.{Live}
-use Rattle.tree_shape.specs.Tree.{Nodes, inner_entries, IsSoundTree, points_by_id, tags_by_id}
+use Rattle.tree_shape.specs.Tree.{Nodes, inner_entries, IsSoundTree, points_by_id, tags_by_id, times}
 use Rattle.tree_shape.specs.Plain.{Object, Branch, Plain, Tall, tree_at, tree_of}
 use Rattle.tree_growth.specs.Insertion.{Rules, Grown, One, Two, inserted, branch_ball, placed_by}
 use Rattle.page_store.specs.declared.pages.PageFault.{PageFault}
 use Rattle.page_store.specs.declared.pages.PageFault.TheVariants.{Level}
 use Rattle.page_store.specs.declared.staging.Placed.{Placed}
 use Rattle.page_store.specs.Reading.{Read, nodes_of}
+use Rattle.page_store.specs.Staging.{pages_of}
 use Rattle.insert_path.specs.Walk.{chosen_child, walk_fault}
 use Rattle.page_store.specs.Placing.{live_pages, staged_tree}
 
@@ -63,7 +64,8 @@ pub record HasWalked (s : Space) (R : Rules) (read : Read) (t : Live) (o : Objec
   pub left : placed.left ≡ walk_pages s (nodes_of read) o.point t.height t.root
 
 -- the file with the staged nodes has the tree of the insertion: it is sound, its list has one object more, its staged nodes are
--- the new subtrees from the leaf upward, and the pages that are left are those of the old tree that are not in it
+-- the new subtrees from the leaf upward, and the pages that are left are those of the old tree that are not in it, so that its
+-- pages and they are the old tree's and the staged ones
 pub record HasInserted (s : Space) (R : Rules) (old : Nodes) (t : Live) (o : Object) (placed : Placed) (new : Nodes) : Type 0 where
   pub tree : tree_of new placed.next ≡ placed_by R o (tree_of old t)
   pub sound : IsSoundTree s new placed.next
@@ -71,3 +73,4 @@ pub record HasInserted (s : Space) (R : Rules) (old : Nodes) (t : Live) (o : Obj
   pub tags : tags_by_id new placed.next ≡ tags_by_id old t ++ o.tag ∷ []
   pub fresh : map (staged_tree new) placed.staged ≡ fresh_of R o (tree_of old t)
   pub left : (page : ℕ) → IsIn page placed.left ↔ (IsIn page (live_pages old t) × (IsIn page (live_pages new placed.next) → ⊥))
+  pub balance : (page : ℕ) → times page (live_pages new placed.next) + times page placed.left ≡ times page (live_pages old t) + times page (pages_of placed.staged)

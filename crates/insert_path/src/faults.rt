@@ -1,3 +1,6 @@
+ghost use Rattle.std.specs.Prelude.{◌≡◌};
+ghost use Rattle.insert_path.specs.Causes.{fault_of};
+
 use page_store::PageFault;
 use thiserror::Error;
 
@@ -6,7 +9,7 @@ use thiserror::Error;
 #[derive(Clone, Copy, Debug, PartialEq, Eq, Error)]
 pub enum PlaceFault {
     /// A page of the walk gave no node, or stands at a level that its depth does not ask for; or the root, which is named,
-    /// would have to be split at height 14.
+    /// would have to be split at height 14. It is never `PageFault::Memory`.
     #[error("{0}")]
     Page(PageFault),
     /// The index has as many objects as its head allows.
@@ -21,4 +24,14 @@ pub enum PlaceFault {
     /// There was no memory.
     #[error("out of memory")]
     Memory,
+}
+
+/// The fault of an insertion whose walk stopped.
+pub fn fault_of(fault: PageFault) -> PlaceFault
+    ensures { result ≡ fault_of fault }
+{
+    match fault {
+        PageFault::Memory => PlaceFault::Memory,
+        fault => PlaceFault::Page(fault),
+    }
 }

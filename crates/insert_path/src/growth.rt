@@ -7,6 +7,7 @@ ghost use Rattle.page_store.specs.Numbers.{number_at};
 
 use crate::PlaceFault;
 use crate::descent::descend;
+use crate::faults::fault_of;
 use crate::grew::{Grew, Stem};
 use crate::staging::stage_node;
 use crate::task::{Spot, Task, Written};
@@ -139,6 +140,6 @@ pub fn grow<P: Pages, R: Ruler>(
             let grown = grow_root(alloc, task, live, grew, written)?;
             Ok(grown)
         }
-        Err(fault) => Err(PlaceFault::Page(fault)),
+        Err(fault) => Err(fault_of(fault)),
     }
 }

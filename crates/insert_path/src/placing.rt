@@ -1,14 +1,16 @@
 ghost use Rattle.std.specs.Prelude.{◌≡◌, ◌≢◌, ◌↔◌, ◌+◌, ◌-◌, ◌*◌, ◌^◌, ◌≤◌, Err, IsTrue, IfOk, IfErr};
+ghost use Rattle.std.specs.List.{AllByRecursion};
 ghost use Rattle.tree_growth.specs.Insertion.{rules};
 ghost use Rattle.tree_shape.specs.Tree.{Nodes, IsSoundTree};
 ghost use Rattle.node_page.specs.Heads.{IsLawfulHead};
 ghost use Rattle.node_page.specs.Opening.{IsLawfulLive};
-ghost use Rattle.page_store.specs.Reading.{nodes_of};
+ghost use Rattle.page_store.specs.Reading.{IsWithin, nodes_of};
 ghost use Rattle.page_store.specs.Staging.{pages_of};
 ghost use Rattle.insert_path.specs.Causes.{HasAsked, HasPlaceCause, IsUndamaged};
 ghost use Rattle.insert_path.specs.Placing.{HasWalked, HasInserted};
 ghost use Rattle.page_store.specs.Numbers.{AreNumbers};
 ghost use Rattle.page_store.specs.Placing.{AreOutside, IsOver, IsPlacement};
+ghost use Rattle.page_store.specs.Succession.{TakesPlace};
 
 use crate::PlaceFault;
 use crate::growth::grow;
@@ -53,6 +55,10 @@ pub fn place<P: Pages, R: Ruler>(
     ensures placement { IfOk result (IsPlacement head.now live.now numbers.now 1) }
     ensures apart { IfOk result (λ placed. IsTrue (P.shelf pages.old).tells → IsSoundTree (R.M.space (R.metric ruler.old)) (nodes_of (P.shelf pages.old).read) live.now →
         AreOutside (nodes_of (P.shelf pages.old).read) live.now (pages_of placed.staged)) }
+
+    // Page by page it takes the place of what is left, also on a file that isn't sound.
+    ensures left_within { IfOk result (λ placed. AllByRecursion (IsWithin live.now.pages) placed.left) }
+    ensures takes_place { IfOk result (λ placed. IsTrue (P.shelf pages.old).tells → TakesPlace (nodes_of (P.shelf pages.old).read) live.now placed) }
 
     // What is placed is the insertion's.
     ensures walked { IfOk result (λ placed. IsTrue (P.shelf pages.old).tells →

@@ -28,7 +28,7 @@ stand_named new [] all = refl
 stand_named new (s ∷ staged) all = rw (all.0, stand_named new staged all.1) refl
 
 -- no node is staged for a page that is none of theirs
-none_staged : (staged : List StagedNode) (page : ℕ) → (IsIn page (pages_of staged) → ⊥) → IsFree staged page
+pub none_staged : (staged : List StagedNode) (page : ℕ) → (IsIn page (pages_of staged) → ⊥) → IsFree staged page
 none_staged [] page out = tt
 none_staged (s ∷ staged) page out = (λ same. out (inl (sym same)), none_staged staged page (λ i. out (inr i)))
 

@@ -1,11 +1,15 @@
 -- The pages that the nodes of some pages name.
-use Rattle.std.proofs.Common.{◌≡◌, ℕ, ◌+◌, ◌≤◌, Bool, true, false, List, [], ◌∷◌, refl, ap, arith}
+use Rattle.std.proofs.Common.{◌≡◌, ℕ, ◌+◌, ◌≤◌, Bool, true, false, List, [], ◌∷◌, ◌++◌, refl, ap, ◌∙◌, arith, Some}
 use Rattle.std.specs.Prelude.{◌==◌, if◌then◌else◌, cond, filter, map, not}
+use Rattle.std.specs.List.{flat_map}
 use Rattle.std.proofs.lemmas.Bool.Decides.{nat_tests}
+use Rattle.metric_laws.proofs.Lists.{flat_map-append}
+use Rattle.tree_shape.specs.declared.entry.Node.{Node}
 use Rattle.tree_shape.specs.Tree.{Nodes, inner_entries, times}
 use Rattle.tree_shape.proofs.Counting.{times-append, counted}
 use Rattle.page_store.specs.Reached.{named_in}
-use Rattle.page_store.specs.Succession.{without}
+use Rattle.page_store.specs.Numbers.{numbered}
+use Rattle.page_store.specs.Succession.{named_by, without}
 
 -- the pages that one page's node names
 abbrev pub in_node : Nodes → ℕ → List ℕ
@@ -123,3 +127,17 @@ without_named nodes left tree one among once k =
             let f : times j (filter (λ page. not (times page left == 0)) tree) ≡ times j tree = times-kept (λ page. not (times page left == 0)) j tree (ap not e) in
             let o = one j in let a = among j in let t = once j in
             omega arith
+
+-- ---- new nodes
+
+-- the child numbers in some nodes
+abbrev pub names_of : List Node → List ℕ
+names_of nodes = flat_map (λ n. map (λ e. e.child) (inner_entries (Some n))) nodes
+
+pub named_numbered : (number : ℕ → ℕ) (i : ℕ) (nodes : List Node) → named_by (numbered number i nodes) ≡ names_of nodes
+named_numbered number i [] = refl
+named_numbered number i (n ∷ nodes) = ap (λ (r : List ℕ). map (λ e. e.child) (inner_entries (Some n)) ++ r) (named_numbered number (i + 1) nodes)
+
+pub names_more : (old more new : List Node) (k : ℕ) → new ≡ old ++ more → times k (names_of new) ≡ times k (names_of old) + times k (names_of more)
+names_more old more new k is =
+    ap (λ (xs : List Node). times k (names_of xs)) is ∙ ap (times k) (flat_map-append (λ n. map (λ e. e.child) (inner_entries (Some n))) old more) ∙ times-append k (names_of old) (names_of more)

@@ -5,12 +5,13 @@ use Rattle.tree_shape.specs.Fill.{most_for}
 use Rattle.node_page.specs.Nodes.{IsLawfulNode}
 use Rattle.tree_shape.specs.declared.live.Live.{Live}
 use Rattle.tree_growth.specs.Insertion.{Rules, rules}
-use Rattle.page_store.specs.Reading.{nodes_of}
+use Rattle.page_store.specs.Reading.{IsWithin, nodes_of}
 use Rattle.insert_path.specs.Descent.{plan_of, Walks}
 use Rattle.insert_path.proofs.Final.{count_small, rules_same, fill_room, walks_given, walks_height, walks_writable, room_cause, has_walked}
 use Rattle.insert_path.specs.Placing.{place_fault}
 use Rattle.insert_path.proofs.Undamaged.{sound_faultless, tree_undamaged}
 use Rattle.insert_path.proofs.Top.{has_inserted}
+use Rattle.insert_path.proofs.Replaced.{takes_place, walks_within}
 use Rattle.insert_path.proofs.placing.place.Goals as goal
 use Rattle.page_store.specs.Numbers.{number_at}
 use Rattle.page_store.specs.Placing.{HasRoomCause, IsPlacement}
@@ -48,6 +49,18 @@ returns-in-Ok-clause-placement g c =
 pub returns-in-Ok-clause-apart : goal.returns-in-Ok-clause-apart
 returns-in-Ok-clause-apart g c = λ tells sound.
     staged_out (nodes_of (g.P.Pages.shelf c.args.pages.now).read) c.args.live.now c.args.numbers.now c.in_ok-grown.grown.nodes.items c.in-Ok.placed.staged c.in-Ok.ensures.staged (c.requires.outside tells sound) sound.within
+
+pub returns-in-Ok-clause-left_within : goal.returns-in-Ok-clause-left_within
+returns-in-Ok-clause-left_within g c =
+    subst (λ (n : ℕ). AllByRecursion (IsWithin n) c.in-Ok.placed.left) c.requires.pages
+    (walks_within (plan_of (g.R.M.Metric.space (g.R.Ruler.metric c.args.ruler.now)) (record { promote = c.args.head.now.promote; split = c.args.head.now.split }) c.fill.result (number_at c.args.numbers.now c.args.live.now.pages) (record { id = c.args.live.now.count; tag = c.args.tag; point = c.args.p.now })) (g.P.Pages.shelf c.args.pages.now) c.args.live.now c.in-Ok.placed.left c.in_ok-grown.grown.nodes.items c.in_ok-grown.grown.root c.in_ok-grown.grown.height
+    (subst (λ (l : List ℕ). Walks (plan_of (g.R.M.Metric.space (g.R.Ruler.metric c.args.ruler.now)) (record { promote = c.args.head.now.promote; split = c.args.head.now.split }) c.fill.result (number_at c.args.numbers.now c.args.live.now.pages) (record { id = c.args.live.now.count; tag = c.args.tag; point = c.args.p.now })) (g.P.Pages.shelf c.args.pages.now) c.args.live.now l c.in_ok-grown.grown.nodes.items c.in_ok-grown.grown.root c.in_ok-grown.grown.height) (sym c.in-Ok.ensures.left) c.in_ok-grown.ensures.walks))
+
+pub returns-in-Ok-clause-takes_place : goal.returns-in-Ok-clause-takes_place
+returns-in-Ok-clause-takes_place g c = λ tells.
+    takes_place (plan_of (g.R.M.Metric.space (g.R.Ruler.metric c.args.ruler.now)) (record { promote = c.args.head.now.promote; split = c.args.head.now.split }) c.fill.result (number_at c.args.numbers.now c.args.live.now.pages) (record { id = c.args.live.now.count; tag = c.args.tag; point = c.args.p.now })) (g.P.Pages.shelf c.args.pages.now) tells c.args.live.now c.in_ok-grown.grown.nodes.items c.in_ok-grown.grown.root c.in_ok-grown.grown.height c.in-Ok.placed
+    (subst (λ (l : List ℕ). Walks (plan_of (g.R.M.Metric.space (g.R.Ruler.metric c.args.ruler.now)) (record { promote = c.args.head.now.promote; split = c.args.head.now.split }) c.fill.result (number_at c.args.numbers.now c.args.live.now.pages) (record { id = c.args.live.now.count; tag = c.args.tag; point = c.args.p.now })) (g.P.Pages.shelf c.args.pages.now) c.args.live.now l c.in_ok-grown.grown.nodes.items c.in_ok-grown.grown.root c.in_ok-grown.grown.height) (sym c.in-Ok.ensures.left) c.in_ok-grown.ensures.walks)
+    c.in-Ok.ensures.staged (ap (λ (n : Live). n.root) c.in-Ok.ensures.next)
 
 pub returns-in-Ok-clause-walked : goal.returns-in-Ok-clause-walked
 returns-in-Ok-clause-walked g c = λ tells.
