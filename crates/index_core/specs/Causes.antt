@@ -1,5 +1,5 @@
 -- Why a call of an opened index refuses.
-use Rattle.std.specs.Prelude.{◌≡◌, ◌≢◌, ◌⊎◌, ℕ, IsTrue, List}
+use Rattle.std.specs.Prelude.{◌≡◌, ◌≢◌, ◌⊎◌, ℕ, IsTrue, List, take}
 use Rattle.disk_model.specs.Disk.{DiskState}
 use Rattle.tree_shape.specs.declared.live.Live.{Live}
 use Rattle.node_page.specs.declared.head.Head.{Head}
@@ -10,8 +10,18 @@ use Rattle.page_store.specs.declared.pages.PageFault.TheVariants as page
 use Rattle.shadow_root.specs.Opening.{HasOpenCause}
 use Rattle.shadow_root.specs.declared.faults.OpenFault.{OpenFault}
 use Rattle.shadow_root.specs.declared.faults.OpenFault.TheVariants.{Head as NoHead}
+use Rattle.outside_io.specs.Causes.{Rose}
+use Rattle.tree_shape.specs.Plain.{Object}
+use Rattle.tree_growth.specs.Insertion.{Rules, rules}
+use Rattle.metric_laws.specs.Space.{Space as Metrized}
+use Rattle.insert_path.specs.declared.faults.PlaceFault.{PlaceFault}
+use Rattle.insert_path.specs.declared.faults.PlaceFault.TheVariants as place
+use Rattle.insert_path.specs.Causes.{HasPlaceCause, HasWalkCause}
+use Rattle.insert_path.specs.Placing.{place_fault as faults_of_path}
+use Rattle.free_pages.specs.Keeping.{FreePages}
+use Rattle.index_core.specs.Files.{OpenFile, pages_on}
 use Rattle.index_core.specs.declared.faults.IndexFault.{IndexFault}
-use Rattle.index_core.specs.declared.faults.IndexFault.TheVariants.{Disk, Damaged, Memory}
+use Rattle.index_core.specs.declared.faults.IndexFault.TheVariants.{Disk, Damaged, Full, NoRoom, Worn, Memory}
 
 -- the bytes open to a head of this version
 abbrev pub OpensAs : List ℕ → (Head → Type 0) → Type 0
@@ -50,3 +60,39 @@ abbrev pub MayComeAnytime : IndexFault → Type 0
 MayComeAnytime Disk = Unit {0}
 MayComeAnytime Memory = Unit {0}
 MayComeAnytime _ = ⊥
+
+-- what the refusal of an insertion is to whoever called the index
+abbrev pub place_fault : PlaceFault → IndexFault
+place_fault (place.Page fault) = read_fault fault
+place_fault place.Full = Full
+place_fault (place.NoRoom pages needed) = NoRoom pages needed
+place_fault place.Worn = Worn
+place_fault place.Memory = Memory
+
+-- an insertion found the file damaged: a page holds no node, or is none of the file's, or stands at another level than its depth asks
+-- for
+abbrev pub IsPathDamage : PageFault → Type 0
+IsPathDamage (page.Bad p fault) = Unit {0}
+IsPathDamage (page.Outside p) = Unit {0}
+IsPathDamage (page.Level p) = Unit {0}
+IsPathDamage _ = ⊥
+
+-- the rules of insertion of a file
+abbrev pub rules_of : {M : Type 0} → Metrized → OpenFile M → Rules
+rules_of s file = rules s file.head.promote file.head.split
+
+-- Why an object was not placed: the disk failed, memory ran out, or the first fault of its walk; or the new nodes that get none of
+-- the free pages need more pages than a file may have.
+abbrev pub HasPathCause : {M : Type 0} → Metrized → OpenFile M → FreePages → Object → DiskState → DiskState → IndexFault → Type 0
+HasPathCause s file f o old new Disk = Rose old.faults new.faults
+HasPathCause s file f o old new (Damaged fault) =
+    IsPathDamage fault × HasWalkCause (pages_on file old 0) (pages_on file new 0) (faults_of_path s (rules_of s file) (pages_on file old 0).read file.live o) fault
+HasPathCause s file f o old new (NoRoom pages needed) =
+    (asked : ℕ) × HasPlaceCause s (rules_of s file) (take asked f.free) file.live o (pages_on file old 0) (pages_on file new 0) (place.NoRoom pages needed)
+HasPathCause s file f o old new Memory = Unit {0}
+HasPathCause s file f o old new _ = ⊥
+
+-- no page of the file is at fault
+abbrev pub BlamesNoPage : IndexFault → Type 0
+BlamesNoPage (Damaged fault) = ⊥
+BlamesNoPage _ = Unit {0}

@@ -1,6 +1,7 @@
 ghost use Rattle.std.specs.Prelude.{◌≡◌, MatchResult, Ok, Err};
-ghost use Rattle.index_core.specs.Causes.{read_fault};
+ghost use Rattle.index_core.specs.Causes.{place_fault, read_fault};
 
+use insert_path::PlaceFault;
 use page_store::PageFault;
 use thiserror::Error;
 
@@ -45,6 +46,19 @@ fn read_fault(fault: PageFault) -> IndexFault
         PageFault::Disk => IndexFault::Disk,
         PageFault::Memory => IndexFault::Memory,
         fault => IndexFault::Damaged(fault),
+    }
+}
+
+// What the refusal of an insertion is to whoever called the index.
+pub(crate) fn place_fault(fault: PlaceFault) -> IndexFault
+    ensures { result ≡ place_fault fault }
+{
+    match fault {
+        PlaceFault::Page(fault) => read_fault(fault),
+        PlaceFault::Full => IndexFault::Full,
+        PlaceFault::NoRoom { pages, needed } => IndexFault::NoRoom { pages, needed },
+        PlaceFault::Worn => IndexFault::Worn,
+        PlaceFault::Memory => IndexFault::Memory,
     }
 }
 

@@ -4,7 +4,9 @@
 mod faults;
 mod index;
 mod lending;
+mod placing;
 mod view;
+mod writing;
 
 pub use faults::IndexFault;
 pub use index::Index;

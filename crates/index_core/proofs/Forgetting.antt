@@ -1,0 +1,44 @@
+-- What is kept once the pages of new nodes are forgotten.
+use Rattle.std.proofs.Common.{◌≡◌, ◌≢◌, ℕ, ◌<◌, List, [], ◌∷◌, length, refl, sym, ◌∙◌, inl, inr, Option, Some, None}
+use Rattle.std.specs.Prelude.{All, IsTrue, ◌≤◌}
+use Rattle.std.specs.List.{AllByRecursion}
+use Rattle.std.proofs.lemmas.List.Elements.{All-filter}
+use Rattle.metric_laws.specs.Lists.{IsIn}
+use Rattle.tree_shape.specs.declared.entry.Node.{Node}
+use Rattle.page_store.specs.Shelf.{Shelf, IsNodeOf}
+use Rattle.page_cache.specs.Keeping.{Pairs, without, Agrees}
+use Rattle.page_cache.specs.Laws.{AgreementLasts, ForgettingKeepsAgreement, GrowsTo}
+use Rattle.index_core.specs.Lending.{KeptAgrees, SameRoom}
+use Rattle.index_core.specs.Writing.{forgotten, forgotten_of}
+
+forgotten_all : (P : ℕ × Node → Type 0) (pages : List ℕ) (kept : Pairs) → All P kept.entries → All P (forgotten pages kept).entries
+forgotten_all P [] kept all = all
+forgotten_all P (page ∷ pages) kept all = forgotten_all P pages (without kept page) (All-filter _ P kept.entries all)
+
+forgotten_room : (pages : List ℕ) (kept : Pairs) → (forgotten pages kept).cap ≡ kept.cap
+forgotten_room [] kept = refl
+forgotten_room (page ∷ pages) kept = forgotten_room pages (without kept page)
+
+pub same_room : (pages : List ℕ) (kept : Option Pairs) → SameRoom kept (forgotten_of pages kept)
+same_room pages None = tt
+same_room pages (Some kept) = forgotten_room pages kept
+
+-- no page that was forgotten is kept
+forgotten_none : ForgettingKeepsAgreement → (pages : List ℕ) (kept : Pairs) → All (λ pair. (page : ℕ) → IsIn page pages → page ≢ pair.0) (forgotten pages kept).entries
+forgotten_none law [] kept = λ k d low page i. absurd i
+forgotten_none law (p ∷ pages) kept = λ k d low page i. elim i [
+  | inl s ↦ λ e. forgotten_all (λ pair. p ≢ pair.0) pages (without kept p) (law kept p).1 k d low (sym s ∙ e)
+  | inr w ↦ forgotten_none law pages (without kept p) k d low page w
+]
+
+-- what is kept agrees with pages that grow, where each page that is no new node's holds what it held
+pub forgotten_agrees : AgreementLasts → ForgettingKeepsAgreement → (pages : List ℕ) (kept : Option Pairs) (old new : Shelf) → GrowsTo old new →
+    ((page : ℕ) (node : Node) → IsNodeOf old page node → (IsIn page pages → ⊥) → IsTrue new.tells → new.read page ≡ old.read page) → KeptAgrees kept old → KeptAgrees (forgotten_of pages kept) new
+forgotten_agrees lasts law pages None old new grows same agrees = tt
+forgotten_agrees lasts law pages (Some kept) old new grows same agrees =
+    lasts (forgotten pages kept) old new grows (still pages kept agrees)
+    (λ tells k d low.
+        same _ _ (still pages kept agrees k d low) (λ i. forgotten_none law pages kept k d low _ i refl) tells)
+  where
+    still : (pages : List ℕ) (kept : Pairs) → Agrees kept old → Agrees (forgotten pages kept) old
+    still pages kept agrees = forgotten_all (λ pair. IsNodeOf old pair.0 pair.1) pages kept agrees

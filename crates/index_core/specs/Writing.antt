@@ -1,0 +1,157 @@
+-- What a write makes of an index, and what a crash in it may leave.
+use Rattle.std.specs.Prelude.{◌≡◌, ◌≢◌, ◌⊎◌, ℕ, ◌+◌, ◌-◌, ◌≤◌, true, false, IsTrue, List, [], ◌∷◌, ◌++◌, length, take, min, Option, Some, None, MatchOption, Result, IfOk, IfErr, OnOk}
+use Rattle.std.specs.List.{AllByRecursion}
+use Rattle.metric_laws.specs.Lists.{IsIn}
+use Rattle.metric_laws.specs.Space.{Space}
+use Rattle.outside_io.specs.Causes.{Rose}
+use Rattle.disk_model.specs.Disk.{DiskState, MayLeave, LeavesOnly, EachImage, IsUnchanged}
+use Rattle.tree_shape.specs.declared.live.Live.{Live}
+use Rattle.tree_shape.specs.Tree.{Nodes, IsSoundTree}
+use Rattle.tree_shape.specs.Plain.{Tall, tree_of}
+use Rattle.tree_growth.specs.Insertion.{placed}
+use Rattle.tree_growth.specs.Bulk.{built}
+use Rattle.node_page.specs.declared.head.Head.{Head}
+use Rattle.node_page.specs.Opening.{page_of}
+use Rattle.page_store.specs.declared.staging.Placed.{Placed}
+use Rattle.page_store.specs.Placing.{IsPlacement, live_pages}
+use Rattle.page_store.specs.Reading.{IsWithin}
+use Rattle.page_store.specs.Succession.{TakesPlace, StandsByItself}
+use Rattle.page_store.specs.Files.{HoldsObjects}
+use Rattle.shadow_root.specs.Commit.{IsBeforeOrAfter, HasNext}
+use Rattle.page_cache.specs.Keeping.{Pairs, without}
+use Rattle.free_pages.specs.Keeping.{FreePages}
+use Rattle.free_pages.specs.Commits.{after_commit, AreOutside, AreWithin, IsGuarded}
+use Rattle.index_core.specs.declared.faults.IndexFault.{IndexFault}
+use Rattle.index_core.specs.declared.faults.IndexFault.TheVariants.{Commit}
+use Rattle.index_core.specs.Answers.{points_on, tags_on}
+use Rattle.index_core.specs.Files.{OpenFile, StandsOn, nodes_on}
+use Rattle.index_core.specs.Index.{OpenIndex, AreSpare}
+use Rattle.index_core.specs.Lending.{SameRoom}
+
+-- ---- what is written
+
+-- an object more, with its point and its tag; or all objects at once, of an index that has none
+pub data Write : Type 0 where
+  Inserts : List ℕ → ℕ → Write
+  Loads : List (List ℕ) → List ℕ → Write
+
+-- the points of the objects after it, in order of id, and their tags
+abbrev pub points_after : Write → List (List ℕ) → List (List ℕ)
+points_after (Inserts point tag) points = points ++ point ∷ []
+points_after (Loads rows labels) points = rows
+
+abbrev pub tags_after : Write → List ℕ → List ℕ
+tags_after (Inserts point tag) tags = tags ++ tag ∷ []
+tags_after (Loads rows labels) tags = labels
+
+-- how many objects it adds
+abbrev pub added_by : Write → ℕ
+added_by (Inserts point tag) = 1
+added_by (Loads rows labels) = length rows
+
+-- what it answers where there were so many objects: the new object's id, or how many objects there are
+abbrev pub answer_to : Write → ℕ → ℕ
+answer_to (Inserts point tag) count = count
+answer_to (Loads rows labels) count = length rows
+
+-- the tree after it, by the rules of the head: that of VLDB's insertion, or of this project's bulk loading
+abbrev pub tree_after : Space → Head → Write → ℕ → Tall → Tall
+tree_after s head (Inserts point tag) count tree = placed s head.promote head.split (record { id = count; tag = tag; point = point }) tree
+tree_after s head (Loads rows labels) count tree = built s rows labels
+
+-- ---- on a sound file
+
+-- the disk tells its bytes, the live tree in them is sound, and its objects have these points and tags, in order of id
+pub record HasObjects {M : Type 0} (s : Space) (file : OpenFile M) (disk : DiskState) (points : List (List ℕ)) (tags : List ℕ) : Type 0 where
+  pub tells : IsTrue disk.tells
+  pub sound : IsSoundTree s (nodes_on file disk) file.live
+  pub points_are : points_on file disk ≡ points
+  pub tags_are : tags_on file disk ≡ tags
+
+-- a crash at any moment of the call leaves a sound file with the objects from before the write or with those after it
+abbrev pub LeavesEither : Space → Head → Write → List (List ℕ) → List ℕ → DiskState → DiskState → Type 0
+LeavesEither s head write points tags before after =
+    EachImage before after (λ image. HoldsObjects s head points tags image ⊎ HoldsObjects s head (points_after write points) (tags_after write tags) image)
+
+-- free and held pages, where that list is made, are exactly the pages outside the live tree
+abbrev pub IsExact : {M : Type 0} → OpenIndex M → DiskState → Type 0
+IsExact index disk = MatchOption index.free (Unit {0}) (AreOutside index.file.live.pages (live_pages (nodes_on index.file disk) index.file.live))
+
+-- ---- on any file
+
+-- the next live slot; nothing else of the index changes but what is kept of its pages and its free list
+pub record IsNext {M : Type 0} (write : Write) (old new : OpenIndex M) : Type 0 where
+  pub live : Live
+  pub is : new ≡ record old { file = record old.file { live = live; kept = new.file.kept }; free = new.free }
+  pub side : live.side ≡ 1 - old.file.live.side
+  pub generation : live.generation ≡ old.file.live.generation + 1
+  pub count : live.count ≡ old.file.live.count + added_by write
+  pub pages : old.file.live.pages ≤ live.pages
+  pub room : SameRoom old.file.kept new.file.kept
+
+-- A refusal leaves all as it was, but for what is kept of the pages, and for the free list, which may have been made.
+pub record IsRefused {M : Type 0} (old new : OpenIndex M) (before after : DiskState) : Type 0 where
+  pub is : new ≡ record old { file = record old.file { kept = new.file.kept }; free = new.free }
+  pub room : SameRoom old.file.kept new.file.kept
+  pub free : MatchOption old.free (Unit {0}) (λ f. new.free ≡ Some f)
+  pub same : IsUnchanged before after
+
+-- these pages are guarded by the pin of a generation
+abbrev pub GuardsPages : {M : Type 0} → ℕ → List ℕ → OpenIndex M → Type 0
+GuardsPages generation tree index = MatchOption index.free ⊥ (λ f. IsGuarded index.file.live.pages generation f tree)
+
+-- a guarded page holds in every image what it held
+abbrev pub KeepsPages : List ℕ → DiskState → DiskState → Type 0
+KeepsPages tree before after = EachImage before after (λ image. AllByRecursion (λ page. page_of image page ≡ page_of before.bytes page) tree)
+
+-- What a write does, on any file. Commit comes where the disk failed in the commit, and stops the index. On a sound file a crash at
+-- any moment leaves the objects before or after, and after Ok the file has the tree after. What a pin guards stays guarded, and
+-- holds what it held at every moment.
+pub record HasWritten {M : Type 0} (s : Space) (write : Write) (old new : OpenIndex M) (before after : DiskState) (result : Result ℕ IndexFault) : Type 0 where
+  pub answer : IfOk result (λ n. n ≡ answer_to write old.file.live.count)
+  pub next : OnOk result (IsNext write old new)
+  pub refused : IfErr result (λ fault. fault ≢ Commit → IsRefused old new before after)
+  pub stops : IfErr result (λ fault. fault ≡ Commit → (new.stopped ≡ true) × Rose before.faults after.faults)
+  pub moments : (points : List (List ℕ)) (tags : List ℕ) → HasObjects s old.file before points tags → LeavesEither s old.file.head write points tags before after
+  pub objects : (points : List (List ℕ)) (tags : List ℕ) → HasObjects s old.file before points tags →
+      OnOk result (HasObjects s new.file after (points_after write points) (tags_after write tags))
+  pub tree : (points : List (List ℕ)) (tags : List ℕ) → HasObjects s old.file before points tags →
+      OnOk result (tree_of (nodes_on new.file after) new.file.live ≡ tree_after s old.file.head write old.file.live.count (tree_of (nodes_on old.file before) old.file.live))
+  pub exact : (points : List (List ℕ)) (tags : List ℕ) → HasObjects s old.file before points tags → IsExact old before → OnOk result (IsExact new after)
+  pub guarded : (generation : ℕ) (tree : List ℕ) → GuardsPages generation tree old → OnOk result (GuardsPages generation tree new)
+  pub kept : (generation : ℕ) (tree : List ℕ) → IsTrue before.tells → GuardsPages generation tree old → KeepsPages tree before after
+
+-- ---- one commit
+
+-- Nodes were placed for the file: on the first of its free pages, of which so many are used, and from its end on.
+pub record IsPlacedOn {M : Type 0} (file : OpenFile M) (f : FreePages) (used : ℕ) (placed : Placed) : Type 0 where
+  pub added : ℕ
+  pub asked : ℕ
+  pub placement : IsPlacement file.head file.live (take asked f.free) added placed
+  pub used_is : used ≡ min (length placed.staged) (length (take asked f.free))
+  pub left_within : AllByRecursion (IsWithin file.live.pages) placed.left
+
+-- they take the place of the left ones, or are a tree by themselves in place of the root
+abbrev pub Follows : Nodes → Live → Placed → Type 0
+Follows nodes t placed = TakesPlace nodes t placed ⊎ (StandsByItself placed × (placed.left ≡ t.root ∷ []))
+
+-- what is kept once pages are forgotten
+abbrev pub forgotten : List ℕ → Pairs → Pairs
+forgotten [] kept = kept
+forgotten (page ∷ pages) kept = forgotten pages (without kept page)
+
+abbrev pub forgotten_of : List ℕ → Option Pairs → Option Pairs
+forgotten_of pages None = None
+forgotten_of pages (Some kept) = Some (forgotten pages kept)
+
+-- the file after the commit of what was placed, and its free list
+pub record IsCommitted {M : Type 0} (old new : OpenFile M) (f g : FreePages) (used : ℕ) (placed : Placed) (before after : DiskState) : Type 0 where
+  pub file : new ≡ record old { live = placed.next; kept = new.kept }
+  pub room : SameRoom old.kept new.kept
+  pub spare : ℕ
+  pub free : g ≡ after_commit used placed.left placed.next.generation (record f { spare = spare })
+  pub within : AreWithin placed.next.pages g
+  pub stands : StandsOn new after
+  pub only : IsTrue after.tells → LeavesOnly after after.bytes
+  pub beside : IsTrue after.tells → AreSpare (nodes_on new after) placed.next g
+  pub next : IsTrue before.tells → HasNext old.head.dim placed.next placed.staged after.bytes

@@ -1,0 +1,76 @@
+// The commit of what was placed for a file.
+ghost use Rattle.std.specs.Prelude.{◌≡◌, ◌⊎◌, ◌+◌, ◌≤◌, length, IsTrue, IsErrOf, OnOk, Err};
+ghost use Rattle.outside_io.specs.Causes.{Rose};
+ghost use Rattle.disk_model.specs.Disk.{LeavesOnly, EachImage};
+ghost use Rattle.page_store.specs.Staging.{pages_of};
+ghost use Rattle.shadow_root.specs.Commit.{IsBeforeOrAfter};
+ghost use Rattle.free_pages.specs.Commits.{AreWithin};
+ghost use Rattle.index_core.specs.Files.{StandsOn, nodes_on};
+ghost use Rattle.index_core.specs.Index.{AreSpare};
+ghost use Rattle.index_core.specs.Writing.{Follows, IsCommitted, IsPlacedOn, forgotten, forgotten_of};
+
+use crate::IndexFault;
+use crate::view::View;
+use disk_model::Disk;
+use free_pages::Free;
+use metric_laws::Metric;
+use page_cache::Kept;
+use page_store::{Placed, Staged};
+use shadow_root::commit;
+
+// Drops what is kept of the pages that new nodes go to.
+fn forget_all(kept: &mut Kept, staged: &Staged)
+    ensures { kept.new ≡ forgotten (pages_of staged.now) kept.old }
+{
+    for place in 0..staged.len() {
+        kept.forget(staged.page_at(place));
+    }
+}
+
+// The same where something is kept.
+fn forget(kept: &mut Option<Kept>, staged: &Staged)
+    ensures { kept.new ≡ forgotten_of (pages_of staged.now) kept.old }
+{
+    if let Some(kept) = kept {
+        forget_all(kept, staged);
+    }
+}
+
+impl<M: Metric> View<M> {
+    // Commits what was placed for the file, and settles the free list, whose first `used` pages it took. Room for the pages that are
+    // left is reserved first, and what is kept of pages that are written anew is dropped before the first write.
+    pub(crate) fn write<D: Disk>(
+        &mut self,
+        disk: &mut D,
+        free: &mut Free,
+        used: usize,
+        placed: &Placed,
+    ) -> Result<(), IndexFault>
+        requires stands { StandsOn self.old (D.state disk.old) }
+        requires only { IsTrue (D.state disk.old).tells → LeavesOnly (D.state disk.old) (D.state disk.old).bytes }
+        requires beside { IsTrue (D.state disk.old).tells → AreSpare (nodes_on self.old (D.state disk.old)) self.old.live free.old }
+        requires within { AreWithin self.old.live.pages free.old }
+        requires placed { IsPlacedOn self.old free.old used placed.now }
+        requires follows { IsTrue (D.state disk.old).tells → Follows (nodes_on self.old (D.state disk.old)) self.old.live placed.now }
+        ensures moments { IsTrue (D.state disk.old).tells →
+            EachImage (D.state disk.old) (D.state disk.new) (IsBeforeOrAfter self.old.head.dim self.old.live placed.now.next placed.now.staged (D.state disk.old)) }
+        ensures committed { OnOk result (IsCommitted self.old self.new free.old free.new used placed.now (D.state disk.old) (D.state disk.new)) }
+        ensures memory { IsErrOf result IndexFault.Memory → (self.new ≡ self.old) × (free.new ≡ free.old) × (disk.new ≡ disk.old) }
+        ensures commit { IsErrOf result IndexFault.Commit → Rose (D.state disk.old).faults (D.state disk.new).faults }
+        ensures refusals { (result ≡ Err IndexFault.Memory) ⊎ ((result ≡ Err IndexFault.Commit) ⊎ OnOk result (result ≡ result)) }
+        ensures tells { (D.state disk.new).tells ≡ (D.state disk.old).tells }
+        ensures reads { (D.state disk.new).reads ≤ (D.state disk.old).reads + 1 }
+        ensures later { (D.state disk.old).faults ≤ (D.state disk.new).faults }
+    {
+        if free.reserve(placed.left.as_slice().len()).is_err() {
+            return Err(IndexFault::Memory);
+        }
+        forget(&mut self.kept, &placed.staged);
+        if commit(disk, self.head.dim, &self.live, &placed.next, &placed.staged).is_err() {
+            return Err(IndexFault::Commit);
+        }
+        self.live = placed.next;
+        free.settle(used, placed.left.as_slice(), placed.next.generation);
+        Ok(())
+    }
+}
