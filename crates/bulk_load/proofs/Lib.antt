@@ -14,3 +14,4 @@ pub mod Committed
 pub mod Ahead
 pub mod Moved
 pub mod Joined
+pub mod Itself

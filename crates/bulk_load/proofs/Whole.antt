@@ -21,8 +21,9 @@ use Rattle.page_store.specs.declared.staging.StagedNode.{StagedNode}
 use Rattle.page_store.specs.declared.staging.Placed.{Placed}
 use Rattle.page_store.specs.Numbers.{number_at, numbered, AreNumbers}
 use Rattle.page_store.specs.Placing.{live_pages, AreOutside, staged_tree}
+use Rattle.page_store.specs.Staging.{pages_of}
 use Rattle.page_store.proofs.Standing.{HoldsFrom, pages_from, trees_from, trees_numbered, stand_holds, in_times, times_in, all_each}
-use Rattle.page_store.proofs.Given.{number_up, number_within, given_once}
+use Rattle.page_store.proofs.Given.{number_up, number_within, given_once, pages_numbered}
 use Rattle.page_store.proofs.Giving.{given_out, given_apart, given_each}
 use Rattle.page_store.proofs.Stored.{IsStoredAt, sound_of_stored}
 use Rattle.page_store.proofs.Ids.{with_id, tally_ids, tally_count, AreCounted}
@@ -111,6 +112,7 @@ has_loaded l space lawful t numbers placed empty low are staged at_root at_heigh
   points = next_points l space lawful number new placed.next at_root at_height count holds;
   tags = next_tags l space lawful number new placed.next at_root at_height count holds;
   fresh = ap (map (staged_tree new)) staged ∙ trees_numbered new number 0 (top_nodes l number) ∙ next_fresh l space lawful number new placed.next at_root at_height count holds;
+  pages = λ page. next_pages l space lawful number new placed.next at_root at_height count holds page ∙ ap (times page) (sym (ap pages_of staged ∙ pages_numbered number 0 (top_nodes l number)));
   left = leaves;
 }
   where

@@ -4,12 +4,13 @@ use Rattle.std.specs.List.{AllByRecursion}
 use Rattle.metric_laws.specs.Space.{Space}
 use Rattle.metric_laws.specs.Lists.{IsIn}
 use Rattle.tree_shape.specs.declared.live.Live.{Live}
-use Rattle.tree_shape.specs.Tree.{Nodes, IsSoundTree, points_by_id, tags_by_id}
+use Rattle.tree_shape.specs.Tree.{Nodes, IsSoundTree, points_by_id, tags_by_id, times}
 use Rattle.tree_shape.specs.Plain.{tree_of}
 use Rattle.tree_growth.specs.Bulk.{built}
 use Rattle.page_store.specs.declared.staging.Placed.{Placed}
 use Rattle.page_store.specs.declared.staging.StagedNode.{StagedNode}
 use Rattle.page_store.specs.Placing.{AreOutside, live_pages, staged_tree}
+use Rattle.page_store.specs.Staging.{pages_of}
 use Rattle.bulk_load.specs.Postorder.{subtrees_of}
 
 -- the staged nodes stand on their pages
@@ -20,8 +21,8 @@ Stand staged nodes = AllByRecursion (λ s. nodes s.page ≡ Some s.node) staged
 abbrev pub LeavesOld : Nodes → Live → Placed → Nodes → Type 0
 LeavesOld old t placed new = (page : ℕ) → IsIn page placed.left ↔ (IsIn page (live_pages old t) × (IsIn page (live_pages new placed.next) → ⊥))
 
--- nodes among which the staged ones stand have the tree of the rows and of nothing else, it is sound, and its subtrees were
--- staged children first; of a sound old tree that none of the numbers lies in, exactly the pages that are not in the new one
+-- nodes among which the staged ones stand have the tree of the rows and of nothing else, it is sound, its subtrees were staged
+-- children first, and its pages are the staged ones; of a sound old tree that none of the numbers lies in, exactly the pages that are not in the new one
 -- are left
 pub record HasLoaded (s : Space) (rows : List (List ℕ)) (labels : List ℕ) (t : Live) (numbers : List ℕ) (placed : Placed) (new : Nodes) : Type 0 where
   pub tree : tree_of new placed.next ≡ built s rows labels
@@ -29,4 +30,5 @@ pub record HasLoaded (s : Space) (rows : List (List ℕ)) (labels : List ℕ) (t
   pub points : points_by_id new placed.next ≡ rows
   pub tags : tags_by_id new placed.next ≡ labels
   pub fresh : map (staged_tree new) placed.staged ≡ subtrees_of (built s rows labels)
+  pub pages : (page : ℕ) → times page (live_pages new placed.next) ≡ times page (pages_of placed.staged)
   pub left : (old : Nodes) → IsSoundTree s old t → AreOutside old t numbers → LeavesOld old t placed new

@@ -8,6 +8,7 @@ ghost use Rattle.node_page.specs.Opening.{IsLawfulLive};
 ghost use Rattle.page_store.specs.Staging.{pages_of};
 ghost use Rattle.page_store.specs.Numbers.{AreNumbers};
 ghost use Rattle.page_store.specs.Placing.{AreOutside, IsPlacement};
+ghost use Rattle.page_store.specs.Succession.{StandsByItself};
 ghost use Rattle.bulk_load.specs.Causes.{HasBuildCause, node_count};
 ghost use Rattle.bulk_load.specs.Loaded.{HasLoaded, Stand};
 ghost use Rattle.bulk_load.specs.Postorder.{last_of};
@@ -118,6 +119,10 @@ pub fn build<R: Threads + Sync, M: Metric>(
     ensures placement { IfOk result (IsPlacement head.now live.now numbers.now (length rows.now.points)) }
     ensures many { IfOk result (λ placed. length placed.staged ≡ node_count (M.space metric) rows.now.points tags.now) }
     ensures apart { IfOk result (λ placed. (old : Nodes) → IsSoundTree (M.space metric) old live.now → AreOutside old live.now numbers.now → AreOutside old live.now (pages_of placed.staged)) }
+
+    // It is a tree by itself, and the old root is left.
+    ensures by_itself { IfOk result StandsByItself }
+    ensures left { IfOk result (λ placed. placed.left ≡ live.now.root ∷ []) }
 
     // What is placed is the tree of the rows.
     ensures loaded { IfOk result (λ placed. (new : Nodes) → Stand placed.staged new → HasLoaded (M.space metric) rows.now.points tags.now live.now numbers.now placed new) }

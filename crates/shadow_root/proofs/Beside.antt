@@ -25,9 +25,8 @@ use Rattle.page_store.specs.Reading.{IsWithin, is_within, judged, node_or_none}
 use Rattle.page_store.specs.Staging.{pages_of, staged_for}
 use Rattle.page_store.proofs.Standing.{in_times}
 use Rattle.shadow_root.specs.Commit.{IsNotStaged, IsStagedAs}
-use Rattle.shadow_root.specs.Live.{IsInTree}
-use Rattle.shadow_root.specs.Live.IsInTree.{root, child}
-use Rattle.shadow_root.specs.Placements.{PlacementsCanFollow, OutsideIsBeside, InPlaceIsOver}
+use Rattle.page_store.proofs.Whole.{stand_on_pages}
+use Rattle.shadow_root.specs.Placements.{PlacementsCanFollow, NewIsBeside, InPlaceIsWritten}
 
 -- what holds of all staged nodes holds of each
 at_place : {X : Type 0} (P : X → Type 0) (xs : List X) → AllByRecursion P xs → (k : ℕ) (x : X) → slice_get xs k ≡ Some x → P x
@@ -63,48 +62,15 @@ placements_can_follow head t numbers added placed side is =
       },
     )
 
--- a page of a sound tree: it is sound at its height, and the pages below it are the tree's
-record Stands (s : Space) (nodes : Nodes) (t : Live) (page : ℕ) : Type 0 where
-  high : ℕ
-  least : ℕ
-  above : Option (List ℕ)
-  sound : IsSoundAt s nodes high least above page
-  pages : (n : ℕ) → IsIn n (pages_at nodes high page) → IsIn n (live_pages nodes t)
+-- a page at which a node is staged is one of the staged pages
+staged_in : (staged : List StagedNode) (k : ℕ) (s : StagedNode) → IsStagedAs staged k s → IsIn s.page (pages_of staged)
+staged_in [] k s is = absurd cc
+staged_in (x ∷ staged) zero s is = inl (ap (λ (y : StagedNode). y.page) (let e : s ≡ x = cc in e))
+staged_in (x ∷ staged) (suc k) s is = inr (staged_in staged k s is)
 
-below : (s : Space) (nodes : Nodes) (t : Live) (page : ℕ) (e : InnerEntry) (h least : ℕ) (above : Option (List ℕ)) → IsSoundAt s nodes h least above page →
-    ((n : ℕ) → IsIn n (pages_at nodes h page) → IsIn n (live_pages nodes t)) → IsIn e (inner_entries (nodes page)) → Stands s nodes t e.child
-below s nodes t page e zero least above sound pages stands = absurd (subst (λ (o : Option Node). IsIn e (inner_entries o)) sound.1 stands)
-below s nodes t page e (suc h) least above sound pages stands =
-    let here : IsIn e sound.0 = subst (λ (o : Option Node). IsIn e (inner_entries o)) sound.1 stands in
-    record {
-      high = h;
-      least = _;
-      above = Some e.point;
-      sound = (all_in _ sound.0 e sound.3 here).1;
-      pages = λ n k. pages n (inr (in-flat_map (λ (x : InnerEntry). pages_at nodes h x.child) (inner_entries (nodes page)) e n stands k));
-    }
-
-stands_in : (s : Space) (nodes : Nodes) (t : Live) → IsSoundTree s nodes t → (page : ℕ) → IsInTree nodes t page → Stands s nodes t page
-stands_in s nodes t sound page (root within) = record { high = t.height; least = root_least t.height; above = None; sound = sound.parts; pages = λ n k. k }
-stands_in s nodes t sound page (child p e above stands within) =
-    let up = stands_in s nodes t sound p above in
-    below s nodes t p e up.high up.least up.above up.sound up.pages stands
-
-first_page : (nodes : Nodes) (h page : ℕ) → IsIn page (pages_at nodes h page)
-first_page nodes zero page = inl refl
-first_page nodes (suc h) page = inl refl
-
-outside_at : (nodes : Nodes) (t : Live) (staged : List StagedNode) → AreOutside nodes t (pages_of staged) → (k : ℕ) (s : StagedNode) → IsStagedAs staged k s → times s.page (live_pages nodes t) ≡ 0
-outside_at nodes t [] all k s is = absurd cc
-outside_at nodes t (x ∷ staged) all zero s is = ap (λ (y : StagedNode). times y.page (live_pages nodes t)) (let e : s ≡ x = cc in e) ∙ all.0
-outside_at nodes t (x ∷ staged) all (suc k) s is = outside_at nodes t staged all.1 k s is
-
-pub outside_is_beside : OutsideIsBeside
-outside_is_beside s nodes t staged sound outside k node stands inside =
-    let up = stands_in s nodes t sound node.page inside in
-    let some = in_times node.page (live_pages nodes t) (up.pages node.page (first_page nodes up.high node.page)) in
-    let none = outside_at nodes t staged outside k node stands in
-    absurd (omega (arith, some, none))
+pub new_is_beside : NewIsBeside
+new_is_beside nodes t next tree staged stands new k node is live =
+    new.outside node.page (staged_in staged k node is) (stand_on_pages.reached nodes t tree node.page stands live.1)
 
 -- what holds at each place holds of all
 all_places : {X : Type 0} (P : X → Type 0) (xs : List X) → ((k : ℕ) (x : X) → slice_get xs k ≡ Some x → P x) → AllByRecursion P xs
@@ -136,16 +102,16 @@ spelled_stands dim next file page node within spells =
     ∙ ap (λ (n : Node). Ok n) (node_is Second dim (page_of file page) node spells))
 
 -- the same bytes hold the same node
-same_bytes : (dim : ℕ) (t next : Live) (old new : List ℕ) (page : ℕ) → IsWithin t.pages page → t.pages ≤ next.pages → page_of new page ≡ page_of old page → nodes_in dim next new page ≡ nodes_in dim t old page
+pub same_bytes : (dim : ℕ) (t next : Live) (old new : List ℕ) (page : ℕ) → IsWithin t.pages page → t.pages ≤ next.pages → page_of new page ≡ page_of old page → nodes_in dim next new page ≡ nodes_in dim t old page
 same_bytes dim t next old new page within wide same =
     ap node_or_none (reads_page Second dim next.pages new page (within_told next.pages page (within.0, (let b = within.1 in omega (arith, b, wide))))
     ∙ ap (λ (bytes : List ℕ). judged page (fault_in Second dim bytes) (node_in Second dim bytes)) same
     ∙ sym (reads_page Second dim t.pages old page (within_told t.pages page within)))
 
-pub in_place_is_over : InPlaceIsOver
-in_place_is_over dim t next staged old new wide within for in_place others = record {
+pub in_place_is_written : InPlaceIsWritten
+in_place_is_written dim t next tree staged old new wide within for in_place others = record {
   stand = all_places (λ s. nodes_in dim next new s.page ≡ Some s.node) staged (λ k s is. spelled_stands dim next new s.page s.node (for.within k s is) (in_place k s is));
   stay = λ page k none.
-      let here = all_in (IsNodePage t) (live_pages (nodes_in dim t old) t) page within k in
-      same_bytes dim t next old new page here wide (others page here (none_staged staged page none));
+      let here = all_in (IsNodePage t) tree page within k in
+      same_bytes dim t next old new page here wide (others page (inr here) (none_staged staged page none));
 }

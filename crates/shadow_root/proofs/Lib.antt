@@ -7,3 +7,4 @@ pub mod Causes
 pub mod Made
 pub mod Ready
 pub mod Beside
+pub mod Lists

@@ -21,7 +21,7 @@ use Rattle.page_store.specs.Reading.{is_within, judged, reading, nodes_of}
 use Rattle.page_store.specs.Answers.{reads_page}
 use Rattle.page_store.specs.Files.{nodes_in}
 use Rattle.shadow_root.specs.Commit.{HasFields}
-use Rattle.shadow_root.specs.Making.{first_live, IsMade}
+use Rattle.shadow_root.specs.Making.{first_live, IsBare, IsMade}
 use Rattle.shadow_root.proofs.Torn.{written_page}
 use Rattle.shadow_root.proofs.Phases.{fields_by, slot_by_fields, byte_open, open_byte}
 
@@ -124,6 +124,12 @@ module _ (head : Head) (head_page slot zeros old new : List ℕ) (spells : Spell
       high_pages = omega arith;
       room = omega (arith, long, written.size);
     };
+  }
+
+  pub is_bare : length old ≡ 16384 → IsBare new
+  is_bare exact = record {
+    size = omega (arith, exact, written.size);
+    second_slot = λ k from to. ap (λ (p : List ℕ). slice_index p k) (apart 2 (omega arith) ∙ page2) ∙ are_zeros k;
   }
 
   pub is_made : IsMade head new

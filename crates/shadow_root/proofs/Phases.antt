@@ -15,8 +15,8 @@ use Rattle.node_page.proofs.Numbers.{number_kept}
 use Rattle.page_store.specs.PageBytes.{place-page_of}
 use Rattle.page_store.specs.Files.{nodes_in}
 use Rattle.page_store.specs.declared.staging.StagedNode.{StagedNode}
-use Rattle.shadow_root.specs.Live.{IsInTree, in_range, IsSuccessor}
-use Rattle.shadow_root.specs.Commit.{IsStagedAs, KeepsTree, HasNext, IsOldPage, KeepsOthers, IsBeforeOrAfter, IsRewritten, IsFromClosed, IsStagedFor, HasFields, IsKept, IsWritten}
+use Rattle.shadow_root.specs.Live.{IsLivePage, IsSuccessor}
+use Rattle.shadow_root.specs.Commit.{IsStagedAs, KeepsTree, HasNext, IsOldPage, KeepsOthers, IsNoLonger, StaysWithin, IsBeforeOrAfter, IsRewritten, IsFromClosed, IsStagedFor, HasFields, IsKept, IsPrepared}
 use Rattle.shadow_root.proofs.Torn.{torn_page, rewritten_page}
 
 -- ---- gates
@@ -92,7 +92,7 @@ same_generation old new side same = number_kept 8 8 (page_of new (1 + side)) (pa
 module _ (dim : ℕ) (live : Live) (staged : List StagedNode) (start : DiskState) where
   -- the new nodes lie beside the tree
   pub kept_from_rewritten : (image file : List ℕ) → MayLeave start image → KeepsTree dim live start.bytes image → IsRewritten staged image file
-      → ((k : ℕ) (s : StagedNode) → IsStagedAs staged k s → 3 ≤ s.page) → ((k : ℕ) (s : StagedNode) → IsStagedAs staged k s → IsInTree (nodes_in dim live start.bytes) live s.page → ⊥) → IsKept dim live staged start file
+      → ((k : ℕ) (s : StagedNode) → IsStagedAs staged k s → 3 ≤ s.page) → ((k : ℕ) (s : StagedNode) → IsStagedAs staged k s → IsLivePage (nodes_in dim live start.bytes) live s.page → ⊥) → IsKept dim live staged start file
   kept_from_rewritten image file left keeps rewritten above outside = record {
     tree = record {
       opens = record {
@@ -100,10 +100,11 @@ module _ (dim : ℕ) (live : Live) (staged : List StagedNode) (start : DiskState
         opens = opens_by image file keeps.opens.head live opens rewritten.no_shorter (slot 0 (omega arith)) (slot (1 + live.side) (omega (arith, opens.side)))
             (λ is. rw (page_generation image file (1 - live.side) (slot (1 + (1 - live.side)) (omega arith))) (opens.newest (same_open image file (1 - live.side) (slot (1 + (1 - live.side)) (omega arith)) is)));
       };
-      tree = λ p inside. rewritten_page staged image file p rewritten (λ k s stands is. outside k s stands (subst (IsInTree (nodes_in dim live start.bytes) live) (sym is) inside))
-          (omega (arith, (in_range (nodes_in dim live start.bytes) live p inside).1, opens.lawful.room)) ∙ keeps.tree p inside;
+      tree = λ p inside. rewritten_page staged image file p rewritten (λ k s stands is. outside k s stands (subst (IsLivePage (nodes_in dim live start.bytes) live) (sym is) inside))
+          (omega (arith, inside.0.1, opens.lawful.room)) ∙ keeps.tree p inside;
     };
     others = λ p bytes which none same. rewritten_page staged image file p rewritten none (within p which) ∙ same image left;
+    size = λ most low room images. rewritten.no_longer most (images image left) room;
   }
     where
       opens : OpensTo image keeps.opens.head live
@@ -126,10 +127,11 @@ module _ (dim : ℕ) (live : Live) (staged : List StagedNode) (start : DiskState
         opens = opens_by old new kept.tree.opens.head live opens torn.no_shorter (elsewhere 0 (omega (arith, opens.side)) (omega (arith, opens.long)))
             (elsewhere (1 + live.side) (omega (arith, opens.side)) (omega (arith, opens.long, opens.side))) newest;
       };
-      tree = λ p inside. elsewhere p (let far = (in_range (nodes_in dim live start.bytes) live p inside).0 in omega (arith, far))
-          (omega (arith, (in_range (nodes_in dim live start.bytes) live p inside).1, opens.lawful.room)) ∙ kept.tree.tree p inside;
+      tree = λ p inside. elsewhere p (let far = inside.0.0 in omega (arith, far))
+          (omega (arith, inside.0.1, opens.lawful.room)) ∙ kept.tree.tree p inside;
     };
     others = λ p bytes which none same. elsewhere p (apart p which) (within p which) ∙ kept.others p bytes which none same;
+    size = λ most low room images. let was = kept.size most low room images in let long = torn.no_longer in omega (arith, was, long, low, to);
   }
     where
       opens : OpensTo old kept.tree.opens.head live
@@ -246,13 +248,17 @@ module _ (dim : ℕ) (live next : Live) (staged : List StagedNode) (start : Disk
   abbrev before_or_after : List ℕ → Type 0
   before_or_after = IsBeforeOrAfter dim live next staged start
 
+  -- what lies within the slots, the staged pages and the files at the start lies within the next tree's pages and those
+  no_longer : (file : List ℕ) → StaysWithin staged start file → IsNoLonger next start file
+  no_longer file stays most low images = stays most (omega (arith, low, follows.low_root, follows.high_root)) (λ k s stands. let high = (ready.within k s stands).1 in omega (arith, low, high)) images
+
   pub still_before : (file : List ℕ) → IsKept dim live staged start file → before_or_after file
-  still_before file kept = record { either = inl kept.tree; others = kept.others }
+  still_before file kept = record { either = inl kept.tree; others = kept.others; size = no_longer file kept.size }
 
   -- once the gate reads open
-  pub opened : (old new : List ℕ) → IsWritten dim live next staged start old → Torn (gate_at (1 - live.side)) 1 old new → slice_index new (gate_at (1 - live.side)) ≡ 165
+  pub opened : (old new : List ℕ) → IsPrepared dim live next staged start old → Torn (gate_at (1 - live.side)) 1 old new → slice_index new (gate_at (1 - live.side)) ≡ 165
       → HasNext dim next staged new × before_or_after new
-  opened old new written torn is = (has, record { either = inr has; others = others })
+  opened old new written torn is = (has, record { either = inr has; others = others; size = no_longer new size })
     where
       opens : OpensTo old written.before.head live
       opens = written.before.opens
@@ -321,11 +327,14 @@ module _ (dim : ℕ) (live next : Live) (staged : List StagedNode) (start : Disk
       within p (inl is) = omega (arith, opens.long)
       within p (inr between) = omega (arith, opens.lawful.room, between.1)
 
+      size : StaysWithin staged start new
+      size most low room images = let was = written.before.kept.size most low room images in let long = torn.no_longer in omega (arith, was, long, low)
+
       others : KeepsOthers live staged start new
       others p bytes which none same = elsewhere p (apart p which) (within p which) ∙ written.before.kept.others p bytes which none same
 
   -- a crash while the gate is written
-  pub opening : (old new : List ℕ) → IsWritten dim live next staged start old → Torn (gate_at (1 - live.side)) 1 old new → before_or_after new
+  pub opening : (old new : List ℕ) → IsPrepared dim live next staged start old → Torn (gate_at (1 - live.side)) 1 old new → before_or_after new
   opening old new written torn = elim (cases_eq (slice_index new (gate_at (1 - live.side))) 165) [
     | inl is ↦ (opened old new written torn is).1
     | inr shut ↦ still_before new (kept_unopened dim live staged start old new written.before.kept torn shut)

@@ -11,8 +11,8 @@ use Rattle.node_page.specs.declared.head.Head.{Head}
 use Rattle.node_page.specs.Opening.{page_of, OpensTo}
 use Rattle.page_store.specs.declared.staging.StagedNode.{StagedNode}
 use Rattle.page_store.specs.Files.{nodes_in}
-use Rattle.shadow_root.specs.Live.{IsInTree}
-use Rattle.shadow_root.specs.Live.IsInTree.{root, child}
+use Rattle.page_store.specs.Reached.{IsReached}
+use Rattle.page_store.specs.Reached.IsReached.{at_root, by_child}
 use Rattle.shadow_root.specs.Commit.{IsStagedAs, IsReady, IsStagedFor}
 use Rattle.node_page.specs.Nodes.{IsLawfulNode}
 use Rattle.page_store.specs.Reading.{IsWithin}
@@ -27,10 +27,10 @@ unfolding space_of
 words_of dim = refl
 
 -- the tree of a leaf is its page
-leaf_alone : (nodes : Nodes) (live : Live) → ((e : InnerEntry) → IsIn e (inner_entries (nodes live.root)) → ⊥) → (p : ℕ) → IsInTree nodes live p → p ≡ live.root
-leaf_alone nodes live none p (root within) = refl
-leaf_alone nodes live none p (child q e above stands within) =
-    let at : q ≡ live.root = leaf_alone nodes live none q above in
+leaf_alone : (nodes : Nodes) (root : ℕ) → ((e : InnerEntry) → IsIn e (inner_entries (nodes root)) → ⊥) → (p : ℕ) → IsReached nodes root p → p ≡ root
+leaf_alone nodes root none _ at_root = refl
+leaf_alone nodes root none _ (by_child q e above stands) =
+    let at : q ≡ root = leaf_alone nodes root none q above in
     absurd (none e (subst (λ (n : ℕ). IsIn e (inner_entries (nodes n))) at stands))
 
 pub ready_of_new : (head : Head) (next : Live) (staged : List StagedNode) (disk : DiskState) → IsMade head disk.bytes → head.version ≡ 2 → LeavesOnly disk disk.bytes → next.count ≤ head.limit
@@ -48,8 +48,8 @@ ready_of_new head next staged disk made version only count apart =
         opens = record { head = head; opens = subst (λ (b : List ℕ). OpensTo b head first_live) (sym (only image left)) sound.opens };
         tree = λ p inside. ap (λ (b : List ℕ). page_of b p) (only image left);
       };
-      beside = λ k s stands inside. apart k s stands (leaf_alone (nodes_in head.dim first_live disk.bytes) first_live
-          (λ e is. subst (λ (n : Option Node). IsIn e (inner_entries n)) leaf.1 is) s.page inside);
+      beside = λ k s stands inside. apart k s stands (leaf_alone (nodes_in head.dim first_live disk.bytes) first_live.root
+          (λ e is. subst (λ (n : Option Node). IsIn e (inner_entries n)) leaf.1 is) s.page inside.1);
     }
 
 -- one node that is staged

@@ -10,7 +10,7 @@ use Rattle.node_page.specs.Opening.{page_of, OpensTo}
 use Rattle.page_store.specs.PageBytes.{place-page_of}
 use Rattle.page_store.specs.declared.staging.StagedNode.{StagedNode}
 use Rattle.shadow_root.specs.Live.{IsSuccessor}
-use Rattle.shadow_root.specs.Commit.{IsStagedAs, IsInPlace, HasNext, IsBeforeOrAfter, IsRewritten, IsFromRewritten, IsFromClosed, IsStagedFor, IsReady, HasFields, IsKept, IsStaged, IsWritten}
+use Rattle.shadow_root.specs.Commit.{IsStagedAs, IsInPlace, HasNext, IsBeforeOrAfter, IsRewritten, IsFromRewritten, IsFromClosed, IsStagedFor, IsReady, HasFields, IsKept, IsStaged, IsPrepared}
 use Rattle.shadow_root.proofs.Torn.{rewritten_page, torn_page, written_page}
 use Rattle.shadow_root.proofs.Phases.{gate_at, kept_from_rewritten, kept_closed, kept_shut, fields_by, opens_by, still_before, opened, opening, open_byte}
 
@@ -121,7 +121,7 @@ module _ (dim : ℕ) (live next : Live) (staged : List StagedNode) (start : Disk
       (weakened mid disk (Torn at count mid.bytes) Kept writing (λ image torn. kept_shut dim live staged start mid.bytes image is_staged.kept is_staged.shut (rw (← same, ← count_is) torn)))
 
   pub is_written : (at : ℕ) (old new body slot : List ℕ) → at ≡ 4096 * (1 + next.side) + 1 → IsStaged dim live next staged start old → Written at body old new → length body ≡ 4095 → HasFields slot next
-      → ((k : ℕ) → k < 4095 → slice_index body k ≡ slice_index slot (k + 1)) → IsWritten dim live next staged start new
+      → ((k : ℕ) → k < 4095 → slice_index body k ≡ slice_index slot (k + 1)) → IsPrepared dim live next staged start new
   is_written at old new body slot at_is was written_at size has is = record {
     before = record {
       kept = kept_shut dim live staged start old new was.kept was.shut (subst (λ (n : ℕ). Torn (place + 1) n old new) size (written_torn (place + 1) body old new written));
@@ -160,13 +160,13 @@ module _ (dim : ℕ) (live next : Live) (staged : List StagedNode) (start : Disk
 
   -- ---- the third phase
 
-  pub run_gate : (at : ℕ) (mid disk : DiskState) → at ≡ 4096 * (1 + next.side) → EachImage start mid Kept → IsWritten dim live next staged start mid.bytes → EachImage mid disk (Torn at 1 mid.bytes) → EachImage start disk Either
+  pub run_gate : (at : ℕ) (mid disk : DiskState) → at ≡ 4096 * (1 + next.side) → EachImage start mid Kept → IsPrepared dim live next staged start mid.bytes → EachImage mid disk (Torn at 1 mid.bytes) → EachImage start disk Either
   run_gate at mid disk at_is run written writing =
       let same : at ≡ place = omega (arith, at_is, follows.sides) in
       joined start mid disk Either (weakened start mid Kept Either run still)
       (weakened mid disk (Torn at 1 mid.bytes) Either writing (λ image torn. opening dim live next staged start follows ready_nodes mid.bytes image written (rw (← same) torn)))
 
-  pub has_next : (at : ℕ) (old new : List ℕ) → at ≡ 4096 * (1 + next.side) → IsWritten dim live next staged start old → Written at (165 ∷ []) old new → HasNext dim next staged new
+  pub has_next : (at : ℕ) (old new : List ℕ) → at ≡ 4096 * (1 + next.side) → IsPrepared dim live next staged start old → Written at (165 ∷ []) old new → HasNext dim next staged new
   has_next at old new at_is was written =
       let same : at ≡ place = omega (arith, at_is, follows.sides) in
       let is_open_then : slice_index new at ≡ 165 = ap (λ (i : ℕ). slice_index new i) (let e : at ≡ at + 0 = omega arith in e) ∙ written.inside 0 (omega arith) in

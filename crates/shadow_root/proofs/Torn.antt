@@ -35,17 +35,19 @@ rewritten_page staged old new p rewritten none within = same_page new old p (λ 
 -- ---- rewriting
 
 pub rewritten_none : (staged : List StagedNode) (old : List ℕ) → IsRewritten staged old old
-rewritten_none staged old = record { no_shorter = omega arith; others = λ i within elsewhere. refl }
+rewritten_none staged old = record { no_shorter = omega arith; no_longer = λ most long room. long; others = λ i within elsewhere. refl }
 
 pub rewritten_then : (staged : List StagedNode) (old mid new : List ℕ) → IsRewritten staged old mid → IsRewritten staged mid new → IsRewritten staged old new
 rewritten_then staged old mid new first second = record {
   no_shorter = omega (arith, first.no_shorter, second.no_shorter);
+  no_longer = λ most long room. second.no_longer most (first.no_longer most long room) room;
   others = λ i within elsewhere. second.others i (omega (arith, first.no_shorter)) elsewhere ∙ first.others i within elsewhere;
 }
 
 pub rewritten_torn : (staged : List StagedNode) (old new : List ℕ) (k : ℕ) (s : StagedNode) (at count : ℕ) → IsStagedAs staged k s → at ≡ 4096 * s.page → count ≡ 4096 → Torn at count old new → IsRewritten staged old new
 rewritten_torn staged old new k s at count stands place size torn = record {
   no_shorter = torn.no_shorter;
+  no_longer = λ most long room. let here = room k s stands in let most_is = torn.no_longer in omega (arith, here, most_is, long, place, size);
   others = λ i within elsewhere. ⊎_elim (λ before. torn.below i within (omega arith)) (λ behind. torn.above i within (omega arith)) (elsewhere k s stands);
 }
 

@@ -10,7 +10,7 @@ use Rattle.node_page.specs.Opening.{page_of, OpensTo}
 use Rattle.page_store.specs.declared.staging.StagedNode.{StagedNode}
 use Rattle.page_store.specs.Reading.{IsWithin}
 use Rattle.page_store.specs.Files.{nodes_in}
-use Rattle.shadow_root.specs.Live.{HasLive, IsInTree}
+use Rattle.shadow_root.specs.Live.{HasLive, IsLivePage}
 
 -- the node that was staged as number k
 abbrev pub IsStagedAs : List StagedNode → ℕ → StagedNode → Type 0
@@ -27,7 +27,7 @@ IsInPlace dim staged file = (k : ℕ) (s : StagedNode) → IsStagedAs staged k s
 -- the file opens to the live slot, and each page of its tree is as in `base`
 pub record KeepsTree (dim : ℕ) (live : Live) (base file : List ℕ) : Type 0 where
   pub opens : HasLive live file
-  pub tree : (p : ℕ) → IsInTree (nodes_in dim live base) live p → page_of file p ≡ page_of base p
+  pub tree : (p : ℕ) → IsLivePage (nodes_in dim live base) live p → page_of file p ≡ page_of base p
 
 -- the file opens to the next slot, and each staged node stands on its page
 pub record HasNext (dim : ℕ) (next : Live) (staged : List StagedNode) (file : List ℕ) : Type 0 where
@@ -44,10 +44,15 @@ abbrev pub KeepsOthers : Live → List StagedNode → DiskState → List ℕ →
 KeepsOthers live staged start file =
     (p : ℕ) (bytes : List ℕ) → IsOldPage live p → IsNotStaged staged p → ((image : List ℕ) → MayLeave start image → page_of image p ≡ bytes) → page_of file p ≡ bytes
 
+-- no longer than the next tree's pages and the longest file at the start
+abbrev pub IsNoLonger : Live → DiskState → List ℕ → Type 0
+IsNoLonger next start file = (most : ℕ) → 4096 * next.pages ≤ most → ((image : List ℕ) → MayLeave start image → length image ≤ most) → length file ≤ most
+
 -- what stood before the commit, or what stands after it
 pub record IsBeforeOrAfter (dim : ℕ) (live next : Live) (staged : List StagedNode) (start : DiskState) (file : List ℕ) : Type 0 where
   pub either : KeepsTree dim live start.bytes file ⊎ HasNext dim next staged file
   pub others : KeepsOthers live staged start file
+  pub size : IsNoLonger next start file
 
 -- the staged nodes can be written, on pages among next's; and every page that is new is staged
 pub record IsStagedFor (dim : ℕ) (live next : Live) (staged : List StagedNode) : Type 0 where
@@ -64,7 +69,7 @@ pub record IsReady (dim : ℕ) (live next : Live) (staged : List StagedNode) (st
   pub dim_is : head.dim ≡ dim
   pub count : next.count ≤ head.limit
   pub images : (image : List ℕ) → MayLeave start image → KeepsTree dim live start.bytes image
-  pub beside : (k : ℕ) (s : StagedNode) → IsStagedAs staged k s → IsInTree (nodes_in dim live start.bytes) live s.page → ⊥
+  pub beside : (k : ℕ) (s : StagedNode) → IsStagedAs staged k s → IsLivePage (nodes_in dim live start.bytes) live s.page → ⊥
 
 -- ---- the steps of a commit
 
@@ -72,9 +77,14 @@ pub record IsReady (dim : ℕ) (live next : Live) (staged : List StagedNode) (st
 abbrev pub IsElsewhere : List StagedNode → ℕ → Type 0
 IsElsewhere staged i = (k : ℕ) (s : StagedNode) → IsStagedAs staged k s → (i < 4096 * s.page) ⊎ (4096 * s.page + 4096 ≤ i)
 
--- nothing but the staged pages, and what lies past the old end, has changed
+-- a file of this length has room for the staged pages
+abbrev pub HasRoom : List StagedNode → ℕ → Type 0
+HasRoom staged most = (k : ℕ) (s : StagedNode) → IsStagedAs staged k s → 4096 * s.page + 4096 ≤ most
+
+-- nothing but the staged pages, and what lies past the old end, has changed, and nothing was written past the staged pages
 pub record IsRewritten (staged : List StagedNode) (old new : List ℕ) : Type 0 where
   pub no_shorter : length old ≤ length new
+  pub no_longer : (most : ℕ) → length old ≤ most → HasRoom staged most → length new ≤ most
   pub others : (i : ℕ) → i < length old → IsElsewhere staged i → slice_index new i ≡ slice_index old i
 
 -- the file is an image of the start in which the staged pages were rewritten
@@ -95,10 +105,15 @@ pub record HasFields (page : List ℕ) (live : Live) : Type 0 where
   pub pages : number_at 28 4 page ≡ live.pages
   pub rest : HasSlotRest page
 
+-- no longer than the slots, the staged pages and the longest file at the start
+abbrev pub StaysWithin : List StagedNode → DiskState → List ℕ → Type 0
+StaysWithin staged start file = (most : ℕ) → 12288 ≤ most → HasRoom staged most → ((image : List ℕ) → MayLeave start image → length image ≤ most) → length file ≤ most
+
 -- as before the commit
 pub record IsKept (dim : ℕ) (live : Live) (staged : List StagedNode) (start : DiskState) (file : List ℕ) : Type 0 where
   pub tree : KeepsTree dim live start.bytes file
   pub others : KeepsOthers live staged start file
+  pub size : StaysWithin staged start file
 
 -- the nodes are in place, and the other gate is closed
 pub record IsStaged (dim : ℕ) (live next : Live) (staged : List StagedNode) (start : DiskState) (file : List ℕ) : Type 0 where
@@ -111,6 +126,6 @@ pub record IsStaged (dim : ℕ) (live next : Live) (staged : List StagedNode) (s
   pub shut : slice_index file (4096 * (1 + (1 - live.side))) ≢ 165
 
 -- and the fields of the next slot stand behind that gate
-pub record IsWritten (dim : ℕ) (live next : Live) (staged : List StagedNode) (start : DiskState) (file : List ℕ) : Type 0 where
+pub record IsPrepared (dim : ℕ) (live next : Live) (staged : List StagedNode) (start : DiskState) (file : List ℕ) : Type 0 where
   pub before : IsStaged dim live next staged start file
   pub fields : HasFields (page_of file (1 + (1 - live.side))) next

@@ -4,6 +4,8 @@ use Rattle.outside_io.specs.Causes.{Rose}
 use Rattle.disk_model.specs.Disk.{DiskState, IsUnchanged}
 use Rattle.metric_laws.specs.Space.{Space}
 use Rattle.tree_shape.specs.declared.live.Live.{Live}
+use Rattle.node_page.specs.Bytes.{AreZero}
+use Rattle.node_page.specs.Opening.{page_of}
 use Rattle.node_page.specs.declared.head.Head.{Head}
 use Rattle.page_store.specs.Files.{IsSoundFile}
 use Rattle.shadow_root.specs.declared.faults.CreateFault.{CreateFault}
@@ -16,6 +18,11 @@ first_live = record { side = 0; generation = 1; root = 3; height = 0; count = 0;
 -- the file is empty, and sound in each space of the head's dimension
 abbrev pub IsMade : Head → List ℕ → Type 0
 IsMade head file = (s : Space) → s.words ≡ head.dim → IsSoundFile s head first_live file
+
+-- the file ends with its leaf, and nothing stands in its second slot
+pub record IsBare (file : List ℕ) : Type 0 where
+  pub size : length file ≡ 16384
+  pub second_slot : AreZero 0 4096 (page_of file 2)
 
 -- a file that holds something is left as it is; else the disk failed
 abbrev pub HasCreateCause : DiskState → DiskState → CreateFault → Type 0

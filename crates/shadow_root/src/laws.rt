@@ -1,19 +1,24 @@
 //! Laws of commits.
 
-ghost use Rattle.shadow_root.specs.Placements.{InPlaceIsOver, OutsideIsBeside, PlacementsCanFollow};
+ghost use Rattle.shadow_root.specs.Placements.{CommitsKeepLists, InPlaceIsWritten, NewIsBeside, PlacementsCanFollow};
 
 /// What an insertion or a bulk load places has a live slot that can follow the live one, and its nodes are staged for it.
 pub fn placements_can_follow()
     ensures { PlacementsCanFollow }
 {}
 
-/// Staged pages that are none of a sound tree's are beside the live tree, as a commit asks.
-pub fn outside_is_beside()
-    ensures { OutsideIsBeside }
+/// Staged pages on which the live tree doesn't stand are beside it, as a commit asks.
+pub fn new_is_beside()
+    ensures { NewIsBeside }
 {}
 
-/// A file with the staged nodes in place, and with the other pages as they were, is one of which insertion and bulk
-/// loading say what tree it has.
-pub fn in_place_is_over()
-    ensures { InPlaceIsOver }
+/// In a file with the staged nodes in place, and with the other pages as they were, the nodes are written over the old file.
+pub fn in_place_is_written()
+    ensures { InPlaceIsWritten }
+{}
+
+/// At any moment of a commit on a sound file, each file that a crash leaves is sound, with the old points and tags or with the
+/// new ones.
+pub fn commits_keep_lists()
+    ensures { CommitsKeepLists }
 {}

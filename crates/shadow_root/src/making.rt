@@ -4,7 +4,7 @@ ghost use Rattle.outside_io.specs.Causes.{HasCause};
 ghost use Rattle.disk_model.specs.Disk.{LeavesOnly};
 ghost use Rattle.node_page.specs.Heads.{IsLawfulHead};
 ghost use Rattle.node_page.specs.Opening.{page_of};
-ghost use Rattle.shadow_root.specs.Making.{first_live, IsMade, HasCreateCause};
+ghost use Rattle.shadow_root.specs.Making.{first_live, IsBare, IsMade, HasCreateCause};
 
 use crate::CreateFault;
 use crate::committing::{OPEN, PAGE, slot_of, write_through};
@@ -46,7 +46,7 @@ fn lay_out<D: Disk>(
     ensures slot { OnOk result (IsTrue (D.state disk.old).tells → page_of (D.state disk.new).bytes 1 ≡ slot.now) }
     ensures other { OnOk result (IsTrue (D.state disk.old).tells → page_of (D.state disk.new).bytes 2 ≡ zeros.now) }
     ensures leaf { OnOk result (IsTrue (D.state disk.old).tells → page_of (D.state disk.new).bytes 3 ≡ zeros.now) }
-    ensures size { OnOk result (IsTrue (D.state disk.old).tells → 16384 ≤ length (D.state disk.new).bytes) }
+    ensures size { OnOk result (IsTrue (D.state disk.old).tells → length (D.state disk.new).bytes ≡ max (length (D.state disk.old).bytes) 16384) }
     ensures only { OnOk result (LeavesOnly (D.state disk.new) (D.state disk.new).bytes) }
     ensures tells { (D.state disk.new).tells ≡ (D.state disk.old).tells }
     ensures reads { (D.state disk.new).reads ≡ (D.state disk.old).reads }
@@ -64,6 +64,7 @@ fn make<D: Disk>(disk: &mut D, head: &Head) -> Result<(), Failed>
     requires lawful { IsLawfulHead head.now }
     requires version { head.now.version ≡ 2 }
     ensures made { OnOk result (IsTrue (D.state disk.old).tells → IsMade head.now (D.state disk.new).bytes) }
+    ensures bare { OnOk result (IsTrue (D.state disk.old).tells → length (D.state disk.old).bytes ≡ 0 → IsBare (D.state disk.new).bytes) }
     ensures only { OnOk result (LeavesOnly (D.state disk.new) (D.state disk.new).bytes) }
     ensures tells { (D.state disk.new).tells ≡ (D.state disk.old).tells }
     ensures reads { (D.state disk.new).reads ≡ (D.state disk.old).reads }
@@ -99,6 +100,7 @@ pub fn create<D: Disk>(disk: &mut D, head: &Head) -> Result<Live, CreateFault>
     // The file was empty, and is a sound empty index now.
     ensures empty { OnOk result (IsTrue (D.state disk.old).tells → length (D.state disk.old).bytes ≡ 0) }
     ensures made { OnOk result (IsTrue (D.state disk.old).tells → IsMade head.now (D.state disk.new).bytes) }
+    ensures bare { OnOk result (IsTrue (D.state disk.old).tells → IsBare (D.state disk.new).bytes) }
     // A crash from now on leaves that.
     ensures only { OnOk result (LeavesOnly (D.state disk.new) (D.state disk.new).bytes) }
     ensures fault { IfErr result (HasCreateCause (D.state disk.old) (D.state disk.new)) }

@@ -96,8 +96,9 @@ fn fault_with(alloc: Global, at: usize, byte: u8) -> Result<Option<OpenFault>, F
 #[test]
 fn a_new_file_opens(rt: HostRuntime) -> Result<(), Fail> {
     laws::placements_can_follow();
-    laws::outside_is_beside();
-    laws::in_place_is_over();
+    laws::new_is_beside();
+    laws::in_place_is_written();
+    laws::commits_keep_lists();
     let alloc = rt.alloc();
     let mut disk = disk_of(alloc, Vec::new(alloc), None)?;
     assert_eq!(rt; make(&mut disk), Ok(FIRST));

@@ -1,9 +1,11 @@
 use Rattle.std.proofs.Common.{◌-◌, ◌∙◌, ℕ, ap, subst, arith, length}
+use Rattle.tree_shape.specs.declared.live.Live.{Live}
 use Rattle.page_store.specs.Numbers.{number_at}
 use Rattle.page_store.specs.Placing.{HasRoomCause, IsPlacement}
 use Rattle.page_store.proofs.Giving.{staged_out}
 use Rattle.bulk_load.specs.Groupable.{load_of}
 use Rattle.bulk_load.proofs.Committed.{rows_few, lawful_load, root_given, low, nodes_low, nodes_writable, nodes_counted, staged_counted}
+use Rattle.bulk_load.proofs.Itself.{by_itself}
 use Rattle.bulk_load.proofs.Whole.{has_loaded_by}
 use Rattle.bulk_load.proofs.building.build.Goals as goal
 
@@ -50,6 +52,11 @@ returns-in-Ok-settle-clause-many g c =
 pub returns-in-Ok-settle-clause-apart : goal.returns-in-Ok-settle-clause-apart
 returns-in-Ok-settle-clause-apart g c = λ old sound outside.
     staged_out old c.args.live.now c.args.numbers.now c.in-Ok.tree.nodes.items c.in-Ok-settle.placed.staged c.in-Ok-settle.ensures.staged outside sound.within
+
+pub returns-in-Ok-settle-clause-by_itself : goal.returns-in-Ok-settle-clause-by_itself
+returns-in-Ok-settle-clause-by_itself g c =
+    by_itself (load_of (g.M.Metric.space c.args.metric) c.args.rows.now.points c.args.tags.now c.fill.result) (number_at c.args.numbers.now c.args.live.now.pages) c.in-Ok.tree.nodes.items c.in-Ok.tree.root c.in-Ok-settle.placed
+    c.in-Ok.ensures.nodes c.in-Ok.ensures.root c.in-Ok-settle.ensures.staged (ap (λ (n : Live). n.root) c.in-Ok-settle.ensures.next)
 
 pub returns-in-Ok-settle-clause-loaded : goal.returns-in-Ok-settle-clause-loaded
 returns-in-Ok-settle-clause-loaded g c =

@@ -45,3 +45,16 @@ pub returns-clause-long : goal.returns-clause-long
 returns-clause-long g c = λ tells k s stands.
     let below = staged_below c.args.staged.now k s stands in
     c.loop-i.invariant.long tells k s (omega (arith, below)) stands
+
+pub returns-in_err-write_at-clause-bytes : goal.returns-in_err-write_at-clause-bytes
+returns-in_err-write_at-clause-bytes g c = λ tells.
+    let staged = c.args.staged.now in
+    let start = g.D.Disk.state c.args.disk.now in
+    let mid = g.D.Disk.state c.loop-i.disk in
+    let new = g.D.Disk.state c.write_at.new.self in
+    let here = c.at-new.result.now in
+    let i = c.loop-i.invariant in
+    let told : IsTrue mid.tells = subst (λ (b : Bool). IsTrue b) (sym i.tells) tells in
+    let place : 4096 * c.from.result ≡ 4096 * here.page = ap (λ (n : ℕ). 4096 * n) c.from.ensures in
+    rewritten_then staged start.bytes mid.bytes new.bytes (i.bytes tells)
+    (rewritten_torn staged mid.bytes new.bytes c.loop-i.i here (4096 * c.from.result) (length c.encode_node.new.page) c.at-new.ensures place c.encode_node.array_long (c.write_at.ensures.others told))

@@ -1,8 +1,8 @@
-use Rattle.std.proofs.Common.{sym, subst, IsTrue, Bool}
+use Rattle.std.proofs.Common.{sym, subst, IsTrue, Bool, arith}
 use Rattle.std.proofs.lemmas.Result.{on_ok_weaker}
 use Rattle.node_page.specs.Slots.{SpellsSlot}
 use Rattle.node_page.specs.declared.slot.Slot.{Slot}
-use Rattle.shadow_root.proofs.Made.{is_made}
+use Rattle.shadow_root.proofs.Made.{is_bare, is_made}
 use Rattle.shadow_root.proofs.making.make.Goals as goal
 
 pub returns-clause-made : goal.returns-clause-made
@@ -11,5 +11,15 @@ returns-clause-made g c = on_ok_weaker c.write_through.result (λ written tells.
     let told : IsTrue one.tells = subst (λ (b : Bool). IsTrue b) (sym c.lay_out.ensures.tells) tells in
     is_made c.args.head.now c.encode_head.new.page c.encode_slot.new.page c.clear.new.page one.bytes (g.D.Disk.state c.write_through.new.disk).bytes c.encode_head.ensures c.requires.version
     (subst (λ (s : Slot). SpellsSlot c.encode_slot.new.page s) c.closed_slot.ensures c.encode_slot.ensures.spells) c.clear.ensures
-    (c.in_ok-lay_out.ensures.head tells) (c.in_ok-lay_out.ensures.slot tells) (c.in_ok-lay_out.ensures.other tells) (c.in_ok-lay_out.ensures.leaf tells) (c.in_ok-lay_out.ensures.size tells) (written told))
+    (c.in_ok-lay_out.ensures.head tells) (c.in_ok-lay_out.ensures.slot tells) (c.in_ok-lay_out.ensures.other tells) (c.in_ok-lay_out.ensures.leaf tells) (let e = c.in_ok-lay_out.ensures.size tells in omega (arith, e)) (written told))
+    c.write_through.ensures.written
+
+pub returns-clause-bare : goal.returns-clause-bare
+returns-clause-bare g c = on_ok_weaker c.write_through.result (λ written tells none.
+    let one = g.D.Disk.state c.lay_out.new.disk in
+    let told : IsTrue one.tells = subst (λ (b : Bool). IsTrue b) (sym c.lay_out.ensures.tells) tells in
+    let size = c.in_ok-lay_out.ensures.size tells in
+    is_bare c.args.head.now c.encode_head.new.page c.encode_slot.new.page c.clear.new.page one.bytes (g.D.Disk.state c.write_through.new.disk).bytes c.encode_head.ensures c.requires.version
+    (subst (λ (s : Slot). SpellsSlot c.encode_slot.new.page s) c.closed_slot.ensures c.encode_slot.ensures.spells) c.clear.ensures
+    (c.in_ok-lay_out.ensures.head tells) (c.in_ok-lay_out.ensures.slot tells) (c.in_ok-lay_out.ensures.other tells) (c.in_ok-lay_out.ensures.leaf tells) (omega (arith, size)) (written told) (omega (arith, size, none)))
     c.write_through.ensures.written

@@ -1,5 +1,0 @@
-use Rattle.shadow_root.proofs.Beside.{in_place_is_over}
-use Rattle.shadow_root.proofs.laws.in_place_is_over.Goals as goal
-
-pub returns : goal.returns
-returns c = in_place_is_over
