@@ -2,7 +2,7 @@ mod Ascending
 mod Examples
 mod Flags
 mod Given
-mod Members
+pub mod Members
 mod Places
 mod Released
 mod SoundWalk

@@ -1,5 +1,5 @@
 -- What is kept once the pages of new nodes are forgotten.
-use Rattle.std.proofs.Common.{◌≡◌, ◌≢◌, ℕ, ◌<◌, List, [], ◌∷◌, length, refl, sym, ◌∙◌, inl, inr, Option, Some, None}
+use Rattle.std.proofs.Common.{◌≡◌, ◌≢◌, ℕ, ◌<◌, List, [], ◌∷◌, length, refl, sym, ◌∙◌, inl, inr, arith, Option, Some, None}
 use Rattle.std.specs.Prelude.{All, IsTrue, ◌≤◌}
 use Rattle.std.specs.List.{AllByRecursion}
 use Rattle.std.proofs.lemmas.List.Elements.{All-filter}
@@ -8,6 +8,9 @@ use Rattle.tree_shape.specs.declared.entry.Node.{Node}
 use Rattle.page_store.specs.Shelf.{Shelf, IsNodeOf}
 use Rattle.page_cache.specs.Keeping.{Pairs, without, Agrees}
 use Rattle.page_cache.specs.Laws.{AgreementLasts, ForgettingKeepsAgreement, GrowsTo}
+use Rattle.node_page.specs.Nodes.{IsLawfulNode}
+use Rattle.page_store.specs.Reading.{IsWithin}
+use Rattle.index_core.specs.Files.{IsLawfulKept}
 use Rattle.index_core.specs.Lending.{KeptAgrees, SameRoom}
 use Rattle.index_core.specs.Writing.{forgotten, forgotten_of}
 
@@ -42,3 +45,11 @@ forgotten_agrees lasts law pages (Some kept) old new grows same agrees =
   where
     still : (pages : List ℕ) (kept : Pairs) → Agrees kept old → Agrees (forgotten pages kept) old
     still pages kept agrees = forgotten_all (λ pair. IsNodeOf old pair.0 pair.1) pages kept agrees
+
+-- what is kept can still be nodes of the pages, of which there may be more
+pub forgotten_lawful : (dim old new : ℕ) (pages : List ℕ) (kept : Option Pairs) → old ≤ new → IsLawfulKept dim old kept → IsLawfulKept dim new (forgotten_of pages kept)
+forgotten_lawful dim old new pages None more lawful = tt
+forgotten_lawful dim old new pages (Some kept) more lawful = λ k d low. wider _ (forgotten_all (λ pair. IsWithin old pair.0 × IsLawfulNode dim pair.1) pages kept lawful k d low)
+  where
+    wider : (pair : ℕ × Node) → IsWithin old pair.0 × IsLawfulNode dim pair.1 → IsWithin new pair.0 × IsLawfulNode dim pair.1
+    wider pair both = (let a = both.0.0 in let b = both.0.1 in (a, omega arith), both.1)

@@ -1,2 +1,7 @@
 pub mod Opening
 pub mod Forgetting
+pub mod Committed
+pub mod Written
+pub mod Settled
+pub mod Listed
+pub mod Outcome

@@ -19,6 +19,7 @@ use Rattle.insert_path.specs.declared.faults.PlaceFault.TheVariants as place
 use Rattle.insert_path.specs.Causes.{HasPlaceCause, HasWalkCause}
 use Rattle.insert_path.specs.Placing.{place_fault as faults_of_path}
 use Rattle.free_pages.specs.Keeping.{FreePages}
+use Rattle.free_pages.specs.Walk.{IsWalkFault, tree_walk}
 use Rattle.index_core.specs.Files.{OpenFile, pages_on}
 use Rattle.index_core.specs.declared.faults.IndexFault.{IndexFault}
 use Rattle.index_core.specs.declared.faults.IndexFault.TheVariants.{Disk, Damaged, Full, NoRoom, Worn, Memory}
@@ -96,3 +97,7 @@ HasPathCause s file f o old new _ = ⊥
 abbrev pub BlamesNoPage : IndexFault → Type 0
 BlamesNoPage (Damaged fault) = ⊥
 BlamesNoPage _ = Unit {0}
+
+-- why no free list was made: the disk failed, memory ran out, or the first fault of the walk of the live tree by child numbers
+abbrev pub HasListCause : {M : Type 0} → OpenFile M → DiskState → DiskState → IndexFault → Type 0
+HasListCause file old new = HasReadCause (IsWalkFault (pages_on file old 0) (pages_on file new 0) (tree_walk (pages_on file old 0).read file.live))

@@ -1,13 +1,12 @@
 -- What an index is that is opened for writing, and on which disks it stands.
 use Rattle.std.specs.Prelude.{◌≡◌, ℕ, ◌≤◌, Bool, false, IsTrue, List, Option, MatchOption}
 use Rattle.std.specs.List.{AllByRecursion}
-use Rattle.metric_laws.specs.Lists.{IsIn}
 use Rattle.disk_model.specs.Disk.{DiskState, LeavesOnly}
 use Rattle.tree_shape.specs.declared.live.Live.{Live}
 use Rattle.tree_shape.specs.Tree.{Nodes}
-use Rattle.page_store.specs.Reading.{IsWithin}
 use Rattle.page_store.specs.Reached.{StandsOnPages}
-use Rattle.free_pages.specs.Keeping.{FreePages, IsFreeOrHeld, held_pages}
+use Rattle.free_pages.specs.Keeping.{FreePages}
+use Rattle.free_pages.specs.Commits.{AreWithin, LiesBeside}
 use Rattle.index_core.specs.Files.{OpenFile, StandsOn, nodes_on}
 
 -- an index that is opened for writing: its file, its free and held pages once that list is made, whether a commit failed, and how
@@ -20,8 +19,7 @@ pub record OpenIndex (M : Type 0) : Type 0 where
 
 -- free and held pages may hold nodes, and no commit was named that is still to come
 pub record IsLawfulFree (t : Live) (f : FreePages) : Type 0 where
-  pub free : AllByRecursion (IsWithin t.pages) f.free
-  pub held : AllByRecursion (IsWithin t.pages) (held_pages f.held)
+  pub within : AreWithin t.pages f
   pub newest : f.newest ≤ t.generation
   pub pins : AllByRecursion (λ pin. pin ≤ t.generation) f.pins
 
@@ -35,7 +33,7 @@ pub record IsLawfulIndex {M : Type 0} (index : OpenIndex M) : Type 0 where
 pub record AreSpare (nodes : Nodes) (t : Live) (f : FreePages) : Type 0 where
   pub tree : List ℕ
   pub stands : StandsOnPages nodes t tree
-  pub beside : (page : ℕ) → IsFreeOrHeld f page → IsIn page tree → ⊥
+  pub beside : LiesBeside tree f
 
 -- The index stands on the disk alone: what the disk tells is all that a crash may leave, it opens to the index's head and live slot,
 -- what is kept agrees with its pages, and the free and held pages lie beside its live tree.

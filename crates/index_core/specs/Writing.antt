@@ -6,18 +6,19 @@ use Rattle.metric_laws.specs.Space.{Space}
 use Rattle.outside_io.specs.Causes.{Rose}
 use Rattle.disk_model.specs.Disk.{DiskState, MayLeave, LeavesOnly, EachImage, IsUnchanged}
 use Rattle.tree_shape.specs.declared.live.Live.{Live}
-use Rattle.tree_shape.specs.Tree.{Nodes, IsSoundTree}
+use Rattle.tree_shape.specs.Tree.{Nodes, IsSoundTree, points_by_id, tags_by_id, times}
 use Rattle.tree_shape.specs.Plain.{Tall, tree_of}
 use Rattle.tree_growth.specs.Insertion.{placed}
 use Rattle.tree_growth.specs.Bulk.{built}
 use Rattle.node_page.specs.declared.head.Head.{Head}
 use Rattle.node_page.specs.Opening.{page_of}
 use Rattle.page_store.specs.declared.staging.Placed.{Placed}
-use Rattle.page_store.specs.Placing.{IsPlacement, live_pages}
+use Rattle.page_store.specs.Placing.{AreOutside as AreBeside, IsOver, IsPlacement, live_pages}
+use Rattle.page_store.specs.Staging.{pages_of}
 use Rattle.page_store.specs.Reading.{IsWithin}
 use Rattle.page_store.specs.Succession.{TakesPlace, StandsByItself}
-use Rattle.page_store.specs.Files.{HoldsObjects}
 use Rattle.shadow_root.specs.Commit.{IsBeforeOrAfter, HasNext}
+use Rattle.shadow_root.specs.Placements.{IsFileOf, IsTreeOf}
 use Rattle.page_cache.specs.Keeping.{Pairs, without}
 use Rattle.free_pages.specs.Keeping.{FreePages}
 use Rattle.free_pages.specs.Commits.{after_commit, AreOutside, AreWithin, IsGuarded}
@@ -68,14 +69,23 @@ pub record HasObjects {M : Type 0} (s : Space) (file : OpenFile M) (disk : DiskS
   pub points_are : points_on file disk ≡ points
   pub tags_are : tags_on file disk ≡ tags
 
+-- the file opens to this head, is sound, and its objects have these points and tags, in order of id
+pub record HoldsObjects (s : Space) (head : Head) (points : List (List ℕ)) (tags : List ℕ) (file : List ℕ) : Type 0 where
+  pub live : Live
+  pub is : IsFileOf s head live points tags file
+
 -- a crash at any moment of the call leaves a sound file with the objects from before the write or with those after it
 abbrev pub LeavesEither : Space → Head → Write → List (List ℕ) → List ℕ → DiskState → DiskState → Type 0
 LeavesEither s head write points tags before after =
     EachImage before after (λ image. HoldsObjects s head points tags image ⊎ HoldsObjects s head (points_after write points) (tags_after write tags) image)
 
--- free and held pages, where that list is made, are exactly the pages outside the live tree
+-- free and held pages are exactly the pages outside the live tree
+abbrev pub IsExactFor : {M : Type 0} → OpenFile M → FreePages → DiskState → Type 0
+IsExactFor file f disk = AreOutside file.live.pages (live_pages (nodes_on file disk) file.live) f
+
+-- the same of an index whose free list is made
 abbrev pub IsExact : {M : Type 0} → OpenIndex M → DiskState → Type 0
-IsExact index disk = MatchOption index.free (Unit {0}) (AreOutside index.file.live.pages (live_pages (nodes_on index.file disk) index.file.live))
+IsExact index disk = MatchOption index.free (Unit {0}) (λ f. IsExactFor index.file f disk)
 
 -- ---- on any file
 
@@ -143,6 +153,17 @@ forgotten (page ∷ pages) kept = forgotten pages (without kept page)
 abbrev pub forgotten_of : List ℕ → Option Pairs → Option Pairs
 forgotten_of pages None = None
 forgotten_of pages (Some kept) = Some (forgotten pages kept)
+
+-- nodes over the old ones have the tree after the write, and its pages and the left ones are the old tree's and the staged ones
+pub record IsMadeBy (s : Space) (head : Head) (write : Write) (old : Nodes) (t : Live) (placed : Placed) (new : Nodes) : Type 0 where
+  pub objects : IsTreeOf s new placed.next (points_after write (points_by_id old t)) (tags_after write (tags_by_id old t))
+  pub tree : tree_of new placed.next ≡ tree_after s head write t.count (tree_of old t)
+  pub balance : (page : ℕ) → times page (live_pages new placed.next) + times page placed.left ≡ times page (live_pages old t) + times page (pages_of placed.staged)
+
+-- what was placed is this write, on a sound file: none of its pages lies in the live tree, and it makes the tree after the write
+pub record IsPlacedFor (s : Space) (head : Head) (write : Write) (old : Nodes) (t : Live) (placed : Placed) : Type 0 where
+  pub apart : AreBeside old t (pages_of placed.staged)
+  pub makes : (new : Nodes) → IsOver old t placed.staged new → IsMadeBy s head write old t placed new
 
 -- the file after the commit of what was placed, and its free list
 pub record IsCommitted {M : Type 0} (old new : OpenFile M) (f g : FreePages) (used : ℕ) (placed : Placed) (before after : DiskState) : Type 0 where

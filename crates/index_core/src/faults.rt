@@ -39,7 +39,7 @@ pub enum IndexFault {
 }
 
 // What the refusal of a walk is to whoever called the index.
-fn read_fault(fault: PageFault) -> IndexFault
+pub(crate) fn read_fault(fault: PageFault) -> IndexFault
     ensures { result ≡ read_fault fault }
 {
     match fault {

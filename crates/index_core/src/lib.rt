@@ -4,6 +4,7 @@
 mod faults;
 mod index;
 mod lending;
+mod listing;
 mod placing;
 mod view;
 mod writing;

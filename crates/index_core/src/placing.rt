@@ -1,25 +1,18 @@
 // What an insertion places for a file.
-ghost use Rattle.std.specs.Prelude.{◌≡◌, ◌≢◌, ◌+◌, ◌^◌, ◌≤◌, ℕ, IsTrue, IfOk, IfErr};
-ghost use Rattle.disk_model.specs.Disk.{DiskState};
-ghost use Rattle.tree_growth.specs.Insertion.{rules};
-ghost use Rattle.tree_shape.specs.Tree.{Nodes};
-ghost use Rattle.page_store.specs.Placing.{AreOutside, IsOver};
-ghost use Rattle.page_store.specs.Staging.{pages_of};
+ghost use Rattle.std.specs.Prelude.{◌≡◌, ◌≢◌, ◌+◌, ◌-◌, ◌^◌, ◌≤◌, IsTrue, IfOk, IfErr};
 ghost use Rattle.page_store.specs.Succession.{TakesPlace};
-ghost use Rattle.insert_path.specs.Placing.{HasInserted};
 ghost use Rattle.free_pages.specs.Commits.{AreWithin};
 ghost use Rattle.index_core.specs.Answers.{IsSoundOn};
 ghost use Rattle.index_core.specs.Causes.{BlamesNoPage, HasPathCause};
 ghost use Rattle.index_core.specs.Files.{StandsOn, OnlyReads, nodes_on};
 ghost use Rattle.index_core.specs.Index.{AreSpare};
-ghost use Rattle.index_core.specs.Writing.{IsPlacedOn};
+ghost use Rattle.index_core.specs.Writing.{Inserts, IsPlacedFor, IsPlacedOn};
 
 use crate::IndexFault;
 use crate::faults::place_fault;
 use crate::view::View;
 use disk_model::Disk;
 use free_pages::Free;
-use free_pages::laws::free_pages_are_numbers;
 use insert_path::place;
 use metric_laws::{Meter, Metric};
 use page_store::Placed;
@@ -54,23 +47,29 @@ impl<M: Metric> View<M> {
         ensures placed { IfOk result (λ placement. IsPlacedOn self.old free.now placement.used placement.placed) }
         ensures one { IfOk result (λ placement. placement.placed.next.count ≡ self.old.live.count + 1) }
         ensures takes_place { IfOk result (λ placement. IsTrue (D.state disk.old).tells → TakesPlace (nodes_on self.old (D.state disk.old)) self.old.live placement.placed) }
-        ensures apart { IfOk result (λ placement. IsSoundOn (M.space self.old.metric) self.old (D.state disk.old) →
-            AreOutside (nodes_on self.old (D.state disk.old)) self.old.live (pages_of placement.placed.staged)) }
-        ensures inserted { IfOk result (λ placement. IsSoundOn (M.space self.old.metric) self.old (D.state disk.old) →
-            (new : Nodes) → IsOver (nodes_on self.old (D.state disk.old)) self.old.live placement.placed.staged new →
-            HasInserted (M.space self.old.metric) (rules (M.space self.old.metric) self.old.head.promote self.old.head.split) (nodes_on self.old (D.state disk.old)) self.old.live
-            (record { id = self.old.live.count; tag = tag; point = p.now }) placement.placed new) }
+        ensures inserts { IfOk result (λ placement. IsSoundOn (M.space self.old.metric) self.old (D.state disk.old) →
+            IsPlacedFor (M.space self.old.metric) self.old.head (Inserts p.now tag) (nodes_on self.old (D.state disk.old)) self.old.live placement.placed) }
         ensures cause { IfErr result (HasPathCause (M.space self.old.metric) self.old free.now (record { id = self.old.live.count; tag = tag; point = p.now }) (D.state disk.old) (D.state disk.new)) }
         ensures undamaged { IfErr result (λ fault. IsSoundOn (M.space self.old.metric) self.old (D.state disk.old) → BlamesNoPage fault) }
         ensures few { (D.state disk.new).reads ≤ (D.state disk.old).reads + (self.old.live.height + 1) }
     {
-        free_pages_are_numbers();
-        let Ok(numbers) = free.least(alloc, 2 * self.live.height as usize + 3) else {
+        free.are_kept();
+        let (head, live) = (self.head, self.live);
+        let Ok(numbers) = free.least(alloc, 2 * live.height as usize + 3) else {
             return Err(IndexFault::Memory);
         };
         let mut ruler = Meter::new(self.metric);
         let mut pages = self.lend(disk);
-        let answer = place(alloc, &mut pages, &mut ruler, &self.head, &self.live, numbers.as_slice(), p, tag);
+        let answer = place(
+            alloc,
+            &mut pages,
+            &mut ruler,
+            &head,
+            &live,
+            numbers.as_slice(),
+            p,
+            tag,
+        );
         let (inner, kept) = pages.into_parts();
         let _disk = inner.disk;
         self.kept = kept;

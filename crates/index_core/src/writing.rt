@@ -15,6 +15,7 @@ use disk_model::Disk;
 use free_pages::Free;
 use metric_laws::Metric;
 use page_cache::Kept;
+use page_cache::laws::forgetting_keeps_agreement;
 use page_store::{Placed, Staged};
 use shadow_root::commit;
 
@@ -62,13 +63,14 @@ impl<M: Metric> View<M> {
         ensures reads { (D.state disk.new).reads ≤ (D.state disk.old).reads + 1 }
         ensures later { (D.state disk.old).faults ≤ (D.state disk.new).faults }
     {
-        if free.reserve(placed.left.as_slice().len()).is_err() {
+        let Ok(()) = free.reserve(placed.left.as_slice().len()) else {
             return Err(IndexFault::Memory);
-        }
+        };
         forget(&mut self.kept, &placed.staged);
-        if commit(disk, self.head.dim, &self.live, &placed.next, &placed.staged).is_err() {
+        let Ok(()) = commit(disk, self.head.dim, &self.live, &placed.next, &placed.staged) else {
             return Err(IndexFault::Commit);
-        }
+        };
+        forgetting_keeps_agreement();
         self.live = placed.next;
         free.settle(used, placed.left.as_slice(), placed.next.generation);
         Ok(())

@@ -24,10 +24,3 @@ points_in dim live file = points_by_id (nodes_in dim live file) live
 
 abbrev pub tags_in : ℕ → Live → List ℕ → List ℕ
 tags_in dim live file = tags_by_id (nodes_in dim live file) live
-
--- the file opens to this head, is sound, and its objects have these points and tags, in order of id
-pub record HoldsObjects (s : Space) (head : Head) (points : List (List ℕ)) (tags : List ℕ) (file : List ℕ) : Type 0 where
-  pub live : Live
-  pub sound : IsSoundFile s head live file
-  pub points_are : points_in head.dim live file ≡ points
-  pub tags_are : tags_in head.dim live file ≡ tags

@@ -15,8 +15,10 @@ use Rattle.node_page.proofs.HeadLaws.{head_is}
 use Rattle.page_store.specs.Files.{nodes_in}
 use Rattle.page_store.specs.Placing.{live_pages}
 use Rattle.page_store.proofs.Whole.{sound_is_whole}
+use Rattle.page_store.specs.declared.staging.StagedNode.{StagedNode}
+use Rattle.shadow_root.specs.Commit.{IsStagedFor}
 use Rattle.shadow_root.specs.Live.{HasLive}
-use Rattle.shadow_root.specs.Placements.{CommitsKeepLists, IsTreeOf}
+use Rattle.shadow_root.specs.Placements.{CommitsKeepHead, CommitsKeepLists, IsTreeOf, KeepsBytes}
 use Rattle.shadow_root.proofs.Beside.{in_place_is_written, same_bytes}
 
 -- a tree whose pages hold what they held is as sound as it was, and has the same objects
@@ -44,6 +46,13 @@ with_head head t next old file was first has =
     let same : has.head ≡ head = sym (head_is (page_of file 0) has.head has.opens.spells_head) ∙ head_is (page_of file 0) head (subst (λ (page : List ℕ). SpellsHead page head) (sym first) was.spells_head) in
     subst (λ (h : Head). OpensTo file h next) same has.opens
 
+-- no node is staged for page 0
+first_page : (dim : ℕ) (t next : Live) (staged : List StagedNode) (old file : List ℕ) → IsStagedFor dim t next staged → KeepsBytes t staged old file → page_of file 0 ≡ page_of old 0
+first_page dim t next staged old file for others = others 0 (inl refl) (λ k node is zero. let low = (for.within k node is).0 in absurd (omega (arith, low, zero)))
+
+pub commits_keep_head : CommitsKeepHead
+commits_keep_head dim head t next staged old file was for others has = with_head head t next old file was (first_page dim t next staged old file for others) has
+
 pub commits_keep_lists : CommitsKeepLists
 commits_keep_lists s head t next staged points tags old file sound follows for each moment others = elim moment [
   | inl keeps ↦ inl (record {
@@ -66,4 +75,4 @@ commits_keep_lists s head t next staged points tags old file sound follows for e
 ]
   where
     first : page_of file 0 ≡ page_of old 0
-    first = others 0 (inl refl) (λ k node is zero. let low = (for.within k node is).0 in absurd (omega (arith, low, zero)))
+    first = first_page head.dim t next staged old file for others

@@ -17,7 +17,7 @@ use Rattle.page_store.specs.Reached.{StandsOnPages}
 use Rattle.page_store.specs.Staging.{pages_of}
 use Rattle.page_store.specs.Succession.{IsWritten}
 use Rattle.shadow_root.specs.Commit.{HasNext, IsInPlace, IsNotStaged, IsOldPage, IsStagedAs, IsStagedFor, KeepsOthers, KeepsTree}
-use Rattle.shadow_root.specs.Live.{IsLivePage, IsSuccessor}
+use Rattle.shadow_root.specs.Live.{HasLive, IsLivePage, IsSuccessor}
 
 -- a placement has a live slot that can follow, and its nodes are staged for it
 abbrev pub PlacementsCanFollow : Type 0
@@ -45,6 +45,12 @@ InPlaceIsWritten =
     (dim : ℕ) (t next : Live) (tree : List ℕ) (staged : List StagedNode) (old new : List ℕ) → t.pages ≤ next.pages → AllByRecursion (IsNodePage t) tree →
     IsStagedFor dim t next staged → IsInPlace dim staged new → KeepsBytes t staged old new →
     IsWritten (nodes_in dim t old) tree staged (nodes_in dim next new)
+
+-- a file that opens to the next live slot and has the old page 0 has the old head
+abbrev pub CommitsKeepHead : Type 0
+CommitsKeepHead =
+    (dim : ℕ) (head : Head) (t next : Live) (staged : List StagedNode) (old file : List ℕ) → OpensTo old head t → IsStagedFor dim t next staged → KeepsBytes t staged old file → HasLive next file →
+    OpensTo file head next
 
 -- the tree is sound, and these are its points and tags in order of id
 pub record IsTreeOf (s : Space) (nodes : Nodes) (t : Live) (points : List (List ℕ)) (tags : List ℕ) : Type 0 where

@@ -1,6 +1,6 @@
 //! Laws of commits.
 
-ghost use Rattle.shadow_root.specs.Placements.{CommitsKeepLists, InPlaceIsWritten, NewIsBeside, PlacementsCanFollow};
+ghost use Rattle.shadow_root.specs.Placements.{CommitsKeepHead, CommitsKeepLists, InPlaceIsWritten, NewIsBeside, PlacementsCanFollow};
 
 /// What an insertion or a bulk load places has a live slot that can follow the live one, and its nodes are staged for it.
 pub fn placements_can_follow()
@@ -15,6 +15,11 @@ pub fn new_is_beside()
 /// In a file with the staged nodes in place, and with the other pages as they were, the nodes are written over the old file.
 pub fn in_place_is_written()
     ensures { InPlaceIsWritten }
+{}
+
+/// A commit keeps the file's head.
+pub fn commits_keep_head()
+    ensures { CommitsKeepHead }
 {}
 
 /// At any moment of a commit on a sound file, each file that a crash leaves is sound, with the old points and tags or with the

@@ -1,0 +1,145 @@
+-- What a commit of what was placed makes of an index.
+use Rattle.std.proofs.Common.{◌≡◌, ◌≢◌, ◌⊎◌, ℕ, zero, suc, ◌+◌, ◌-◌, ◌*◌, ◌≤◌, ◌<◌, Bool, true, false, List, [], ◌∷◌, ◌++◌, inl, inr, refl, sym, ap, subst, ◌∙◌, arith, length, take, min, Option, Some, None, Result, Ok, Err}
+use Rattle.std.specs.Prelude.{IsTrue, MatchOption, OnOk, IfOk, IfErr}
+use Rattle.std.specs.List.{AllByRecursion}
+use Rattle.metric_laws.specs.Lists.{IsIn}
+use Rattle.metric_laws.specs.Space.{Space}
+use Rattle.metric_laws.proofs.Lists.{all_in}
+use Rattle.outside_io.specs.Causes.{Rose}
+use Rattle.disk_model.specs.Disk.{DiskState, MayLeave, LeavesOnly, EachImage}
+use Rattle.disk_model.specs.Moments.{weakened}
+use Rattle.tree_shape.specs.declared.live.Live.{Live}
+use Rattle.tree_shape.specs.Plain.{tree_of}
+use Rattle.tree_shape.specs.Tree.{Nodes, IsNodePage, IsSoundTree, points_by_id, tags_by_id, times}
+use Rattle.node_page.specs.Opening.{page_of}
+use Rattle.page_store.specs.declared.staging.Placed.{Placed}
+use Rattle.page_store.specs.declared.staging.StagedNode.{StagedNode}
+use Rattle.page_store.specs.Files.{IsSoundFile, nodes_in}
+use Rattle.page_store.specs.Placing.{IsOver, live_pages}
+use Rattle.page_store.specs.Reading.{IsWithin}
+use Rattle.page_store.specs.Staging.{pages_of}
+use Rattle.page_store.specs.Succession.{IsWritten}
+use Rattle.shadow_root.specs.Commit.{IsBeforeOrAfter, HasNext, IsNotStaged, IsStagedAs}
+use Rattle.shadow_root.specs.Placements.{IsFileOf, IsTreeOf, KeepsBytes, alone_keeps}
+use Rattle.shadow_root.proofs.Beside.{in_place_is_written}
+use Rattle.shadow_root.proofs.Lists.{commits_keep_lists}
+use Rattle.free_pages.specs.Keeping.{FreePages, IsKept}
+use Rattle.free_pages.specs.Commits.{after_commit, AreOutside, AreWithin, IsExchange, IsGuarded}
+use Rattle.free_pages.proofs.Commits.{keep_outside, guard}
+use Rattle.index_core.specs.declared.faults.IndexFault.{IndexFault}
+use Rattle.index_core.specs.declared.faults.IndexFault.TheVariants.{Commit}
+use Rattle.index_core.specs.Files.{OpenFile, StandsOn, IsLawfulFile, nodes_on}
+use Rattle.index_core.specs.Index.{OpenIndex}
+use Rattle.index_core.specs.Writing.{Write, added_by, answer_to, points_after, tags_after, tree_after, HasObjects, HoldsObjects, LeavesEither, IsCommitted, IsExact, IsExactFor, IsMadeBy, IsNext, IsPlacedFor, IsPlacedOn, GuardsPages, KeepsPages, HasWritten}
+use Rattle.index_core.proofs.Committed.{exchange}
+use Rattle.index_core.proofs.Settled.{can_follow}
+
+module _ {M : Type 0} (s : Space) (write : Write) (file : OpenFile M) (f : FreePages) (spare used : ℕ) (placed : Placed) (lawful : IsLawfulFile s.words file)
+    (kept : IsKept (record f { spare = spare })) (within : AreWithin file.live.pages f) (on : IsPlacedOn file f used placed) (before after : DiskState) (stands : StandsOn file before)
+    (only : IsTrue before.tells → LeavesOnly before before.bytes) (fits : IsTrue before.tells → IsSoundTree s (nodes_on file before) file.live → IsPlacedFor s file.head write (nodes_on file before) file.live placed)
+    (moments : IsTrue before.tells → EachImage before after (IsBeforeOrAfter file.head.dim file.live placed.next placed.staged before)) where
+  three : 3 ≤ file.live.pages
+  three = let low = lawful.live.1.low_pages in omega arith
+
+  exchanged : IsExchange file.live.pages placed.next.pages used f (pages_of placed.staged) placed.left
+  exchanged = subst (λ (n : ℕ). IsExchange file.live.pages placed.next.pages n f (pages_of placed.staged) placed.left) (sym on.used_is) (
+    let e = exchange file.head file.live (record f { spare = spare }) on.asked on.added placed kept within on.placement three on.left_within in
+    record { given = e.given; uses = e.uses; more = e.more; fresh = e.fresh; once = e.once; left_within = e.left_within })
+
+  sound_file : {points : List (List ℕ)} {tags : List ℕ} → HasObjects s file before points tags → IsSoundFile s file.head file.live before.bytes
+  sound_file has = record { opens = stands.opens has.tells; version = lawful.version; words = lawful.words_are; tree = has.sound }
+
+  after_is : {points : List (List ℕ)} {tags : List ℕ} → HasObjects s file before points tags → {t : Live} {nodes : Nodes} →
+      IsTreeOf s nodes t (points_after write (points_by_id (nodes_on file before) file.live)) (tags_after write (tags_by_id (nodes_on file before) file.live)) →
+      IsTreeOf s nodes t (points_after write points) (tags_after write tags)
+  after_is {points} {tags} has {t} {nodes} is =
+      subst (λ (ps : List (List ℕ)). IsTreeOf s nodes t (points_after write ps) (tags_after write tags)) has.points_are
+      (subst (λ (ts : List ℕ). IsTreeOf s nodes t (points_after write (points_by_id (nodes_on file before) file.live)) (tags_after write ts)) has.tags_are is)
+
+  pub either : (points : List (List ℕ)) (tags : List ℕ) → HasObjects s file before points tags → LeavesEither s file.head write points tags before after
+  either points tags has =
+      weakened before after (IsBeforeOrAfter file.head.dim file.live placed.next placed.staged before)
+      (λ image. HoldsObjects s file.head points tags image ⊎ HoldsObjects s file.head (points_after write points) (tags_after write tags) image) (moments has.tells) (λ image is. one image is)
+    where
+      one : (image : List ℕ) → IsBeforeOrAfter file.head.dim file.live placed.next placed.staged before image →
+          HoldsObjects s file.head points tags image ⊎ HoldsObjects s file.head (points_after write points) (tags_after write tags) image
+      one image is = elim (commits_keep_lists s file.head file.live placed.next placed.staged (points_after write points) (tags_after write tags) before.bytes image (sound_file has)
+          ((can_follow s.words file f spare used placed lawful kept within on).0) ((can_follow s.words file f spare used placed lawful kept within on).1)
+          (λ new over. after_is has ((fits has.tells has.sound).makes new over).objects) is.either (alone_keeps file.live placed.staged before image (only has.tells) is.others)) [
+        | inl old ↦ inl (record {
+          live = file.live;
+          is = subst (λ (ps : List (List ℕ)). IsFileOf s file.head file.live ps tags image) has.points_are
+              (subst (λ (ts : List ℕ). IsFileOf s file.head file.live (points_by_id (nodes_on file before) file.live) ts image) has.tags_are old);
+        })
+        | inr new ↦ inr (record { live = placed.next; is = new })
+      ]
+
+  -- a guarded page is none of the new ones
+  guarded_unstaged : (generation : ℕ) (tree : List ℕ) → IsGuarded file.live.pages generation f tree → (page : ℕ) → IsIn page tree → IsNotStaged placed.staged page
+  guarded_unstaged generation tree guarded page i k node is e =
+      guard.unwritten file.live.pages placed.next.pages used generation f tree (pages_of placed.staged) placed.left guarded exchanged page (staged_in placed.staged k node is e) i
+    where
+      staged_in : (staged : List StagedNode) (k : ℕ) (node : StagedNode) → IsStagedAs staged k node → node.page ≡ page → IsIn page (pages_of staged)
+      staged_in [] k node is e = absurd (cc)
+      staged_in (n ∷ staged) zero node is e = inl (sym e ∙ (let same : n ≡ node = cc in sym (ap (λ (x : StagedNode). x.page) same)))
+      staged_in (n ∷ staged) (suc k) node is e = inr (staged_in staged k node is e)
+
+  pub pages_kept : (generation : ℕ) (tree : List ℕ) → IsTrue before.tells → IsGuarded file.live.pages generation f tree → KeepsPages tree before after
+  pages_kept generation tree tells guarded =
+      weakened before after (IsBeforeOrAfter file.head.dim file.live placed.next placed.staged before) (λ image. AllByRecursion (λ page. page_of image page ≡ page_of before.bytes page) tree)
+      (moments tells) (λ image is. each image (alone_keeps file.live placed.staged before image (only tells) is.others) tree (λ page i. i))
+    where
+      each : (image : List ℕ) → KeepsBytes file.live placed.staged before.bytes image → (pages : List ℕ) → ((page : ℕ) → IsIn page pages → IsIn page tree) →
+          AllByRecursion (λ page. page_of image page ≡ page_of before.bytes page) pages
+      each image keeps [] inside = tt
+      each image keeps (page ∷ pages) inside = (
+        keeps page (inr (all_in (IsWithin file.live.pages) tree page guarded.within (inside page (inl refl)))) (guarded_unstaged generation tree guarded page (inside page (inl refl))),
+        each image keeps pages (λ q i. inside q (inr i)),
+      )
+
+  -- after Ok
+  module _ (new : OpenFile M) (g : FreePages) (image : IsTrue after.tells → MayLeave after after.bytes) (told : after.tells ≡ before.tells) (did : IsCommitted file new f g used placed before after) where
+    made : {points : List (List ℕ)} {tags : List ℕ} → HasObjects s file before points tags → IsMadeBy s file.head write (nodes_on file before) file.live placed (nodes_on new after)
+    made has = (fits has.tells has.sound).makes (nodes_on new after) (subst (λ (n : OpenFile M). IsOver (nodes_on file before) file.live placed.staged (nodes_on n after)) (sym did.file) (record {
+      stand = written.stand;
+      stay = written.stay;
+    }))
+      where
+        tells : IsTrue after.tells
+        tells = rw told has.tells
+
+        now : IsBeforeOrAfter file.head.dim file.live placed.next placed.staged before after.bytes
+        now = (moments has.tells).each after.clock after.bytes ((moments has.tells).later) (omega arith) (image tells)
+
+        written : IsWritten (nodes_on file before) (live_pages (nodes_on file before) file.live) placed.staged (nodes_in file.head.dim placed.next after.bytes)
+        written = in_place_is_written file.head.dim file.live placed.next (live_pages (nodes_on file before) file.live) placed.staged before.bytes after.bytes
+            ((can_follow s.words file f spare used placed lawful kept within on).0.low_pages) has.sound.within ((can_follow s.words file f spare used placed lawful kept within on).1)
+            ((did.next has.tells).in_place) (alone_keeps file.live placed.staged before after.bytes (only has.tells) now.others)
+
+    next_live : {P : Live → Type 0} → P placed.next → P new.live
+    next_live {P} p = subst (λ (n : OpenFile M). P n.live) (sym did.file) p
+
+    pub objects_after : (points : List (List ℕ)) (tags : List ℕ) → HasObjects s file before points tags → HasObjects s new after (points_after write points) (tags_after write tags)
+    objects_after points tags has =
+        let is = next_live {P = λ t. IsTreeOf s (nodes_on new after) t (points_after write points) (tags_after write tags)} (after_is has (made has).objects) in
+        record { tells = rw told has.tells; sound = is.sound; points_are = is.points_are; tags_are = is.tags_are }
+
+    pub tree_is : (points : List (List ℕ)) (tags : List ℕ) → HasObjects s file before points tags →
+        tree_of (nodes_on new after) new.live ≡ tree_after s file.head write file.live.count (tree_of (nodes_on file before) file.live)
+    tree_is points tags has = next_live {P = λ t. tree_of (nodes_on new after) t ≡ tree_after s file.head write file.live.count (tree_of (nodes_on file before) file.live)} (made has).tree
+
+    pub exact_after : (points : List (List ℕ)) (tags : List ℕ) → HasObjects s file before points tags → IsExactFor file f before → IsExactFor new g after
+    exact_after points tags has exact =
+        next_live {P = λ t. AreOutside t.pages (live_pages (nodes_on new after) t) g}
+        (subst (AreOutside placed.next.pages (live_pages (nodes_on new after) placed.next)) (sym did.free)
+        (keep_outside file.live.pages placed.next.pages used placed.next.generation (record f { spare = did.spare }) (pages_of placed.staged) placed.left (live_pages (nodes_on file before) file.live)
+        (live_pages (nodes_on new after) placed.next) (record { free_ascend = kept.free_ascend; held_ascend = kept.held_ascend; apart = kept.apart; pinned = kept.pinned })
+        (record { given = exchanged.given; uses = exchanged.uses; more = exchanged.more; fresh = exchanged.fresh; once = exchanged.once; left_within = exchanged.left_within }) exact has.sound.once has.sound.within
+        (made has).balance))
+
+    pub guarded_after : (generation : ℕ) (tree : List ℕ) → generation ≤ file.live.generation → IsGuarded file.live.pages generation f tree → IsGuarded new.live.pages generation g tree
+    guarded_after generation tree low guarded =
+        next_live {P = λ t. IsGuarded t.pages generation g tree}
+        (subst (λ (h : FreePages). IsGuarded placed.next.pages generation h tree) (sym did.free)
+        (guard.commit file.live.pages placed.next.pages used generation placed.next.generation (record f { spare = did.spare }) tree placed.left (let e = on.placement.generation in omega arith) exchanged.more
+        (record { pinned = guarded.pinned; within = guarded.within; unfree = guarded.unfree; later = guarded.later })))

@@ -1,0 +1,40 @@
+use Rattle.std.proofs.Common.{◌≡◌, refl, sym, ap, subst, ◌∙◌, rules}
+use Rattle.std.specs.Prelude.{IsTrue}
+use Rattle.tree_shape.specs.Tree.{IsSoundTree}
+use Rattle.page_store.specs.Placing.{live_pages}
+use Rattle.page_store.specs.Reading.{nodes_of}
+use Rattle.page_store.specs.Shelf.{Shelf}
+use Rattle.free_pages.specs.Commits.{AreOutside}
+use Rattle.free_pages.specs.Walk.{IsWalkFault, tree_walk}
+use Rattle.index_core.specs.Answers.{IsSoundOn}
+use Rattle.index_core.specs.Files.{OpenFile, nodes_on, pages_on}
+use Rattle.index_core.specs.Index.{AreSpare, IsLawfulFree}
+use Rattle.index_core.specs.Writing.{IsExactFor}
+use Rattle.index_core.proofs.Listed.{fresh_lawful, fresh_spare, fresh_exact, list_cause}
+use Rattle.index_core.proofs.view.View.list_free.Goals as goal
+
+pub returns-in-Err-clause-cause : goal.returns-in-Err-clause-cause
+returns-in-Err-clause-cause g c =
+    list_cause c.in-Err.fault c.read_fault.result _ _ c.args.self.now _ _ c.lend-pages.ensures.shelf (search rules) c.read_fault.ensures
+    (subst (λ (f : OpenFile g.row.M.Denot). IsWalkFault _ _ (tree_walk _ f.live) c.in-Err.fault) c.self.view_is c.in-Err.ensures.err)
+
+pub returns-clause-lawful : goal.returns-clause-lawful
+returns-clause-lawful g c =
+    subst (λ (f : OpenFile g.row.M.Denot). IsLawfulFree f.live c.in-Ok.free) c.self.view_is (fresh_lawful c.self.inside.live c.in-Ok.free c.in-Ok.ensures.numbers c.in-Ok.ensures.fresh)
+
+pub returns-clause-beside : goal.returns-clause-beside
+returns-clause-beside g c = λ tells.
+    let told = subst (λ (h : Shelf). IsTrue h.tells) (sym c.lend-pages.ensures.shelf) tells in
+    subst (λ (f : OpenFile g.row.M.Denot). AreSpare (nodes_on c.args.self.now (g.D.Disk.state c.args.disk.now)) f.live c.in-Ok.free) c.self.view_is
+    (subst (λ (h : Shelf). AreSpare (nodes_of h.read) c.self.inside.live c.in-Ok.free) c.lend-pages.ensures.shelf
+    (fresh_spare _ _ c.self.inside.live c.in-Ok.free (c.in-Ok.ensures.outside told) c.in-Ok.ensures.fresh))
+
+pub returns-clause-exact : goal.returns-clause-exact
+returns-clause-exact g c =
+    subst (λ (f : OpenFile g.row.M.Denot). IsSoundOn (g.M.Metric.space c.args.self.now.metric) f (g.D.Disk.state c.args.disk.now) → IsExactFor f c.in-Ok.free (g.D.Disk.state c.args.disk.now)) c.self.view_is
+    (λ sound.
+        let exact = subst (λ (h : Shelf). IsTrue h.tells → IsSoundTree (g.M.Metric.space c.args.self.now.metric) (nodes_of h.read) c.self.inside.live →
+            AreOutside c.self.inside.live.pages (live_pages (nodes_of h.read) c.self.inside.live) c.in-Ok.free) c.lend-pages.ensures.shelf
+            (λ tells is. fresh_exact c.self.inside.live _ c.in-Ok.free (c.in-Ok.ensures.sound (g.M.Metric.space c.args.self.now.metric) tells is) c.in-Ok.ensures.fresh) in
+        subst (λ (f : OpenFile g.row.M.Denot). IsTrue (g.D.Disk.state c.args.disk.now).tells → IsSoundTree (g.M.Metric.space c.args.self.now.metric) (nodes_on f (g.D.Disk.state c.args.disk.now)) c.self.inside.live →
+            AreOutside c.self.inside.live.pages (live_pages (nodes_on f (g.D.Disk.state c.args.disk.now)) c.self.inside.live) c.in-Ok.free) (sym c.self.view_is) exact sound.0 sound.1)
