@@ -44,7 +44,6 @@ pub struct JoinWalk {
 
 // The item of a root.
 fn root_of(live: &Live) -> Item
-    requires { live.now.height ≤ 14 }
     ensures { result ≡ root_item live.now }
 {
     Item::Subtree {
