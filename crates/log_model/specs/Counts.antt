@@ -6,6 +6,7 @@ use Rattle.tree_shape.specs.declared.entry.Node.TheVariants.{Leaf, Inner}
 use Rattle.log_model.specs.declared.marks.Mark.{Mark}
 use Rattle.log_model.specs.declared.marks.Mark.TheVariants.{Skip, Far, Near}
 use Rattle.log_model.specs.declared.marks.Record.{Record}
+use Rattle.log_model.specs.declared.marks.JoinRecord.{JoinRecord}
 
 -- a count that rose so many times by one, each time up to the greatest `u64`
 abbrev pub count_up : ℕ → ℕ → ℕ
@@ -26,6 +27,11 @@ measured_by (Near ∷ marks) = suc (measured_by marks)
 abbrev pub measured : List Record → ℕ
 measured [] = 0
 measured (r ∷ rs) = measured_by r.marks + measured rs
+
+-- the distances that a join's marks cost at the most: beside a root none is computed
+abbrev pub join_measured : List JoinRecord → ℕ
+join_measured [] = 0
+join_measured (r ∷ rs) = measured_by r.marks + join_measured rs
 
 -- the number of a node's entries
 abbrev pub entry_count : Node → ℕ

@@ -12,7 +12,7 @@ use std::alloc::Global;
 
 impl Item {
     // The rank of a subtree, and 0 of an object.
-    fn rank(&self) -> u8
+    fn rank(&self) -> u64
         ensures { result ≡ rank_of self.now }
     {
         match self {

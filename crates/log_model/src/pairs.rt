@@ -8,7 +8,7 @@ pub enum Item {
         /// The node's page.
         page: u32,
         /// The height plus 1 for a root, and for another node the level that its parent states.
-        rank: u8,
+        rank: u64,
         /// The routing point above the node. None stands above a root.
         centre: Option<Point>,
         /// The covering radius, and 0 for a root.

@@ -1,11 +1,12 @@
 -- Why a verdict is given, and what it cost.
-use Rattle.std.specs.Prelude.{◌≡◌, ◌≢◌, ℕ, Bool, true, false, IsTrue, Err}
+use Rattle.std.specs.Prelude.{◌≡◌, ◌≢◌, ℕ, ◌+◌, ◌≤◌, Bool, true, false, IsTrue, Err}
 use Rattle.outside_io.specs.Causes.{Rose}
 use Rattle.node_page.specs.declared.node.NodeFault.TheVariants.{Memory as NodeMemory}
 use Rattle.page_store.specs.declared.pages.PageFault.{PageFault}
 use Rattle.page_store.specs.declared.pages.PageFault.TheVariants as pages
 use Rattle.page_store.specs.Reading.{IsWithin, is_within}
 use Rattle.page_store.specs.Shelf.{Shelf}
+use Rattle.log_model.specs.Counts.{count_up}
 use Rattle.log_model.specs.declared.pairs.JoinNeed.{JoinNeed}
 use Rattle.log_model.specs.JoinWalk.{opens_right, opened, page_of}
 use Rattle.log_verify.specs.declared.faults.JoinVerdict.{JoinVerdict}
@@ -70,3 +71,13 @@ abbrev pub IsPassing : Verdict → Type 0
 IsPassing Memory = Unit {0}
 IsPassing (Page pages.Disk) = Unit {0}
 IsPassing _ = ⊥
+
+-- the two sides together were asked for at most so many pages, and each read at most as many as it was asked for
+pub record AskBothUpTo (left left2 right right2 : Shelf) (most : ℕ) : Type 0 where
+  pub on_left : ℕ
+  pub on_right : ℕ
+  pub few : on_left + on_right ≤ most
+  pub left_asked : left2.asked ≡ count_up left.asked on_left
+  pub right_asked : right2.asked ≡ count_up right.asked on_right
+  pub left_reads : left2.reads ≤ left.reads + on_left
+  pub right_reads : right2.reads ≤ right.reads + on_right

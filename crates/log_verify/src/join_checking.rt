@@ -2,6 +2,7 @@
 ghost use Rattle.std.specs.Prelude.{◌≡◌, ◌++◌, ◌<◌, ◌^◌, [], ◌∷◌, length, OnOk, IfOk, IfNone};
 ghost use Rattle.log_model.specs.declared.marks.Mark.TheVariants.{Near};
 ghost use Rattle.log_model.specs.declared.pairs.JoinNeed.{JoinNeed};
+ghost use Rattle.log_model.specs.Counts.{measured_by, CountsUpTo};
 ghost use Rattle.log_model.specs.Walk.{near_ones};
 ghost use Rattle.log_model.specs.JoinWalk.{allows_entry, object_entry, subtree_entry, join_hits, join_needs, within_apart};
 ghost use Rattle.log_model.specs.JoinSteps.{search_within, hits_among, needs_among, paired};
@@ -65,6 +66,7 @@ fn check_object<R: Ruler>(
     ensures metric { R.metric ruler.new ≡ R.metric ruler.old }
     ensures allowed { result.allowed ≡ allows_entry (search_within (R.M.space (R.metric ruler.old)) rho) need.now (object_entry entry.now) mark }
     ensures apart { mark ≡ Near → result.apart ≡ (object_pair (R.M.space (R.metric ruler.old)) need.now entry.now).apart }
+    ensures counted { CountsUpTo (R.used ruler.old) (R.used ruler.new) (measured_by (mark ∷ [])) }
 {
     let radius = need.other().radius();
     match mark {
@@ -103,6 +105,7 @@ fn check_subtree<R: Ruler>(
     ensures metric { R.metric ruler.new ≡ R.metric ruler.old }
     ensures allowed { result.allowed ≡ allows_entry (search_within (R.M.space (R.metric ruler.old)) rho) need.now (subtree_entry level entry.now) mark }
     ensures apart { mark ≡ Near → result.apart ≡ (subtree_pair (R.M.space (R.metric ruler.old)) need.now level entry.now).apart }
+    ensures counted { CountsUpTo (R.used ruler.old) (R.used ruler.new) (measured_by (mark ∷ [])) }
 {
     let radius = need.other().radius();
     match mark {
@@ -198,7 +201,7 @@ fn subtree_item(alloc: Global, level: u8, entry: &InnerEntry) -> Result<Item, Me
 {
     Ok(Item::Subtree {
         page: entry.child,
-        rank: level,
+        rank: u64::from(level),
         centre: Some(Point::new(alloc, entry.point.as_slice())?),
         radius: entry.radius,
     })
@@ -239,6 +242,7 @@ fn check_leaf<R: Ruler>(
     ensures wrong { IfOk result (λ w. w ≡ join_wrong_in (search_within (R.M.space (R.metric ruler.old)) probe.entry.rho) probe.entry.need.now (Node.Leaf entries.now) marks.now) }
     ensures hits { IfOk result (λ w. IfNone w (named.new.hits.items ≡ named.old.hits.items ++ join_hits (search_within (R.M.space (R.metric ruler.old)) probe.entry.rho) probe.entry.need.now (Node.Leaf entries.now) marks.now)) }
     ensures needs { IfOk result (λ w. IfNone w (named.new.needs.items ≡ named.old.needs.items ++ join_needs (search_within (R.M.space (R.metric ruler.old)) probe.entry.rho) probe.entry.need.now (Node.Leaf entries.now) marks.now)) }
+    ensures few_counted { CountsUpTo (R.used ruler.old) (R.used ruler.new) (measured_by marks.now) }
 {
     for i in 0..entries.len() {
         let entry = &entries[i];
@@ -273,6 +277,7 @@ fn check_inner<R: Ruler>(
     ensures wrong { IfOk result (λ w. w ≡ join_wrong_in (search_within (R.M.space (R.metric ruler.old)) probe.entry.rho) probe.entry.need.now (Node.Inner level entries.now) marks.now) }
     ensures hits { IfOk result (λ w. IfNone w (named.new.hits.items ≡ named.old.hits.items ++ join_hits (search_within (R.M.space (R.metric ruler.old)) probe.entry.rho) probe.entry.need.now (Node.Inner level entries.now) marks.now)) }
     ensures needs { IfOk result (λ w. IfNone w (named.new.needs.items ≡ named.old.needs.items ++ join_needs (search_within (R.M.space (R.metric ruler.old)) probe.entry.rho) probe.entry.need.now (Node.Inner level entries.now) marks.now)) }
+    ensures few_counted { CountsUpTo (R.used ruler.old) (R.used ruler.new) (measured_by marks.now) }
 {
     for i in 0..entries.len() {
         let entry = &entries[i];
@@ -300,6 +305,7 @@ pub fn check_node<R: Ruler>(
     ensures wrong { IfOk result (λ w. w ≡ join_wrong_in (search_within (R.M.space (R.metric ruler.old)) probe.entry.rho) probe.entry.need.now node.now marks.now) }
     ensures hits { IfOk result (λ w. IfNone w (named.new.hits.items ≡ named.old.hits.items ++ join_hits (search_within (R.M.space (R.metric ruler.old)) probe.entry.rho) probe.entry.need.now node.now marks.now)) }
     ensures needs { IfOk result (λ w. IfNone w (named.new.needs.items ≡ named.old.needs.items ++ join_needs (search_within (R.M.space (R.metric ruler.old)) probe.entry.rho) probe.entry.need.now node.now marks.now)) }
+    ensures few_counted { CountsUpTo (R.used ruler.old) (R.used ruler.new) (measured_by marks.now) }
 {
     match node {
         Node::Leaf(entries) => check_leaf(ruler, probe, entries.as_slice(), marks, named),

@@ -1,10 +1,11 @@
 ghost use Rattle.std.specs.Prelude.{◌≡◌, ◌≤◌, length, None, Some, IsTrue, IfOk, IfErr, OnOk};
 ghost use Rattle.page_store.specs.Reading.{nodes_of};
 ghost use Rattle.page_store.specs.Shelf.{HoldsSame};
+ghost use Rattle.log_model.specs.Counts.{join_measured, CountsUpTo};
 ghost use Rattle.log_model.specs.Grammar.{IsLawfulJoinLog};
 ghost use Rattle.log_model.specs.SoundJoin.{IsSoundJoinLog};
 ghost use Rattle.log_verify.specs.JoinJudged.{join_fault};
-ghost use Rattle.log_verify.specs.Causes.{HasJoinCause, IsJoinPassing};
+ghost use Rattle.log_verify.specs.Causes.{HasJoinCause, IsJoinPassing, AskBothUpTo};
 
 use crate::join_walking::{JoinWalk, walk_records};
 use crate::judging::{compare_pairs, names};
@@ -20,6 +21,9 @@ use tree_shape::Live;
 /// for each entry of its page, and its answers are those that the records name, in order. Else it names the first fault: the
 /// left state, the right state, then record by record the side and page, the number of marks and the marks, then a record
 /// that is left over, then the first answer that differs.
+///
+/// It asks for at most one page for each record, of either side, and computes at most one distance for each mark that isn't
+/// Skip.
 pub fn verify_join<P: Pages, Q: Pages, R: Ruler>(
     alloc: Global,
     left: &mut P,
@@ -30,8 +34,6 @@ pub fn verify_join<P: Pages, Q: Pages, R: Ruler>(
     log: &JoinLog,
 ) -> Result<Accepted, JoinVerdict>
     requires lawful { IsLawfulJoinLog log.now }
-    requires left_height { ll.now.height ≤ 14 }
-    requires right_height { lr.now.height ≤ 14 }
     ensures metric { R.metric ruler.new ≡ R.metric ruler.old }
     ensures left_same { HoldsSame (P.shelf left.old) (P.shelf left.new) }
     ensures left_keeps { P.keeps left.old left.new }
@@ -49,6 +51,10 @@ pub fn verify_join<P: Pages, Q: Pages, R: Ruler>(
     // A sound log is accepted, unless a disk fails or memory runs out.
     ensures complete { IfErr result (λ v. IsTrue (P.shelf left.old).tells → IsTrue (Q.shelf right.old).tells →
         IsSoundJoinLog (R.M.space (R.metric ruler.old)) (nodes_of (P.shelf left.old).read) (nodes_of (Q.shelf right.old).read) ll.now lr.now log.now → IsJoinPassing v) }
+
+    // What it costs.
+    ensures few_asked { AskBothUpTo (P.shelf left.old) (P.shelf left.new) (Q.shelf right.old) (Q.shelf right.new) (length log.now.records) }
+    ensures few_counted { CountsUpTo (R.used ruler.old) (R.used ruler.new) (join_measured log.now.records) }
 {
     if !names(log.left, ll) {
         return Err(JoinVerdict::OtherState {

@@ -1,13 +1,15 @@
 // The walk that takes the records of a join's log one after the other.
 ghost use Rattle.std.specs.Prelude.{◌≡◌, ◌++◌, ◌+◌, ◌≤◌, ◌<◌, ◌^◌, ◌-◌, [], ◌∷◌, List, length, reverse, IsTrue, Ok, Err, IfOk, IfErr, OnOk};
 ghost use Rattle.page_store.specs.Shelf.{HoldsSame};
+ghost use Rattle.metric_laws.specs.Counts.{next_count};
 ghost use Rattle.log_model.specs.declared.marks.JoinRecord.{JoinRecord};
+ghost use Rattle.log_model.specs.Counts.{measured_by, join_measured, CountsUpTo};
 ghost use Rattle.log_model.specs.JoinWalk.{opens_right, opened, page_of};
 ghost use Rattle.log_model.specs.SoundJoin.{root_item, root_pair};
 ghost use Rattle.log_model.specs.JoinSteps.{search_within};
 ghost use Rattle.log_verify.specs.Judged.{entry_count};
 ghost use Rattle.log_verify.specs.JoinJudged.{is_of, read_of, join_walked};
-ghost use Rattle.log_verify.specs.Causes.{IsNodeFault, verdict_of, IsJoinPageVerdict, HasJoinCause};
+ghost use Rattle.log_verify.specs.Causes.{IsNodeFault, verdict_of, IsJoinPageVerdict, HasJoinCause, AskBothUpTo};
 
 use crate::JoinVerdict;
 use crate::join_checking::{JoinProbe, Named, check_node};
@@ -34,12 +36,11 @@ pub struct JoinWalk {
 
 // The item of a root.
 fn root_of(live: &Live) -> Item
-    requires { live.now.height ≤ 14 }
     ensures { result ≡ root_item live.now }
 {
     Item::Subtree {
         page: live.root,
-        rank: live.height as u8 + 1,
+        rank: u64::from(live.height) + 1,
         centre: None,
         radius: 0,
     }
@@ -48,8 +49,6 @@ fn root_of(live: &Live) -> Item
 impl JoinWalk {
     /// A walk that needs the pair of roots.
     pub fn begin(alloc: Global, left: &Live, right: &Live, rho: u64) -> Result<Self, Memory>
-        requires left_height { left.now.height ≤ 14 }
-        requires right_height { right.now.height ≤ 14 }
         ensures rho { IfOk result (λ walk. walk.rho ≡ rho) }
         ensures taken { IfOk result (λ walk. walk.taken ≡ 0) }
         ensures hits { IfOk result (λ walk. walk.named.hits.items ≡ []) }
@@ -88,6 +87,8 @@ fn node_at<P: Pages>(alloc: Global, pages: &mut P, page: u32) -> Result<Node, Pa
     ensures few { IfOk result (λ node. entry_count node < 2 ^ 32) }
     ensures told { IfOk result (λ node. IsTrue (P.shelf pages.old).tells → (P.shelf pages.old).read page ≡ Ok node) }
     ensures cause { IfErr result (λ fault. IsNodeFault (P.shelf pages.old) (P.shelf pages.new) page fault) }
+    ensures asked { (P.shelf pages.new).asked ≡ next_count (P.shelf pages.old).asked }
+    ensures reads { (P.shelf pages.new).reads ≤ (P.shelf pages.old).reads + 1 }
 {
     pages.node(alloc, page)
 }
@@ -117,6 +118,7 @@ fn opened_node<P: Pages, Q: Pages>(
     ensures told { IfOk result (λ node. IsTrue (P.shelf left.old).tells → IsTrue (Q.shelf right.old).tells →
         read_of (P.shelf left.old).read (Q.shelf right.old).read (opens_right need.now) (page_of (opened need.now)) ≡ Ok node) }
     ensures cause { IfErr result (λ v. IsJoinPageVerdict (P.shelf left.old) (P.shelf left.new) (Q.shelf right.old) (Q.shelf right.new) need.now v) }
+    ensures few_asked { AskBothUpTo (P.shelf left.old) (P.shelf left.new) (Q.shelf right.old) (Q.shelf right.new) 1 }
 {
     let page = need.opened().page();
     if need.opens_right() {
@@ -156,6 +158,8 @@ fn take_record<P: Pages, Q: Pages, R: Ruler>(
     ensures cause { IfErr result (λ v. HasJoinCause (P.shelf left.old) (P.shelf left.new) (Q.shelf right.old) (Q.shelf right.new) v ((rs : List JoinRecord) →
         join_walked (search_within (R.M.space (R.metric ruler.old)) walk.old.rho) (P.shelf left.old).read (Q.shelf right.old).read walk.old.named.hits.items (reverse walk.old.stack.items) (told.now ∷ rs) walk.old.taken
         ≡ Err v)) }
+    ensures few_asked { AskBothUpTo (P.shelf left.old) (P.shelf left.new) (Q.shelf right.old) (Q.shelf right.new) 1 }
+    ensures few_counted { CountsUpTo (R.used ruler.old) (R.used ruler.new) (measured_by told.now.marks) }
 {
     let Some(need) = walk.stack.pop() else {
         return Err(JoinVerdict::LeftOver(walk.taken));
@@ -205,6 +209,8 @@ pub fn walk_records<P: Pages, Q: Pages, R: Ruler>(
         join_walked (search_within (R.M.space (R.metric ruler.old)) begun.rho) (P.shelf left.old).read (Q.shelf right.old).read begun.named.hits.items (reverse begun.stack.items) records.now 0 ≡ Ok hits.items) }
     ensures cause { IfErr result (λ v. HasJoinCause (P.shelf left.old) (P.shelf left.new) (Q.shelf right.old) (Q.shelf right.new) v
         (join_walked (search_within (R.M.space (R.metric ruler.old)) begun.rho) (P.shelf left.old).read (Q.shelf right.old).read begun.named.hits.items (reverse begun.stack.items) records.now 0 ≡ Err v)) }
+    ensures few_asked { AskBothUpTo (P.shelf left.old) (P.shelf left.new) (Q.shelf right.old) (Q.shelf right.new) (length records.now) }
+    ensures few_counted { CountsUpTo (R.used ruler.old) (R.used ruler.new) (join_measured records.now) }
 {
     let mut walk = begun;
     for told in records {

@@ -13,7 +13,7 @@ use Rattle.page_store.specs.Reading.{Read, nodes_of, node_or_none, IsWithin, is_
 use Rattle.page_store.specs.Shelf.{Shelf, HoldsSame}
 use Rattle.log_model.specs.declared.logs.Joined.{Joined}
 use Rattle.log_model.specs.declared.marks.JoinRecord.{JoinRecord}
-use Rattle.log_model.specs.Counts.{count_up, CountsUpTo}
+use Rattle.log_model.specs.Counts.{count_up, CountsUpTo, join_measured}
 use Rattle.log_model.specs.InOrder.{in_order, pair_before}
 use Rattle.log_model.specs.JoinWalk.{JoinSearch, JoinLeast, JoinWalksBy}
 use Rattle.log_model.specs.SoundJoin.{root_pair, IsLeastJoinLog}
@@ -24,7 +24,7 @@ use Rattle.log_model.proofs.JoinScan.{join_complete}
 use Rattle.log_model.proofs.JoinLeast.{join_least_sound}
 use Rattle.log_model.specs.JoinSteps.{search_within}
 use Rattle.metric_join.specs.Tours.{IsToured, Names}
-use Rattle.metric_join.specs.Joined.{IsJoinLogOf, IsJoined, IsWalked, HasSideCause, HasTourCause, HasJoinCause, IsPassing, opened_on, measured, fault_of}
+use Rattle.metric_join.specs.Joined.{IsJoinLogOf, IsJoined, IsWalked, HasSideCause, HasTourCause, HasJoinCause, IsPassing, opened_on, fault_of}
 use Rattle.metric_join.specs.declared.faults.JoinFault.{JoinFault}
 use Rattle.metric_join.specs.declared.faults.JoinFault.TheVariants as join
 use Rattle.metric_join.specs.declared.walking.Waiting.{Waiting}
@@ -111,7 +111,7 @@ module _ (s : Space) (l r : Live) (radius : ℕ) (left0 left1 left2 right0 right
         ∙ ap (λ (n : ℕ). count_up old.asked (n + further)) (let e : walked.opened + 0 ≡ walked.opened = omega arith in e);
   }
 
-  used_is : CountsUpTo used used2 (measured joined.log.records)
+  used_is : CountsUpTo used used2 (join_measured joined.log.records)
   used_is = rw records_are way.used_up
 
   pub joined_is : (length joined.log.answers < 2 ^ 64) × (length joined.log.records < 2 ^ 64) → IsWalked l left0 left1 0 → IsWalked r right0 right1 0 →

@@ -5,8 +5,9 @@ use Rattle.tree_shape.specs.declared.entry.Node.TheVariants.{Leaf, Inner}
 use Rattle.tree_shape.specs.Tree.{Nodes}
 use Rattle.log_model.specs.declared.marks.JoinRecord.{JoinRecord}
 use Rattle.log_model.specs.declared.marks.Mark.TheVariants.{Far, Near}
+use Rattle.log_model.specs.Counts.{join_measured}
 use Rattle.metric_join.specs.Tours.{Tours, Names}
-use Rattle.metric_join.specs.Joined.{opened_on, measured}
+use Rattle.metric_join.specs.Joined.{opened_on}
 
 abbrev child_on : ℕ → InnerEntry
 child_on page = record { child = page; radius = 0; parent = 0; point = 0 ∷ [] }
@@ -44,5 +45,5 @@ one_left = refl
 pub three_right : opened_on true three_by_two ≡ 3
 three_right = refl
 
-pub nine_marks : measured three_by_two ≡ 9
+pub nine_marks : join_measured three_by_two ≡ 9
 nine_marks = refl

@@ -14,14 +14,14 @@ use Rattle.page_store.specs.Shelf.{Shelf, HoldsSame, IsNodeOf}
 use Rattle.log_model.specs.declared.marks.Mark.{Mark}
 use Rattle.log_model.specs.declared.marks.JoinRecord.{JoinRecord}
 use Rattle.log_model.specs.declared.pairs.JoinNeed.{JoinNeed}
-use Rattle.log_model.specs.Counts.{count_up, measured_by, CountsUpTo}
+use Rattle.log_model.specs.Counts.{count_up, measured_by, CountsUpTo, join_measured}
 use Rattle.log_model.specs.Walk.{near_ones}
 use Rattle.log_model.specs.JoinWalk.{JoinSearch, JoinLeast, JoinWalksBy, Entry, entries_of, page_of, opens_right, opened, with_entry, is_need, least_for_entry, join_needs, join_hits, side_of}
 use Rattle.log_model.specs.SoundJoin.{root_pair}
 use Rattle.log_model.proofs.JoinNames.{with_side, opened_side}
 use Rattle.log_model.proofs.Reached.{count_up_more, count_up_both}
 use Rattle.log_model.specs.JoinSteps.{hits_among, needs_among}
-use Rattle.metric_join.specs.Joined.{is_on, opened_on, measured}
+use Rattle.metric_join.specs.Joined.{is_on, opened_on}
 use Rattle.metric_join.specs.declared.walking.Waiting.{Waiting}
 use Rattle.metric_join.specs.Steps.{following, record_for, weight, weight_of, needs_in, marks_for, pairs_for, IsStanding, IsWaiting, IsOpened, IsUnderWay}
 use Rattle.metric_join.proofs.Tours.{whole_below}
@@ -32,7 +32,7 @@ opened_on_more : (side : Bool) (rs : List JoinRecord) (r : JoinRecord) → opene
 opened_on_more side [] r = omega arith
 opened_on_more side (q ∷ rs) r = let ih = opened_on_more side rs r in omega arith
 
-measured_more : (rs : List JoinRecord) (r : JoinRecord) → measured (rs ++ r ∷ []) ≡ measured rs + measured_by r.marks
+measured_more : (rs : List JoinRecord) (r : JoinRecord) → join_measured (rs ++ r ∷ []) ≡ join_measured rs + measured_by r.marks
 measured_more [] r = omega arith
 measured_more (q ∷ rs) r = let ih = measured_more rs r in omega arith
 

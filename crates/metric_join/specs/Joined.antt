@@ -10,7 +10,7 @@ use Rattle.page_store.specs.Reading.{IsWithin, is_within, nodes_of}
 use Rattle.page_store.specs.Shelf.{Shelf}
 use Rattle.log_model.specs.declared.logs.Joined.{Joined}
 use Rattle.log_model.specs.declared.marks.JoinRecord.{JoinRecord}
-use Rattle.log_model.specs.Counts.{count_up, measured_by, CountsUpTo}
+use Rattle.log_model.specs.Counts.{count_up, join_measured, CountsUpTo}
 use Rattle.log_model.specs.Grammar.{IsLawfulJoinLog}
 use Rattle.log_model.specs.SoundJoin.{IsLeastJoinLog}
 use Rattle.metric_join.specs.Tours.{Tours, IsToured, Names, NamesInside}
@@ -35,11 +35,6 @@ abbrev pub opened_on : Bool → List JoinRecord → ℕ
 opened_on side [] = 0
 opened_on side (r ∷ rs) = is_on side r.right + opened_on side rs
 
--- the marks that a distance was computed for at the most
-abbrev pub measured : List JoinRecord → ℕ
-measured [] = 0
-measured (r ∷ rs) = measured_by r.marks + measured rs
-
 -- the walk of the live tree by child numbers was whole and opened no more pages than there are; the side was asked for each
 -- of them once, and so many times after that
 pub record IsWalked (live : Live) (old new : Shelf) (further : ℕ) : Type 0 where
@@ -55,7 +50,7 @@ pub record IsJoined (s : Space) (l r : Live) (radius : ℕ) (left left2 right ri
   pub least : IsTrue left.tells → IsTrue right.tells → IsLeastJoinLog s (nodes_of left.read) (nodes_of right.read) l r radius joined.log
   pub left_walked : IsWalked l left left2 (opened_on false joined.log.records)
   pub right_walked : IsWalked r right right2 (opened_on true joined.log.records)
-  pub distances : CountsUpTo used used2 (measured joined.log.records)
+  pub distances : CountsUpTo used used2 (join_measured joined.log.records)
 
 -- why a side's page is refused: the disk failed; or the walk of the live tree by child numbers comes to a page that holds no
 -- node, or that is none of the file's, or it has opened as many pages as there are, and names this one besides. Where the

@@ -17,13 +17,13 @@ use Rattle.log_model.specs.declared.marks.JoinRecord.{JoinRecord}
 use Rattle.log_model.specs.declared.pairs.Item.{Item}
 use Rattle.log_model.specs.declared.pairs.Item.TheVariants.{Subtree, Object}
 use Rattle.log_model.specs.declared.pairs.JoinNeed.{JoinNeed}
-use Rattle.log_model.specs.Counts.{count_up, measured_by, CountsUpTo}
+use Rattle.log_model.specs.Counts.{count_up, measured_by, CountsUpTo, join_measured}
 use Rattle.log_model.specs.Walk.{near_ones}
 use Rattle.log_model.specs.JoinWalk.{JoinSearch, JoinLeast, JoinWalksBy, Entry, radius_of, page_of, opens_right, opened, other, with_entry, far_apart, far_stored, is_need, least_for_entry}
 use Rattle.log_model.specs.JoinSteps.{apart_from, hits_among, needs_among}
 use Rattle.log_model.specs.SoundJoin.{root_pair}
 use Rattle.metric_join.specs.Tours.{IsWhole}
-use Rattle.metric_join.specs.Joined.{opened_on, measured}
+use Rattle.metric_join.specs.Joined.{opened_on}
 use Rattle.metric_join.specs.declared.faults.JoinFault.{JoinFault}
 use Rattle.metric_join.specs.declared.faults.JoinFault.TheVariants.{Left, Right, Memory}
 use Rattle.metric_join.specs.declared.opening.Opening.{Opening}
@@ -77,7 +77,7 @@ pub record IsUnderWay (j : JoinSearch) (l r : Live) (left left2 right right2 : S
   pub right_holds : HoldsSame right right2
   pub left_asked : left2.asked ≡ count_up left.asked (opened_on false records)
   pub right_asked : right2.asked ≡ count_up right.asked (opened_on true records)
-  pub used_up : CountsUpTo used used2 (measured records)
+  pub used_up : CountsUpTo used used2 (join_measured records)
   pub few_marks : AllByRecursion (λ r. length r.marks ≤ 32) records
   pub waits : AllByRecursion (IsWaiting l r left right (opened_on false records) (opened_on true records)) stack
   pub walk : IsTrue left.tells → IsTrue right.tells → (rs : List JoinRecord) (hs : List Pair) →

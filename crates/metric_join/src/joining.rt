@@ -61,8 +61,6 @@ pub fn join<P: Pages, Q: Pages, R: Ruler>(
     lr: &Live,
     r: u64,
 ) -> Result<Joined, JoinFault>
-    requires left_height { ll.now.height ≤ 14 }
-    requires right_height { lr.now.height ≤ 14 }
     ensures metric { R.metric ruler.new ≡ R.metric ruler.old }
     ensures left_same { HoldsSame (P.shelf left.old) (P.shelf left.new) }
     ensures left_keeps { P.keeps left.old left.new }

@@ -172,7 +172,7 @@ fn mark_subtree<R: Ruler>(
     if let Mark::Near = marked.mark {
         let item = Item::Subtree {
             page: entry.child,
-            rank: level,
+            rank: u64::from(level),
             centre: Some(Point::new(probe.alloc, entry.point.as_slice())?),
             radius: entry.radius,
         };

@@ -44,12 +44,11 @@ pub struct JoinWalk {
 
 // The item of a root.
 fn root_of(live: &Live) -> Item
-    requires { live.now.height ≤ 14 }
     ensures { result ≡ root_item live.now }
 {
     Item::Subtree {
         page: live.root,
-        rank: live.height as u8 + 1,
+        rank: u64::from(live.height) + 1,
         centre: None,
         radius: 0,
     }
@@ -58,8 +57,6 @@ fn root_of(live: &Live) -> Item
 impl JoinWalk {
     /// A walk that needs the pair of roots.
     pub fn begin(alloc: Global, left: &Live, right: &Live, r: u64) -> Result<Self, Memory>
-        requires left_height { left.now.height ≤ 14 }
-        requires right_height { right.now.height ≤ 14 }
         ensures rho { IfOk result (λ walk. walk.rho ≡ min r bound) }
         ensures records { IfOk result (λ walk. walk.records.items ≡ []) }
         ensures hits { IfOk result (λ walk. walk.hits.items ≡ []) }

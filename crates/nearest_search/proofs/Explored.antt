@@ -5,7 +5,7 @@ use Rattle.std.proofs.lemmas.Bool.Decides.{nat_tests}
 use Rattle.metric_laws.specs.Space.{Space, IsSpace}
 use Rattle.metric_laws.specs.Counts.{next_count}
 use Rattle.metric_laws.specs.Lists.{IsIn}
-use Rattle.metric_laws.proofs.Lists.{all_append, in-map, in-append}
+use Rattle.metric_laws.proofs.Lists.{all_append, in-map, in-append, in-append_right}
 use Rattle.scan_model.specs.declared.hit.Hit.{Hit}
 use Rattle.scan_model.specs.declared.query.Query.{Query}
 use Rattle.scan_model.specs.declared.query.Query.TheVariants.{Nearest}
@@ -38,13 +38,14 @@ use Rattle.nearest_search.specs.declared.pending.Pending.{Pending}
 use Rattle.nearest_search.specs.Counts.{IsRadius}
 use Rattle.nearest_search.specs.Queue.{IsNext}
 use Rattle.nearest_search.specs.Keeping.{kept_node}
-use Rattle.nearest_search.specs.Machine.{pending_root, pending_of, pendings_of}
+use Rattle.nearest_search.specs.Machine.{pending_root, pending_of, pendings_of, IsKept}
 use Rattle.nearest_search.specs.Opened.{State, IsOpened}
-use Rattle.nearest_search.specs.Relog.{IsRelogging, IsRelogged}
-use Rattle.nearest_search.specs.Searched.{IsReachedBy, IsReached, KeepsFew, IsExploring, IsExplored, HasNearestCause, IsNearest}
-use Rattle.nearest_search.proofs.Totals.{in-permutation_back}
+use Rattle.nearest_search.specs.Relog.{IsRelogging, IsRelogged, IsStopped}
+use Rattle.nearest_search.specs.Searched.{IsReachedBy, IsReached, KeepsFew, IsExploring, IsExplored, HasNearestCause, IsFront, IsNearest}
+use Rattle.nearest_search.proofs.Totals.{in-permutation, in-permutation_back}
 use Rattle.nearest_search.proofs.Steps.{step}
 use Rattle.nearest_search.proofs.Ends.{begins, room, ends}
+use Rattle.nearest_search.proofs.KeptWalk.{agrees_reach}
 
 pub same_trans : (a b c : Shelf) → HoldsSame a b → HoldsSame b c → HoldsSame a c
 same_trans a b c h k = record {
@@ -104,6 +105,8 @@ module _ (s : Space) (axioms : IsSpace s) (old : Shelf) (live : Live) (q : List 
     reads = omega arith;
     few = omega arith;
     keeps_few = λ page node is. absurd (cc);
+    begun = inr (inl refl);
+    agrees = λ tells page node is. absurd (cc);
     reached = λ tells x k. elim k [ inl e ↦ ([], sym (ap (λ (y : Pending). y.page) e)) | inr w ↦ absurd w ];
     holds = λ tells sound. begins s axioms (nodes_of old.read) live q q_fits k sound;
   }
@@ -125,6 +128,17 @@ module _ (s : Space) (axioms : IsSpace s) (old : Shelf) (live : Live) (q : List 
           reads = (let b = before.reads in omega arith);
           few = omega arith;
           keeps_few = keeps_few_then state.kept after.kept next.page done.node before.keeps_few (entries_few now.dim done.node done.is.lawful) done.here done.others;
+          begun = elim before.begun [
+            | inl w ↦ inl (omega arith, kept_then done.node done.here done.others live.root w.1)
+            | inr waits ↦
+                elim (in-permutation state.queue (next ∷ rest) (pending_root live.root) first.popped waits) [
+                  | inl e ↦ inl (omega arith, (done.node, ap after.kept (ap (λ (x : Pending). x.page) e) ∙ done.here))
+                  | inr left ↦
+                      inr (in-permutation (pendings_of (search_at s q rho) next.above done.node ++ rest) after.queue (pending_root live.root) done.pushed
+                      (in-append_right (pendings_of (search_at s q rho) next.above done.node) rest (pending_root live.root) left))
+                ]
+          ];
+          agrees = λ tells. agrees_then done.node done.here done.others (told_then old now next.page done.node before.same done.is tells) (before.agrees tells);
           reached = λ tells x k.
               elim (in-append (pendings_of (search_at s q rho) next.above done.node) rest x (in-permutation_back (pendings_of (search_at s q rho) next.above done.node ++ rest) after.queue x done.pushed k)) [
                 | inl new ↦
@@ -140,6 +154,23 @@ module _ (s : Space) (axioms : IsSpace s) (old : Shelf) (live : Live) (q : List 
           holds = λ tells sound. step s axioms q q_fits (nodes_of old.read) k live.root state.kept state.queue state.best opened (before.holds tells sound) rho radius next rest first.popped first.low first.first
               done.node (told_then old now next.page done.node before.same done.is tells) after.queue done.pushed after.best done.noted after.kept done.here done.others;
         }
+      where
+        -- what was kept is kept
+        kept_then : (node : Node) → after.kept next.page ≡ Some node → ((p : ℕ) → (p ≡ next.page → ⊥) → after.kept p ≡ state.kept p) → (page : ℕ) → IsKept state.kept page → IsKept after.kept page
+        kept_then node here others page old = cases (page == next.page) refl
+          where
+            cases : (b : Bool) → (page == next.page) ≡ b → IsKept after.kept page
+            cases true e = (node, let same : page ≡ next.page = grind (arith, nat_tests) in rw same here)
+            cases false e = (old.0, others page (λ same. let t : (page == next.page) ≡ true = grind (arith, nat_tests) in cc) ∙ old.1)
+
+        -- what is kept are the nodes of the pages
+        agrees_then : (node : Node) → after.kept next.page ≡ Some node → ((p : ℕ) → (p ≡ next.page → ⊥) → after.kept p ≡ state.kept p) → nodes_of old.read next.page ≡ Some node →
+            ((page : ℕ) (n : Node) → state.kept page ≡ Some n → nodes_of old.read page ≡ Some n) → (page : ℕ) (n : Node) → after.kept page ≡ Some n → nodes_of old.read page ≡ Some n
+        agrees_then node here others is agrees page n k' = cases (page == next.page) refl
+          where
+            cases : (b : Bool) → (page == next.page) ≡ b → nodes_of old.read page ≡ Some n
+            cases true e = let same : page ≡ next.page = grind (arith, nat_tests) in cc (same, here, is, k')
+            cases false e = agrees page n (sym (others page (λ same. let t : (page == next.page) ≡ true = grind (arith, nat_tests) in cc)) ∙ k')
 
     pub explore_cause : (new : Shelf) (fault : PageFault) → HasPageCause now new next.page fault → HasNearestCause live old new fault
     explore_cause new Disk cause = (let l = before.same.faults in let c = cause in omega arith)
@@ -240,6 +271,34 @@ module _ (s : Space) (axioms : IsSpace s) (old : Shelf) (live : Live) (q : List 
         asked = explored.exploring.asked ∙ ap (count_up old.asked) (sym long);
         reads = (let r = explored.exploring.reads in omega arith);
       }
+
+  -- on any tree the log is a front of the walk, with the root's record
+  pub nearest_front : (now : Shelf) (state : State) (rho opened : ℕ) → IsExplored s old now live q k state rho opened → (records : List Record) (hits : List Hit) →
+      IsRelogged (search_at s q rho) state.kept live records hits → (found : Found) → found.log.records ≡ records → found.log.answers ≡ selected (Nearest q k) hits → IsTrue old.tells →
+      IsFront s (nodes_of old.read) live q k found
+  nearest_front now state rho opened explored records hits logged found are answers tells = record {
+    rho = rho;
+    hits = hits;
+    left = logged.left;
+    walk = subst (λ (rs : List Record). ReachesBy AreLeast (search_at s q rho) (nodes_of old.read) (root_need live.root ∷ []) rs hits logged.left) (sym are)
+        (agrees_reach AreLeast (search_at s q rho) (nodes_of old.read) state.kept (explored.exploring.agrees tells) (root_need live.root ∷ []) records hits logged.left logged.walk);
+    some = rw are (root_opened records logged.left logged.walk logged.ends);
+    answers_are = answers;
+  }
+    where
+      beyond_root : IsIn (pending_root live.root) state.queue → ⊥
+      beyond_root waits = let b : rho < 0 = explored.beyond (pending_root live.root) waits in omega arith
+
+      root_kept : (1 ≤ opened) × IsKept state.kept live.root
+      root_kept = elim explored.exploring.begun [ inl w ↦ w | inr waits ↦ absurd (beyond_root waits) ]
+
+      root_opened : (rs : List Record) (left : List Need) → ReachesBy AreLeast (search_at s q rho) state.kept (root_need live.root ∷ []) rs hits left → IsStopped state.kept live rs left → 1 ≤ length rs
+      root_opened (r ∷ rs) left walk stopped = omega arith
+      root_opened [] left walk stopped =
+          elim (subst (IsStopped state.kept live []) walk.1 stopped) [
+            | inl all ↦ absurd (let f = explored.exploring.few in let o = root_kept.0 in omega arith)
+            | inr none ↦ absurd (let some = root_kept.1.1 in cc)
+          ]
 
 -- the walk over the kept nodes
 

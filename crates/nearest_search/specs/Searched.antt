@@ -1,8 +1,9 @@
 -- What a search for the nearest objects explores, what it answers, and why it may refuse.
-use Rattle.std.specs.Prelude.{◌≡◌, ◌≢◌, ℕ, ◌+◌, ◌≤◌, ◌<◌, false, List, [], ◌∷◌, length, IsTrue, Some, Err}
+use Rattle.std.specs.Prelude.{◌≡◌, ◌≢◌, ℕ, ◌+◌, ◌≤◌, ◌<◌, ◌⊎◌, false, List, [], ◌∷◌, length, IsTrue, Some, Err}
 use Rattle.metric_laws.specs.Space.{Space}
 use Rattle.metric_laws.specs.Lists.{IsIn}
 use Rattle.outside_io.specs.Causes.{Rose}
+use Rattle.scan_model.specs.declared.hit.Hit.{Hit}
 use Rattle.scan_model.specs.declared.query.Query.TheVariants.{Nearest}
 use Rattle.scan_model.specs.Scan.{nearest_hits}
 use Rattle.tree_shape.specs.declared.live.Live.{Live}
@@ -15,11 +16,13 @@ use Rattle.page_store.specs.declared.pages.PageFault.TheVariants.{Disk, Bad, Out
 use Rattle.page_store.specs.Reading.{IsWithin, is_within, nodes_of}
 use Rattle.page_store.specs.Shelf.{Shelf, HoldsSame}
 use Rattle.log_model.specs.declared.logs.Found.{Found}
+use Rattle.log_model.specs.declared.marks.Need.{Need}
 use Rattle.log_model.specs.Counts.{count_up, entry_count}
-use Rattle.log_model.specs.Sound.{IsLeastLog}
+use Rattle.log_model.specs.Sound.{IsLeastLog, selected}
+use Rattle.log_model.specs.Walk.{search_at, ReachesBy, AreLeast, root_need}
 use Rattle.nearest_search.specs.declared.pending.Pending.{Pending}
 use Rattle.nearest_search.specs.Counts.{IsRadius}
-use Rattle.nearest_search.specs.Machine.{Holds}
+use Rattle.nearest_search.specs.Machine.{Holds, IsKept, pending_root}
 use Rattle.nearest_search.specs.Opened.{State}
 
 -- the page is reached: it is the root, or a child of an entry in the node of a reached page; the path tells the children
@@ -34,14 +37,16 @@ IsReached nodes root p = (path : List ℕ) × IsReachedBy nodes root path p
 abbrev pub KeepsFew : Nodes → Type 0
 KeepsFew kept = (page : ℕ) (node : Node) → kept page ≡ Some node → entry_count node ≤ 32
 
--- A search has opened so many pages, and asked for each of them once. Where the pages tell a sound tree, what it knows is
--- true of that tree.
+-- A search has opened so many pages, the root first, and asked for each of them once. Where the pages tell what they hold,
+-- it keeps their nodes; where they tell a sound tree, what it knows is true of that tree.
 pub record IsExploring (s : Space) (old now : Shelf) (live : Live) (q : List ℕ) (k : ℕ) (state : State) (opened : ℕ) : Type 0 where
   pub same : HoldsSame old now
   pub asked : now.asked ≡ count_up old.asked opened
   pub reads : now.reads ≤ old.reads + opened
   pub few : opened ≤ live.pages
   pub keeps_few : KeepsFew state.kept
+  pub begun : ((1 ≤ opened) × IsKept state.kept live.root) ⊎ IsIn (pending_root live.root) state.queue
+  pub agrees : IsTrue old.tells → (page : ℕ) (node : Node) → state.kept page ≡ Some node → nodes_of old.read page ≡ Some node
   pub reached : IsTrue old.tells → (x : Pending) → IsIn x state.queue → IsReached (nodes_of old.read) live.root x.page
   pub holds : IsTrue old.tells → IsSoundTree s (nodes_of old.read) live → Holds s (nodes_of old.read) q k live.root state.kept state.queue state.best opened
 
@@ -69,3 +74,13 @@ pub record IsNearest (s : Space) (nodes : Nodes) (live : Live) (q : List ℕ) (k
   pub least : IsLeastLog s nodes live (Nearest q k) found.log
   pub asked : new.asked ≡ count_up old.asked (length found.log.records)
   pub reads : new.reads ≤ old.reads + length found.log.records
+
+-- On any tree: the records are a front of the walk with the least marks at some radius, the root's record among them, and the
+-- answers are the first k that this front names. So a root that holds no node has no answer.
+pub record IsFront (s : Space) (nodes : Nodes) (live : Live) (q : List ℕ) (k : ℕ) (found : Found) : Type 0 where
+  pub rho : ℕ
+  pub hits : List Hit
+  pub left : List Need
+  pub walk : ReachesBy AreLeast (search_at s q rho) nodes (root_need live.root ∷ []) found.log.records hits left
+  pub some : 1 ≤ length found.log.records
+  pub answers_are : found.log.answers ≡ selected (Nearest q k) hits

@@ -70,11 +70,15 @@ fn two_leaves(alloc: Global) -> Result<Vec<u8>, Memory> {
     Ok(bytes)
 }
 
-// A disk that holds them, of which these calls fail.
-fn disk_of(alloc: Global, fails: &[u64]) -> Result<MemoryDisk, Memory> {
-    let bytes = two_leaves(alloc)?;
+// A disk that holds these bytes, of which these calls fail.
+fn disk_with(alloc: Global, bytes: Vec<u8>, fails: &[u64]) -> Result<MemoryDisk, Memory> {
     let room = bytes.len() as u64;
     MemoryDisk::new(alloc, bytes, room, 100, fails.to_vec(alloc)?, None)
+}
+
+// A disk that holds the two leaves and their root, of which these calls fail.
+fn disk_of(alloc: Global, fails: &[u64]) -> Result<MemoryDisk, Memory> {
+    disk_with(alloc, two_leaves(alloc)?, fails)
 }
 
 // What a node shows of itself: its level, and the sum of its ids or of its children's pages.
@@ -85,6 +89,9 @@ const LEFT: Shown = (0, 120);
 const RIGHT: Shown = (0, 408);
 
 const ROOT: Shown = (1, 7);
+
+// A page of zeros.
+const EMPTY: Shown = (0, 0);
 
 fn shown(node: &Node) -> Shown {
     let mut sum = 0u32;
@@ -150,6 +157,24 @@ fn a_kept_page_is_not_read_again(rt: HostRuntime) -> Result<(), Fail> {
     check_calls(&rt, 1, &[5, 5, 3, 3, 5], 3)?;
     // The page that was used last stays, and not the one that came last.
     check_calls(&rt, 2, &[3, 4, 3, 5, 3, 4], 4)
+}
+
+#[test]
+fn all_pages_are_kept_where_there_is_room(rt: HostRuntime) -> Result<(), Fail> {
+    let alloc = rt.alloc();
+    let mut bytes = two_leaves(alloc)?;
+    pad(&mut bytes, 8 * 4096)?;
+    let mut disk = disk_with(alloc, bytes, &[])?;
+    let mut pages = Cached::new(alloc, DiskPages::new(&mut disk, 1, 8), 5)?;
+    let wanted = [(3, LEFT), (4, RIGHT), (5, ROOT), (6, EMPTY), (7, EMPTY)];
+    for _ in 0..2 {
+        for (page, node) in &wanted {
+            assert_eq!(rt; ask(alloc, &mut pages, *page), Ok(*node));
+        }
+    }
+    let (inner, kept) = pages.into_parts();
+    assert_eq!(rt; (inner.disk.moments(), kept.len()), (5, 5));
+    Ok(())
 }
 
 #[test]

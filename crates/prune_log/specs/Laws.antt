@@ -5,7 +5,7 @@ use Rattle.log_model.specs.declared.logs.JoinLog.{JoinLog}
 use Rattle.log_model.specs.Grammar.{IsLawfulLog, IsLawfulJoinLog}
 use Rattle.prune_log.specs.Ranges.{IsBytes, LogInRange, JoinLogInRange}
 use Rattle.prune_log.specs.Spelling.{log_bytes, join_log_bytes, frames_bytes}
-use Rattle.prune_log.specs.Reading.{log_at, frames_at, log_fault, join_log_fault}
+use Rattle.prune_log.specs.Reading.{log_at, join_log_at, frames_at, log_fault, join_log_fault}
 
 -- the bytes spell this log
 pub record SpellsLog (bytes : List ℕ) (log : Log) : Type 0 where
@@ -42,3 +42,14 @@ pub record SpellsFrames (bytes : List ℕ) (logs : List Log) : Type 0 where
 -- bytes are read as logs exactly where they are frames of them
 abbrev pub FramesAreRead : Type 0
 FramesAreRead = (bytes : List ℕ) (logs : List Log) → IsBytes bytes → length bytes < 2 ^ 64 → (frames_at log_at bytes ≡ Ok logs) ↔ SpellsFrames bytes logs
+
+-- the bytes are frames of these joins' logs
+pub record SpellsJoinFrames (bytes : List ℕ) (logs : List JoinLog) : Type 0 where
+  pub lawful : All IsLawfulJoinLog logs
+  pub in_range : All JoinLogInRange logs
+  pub spelled : frames_bytes join_log_bytes logs ≡ bytes
+
+-- bytes are read as joins' logs exactly where they are frames of them
+abbrev pub JoinFramesAreRead : Type 0
+JoinFramesAreRead =
+    (bytes : List ℕ) (logs : List JoinLog) → IsBytes bytes → length bytes < 2 ^ 64 → (frames_at join_log_at bytes ≡ Ok logs) ↔ SpellsJoinFrames bytes logs

@@ -1,6 +1,6 @@
 //! Laws of the spellings of logs.
 
-ghost use Rattle.prune_log.specs.Laws.{FaultIsNoLog, FaultIsNoJoinLog, FramesAreRead, OneLog, OneJoinLog};
+ghost use Rattle.prune_log.specs.Laws.{FaultIsNoLog, FaultIsNoJoinLog, FramesAreRead, JoinFramesAreRead, OneLog, OneJoinLog};
 
 /// Bytes have no fault exactly where they spell some log.
 pub fn fault_is_no_log()
@@ -25,4 +25,9 @@ pub fn one_join_log()
 /// Bytes are read as logs exactly where they are frames of them.
 pub fn frames_are_read()
     ensures { FramesAreRead }
+{}
+
+/// Bytes are read as joins' logs exactly where they are frames of them.
+pub fn join_frames_are_read()
+    ensures { JoinFramesAreRead }
 {}

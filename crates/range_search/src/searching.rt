@@ -1,10 +1,12 @@
 ghost use Rattle.std.specs.Prelude.{◌≡◌, ◌≤◌, ◌<◌, ◌^◌, ◌+◌, ℕ, List, [], ◌∷◌, length, reverse, min, IsTrue, IfOk, IfErr, OnOk};
+ghost use Rattle.metric_laws.specs.Counts.{next_count};
 ghost use Rattle.metric_laws.specs.Space.{bound};
 ghost use Rattle.scan_model.specs.Scan.{range_hits};
 ghost use Rattle.scan_model.specs.declared.query.Query.TheVariants.{Range};
 ghost use Rattle.tree_shape.specs.Tree.{IsSoundTree, points_by_id};
 ghost use Rattle.page_store.specs.Reading.{nodes_of};
 ghost use Rattle.page_store.specs.Shelf.{Shelf, HoldsSame, HasPageCause, IsPassing};
+ghost use Rattle.log_model.specs.Counts.{CountsUpTo};
 ghost use Rattle.log_model.specs.Walk.{search_at, root_need};
 ghost use Rattle.range_search.specs.Searched.{IsUnderWay, HasWalkCause, IsFound};
 
@@ -34,6 +36,8 @@ fn open_page<P: Pages, R: Ruler>(
         walk.new.records.items walk.new.hits.items (reverse walk.new.stack.items)) }
     ensures longer { OnOk result (length walk.new.records.items ≡ length walk.old.records.items + 1) }
     ensures cause { IfErr result (HasPageCause (P.shelf pages.old) (P.shelf pages.new) need.page) }
+    ensures asked { (P.shelf pages.new).asked ≡ next_count (P.shelf pages.old).asked }
+    ensures reads { (P.shelf pages.new).reads ≤ (P.shelf pages.old).reads + 1 }
 {
     let node = pages.node(alloc, need.page)?;
     match walk.take_node(alloc, ruler, probe, need, &node) {
@@ -57,6 +61,8 @@ fn follow<P: Pages, R: Ruler>(
         (R.used ruler.old) (R.used ruler.new) live.now.root walk.records.items walk.hits.items []) }
     ensures few { IfOk result (λ walk. length walk.records.items ≤ live.now.pages) }
     ensures cause { IfErr result (HasWalkCause (search_at (R.M.space (R.metric ruler.old)) probe.entry.q.now probe.entry.rho) live.now (P.shelf pages.old) (P.shelf pages.new)) }
+    ensures asked { CountsUpTo (P.shelf pages.old).asked (P.shelf pages.new).asked live.now.pages }
+    ensures reads { (P.shelf pages.new).reads ≤ (P.shelf pages.old).reads + live.now.pages }
 {
     let Ok(mut walk) = Traversal::begin(alloc, live.root) else {
         return Err(PageFault::Memory);
@@ -97,6 +103,9 @@ pub fn range<P: Pages, R: Ruler>(
     ensures keeps { P.keeps pages.old pages.new }
     ensures found { IfOk result (IsFound (R.M.space (R.metric ruler.old)) live.now (Range q.now r) (P.shelf pages.old) (P.shelf pages.new) (R.used ruler.old) (R.used ruler.new)) }
     ensures cause { IfErr result (HasWalkCause (search_at (R.M.space (R.metric ruler.old)) q.now (min r bound)) live.now (P.shelf pages.old) (P.shelf pages.new)) }
+    // Whatever the result, at most as many pages were asked for, and read, as the file has.
+    ensures asked { CountsUpTo (P.shelf pages.old).asked (P.shelf pages.new).asked live.now.pages }
+    ensures reads { (P.shelf pages.new).reads ≤ (P.shelf pages.old).reads + live.now.pages }
     ensures scanned { IfOk result (λ found. IsTrue (P.shelf pages.old).tells → IsSoundTree (R.M.space (R.metric ruler.old)) (nodes_of (P.shelf pages.old).read) live.now →
         found.hits ≡ range_hits (R.M.space (R.metric ruler.old)) (points_by_id (nodes_of (P.shelf pages.old).read) live.now) q.now r) }
     ensures sound { IfErr result (λ fault. IsTrue (P.shelf pages.old).tells → IsSoundTree (R.M.space (R.metric ruler.old)) (nodes_of (P.shelf pages.old).read) live.now → IsPassing fault) }

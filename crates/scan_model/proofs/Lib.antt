@@ -3,3 +3,4 @@ mod ScanLemmas
 mod JoinLemmas
 pub mod RangeLaw
 pub mod JoinLaw
+mod NearestLaw

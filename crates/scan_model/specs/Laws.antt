@@ -1,12 +1,12 @@
 -- The plain answers as sets of objects, in their order.
-use Rattle.std.specs.Prelude.{◌≡◌, ◌⊎◌, ◌↔◌, ℕ, ◌<◌, ◌≤◌, List, [], ◌∷◌, length, slice_index_or}
+use Rattle.std.specs.Prelude.{◌≡◌, ◌⊎◌, ◌↔◌, ℕ, ◌<◌, ◌≤◌, List, [], ◌∷◌, length, min, slice_index_or, IsTrue, All}
 use Rattle.std.specs.List.{AllByRecursion}
 use Rattle.metric_laws.specs.Lists.{IsIn}
-use Rattle.metric_laws.specs.Space.{Space}
+use Rattle.metric_laws.specs.Space.{Space, IsSpace}
 use Rattle.scan_model.specs.declared.hit.Hit.{Hit}
 use Rattle.scan_model.specs.declared.hit.Pair.{Pair}
 use Rattle.scan_model.specs.Join.{join_pairs}
-use Rattle.scan_model.specs.Scan.{range_hits}
+use Rattle.scan_model.specs.Scan.{range_hits, nearest_hits}
 
 -- each value comes before all that follow it
 abbrev pub Ascends : {X : Type 0} → (X → X → Type 0) → List X → Type 0
@@ -27,6 +27,24 @@ abbrev pub RangeAnswersAreAll : Type 0
 RangeAnswersAreAll =
     (s : Space) (points : List (List ℕ)) (q : List ℕ) (r : ℕ) →
     Ascends HitBefore (range_hits s points q r) × ((h : Hit) → IsIn h (range_hits s points q r) ↔ IsRangeAnswer s points q r h)
+
+-- the object of this id, with its distance from q
+abbrev pub object_hit : Space → List (List ℕ) → List ℕ → ℕ → Hit
+object_hit s points q id = record { id = id; dist = s.dist (slice_index_or points id []) q }
+
+-- The hits are k objects of the list, or all of them where there are fewer, in order; and each object that is left out comes
+-- behind all of them: it is further away, or as far and of a greater id.
+pub record AreNearest (s : Space) (points : List (List ℕ)) (q : List ℕ) (k : ℕ) (hits : List Hit) : Type 0 where
+  pub count : length hits ≡ min k (length points)
+  pub ascend : Ascends HitBefore hits
+  pub objects : (h : Hit) → IsIn h hits → (h.id < length points) × (h ≡ object_hit s points q h.id)
+  pub rest : (id : ℕ) → id < length points → IsIn (object_hit s points q id) hits ⊎ AllByRecursion (λ h. HitBefore h (object_hit s points q id)) hits
+
+-- in every metric space
+abbrev pub NearestAnswersAreNearest : Type 0
+NearestAnswersAreNearest =
+    (s : Space) (points : List (List ℕ)) (q : List ℕ) (k : ℕ) → IsSpace s → All (λ p. IsTrue (s.fits p)) points → IsTrue (s.fits q) →
+    AreNearest s points q k (nearest_hits s points q k)
 
 -- by the left id, then by the right
 abbrev pub PairBefore : Pair → Pair → Type 0

@@ -1,5 +1,5 @@
 -- Flags of numbers that were met.
-use Rattle.std.proofs.Common.{◌≡◌, ◌≢◌, ℕ, zero, suc, ◌+◌, ◌<◌, ◌≤◌, ◌^◌, ◌==◌, not, Bool, true, false, List, [], ◌∷◌, ◌++◌, length, set, slice_index_or, if◌then◌else◌, inl, inr, refl, sym, ◌∙◌, ap, subst, arith}
+use Rattle.std.proofs.Common.{◌≡◌, ◌≢◌, ℕ, zero, suc, ◌+◌, ◌<◌, ◌≤◌, ◌^◌, ◌==◌, not, Bool, true, false, List, [], ◌∷◌, ◌++◌, length, length-append, set, slice_index_or, if◌then◌else◌, inl, inr, refl, sym, ◌∙◌, ap, subst, arith}
 use Rattle.std.specs.Prelude.{replicate}
 use Rattle.std.specs.List.{AllByRecursion}
 use Rattle.std.proofs.lemmas.Bool.{cases_lt, cases_eq}
@@ -8,7 +8,7 @@ use Rattle.std.proofs.lemmas.List.{length-set, get_or-set_same, get_or-set_other
 use Rattle.metric_laws.proofs.Lists.{all_weaker, all_append}
 use Rattle.tree_shape.specs.Tree.{times}
 use Rattle.tree_shape.proofs.Counting.{times-append, times-in, few}
-use Rattle.tree_audit.specs.Met.{IsFlagged}
+use Rattle.tree_audit.specs.Met.{IsFlagged, AreFewer}
 
 -- some or none, as a test
 abbrev pub is_some : ℕ → Bool
@@ -52,3 +52,20 @@ not_met flags met n past flagged = ap is_some (times-in met n (length flags) fla
 -- there are no more of them than the limit
 pub few_met : (flags : List Bool) (met : List ℕ) → IsFlagged flags met → length met ≤ length flags
 few_met flags met flagged = few (length flags) met flagged.small flagged.once
+
+-- there are fewer than the limit, where 0 is none of them
+pub fewer_met : (flags : List Bool) (met : List ℕ) (n : ℕ) → IsFlagged flags (met ++ n ∷ []) → 0 < n → times 0 met ≡ 0 → AreFewer (record { limit = length flags; met = met ++ n ∷ [] })
+fewer_met flags met n flagged some none =
+    let fresh : times 0 (met ++ n ∷ []) ≡ 0 = omega (arith, times-append 0 met (n ∷ []), none, none_is 0 n (λ same. omega arith)) in
+    let long = length-append met (n ∷ []) in
+    let low : 0 < length flags = omega (arith, few_met flags (met ++ n ∷ []) flagged) in
+    record {
+      none = fresh;
+      fewer = omega (arith, low, few (length flags) (0 ∷ met ++ n ∷ []) (low, flagged.small) (λ k. each k fresh));
+    }
+  where
+    each : (k : ℕ) → times 0 (met ++ n ∷ []) ≡ 0 → times k (0 ∷ met ++ n ∷ []) ≤ 1
+    each k fresh = elim (cases_eq k 0) [
+      | inl same ↦ subst (λ (j : ℕ). times j (0 ∷ met ++ n ∷ []) ≤ 1) (sym same) (omega (arith, fresh))
+      | inr differ ↦ (let other : (0 == k) ≡ false = grind (arith, nat_tests, differ) in rw other (omega (arith, flagged.once k)))
+    ]

@@ -1,5 +1,5 @@
 -- Numbers that a walk has met.
-use Rattle.std.specs.Prelude.{◌≡◌, ℕ, ◌<◌, ◌≤◌, ◌^◌, ◌==◌, not, Bool, false, List, [], ◌∷◌, ◌++◌, length, slice_index_or}
+use Rattle.std.specs.Prelude.{◌≡◌, ℕ, ◌+◌, ◌<◌, ◌≤◌, ◌^◌, max, ◌==◌, not, Bool, false, List, [], ◌∷◌, ◌++◌, length, slice_index_or}
 use Rattle.std.specs.List.{AllByRecursion}
 use Rattle.tree_shape.specs.Tree.{times}
 
@@ -14,3 +14,8 @@ pub record IsFlagged (flags : List Bool) (met : List ℕ) : Type 0 where
   pub small : AllByRecursion (λ n. n < length flags) met
   pub once : (n : ℕ) → times n met ≤ 1
   pub told : (n : ℕ) → n < length flags → slice_index_or flags n false ≡ not (times n met == 0)
+
+-- 0 was not met: so fewer numbers were met than there are below the limit, if there are any
+pub record AreFewer (numbers : Numbers) : Type 0 where
+  pub none : times 0 numbers.met ≡ 0
+  pub fewer : length numbers.met + 1 ≤ max 1 numbers.limit

@@ -1,5 +1,5 @@
 // The audit of a whole tree.
-ghost use Rattle.std.specs.Prelude.{◌≡◌, ◌+◌, ◌≤◌, ◌<◌, ◌^◌, [], None, length, IsTrue, IfOk, IfErr};
+ghost use Rattle.std.specs.Prelude.{◌≡◌, ◌+◌, ◌≤◌, ◌<◌, ◌^◌, [], None, length, max, IsTrue, IfOk, IfErr};
 ghost use Rattle.tree_shape.specs.Fill.{root_least};
 ghost use Rattle.tree_shape.specs.Tree.{pages_at};
 ghost use Rattle.page_store.specs.Reading.{nodes_of};
@@ -68,6 +68,9 @@ pub fn audit<P: Pages, R: Ruler>(
     ensures err { IfErr result (HasAuditCause (P.shelf pages.old) (P.shelf pages.new) (audit_fault (R.M.space (R.metric ruler.old)) (P.shelf pages.old).read live.now)) }
     ensures asked { IfOk result (λ a. (P.shelf pages.new).asked ≤ (P.shelf pages.old).asked + a.nodes) }
     ensures reads { IfOk result (λ a. (P.shelf pages.new).reads ≤ (P.shelf pages.old).reads + a.nodes) }
+    // Whatever the result, at most as many pages were asked for, and read, as the file has; one where it has none.
+    ensures all_asked { (P.shelf pages.new).asked ≤ (P.shelf pages.old).asked + max 1 live.now.pages }
+    ensures all_reads { (P.shelf pages.new).reads ≤ (P.shelf pages.old).reads + max 1 live.now.pages }
 {
     let mut visits = match visits_for(alloc, live) {
         Ok(visits) => visits,

@@ -1,5 +1,6 @@
 ghost use Rattle.std.specs.Prelude.{◌≡◌, ◌<◌, ◌++◌, ◌==◌, not, [], ◌∷◌, length, IfOk, OnOk, OnErr};
 ghost use Rattle.tree_shape.specs.Tree.{times};
+ghost use Rattle.tree_audit.specs.Met.{AreFewer};
 
 use page_store::Memory;
 use std::alloc::Global;
@@ -55,6 +56,7 @@ impl Met {
         requires new { times number self.old.met ≡ 0 }
         ensures ok { OnOk result (self.new ≡ record self.old { met = self.old.met ++ number ∷ [] }) }
         ensures err { OnErr result (self.new ≡ self.old) }
+        ensures fewer { OnOk result (AreFewer self.old → 0 < number → AreFewer self.new) }
     {
         self.numbers.push(number)?;
         self.flags[number as usize] = true;

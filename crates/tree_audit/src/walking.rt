@@ -1,5 +1,5 @@
 // The walk of an audit.
-ghost use Rattle.std.specs.Prelude.{◌≡◌, ◌≢◌, ◌⊎◌, ℕ, List, [], ◌∷◌, ◌++◌, ◌+◌, ◌≤◌, ◌<◌, ◌^◌, ◌==◌, ◌&&◌, nat_le, length, Option, None, Result, Ok, Err, IsTrue, IfOk, OnOk, IfErr};
+ghost use Rattle.std.specs.Prelude.{◌≡◌, ◌≢◌, ◌⊎◌, ℕ, List, [], ◌∷◌, ◌++◌, ◌+◌, ◌≤◌, ◌<◌, ◌^◌, ◌==◌, ◌&&◌, nat_le, length, Option, None, Result, Ok, Err, IsTrue, IfOk, OnOk, OnErr, IfErr};
 ghost use Rattle.metric_laws.specs.Counts.{next_count};
 ghost use Rattle.tree_shape.specs.Fill.{most_for};
 ghost use Rattle.metric_laws.specs.Space.{Space};
@@ -7,6 +7,7 @@ ghost use Rattle.tree_shape.specs.Tree.{parent_distance, times};
 ghost use Rattle.tree_audit.specs.declared.walking.Step.{Step};
 ghost use Rattle.page_store.specs.Shelf.{HoldsSame, IsNodeOf};
 ghost use Rattle.tree_audit.specs.Audited.{Seen, first_outside, if_inside, check_object, check_entry, each_entry, last_point, audited_at, is_filled, step, IsWalkFault};
+ghost use Rattle.tree_audit.specs.Met.{AreFewer};
 ghost use Rattle.tree_audit.specs.Visits.{seen_of, leaf_told, IsEntryFault, IsOpenFault};
 
 use crate::AuditFault;
@@ -217,11 +218,14 @@ fn arrive<P: Pages>(
     seen: &mut Met,
     page: u32,
 ) -> Result<Node, AuditFault>
-    requires { seen.old.limit ≡ (P.shelf pages.old).pages }
+    requires limit { seen.old.limit ≡ (P.shelf pages.old).pages }
+    requires fewer { AreFewer seen.old }
     ensures ok { IfOk result (IsNodeOf (P.shelf pages.old) page) }
     ensures new { OnOk result (times page seen.old.met ≡ 0) }
     ensures noted { OnOk result (seen.new.met ≡ seen.old.met ++ page ∷ []) }
     ensures limit { seen.new.limit ≡ seen.old.limit }
+    ensures fewer { AreFewer seen.new }
+    ensures unseen { OnErr result (seen.new ≡ seen.old) }
     ensures err { IfErr result (λ v. (s : Space) (count h least : ℕ) (path : List Step) (ids : List ℕ)
         → IsWalkFault (P.shelf pages.old) (P.shelf pages.new) (audited_at s (P.shelf pages.old).read count h least path page (record { pages = seen.old.met; ids = ids })) v) }
     ensures same { HoldsSame (P.shelf pages.old) (P.shelf pages.new) }
@@ -277,6 +281,7 @@ pub fn walk<P: Pages, R: Ruler>(
     requires dim { (P.shelf pages.old).dim ≡ at.dim }
     requires words { (R.M.space (R.metric ruler.old)).words ≡ at.dim }
     requires limit { visits.old.pages.limit ≡ (P.shelf pages.old).pages }
+    requires fewer { AreFewer visits.old.pages }
     ensures metric { R.metric ruler.new ≡ R.metric ruler.old }
     ensures same { HoldsSame (P.shelf pages.old) (P.shelf pages.new) }
     ensures keeps { P.keeps pages.old pages.new }
@@ -289,6 +294,10 @@ pub fn walk<P: Pages, R: Ruler>(
         (audited_at (R.M.space (R.metric ruler.old)) (P.shelf pages.old).read visits.old.ids.limit at.level at.least path.old.items at.page (seen_of visits.old))) }
     ensures asked { OnOk result ((P.shelf pages.new).asked + length visits.old.pages.met ≤ (P.shelf pages.old).asked + length visits.new.pages.met) }
     ensures reads { OnOk result ((P.shelf pages.new).reads + length visits.old.pages.met ≤ (P.shelf pages.old).reads + length visits.new.pages.met) }
+    ensures fewer { AreFewer visits.new.pages }
+    // Besides the pages that were met, at most one was asked for, and read.
+    ensures all_asked { (P.shelf pages.new).asked + length visits.old.pages.met ≤ (P.shelf pages.old).asked + length visits.new.pages.met + 1 }
+    ensures all_reads { (P.shelf pages.new).reads + length visits.old.pages.met ≤ (P.shelf pages.old).reads + length visits.new.pages.met + 1 }
 {
     let node = match arrive(alloc, pages, &mut visits.pages, at.page) {
         Ok(node) => node,

@@ -10,3 +10,4 @@ pub mod Entries
 pub mod LoadSound
 pub mod Parted
 pub mod Examples
+pub mod Turns

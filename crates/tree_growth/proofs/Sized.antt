@@ -115,7 +115,7 @@ low_set g k [] q low all = tt
 low_set g zero (p ∷ ps) q low all = (low, all.1)
 low_set g (suc k) (p ∷ ps) q low all = (all.0, low_set g k ps q low all.1)
 
-nearer_cases : (c : Bool) (d i : ℕ) (best : Option (ℕ × ℕ)) → (nearer c d i best ≡ best) ⊎ ((c ≡ true) × (nearer c d i best ≡ Some (d, i)))
+pub nearer_cases : (c : Bool) (d i : ℕ) (best : Option (ℕ × ℕ)) → (nearer c d i best ≡ best) ⊎ ((c ≡ true) × (nearer c d i best ≡ Some (d, i)))
 nearer_cases false d i best = inl refl
 nearer_cases true d i None = inr (refl, refl)
 nearer_cases true d i (Some b) = go (nat_lt d b.0)
@@ -131,7 +131,7 @@ pub record IsFound (least : ℕ) (all : List Member) (k : ℕ) (ps : List Member
   pub is : b.1 ≡ k + place
   pub candidate : is_candidate least all (get_or ps place d) ≡ true
 
-candidate_some : (far : Far) (least a : ℕ) (all : List Member) (k : ℕ) (best : Option (ℕ × ℕ)) (ps : List Member) (d : Member) (b : ℕ × ℕ) → candidate_from far least a all k best ps ≡ Some b → (best ≡ Some b) ⊎ IsFound least all k ps d b
+pub candidate_some : (far : Far) (least a : ℕ) (all : List Member) (k : ℕ) (best : Option (ℕ × ℕ)) (ps : List Member) (d : Member) (b : ℕ × ℕ) → candidate_from far least a all k best ps ≡ Some b → (best ≡ Some b) ⊎ IsFound least all k ps d b
 candidate_some far least a all k best [] d b e = inl e
 candidate_some far least a all k best (p ∷ ps) d b e =
     elim (candidate_some far least a all (k + 1) (nearer (is_candidate least all p) (far k a) k best) ps d b e) [
@@ -254,7 +254,7 @@ abbrev pub Ascends : ℕ → ℕ → List ℕ → Type 0
 Ascends k end [] = k ≤ end
 Ascends k end (s ∷ ss) = (k ≤ s) × Ascends (s + 1) end ss
 
-ascends_fit : (k end : ℕ) (ss : List ℕ) → Ascends k end ss → k + length ss ≤ end
+pub ascends_fit : (k end : ℕ) (ss : List ℕ) → Ascends k end ss → k + length ss ≤ end
 ascends_fit k end [] up = omega arith
 ascends_fit k end (s ∷ ss) up = let ih = ascends_fit (s + 1) end ss up.1 in let h = up.0 in omega arith
 
@@ -262,11 +262,11 @@ abbrev pub total : List ℕ → ℕ
 total [] = 0
 total (c ∷ cs) = c + total cs
 
-total_full : (room : ℕ) (cs : List ℕ) → AllByRecursion (λ c. room ≤ c) cs → length cs * room ≤ total cs
+pub total_full : (room : ℕ) (cs : List ℕ) → AllByRecursion (λ c. room ≤ c) cs → length cs * room ≤ total cs
 total_full room [] all = omega arith
 total_full room (c ∷ cs) all = let ih = total_full room cs all.1 in let h = all.0 in omega arith
 
-total_more : (a : ℕ) (cs : List ℕ) → a < length cs → total (one_more a cs) ≡ total cs + 1
+pub total_more : (a : ℕ) (cs : List ℕ) → a < length cs → total (one_more a cs) ≡ total cs + 1
 total_more a [] low = absurd (omega arith)
 total_more zero (c ∷ cs) low = omega arith
 total_more (suc a) (c ∷ cs) low = let ih = total_more a cs (omega arith) in omega arith
@@ -276,7 +276,7 @@ length_more a [] = refl
 length_more zero (c ∷ cs) = refl
 length_more (suc a) (c ∷ cs) = ap suc (length_more a cs)
 
-get_more : (a b : ℕ) (cs : List ℕ) → a < length cs → get_or (one_more a cs) b 0 ≡ get_or cs b 0 + one_if (a == b)
+pub get_more : (a b : ℕ) (cs : List ℕ) → a < length cs → get_or (one_more a cs) b 0 ≡ get_or cs b 0 + one_if (a == b)
 get_more a b [] low = absurd (omega arith)
 get_more zero zero (c ∷ cs) low = omega arith
 get_more zero (suc b) (c ∷ cs) low = let z : ◌≡◌ {A = ℕ} (one_if (0 == suc b)) 0 = grind (arith, nat_tests) in omega arith
@@ -309,7 +309,7 @@ nearest_stays far room k a d i (c ∷ counts) e =
       | inr new ↦ nearest_stays far room k (a + 1) (far k a) a counts (subst (λ (o : Option (ℕ × ℕ)). nearest_from far room k (a + 1) o counts ≡ None) new.1 e)
     ]
 
-nearest_none : (far : Far) (room k a : ℕ) (counts : List ℕ) → nearest_from far room k a None counts ≡ None → AllByRecursion (λ c. room ≤ c) counts
+pub nearest_none : (far : Far) (room k a : ℕ) (counts : List ℕ) → nearest_from far room k a None counts ≡ None → AllByRecursion (λ c. room ≤ c) counts
 nearest_none far room k a [] e = tt
 nearest_none far room k a (c ∷ counts) e = cases (nat_lt c room) refl (nearest_none far room k (a + 1) counts) e
   where
@@ -392,7 +392,7 @@ next_seed n g i some big = le-div (i * n / g + 1) ((i + 1) * n) g some (let a = 
     up : (q m : ℕ) → q * g ≤ i * n → (q + 1) * g ≤ (i + 1) * n
     up q m a = omega arith
 
-seeds_ascend : (n g i left k : ℕ) → 0 < g → g ≤ n → i + left ≡ g → k ≤ i * n / g → Ascends k n (seeds_from n g i left)
+pub seeds_ascend : (n g i left k : ℕ) → 0 < g → g ≤ n → i + left ≡ g → k ≤ i * n / g → Ascends k n (seeds_from n g i left)
 seeds_ascend n g i zero k some big sum low =
     let e : i * n / g ≡ n = ap (λ (x : ℕ). x * n / g) (let h : i ≡ g = omega arith in h) ∙ mul-div_cancel_left n some in omega arith
 seeds_ascend n g i (suc left) k some big sum low = (low, seeds_ascend n g (i + 1) left (i * n / g + 1) some big (omega arith) (next_seed n g i some big))
@@ -405,11 +405,11 @@ pub ones_long : (g : ℕ) → length {A = ℕ} (replicate g 1) ≡ g
 ones_long zero = refl
 ones_long (suc g) = ap suc (ones_long g)
 
-ones_total : (g : ℕ) → total (replicate g 1) ≡ g
+pub ones_total : (g : ℕ) → total (replicate g 1) ≡ g
 ones_total zero = refl
 ones_total (suc g) = let ih = ones_total g in omega arith
 
-ones_at : (g a : ℕ) → a < g → ◌≡◌ {A = ℕ} (get_or (replicate g 1) a 0) 1
+pub ones_at : (g a : ℕ) → a < g → ◌≡◌ {A = ℕ} (get_or (replicate g 1) a 0) 1
 ones_at zero a low = absurd (omega arith)
 ones_at (suc g) zero low = refl
 ones_at (suc g) (suc a) low = ones_at g a (omega arith)

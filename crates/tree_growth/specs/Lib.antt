@@ -4,3 +4,4 @@ pub mod Groups
 pub mod Bulk
 pub mod Sound
 pub mod Splits
+pub mod Nearest

@@ -3,6 +3,7 @@
 ghost use Rattle.tree_growth.specs.Bulk.{LoadKeepsObjects};
 ghost use Rattle.tree_growth.specs.Groups.{GroupsAreSized};
 ghost use Rattle.tree_growth.specs.Insertion.{InsertionAddsOne};
+ghost use Rattle.tree_growth.specs.Nearest.{ObjectsTakeNearest, SeedsStay};
 ghost use Rattle.tree_growth.specs.Sound.{InsertionKeepsSound, LoadIsSound, SoundHasEntries};
 ghost use Rattle.tree_growth.specs.Splits.{ChosenIsPlace, PartitionIsFair, PromotedIsPair, RowHasDistances};
 
@@ -19,6 +20,16 @@ pub fn load_keeps_objects()
 /// Each group of a bulk load has as many objects as its subtree needs, and no more than it has room for.
 pub fn groups_are_sized()
     ensures { GroupsAreSized }
+{}
+
+/// A bulk load puts each object into the group of the nearest seed that had room at its turn.
+pub fn objects_take_nearest()
+    ensures { ObjectsTakeNearest }
+{}
+
+/// A seed of a bulk load stays in its own group.
+pub fn seeds_stay()
+    ensures { SeedsStay }
 {}
 
 /// Each inner node of a sound tree has an entry.

@@ -1,11 +1,12 @@
-use Rattle.std.proofs.Common.{◌≡◌, ◌++◌, map, drop}
+use Rattle.std.proofs.Common.{◌≡◌, ◌++◌, map, drop, take}
+use Rattle.log_model.specs.Counts.{measured_by, CountsUpTo}
 use Rattle.log_model.specs.Walk.{near_ones}
 use Rattle.log_model.specs.JoinWalk.{allows_entry, with_entry, object_entry}
 use Rattle.log_model.specs.JoinSteps.{search_within, hits_among, needs_among}
 use Rattle.log_verify.specs.Judged.{first_wrong}
 use Rattle.log_verify.proofs.join_checking.check_leaf.Given as goal
 
--- what is left to check and to name
+-- what is left to check and to name, and what it cost so far
 abbrev pub invariant-loop-i : goal.invariant-loop-i
 invariant-loop-i g l = record {
   metric : g.R.Ruler.metric l.ruler ≡ g.R.Ruler.metric l.fn.ruler;
@@ -15,4 +16,5 @@ invariant-loop-i g l = record {
       ≡ l.fn.named.hits.items ++ hits_among (map (with_entry (g.R.M.Metric.space (g.R.Ruler.metric l.fn.ruler)) l.probe.need.now) (near_ones (map object_entry l.entries) l.marks));
   needs : l.named.needs.items ++ needs_among (map (with_entry (g.R.M.Metric.space (g.R.Ruler.metric l.fn.ruler)) l.probe.need.now) (near_ones (map object_entry (drop l.i l.entries)) (drop l.i l.marks)))
       ≡ l.fn.named.needs.items ++ needs_among (map (with_entry (g.R.M.Metric.space (g.R.Ruler.metric l.fn.ruler)) l.probe.need.now) (near_ones (map object_entry l.entries) l.marks));
+  counted : CountsUpTo (g.R.Ruler.used l.fn.ruler) (g.R.Ruler.used l.ruler) (measured_by (take l.i l.marks));
 }

@@ -8,6 +8,7 @@ use Rattle.log_model.specs.InOrder.{in_order, pair_before}
 use Rattle.log_model.specs.SoundJoin.{join_at}
 use Rattle.log_model.specs.JoinSteps.{search_within}
 use Rattle.log_verify.specs.JoinJudged.{join_walked, pair_difference, join_fault}
+use Rattle.log_verify.proofs.Counting.{ask_none}
 use Rattle.log_verify.proofs.JoinSoundness.{join_sound_from_none}
 use Rattle.log_verify.proofs.JoinVerdicts.{difference_cause, begun_is, fault_differs, sound_walks, sound_faults, passing}
 use Rattle.log_verify.proofs.join_verifying.verify_join.Goals as goal
@@ -69,3 +70,6 @@ returns-clause-complete g c =
     λ x y wise. passing l (g.P.Pages.shelf c.walk_records.new.left) r (g.Q.Pages.shelf c.walk_records.new.right) c.in-Some.verdict
     (join_fault s l.read r.read c.args.ll.now c.args.lr.now c.args.log.now ≡ Some c.in-Some.verdict) (returns-clause-cause g c) x y
     (sound_faults s l.read r.read c.args.ll.now c.args.lr.now c.args.log.now c.in-Some.verdict wise)
+
+pub returns-in_err-begun-clause-few_asked : goal.returns-in_err-begun-clause-few_asked
+returns-in_err-begun-clause-few_asked g c = ask_none _ _ _

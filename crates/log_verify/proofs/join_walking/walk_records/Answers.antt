@@ -1,8 +1,9 @@
-use Rattle.std.proofs.Common.{◌≡◌, ◌∙◌, reverse, ap, arith}
+use Rattle.std.proofs.Common.{◌≡◌, ◌∙◌, ◌+◌, reverse, length, ap, arith}
 use Rattle.std.proofs.lemmas.Result.{err_from_is_err_and}
 use Rattle.log_model.specs.JoinWalk.{JoinSearch}
 use Rattle.log_model.specs.JoinSteps.{search_within}
 use Rattle.log_verify.specs.JoinJudged.{join_walked}
+use Rattle.log_verify.proofs.Counting.{record_upto, records_upto, ask_on, ask_more}
 use Rattle.log_verify.proofs.Ways.{holds_both}
 use Rattle.log_verify.proofs.JoinWays.{join_next, join_ends}
 use Rattle.log_verify.proofs.join_walking.walk_records.Goals as goal
@@ -35,9 +36,32 @@ loop-told-preserved g c =
       right_keeps = g.met.Q.Pages.keeps_both c.args.right.now c.loop-told.right c.take_record.new.right c.loop-told.invariant.right_keeps c.take_record.ensures.right_keeps;
       rho = c.take_record.ensures.rho ∙ c.loop-told.invariant.rho;
       taken = omega (arith, c.in_ok-take_record.ensures.taken, c.loop-told.invariant.taken);
+      asked = ask_on _ _ _ _ _ _ c.loop-told.told-index 1 (c.loop-told.told-index + 1) c.loop-told.invariant.asked c.take_record.ensures.few_asked (omega arith);
+      counted = record_upto _ _ _ c.args.records.now c.loop-told.told-index c.told-item.result c.loop-told-test.true c.told-item.is c.loop-told.invariant.counted c.take_record.ensures.few_counted;
       way = join_next f h (g.P.Pages.shelf c.args.left.now) (g.P.Pages.shelf c.loop-told.left) (g.Q.Pages.shelf c.args.right.now) (g.Q.Pages.shelf c.loop-told.right)
           c.loop-told.walk.named.hits.items (reverse c.loop-told.walk.stack.items) c.args.records.now c.loop-told.told-index c.loop-told.walk.taken c.told-item.result
           (join_walked f (g.P.Pages.shelf c.args.left.now).read (g.Q.Pages.shelf c.args.right.now).read c.args.begun.named.hits.items (reverse c.args.begun.stack.items) c.args.records.now 0)
           same c.loop-told.invariant.left_same c.loop-told.invariant.right_same c.loop-told-test.true c.told-item.is c.loop-told.invariant.way
           c.take_record.new.walk.named.hits.items (reverse c.take_record.new.walk.stack.items) c.take_record.new.walk.taken c.in_ok-take_record.ensures.ok;
     }
+
+pub returns-in_err-take_record-clause-few_asked : goal.returns-in_err-take_record-clause-few_asked
+returns-in_err-take_record-clause-few_asked g c =
+    ask_on _ _ _ _ _ _ c.loop-told.told-index 1 (length c.args.records.now) c.loop-told.invariant.asked c.take_record.ensures.few_asked (omega (arith, c.loop-told-test.true))
+
+pub returns-in_err-take_record-clause-few_counted : goal.returns-in_err-take_record-clause-few_counted
+returns-in_err-take_record-clause-few_counted g c =
+    records_upto _ _ c.args.records.now (c.loop-told.told-index + 1)
+    (record_upto _ _ _ c.args.records.now c.loop-told.told-index c.told-item.result c.loop-told-test.true c.told-item.is c.loop-told.invariant.counted c.take_record.ensures.few_counted)
+
+pub returns-then-not-is_empty-clause-few_asked : goal.returns-then-not-is_empty-clause-few_asked
+returns-then-not-is_empty-clause-few_asked g c = ask_more _ _ _ _ c.loop-told.told-index (length c.args.records.now) c.loop-told.invariant.asked (omega arith)
+
+pub returns-then-not-is_empty-clause-few_counted : goal.returns-then-not-is_empty-clause-few_counted
+returns-then-not-is_empty-clause-few_counted g c = records_upto _ _ c.args.records.now c.loop-told.told-index c.loop-told.invariant.counted
+
+pub returns-clause-few_asked : goal.returns-clause-few_asked
+returns-clause-few_asked g c = ask_more _ _ _ _ c.loop-told.told-index (length c.args.records.now) c.loop-told.invariant.asked (omega arith)
+
+pub returns-clause-few_counted : goal.returns-clause-few_counted
+returns-clause-few_counted g c = records_upto _ _ c.args.records.now c.loop-told.told-index c.loop-told.invariant.counted

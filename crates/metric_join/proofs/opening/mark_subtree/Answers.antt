@@ -15,7 +15,7 @@ pub returns-in_ok-push_pair-clause-taken : goal.returns-in_ok-push_pair-clause-t
 returns-in_ok-push_pair-clause-taken g c =
     takes_pair (search_within (g.R.M.Metric.space (g.R.Ruler.metric c.args.ruler.now)) c.args.probe.rho) c.args.probe.need.now (subtree_entry c.args.level c.args.entry.now) c.as_slice.result.now (ap (λ (p : List ℕ). Some p) (sym c.as_slice.ensures))
     c.least_mark-marked.result.mark (c.least_mark-marked.ensures.mark) c.args.opening.now c.push_pair.new.self (cc (c.push_pair.ensures.marks, c.in_ok-push.ensures.items))
-    c.in-Near.is c.in_ok-pair_with.field-0 c.least_mark-marked.result.apart (c.least_mark-marked.ensures.apart c.in-Near.is) (c.in_ok-pair_with.ensures ∙ ap (λ (p : List ℕ). paired c.args.probe.need.now (Subtree c.args.entry.now.child c.args.level (Some p) c.args.entry.now.radius) c.least_mark-marked.result.apart) (c.in_ok-new.ensures ∙ c.as_slice-in-Near.ensures)) c.in_ok-push_pair.ensures.hits c.in_ok-push_pair.ensures.needs
+    c.in-Near.is c.in_ok-pair_with.field-0 c.least_mark-marked.result.apart (c.least_mark-marked.ensures.apart c.in-Near.is) (c.in_ok-pair_with.ensures ∙ ap (λ (n : ℕ). paired c.args.probe.need.now (Subtree c.args.entry.now.child n (Some c.in_ok-new.field-0) c.args.entry.now.radius) c.least_mark-marked.result.apart) c.from.ensures ∙ ap (λ (p : List ℕ). paired c.args.probe.need.now (Subtree c.args.entry.now.child c.args.level (Some p) c.args.entry.now.radius) c.least_mark-marked.result.apart) (c.in_ok-new.ensures ∙ c.as_slice-in-Near.ensures)) c.in_ok-push_pair.ensures.hits c.in_ok-push_pair.ensures.needs
 
 pub returns-in_default : goal.returns-in_default
 returns-in_default g c =

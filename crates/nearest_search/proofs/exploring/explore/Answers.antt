@@ -1,6 +1,8 @@
-use Rattle.std.proofs.Common.{◌∙◌, ℕ, ap, subst, refl, arith}
+use Rattle.std.proofs.Common.{◌∙◌, ℕ, suc, ap, subst, refl, arith}
 use Rattle.std.specs.BinaryHeap.{heap_items}
+use Rattle.metric_laws.specs.Counts.{next_count}
 use Rattle.log_model.specs.Walk.{search_at}
+use Rattle.log_model.proofs.Reached.{count_up_more}
 use Rattle.nearest_search.specs.Counts.{IsRadius}
 use Rattle.nearest_search.specs.Keeping.{kept_node}
 use Rattle.nearest_search.proofs.Explored.{explore_begins, explore_steps, explore_room, explore_passes, explore_cause, explore_repeats}
@@ -56,3 +58,10 @@ loop-next-preserved g c = record {
       (ap (λ m. search_at (g.R.M.Metric.space m) c.args.q.now c.radius-rho.result) c.loop-next.invariant.metric) c.loop-next.invariant.count
       c.in-Ok.ensures.opened c.open_page.ensures.same c.open_page.ensures.asked c.open_page.ensures.reads (let f = c.loop-next.invariant.exploring.few in omega arith);
 }
+
+pub returns-in-Err-clause-asked : goal.returns-in-Err-clause-asked
+returns-in-Err-clause-asked g c = (
+  suc c.loop-next.opened,
+  (let few = c.loop-next.invariant.exploring.few in omega arith),
+  c.open_page.ensures.asked ∙ ap next_count c.loop-next.invariant.exploring.asked ∙ count_up_more (g.P.Pages.shelf c.args.pages.now).asked c.loop-next.opened,
+)

@@ -1,6 +1,8 @@
-use Rattle.std.proofs.Common.{◌≡◌, ◌∙◌, ◌∷◌, ap, arith, reverse}
+use Rattle.std.proofs.Common.{◌≡◌, ◌∙◌, ◌∷◌, ℕ, suc, ap, arith, length, reverse}
 use Rattle.std.proofs.lemmas.Grind.{common_steps}
+use Rattle.metric_laws.specs.Counts.{next_count}
 use Rattle.log_model.specs.Walk.{search_at}
+use Rattle.log_model.proofs.Reached.{count_up_more}
 use Rattle.range_search.proofs.Steps.{goes_on}
 use Rattle.range_search.proofs.searching.follow.Goals as goal
 
@@ -21,3 +23,9 @@ loop-need-preserved g c =
           (ap (λ m. search_at (g.R.M.Metric.space m) c.args.probe.q.now c.args.probe.rho) c.loop-need.invariant.metric) stack
           (c.in-Ok-open_page.ensures.opened (g.P.Pages.shelf c.args.pages.now) (g.R.Ruler.used c.args.ruler.now) c.args.live.now.root) c.loop-need.invariant.way;
     }
+
+pub returns-in-Err-clause-asked : goal.returns-in-Err-clause-asked
+returns-in-Err-clause-asked g c =
+    let opened : ℕ = length c.loop-need.walk.records.items in
+    let count = c.loop-need.invariant.count in
+    (suc opened, (omega arith), c.open_page.ensures.asked ∙ ap next_count c.loop-need.invariant.way.asked ∙ count_up_more (g.P.Pages.shelf c.args.pages.now).asked opened)

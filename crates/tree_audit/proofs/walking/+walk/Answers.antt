@@ -69,6 +69,7 @@ loop-place-init g t c =
           rw (c.in-Ok.ensures.noted, c.as_slice-entries.ensures)
           (sym (inner_page s (g.P.Pages.shelf c.args.pages.now).read c.args.visits.now.ids.limit at.level at.least c.args.path.now.items at.page c.in-Inner.level c.in-Inner.entries
           (seen_of c.args.visits.now) c.in-Ok.ensures.new (c.in-Ok.ensures.ok.told tells ∙ ap (λ (n : Node). Ok n) c.in-Inner.is) c.if-at-eq0.false full));
+      fewer = c.in-Ok.ensures.fewer;
       asked = omega (arith, length-append c.args.visits.now.pages.met (at.page ∷ []), ap length c.in-Ok.ensures.noted, c.in-Ok.ensures.asked);
       reads = omega (arith, length-append c.args.visits.now.pages.met (at.page ∷ []), ap length c.in-Ok.ensures.noted, c.in-Ok.ensures.reads);
     }

@@ -1,6 +1,7 @@
 use Rattle.std.proofs.Common.{◌≡◌, ℕ, ◌+◌, ◌≤◌, IsTrue, length, drop}
 use Rattle.page_store.specs.Shelf.{HoldsSame}
 use Rattle.tree_audit.specs.Audited.{each_entry, audited_at}
+use Rattle.tree_audit.specs.Met.{AreFewer}
 use Rattle.tree_audit.specs.Visits.{seen_of, entry_told}
 use Rattle.tree_audit.proofs.walking.+walk.Given as goal
 
@@ -18,6 +19,7 @@ invariant-loop-place g l = record {
   left : IsTrue (g.P.Pages.shelf l.fn.pages).tells
       → each_entry (entry_told (g.R.M.Metric.space (g.R.Ruler.metric l.fn.ruler)) (g.P.Pages.shelf l.fn.pages).read l.fn.visits.ids.limit l.at.level l.fn.path.items l.at.page) l.place (drop l.place l.entries) (seen_of l.visits)
       ≡ audited_at (g.R.M.Metric.space (g.R.Ruler.metric l.fn.ruler)) (g.P.Pages.shelf l.fn.pages).read l.fn.visits.ids.limit l.at.level l.at.least l.fn.path.items l.at.page (seen_of l.fn.visits);
+  fewer : AreFewer l.visits.pages;
   asked : (g.P.Pages.shelf l.pages).asked + length l.fn.visits.pages.met ≤ (g.P.Pages.shelf l.fn.pages).asked + length l.visits.pages.met;
   reads : (g.P.Pages.shelf l.pages).reads + length l.fn.visits.pages.met ≤ (g.P.Pages.shelf l.fn.pages).reads + length l.visits.pages.met;
 }
