@@ -116,21 +116,21 @@ module _ {M : Type 0} (s : Space) (write : Write) (file : OpenFile M) (f : FreeP
             ((can_follow s.words file f spare used placed lawful kept within on).0.low_pages) has.sound.within ((can_follow s.words file f spare used placed lawful kept within on).1)
             ((did.next has.tells).in_place) (alone_keeps file.live placed.staged before after.bytes (only has.tells) now.others)
 
-    next_live : {P : Live → Type 0} → P placed.next → P new.live
-    next_live {P} p = subst (λ (n : OpenFile M). P n.live) (sym did.file) p
+    next_live : (P : Live → Type 0) → P placed.next → P new.live
+    next_live P p = subst (λ (n : OpenFile M). P n.live) (sym did.file) p
 
     pub objects_after : (points : List (List ℕ)) (tags : List ℕ) → HasObjects s file before points tags → HasObjects s new after (points_after write points) (tags_after write tags)
     objects_after points tags has =
-        let is = next_live {P = λ t. IsTreeOf s (nodes_on new after) t (points_after write points) (tags_after write tags)} (after_is has (made has).objects) in
+        let is = next_live (λ t. IsTreeOf s (nodes_on new after) t (points_after write points) (tags_after write tags)) (after_is has (made has).objects) in
         record { tells = rw told has.tells; sound = is.sound; points_are = is.points_are; tags_are = is.tags_are }
 
     pub tree_is : (points : List (List ℕ)) (tags : List ℕ) → HasObjects s file before points tags →
         tree_of (nodes_on new after) new.live ≡ tree_after s file.head write file.live.count (tree_of (nodes_on file before) file.live)
-    tree_is points tags has = next_live {P = λ t. tree_of (nodes_on new after) t ≡ tree_after s file.head write file.live.count (tree_of (nodes_on file before) file.live)} (made has).tree
+    tree_is points tags has = next_live (λ t. tree_of (nodes_on new after) t ≡ tree_after s file.head write file.live.count (tree_of (nodes_on file before) file.live)) (made has).tree
 
     pub exact_after : (points : List (List ℕ)) (tags : List ℕ) → HasObjects s file before points tags → IsExactFor file f before → IsExactFor new g after
     exact_after points tags has exact =
-        next_live {P = λ t. AreOutside t.pages (live_pages (nodes_on new after) t) g}
+        next_live (λ t. AreOutside t.pages (live_pages (nodes_on new after) t) g)
         (subst (AreOutside placed.next.pages (live_pages (nodes_on new after) placed.next)) (sym did.free)
         (keep_outside file.live.pages placed.next.pages used placed.next.generation (record f { spare = did.spare }) (pages_of placed.staged) placed.left (live_pages (nodes_on file before) file.live)
         (live_pages (nodes_on new after) placed.next) (record { free_ascend = kept.free_ascend; held_ascend = kept.held_ascend; apart = kept.apart; pinned = kept.pinned })
@@ -139,7 +139,7 @@ module _ {M : Type 0} (s : Space) (write : Write) (file : OpenFile M) (f : FreeP
 
     pub guarded_after : (generation : ℕ) (tree : List ℕ) → generation ≤ file.live.generation → IsGuarded file.live.pages generation f tree → IsGuarded new.live.pages generation g tree
     guarded_after generation tree low guarded =
-        next_live {P = λ t. IsGuarded t.pages generation g tree}
+        next_live (λ t. IsGuarded t.pages generation g tree)
         (subst (λ (h : FreePages). IsGuarded placed.next.pages generation h tree) (sym did.free)
         (guard.commit file.live.pages placed.next.pages used generation placed.next.generation (record f { spare = did.spare }) tree placed.left (let e = on.placement.generation in omega arith) exchanged.more
         (record { pinned = guarded.pinned; within = guarded.within; unfree = guarded.unfree; later = guarded.later })))

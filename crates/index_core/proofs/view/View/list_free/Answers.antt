@@ -15,7 +15,7 @@ use Rattle.index_core.proofs.view.View.list_free.Goals as goal
 
 pub returns-in-Err-clause-cause : goal.returns-in-Err-clause-cause
 returns-in-Err-clause-cause g c =
-    list_cause c.in-Err.fault c.read_fault.result _ _ c.args.self.now _ _ c.lend-pages.ensures.shelf (search rules) c.read_fault.ensures
+    list_cause c.in-Err.fault c.read_fault.result _ _ c.args.self.now _ _ c.lend-pages.ensures.shelf ? c.read_fault.ensures
     (subst (λ (f : OpenFile g.row.M.Denot). IsWalkFault _ _ (tree_walk _ f.live) c.in-Err.fault) c.self.view_is c.in-Err.ensures.err)
 
 pub returns-clause-lawful : goal.returns-clause-lawful
