@@ -29,7 +29,7 @@ use Rattle.free_pages.proofs.Commits.{keep_outside, guard, pins_left}
 use Rattle.index_core.specs.declared.faults.IndexFault.{IndexFault}
 use Rattle.index_core.specs.declared.faults.IndexFault.TheVariants.{Commit}
 use Rattle.index_core.specs.Files.{OpenFile, StandsOn, IsLawfulFile, nodes_on}
-use Rattle.index_core.specs.Index.{OpenIndex, IsLawfulFree}
+use Rattle.index_core.specs.Index.{OpenIndex, AreSpare, IsLawfulFree}
 use Rattle.index_core.specs.Writing.{Write, added_by, answer_to, points_after, tags_after, tree_after, HasObjects, HoldsObjects, LeavesEither, IsCommitted, IsExact, IsExactFor, IsMadeBy, IsNext, IsPlacedFor, IsPlacedOn, GuardsPages, KeepsPages, HasWritten}
 use Rattle.index_core.proofs.Committed.{exchange}
 use Rattle.index_core.proofs.Settled.{can_follow}
@@ -209,3 +209,24 @@ module _ {M : Type 0} (s : Space) (write : Write) (old : OpenIndex M) (f : FreeP
         (subst (AllByRecursion (λ pin. pin ≤ placed.next.generation)) (sym (pins_all_left placed.next.generation placed.left (record f { spare = did.spare; free = drop used f.free })))
         (all_weaker (λ (pin : ℕ). pin ≤ old.file.live.generation) (λ pin. pin ≤ placed.next.generation) f.pins (λ pin l. let e = on.placement.generation in omega arith) list.pins));
   })
+
+-- how much the free list has room for doesn't matter
+pub unspared : (f : FreePages) (spare : ℕ) → IsKept (record f { spare = spare }) → IsKept (record f { spare = f.spare })
+unspared f spare kept = record { free_ascend = kept.free_ascend; held_ascend = kept.held_ascend; apart = kept.apart; pinned = kept.pinned }
+
+pub spare_of : (nodes : Nodes) (t : Live) (f : FreePages) (spare : ℕ) → AreSpare nodes t f → AreSpare nodes t (record f { spare = spare })
+spare_of nodes t f spare are = record { tree = are.tree; stands = are.stands; beside = are.beside }
+
+pub committed_of : {M : Type 0} (old new : OpenFile M) (f g : FreePages) (spare used : ℕ) (placed : Placed) (before after : DiskState) → IsCommitted old new (record f { spare = spare }) g used placed before after →
+    IsCommitted old new f g used placed before after
+committed_of old new f g spare used placed before after did = record {
+  file = did.file;
+  room = did.room;
+  spare = did.spare;
+  free = did.free;
+  within = did.within;
+  stands = did.stands;
+  only = did.only;
+  beside = did.beside;
+  next = did.next;
+}
