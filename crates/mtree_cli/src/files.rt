@@ -1,15 +1,14 @@
-// The real files that the words name.
-ghost use Rattle.std.specs.Prelude.{◌≡◌, ◌⊎◌, ◌≢◌};
-ghost use Rattle.outside_io.specs.Sinks.{Tells};
+// A run on the files that the words name.
+ghost use Rattle.std.specs.Prelude.{◌≡◌, IfOk};
+ghost use Rattle.job_words.specs.Files.{file_texts};
 ghost use Rattle.job_words.specs.Words.{texts_of};
 ghost use Rattle.job_words.specs.Jobs.{job_of};
 ghost use Rattle.named_files.specs.Folders.{AreApart, AreFilesOf, AreRefused};
-ghost use Rattle.mtree_cli.specs.Run.{task_of};
-ghost use Rattle.mtree_cli.specs.Files.{AnswersOnFiles, is_done};
+ghost use Rattle.mtree_cli.specs.Files.{AnswersOnFiles, is_done, opened_names};
 
 use crate::program::run;
 use file_jobs::{FAULT_MEMORY, end_with};
-use job_words::{Job, JobFault, files_of, no_files, read_job};
+use job_words::{FileNames, Job, JobFault, files_of, no_files, read_job};
 use named_files::{Folder, open_files};
 use outside_io::{Sink, Source, Status};
 use std::alloc::Global;
@@ -29,6 +28,17 @@ fn is_done<Name>(job: &Job<Name>) -> bool
     )
 }
 
+// The files that are opened for words: those of a job that the program does.
+fn opened_names(alloc: Global, words: &[String]) -> Result<FileNames<&str>, JobFault>
+    ensures { IfOk result (λ names. file_texts names ≡ opened_names (job_of (texts_of words.now))) }
+{
+    match read_job(alloc, words) {
+        Ok(job) if is_done(&job) => Ok(files_of(job)),
+        Ok(_) | Err(JobFault::Usage) => Ok(no_files()),
+        Err(fault) => Err(fault),
+    }
+}
+
 /// Runs the job of the words on the files that they name, of which `create` makes the index where it is not there. Status 10:
 /// a file could not be opened, or one that would be written is one that would be read; then none was opened.
 pub fn run_on_files<F: Folder, S: Source, K: Sink>(
@@ -42,10 +52,8 @@ pub fn run_on_files<F: Folder, S: Source, K: Sink>(
         (AreApart (F.are_apart folder.now)) (AreRefused (F.is_closed folder.now) (F.are_one folder.now))
         (job_of (texts_of words.now)) (S.left input.old) (K.state out.old) (K.state out.new) result.0 }
 {
-    let names = match read_job(alloc, words) {
-        Ok(job) if is_done(&job) => files_of(job),
-        Ok(_) | Err(JobFault::Usage) => no_files(),
-        Err(JobFault::Memory) => return end_with(out, FAULT_MEMORY, 8),
+    let Ok(names) = opened_names(alloc, words) else {
+        return end_with(out, FAULT_MEMORY, 8);
     };
     let Ok(mut files) = open_files(folder, &names) else {
         return Status(10);
