@@ -102,9 +102,9 @@ module _ (P : Plan) (shelf : Shelf) (tells : IsTrue shelf.tells) where
       elim (descends_once h d.1.child (Some d.1.point) (l0 ++ page ∷ []) old l1 d.2 d.3 d.7 k) [
         | inl same ↦ elim (one_more page k l0 (suc h) low) [ inl e ↦ inl (same ∙ e) | inr more ↦ inr (same ∙ more.0, more.1) ]
         | inr deep ↦ elim (one_more page k l0 (suc h) low) [
-            | inl e ↦ inr (deep.0 ∙ ap (λ (n : ℕ). n + 1) e, (deep.1.0, deep.1.1, let l = deep.1.2 in omega (arith, l)))
-            | inr more ↦ absurd (apart (page == k) refl deep.1 more.0)
-          ]
+          | inl e ↦ inr (deep.0 ∙ ap (λ (n : ℕ). n + 1) e, (deep.1.0, deep.1.1, let l = deep.1.2 in omega (arith, l)))
+          | inr more ↦ absurd (apart (page == k) refl deep.1 more.0)
+        ]
       ]
     where
       is : nodes_now page ≡ Some (Inner (suc h) d.0)
@@ -134,19 +134,19 @@ pub staged_names : {E : Type 0} (P : Plan) (ball : E → Ball) (set : E → ℕ 
     (times k (tops g) + times k (pages_from P.number 0 old) ≡ times k (pages_from P.number 0 new)) × (times k (names_of new) ≡ times k (names_of old) + times k (flat_map f es))
 staged_names {E} P ball set make es f old new g keeps names staged k = elim staged [
   | inl w ↦ (
-      (let p = pages_more P.number old (make es ∷ []) new k w.staged in rw w.grew (omega (arith, p))),
-      (let n = names_more old (make es ∷ []) new k w.staged in let m = ap (times k) (names es) in let a = times-append k (map (λ e. e.child) (inner_entries (Some (make es)))) [] in omega (arith, n, m, a)),
-    )
+    (let p = pages_more P.number old (make es ∷ []) new k w.staged in rw w.grew (omega (arith, p))),
+    (let n = names_more old (make es ∷ []) new k w.staged in let m = ap (times k) (names es) in let a = times-append k (map (λ e. e.child) (inner_entries (Some (make es)))) [] in omega (arith, n, m, a)),
+  )
   | inr h ↦ (
-      (let p = pages_more P.number old (make h.0.first.entries ∷ make h.0.second.entries ∷ []) new k h.1.staged in rw h.1.grew (omega (arith, p))),
-      (let n = names_more old (make h.0.first.entries ∷ make h.0.second.entries ∷ []) new k h.1.staged in
+    (let p = pages_more P.number old (make h.0.first.entries ∷ make h.0.second.entries ∷ []) new k h.1.staged in rw h.1.grew (omega (arith, p))),
+    (let n = names_more old (make h.0.first.entries ∷ make h.0.second.entries ∷ []) new k h.1.staged in
         let a = times-append k (map (λ e. e.child) (inner_entries (Some (make h.0.first.entries)))) (map (λ e. e.child) (inner_entries (Some (make h.0.second.entries))) ++ []) in
         let b = times-append k (map (λ e. e.child) (inner_entries (Some (make h.0.second.entries)))) [] in
         let c = ap (times k) (names h.0.first.entries ∙ half (split_of P.space P.promote P.split P.least (map ball es)).first (taken (split_of P.space P.promote P.split P.least (map ball es)).mask es) h.0.first h.1.halves.split.0) in
         let d = ap (times k) (names h.0.second.entries ∙ half (split_of P.space P.promote P.split P.least (map ball es)).second (left (split_of P.space P.promote P.split P.least (map ball es)).mask es) h.0.second h.1.halves.split.1) in
         let both = times_parts k f (split_of P.space P.promote P.split P.least (map ball es)).mask es in
         omega (arith, n, a, b, c, d, both)),
-    )
+  )
 ]
   where
     half : (b : Ball) (xs : List E) (h : Half E) → IsHalf P.space ball set b xs h → flat_map f h.entries ≡ flat_map f xs

@@ -28,8 +28,6 @@ pub record AreLawful (trees : Trees) : Type 0 where
   pub right_head : IsLawfulHead trees.right.0
   pub left_pages : trees.left.1.pages ≤ 2 ^ 24
   pub right_pages : trees.right.1.pages ≤ 2 ^ 24
-  pub left_height : trees.left.1.height ≤ 14
-  pub right_height : trees.right.1.height ≤ 14
 
 -- a file opens as an index of version 2
 abbrev pub IsIndex : List ℕ → Type 0

@@ -50,8 +50,6 @@ fn judge<M: Metric, P: Pages, Q: Pages>(
     log: &JoinLog,
 ) -> Result<Option<JoinVerdict>, Stop>
     requires lawful { IsLawfulJoinLog log.now }
-    requires left_height { court.now.left.height ≤ 14 }
-    requires right_height { court.now.right.height ≤ 14 }
     ensures left_same { HoldsSame (P.shelf left.old) (P.shelf left.new) }
     ensures left_keeps { P.keeps left.old left.new }
     ensures right_same { HoldsSame (Q.shelf right.old) (Q.shelf right.new) }
@@ -92,8 +90,6 @@ fn judge_frames<M: Metric, P: Pages, Q: Pages>(
     logs: Vec<JoinLog>,
 ) -> Result<Said, Stop>
     requires lawful { All IsLawfulJoinLog logs.items }
-    requires left_height { court.now.left.height ≤ 14 }
-    requires right_height { court.now.right.height ≤ 14 }
     ensures left_same { HoldsSame (P.shelf left.old) (P.shelf left.new) }
     ensures left_keeps { P.keeps left.old left.new }
     ensures right_same { HoldsSame (Q.shelf right.old) (Q.shelf right.new) }
@@ -126,8 +122,6 @@ pub fn judge_bytes<M: Metric, P: Pages, Q: Pages>(
     right: &mut Q,
     bytes: &[u8],
 ) -> Result<Said, Stop>
-    requires left_height { court.now.left.height ≤ 14 }
-    requires right_height { court.now.right.height ≤ 14 }
     ensures left_same { HoldsSame (P.shelf left.old) (P.shelf left.new) }
     ensures left_keeps { P.keeps left.old left.new }
     ensures right_same { HoldsSame (Q.shelf right.old) (Q.shelf right.new) }

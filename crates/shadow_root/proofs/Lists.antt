@@ -56,22 +56,22 @@ commits_keep_head dim head t next staged old file was for others has = with_head
 pub commits_keep_lists : CommitsKeepLists
 commits_keep_lists s head t next staged points tags old file sound follows for each moment others = elim moment [
   | inl keeps ↦ inl (record {
-      opens = with_head head t t old file sound.opens first keeps.opens;
-      version = sound.version;
-      words = sound.words;
-      tree = same_tree s (nodes_in head.dim t old) (nodes_in head.dim t file) t
-          (λ page k.
-              let within = all_in (IsNodePage t) (live_pages (nodes_in head.dim t old) t) page sound.tree.within k in
-              let reached = ((sound_is_whole s (nodes_in head.dim t old) t sound.tree).reached page).0 k in
-              same_bytes head.dim t t old file page within (omega arith) (keeps.tree page (within, reached)))
-          sound.tree;
-    })
+    opens = with_head head t t old file sound.opens first keeps.opens;
+    version = sound.version;
+    words = sound.words;
+    tree = same_tree s (nodes_in head.dim t old) (nodes_in head.dim t file) t
+        (λ page k.
+        let within = all_in (IsNodePage t) (live_pages (nodes_in head.dim t old) t) page sound.tree.within k in
+        let reached = ((sound_is_whole s (nodes_in head.dim t old) t sound.tree).reached page).0 k in
+        same_bytes head.dim t t old file page within (omega arith) (keeps.tree page (within, reached)))
+        sound.tree;
+  })
   | inr after ↦ inr (record {
-      opens = with_head head t next old file sound.opens first after.opens;
-      version = sound.version;
-      words = sound.words;
-      tree = each (nodes_in head.dim next file) (in_place_is_written head.dim t next (live_pages (nodes_in head.dim t old) t) staged old file follows.low_pages sound.tree.within for after.in_place others);
-    })
+    opens = with_head head t next old file sound.opens first after.opens;
+    version = sound.version;
+    words = sound.words;
+    tree = each (nodes_in head.dim next file) (in_place_is_written head.dim t next (live_pages (nodes_in head.dim t old) t) staged old file follows.low_pages sound.tree.within for after.in_place others);
+  })
 ]
   where
     first : page_of file 0 ≡ page_of old 0
