@@ -51,7 +51,7 @@ fn joined_of(alloc: Global, ll: &Live, lr: &Live, r: u64, walk: JoinWalk) -> Res
 /// `Left` and `Right` hold why a page of that side gave no node. A page that holds no node is `Bad`, one below 3 or not
 /// below the number of pages is `Outside`. Where the first walk of a tree has opened as many nodes as the live slot counts
 /// pages, or where a path of the walk of pairs has gone through as many, a further page is `Repeats`. None of these comes
-/// on sound trees. `Disk` comes where that side's disk failed. The heights are at most 14.
+/// on sound trees. `Disk` comes where that side's disk failed.
 pub fn join<P: Pages, Q: Pages, R: Ruler>(
     alloc: Global,
     left: &mut P,

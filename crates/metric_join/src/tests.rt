@@ -118,7 +118,6 @@ struct Side<'a> {
 // What a join answers over points of one coordinate, how often each side was asked for a page, and how many distances were
 // computed.
 fn ask(
-    rt: &impl Abort,
     alloc: Global,
     left: Side,
     right: Side,
@@ -127,8 +126,6 @@ fn ask(
     let mut one = ImagePages::new(left.bytes, 1, left.live.pages.min(100));
     let mut other = ImagePages::new(right.bytes, 1, right.live.pages.min(100));
     let mut ruler = Meter::new(L1::new(1));
-    assert!(rt; left.live.height <= 14);
-    assert!(rt; right.live.height <= 14);
     let joined = join(
         alloc, &mut one, &mut other, &mut ruler, left.live, right.live, r,
     );
@@ -181,7 +178,7 @@ fn three_numbers_and_two(rt: HostRuntime) -> Result<(), Memory> {
         bytes: &right,
         live: &live(5, 3, 0, 4),
     };
-    let (joined, asked, used) = ask(&rt, rt.alloc(), one, other, 1);
+    let (joined, asked, used) = ask(rt.alloc(), one, other, 1);
     let Ok(joined) = joined else {
         panic!(rt; "the join is refused");
     };
@@ -216,7 +213,7 @@ fn trees_of_heights_one_and_nought(rt: HostRuntime) -> Result<(), Memory> {
         bytes: &right,
         live: &live(2, 3, 0, 4),
     };
-    let (joined, asked, used) = ask(&rt, rt.alloc(), one, other, 8);
+    let (joined, asked, used) = ask(rt.alloc(), one, other, 8);
     let Ok(joined) = joined else {
         panic!(rt; "the join is refused");
     };
@@ -239,7 +236,7 @@ fn a_tree_joined_with_itself(rt: HostRuntime) -> Result<(), Memory> {
         bytes: &bytes,
         live: &live(34, 5, 1, 6),
     };
-    let (joined, _, used) = ask(&rt, rt.alloc(), side, side, 0);
+    let (joined, _, used) = ask(rt.alloc(), side, side, 0);
     let Ok(joined) = joined else {
         panic!(rt; "the join is refused");
     };
@@ -269,7 +266,7 @@ fn a_tree_without_objects(rt: HostRuntime) -> Result<(), Memory> {
             bytes: right,
             live: &tree,
         };
-        let (joined, _, used) = ask(&rt, rt.alloc(), one, other, 9);
+        let (joined, _, used) = ask(rt.alloc(), one, other, 9);
         let Ok(joined) = joined else {
             panic!(rt; "the join is refused");
         };
@@ -304,11 +301,11 @@ fn a_first_walk_is_refused_where_it_meets_a_fault(rt: HostRuntime) -> Result<(),
             bytes: &good,
             live: &sound,
         };
-        let (left, _, _) = ask(&rt, rt.alloc(), bad, fine, 0);
+        let (left, _, _) = ask(rt.alloc(), bad, fine, 0);
         assert_eq!(rt; left.err(), Some(JoinFault::Left(*fault)));
-        let (right, _, _) = ask(&rt, rt.alloc(), fine, bad, 0);
+        let (right, _, _) = ask(rt.alloc(), fine, bad, 0);
         assert_eq!(rt; right.err(), Some(JoinFault::Right(*fault)));
-        let (both, _, _) = ask(&rt, rt.alloc(), bad, bad, 0);
+        let (both, _, _) = ask(rt.alloc(), bad, bad, 0);
         assert_eq!(rt; both.err(), Some(JoinFault::Left(*fault)));
     }
     Ok(())
@@ -342,7 +339,6 @@ fn disk_of(alloc: Global, bytes: Vec<u8>, stop: Option<u64>) -> Result<MemoryDis
 
 // Why a join of three numbers and two on disks is refused, each of which fails from a call on.
 fn refusal(
-    rt: &impl Abort,
     alloc: Global,
     left_stop: Option<u64>,
     right_stop: Option<u64>,
@@ -355,7 +351,6 @@ fn refusal(
     let mut one = DiskPages::new(&mut left, 1, 4);
     let mut other = DiskPages::new(&mut right, 1, 4);
     let mut ruler = Meter::new(L1::new(1));
-    assert!(rt; tree.height <= 14);
     let joined = join(alloc, &mut one, &mut other, &mut ruler, &tree, &tree, 1);
     Ok(joined.err())
 }
@@ -374,7 +369,7 @@ fn a_disk_that_fails(rt: HostRuntime) -> Result<(), Memory> {
         (Some(2), Some(4), None),
     ];
     for (left_stop, right_stop, fault) in &stops {
-        let found = refusal(&rt, rt.alloc(), *left_stop, *right_stop)?;
+        let found = refusal(rt.alloc(), *left_stop, *right_stop)?;
         assert_eq!(rt; found, *fault);
     }
     Ok(())
