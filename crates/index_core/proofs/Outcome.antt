@@ -199,16 +199,17 @@ module _ {M : Type 0} (s : Space) (write : Write) (old : OpenIndex M) (f : FreeP
     kept = λ generation tree tells guards. pages_kept s write old.file f f.spare used placed lawful kept list.within on before after stands only fits moments generation tree tells guards;
   }
 
-  -- after the commit the free list is lawful
-  pub next_list : (file : OpenFile M) (g : FreePages) → IsCommitted old.file file f g used placed before after → IsLawfulFree file.live g
-  next_list file g did = subst (λ (n : OpenFile M). IsLawfulFree n.live g) (sym did.file) (record {
-    within = did.within;
-    newest = subst (λ (h : FreePages). h.newest ≤ placed.next.generation) (sym did.free)
-        (newest_left placed.next.generation placed.left (record f { spare = did.spare; free = drop used f.free }) (let l = list.newest in let e = on.placement.generation in omega arith));
-    pins = subst (λ (h : FreePages). AllByRecursion (λ pin. pin ≤ placed.next.generation) h.pins) (sym did.free)
-        (subst (AllByRecursion (λ pin. pin ≤ placed.next.generation)) (sym (pins_all_left placed.next.generation placed.left (record f { spare = did.spare; free = drop used f.free })))
-        (all_weaker (λ (pin : ℕ). pin ≤ old.file.live.generation) (λ pin. pin ≤ placed.next.generation) f.pins (λ pin l. let e = on.placement.generation in omega arith) list.pins));
-  })
+-- after a commit the free list is lawful
+pub next_list : {M : Type 0} (old : OpenFile M) (f : FreePages) (used : ℕ) (placed : Placed) → IsLawfulFree old.live f → IsPlacedOn old f used placed → (before after : DiskState) (file : OpenFile M) (g : FreePages) →
+    IsCommitted old file f g used placed before after → IsLawfulFree file.live g
+next_list {M} old f used placed list on before after file g did = subst (λ (n : OpenFile M). IsLawfulFree n.live g) (sym did.file) (record {
+  within = did.within;
+  newest = subst (λ (h : FreePages). h.newest ≤ placed.next.generation) (sym did.free)
+      (newest_left placed.next.generation placed.left (record f { spare = did.spare; free = drop used f.free }) (let l = list.newest in let e = on.placement.generation in omega arith));
+  pins = subst (λ (h : FreePages). AllByRecursion (λ pin. pin ≤ placed.next.generation) h.pins) (sym did.free)
+      (subst (AllByRecursion (λ pin. pin ≤ placed.next.generation)) (sym (pins_all_left placed.next.generation placed.left (record f { spare = did.spare; free = drop used f.free })))
+      (all_weaker (λ (pin : ℕ). pin ≤ old.live.generation) (λ pin. pin ≤ placed.next.generation) f.pins (λ pin l. let e = on.placement.generation in omega arith) list.pins));
+})
 
 -- how much the free list has room for doesn't matter
 pub unspared : (f : FreePages) (spare : ℕ) → IsKept (record f { spare = spare }) → IsKept (record f { spare = f.spare })
