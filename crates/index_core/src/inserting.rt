@@ -1,5 +1,6 @@
 // Inserts into an index, each of them one commit.
 ghost use Rattle.std.specs.Prelude.{◌≡◌, ◌≢◌, ◌↔◌, ◌⊎◌, ◌+◌, ◌-◌, ◌^◌, ◌≤◌, false, true, Some, Err, IsTrue, IsSome, IfErr};
+ghost use Rattle.outside_io.specs.Causes.{Rose};
 ghost use Rattle.disk_model.specs.Disk.{LeavesOnly};
 ghost use Rattle.index_core.specs.Answers.{IsSoundOn};
 ghost use Rattle.index_core.specs.Causes.{BlamesNoPage, HasInsertCause};
@@ -39,6 +40,7 @@ impl<M: Metric> Index<M> {
                 IsPlacedFor (M.space self.old.file.metric) self.old.file.head write (nodes_on self.old.file (D.state disk.old)) self.old.file.live placement.now.placed) →
             HasWritten (M.space self.old.file.metric) write (record self.old { free = Some free }) self.new (D.state disk.old) (D.state disk.new) result }
         ensures refusals { IfErr result (λ fault. (fault ≡ IndexFault.Memory) ⊎ (fault ≡ IndexFault.Commit)) }
+        ensures rose { IfErr result (λ fault. fault ≡ IndexFault.Commit → Rose (D.state disk.old).faults (D.state disk.new).faults) }
         ensures tells { (D.state disk.new).tells ≡ (D.state disk.old).tells }
         ensures reads { (D.state disk.new).reads ≤ (D.state disk.old).reads + 1 }
         ensures later { (D.state disk.old).faults ≤ (D.state disk.new).faults }
