@@ -1,5 +1,5 @@
 -- The walk from record to record: what it meets, where it ends, and why.
-use Rattle.std.proofs.Common.{◌≡◌, ℕ, zero, suc, ◌+◌, ◌<◌, ◌≤◌, Bool, true, false, List, [], ◌∷◌, ◌++◌, length, drop, get_or, reverse, Option, Some, None, refl, sym, ap, subst, ◌∙◌, arith, append_assoc, drop-cons, inl, inr}
+use Rattle.std.proofs.Common.{◌≡◌, ℕ, suc, ◌+◌, ◌<◌, ◌≤◌, Bool, true, false, List, [], ◌∷◌, ◌++◌, length, drop, get_or, reverse, Some, None, refl, sym, ap, subst, ◌∙◌, arith, append_assoc, drop-cons, inl, inr}
 use Rattle.std.specs.Prelude.{IsTrue, if◌then◌else◌, ◌==◌}
 use Rattle.std.proofs.lemmas.List.{append-nil}
 use Rattle.std.proofs.lemmas.Bool.Decides.{nat_tests}
@@ -9,13 +9,13 @@ use Rattle.tree_shape.specs.declared.entry.Node.{Node}
 use Rattle.tree_shape.specs.Tree.{Nodes}
 use Rattle.page_store.specs.declared.pages.PageFault.{PageFault}
 use Rattle.page_store.specs.declared.pages.PageFault.TheVariants.{Disk, Bad, Outside, Memory, Repeats, Level}
-use Rattle.page_store.specs.Reading.{Read, IsWithin, is_within, nodes_of, node_or_none}
+use Rattle.page_store.specs.Reading.{Read, IsWithin, is_within, nodes_of}
 use Rattle.page_store.specs.Shelf.{Shelf, HoldsSame, HasPageCause}
 use Rattle.log_model.specs.declared.marks.Record.{Record}
 use Rattle.log_model.specs.Counts.{count_up, entry_count, CountsUpTo}
 use Rattle.log_model.proofs.Reached.{count_up_both}
 use Rattle.hit_tags.specs.declared.walking.Walk.{Walk}
-use Rattle.hit_tags.specs.Met.{near_objects, near_pages, with_marks, marked_node, met_from, met, ComesTo}
+use Rattle.hit_tags.specs.Met.{near_objects, near_pages, with_marks, marked_node, met, ComesTo}
 use Rattle.hit_tags.specs.Tags.{HasTagsCause}
 use Rattle.hit_tags.specs.Wanted.{TakesIn}
 use Rattle.hit_tags.specs.Steps.{IsUnderWay, HasFollowed}

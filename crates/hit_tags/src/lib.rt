@@ -9,3 +9,6 @@ pub use tagging::tags_of;
 
 /// Want of memory.
 pub type Memory = std::alloc::AllocError;
+
+#[cfg(test)]
+mod tests;

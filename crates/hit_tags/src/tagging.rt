@@ -33,12 +33,15 @@ pub fn tags_of<P: Pages>(
     ensures reads { (P.shelf pages.new).reads ≤ (P.shelf pages.old).reads + length found.now.log.records }
 
     ensures each { IfOk result (λ tags. vec_len tags ≡ length found.now.hits) }
-    ensures met { IfOk result (λ tags. IsTrue (P.shelf pages.old).tells → tags.items ≡ met_tags (nodes_of (P.shelf pages.old).read) live.now found.now) }
-    ensures objects { IfOk result (λ tags. IsTrue (P.shelf pages.old).tells → (s : Space) → IsShown s (nodes_of (P.shelf pages.old).read) live.now found.now →
+    ensures met { IfOk result (λ tags. IsTrue (P.shelf pages.old).tells →
+        tags.items ≡ met_tags (nodes_of (P.shelf pages.old).read) live.now found.now) }
+    ensures objects { IfOk result (λ tags. IsTrue (P.shelf pages.old).tells →
+        (s : Space) → IsShown s (nodes_of (P.shelf pages.old).read) live.now found.now →
         tags.items ≡ object_tags (nodes_of (P.shelf pages.old).read) live.now found.now) }
 
     ensures cause { IfErr result (HasTagsCause (P.shelf pages.old) (P.shelf pages.new) (live.now.root ∷ []) found.now.log.records) }
-    ensures sound { IfErr result (λ fault. IsTrue (P.shelf pages.old).tells → (s : Space) → IsSoundTree s (nodes_of (P.shelf pages.old).read) live.now → IsPassing fault) }
+    ensures sound { IfErr result (λ fault. IsTrue (P.shelf pages.old).tells →
+        (s : Space) → IsSoundTree s (nodes_of (P.shelf pages.old).read) live.now → IsPassing fault) }
 {
     let hits = found.hits.as_slice();
     let Ok(mut walk) = Walk::begin(alloc, live.root, hits) else {

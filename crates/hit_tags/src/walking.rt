@@ -93,23 +93,25 @@ impl Walk {
         &mut self,
         alloc: Global,
         pages: &mut P,
-        record: &Record,
+        told: &Record,
     ) -> Result<bool, PageFault>
         ensures same { HoldsSame (P.shelf pages.old) (P.shelf pages.new) }
         ensures keeps { P.keeps pages.old pages.new }
         ensures asked { CountsUpTo (P.shelf pages.old).asked (P.shelf pages.new).asked 1 }
         ensures reads { (P.shelf pages.new).reads ≤ (P.shelf pages.old).reads + 1 }
-        ensures ok { IfOk result (λ on. IsTrue (P.shelf pages.old).tells → HasFollowed (nodes_of (P.shelf pages.old).read) self.old record.now self.new on) }
-        ensures cause { IfErr result (λ fault. (rs : List Record) → HasTagsCause (P.shelf pages.old) (P.shelf pages.new) (reverse self.old.stack.items) (record.now ∷ rs) fault) }
+        ensures ok { IfOk result (λ on. IsTrue (P.shelf pages.old).tells →
+            HasFollowed (nodes_of (P.shelf pages.old).read) self.old told.now self.new on) }
+        ensures cause { IfErr result (λ fault. (rs : List Record) →
+            HasTagsCause (P.shelf pages.old) (P.shelf pages.new) (reverse self.old.stack.items) (told.now ∷ rs) fault) }
     {
         let Some(page) = self.stack.pop() else {
             return Ok(false);
         };
-        if record.page != page {
+        if told.page != page {
             return Ok(false);
         }
         let node = pages.node(alloc, page)?;
-        let marks = record.marks.as_slice();
+        let marks = told.marks.as_slice();
         if marks.len() != entry_count(&node) {
             return Ok(false);
         }
@@ -134,8 +136,8 @@ impl Walk {
             TakesIn self.old.wanted (met (nodes_of (P.shelf pages.old).read) (reverse self.old.stack.items) records.now) self.new.wanted) }
         ensures cause { IfErr result (HasTagsCause (P.shelf pages.old) (P.shelf pages.new) (reverse self.old.stack.items) records.now) }
     {
-        for record in records {
-            if !self.follow(alloc, pages, record)? {
+        for told in records {
+            if !self.follow(alloc, pages, told)? {
                 return Ok(());
             }
         }

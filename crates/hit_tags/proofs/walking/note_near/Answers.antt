@@ -1,8 +1,6 @@
 use Rattle.std.proofs.Common.{◌≡◌, ◌∙◌, ◌++◌, ◌∷◌, [], sym, ap, append_assoc, List, inl, inr, subst}
 use Rattle.std.proofs.lemmas.List.{append-nil}
 use Rattle.tree_shape.specs.declared.entry.LeafEntry.{LeafEntry}
-use Rattle.log_model.specs.declared.marks.Mark.{Mark}
-use Rattle.log_model.specs.declared.marks.Mark.TheVariants.{Skip, Far, Near}
 use Rattle.log_model.specs.Walk.{near_ones}
 use Rattle.hit_tags.specs.Wanted.{TakesIn}
 use Rattle.hit_tags.proofs.Taking.{takes_none, takes_both, near_if, none_near, near_none}

@@ -1,7 +1,6 @@
-use Rattle.std.proofs.Common.{◌≡◌, ◌∙◌, ◌++◌, ◌∷◌, [], List, ℕ, ◌-◌, sym, ap, map, reverse, drop, arith, length, ◌<◌}
+use Rattle.std.proofs.Common.{◌≡◌, ◌∙◌, ◌++◌, ◌∷◌, [], List, ℕ, ◌-◌, sym, ap, reverse, arith, length, ◌<◌}
 use Rattle.std.proofs.lemmas.List.{reverse-append}
 use Rattle.tree_shape.specs.declared.entry.InnerEntry.{InnerEntry}
-use Rattle.log_model.specs.Walk.{near_ones}
 use Rattle.hit_tags.proofs.Taking.{near_drop, entry_at}
 use Rattle.hit_tags.proofs.walking.push_near.Goals as goal
 

@@ -1,6 +1,5 @@
-use Rattle.std.proofs.Common.{◌≡◌, ◌∙◌, get_or, Some, None, refl}
+use Rattle.std.proofs.Common.{get_or, refl}
 use Rattle.scan_model.specs.declared.hit.Hit.{Hit}
-use Rattle.hit_tags.specs.Wanted.{held}
 use Rattle.hit_tags.proofs.Taking.{wanted_more}
 use Rattle.hit_tags.proofs.wanted.Wanted.new.Goals as goal
 

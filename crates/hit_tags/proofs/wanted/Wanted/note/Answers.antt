@@ -1,4 +1,4 @@
-use Rattle.std.proofs.Common.{◌≡◌, ◌∙◌, sym, ap, refl}
+use Rattle.std.proofs.Common.{◌∙◌, sym, ap, refl}
 use Rattle.std.specs.Option.{option_copied_mut}
 use Rattle.hit_tags.proofs.wanted.Wanted.note.Goals.{in-Some, in_default}
 use Rattle.hit_tags.proofs.Taking.{noted, not_noted}
