@@ -1,6 +1,6 @@
 -- The walk from record to record: what it meets, where it ends, and why.
-use Rattle.std.proofs.Common.{◌≡◌, ℕ, suc, ◌+◌, ◌<◌, ◌≤◌, Bool, true, false, List, [], ◌∷◌, ◌++◌, length, drop, get_or, reverse, Some, None, refl, sym, ap, subst, ◌∙◌, arith, append_assoc, drop-cons, inl, inr}
-use Rattle.std.specs.Prelude.{IsTrue, if◌then◌else◌, ◌==◌}
+use Rattle.std.proofs.Common.{◌≡◌, ℕ, suc, ◌+◌, ◌<◌, ◌≤◌, true, false, List, [], ◌∷◌, ◌++◌, length, drop, get_or, reverse, Some, refl, sym, ap, subst, ◌∙◌, arith, append_assoc, drop-cons, inr}
+use Rattle.std.specs.Prelude.{IsTrue, ◌==◌}
 use Rattle.std.proofs.lemmas.List.{append-nil}
 use Rattle.std.proofs.lemmas.Bool.Decides.{nat_tests}
 use Rattle.metric_laws.specs.Counts.{next_count}
@@ -15,43 +15,26 @@ use Rattle.log_model.specs.declared.marks.Record.{Record}
 use Rattle.log_model.specs.Counts.{count_up, entry_count, CountsUpTo}
 use Rattle.log_model.proofs.Reached.{count_up_both}
 use Rattle.hit_tags.specs.declared.walking.Walk.{Walk}
-use Rattle.hit_tags.specs.Met.{near_objects, near_pages, with_marks, marked_node, met, ComesTo}
+use Rattle.hit_tags.specs.Met.{near_objects, near_pages, marked_node, met, ComesTo}
 use Rattle.hit_tags.specs.Tags.{HasTagsCause}
 use Rattle.hit_tags.specs.Wanted.{TakesIn}
 use Rattle.hit_tags.specs.Steps.{IsUnderWay, HasFollowed}
-use Rattle.hit_tags.proofs.Taking.{takes_none, takes_both}
+use Rattle.hit_tags.proofs.Taking.{takes_both}
 
 -- ---- one record
 
-pub same_number : (a b : ℕ) → a ≡ b → (a == b) ≡ true
+same_number : (a b : ℕ) → a ≡ b → (a == b) ≡ true
 same_number a b same = grind (arith, nat_tests)
-
-pub other_number : (a b : ℕ) → (a ≡ b → ⊥) → (a == b) ≡ false
-other_number a b other = grind (arith, nat_tests)
 
 -- a record that marks its node
 pub marks_node : (nodes : Nodes) (page : ℕ) (r : Record) (node : Node) → r.page ≡ page → nodes page ≡ Some node → length r.marks ≡ entry_count node → marked_node nodes page r ≡ Some node
 marks_node nodes page r node named is long = rw (same_number r.page page named, is, same_number (length r.marks) (entry_count node) long) refl
-
--- a record that names another page, or has another number of marks
-pub marks_none : (nodes : Nodes) (page : ℕ) (r : Record) → (r.page ≡ page → ⊥) → marked_node nodes page r ≡ None
-marks_none nodes page r other = rw (other_number r.page page other) refl
-
-pub miscounts : (nodes : Nodes) (page : ℕ) (r : Record) (node : Node) → nodes page ≡ Some node → (length r.marks ≡ entry_count node → ⊥) → marked_node nodes page r ≡ None
-miscounts nodes page r node is other = cases (r.page == page)
-  where
-    cases : (b : Bool) → (if b then with_marks r.marks (nodes page) else None) ≡ None
-    cases true = rw (is, other_number (length r.marks) (entry_count node) other) refl
-    cases false = refl
 
 pub met_none : (nodes : Nodes) (ns : List ℕ) → met nodes ns [] ≡ []
 met_none nodes [] = refl
 met_none nodes (n ∷ ns) = refl
 
 module _ (nodes : Nodes) (old new : Walk) (r : Record) (page : ℕ) (rest : List ℕ) (stack : reverse old.stack.items ≡ page ∷ rest) where
-  pub ends_here : marked_node nodes page r ≡ None → (rs : List Record) → met nodes (reverse old.stack.items) (r ∷ rs) ≡ []
-  ends_here none rs = rw (stack, none) refl
-
   pub goes_on : (node : Node) → marked_node nodes page r ≡ Some node → TakesIn old.wanted (near_objects node r.marks) new.wanted → reverse new.stack.items ≡ near_pages node r.marks ++ rest →
       (rs : List Record) → IsUnderWay nodes old (r ∷ rs) new rs
   goes_on node marked taken pages rs = record {
@@ -61,20 +44,9 @@ module _ (nodes : Nodes) (old new : Walk) (r : Record) (page : ℕ) (rest : List
     comes = λ p comes. subst (λ (ns : List ℕ). ComesTo nodes ns (r ∷ rs) p) (sym stack) (inr (node, marked, subst (λ (ns : List ℕ). ComesTo nodes ns rs p) pages comes));
   }
 
-pub ends_empty : (nodes : Nodes) (old : Walk) (r : Record) (rs : List Record) → reverse old.stack.items ≡ [] → met nodes (reverse old.stack.items) (r ∷ rs) ≡ []
-ends_empty nodes old r rs stack = rw stack refl
-
 -- ---- from record to record
 
 module _ (nodes : Nodes) (start : Walk) (all : List Record) where
-  pub way_begins : IsUnderWay nodes start all start all
-  way_begins = record { objects = []; taken = takes_none start.wanted; whole = refl; comes = λ page comes. comes }
-
-  pub way_done : (now : Walk) → IsUnderWay nodes start all now [] → TakesIn start.wanted (met nodes (reverse start.stack.items) all) now.wanted
-  way_done now way =
-      subst (λ (os : List LeafEntry). TakesIn start.wanted os now.wanted)
-      (sym (append-nil way.objects) ∙ ap (λ (os : List LeafEntry). way.objects ++ os) (sym (met_none nodes (reverse now.stack.items))) ∙ way.whole) way.taken
-
   module _ (mid : Walk) (i : ℕ) (r : Record) (low : i < length all) (is : r ≡ get_or all i r) (way : IsUnderWay nodes start all mid (drop i all)) where
     here : IsUnderWay nodes start all mid (r ∷ drop (suc i) all)
     here = subst (IsUnderWay nodes start all mid) (drop-cons all i r low ∙ ap (λ (e : Record). e ∷ drop (suc i) all) (sym is)) way
@@ -129,15 +101,6 @@ page_cause_kept old mid new page Memory same cause = tt
 page_cause_kept old mid new page (Repeats p) same cause = cause
 page_cause_kept old mid new page (Level p) same cause = cause
 
--- why the page that is needed and named gave no node
-pub page_cause : (old new : Shelf) (page : ℕ) (rest : List ℕ) (r : Record) (rs : List Record) (fault : PageFault) → r.page ≡ page → HasPageCause old new page fault → HasTagsCause old new (page ∷ rest) (r ∷ rs) fault
-page_cause old new page rest r rs Memory named cause = tt
-page_cause old new page rest r rs Disk named cause = (page, cause, λ tells. inl (refl, named))
-page_cause old new page rest r rs (Bad p fault) named cause = (page, cause, λ tells. inl (refl, named))
-page_cause old new page rest r rs (Outside p) named cause = (page, cause, λ tells. inl (refl, named))
-page_cause old new page rest r rs (Repeats p) named cause = (page, cause, λ tells. inl (refl, named))
-page_cause old new page rest r rs (Level p) named cause = (page, cause, λ tells. inl (refl, named))
-
 -- a cause since the walk began
 module _ (old mid new : Shelf) (same : HoldsSame old mid) (ns ms : List ℕ) (rs ss : List Record)
     (comes : IsTrue old.tells → (page : ℕ) → ComesTo (nodes_of old.read) ms ss page → ComesTo (nodes_of old.read) ns rs page) where
@@ -158,9 +121,6 @@ module _ (old mid new : Shelf) (same : HoldsSame old mid) (ns ms : List ℕ) (rs
   cause_kept (Level p) cause = kept (Level p) cause
 
 -- ---- counts
-
-pub upto_none : (a n : ℕ) → CountsUpTo a a n
-upto_none a n = (0, omega arith, refl)
 
 pub upto_once : (a b : ℕ) → b ≡ next_count a → CountsUpTo a b 1
 upto_once a b is = (1, omega arith, is)

@@ -7,6 +7,7 @@ mod inserting;
 mod lending;
 mod listing;
 mod placing;
+mod tagging;
 mod view;
 mod writing;
 
