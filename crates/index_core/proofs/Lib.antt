@@ -5,3 +5,4 @@ pub mod Written
 pub mod Settled
 pub mod Listed
 pub mod Outcome
+pub mod Tagged
