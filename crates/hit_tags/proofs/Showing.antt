@@ -1,7 +1,7 @@
 -- What the walk of a log meets on a sound tree.
-use Rattle.std.proofs.Common.{◌≡◌, ℕ, zero, suc, ◌+◌, ◌<◌, ◌≤◌, Bool, true, false, List, [], ◌∷◌, ◌++◌, map, length, take, Option, Some, None, Err, refl, sym, ap, subst, ◌∙◌, arith, inl, inr}
+use Rattle.std.proofs.Common.{◌≡◌, ◌⊎◌, ℕ, zero, suc, ◌+◌, ◌<◌, ◌≤◌, Bool, true, false, List, [], ◌∷◌, ◌++◌, map, length, take, Option, Some, None, Err, refl, sym, ap, subst, ◌∙◌, arith, inl, inr}
 use Rattle.std.specs.Prelude.{IsTrue, if◌then◌else◌, ◌==◌, nat_lt, slice_index_or}
-use Rattle.std.specs.List.{AllByRecursion, flat_map}
+use Rattle.std.specs.List.{AllByRecursion, AllZip, flat_map}
 use Rattle.std.proofs.lemmas.Slice.Zip.{AllZip-long}
 use Rattle.std.proofs.lemmas.Bool.Decides.{nat_tests}
 use Rattle.metric_laws.specs.Lists.{IsIn}
@@ -36,7 +36,7 @@ use Rattle.log_model.proofs.Order.{in-in_order}
 use Rattle.log_model.proofs.Orders.{hit_order}
 use Rattle.log_model.proofs.Walk.{Spot, IsSoundSpot, spot_of, objects_of, near_of_sound, same_node, map-append}
 use Rattle.hit_tags.specs.Met.{near_objects, near_pages, with_marks, marked_node, met_from, met, ComesTo}
-use Rattle.hit_tags.specs.Tags.{met_tags, object_tags, IsShown, HasTagsCause}
+use Rattle.hit_tags.specs.Tags.{tags_among, IsOwnTag, met_tags, object_tags, IsShown, HasTagsCause}
 use Rattle.hit_tags.proofs.Following.{marks_node, met_none}
 
 -- ---- a marked node
@@ -239,35 +239,50 @@ selected_in : (query : Query) (hits : List Hit) (h : Hit) → IsIn h (selected q
 selected_in (Range q r) hits h k = in-in_order hit_before hit_order hits h k
 selected_in (Nearest q n) hits h k = in-in_order hit_before hit_order hits h (in-take n (in_order hit_before hits) h k)
 
--- ---- the tags of what is shown
+-- ---- the tags of what is met
 
-module _ (s : Space) (nodes : Nodes) (t : Live) (found : Found) (shown : IsShown s nodes t found) where
-  all_met : AllByRecursion (λ e. IsIn e (objects nodes t)) (met nodes (t.root ∷ []) found.log.records)
-  all_met = met_all s nodes (λ e. IsIn e (objects nodes t)) found.log.records (root_spot t ∷ []) ((shown.tree.parts, tt), tt) (all_append (λ e. IsIn e (objects nodes t)) (objects nodes t) [] (each_in (objects nodes t) (λ e k. k)) tt)
+in_or_none : (id : ℕ) (es : List LeafEntry) → IsIn id (ids_of es) ⊎ (tag_of id es ≡ 0)
+in_or_none id [] = inr refl
+in_or_none id (e ∷ es) = cases (e.id == id) refl (in_or_none id es)
+  where
+    cases : (b : Bool) → (e.id == id) ≡ b → IsIn id (ids_of es) ⊎ (tag_of id es ≡ 0) → IsIn id (ids_of (e ∷ es)) ⊎ ((if b then e.tag else tag_of id es) ≡ 0)
+    cases true is later = inl (inl (let same : id ≡ e.id = grind (arith, nat_tests) in same))
+    cases false is later = elim later [ inl k ↦ inl (inr k) | inr none ↦ inr none ]
+
+module _ (s : Space) (nodes : Nodes) (t : Live) (sound : IsSoundTree s nodes t) (rs : List Record) where
+  all_met : AllByRecursion (λ e. IsIn e (objects nodes t)) (met nodes (t.root ∷ []) rs)
+  all_met = met_all s nodes (λ e. IsIn e (objects nodes t)) rs (root_spot t ∷ []) ((sound.parts, tt), tt) (all_append (λ e. IsIn e (objects nodes t)) (objects nodes t) [] (each_in (objects nodes t) (λ e k. k)) tt)
     where
       each_in : (es : List LeafEntry) → ((e : LeafEntry) → IsIn e es → IsIn e (objects nodes t)) → AllByRecursion (λ e. IsIn e (objects nodes t)) es
       each_in [] among = tt
       each_in (e ∷ es) among = (among e (inl refl), each_in es (λ o k. among o (inr k)))
 
+  same_tag : (id : ℕ) → IsIn id (ids_of (met nodes (t.root ∷ []) rs)) → tag_of id (met nodes (t.root ∷ []) rs) ≡ slice_index_or (tags_by_id nodes t) id 0
+  same_tag id k =
+      let es = met nodes (t.root ∷ []) rs in
+      let there = in-map (λ e. e.id) es id k in
+      let is_object : IsIn there.0 (objects nodes t) = all_in (λ e. IsIn e (objects nodes t)) es there.0 all_met there.1 in
+      let counted : 1 ≤ times id (ids_of (objects nodes t)) = subst (λ (i : ℕ). 1 ≤ times i (ids_of (objects nodes t))) (sym there.2) (times-in (objects nodes t) there.0 is_object) in
+      let low : id < t.count = below (nat_lt id t.count) refl (sound.ids id) counted in
+      tag_same id (objects nodes t) es (each_tag (objects nodes t) es (λ id. once_counted (objects nodes t) t.count id sound.ids) (λ e w. all_in (λ e. IsIn e (objects nodes t)) es e all_met w)) k
+      ∙ sym (tag_at (objects nodes t) 0 t.count id low ∙ ap (λ (j : ℕ). tag_of j (objects nodes t)) (let e : 0 + id ≡ id = omega arith in e))
+    where
+      below : (b : Bool) → nat_lt id t.count ≡ b → times id (ids_of (objects nodes t)) ≡ (if b then 1 else 0) → 1 ≤ times id (ids_of (objects nodes t)) → id < t.count
+      below true is e many = grind (arith, nat_tests)
+      below false is e many = absurd (let f : ⊥ = omega (arith, e, many) in f)
+
+  -- the tag of an id that is met is its object's
+  pub own_tags : (hits : List Hit) → AllZip (IsOwnTag nodes t) hits (tags_among (met nodes (t.root ∷ []) rs) hits)
+  own_tags [] = tt
+  own_tags (h ∷ hs) = (elim (in_or_none h.id (met nodes (t.root ∷ []) rs)) [ inl k ↦ inl (same_tag h.id k) | inr none ↦ inr none ], own_tags hs)
+
+-- where the log shows the hits, each of them is met
+module _ (s : Space) (nodes : Nodes) (t : Live) (found : Found) (shown : IsShown s nodes t found) where
   hit_met : (h : Hit) → IsIn h found.hits → IsIn h.id (ids_of (met nodes (t.root ∷ []) found.log.records))
   hit_met h k =
       let log = shown.log in
       let answer : IsIn h (selected found.log.query log.hits) = subst (IsIn h) (shown.hits_are ∙ log.answers_are) k in
       subst (IsIn h.id) (walk_ids (search_for s found.log.query found.log.answers) nodes found.log.records (root_need t.root ∷ []) log.hits log.walk) (map-in (λ h. h.id) log.hits h (selected_in found.log.query log.hits h answer))
-
-  same_tag : (h : Hit) → IsIn h found.hits → tag_of h.id (met nodes (t.root ∷ []) found.log.records) ≡ slice_index_or (tags_by_id nodes t) h.id 0
-  same_tag h k =
-      let es = met nodes (t.root ∷ []) found.log.records in
-      let there = in-map (λ e. e.id) es h.id (hit_met h k) in
-      let is_object : IsIn there.0 (objects nodes t) = all_in (λ e. IsIn e (objects nodes t)) es there.0 all_met there.1 in
-      let counted : 1 ≤ times h.id (ids_of (objects nodes t)) = subst (λ (i : ℕ). 1 ≤ times i (ids_of (objects nodes t))) (sym there.2) (times-in (objects nodes t) there.0 is_object) in
-      let low : h.id < t.count = below (nat_lt h.id t.count) refl (shown.tree.ids h.id) counted in
-      tag_same h.id (objects nodes t) es (each_tag (objects nodes t) es (λ id. once_counted (objects nodes t) t.count id shown.tree.ids) (λ e w. all_in (λ e. IsIn e (objects nodes t)) es e all_met w)) (hit_met h k)
-      ∙ sym (tag_at (objects nodes t) 0 t.count h.id low ∙ ap (λ (j : ℕ). tag_of j (objects nodes t)) (let e : 0 + h.id ≡ h.id = omega arith in e))
-    where
-      below : (b : Bool) → nat_lt h.id t.count ≡ b → times h.id (ids_of (objects nodes t)) ≡ (if b then 1 else 0) → 1 ≤ times h.id (ids_of (objects nodes t)) → h.id < t.count
-      below true is e many = grind (arith, nat_tests)
-      below false is e many = absurd (let f : ⊥ = omega (arith, e, many) in f)
 
   pub shown_tags : met_tags nodes t found ≡ object_tags nodes t found
   shown_tags = each found.hits (λ h k. k)
@@ -275,5 +290,5 @@ module _ (s : Space) (nodes : Nodes) (t : Live) (found : Found) (shown : IsShown
       each : (hs : List Hit) → ((h : Hit) → IsIn h hs → IsIn h found.hits) → map (λ h. tag_of h.id (met nodes (t.root ∷ []) found.log.records)) hs ≡ map (λ h. slice_index_or (tags_by_id nodes t) h.id 0) hs
       each [] among = refl
       each (h ∷ hs) among =
-          ap (λ (tag : ℕ). tag ∷ map (λ h. tag_of h.id (met nodes (t.root ∷ []) found.log.records)) hs) (same_tag h (among h (inl refl)))
+          ap (λ (tag : ℕ). tag ∷ map (λ h. tag_of h.id (met nodes (t.root ∷ []) found.log.records)) hs) (same_tag s nodes t shown.tree found.log.records h.id (hit_met h (among h (inl refl))))
           ∙ ap (λ (tags : List ℕ). slice_index_or (tags_by_id nodes t) h.id 0 ∷ tags) (each hs (λ g k. among g (inr k)))

@@ -1,5 +1,5 @@
 -- The tags of what a query found, and why there are none.
-use Rattle.std.specs.Prelude.{◌≡◌, ℕ, List, [], ◌∷◌, map, IsTrue, slice_index_or}
+use Rattle.std.specs.Prelude.{◌≡◌, ◌⊎◌, ℕ, List, [], ◌∷◌, map, IsTrue, slice_index_or}
 use Rattle.metric_laws.specs.Space.{Space}
 use Rattle.scan_model.specs.declared.hit.Hit.{Hit}
 use Rattle.tree_shape.specs.declared.entry.LeafEntry.{LeafEntry}
@@ -25,6 +25,10 @@ met_tags nodes t found = tags_among (met nodes (t.root ∷ []) found.log.records
 -- the tags of the tree's objects with the hits' ids
 abbrev pub object_tags : Nodes → Live → Found → List ℕ
 object_tags nodes t found = map (λ h. slice_index_or (tags_by_id nodes t) h.id 0) found.hits
+
+-- a hit's tag is that of the tree's object with its id, or 0
+abbrev pub IsOwnTag : Nodes → Live → Hit → ℕ → Type 0
+IsOwnTag nodes t h tag = (tag ≡ slice_index_or (tags_by_id nodes t) h.id 0) ⊎ (tag ≡ 0)
 
 -- what was found is shown by its log: the tree is sound, the log is sound on it, and the hits are the log's answers
 pub record IsShown (s : Space) (nodes : Nodes) (t : Live) (found : Found) : Type 0 where

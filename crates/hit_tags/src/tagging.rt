@@ -1,10 +1,11 @@
 ghost use Rattle.std.specs.Prelude.{◌≡◌, ◌≤◌, ◌+◌, [], ◌∷◌, length, vec_len, IsTrue, IfOk, IfErr};
+ghost use Rattle.std.specs.List.{AllZip};
 ghost use Rattle.metric_laws.specs.Space.{Space};
 ghost use Rattle.tree_shape.specs.Tree.{IsSoundTree};
 ghost use Rattle.page_store.specs.Reading.{nodes_of};
 ghost use Rattle.page_store.specs.Shelf.{HoldsSame, IsPassing};
 ghost use Rattle.log_model.specs.Counts.{CountsUpTo};
-ghost use Rattle.hit_tags.specs.Tags.{met_tags, object_tags, IsShown, HasTagsCause};
+ghost use Rattle.hit_tags.specs.Tags.{met_tags, object_tags, IsOwnTag, IsShown, HasTagsCause};
 
 use crate::walking::Walk;
 use log_model::Found;
@@ -35,6 +36,10 @@ pub fn tags_of<P: Pages>(
     ensures each { IfOk result (λ tags. vec_len tags ≡ length found.now.hits) }
     ensures met { IfOk result (λ tags. IsTrue (P.shelf pages.old).tells →
         tags.items ≡ met_tags (nodes_of (P.shelf pages.old).read) live.now found.now) }
+    // Whatever the log says, no hit has another object's tag on a sound tree.
+    ensures own { IfOk result (λ tags. IsTrue (P.shelf pages.old).tells →
+        (s : Space) → IsSoundTree s (nodes_of (P.shelf pages.old).read) live.now →
+        AllZip (IsOwnTag (nodes_of (P.shelf pages.old).read) live.now) found.now.hits tags.items) }
     ensures objects { IfOk result (λ tags. IsTrue (P.shelf pages.old).tells →
         (s : Space) → IsShown s (nodes_of (P.shelf pages.old).read) live.now found.now →
         tags.items ≡ object_tags (nodes_of (P.shelf pages.old).read) live.now found.now) }

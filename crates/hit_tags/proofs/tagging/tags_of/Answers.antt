@@ -1,15 +1,15 @@
-use Rattle.std.proofs.Common.{◌≡◌, ◌∙◌, ◌∷◌, [], List, ℕ, reverse, ap, subst, map, Some, None}
-use Rattle.std.specs.List.{AllByRecursion}
+use Rattle.std.proofs.Common.{sym, ◌≡◌, ◌∙◌, ◌∷◌, [], List, ℕ, reverse, ap, subst, map, Some, None}
+use Rattle.std.specs.List.{AllByRecursion, AllZip}
 use Rattle.std.proofs.lemmas.Result.{err_from_is_err_and}
 use Rattle.scan_model.specs.declared.hit.Hit.{Hit}
 use Rattle.page_store.specs.Reading.{nodes_of}
 use Rattle.page_store.specs.Shelf.{Shelf}
 use Rattle.log_model.specs.declared.marks.Record.{Record}
 use Rattle.hit_tags.specs.Met.{met}
-use Rattle.hit_tags.specs.Tags.{HasTagsCause}
+use Rattle.hit_tags.specs.Tags.{HasTagsCause, IsOwnTag}
 use Rattle.hit_tags.specs.Wanted.{held, tag_held, TakesIn}
 use Rattle.hit_tags.proofs.Taking.{tags_held}
-use Rattle.hit_tags.proofs.Showing.{passes, shown_tags}
+use Rattle.hit_tags.proofs.Showing.{passes, shown_tags, own_tags}
 use Rattle.hit_tags.proofs.tagging.tags_of.Goals as goal
 
 pub returns-in_err-follow_all-clause-sound : goal.returns-in_err-follow_all-clause-sound
@@ -36,3 +36,8 @@ returns-in-Ok-tags-clause-met g c = λ tells.
 pub returns-in-Ok-tags-clause-objects : goal.returns-in-Ok-tags-clause-objects
 returns-in-Ok-tags-clause-objects g c = λ tells s shown.
     returns-in-Ok-tags-clause-met g c tells ∙ shown_tags s (nodes_of (g.P.Pages.shelf c.args.pages.now).read) c.args.live.now c.args.found.now shown
+
+pub returns-in-Ok-tags-clause-own : goal.returns-in-Ok-tags-clause-own
+returns-in-Ok-tags-clause-own g c = λ tells s sound.
+    let nodes = nodes_of (g.P.Pages.shelf c.args.pages.now).read in
+    subst (AllZip (IsOwnTag nodes c.args.live.now) c.args.found.now.hits) (sym (returns-in-Ok-tags-clause-met g c tells)) (own_tags s nodes c.args.live.now sound c.args.found.now.log.records c.args.found.now.hits)
