@@ -5,3 +5,5 @@ pub mod Written
 pub mod Settled
 pub mod Listed
 pub mod Outcome
+pub mod Loaded
+pub mod Pinned

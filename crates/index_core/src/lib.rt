@@ -5,6 +5,8 @@ mod faults;
 mod index;
 mod lending;
 mod listing;
+mod loading;
+mod pinning;
 mod placing;
 mod view;
 mod writing;
