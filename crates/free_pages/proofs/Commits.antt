@@ -278,7 +278,7 @@ from_put v h (g ∷ held) i = tested (nat_lt v.page g.page) (nat_lt g.page v.pag
     tested false true i ih = elim i [ inl s ↦ inr (inl s) | inr w ↦ elim (ih w) [ inl s ↦ inl s | inr u ↦ inr (inr u) ] ]
     tested false false i ih = inr i
 
-pins_left : (f : FreePages) (page generation : ℕ) → (with_left f page generation).pins ≡ f.pins
+pub pins_left : (f : FreePages) (page generation : ℕ) → (with_left f page generation).pins ≡ f.pins
 pins_left f page generation = tested (is_pinned_below generation f.pins) (is_kept f page)
   where
     tested : (a b : Bool) →

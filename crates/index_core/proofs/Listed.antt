@@ -29,9 +29,10 @@ use Rattle.disk_model.specs.Disk.{DiskState}
 use Rattle.outside_io.specs.Causes.{Rose}
 use Rattle.page_store.specs.declared.pages.PageFault.{PageFault}
 use Rattle.page_store.specs.declared.pages.PageFault.TheVariants.{Disk, Bad, Outside, Memory, Repeats, Level}
+use Rattle.page_store.specs.Shelf.{IsPassing}
 use Rattle.free_pages.specs.Walk.{IsWalkFault, tree_walk}
 use Rattle.index_core.specs.declared.faults.IndexFault.{IndexFault}
-use Rattle.index_core.specs.Causes.{HasListCause, read_fault}
+use Rattle.index_core.specs.Causes.{BlamesNoPage, HasListCause, read_fault}
 use Rattle.index_core.specs.Files.{OpenFile, pages_on}
 use Rattle.index_core.specs.Index.{AreSpare, IsLawfulFree}
 use Rattle.index_core.specs.Writing.{Inserts, IsMadeBy, IsPlacedFor}
@@ -100,20 +101,6 @@ insertion_makes s head old t tag point placed new has = record {
   balance = has.balance;
 }
 
--- why no free list was made, by why its walk stopped
-pub list_cause : {M : Type 0} (fault : PageFault) (result : IndexFault) (before_pages after_pages : Shelf) (file : OpenFile M) (before after : DiskState) → before_pages ≡ pages_on file before 0 →
-    after_pages.faults ≡ after.faults → result ≡ read_fault fault → IsWalkFault before_pages after_pages (tree_walk before_pages.read file.live) fault → HasListCause file before after result
-list_cause {M} fault result before_pages after_pages file before after old new is walk =
-    subst (HasListCause file before after) (sym is) (cases fault (subst (λ (h : Shelf). IsWalkFault h after_pages (tree_walk h.read file.live) fault) old walk))
-  where
-    cases : (f : PageFault) → IsWalkFault (pages_on file before 0) after_pages (tree_walk (pages_on file before 0).read file.live) f → HasListCause file before after (read_fault f)
-    cases Disk w = subst (λ (n : ℕ). Rose before.faults n) new w
-    cases Memory w = tt
-    cases (Bad page f) w = (tt, w)
-    cases (Outside page) w = (tt, w)
-    cases (Repeats page) w = (tt, w)
-    cases (Level page) w = absurd w
-
 -- what an insertion placed, said of pages that are those of a file
 pub placed_for : (s space : Space) → s ≡ space → (old pages : Shelf) → old ≡ pages → (head : Head) (t : Live) (tag : ℕ) (point : List ℕ) (placed : Placed) →
     (IsTrue old.tells → IsSoundTree s (nodes_of old.read) t → AreBeside (nodes_of old.read) t (pages_of placed.staged)) →
@@ -127,3 +114,30 @@ placed_for s space same old pages is head t tag point placed apart inserted =
       apart = apart tells sound;
       makes = λ new over. insertion_makes s head (nodes_of old.read) t tag point placed new (inserted tells sound new over);
     }))
+
+-- why no free list was made, by why its walk stopped
+pub list_cause : {M : Type 0} (fault : PageFault) (result : IndexFault) (before_pages after_pages : Shelf) (file : OpenFile M) (before : DiskState) (faults : ℕ) (t : Live) → before_pages ≡ pages_on file before 0 →
+    t ≡ file.live → after_pages.faults ≡ faults → result ≡ read_fault fault → IsWalkFault before_pages after_pages (tree_walk before_pages.read t) fault → HasListCause file before faults result
+list_cause {M} fault result before_pages after_pages file before faults t old live new is walk =
+    subst (HasListCause file before faults) (sym is) (cases fault (subst (λ (l : Live). IsWalkFault (pages_on file before 0) after_pages (tree_walk (pages_on file before 0).read l) fault) live
+    (subst (λ (h : Shelf). IsWalkFault h after_pages (tree_walk h.read t) fault) old walk)))
+  where
+    cases : (f : PageFault) → IsWalkFault (pages_on file before 0) after_pages (tree_walk (pages_on file before 0).read file.live) f → HasListCause file before faults (read_fault f)
+    cases Disk w = subst (λ (n : ℕ). Rose before.faults n) new w
+    cases Memory w = tt
+    cases (Bad page f) w = (tt, w.2)
+    cases (Outside page) w = (tt, w.1)
+    cases (Repeats page) w = (tt, w.1)
+    cases (Level page) w = absurd w
+
+-- a walk that may only be stopped by the disk or by want of memory blames no page
+pub blames_none : (fault : PageFault) (result : IndexFault) → result ≡ read_fault fault → IsPassing fault → BlamesNoPage result
+blames_none fault result is passing = subst BlamesNoPage (sym is) (cases fault passing)
+  where
+    cases : (f : PageFault) → IsPassing f → BlamesNoPage (read_fault f)
+    cases Disk p = tt
+    cases Memory p = tt
+    cases (Bad page f) p = absurd p
+    cases (Outside page) p = absurd p
+    cases (Repeats page) p = absurd p
+    cases (Level page) p = absurd p

@@ -1,10 +1,10 @@
 -- What a commit of what was placed makes of an index.
-use Rattle.std.proofs.Common.{◌≡◌, ◌≢◌, ◌⊎◌, ℕ, zero, suc, ◌+◌, ◌-◌, ◌*◌, ◌≤◌, ◌<◌, Bool, true, false, List, [], ◌∷◌, ◌++◌, inl, inr, refl, sym, ap, subst, ◌∙◌, arith, length, take, min, Option, Some, None, Result, Ok, Err}
+use Rattle.std.proofs.Common.{◌≡◌, ◌≢◌, ◌⊎◌, ℕ, zero, suc, ◌+◌, ◌-◌, ◌*◌, ◌≤◌, ◌<◌, Bool, true, false, List, [], ◌∷◌, ◌++◌, inl, inr, refl, sym, ap, subst, ◌∙◌, arith, length, take, drop, min, max, Option, Some, None, Result, Ok, Err}
 use Rattle.std.specs.Prelude.{IsTrue, MatchOption, OnOk, IfOk, IfErr}
 use Rattle.std.specs.List.{AllByRecursion}
 use Rattle.metric_laws.specs.Lists.{IsIn}
 use Rattle.metric_laws.specs.Space.{Space}
-use Rattle.metric_laws.proofs.Lists.{all_in}
+use Rattle.metric_laws.proofs.Lists.{all_in, all_weaker}
 use Rattle.outside_io.specs.Causes.{Rose}
 use Rattle.disk_model.specs.Disk.{DiskState, MayLeave, LeavesOnly, EachImage}
 use Rattle.disk_model.specs.Moments.{weakened}
@@ -23,16 +23,24 @@ use Rattle.shadow_root.specs.Commit.{IsBeforeOrAfter, HasNext, IsNotStaged, IsSt
 use Rattle.shadow_root.specs.Placements.{IsFileOf, IsTreeOf, KeepsBytes, alone_keeps}
 use Rattle.shadow_root.proofs.Beside.{in_place_is_written}
 use Rattle.shadow_root.proofs.Lists.{commits_keep_lists}
-use Rattle.free_pages.specs.Keeping.{FreePages, IsKept}
-use Rattle.free_pages.specs.Commits.{after_commit, AreOutside, AreWithin, IsExchange, IsGuarded}
-use Rattle.free_pages.proofs.Commits.{keep_outside, guard}
+use Rattle.free_pages.specs.Keeping.{FreePages, IsKept, with_left}
+use Rattle.free_pages.specs.Commits.{after_commit, with_all_left, AreOutside, AreWithin, IsExchange, IsGuarded}
+use Rattle.free_pages.proofs.Commits.{keep_outside, guard, pins_left}
 use Rattle.index_core.specs.declared.faults.IndexFault.{IndexFault}
 use Rattle.index_core.specs.declared.faults.IndexFault.TheVariants.{Commit}
 use Rattle.index_core.specs.Files.{OpenFile, StandsOn, IsLawfulFile, nodes_on}
-use Rattle.index_core.specs.Index.{OpenIndex}
+use Rattle.index_core.specs.Index.{OpenIndex, IsLawfulFree}
 use Rattle.index_core.specs.Writing.{Write, added_by, answer_to, points_after, tags_after, tree_after, HasObjects, HoldsObjects, LeavesEither, IsCommitted, IsExact, IsExactFor, IsMadeBy, IsNext, IsPlacedFor, IsPlacedOn, GuardsPages, KeepsPages, HasWritten}
 use Rattle.index_core.proofs.Committed.{exchange}
 use Rattle.index_core.proofs.Settled.{can_follow}
+
+newest_left : (generation : ℕ) (left : List ℕ) (f : FreePages) → f.newest ≤ generation → (with_all_left generation left f).newest ≤ generation
+newest_left generation [] f low = low
+newest_left generation (page ∷ left) f low = newest_left generation left (with_left f page generation) (let e : (with_left f page generation).newest ≡ max f.newest generation = refl in omega arith)
+
+pins_all_left : (generation : ℕ) (left : List ℕ) (f : FreePages) → (with_all_left generation left f).pins ≡ f.pins
+pins_all_left generation [] f = refl
+pins_all_left generation (page ∷ left) f = pins_all_left generation left (with_left f page generation) ∙ pins_left f page generation
 
 module _ {M : Type 0} (s : Space) (write : Write) (file : OpenFile M) (f : FreePages) (spare used : ℕ) (placed : Placed) (lawful : IsLawfulFile s.words file)
     (kept : IsKept (record f { spare = spare })) (within : AreWithin file.live.pages f) (on : IsPlacedOn file f used placed) (before after : DiskState) (stands : StandsOn file before)
@@ -143,3 +151,61 @@ module _ {M : Type 0} (s : Space) (write : Write) (file : OpenFile M) (f : FreeP
         (subst (λ (h : FreePages). IsGuarded placed.next.pages generation h tree) (sym did.free)
         (guard.commit file.live.pages placed.next.pages used generation placed.next.generation (record f { spare = did.spare }) tree placed.left (let e = on.placement.generation in omega arith) exchanged.more
         (record { pinned = guarded.pinned; within = guarded.within; unfree = guarded.unfree; later = guarded.later })))
+
+module _ {M : Type 0} (s : Space) (write : Write) (old : OpenIndex M) (f : FreePages) (used : ℕ) (placed : Placed) (lawful : IsLawfulFile s.words old.file)
+    (kept : IsKept (record f { spare = f.spare })) (list : IsLawfulFree old.file.live f) (on : IsPlacedOn old.file f used placed) (before after : DiskState) (stands : StandsOn old.file before)
+    (only : IsTrue before.tells → LeavesOnly before before.bytes)
+    (fits : IsTrue before.tells → IsSoundTree s (nodes_on old.file before) old.file.live → IsPlacedFor s old.file.head write (nodes_on old.file before) old.file.live placed)
+    (moments : IsTrue before.tells → EachImage before after (IsBeforeOrAfter old.file.head.dim old.file.live placed.next placed.staged before)) where
+  -- the commit failed
+  pub failed_written : (new : OpenIndex M) → new.stopped ≡ true → Rose before.faults after.faults → HasWritten s write (record old { free = Some f }) new before after (Err Commit)
+  failed_written new stopped rose = record {
+    answer = tt;
+    next = tt;
+    refused = λ no. absurd (no refl);
+    stops = λ is. (stopped, rose);
+    moments = either s write old.file f f.spare used placed lawful kept list.within on before after stands only fits moments;
+    objects = λ points tags has. tt;
+    tree = λ points tags has. tt;
+    exact = λ points tags has exact. tt;
+    guarded = λ generation tree guards. tt;
+    kept = λ generation tree tells guards. pages_kept s write old.file f f.spare used placed lawful kept list.within on before after stands only fits moments generation tree tells guards;
+  }
+
+  -- the commit was done
+  pub done_written : (file : OpenFile M) (g : FreePages) (answer : ℕ) → (IsTrue after.tells → MayLeave after after.bytes) → after.tells ≡ before.tells → IsCommitted old.file file f g used placed before after →
+      placed.next.count ≡ old.file.live.count + added_by write → answer ≡ answer_to write old.file.live.count →
+      HasWritten s write (record old { free = Some f }) (record old { file = file; free = Some g }) before after (Ok answer)
+  done_written file g answer image told did count is = record {
+    answer = is;
+    next = record {
+      live = placed.next;
+      is = ap (λ (n : OpenFile M). record old { file = n; free = Some g }) did.file;
+      side = on.placement.side;
+      generation = on.placement.generation;
+      count = count;
+      pages = let e = on.placement.pages in omega arith;
+      room = did.room;
+    };
+    refused = tt;
+    stops = tt;
+    moments = either s write old.file f f.spare used placed lawful kept list.within on before after stands only fits moments;
+    objects = objects_after s write old.file f f.spare used placed lawful kept list.within on before after stands only fits moments file g image told did;
+    tree = tree_is s write old.file f f.spare used placed lawful kept list.within on before after stands only fits moments file g image told did;
+    exact = exact_after s write old.file f f.spare used placed lawful kept list.within on before after stands only fits moments file g image told did;
+    guarded = λ generation tree guards.
+        guarded_after s write old.file f f.spare used placed lawful kept list.within on before after stands only fits moments file g image told did generation tree
+        (all_in (λ (pin : ℕ). pin ≤ old.file.live.generation) f.pins generation list.pins guards.pinned) guards;
+    kept = λ generation tree tells guards. pages_kept s write old.file f f.spare used placed lawful kept list.within on before after stands only fits moments generation tree tells guards;
+  }
+
+  -- after the commit the free list is lawful
+  pub next_list : (file : OpenFile M) (g : FreePages) → IsCommitted old.file file f g used placed before after → IsLawfulFree file.live g
+  next_list file g did = subst (λ (n : OpenFile M). IsLawfulFree n.live g) (sym did.file) (record {
+    within = did.within;
+    newest = subst (λ (h : FreePages). h.newest ≤ placed.next.generation) (sym did.free)
+        (newest_left placed.next.generation placed.left (record f { spare = did.spare; free = drop used f.free }) (let l = list.newest in let e = on.placement.generation in omega arith));
+    pins = subst (λ (h : FreePages). AllByRecursion (λ pin. pin ≤ placed.next.generation) h.pins) (sym did.free)
+        (subst (AllByRecursion (λ pin. pin ≤ placed.next.generation)) (sym (pins_all_left placed.next.generation placed.left (record f { spare = did.spare; free = drop used f.free })))
+        (all_weaker (λ (pin : ℕ). pin ≤ old.file.live.generation) (λ pin. pin ≤ placed.next.generation) f.pins (λ pin l. let e = on.placement.generation in omega arith) list.pins));
+  })

@@ -1,5 +1,5 @@
 -- Why a call of an opened index refuses.
-use Rattle.std.specs.Prelude.{◌≡◌, ◌≢◌, ◌⊎◌, ℕ, IsTrue, List, take}
+use Rattle.std.specs.Prelude.{◌≡◌, ◌≢◌, ◌⊎◌, ℕ, IsTrue, List, take, Err}
 use Rattle.disk_model.specs.Disk.{DiskState}
 use Rattle.tree_shape.specs.declared.live.Live.{Live}
 use Rattle.node_page.specs.declared.head.Head.{Head}
@@ -19,7 +19,7 @@ use Rattle.insert_path.specs.declared.faults.PlaceFault.TheVariants as place
 use Rattle.insert_path.specs.Causes.{HasPlaceCause, HasWalkCause}
 use Rattle.insert_path.specs.Placing.{place_fault as faults_of_path}
 use Rattle.free_pages.specs.Keeping.{FreePages}
-use Rattle.free_pages.specs.Walk.{IsWalkFault, tree_walk}
+use Rattle.free_pages.specs.Walk.{tree_walk}
 use Rattle.index_core.specs.Files.{OpenFile, pages_on}
 use Rattle.index_core.specs.declared.faults.IndexFault.{IndexFault}
 use Rattle.index_core.specs.declared.faults.IndexFault.TheVariants.{Disk, Damaged, Full, NoRoom, Worn, Memory}
@@ -98,6 +98,10 @@ abbrev pub BlamesNoPage : IndexFault → Type 0
 BlamesNoPage (Damaged fault) = ⊥
 BlamesNoPage _ = Unit {0}
 
--- why no free list was made: the disk failed, memory ran out, or the first fault of the walk of the live tree by child numbers
-abbrev pub HasListCause : {M : Type 0} → OpenFile M → DiskState → DiskState → IndexFault → Type 0
-HasListCause file old new = HasReadCause (IsWalkFault (pages_on file old 0) (pages_on file new 0) (tree_walk (pages_on file old 0).read file.live))
+-- why no free list was made: the disk failed, which then counted so many faults, or memory ran out, or it is the first fault of the
+-- walk of the live tree by child numbers
+abbrev pub HasListCause : {M : Type 0} → OpenFile M → DiskState → ℕ → IndexFault → Type 0
+HasListCause file old faults Disk = Rose old.faults faults
+HasListCause file old faults (Damaged fault) = IsDamage fault × (IsTrue old.tells → tree_walk (pages_on file old 0).read file.live ≡ Err fault)
+HasListCause file old faults Memory = Unit {0}
+HasListCause file old faults _ = ⊥

@@ -3,6 +3,7 @@
 
 mod faults;
 mod index;
+mod inserting;
 mod lending;
 mod listing;
 mod loading;

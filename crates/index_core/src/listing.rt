@@ -27,7 +27,7 @@ impl<M: Metric> View<M> {
         ensures lawful { IfOk result (IsLawfulFree self.old.live) }
         ensures beside { IfOk result (λ f. IsTrue (D.state disk.old).tells → AreSpare (nodes_on self.old (D.state disk.old)) self.old.live f) }
         ensures exact { IfOk result (λ f. IsSoundOn (M.space self.old.metric) self.old (D.state disk.old) → IsExactFor self.old f (D.state disk.old)) }
-        ensures cause { IfErr result (HasListCause self.old (D.state disk.old) (D.state disk.new)) }
+        ensures cause { IfErr result (HasListCause self.old (D.state disk.old) (D.state disk.new).faults) }
         ensures undamaged { IfErr result (λ fault. IsSoundOn (M.space self.old.metric) self.old (D.state disk.old) → BlamesNoPage fault) }
     {
         let live = self.live;
@@ -62,7 +62,7 @@ impl<M: Metric> Index<M> {
         ensures exact { IfOk result (λ f. IsSoundOn (M.space self.old.file.metric) self.old.file (D.state disk.old) → IsExact self.old (D.state disk.old) →
             IsExactFor self.old.file f (D.state disk.old)) }
         ensures made { IfErr result (λ fault. self.old.free ≡ None) }
-        ensures cause { IfErr result (HasListCause self.old.file (D.state disk.old) (D.state disk.new)) }
+        ensures cause { IfErr result (HasListCause self.old.file (D.state disk.old) (D.state disk.new).faults) }
         ensures undamaged { IfErr result (λ fault. IsSoundOn (M.space self.old.file.metric) self.old.file (D.state disk.old) → BlamesNoPage fault) }
     {
         if let Some(free) = self.free.take() {

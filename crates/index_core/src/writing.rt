@@ -1,6 +1,6 @@
 // The commit of what was placed for a file.
-ghost use Rattle.std.specs.Prelude.{◌≡◌, ◌⊎◌, ◌+◌, ◌≤◌, length, IsTrue, IsErrOf, OnOk, Err};
-ghost use Rattle.outside_io.specs.Causes.{Rose};
+ghost use Rattle.std.specs.Prelude.{◌≡◌, ◌+◌, ◌≤◌, length, IsTrue, OnOk};
+ghost use Rattle.outside_io.specs.Causes.{HasCause};
 ghost use Rattle.disk_model.specs.Disk.{LeavesOnly, EachImage};
 ghost use Rattle.page_store.specs.Staging.{pages_of};
 ghost use Rattle.shadow_root.specs.Commit.{IsBeforeOrAfter};
@@ -9,9 +9,8 @@ ghost use Rattle.index_core.specs.Files.{StandsOn, nodes_on};
 ghost use Rattle.index_core.specs.Index.{AreSpare};
 ghost use Rattle.index_core.specs.Writing.{Follows, IsCommitted, IsPlacedOn, forgotten, forgotten_of};
 
-use crate::IndexFault;
 use crate::view::View;
-use disk_model::Disk;
+use disk_model::{Disk, Failed};
 use free_pages::Free;
 use metric_laws::Metric;
 use page_cache::Kept;
@@ -38,38 +37,32 @@ fn forget(kept: &mut Option<Kept>, staged: &Staged)
 }
 
 impl<M: Metric> View<M> {
-    // Commits what was placed for the file, and settles the free list, whose first `used` pages it took. Room for the pages that are
-    // left is reserved first, and what is kept of pages that are written anew is dropped before the first write.
+    // Commits what was placed for the file, and settles the free list, whose first `used` pages it took and which has room for the
+    // pages that are left. What is kept of pages that are written anew is dropped before the first write.
     pub(crate) fn write<D: Disk>(
         &mut self,
         disk: &mut D,
         free: &mut Free,
         used: usize,
         placed: &Placed,
-    ) -> Result<(), IndexFault>
+    ) -> Result<(), Failed>
         requires stands { StandsOn self.old (D.state disk.old) }
         requires only { IsTrue (D.state disk.old).tells → LeavesOnly (D.state disk.old) (D.state disk.old).bytes }
         requires beside { IsTrue (D.state disk.old).tells → AreSpare (nodes_on self.old (D.state disk.old)) self.old.live free.old }
         requires within { AreWithin self.old.live.pages free.old }
+        requires room { length placed.now.left ≤ free.old.spare }
         requires placed { IsPlacedOn self.old free.old used placed.now }
         requires follows { IsTrue (D.state disk.old).tells → Follows (nodes_on self.old (D.state disk.old)) self.old.live placed.now }
         ensures moments { IsTrue (D.state disk.old).tells →
             EachImage (D.state disk.old) (D.state disk.new) (IsBeforeOrAfter self.old.head.dim self.old.live placed.now.next placed.now.staged (D.state disk.old)) }
         ensures committed { OnOk result (IsCommitted self.old self.new free.old free.new used placed.now (D.state disk.old) (D.state disk.new)) }
-        ensures memory { IsErrOf result IndexFault.Memory → (self.new ≡ self.old) × (free.new ≡ free.old) × (disk.new ≡ disk.old) }
-        ensures commit { IsErrOf result IndexFault.Commit → Rose (D.state disk.old).faults (D.state disk.new).faults }
-        ensures refusals { (result ≡ Err IndexFault.Memory) ⊎ ((result ≡ Err IndexFault.Commit) ⊎ OnOk result (result ≡ result)) }
         ensures tells { (D.state disk.new).tells ≡ (D.state disk.old).tells }
         ensures reads { (D.state disk.new).reads ≤ (D.state disk.old).reads + 1 }
-        ensures later { (D.state disk.old).faults ≤ (D.state disk.new).faults }
+        ensures cause { HasCause (D.state disk.old).faults (D.state disk.new).faults result }
     {
-        let Ok(()) = free.reserve(placed.left.as_slice().len()) else {
-            return Err(IndexFault::Memory);
-        };
+        free.are_kept();
         forget(&mut self.kept, &placed.staged);
-        let Ok(()) = commit(disk, self.head.dim, &self.live, &placed.next, &placed.staged) else {
-            return Err(IndexFault::Commit);
-        };
+        commit(disk, self.head.dim, &self.live, &placed.next, &placed.staged)?;
         forgetting_keeps_agreement();
         self.live = placed.next;
         free.settle(used, placed.left.as_slice(), placed.next.generation);

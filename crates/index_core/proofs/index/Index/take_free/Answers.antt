@@ -7,7 +7,7 @@ use Rattle.index_core.proofs.index.Index.take_free.Goals as goal
 
 pub returns-in-Err-clause-cause : goal.returns-in-Err-clause-cause
 returns-in-Err-clause-cause g c =
-    subst (λ (i : OpenIndex g.row.M.Denot). HasListCause i.file (g.D.Disk.state c.args.disk.now) (g.D.Disk.state c.list_free.new.disk) c.in-Err.fault) c.self.view_is c.in-Err.ensures.cause
+    subst (λ (i : OpenIndex g.row.M.Denot). HasListCause i.file (g.D.Disk.state c.args.disk.now) (g.D.Disk.state c.list_free.new.disk).faults c.in-Err.fault) c.self.view_is c.in-Err.ensures.cause
 
 pub returns-clause-exact : goal.returns-clause-exact
 returns-clause-exact g c = λ sound exact.

@@ -5,18 +5,16 @@ use Rattle.page_store.specs.Placing.{live_pages}
 use Rattle.page_store.specs.Reading.{nodes_of}
 use Rattle.page_store.specs.Shelf.{Shelf}
 use Rattle.free_pages.specs.Commits.{AreOutside}
-use Rattle.free_pages.specs.Walk.{IsWalkFault, tree_walk}
 use Rattle.index_core.specs.Answers.{IsSoundOn}
 use Rattle.index_core.specs.Files.{OpenFile, nodes_on, pages_on}
 use Rattle.index_core.specs.Index.{AreSpare, IsLawfulFree}
 use Rattle.index_core.specs.Writing.{IsExactFor}
+use Rattle.page_store.specs.Shelves.{disk_shelf}
+use Rattle.page_store.specs.declared.disk_pages.DiskPages.{DiskPages}
+use Rattle.free_pages.specs.Walk.{IsWalkFault, tree_walk}
+use Rattle.index_core.specs.Lending.{lent_shelf}
 use Rattle.index_core.proofs.Listed.{fresh_lawful, fresh_spare, fresh_exact, list_cause}
 use Rattle.index_core.proofs.view.View.list_free.Goals as goal
-
-pub returns-in-Err-clause-cause : goal.returns-in-Err-clause-cause
-returns-in-Err-clause-cause g c =
-    list_cause c.in-Err.fault c.read_fault.result _ _ c.args.self.now _ _ c.lend-pages.ensures.shelf ? c.read_fault.ensures
-    (subst (λ (f : OpenFile g.row.M.Denot). IsWalkFault _ _ (tree_walk _ f.live) c.in-Err.fault) c.self.view_is c.in-Err.ensures.err)
 
 pub returns-clause-lawful : goal.returns-clause-lawful
 returns-clause-lawful g c =
@@ -38,3 +36,9 @@ returns-clause-exact g c =
             (λ tells is. fresh_exact c.self.inside.live _ c.in-Ok.free (c.in-Ok.ensures.sound (g.M.Metric.space c.args.self.now.metric) tells is) c.in-Ok.ensures.fresh) in
         subst (λ (f : OpenFile g.row.M.Denot). IsTrue (g.D.Disk.state c.args.disk.now).tells → IsSoundTree (g.M.Metric.space c.args.self.now.metric) (nodes_on f (g.D.Disk.state c.args.disk.now)) c.self.inside.live →
             AreOutside c.self.inside.live.pages (live_pages (nodes_on f (g.D.Disk.state c.args.disk.now)) c.self.inside.live) c.in-Ok.free) (sym c.self.view_is) exact sound.0 sound.1)
+
+pub returns-in-Err-clause-cause : goal.returns-in-Err-clause-cause
+returns-in-Err-clause-cause g c =
+    list_cause c.in-Err.fault c.read_fault.result _
+    (lent_shelf (λ (p : DiskPages g.row.D.Denot g.D.Disk). disk_shelf p.first_version p.dim p.pages (g.D.Disk.state p.disk.now) p.asked) c.of-answer.new.pages) c.args.self.now (g.D.Disk.state c.args.disk.now) _
+    c.self.inside.live c.lend-pages.ensures.shelf (ap (λ (f : OpenFile g.row.M.Denot). f.live) c.self.view_is) (search rules) c.read_fault.ensures c.in-Err.ensures.err

@@ -14,16 +14,14 @@ use Rattle.index_core.proofs.view.View.write.Goals as goal
 pub commit-requires-clause-staged : goal.commit-requires-clause-staged
 commit-requires-clause-staged g c =
     let lawful = subst (λ (f : OpenFile g.row.M.Denot). IsLawfulFile (g.M.Metric.space c.self.inside.metric).words f) c.self.view_is c.self.invariant in
-    let kept = subst IsKept c.in-Ok.ensures.ok c.reserve.ensures.kept in
     subst (λ (f : OpenFile g.row.M.Denot). IsStagedFor f.head.dim f.live c.args.placed.now.next c.args.placed.now.staged) (sym c.self.view_is)
-    (can_follow _ c.args.self.now c.args.free.now _ c.args.used c.args.placed.now lawful kept c.requires.within c.requires.placed).1
+    (can_follow _ c.args.self.now c.args.free.now c.args.free.now.spare c.args.used c.args.placed.now lawful c.are_kept.ensures c.requires.within c.requires.placed).1
 
 pub commit-requires-clause-ready : goal.commit-requires-clause-ready
 commit-requires-clause-ready g c = λ tells.
     let lawful = subst (λ (f : OpenFile g.row.M.Denot). IsLawfulFile (g.M.Metric.space c.self.inside.metric).words f) c.self.view_is c.self.invariant in
-    let kept = subst IsKept c.in-Ok.ensures.ok c.reserve.ensures.kept in
     subst (λ (f : OpenFile g.row.M.Denot). IsReady f.head.dim f.live c.args.placed.now.next c.args.placed.now.staged (g.D.Disk.state c.args.disk.now)) (sym c.self.view_is)
-    (ready _ c.args.self.now c.args.free.now _ c.args.used c.args.placed.now lawful kept c.requires.within c.requires.placed (g.D.Disk.state c.args.disk.now) c.requires.stands c.requires.only
+    (ready _ c.args.self.now c.args.free.now c.args.free.now.spare c.args.used c.args.placed.now lawful c.are_kept.ensures c.requires.within c.requires.placed (g.D.Disk.state c.args.disk.now) c.requires.stands c.requires.only
     c.requires.beside tells)
 
 pub invariant_of-self : goal.invariant_of-self
@@ -37,16 +35,14 @@ invariant_of-self g c =
 pub invariant_of-self-2 : goal.invariant_of-self-2
 invariant_of-self-2 g c =
     let lawful = subst (λ (f : OpenFile g.row.M.Denot). IsLawfulFile (g.M.Metric.space c.self.inside.metric).words f) c.self.view_is c.self.invariant in
-    let kept = subst IsKept c.in-Ok.ensures.ok c.reserve.ensures.kept in
     let is : record { head = c.self.inside.head; live = c.args.placed.now.next; metric = c.self.inside.metric; kept = c.forget.new.kept } ≡ record c.args.self.now { live = c.args.placed.now.next; kept = forgotten_of (pages_of c.args.placed.now.staged) c.args.self.now.kept } =
         ap (λ (k : Option Pairs). record { head = c.self.inside.head; live = c.args.placed.now.next; metric = c.self.inside.metric; kept = k }) c.forget.ensures
         ∙ ap (λ (f : OpenFile g.row.M.Denot). record f { live = c.args.placed.now.next; kept = forgotten_of (pages_of c.args.placed.now.staged) f.kept }) c.self.view_is in
-    subst (IsLawfulFile (g.M.Metric.space c.self.inside.metric).words) (sym is) (next_lawful _ c.args.self.now c.args.free.now _ c.args.used c.args.placed.now lawful kept c.requires.within c.requires.placed)
+    subst (IsLawfulFile (g.M.Metric.space c.self.inside.metric).words) (sym is) (next_lawful _ c.args.self.now c.args.free.now c.args.free.now.spare c.args.used c.args.placed.now lawful c.are_kept.ensures c.requires.within c.requires.placed)
 
 pub returns-clause-committed : goal.returns-clause-committed
 returns-clause-committed g c =
     let lawful = subst (λ (f : OpenFile g.row.M.Denot). IsLawfulFile (g.M.Metric.space c.self.inside.metric).words f) c.self.view_is c.self.invariant in
-    let kept = subst IsKept c.in-Ok.ensures.ok c.reserve.ensures.kept in
     let three : 3 ≤ c.args.self.now.live.pages = (let low = lawful.live.1.low_pages in omega arith) in
     let is : record { head = c.self.inside.head; live = c.args.placed.now.next; metric = c.self.inside.metric; kept = c.forget.new.kept } ≡ record c.args.self.now { live = c.args.placed.now.next; kept = forgotten_of (pages_of c.args.placed.now.staged) c.args.self.now.kept } =
         ap (λ (k : Option Pairs). record { head = c.self.inside.head; live = c.args.placed.now.next; metric = c.self.inside.metric; kept = k }) c.forget.ensures
@@ -55,10 +51,9 @@ returns-clause-committed g c =
         EachImage (g.D.Disk.state c.args.disk.now) (g.D.Disk.state c.commit.new.disk) (IsBeforeOrAfter f.head.dim f.live c.args.placed.now.next c.args.placed.now.staged (g.D.Disk.state c.args.disk.now)))
         c.self.view_is c.commit.ensures.any_moment in
     let done = subst (λ (f : OpenFile g.row.M.Denot). IsTrue (g.D.Disk.state c.args.disk.now).tells →
-        HasNext f.head.dim c.args.placed.now.next c.args.placed.now.staged (g.D.Disk.state c.commit.new.disk).bytes) c.self.view_is c.in-Ok-commit.ensures.done in
+        HasNext f.head.dim c.args.placed.now.next c.args.placed.now.staged (g.D.Disk.state c.commit.new.disk).bytes) c.self.view_is c.in_ok-commit.ensures.done in
     let settled = c.settle.ensures.settled
-        ∙ (ap (λ (l : List ℕ). after_commit c.args.used l c.args.placed.now.next.generation c.reserve.new.self) c.as_slice-2.ensures
-        ∙ ap (after_commit c.args.used c.args.placed.now.left c.args.placed.now.next.generation) c.in-Ok.ensures.ok) in
-    committed _ c.args.self.now c.args.free.now _ c.args.used c.args.placed.now lawful kept c.requires.within c.requires.placed (g.D.Disk.state c.args.disk.now) (g.D.Disk.state c.commit.new.disk) c.requires.stands
-    c.requires.only c.requires.beside c.requires.follows moments c.in-Ok-commit.ensures.only done c.commit.ensures.tells (g.met.D.Disk.read_is_image c.commit.new.disk) c.forgetting_keeps_agreement.ensures three _
+        ∙ ap (λ (l : List ℕ). after_commit c.args.used l c.args.placed.now.next.generation c.args.free.now) c.as_slice.ensures in
+    committed _ c.args.self.now c.args.free.now c.args.free.now.spare c.args.used c.args.placed.now lawful c.are_kept.ensures c.requires.within c.requires.placed (g.D.Disk.state c.args.disk.now) (g.D.Disk.state c.commit.new.disk) c.requires.stands
+    c.requires.only c.requires.beside c.requires.follows moments c.in_ok-commit.ensures.only done c.commit.ensures.tells (g.met.D.Disk.read_is_image c.commit.new.disk) c.forgetting_keeps_agreement.ensures three _
     c.settle.new.self settled is
