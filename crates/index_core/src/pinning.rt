@@ -35,7 +35,7 @@ impl<M: Metric> Index<M> {
         ensures guarded { (generation : ℕ) (tree : List ℕ) → GuardsPages generation tree self.old → GuardsPages generation tree self.new }
         ensures exact { IsSoundOn (M.space self.old.file.metric) self.old.file (D.state disk.old) → IsExact self.old (D.state disk.old) → IsExact self.new (D.state disk.new) }
         ensures refused { IfErr result (λ fault. IsRefused self.old self.new (D.state disk.old) (D.state disk.new)) }
-        ensures cause { self.old.stopped ≡ false → IfErr result (HasListCause self.old.file (D.state disk.old) (D.state disk.new)) }
+        ensures cause { self.old.stopped ≡ false → IfErr result (HasListCause self.old.file (D.state disk.old) (D.state disk.new).faults) }
         ensures made { self.old.stopped ≡ false → IfErr result (λ fault. fault ≢ IndexFault.Memory → self.old.free ≡ None) }
         ensures undamaged { IfErr result (λ fault. IsSoundOn (M.space self.old.file.metric) self.old.file (D.state disk.old) → BlamesNoPage fault) }
     {
@@ -72,8 +72,9 @@ impl<M: Metric> Index<M> {
         ensures beside { (nodes : Nodes) → LiesBesideTree nodes self.old → LiesBesideTree nodes self.new }
         ensures outside { (tree : List ℕ) → LiesOutside tree self.old → LiesOutside tree self.new }
     {
-        if let Some(free) = &mut self.free {
+        if let Some(mut free) = self.free.take() {
             free.unpin(generation);
+            self.put_free(free);
         }
     }
 }
