@@ -1,4 +1,5 @@
 pub mod Statuses
+pub mod Telling
 pub mod Spaces
 pub mod Audited
 pub mod Ends

@@ -3,6 +3,7 @@ use Rattle.std.specs.Prelude.{◌≡◌, ◌⊎◌, ℕ, ◌<◌, Option, Some, 
 use Rattle.std.specs.Io.KnownBytes.{Appends}
 use Rattle.outside_io.specs.Bytes.{AppendsPrefix}
 use Rattle.outside_io.specs.Causes.{Rose}
+use Rattle.outside_io.specs.Sinks.{SinkState, Tells}
 use Rattle.disk_model.specs.Disk.{DiskState, LeavesOnly, IsUnchanged}
 use Rattle.metric_mix.specs.MixSpaces.{mix_space}
 use Rattle.tree_shape.specs.declared.live.Live.{Live}
@@ -20,16 +21,16 @@ use Rattle.file_jobs.specs.Lines.{unopened_name, sound_text, rejected_text, not_
 -- ---- create
 
 -- what stands on the disk and on out when `create` ends
-pub record Creates (head : Head) (disk0 disk1 : DiskState) (out0 out1 : Option (List ℕ)) (status : ℕ) : Type 0 where
+pub record Creates (head : Head) (disk0 disk1 : DiskState) (out0 out1 : SinkState) (status : ℕ) : Type 0 where
   -- the file is a sound empty index, in every image of a crash
   pub made : (status ≡ 0) ⊎ (status ≡ 4) → (IsTrue disk0.tells → (length disk0.bytes ≡ 0) × IsMade head disk1.bytes) × LeavesOnly disk1 disk1.bytes
-  pub done : status ≡ 0 → Appends out0 out1 (codes "created\n")
-  pub part : status ≡ 4 → AppendsPrefix out0 out1 (codes "created\n")
+  pub done : status ≡ 0 → Appends out0.written out1.written (codes "created\n")
+  pub part : status ≡ 4 → AppendsPrefix out0.written out1.written (codes "created\n")
   -- the disk failed
-  pub disk : status ≡ 5 → Rose disk0.faults disk1.faults × AppendsPrefix out0 out1 (codes "fault disk\n")
+  pub disk : status ≡ 5 → Rose disk0.faults disk1.faults × Tells out0 out1 (codes "fault disk\n")
   -- the file held something, and holds it still
-  pub not_empty : status ≡ 6 → (IsTrue disk0.tells → 0 < length disk0.bytes) × IsUnchanged disk0 disk1 × AppendsPrefix out0 out1 (codes "fault notindex notempty\n")
-  pub memory : status ≡ 8 → IsUnchanged disk0 disk1 × AppendsPrefix out0 out1 (codes "fault memory\n")
+  pub not_empty : status ≡ 6 → (IsTrue disk0.tells → 0 < length disk0.bytes) × IsUnchanged disk0 disk1 × Tells out0 out1 (codes "fault notindex notempty\n")
+  pub memory : status ≡ 8 → IsUnchanged disk0 disk1 × Tells out0 out1 (codes "fault memory\n")
 
 -- ---- opening
 
@@ -40,9 +41,9 @@ IsNoIndex file name =
     ⊎ ((head : Head) × (live : Live) × OpensTo file head live × (head.version ≡ 1) × (name ≡ codes "version"))
 
 -- an index was not opened: the disk failed, or the file is no index of version 2
-pub record Refuses (disk0 disk1 : DiskState) (out0 out1 : Option (List ℕ)) (status : ℕ) : Type 0 where
-  pub disk : status ≡ 5 → Rose disk0.faults disk1.faults × AppendsPrefix out0 out1 (codes "fault disk\n")
-  pub not_index : status ≡ 6 → (name : List ℕ) × AppendsPrefix out0 out1 (not_index_text name) × (IsTrue disk0.tells → IsNoIndex disk0.bytes name)
+pub record Refuses (disk0 disk1 : DiskState) (out0 out1 : SinkState) (status : ℕ) : Type 0 where
+  pub disk : status ≡ 5 → Rose disk0.faults disk1.faults × Tells out0 out1 (codes "fault disk\n")
+  pub not_index : status ≡ 6 → (name : List ℕ) × Tells out0 out1 (not_index_text name) × (IsTrue disk0.tells → IsNoIndex disk0.bytes name)
   pub statuses : (status ≡ 5) ⊎ (status ≡ 6)
 
 -- ---- audit
@@ -62,17 +63,17 @@ pub record IsSoundWith (file : List ℕ) (objects nodes : ℕ) : Type 0 where
   pub nodes_are : nodes ≡ length (pages_at (nodes_of (reading audited.head.dim audited.live.pages file)) audited.live.height audited.live.root)
 
 -- what stands on out when `audit` ends
-pub record Audits (disk0 disk1 : DiskState) (out0 out1 : Option (List ℕ)) (status : ℕ) : Type 0 where
+pub record Audits (disk0 disk1 : DiskState) (out0 out1 : SinkState) (status : ℕ) : Type 0 where
   pub unchanged : IsUnchanged disk0 disk1
-  pub sound : status ≡ 0 → (objects : ℕ) × (nodes : ℕ) × Appends out0 out1 (sound_text objects nodes) × (IsTrue disk0.tells → IsSoundWith disk0.bytes objects nodes)
-  pub rejected : status ≡ 1 → (fault : AuditFault) × Appends out0 out1 (rejected_text fault) × (IsTrue disk0.tells → IsAudited disk0.bytes (Some fault))
+  pub sound : status ≡ 0 → (objects : ℕ) × (nodes : ℕ) × Appends out0.written out1.written (sound_text objects nodes) × (IsTrue disk0.tells → IsSoundWith disk0.bytes objects nodes)
+  pub rejected : status ≡ 1 → (fault : AuditFault) × Appends out0.written out1.written (rejected_text fault) × (IsTrue disk0.tells → IsAudited disk0.bytes (Some fault))
   -- a front of the lines
   pub part : status ≡ 4 →
-      ((objects : ℕ) × (nodes : ℕ) × AppendsPrefix out0 out1 (sound_text objects nodes) × (IsTrue disk0.tells → IsSoundWith disk0.bytes objects nodes))
-      ⊎ ((fault : AuditFault) × AppendsPrefix out0 out1 (rejected_text fault) × (IsTrue disk0.tells → IsAudited disk0.bytes (Some fault)))
-  pub disk : status ≡ 5 → Rose disk0.faults disk1.faults × AppendsPrefix out0 out1 (codes "fault disk\n")
-  pub not_index : status ≡ 6 → (name : List ℕ) × AppendsPrefix out0 out1 (not_index_text name) × (IsTrue disk0.tells → IsNoIndex disk0.bytes name)
-  pub memory : status ≡ 8 → AppendsPrefix out0 out1 (codes "fault memory\n")
+      ((objects : ℕ) × (nodes : ℕ) × AppendsPrefix out0.written out1.written (sound_text objects nodes) × (IsTrue disk0.tells → IsSoundWith disk0.bytes objects nodes))
+      ⊎ ((fault : AuditFault) × AppendsPrefix out0.written out1.written (rejected_text fault) × (IsTrue disk0.tells → IsAudited disk0.bytes (Some fault)))
+  pub disk : status ≡ 5 → Rose disk0.faults disk1.faults × Tells out0 out1 (codes "fault disk\n")
+  pub not_index : status ≡ 6 → (name : List ℕ) × Tells out0 out1 (not_index_text name) × (IsTrue disk0.tells → IsNoIndex disk0.bytes name)
+  pub memory : status ≡ 8 → Tells out0 out1 (codes "fault memory\n")
 
 -- why an audit of a file on a disk failed, where the disk's faults are so many now
 abbrev pub HasFault : DiskState → ℕ → Option AuditFault → AuditFault → Type 0

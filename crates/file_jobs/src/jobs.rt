@@ -8,6 +8,7 @@ ghost use Rattle.tree_audit.specs.Audited.{audit_fault};
 ghost use Rattle.std.specs.Io.KnownBytes.{Appends};
 ghost use Rattle.outside_io.specs.Bytes.{AppendsPrefix};
 ghost use Rattle.outside_io.specs.Causes.{Rose};
+ghost use Rattle.outside_io.specs.Sinks.{Tells};
 ghost use Rattle.node_page.specs.Heads.{IsLawfulHead};
 ghost use Rattle.node_page.specs.Opening.{OpensTo};
 ghost use Rattle.file_jobs.specs.Jobs.{Creates, Refuses, Audits, HasFault, IsPassing, IsAuditStatus};
@@ -37,10 +38,10 @@ pub const FAULT_DISK: &[u8] = b"fault disk\n";
 pub fn create_index<D: Disk, K: Sink>(disk: &mut D, head: &Head, out: &mut K) -> Status
     requires lawful { IsLawfulHead head.now }
     requires version { head.now.version ≡ 2 }
-    ensures creates { Creates head.now (D.state disk.old) (D.state disk.new) (K.written out.old) (K.written out.new) result.0 }
+    ensures creates { Creates head.now (D.state disk.old) (D.state disk.new) (K.state out.old) (K.state out.new) result.0 }
     ensures statuses { (result.0 ≡ 0) ⊎ ((result.0 ≡ 4) ⊎ ((result.0 ≡ 5) ⊎ (result.0 ≡ 6))) }
-    ensures later { K.faults out.old ≤ K.faults out.new }
-    ensures rose { result.0 ≡ 4 → Rose (K.faults out.old) (K.faults out.new) }
+    ensures later { (K.state out.old).faults ≤ (K.state out.new).faults }
+    ensures rose { result.0 ≡ 4 → Rose (K.state out.old).faults (K.state out.new).faults }
 {
     match create(disk, head) {
         Ok(_) => put_line(out, b"created\n", 0),
@@ -106,14 +107,14 @@ pub fn audit_opened<D: Disk>(
 
 // Ends an audit whose index is rejected, or that could not go on.
 fn end_rejected<K: Sink>(alloc: Global, fault: AuditFault, out: &mut K) -> Status
-    ensures rejected { result.0 ≡ 1 → Appends (K.written out.old) (K.written out.new) (rejected_text fault) }
-    ensures part { result.0 ≡ 4 → AppendsPrefix (K.written out.old) (K.written out.new) (rejected_text fault) }
+    ensures rejected { result.0 ≡ 1 → Appends (K.state out.old).written (K.state out.new).written (rejected_text fault) }
+    ensures part { result.0 ≡ 4 → AppendsPrefix (K.state out.old).written (K.state out.new).written (rejected_text fault) }
     ensures kind { (result.0 ≡ 1) ⊎ (result.0 ≡ 4) → IsPassing fault → ⊥ }
-    ensures disk { result.0 ≡ 5 → (fault ≡ AuditFault.Page PageFault.Disk) × AppendsPrefix (K.written out.old) (K.written out.new) (codes "fault disk\n") }
-    ensures memory { result.0 ≡ 8 → AppendsPrefix (K.written out.old) (K.written out.new) (codes "fault memory\n") }
+    ensures disk { result.0 ≡ 5 → (fault ≡ AuditFault.Page PageFault.Disk) × Tells (K.state out.old) (K.state out.new) (codes "fault disk\n") }
+    ensures memory { result.0 ≡ 8 → Tells (K.state out.old) (K.state out.new) (codes "fault memory\n") }
     ensures statuses { (result.0 ≡ 1) ⊎ ((result.0 ≡ 4) ⊎ ((result.0 ≡ 5) ⊎ (result.0 ≡ 8))) }
-    ensures later { K.faults out.old ≤ K.faults out.new }
-    ensures rose { result.0 ≡ 4 → Rose (K.faults out.old) (K.faults out.new) }
+    ensures later { (K.state out.old).faults ≤ (K.state out.new).faults }
+    ensures rose { result.0 ≡ 4 → Rose (K.state out.old).faults (K.state out.new).faults }
 {
     match fault {
         AuditFault::Page(PageFault::Disk) => end_with(out, FAULT_DISK, 5),
@@ -129,9 +130,9 @@ fn end_rejected<K: Sink>(alloc: Global, fault: AuditFault, out: &mut K) -> Statu
 fn end_unopened<K: Sink>(fault: OpenFault, out: &mut K) -> Status
     ensures disk { result.0 ≡ 5 → fault ≡ OpenFault.Disk }
     ensures index { result.0 ≡ 6 → fault ≢ OpenFault.Disk }
-    ensures line { AppendsPrefix (K.written out.old) (K.written out.new) (unopened_text fault) }
+    ensures line { Tells (K.state out.old) (K.state out.new) (unopened_text fault) }
     ensures statuses { (result.0 ≡ 5) ⊎ (result.0 ≡ 6) }
-    ensures later { K.faults out.old ≤ K.faults out.new }
+    ensures later { (K.state out.old).faults ≤ (K.state out.new).faults }
 {
     let line = unopened_line(fault);
     if fault == OpenFault::Disk {
@@ -142,12 +143,12 @@ fn end_unopened<K: Sink>(fault: OpenFault, out: &mut K) -> Status
 
 // Ends an audit of a sound index.
 fn end_sound<K: Sink>(alloc: Global, audited: &Audited, out: &mut K) -> Status
-    ensures sound { result.0 ≡ 0 → Appends (K.written out.old) (K.written out.new) (sound_text audited.now.objects audited.now.nodes) }
-    ensures part { result.0 ≡ 4 → AppendsPrefix (K.written out.old) (K.written out.new) (sound_text audited.now.objects audited.now.nodes) }
-    ensures memory { result.0 ≡ 8 → AppendsPrefix (K.written out.old) (K.written out.new) (codes "fault memory\n") }
+    ensures sound { result.0 ≡ 0 → Appends (K.state out.old).written (K.state out.new).written (sound_text audited.now.objects audited.now.nodes) }
+    ensures part { result.0 ≡ 4 → AppendsPrefix (K.state out.old).written (K.state out.new).written (sound_text audited.now.objects audited.now.nodes) }
+    ensures memory { result.0 ≡ 8 → Tells (K.state out.old) (K.state out.new) (codes "fault memory\n") }
     ensures statuses { (result.0 ≡ 0) ⊎ ((result.0 ≡ 4) ⊎ (result.0 ≡ 8)) }
-    ensures later { K.faults out.old ≤ K.faults out.new }
-    ensures rose { result.0 ≡ 4 → Rose (K.faults out.old) (K.faults out.new) }
+    ensures later { (K.state out.old).faults ≤ (K.state out.new).faults }
+    ensures rose { result.0 ≡ 4 → Rose (K.state out.old).faults (K.state out.new).faults }
 {
     match sound_text(alloc, audited) {
         Ok(text) => put_line(out, &text, 0),
@@ -166,9 +167,9 @@ pub fn open_index<D: Disk, K: Sink>(disk: &mut D, out: &mut K) -> Result<(Head, 
     ensures pages { IfOk result (λ opened. opened.1.pages ≤ 2 ^ 24) }
     ensures height { IfOk result (λ opened. opened.1.height ≤ 14) }
     ensures silent { OnOk result (out.new ≡ out.old) }
-    ensures refuses { IfErr result (λ status. Refuses (D.state disk.old) (D.state disk.new) (K.written out.old) (K.written out.new) status.0) }
+    ensures refuses { IfErr result (λ status. Refuses (D.state disk.old) (D.state disk.new) (K.state out.old) (K.state out.new) status.0) }
     ensures later { (D.state disk.old).faults ≤ (D.state disk.new).faults }
-    ensures written_later { K.faults out.old ≤ K.faults out.new }
+    ensures written_later { (K.state out.old).faults ≤ (K.state out.new).faults }
 {
     match open(disk) {
         Ok((head, live)) => {
@@ -185,10 +186,10 @@ pub fn open_index<D: Disk, K: Sink>(disk: &mut D, out: &mut K) -> Result<(Head, 
 /// status 1. Status 4: the lines could not be written; 5: the disk failed; 6: the file is no index of version 2; 8: want of
 /// memory. Nothing is changed.
 pub fn audit_index<D: Disk, K: Sink>(alloc: Global, disk: &mut D, out: &mut K) -> Status
-    ensures audits { Audits (D.state disk.old) (D.state disk.new) (K.written out.old) (K.written out.new) result.0 }
+    ensures audits { Audits (D.state disk.old) (D.state disk.new) (K.state out.old) (K.state out.new) result.0 }
     ensures statuses { IsAuditStatus result.0 }
-    ensures later { K.faults out.old ≤ K.faults out.new }
-    ensures rose { result.0 ≡ 4 → Rose (K.faults out.old) (K.faults out.new) }
+    ensures later { (K.state out.old).faults ≤ (K.state out.new).faults }
+    ensures rose { result.0 ≡ 4 → Rose (K.state out.old).faults (K.state out.new).faults }
 {
     let (head, live) = match open_index(disk, out) {
         Ok(opened) => opened,

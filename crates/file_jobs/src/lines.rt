@@ -2,6 +2,7 @@ ghost use Rattle.std.specs.Prelude.{◌≡◌, ◌≢◌, ◌⊎◌, ◌++◌, �
 ghost use Rattle.std.specs.Io.KnownBytes.{Appends};
 ghost use Rattle.outside_io.specs.Bytes.{AppendsPrefix};
 ghost use Rattle.outside_io.specs.Causes.{Rose};
+ghost use Rattle.outside_io.specs.Sinks.{Tells};
 ghost use Rattle.rows_text.specs.Texts.{counted, space, line_end};
 ghost use Rattle.file_jobs.specs.Lines.{node_fault_name, head_fault_name, page_fault_text, audit_fault_text, sound_text, rejected_text, not_index_text, numbered};
 
@@ -12,11 +13,11 @@ use page_store::PageFault;
 use std::alloc::Global;
 use tree_audit::{AuditFault, Audited};
 
-/// Ends with a status, after a line that says why where it can be written.
+/// Ends with a status, after a line that says why. Only where the output fails the line is cut short.
 pub fn end_with<K: Sink>(out: &mut K, line: &[u8], status: u8) -> Status
     ensures status { result.0 ≡ status }
-    ensures line { AppendsPrefix (K.written out.old) (K.written out.new) line.now }
-    ensures later { K.faults out.old ≤ K.faults out.new }
+    ensures line { Tells (K.state out.old) (K.state out.new) line.now }
+    ensures later { (K.state out.old).faults ≤ (K.state out.new).faults }
 {
     let _ = out.put(line);
     Status(status)
@@ -26,10 +27,10 @@ pub fn end_with<K: Sink>(out: &mut K, line: &[u8], status: u8) -> Status
 pub fn put_line<K: Sink>(out: &mut K, line: &[u8], status: u8) -> Status
     requires { status ≢ 4 }
     ensures statuses { (result.0 ≡ status) ⊎ (result.0 ≡ 4) }
-    ensures done { result.0 ≡ status → Appends (K.written out.old) (K.written out.new) line.now }
-    ensures part { result.0 ≡ 4 → AppendsPrefix (K.written out.old) (K.written out.new) line.now }
-    ensures later { K.faults out.old ≤ K.faults out.new }
-    ensures rose { result.0 ≡ 4 → Rose (K.faults out.old) (K.faults out.new) }
+    ensures done { result.0 ≡ status → Appends (K.state out.old).written (K.state out.new).written line.now }
+    ensures part { result.0 ≡ 4 → AppendsPrefix (K.state out.old).written (K.state out.new).written line.now }
+    ensures later { (K.state out.old).faults ≤ (K.state out.new).faults }
+    ensures rose { result.0 ≡ 4 → Rose (K.state out.old).faults (K.state out.new).faults }
 {
     match out.put(line) {
         Ok(()) => Status(status),

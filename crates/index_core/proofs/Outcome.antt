@@ -29,7 +29,7 @@ use Rattle.free_pages.proofs.Commits.{keep_outside, guard, pins_left}
 use Rattle.index_core.specs.declared.faults.IndexFault.{IndexFault}
 use Rattle.index_core.specs.declared.faults.IndexFault.TheVariants.{Commit}
 use Rattle.index_core.specs.Files.{OpenFile, StandsOn, IsLawfulFile, nodes_on}
-use Rattle.index_core.specs.Index.{OpenIndex, IsLawfulFree}
+use Rattle.index_core.specs.Index.{OpenIndex, AreSpare, IsLawfulFree}
 use Rattle.index_core.specs.Writing.{Write, added_by, answer_to, points_after, tags_after, tree_after, HasObjects, HoldsObjects, LeavesEither, IsCommitted, IsExact, IsExactFor, IsMadeBy, IsNext, IsPlacedFor, IsPlacedOn, GuardsPages, KeepsPages, HasWritten}
 use Rattle.index_core.proofs.Committed.{exchange}
 use Rattle.index_core.proofs.Settled.{can_follow}
@@ -199,13 +199,35 @@ module _ {M : Type 0} (s : Space) (write : Write) (old : OpenIndex M) (f : FreeP
     kept = λ generation tree tells guards. pages_kept s write old.file f f.spare used placed lawful kept list.within on before after stands only fits moments generation tree tells guards;
   }
 
-  -- after the commit the free list is lawful
-  pub next_list : (file : OpenFile M) (g : FreePages) → IsCommitted old.file file f g used placed before after → IsLawfulFree file.live g
-  next_list file g did = subst (λ (n : OpenFile M). IsLawfulFree n.live g) (sym did.file) (record {
-    within = did.within;
-    newest = subst (λ (h : FreePages). h.newest ≤ placed.next.generation) (sym did.free)
-        (newest_left placed.next.generation placed.left (record f { spare = did.spare; free = drop used f.free }) (let l = list.newest in let e = on.placement.generation in omega arith));
-    pins = subst (λ (h : FreePages). AllByRecursion (λ pin. pin ≤ placed.next.generation) h.pins) (sym did.free)
-        (subst (AllByRecursion (λ pin. pin ≤ placed.next.generation)) (sym (pins_all_left placed.next.generation placed.left (record f { spare = did.spare; free = drop used f.free })))
-        (all_weaker (λ (pin : ℕ). pin ≤ old.file.live.generation) (λ pin. pin ≤ placed.next.generation) f.pins (λ pin l. let e = on.placement.generation in omega arith) list.pins));
-  })
+-- after a commit the free list is lawful
+pub next_list : {M : Type 0} (old : OpenFile M) (f : FreePages) (used : ℕ) (placed : Placed) → IsLawfulFree old.live f → IsPlacedOn old f used placed → (before after : DiskState) (file : OpenFile M) (g : FreePages) →
+    IsCommitted old file f g used placed before after → IsLawfulFree file.live g
+next_list {M} old f used placed list on before after file g did = subst (λ (n : OpenFile M). IsLawfulFree n.live g) (sym did.file) (record {
+  within = did.within;
+  newest = subst (λ (h : FreePages). h.newest ≤ placed.next.generation) (sym did.free)
+      (newest_left placed.next.generation placed.left (record f { spare = did.spare; free = drop used f.free }) (let l = list.newest in let e = on.placement.generation in omega arith));
+  pins = subst (λ (h : FreePages). AllByRecursion (λ pin. pin ≤ placed.next.generation) h.pins) (sym did.free)
+      (subst (AllByRecursion (λ pin. pin ≤ placed.next.generation)) (sym (pins_all_left placed.next.generation placed.left (record f { spare = did.spare; free = drop used f.free })))
+      (all_weaker (λ (pin : ℕ). pin ≤ old.live.generation) (λ pin. pin ≤ placed.next.generation) f.pins (λ pin l. let e = on.placement.generation in omega arith) list.pins));
+})
+
+-- how much the free list has room for doesn't matter
+pub unspared : (f : FreePages) (spare : ℕ) → IsKept (record f { spare = spare }) → IsKept (record f { spare = f.spare })
+unspared f spare kept = record { free_ascend = kept.free_ascend; held_ascend = kept.held_ascend; apart = kept.apart; pinned = kept.pinned }
+
+pub spare_of : (nodes : Nodes) (t : Live) (f : FreePages) (spare : ℕ) → AreSpare nodes t f → AreSpare nodes t (record f { spare = spare })
+spare_of nodes t f spare are = record { tree = are.tree; stands = are.stands; beside = are.beside }
+
+pub committed_of : {M : Type 0} (old new : OpenFile M) (f g : FreePages) (spare used : ℕ) (placed : Placed) (before after : DiskState) → IsCommitted old new (record f { spare = spare }) g used placed before after →
+    IsCommitted old new f g used placed before after
+committed_of old new f g spare used placed before after did = record {
+  file = did.file;
+  room = did.room;
+  spare = did.spare;
+  free = did.free;
+  within = did.within;
+  stands = did.stands;
+  only = did.only;
+  beside = did.beside;
+  next = did.next;
+}

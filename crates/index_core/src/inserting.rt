@@ -40,6 +40,7 @@ impl<M: Metric> Index<M> {
         ensures reads { (D.state disk.new).reads ≤ (D.state disk.old).reads + 1 }
         ensures later { (D.state disk.old).faults ≤ (D.state disk.new).faults }
     {
+        self.view.is_lawful();
         let mut free = free;
         let Ok(()) = free.reserve(placement.placed.left.as_slice().len()) else {
             self.free = Some(free);
@@ -49,6 +50,7 @@ impl<M: Metric> Index<M> {
             .view
             .write(disk, &mut free, placement.used, &placement.placed)
         else {
+            self.free = None;
             self.stopped = true;
             return Err(IndexFault::Commit);
         };

@@ -79,6 +79,13 @@ impl<M: Metric> View<M> {
         })
     }
 
+    /// What always holds of an opened file, for whoever is lent one.
+    pub fn is_lawful(&self)
+        ensures { IsLawfulFile (M.space self.now.metric).words self.now }
+    {
+        let _head = &self.head;
+    }
+
     /// How many objects there are.
     pub fn count(&self) -> u32
         ensures { result ≡ self.now.live.count }

@@ -1,11 +1,12 @@
 -- The files that a job works on.
-use Rattle.std.specs.Prelude.{◌≡◌, true, false, Option, Some, None, Result, Ok, Err, ⊤}
+use Rattle.std.specs.Prelude.{◌≡◌, true, false, Option, Some, None, Result, Ok, Err, ⊤, refl}
 use Rattle.std.specs.Borrow.{Bor}
 use Rattle.std.specs.Option.{option_map}
 use Rattle.clap.specs.Words.{Text}
 use Rattle.job_words.specs.declared.files.FileNames.{FileNames}
 use Rattle.job_words.specs.declared.files.PlacesFault.{PlacesFault}
 use Rattle.job_words.specs.declared.files.PlacesFault.TheVariants.{Usage, Memory}
+use Rattle.job_words.specs.Jobs.{texts_in}
 use Rattle.job_words.specs.declared.job.Job.{Job}
 use Rattle.job_words.specs.declared.job.Job.TheVariants.{Scan, Create, Session, Shape, Audit, Verify, Check, Join, Gen, Migrate, Batch, Seal, Carry, Prove}
 
@@ -43,6 +44,23 @@ file_texts files = record {
   log_in = option_map (λ s. s.now) files.log_in;
   log_out = option_map (λ s. s.now) files.log_out;
 }
+
+-- those of a job, and of the job with its names' texts, are the same
+pub same_texts : (job : Job (Bor Text)) → file_texts (files_of job) ≡ files_of (texts_in job)
+same_texts (Scan space limit show) = refl
+same_texts (Create index space policies limit) = refl
+same_texts (Session index log workers show) = refl
+same_texts (Shape index) = refl
+same_texts (Audit index workers) = refl
+same_texts (Verify index log other) = refl
+same_texts (Check index log other) = refl
+same_texts (Join index other radius log) = refl
+same_texts (Gen index space count seed policies workers) = refl
+same_texts (Migrate index other) = refl
+same_texts (Batch index workers log show) = refl
+same_texts (Seal index) = refl
+same_texts (Carry index log proof) = refl
+same_texts (Prove log root) = refl
 
 -- an answer is the files of the job or want of memory; the words are refused only where there is no job
 abbrev pub AnswersFiles : Option (Job Text) → Result (FileNames (Bor Text)) PlacesFault → Type 0

@@ -34,8 +34,8 @@ pub enum PlacesFault {
     Memory,
 }
 
-// No files.
-fn no_files<Name>() -> FileNames<Name>
+/// No files.
+pub fn no_files<Name>() -> FileNames<Name>
     ensures { result ≡ no_files }
 {
     FileNames {
@@ -57,8 +57,8 @@ fn on_index<Name: Drop>(index: Name) -> FileNames<Name>
     }
 }
 
-// The files of a job.
-fn files_of<Name: Copy>(job: Job<Name>) -> FileNames<Name>
+/// The files of a job.
+pub fn files_of<Name: Copy>(job: Job<Name>) -> FileNames<Name>
     ensures { result ≡ files_of job }
 {
     match job {

@@ -4,6 +4,7 @@ use Rattle.std.specs.Prelude.{codes, ◌≤◌, IsTrue}
 use Rattle.std.specs.Io.KnownBytes.{Appends}
 use Rattle.outside_io.specs.Bytes.{AppendsPrefix}
 use Rattle.outside_io.specs.Causes.{Rose}
+use Rattle.outside_io.specs.Sinks.{SinkState, Tells}
 use Rattle.disk_model.specs.Disk.{DiskState, IsUnchanged, MayLeave}
 use Rattle.disk_model.specs.Moments.{started}
 use Rattle.tree_shape.specs.declared.live.Live.{Live}
@@ -65,7 +66,7 @@ either_before d0 d1 d2 e0 e1 e2 l r opened either =
     ⊎_elim (λ rose. inl (rose_before d0.faults d1.faults d2.faults opened.later rose)) (λ rose. inr (rose_before e0.faults e1.faults e2.faults opened.other_later rose)) either
 
 -- the index was opened, and the other file was not
-pub other_refuses : (d0 d1 e0 e1 : DiskState) (l : Head × Live) (w0 w1 : Option (List ℕ)) (status : ℕ) → (IsTrue d0.tells → IsOpened (tree_of d0 l)) → RefusesFile e0 e1 w0 w1 status → Refuses d0 d1 e0 e1 w0 w1 status
+pub other_refuses : (d0 d1 e0 e1 : DiskState) (l : Head × Live) (w0 w1 : SinkState) (status : ℕ) → (IsTrue d0.tells → IsOpened (tree_of d0 l)) → RefusesFile e0 e1 w0 w1 status → Refuses d0 d1 e0 e1 w0 w1 status
 other_refuses d0 d1 e0 e1 l w0 w1 status opens refuses = record {
   disk = λ is. let told = refuses.disk is in (inr told.0, told.1);
   not_index = λ is. let told = refuses.not_index is in (told.0, told.1, inr ((λ t. (tree_of d0 l, refl, opens t)), told.2));
@@ -74,7 +75,7 @@ other_refuses d0 d1 e0 e1 l w0 w1 status opens refuses = record {
 
 -- ---- verify and check
 
-pub judge_refused : (what : Report) (d0 d1 e0 e1 : DiskState) (bytes : List ℕ) (w0 w1 : Option (List ℕ)) (status : ℕ) → IsUnchanged d0 d1 → IsUnchanged e0 e1
+pub judge_refused : (what : Report) (d0 d1 e0 e1 : DiskState) (bytes : List ℕ) (w0 w1 : SinkState) (status : ℕ) → IsUnchanged d0 d1 → IsUnchanged e0 e1
     → Refuses d0 d1 e0 e1 w0 w1 status → Judges what d0 d1 e0 e1 bytes w0 w1 status
 judge_refused what d0 d1 e0 e1 bytes w0 w1 status same other refuses = record {
   unchanged = (same, other);
@@ -93,25 +94,25 @@ not_status : {P : Type 0} (good : Bool) (n x : ℕ) → (n ≡ status_of good) �
 not_status good n x either is a b c =
     ⊎_elim (λ e. ⊎_elim (λ z. clash n 0 x (e ∙ z) is a) (λ z. clash n 1 x (e ∙ z) is b) (good_or_not good)) (λ e. clash n 4 x e is c) either
 
-pub judge_said : (what : Report) (d0 d1 d2 e0 e1 e2 : DiskState) (bytes : List ℕ) (l r : Head × Live) (w0 w1 : Option (List ℕ)) (text : List ℕ) (good : Bool) (status : ℕ) → Opened d0 d1 e0 e1 l r
+pub judge_said : (what : Report) (d0 d1 d2 e0 e1 e2 : DiskState) (bytes : List ℕ) (l r : Head × Live) (w0 w1 : SinkState) (text : List ℕ) (good : Bool) (status : ℕ) → Opened d0 d1 e0 e1 l r
     → IsUnchanged d0 d2 → IsUnchanged e0 e2
     → (IsTrue d1.tells → IsTrue e1.tells → text ≡ (said_of what (tree_of d1 l) (tree_of e1 r) bytes).text)
     → (IsTrue d1.tells → IsTrue e1.tells → good ≡ (said_of what (tree_of d1 l) (tree_of e1 r) bytes).good)
-    → (status ≡ status_of good) ⊎ (status ≡ 4) → (status ≡ status_of good → Appends w0 w1 text) → (status ≡ 4 → AppendsPrefix w0 w1 text)
+    → (status ≡ status_of good) ⊎ (status ≡ 4) → (status ≡ status_of good → Appends w0.written w1.written text) → (status ≡ 4 → AppendsPrefix w0.written w1.written text)
     → Judges what d0 d2 e0 e2 bytes w0 w1 status
 judge_said what d0 d1 d2 e0 e1 e2 bytes l r w0 w1 text good status opened same other said_text said_good either whole part = record {
   unchanged = (same, other);
   done = λ zero_one.
       let is : status ≡ status_of good = ⊎_elim (λ e. e) (λ four. ⊎_elim (λ z. clash status 4 0 four z (omega arith)) (λ z. clash status 4 1 four z (omega arith)) zero_one) either in
-      on_trees _ d0 d1 e0 e1 l r opened (λ t u. (is ∙ ap (λ (g : Bool). status_of g) (said_good t u), subst (λ (x : List ℕ). Appends w0 w1 x) (said_text t u) (whole is)));
-  output = λ is. on_trees _ d0 d1 e0 e1 l r opened (λ t u. subst (λ (x : List ℕ). AppendsPrefix w0 w1 x) (said_text t u) (part is));
+      on_trees _ d0 d1 e0 e1 l r opened (λ t u. (is ∙ ap (λ (g : Bool). status_of g) (said_good t u), subst (λ (x : List ℕ). Appends w0.written w1.written x) (said_text t u) (whole is)));
+  output = λ is. on_trees _ d0 d1 e0 e1 l r opened (λ t u. subst (λ (x : List ℕ). AppendsPrefix w0.written w1.written x) (said_text t u) (part is));
   disk = λ is. not_status good status 5 either is (omega arith) (omega arith) (omega arith);
   not_index = λ is. not_status good status 6 either is (omega arith) (omega arith) (omega arith);
   memory = λ is. not_status good status 8 either is (omega arith) (omega arith) (omega arith);
 }
 
-pub judge_disk : (what : Report) (d0 d1 e0 e1 : DiskState) (bytes : List ℕ) (w0 w1 : Option (List ℕ)) (status : ℕ) → IsUnchanged d0 d1 → IsUnchanged e0 e1
-    → status ≡ 5 → EitherRose d0 d1 e0 e1 → AppendsPrefix w0 w1 (codes "fault disk\n") → Judges what d0 d1 e0 e1 bytes w0 w1 status
+pub judge_disk : (what : Report) (d0 d1 e0 e1 : DiskState) (bytes : List ℕ) (w0 w1 : SinkState) (status : ℕ) → IsUnchanged d0 d1 → IsUnchanged e0 e1
+    → status ≡ 5 → EitherRose d0 d1 e0 e1 → Tells w0 w1 (codes "fault disk\n") → Judges what d0 d1 e0 e1 bytes w0 w1 status
 judge_disk what d0 d1 e0 e1 bytes w0 w1 status same other five rose line = record {
   unchanged = (same, other);
   done = λ either. ⊎_elim (λ is. clash status 5 0 five is (omega arith)) (λ is. clash status 5 1 five is (omega arith)) either;
@@ -121,8 +122,8 @@ judge_disk what d0 d1 e0 e1 bytes w0 w1 status same other five rose line = recor
   memory = λ is. clash status 5 8 five is (omega arith);
 }
 
-pub judge_memory : (what : Report) (d0 d1 e0 e1 : DiskState) (bytes : List ℕ) (w0 w1 : Option (List ℕ)) (status : ℕ) → IsUnchanged d0 d1 → IsUnchanged e0 e1
-    → status ≡ 8 → AppendsPrefix w0 w1 (codes "fault memory\n") → Judges what d0 d1 e0 e1 bytes w0 w1 status
+pub judge_memory : (what : Report) (d0 d1 e0 e1 : DiskState) (bytes : List ℕ) (w0 w1 : SinkState) (status : ℕ) → IsUnchanged d0 d1 → IsUnchanged e0 e1
+    → status ≡ 8 → Tells w0 w1 (codes "fault memory\n") → Judges what d0 d1 e0 e1 bytes w0 w1 status
 judge_memory what d0 d1 e0 e1 bytes w0 w1 status same other eight line = record {
   unchanged = (same, other);
   done = λ either. ⊎_elim (λ is. clash status 8 0 eight is (omega arith)) (λ is. clash status 8 1 eight is (omega arith)) either;
@@ -141,12 +142,12 @@ unchanged disk = record {
   time = started disk (MayLeave disk) (λ image left. left);
 }
 
-pub early_memory : (what : Report) (d e : DiskState) (bytes : List ℕ) (w0 w1 : Option (List ℕ)) (status : ℕ) → status ≡ 8 → AppendsPrefix w0 w1 (codes "fault memory\n") → Judges what d d e e bytes w0 w1 status
+pub early_memory : (what : Report) (d e : DiskState) (bytes : List ℕ) (w0 w1 : SinkState) (status : ℕ) → status ≡ 8 → Tells w0 w1 (codes "fault memory\n") → Judges what d d e e bytes w0 w1 status
 early_memory what d e bytes w0 w1 status eight line = judge_memory what d d e e bytes w0 w1 status (unchanged d) (unchanged e) eight line
 
 -- ---- join
 
-pub join_refused : (radius : ℕ) (d0 d1 e0 e1 : DiskState) (w0 w1 v : Option (List ℕ)) (status : ℕ) → IsUnchanged d0 d1 → IsUnchanged e0 e1
+pub join_refused : (radius : ℕ) (d0 d1 e0 e1 : DiskState) (w0 w1 v : SinkState) (status : ℕ) → IsUnchanged d0 d1 → IsUnchanged e0 e1
     → Refuses d0 d1 e0 e1 w0 w1 status → Joins radius d0 d1 e0 e1 w0 w1 v v status
 join_refused radius d0 d1 e0 e1 w0 w1 v status same other refuses = record {
   unchanged = (same, other);
@@ -159,8 +160,8 @@ join_refused radius d0 d1 e0 e1 w0 w1 v status same other refuses = record {
   damaged = λ is. of_two status 5 6 9 refuses.statuses is (omega arith) (omega arith);
 }
 
-pub join_spaces : (radius : ℕ) (d0 d1 e0 e1 : DiskState) (l r : Head × Live) (w0 w1 v : Option (List ℕ)) (status : ℕ) → Opened d0 d1 e0 e1 l r → is_one_space l.0 r.0 ≡ false
-    → (status ≡ 1) ⊎ (status ≡ 4) → (status ≡ 1 → Appends w0 w1 spaces_text) → (status ≡ 4 → AppendsPrefix w0 w1 spaces_text) → Joins radius d0 d1 e0 e1 w0 w1 v v status
+pub join_spaces : (radius : ℕ) (d0 d1 e0 e1 : DiskState) (l r : Head × Live) (w0 w1 v : SinkState) (status : ℕ) → Opened d0 d1 e0 e1 l r → is_one_space l.0 r.0 ≡ false
+    → (status ≡ 1) ⊎ (status ≡ 4) → (status ≡ 1 → Appends w0.written w1.written spaces_text) → (status ≡ 4 → AppendsPrefix w0.written w1.written spaces_text) → Joins radius d0 d1 e0 e1 w0 w1 v v status
 join_spaces radius d0 d1 e0 e1 l r w0 w1 v status opened differ either whole part = record {
   unchanged = (opened.same, opened.other_same);
   done = λ is. of_two status 1 4 0 either is (omega arith) (omega arith);
@@ -172,9 +173,9 @@ join_spaces radius d0 d1 e0 e1 l r w0 w1 v status opened differ either whole par
   damaged = λ is. of_two status 1 4 9 either is (omega arith) (omega arith);
 }
 
-pub join_done : (radius : ℕ) (d0 d1 d2 e0 e1 e2 : DiskState) (l r : Head × Live) (log : JoinLog) (w0 w1 v0 v1 : Option (List ℕ)) (status : ℕ) → Opened d0 d1 e0 e1 l r → IsUnchanged d0 d2 → IsUnchanged e0 e2
+pub join_done : (radius : ℕ) (d0 d1 d2 e0 e1 e2 : DiskState) (l r : Head × Live) (log : JoinLog) (w0 w1 v0 v1 : SinkState) (status : ℕ) → Opened d0 d1 e0 e1 l r → IsUnchanged d0 d2 → IsUnchanged e0 e2
     → (IsTrue d1.tells → IsTrue e1.tells → IsJoinOf radius log (tree_of d1 l) (tree_of e1 r))
-    → (status ≡ 0) ⊎ ((status ≡ 4) ⊎ (status ≡ 8)) → (status ≡ 0 → PutsJoin log w0 w1 v0 v1) → (status ≡ 4 → CutsJoin log w0 w1 v0 v1) → (status ≡ 8 → AppendsPrefix w0 w1 (codes "fault memory\n"))
+    → (status ≡ 0) ⊎ ((status ≡ 4) ⊎ (status ≡ 8)) → (status ≡ 0 → PutsJoin log w0 w1 v0 v1) → (status ≡ 4 → CutsJoin log w0 w1 v0 v1) → (status ≡ 8 → Tells w0 w1 (codes "fault memory\n"))
     → Joins radius d0 d2 e0 e2 w0 w1 v0 v1 status
 join_done radius d0 d1 d2 e0 e1 e2 l r log w0 w1 v0 v1 status opened same other joined statuses whole part memory = record {
   unchanged = (same, other);
@@ -211,7 +212,7 @@ damage_of : (trees : Trees) (d1 d2 e1 e2 : DiskState) (fault : JoinFault) (page 
 damage_of trees d1 d2 e1 e2 fault page is refusal =
     ⊎_elim (λ e. left_damage trees d1 d2 e1 e2 page is.0 (subst (HasRefusal trees d1 d2.faults e1 e2.faults) e refusal)) (λ e. right_damage trees d1 d2 e1 e2 page is.0 (subst (HasRefusal trees d1 d2.faults e1 e2.faults) e refusal)) is.1
 
-pub join_stopped : (radius : ℕ) (trees : Trees) (d0 d1 d2 e0 e1 e2 : DiskState) (fault : JoinFault) (w0 w1 v : Option (List ℕ)) (status : ℕ) → Opened d0 d1 e0 e1 trees.left trees.right → IsUnchanged d0 d2 → IsUnchanged e0 e2
+pub join_stopped : (radius : ℕ) (trees : Trees) (d0 d1 d2 e0 e1 e2 : DiskState) (fault : JoinFault) (w0 w1 v : SinkState) (status : ℕ) → Opened d0 d1 e0 e1 trees.left trees.right → IsUnchanged d0 d2 → IsUnchanged e0 e2
     → HasRefusal trees d1 d2.faults e1 e2.faults fault → EndsRefused fault w0 w1 status → Joins radius d0 d2 e0 e2 w0 w1 v v status
 join_stopped radius trees d0 d1 d2 e0 e1 e2 fault w0 w1 v status opened same other refusal ends = record {
   unchanged = (same, other);

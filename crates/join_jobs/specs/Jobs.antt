@@ -1,8 +1,9 @@
 -- What the jobs on two files do and write, by the status with which they end.
-use Rattle.std.specs.Prelude.{◌≡◌, ◌≢◌, ◌⊎◌, ◌↔◌, ◌^◌, ◌<◌, ◌≤◌, ℕ, true, false, List, length, codes, Option, Err, IsTrue}
+use Rattle.std.specs.Prelude.{◌≡◌, ◌≢◌, ◌⊎◌, ◌↔◌, ◌^◌, ◌<◌, ◌≤◌, ◌+◌, ℕ, true, false, List, length, codes, Option, Err, IsTrue}
 use Rattle.std.specs.Io.KnownBytes.{Appends, Consumes, IsAtEnd}
 use Rattle.outside_io.specs.Bytes.{AppendsPrefix}
 use Rattle.outside_io.specs.Causes.{Rose}
+use Rattle.outside_io.specs.Sinks.{SinkState, Tells}
 use Rattle.disk_model.specs.Disk.{DiskState, IsUnchanged}
 use Rattle.node_page.specs.Heads.{IsLawfulHead}
 use Rattle.page_store.specs.declared.pages.PageFault.{PageFault}
@@ -45,9 +46,9 @@ abbrev pub EitherRose : DiskState → DiskState → DiskState → DiskState → 
 EitherRose index0 index1 other0 other1 = Rose index0.faults index1.faults ⊎ Rose other0.faults other1.faults
 
 -- the disk failed, or one of the files is no index of version 2
-pub record Refuses (index0 index1 other0 other1 : DiskState) (out0 out1 : Option (List ℕ)) (status : ℕ) : Type 0 where
-  pub disk : status ≡ 5 → EitherRose index0 index1 other0 other1 × AppendsPrefix out0 out1 (codes "fault disk\n")
-  pub not_index : status ≡ 6 → (name : List ℕ) × AppendsPrefix out0 out1 (not_index_text name) × IsNoPair index0 other0 name
+pub record Refuses (index0 index1 other0 other1 : DiskState) (out0 out1 : SinkState) (status : ℕ) : Type 0 where
+  pub disk : status ≡ 5 → EitherRose index0 index1 other0 other1 × Tells out0 out1 (codes "fault disk\n")
+  pub not_index : status ≡ 6 → (name : List ℕ) × Tells out0 out1 (not_index_text name) × IsNoPair index0 other0 name
   pub statuses : (status ≡ 5) ⊎ (status ≡ 6)
 
 -- where both disks tell their bytes, both files open to trees of which this holds
@@ -59,38 +60,39 @@ OnTrees index other Holds =
 -- ---- verify and check
 
 -- the lines on both files and the logs were put whole, and the status is theirs
-abbrev pub SaysAll : Report → List ℕ → Option (List ℕ) → Option (List ℕ) → ℕ → Tree → Tree → Type 0
+abbrev pub SaysAll : Report → List ℕ → SinkState → SinkState → ℕ → Tree → Tree → Type 0
 SaysAll what bytes out0 out1 status left right =
-    let said = said_of what left right bytes in (status ≡ status_of said.good) × Appends out0 out1 said.text
+    let said = said_of what left right bytes in (status ≡ status_of said.good) × Appends out0.written out1.written said.text
 
 -- a front of them was put
-abbrev pub SaysPart : Report → List ℕ → Option (List ℕ) → Option (List ℕ) → Tree → Tree → Type 0
-SaysPart what bytes out0 out1 left right = AppendsPrefix out0 out1 (said_of what left right bytes).text
+abbrev pub SaysPart : Report → List ℕ → SinkState → SinkState → Tree → Tree → Type 0
+SaysPart what bytes out0 out1 left right = AppendsPrefix out0.written out1.written (said_of what left right bytes).text
 
 -- what a job does with two files and the bytes of their logs
-pub record Judges (what : Report) (index0 index1 other0 other1 : DiskState) (bytes : List ℕ) (out0 out1 : Option (List ℕ)) (status : ℕ) : Type 0 where
+pub record Judges (what : Report) (index0 index1 other0 other1 : DiskState) (bytes : List ℕ) (out0 out1 : SinkState) (status : ℕ) : Type 0 where
   pub unchanged : IsUnchanged index0 index1 × IsUnchanged other0 other1
   pub done : (status ≡ 0) ⊎ (status ≡ 1) → OnTrees index0 other0 (SaysAll what bytes out0 out1 status)
   pub output : status ≡ 4 → OnTrees index0 other0 (SaysPart what bytes out0 out1)
-  pub disk : status ≡ 5 → EitherRose index0 index1 other0 other1 × AppendsPrefix out0 out1 (codes "fault disk\n")
-  pub not_index : status ≡ 6 → (name : List ℕ) × AppendsPrefix out0 out1 (not_index_text name) × IsNoPair index0 other0 name
-  pub memory : status ≡ 8 → AppendsPrefix out0 out1 (codes "fault memory\n")
+  pub disk : status ≡ 5 → EitherRose index0 index1 other0 other1 × Tells out0 out1 (codes "fault disk\n")
+  pub not_index : status ≡ 6 → (name : List ℕ) × Tells out0 out1 (not_index_text name) × IsNoPair index0 other0 name
+  pub memory : status ≡ 8 → Tells out0 out1 (codes "fault memory\n")
 
 -- a job ends so and in no other way once it has read its logs
 abbrev pub IsJudgeStatus : ℕ → Type 0
 IsJudgeStatus n = (n ≡ 0) ⊎ ((n ≡ 1) ⊎ ((n ≡ 4) ⊎ ((n ≡ 5) ⊎ ((n ≡ 6) ⊎ (n ≡ 8)))))
 
 -- the same of a job that takes bytes of logs from `left0` first
-pub record JudgesLogs (what : Report) (index0 index1 other0 other1 : DiskState) (left0 left1 out0 out1 : Option (List ℕ)) (status : ℕ) : Type 0 where
+pub record JudgesLogs (what : Report) (index0 index1 other0 other1 : DiskState) (left0 left1 : Option (List ℕ)) (out0 out1 : SinkState) (status : ℕ) : Type 0 where
   pub bytes : List ℕ
   pub taken : Consumes left0 left1 bytes
-  -- too many are told exactly where more than 2 ^ 30 were taken
+  -- at most 2 ^ 30 and a buffer more were taken, and too many are told exactly where more than 2 ^ 30 were
+  pub few : length bytes ≤ 2 ^ 30 + 4096
   pub long : (status ≡ 7) ↔ (2 ^ 30 < length bytes)
   pub all : status ≢ 3 → status ≢ 7 → status ≢ 8 → IsAtEnd left1
   pub judges : status ≢ 3 → status ≢ 7 → Judges what index0 index1 other0 other1 bytes out0 out1 status
   pub unchanged : IsUnchanged index0 index1 × IsUnchanged other0 other1
-  pub input_line : status ≡ 3 → AppendsPrefix out0 out1 (codes "fault input\n")
-  pub long_line : status ≡ 7 → AppendsPrefix out0 out1 (codes "fault long\n")
+  pub input_line : status ≡ 3 → Tells out0 out1 (codes "fault input\n")
+  pub long_line : status ≡ 7 → Tells out0 out1 (codes "fault long\n")
 
 abbrev pub IsLogStatus : ℕ → Type 0
 IsLogStatus n = (n ≡ 3) ⊎ ((n ≡ 7) ⊎ IsJudgeStatus n)
@@ -104,15 +106,15 @@ pub record IsJoinOf (radius : ℕ) (log : JoinLog) (left right : Tree) : Type 0 
   pub scanned : IsSoundFile left → IsSoundFile right → log.answers ≡ scanned_pairs left right radius
 
 -- the log's frame, and then the lines of its answers, were put whole
-pub record PutsJoin (log : JoinLog) (out0 out1 log0 log1 : Option (List ℕ)) : Type 0 where
-  pub frame : Appends log0 log1 (frame_bytes (join_log_bytes log))
-  pub pairs : Appends out0 out1 (pairs_text log.answers)
+pub record PutsJoin (log : JoinLog) (out0 out1 log0 log1 : SinkState) : Type 0 where
+  pub frame : Appends log0.written log1.written (frame_bytes (join_log_bytes log))
+  pub pairs : Appends out0.written out1.written (pairs_text log.answers)
 
 -- a front of the frame was put, and no line; or the frame, and a front of the lines
-abbrev pub CutsJoin : JoinLog → Option (List ℕ) → Option (List ℕ) → Option (List ℕ) → Option (List ℕ) → Type 0
+abbrev pub CutsJoin : JoinLog → SinkState → SinkState → SinkState → SinkState → Type 0
 CutsJoin log out0 out1 log0 log1 =
-    (AppendsPrefix log0 log1 (frame_bytes (join_log_bytes log)) × (out1 ≡ out0))
-    ⊎ (Appends log0 log1 (frame_bytes (join_log_bytes log)) × AppendsPrefix out0 out1 (pairs_text log.answers))
+    (AppendsPrefix log0.written log1.written (frame_bytes (join_log_bytes log)) × (out1 ≡ out0))
+    ⊎ (Appends log0.written log1.written (frame_bytes (join_log_bytes log)) × AppendsPrefix out0.written out1.written (pairs_text log.answers))
 
 -- the trees have different spaces
 abbrev pub HaveOtherSpaces : Tree → Tree → Type 0
@@ -154,25 +156,25 @@ abbrev pub IsDiskFault : JoinFault → Type 0
 IsDiskFault fault = (fault ≡ join.Left pages.Disk) ⊎ (fault ≡ join.Right pages.Disk)
 
 -- how a join ends that is refused
-pub record EndsRefused (fault : JoinFault) (out0 out1 : Option (List ℕ)) (status : ℕ) : Type 0 where
-  pub disk : status ≡ 5 → IsDiskFault fault × AppendsPrefix out0 out1 (codes "fault disk\n")
-  pub memory : status ≡ 8 → AppendsPrefix out0 out1 (codes "fault memory\n")
-  pub damaged : status ≡ 9 → (page : PageFault) × IsDamage fault page × AppendsPrefix out0 out1 (damaged_text page)
+pub record EndsRefused (fault : JoinFault) (out0 out1 : SinkState) (status : ℕ) : Type 0 where
+  pub disk : status ≡ 5 → IsDiskFault fault × Tells out0 out1 (codes "fault disk\n")
+  pub memory : status ≡ 8 → Tells out0 out1 (codes "fault memory\n")
+  pub damaged : status ≡ 9 → (page : PageFault) × IsDamage fault page × Tells out0 out1 (damaged_text page)
   pub statuses : (status ≡ 5) ⊎ ((status ≡ 8) ⊎ (status ≡ 9))
 
 -- what a join does with two files
-pub record Joins (radius : ℕ) (index0 index1 other0 other1 : DiskState) (out0 out1 log0 log1 : Option (List ℕ)) (status : ℕ) : Type 0 where
+pub record Joins (radius : ℕ) (index0 index1 other0 other1 : DiskState) (out0 out1 log0 log1 : SinkState) (status : ℕ) : Type 0 where
   pub unchanged : IsUnchanged index0 index1 × IsUnchanged other0 other1
   pub done : status ≡ 0 → (log : JoinLog) × PutsJoin log out0 out1 log0 log1 × OnTrees index0 other0 (IsJoinOf radius log)
-  pub spaces : status ≡ 1 → Appends out0 out1 spaces_text × OnTrees index0 other0 HaveOtherSpaces
+  pub spaces : status ≡ 1 → Appends out0.written out1.written spaces_text × OnTrees index0 other0 HaveOtherSpaces
   pub output : status ≡ 4 →
-      (AppendsPrefix out0 out1 spaces_text × (log1 ≡ log0) × OnTrees index0 other0 HaveOtherSpaces)
+      (AppendsPrefix out0.written out1.written spaces_text × (log1 ≡ log0) × OnTrees index0 other0 HaveOtherSpaces)
       ⊎ ((log : JoinLog) × CutsJoin log out0 out1 log0 log1 × OnTrees index0 other0 (IsJoinOf radius log))
-  pub disk : status ≡ 5 → EitherRose index0 index1 other0 other1 × AppendsPrefix out0 out1 (codes "fault disk\n")
-  pub not_index : status ≡ 6 → (name : List ℕ) × AppendsPrefix out0 out1 (not_index_text name) × IsNoPair index0 other0 name
-  pub memory : status ≡ 8 → AppendsPrefix out0 out1 (codes "fault memory\n")
+  pub disk : status ≡ 5 → EitherRose index0 index1 other0 other1 × Tells out0 out1 (codes "fault disk\n")
+  pub not_index : status ≡ 6 → (name : List ℕ) × Tells out0 out1 (not_index_text name) × IsNoPair index0 other0 name
+  pub memory : status ≡ 8 → Tells out0 out1 (codes "fault memory\n")
   -- a page of a file that is not sound
-  pub damaged : status ≡ 9 → (fault : PageFault) × AppendsPrefix out0 out1 (damaged_text fault) × OnTrees index0 other0 (AreDamaged fault)
+  pub damaged : status ≡ 9 → (fault : PageFault) × Tells out0 out1 (damaged_text fault) × OnTrees index0 other0 (AreDamaged fault)
 
 abbrev pub IsJoinStatus : ℕ → Type 0
 IsJoinStatus n = (n ≡ 0) ⊎ ((n ≡ 1) ⊎ ((n ≡ 4) ⊎ ((n ≡ 5) ⊎ ((n ≡ 6) ⊎ ((n ≡ 8) ⊎ (n ≡ 9))))))

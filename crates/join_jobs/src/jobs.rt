@@ -31,10 +31,10 @@ fn open_both<D: Disk, E: Disk, K: Sink>(
     ensures other_opens { IfOk result (λ trees. IsTrue (E.state other.old).tells → IsOpened (tree_of (E.state other.old) trees.right)) }
     ensures lawful { IfOk result AreLawful }
     ensures silent { OnOk result (out.new ≡ out.old) }
-    ensures refuses { IfErr result (λ status. Refuses (D.state index.old) (D.state index.new) (E.state other.old) (E.state other.new) (K.written out.old) (K.written out.new) status.0) }
+    ensures refuses { IfErr result (λ status. Refuses (D.state index.old) (D.state index.new) (E.state other.old) (E.state other.new) (K.state out.old) (K.state out.new) status.0) }
     ensures later { (D.state index.old).faults ≤ (D.state index.new).faults }
     ensures other_later { (E.state other.old).faults ≤ (E.state other.new).faults }
-    ensures written_later { K.faults out.old ≤ K.faults out.new }
+    ensures written_later { (K.state out.old).faults ≤ (K.state out.new).faults }
 {
     let left = open_index(index, out)?;
     let right = open_index(other, out)?;
@@ -50,10 +50,10 @@ fn judge_indexes<D: Disk, E: Disk, K: Sink>(
     bytes: &[u8],
     out: &mut K,
 ) -> Status
-    ensures judges { Judges report (D.state index.old) (D.state index.new) (E.state other.old) (E.state other.new) bytes.now (K.written out.old) (K.written out.new) result.0 }
+    ensures judges { Judges report (D.state index.old) (D.state index.new) (E.state other.old) (E.state other.new) bytes.now (K.state out.old) (K.state out.new) result.0 }
     ensures statuses { IsJudgeStatus result.0 }
-    ensures output { result.0 ≡ 4 → Rose (K.faults out.old) (K.faults out.new) }
-    ensures later { K.faults out.old ≤ K.faults out.new }
+    ensures output { result.0 ≡ 4 → Rose (K.state out.old).faults (K.state out.new).faults }
+    ensures later { (K.state out.old).faults ≤ (K.state out.new).faults }
 {
     let trees = match open_both(index, other, out) {
         Ok(trees) => trees,
@@ -75,11 +75,11 @@ fn judge_logs<D: Disk, E: Disk, S: Source, K: Sink>(
     log_in: &mut S,
     out: &mut K,
 ) -> Status
-    ensures judges { JudgesLogs report (D.state index.old) (D.state index.new) (E.state other.old) (E.state other.new) (S.left log_in.old) (S.left log_in.new) (K.written out.old) (K.written out.new) result.0 }
+    ensures judges { JudgesLogs report (D.state index.old) (D.state index.new) (E.state other.old) (E.state other.new) (S.left log_in.old) (S.left log_in.new) (K.state out.old) (K.state out.new) result.0 }
     ensures statuses { IsLogStatus result.0 }
     ensures input { result.0 ≡ 3 → Rose (S.faults log_in.old) (S.faults log_in.new) }
-    ensures output { result.0 ≡ 4 → Rose (K.faults out.old) (K.faults out.new) }
-    ensures counts { (S.faults log_in.old ≤ S.faults log_in.new) × (K.faults out.old ≤ K.faults out.new) }
+    ensures output { result.0 ≡ 4 → Rose (K.state out.old).faults (K.state out.new).faults }
+    ensures counts { (S.faults log_in.old ≤ S.faults log_in.new) × ((K.state out.old).faults ≤ (K.state out.new).faults) }
 {
     match read_all(alloc, log_in, MOST_LOGS) {
         Ok(bytes) => judge_indexes(alloc, report, index, other, &bytes, out),
@@ -101,11 +101,11 @@ pub fn verify_join_logs<D: Disk, E: Disk, S: Source, K: Sink>(
     log_in: &mut S,
     out: &mut K,
 ) -> Status
-    ensures judges { JudgesLogs Report.Verdicts (D.state index.old) (D.state index.new) (E.state other.old) (E.state other.new) (S.left log_in.old) (S.left log_in.new) (K.written out.old) (K.written out.new) result.0 }
+    ensures judges { JudgesLogs Report.Verdicts (D.state index.old) (D.state index.new) (E.state other.old) (E.state other.new) (S.left log_in.old) (S.left log_in.new) (K.state out.old) (K.state out.new) result.0 }
     ensures statuses { IsLogStatus result.0 }
     ensures input { result.0 ≡ 3 → Rose (S.faults log_in.old) (S.faults log_in.new) }
-    ensures output { result.0 ≡ 4 → Rose (K.faults out.old) (K.faults out.new) }
-    ensures counts { (S.faults log_in.old ≤ S.faults log_in.new) × (K.faults out.old ≤ K.faults out.new) }
+    ensures output { result.0 ≡ 4 → Rose (K.state out.old).faults (K.state out.new).faults }
+    ensures counts { (S.faults log_in.old ≤ S.faults log_in.new) × ((K.state out.old).faults ≤ (K.state out.new).faults) }
 {
     judge_logs(alloc, Report::Verdicts, index, other, log_in, out)
 }
@@ -120,13 +120,13 @@ pub fn check_join_logs<D: Disk, E: Disk, S: Source, K: Sink>(
     log_in: &mut S,
     out: &mut K,
 ) -> Status
-    ensures judges { JudgesLogs Report.Answers (D.state index.old) (D.state index.new) (E.state other.old) (E.state other.new) (S.left log_in.old) (S.left log_in.new) (K.written out.old) (K.written out.new) result.0 }
+    ensures judges { JudgesLogs Report.Answers (D.state index.old) (D.state index.new) (E.state other.old) (E.state other.new) (S.left log_in.old) (S.left log_in.new) (K.state out.old) (K.state out.new) result.0 }
     // A log that is written complete is sound on two sound files, and its answers are the pairs of the double loop.
     ensures complete { (left right : Tree) → IsOpened left → IsOpened right → FaultlessIsComplete left right }
     ensures statuses { IsLogStatus result.0 }
     ensures input { result.0 ≡ 3 → Rose (S.faults log_in.old) (S.faults log_in.new) }
-    ensures output { result.0 ≡ 4 → Rose (K.faults out.old) (K.faults out.new) }
-    ensures counts { (S.faults log_in.old ≤ S.faults log_in.new) × (K.faults out.old ≤ K.faults out.new) }
+    ensures output { result.0 ≡ 4 → Rose (K.state out.old).faults (K.state out.new).faults }
+    ensures counts { (S.faults log_in.old ≤ S.faults log_in.new) × ((K.state out.old).faults ≤ (K.state out.new).faults) }
 {
     faultless_is_complete();
     judge_logs(alloc, Report::Answers, index, other, log_in, out)
@@ -145,11 +145,11 @@ pub fn join_indexes<D: Disk, E: Disk, K: Sink, T: Sink>(
     out: &mut K,
     log_out: &mut T,
 ) -> Status
-    ensures joins { Joins radius (D.state index.old) (D.state index.new) (E.state other.old) (E.state other.new) (K.written out.old) (K.written out.new) (T.written log_out.old) (T.written log_out.new) result.0 }
+    ensures joins { Joins radius (D.state index.old) (D.state index.new) (E.state other.old) (E.state other.new) (K.state out.old) (K.state out.new) (T.state log_out.old) (T.state log_out.new) result.0 }
     ensures statuses { IsJoinStatus result.0 }
-    ensures output { result.0 ≡ 4 → Rose (K.faults out.old) (K.faults out.new) ⊎ Rose (T.faults log_out.old) (T.faults log_out.new) }
+    ensures output { result.0 ≡ 4 → Rose (K.state out.old).faults (K.state out.new).faults ⊎ Rose (T.state log_out.old).faults (T.state log_out.new).faults }
     ensures kept { result.0 ≢ 0 → result.0 ≢ 4 → log_out.new ≡ log_out.old }
-    ensures counts { (K.faults out.old ≤ K.faults out.new) × (T.faults log_out.old ≤ T.faults log_out.new) }
+    ensures counts { ((K.state out.old).faults ≤ (K.state out.new).faults) × ((T.state log_out.old).faults ≤ (T.state log_out.new).faults) }
 {
     let trees = match open_both(index, other, out) {
         Ok(trees) => trees,

@@ -3,6 +3,7 @@ ghost use Rattle.std.specs.Prelude.{◌≡◌, ◌≢◌, ◌⊎◌, ◌≤◌, 
 ghost use Rattle.std.specs.Io.KnownBytes.{Appends};
 ghost use Rattle.outside_io.specs.Bytes.{AppendsPrefix};
 ghost use Rattle.outside_io.specs.Causes.{Rose};
+ghost use Rattle.outside_io.specs.Sinks.{Tells};
 ghost use Rattle.disk_model.specs.Disk.{IsUnchanged};
 ghost use Rattle.log_model.specs.Grammar.{IsLawfulJoinLog};
 ghost use Rattle.prune_log.specs.Spelling.{join_log_bytes, frame_bytes};
@@ -78,14 +79,14 @@ pub fn end_joined<K: Sink, T: Sink>(
 ) -> Status
     requires lawful { IsLawfulJoinLog joined.log }
     requires pairs { joined.pairs ≡ joined.log.answers }
-    ensures done { result.0 ≡ 0 → PutsJoin joined.log (K.written out.old) (K.written out.new) (T.written log_out.old) (T.written log_out.new) }
-    ensures cut { result.0 ≡ 4 → CutsJoin joined.log (K.written out.old) (K.written out.new) (T.written log_out.old) (T.written log_out.new) }
-    ensures memory { result.0 ≡ 8 → AppendsPrefix (K.written out.old) (K.written out.new) (codes "fault memory\n") }
+    ensures done { result.0 ≡ 0 → PutsJoin joined.log (K.state out.old) (K.state out.new) (T.state log_out.old) (T.state log_out.new) }
+    ensures cut { result.0 ≡ 4 → CutsJoin joined.log (K.state out.old) (K.state out.new) (T.state log_out.old) (T.state log_out.new) }
+    ensures memory { result.0 ≡ 8 → Tells (K.state out.old) (K.state out.new) (codes "fault memory\n") }
     ensures statuses { (result.0 ≡ 0) ⊎ ((result.0 ≡ 4) ⊎ (result.0 ≡ 8)) }
-    ensures output { result.0 ≡ 4 → Rose (K.faults out.old) (K.faults out.new) ⊎ Rose (T.faults log_out.old) (T.faults log_out.new) }
+    ensures output { result.0 ≡ 4 → Rose (K.state out.old).faults (K.state out.new).faults ⊎ Rose (T.state log_out.old).faults (T.state log_out.new).faults }
     ensures kept { result.0 ≡ 8 → log_out.new ≡ log_out.old }
-    ensures later { K.faults out.old ≤ K.faults out.new }
-    ensures log_later { T.faults log_out.old ≤ T.faults log_out.new }
+    ensures later { (K.state out.old).faults ≤ (K.state out.new).faults }
+    ensures log_later { (T.state log_out.old).faults ≤ (T.state log_out.new).faults }
 {
     let Ok((lines, framed)) = joined_texts(alloc, joined) else {
         return end_with(out, FAULT_MEMORY, 8);
@@ -98,10 +99,10 @@ pub fn end_joined<K: Sink, T: Sink>(
 
 // Ends a join that met a page which gave no node.
 fn end_damaged<K: Sink>(alloc: Global, fault: PageFault, out: &mut K) -> Status
-    ensures damaged { result.0 ≡ 9 → AppendsPrefix (K.written out.old) (K.written out.new) (damaged_text fault) }
-    ensures memory { result.0 ≡ 8 → AppendsPrefix (K.written out.old) (K.written out.new) (codes "fault memory\n") }
+    ensures damaged { result.0 ≡ 9 → Tells (K.state out.old) (K.state out.new) (damaged_text fault) }
+    ensures memory { result.0 ≡ 8 → Tells (K.state out.old) (K.state out.new) (codes "fault memory\n") }
     ensures statuses { (result.0 ≡ 8) ⊎ (result.0 ≡ 9) }
-    ensures later { K.faults out.old ≤ K.faults out.new }
+    ensures later { (K.state out.old).faults ≤ (K.state out.new).faults }
 {
     match damaged_text(alloc, fault) {
         Ok(text) => end_with(out, &text, 9),
@@ -111,8 +112,8 @@ fn end_damaged<K: Sink>(alloc: Global, fault: PageFault, out: &mut K) -> Status
 
 /// Ends a join that is refused.
 pub fn end_refused<K: Sink>(alloc: Global, fault: JoinFault, out: &mut K) -> Status
-    ensures ends { EndsRefused fault (K.written out.old) (K.written out.new) result.0 }
-    ensures later { K.faults out.old ≤ K.faults out.new }
+    ensures ends { EndsRefused fault (K.state out.old) (K.state out.new) result.0 }
+    ensures later { (K.state out.old).faults ≤ (K.state out.new).faults }
 {
     match fault {
         JoinFault::Memory => end_with(out, FAULT_MEMORY, 8),

@@ -1,8 +1,10 @@
 -- How a job ends, by what was put before.
-use Rattle.std.proofs.Common.{◌≡◌, ◌≢◌, ◌⊎◌, inl, ⊎_elim, ℕ, List, Option, Some, None, refl, sym, subst, ◌∙◌, arith}
+use Rattle.std.proofs.Common.{◌≡◌, ◌≢◌, ◌⊎◌, inl, inr, ⊎_elim, ℕ, List, Option, Some, None, refl, sym, subst, ◌∙◌, arith}
 use Rattle.std.specs.Prelude.{codes, ◌≤◌, IsTrue, [], ◌∷◌}
 use Rattle.outside_io.specs.Bytes.{AppendsPrefix}
 use Rattle.outside_io.specs.Causes.{Rose}
+use Rattle.outside_io.specs.Sinks.{SinkState, Tells}
+use Rattle.std.specs.Io.KnownBytes.{Appends}
 use Rattle.disk_model.specs.Disk.{DiskState, IsUnchanged, MayLeave}
 use Rattle.disk_model.specs.Moments.{started}
 use Rattle.tree_shape.specs.declared.live.Live.{Live}
@@ -19,7 +21,7 @@ use Rattle.log_jobs.specs.Jobs.{Puts, Writes, WritesOn, Stops, IsCut, Judges, fa
 use Rattle.log_jobs.proofs.Putting.{has_put, then_put, stopped_put}
 
 -- all was said
-pub said_all : (said : Saying) (w0 w1 : Option (List ℕ)) (status : ℕ) → (status ≡ 0) ⊎ (status ≡ 1) → status ≡ said.status → Puts said.texts w0 w1 None → Writes status said w0 w1
+pub said_all : (said : Saying) (w0 w1 : SinkState) (status : ℕ) → (status ≡ 0) ⊎ (status ≡ 1) → status ≡ said.status → Puts said.texts w0.written w1.written None → Writes status said w0 w1
 said_all said w0 w1 status either is puts = record {
   put = puts.put;
   more = puts.more;
@@ -38,9 +40,18 @@ said_all said w0 w1 status either is puts = record {
 pub neither : {P : Type 0} (status n : ℕ) → status ≡ n → n ≢ 0 → n ≢ 1 → (status ≡ 0) ⊎ (status ≡ 1) → P
 neither status n is a b either = absurd (⊎_elim (λ e. a (sym is ∙ e)) (λ e. b (sym is ∙ e)) either)
 
+pub rose_before : (a b c : ℕ) → a ≤ b → Rose b c → Rose a c
+rose_before a b c le rose = omega arith
+
+-- a line behind what was put
+tells_from : (w0 w1 w2 : SinkState) (middle : Option (List ℕ)) (line : List ℕ) → w1.written ≡ middle → w0.faults ≤ w1.faults → Tells w1 w2 line → Tells (record w0 { written = middle }) w2 line
+tells_from w0 w1 w2 middle line is later told =
+    ⊎_elim (λ whole. inl (subst (λ (w : Option (List ℕ)). Appends w w2.written line) is whole))
+    (λ cut. inr (subst (λ (w : Option (List ℕ)). AppendsPrefix w w2.written line) is cut.0, rose_before w0.faults w1.faults w2.faults later cut.1)) told
+
 -- it stopped before
-pub said_some : (said : Saying) (w0 w1 w2 : Option (List ℕ)) (status : ℕ) (why : Stop) → Puts said.texts w0 w1 (Some why) → Stops why w1 w2 status → Writes status said w0 w2
-said_some said w0 w1 w2 status stop.Sink puts ends = record {
+pub said_some : (said : Saying) (w0 w1 w2 : SinkState) (status : ℕ) (why : Stop) → w0.faults ≤ w1.faults → Puts said.texts w0.written w1.written (Some why) → Stops why w1 w2 status → Writes status said w0 w2
+said_some said w0 w1 w2 status stop.Sink later puts ends = record {
   put = puts.put;
   more = puts.more;
   middle = puts.middle;
@@ -48,12 +59,12 @@ said_some said w0 w1 w2 status stop.Sink puts ends = record {
   written = puts.written;
   ends = record {
     done = λ either. neither status 4 ends.0 (omega arith) (omega arith) either;
-    output = λ _. subst (λ (w : Option (List ℕ)). IsCut puts.more puts.middle w) (sym ends.1) puts.follows;
+    output = λ _. subst (λ (w : SinkState). IsCut puts.more puts.middle w.written) (sym ends.1) puts.follows;
     disk = λ other. absurd (let no : ⊥ = omega (arith, ends.0, other) in no);
     memory = λ other. absurd (let no : ⊥ = omega (arith, ends.0, other) in no);
   };
 }
-said_some said w0 w1 w2 status stop.Disk puts ends = record {
+said_some said w0 w1 w2 status stop.Disk later puts ends = record {
   put = puts.put;
   more = puts.more;
   middle = puts.middle;
@@ -62,11 +73,11 @@ said_some said w0 w1 w2 status stop.Disk puts ends = record {
   ends = record {
     done = λ either. neither status 5 ends.0 (omega arith) (omega arith) either;
     output = λ other. absurd (let no : ⊥ = omega (arith, ends.0, other) in no);
-    disk = λ _. subst (λ (w : Option (List ℕ)). AppendsPrefix w w2 (codes "fault disk\n")) puts.follows ends.1;
+    disk = λ _. tells_from w0 w1 w2 puts.middle (codes "fault disk\n") puts.follows later ends.1;
     memory = λ other. absurd (let no : ⊥ = omega (arith, ends.0, other) in no);
   };
 }
-said_some said w0 w1 w2 status stop.Memory puts ends = record {
+said_some said w0 w1 w2 status stop.Memory later puts ends = record {
   put = puts.put;
   more = puts.more;
   middle = puts.middle;
@@ -76,7 +87,7 @@ said_some said w0 w1 w2 status stop.Memory puts ends = record {
     done = λ either. neither status 8 ends.0 (omega arith) (omega arith) either;
     output = λ other. absurd (let no : ⊥ = omega (arith, ends.0, other) in no);
     disk = λ other. absurd (let no : ⊥ = omega (arith, ends.0, other) in no);
-    memory = λ _. subst (λ (w : Option (List ℕ)). AppendsPrefix w w2 (codes "fault memory\n")) puts.follows ends.1;
+    memory = λ _. tells_from w0 w1 w2 puts.middle (codes "fault memory\n") puts.follows later ends.1;
   };
 }
 
@@ -102,9 +113,9 @@ file_then o logs text w0 w1 w2 why none is line rest =
 abbrev pub said_of : Report → List ℕ → List ℕ → Head → Live → Saying
 said_of what file bytes head live = saying what (fault_of file head live) (judge_of file head live) (frames_at log_at bytes)
 
-pub says_all : (what : Report) (d0 d1 : DiskState) (bytes : List ℕ) (head : Head) (live : Live) (w0 w1 : Option (List ℕ)) (status : ℕ) → IsUnchanged d0 d1
+pub says_all : (what : Report) (d0 d1 : DiskState) (bytes : List ℕ) (head : Head) (live : Live) (w0 w1 : SinkState) (status : ℕ) → IsUnchanged d0 d1
     → (IsTrue d0.tells → OpensTo d0.bytes head live) → head.version ≡ 2 → (status ≡ 0) ⊎ (status ≡ 1)
-    → (IsTrue d1.tells → Puts (said_of what d1.bytes bytes head live).texts w0 w1 None) → (IsTrue d1.tells → status ≡ (said_of what d1.bytes bytes head live).status)
+    → (IsTrue d1.tells → Puts (said_of what d1.bytes bytes head live).texts w0.written w1.written None) → (IsTrue d1.tells → status ≡ (said_of what d1.bytes bytes head live).status)
     → WritesOn what d0 bytes w0 w1 status
 says_all what d0 d1 bytes head live w0 w1 status same opens version either puts is tells =
     let after : IsTrue d1.tells = subst IsTrue (sym same.same_tells) tells in (
@@ -113,35 +124,32 @@ says_all what d0 d1 bytes head live w0 w1 status same opens version either puts 
       subst (λ (file : List ℕ). Writes status (said_of what file bytes head live) w0 w1) same.same_bytes (said_all (said_of what d1.bytes bytes head live) w0 w1 status either (is after) (puts after)),
     )
 
-pub says_some : (what : Report) (d0 d1 : DiskState) (bytes : List ℕ) (head : Head) (live : Live) (w0 w1 w2 : Option (List ℕ)) (status : ℕ) (why : Stop) → IsUnchanged d0 d1
-    → (IsTrue d0.tells → OpensTo d0.bytes head live) → head.version ≡ 2
-    → (IsTrue d1.tells → Puts (said_of what d1.bytes bytes head live).texts w0 w1 (Some why)) → Stops why w1 w2 status
+pub says_some : (what : Report) (d0 d1 : DiskState) (bytes : List ℕ) (head : Head) (live : Live) (w0 w1 w2 : SinkState) (status : ℕ) (why : Stop) → IsUnchanged d0 d1
+    → (IsTrue d0.tells → OpensTo d0.bytes head live) → head.version ≡ 2 → w0.faults ≤ w1.faults
+    → (IsTrue d1.tells → Puts (said_of what d1.bytes bytes head live).texts w0.written w1.written (Some why)) → Stops why w1 w2 status
     → WritesOn what d0 bytes w0 w2 status
-says_some what d0 d1 bytes head live w0 w1 w2 status why same opens version puts ends tells = (
+says_some what d0 d1 bytes head live w0 w1 w2 status why same opens version later puts ends tells = (
   said_of what d0.bytes bytes head live,
   record { head = head; live = live; opens = opens tells; version = version; said_is = refl },
   subst (λ (file : List ℕ). Writes status (said_of what file bytes head live) w0 w2) same.same_bytes
-      (said_some (said_of what d1.bytes bytes head live) w0 w1 w2 status why (puts (subst IsTrue (sym same.same_tells) tells)) ends),
+      (said_some (said_of what d1.bytes bytes head live) w0 w1 w2 status why later (puts (subst IsTrue (sym same.same_tells) tells)) ends),
 )
 
 -- a stop has one of three statuses
-pub stop_done : {P : Type 0} (why : Stop) (w1 w2 : Option (List ℕ)) (status : ℕ) → Stops why w1 w2 status → (status ≡ 0) ⊎ (status ≡ 1) → P
+pub stop_done : {P : Type 0} (why : Stop) (w1 w2 : SinkState) (status : ℕ) → Stops why w1 w2 status → (status ≡ 0) ⊎ (status ≡ 1) → P
 stop_done stop.Sink w1 w2 status ends either = neither status 4 ends.0 (omega arith) (omega arith) either
 stop_done stop.Disk w1 w2 status ends either = neither status 5 ends.0 (omega arith) (omega arith) either
 stop_done stop.Memory w1 w2 status ends either = neither status 8 ends.0 (omega arith) (omega arith) either
 
-pub stop_six : {P : Type 0} (why : Stop) (w1 w2 : Option (List ℕ)) (status : ℕ) → Stops why w1 w2 status → status ≡ 6 → P
+pub stop_six : {P : Type 0} (why : Stop) (w1 w2 : SinkState) (status : ℕ) → Stops why w1 w2 status → status ≡ 6 → P
 stop_six stop.Sink w1 w2 status ends six = absurd (let no : ⊥ = omega (arith, ends.0, six) in no)
 stop_six stop.Disk w1 w2 status ends six = absurd (let no : ⊥ = omega (arith, ends.0, six) in no)
 stop_six stop.Memory w1 w2 status ends six = absurd (let no : ⊥ = omega (arith, ends.0, six) in no)
 
-pub stop_disk : (why : Stop) (w1 w2 : Option (List ℕ)) (status : ℕ) → Stops why w1 w2 status → status ≡ 5 → why ≡ stop.Disk
+pub stop_disk : (why : Stop) (w1 w2 : SinkState) (status : ℕ) → Stops why w1 w2 status → status ≡ 5 → why ≡ stop.Disk
 stop_disk stop.Sink w1 w2 status ends five = absurd (let no : ⊥ = omega (arith, ends.0, five) in no)
 stop_disk stop.Disk w1 w2 status ends five = refl
 stop_disk stop.Memory w1 w2 status ends five = absurd (let no : ⊥ = omega (arith, ends.0, five) in no)
-
-pub rose_before : (a b c : ℕ) → a ≤ b → Rose b c → Rose a c
-rose_before a b c le rose = omega arith
 
 -- ---- before an index was open
 
@@ -154,7 +162,7 @@ unchanged disk = record {
   time = started disk (MayLeave disk) (λ image left. left);
 }
 
-pub early_memory : (what : Report) (disk : DiskState) (bytes : List ℕ) (w0 w1 : Option (List ℕ)) (status : ℕ) → status ≡ 8 → AppendsPrefix w0 w1 (codes "fault memory\n") → Judges what disk disk bytes w0 w1 status
+pub early_memory : (what : Report) (disk : DiskState) (bytes : List ℕ) (w0 w1 : SinkState) (status : ℕ) → status ≡ 8 → Tells w0 w1 (codes "fault memory\n") → Judges what disk disk bytes w0 w1 status
 early_memory what disk bytes w0 w1 status is line = record {
   unchanged = unchanged disk;
   done = λ either. neither status 8 is (omega arith) (omega arith) either;
@@ -165,7 +173,7 @@ early_memory what disk bytes w0 w1 status is line = record {
 }
 
 -- an index that was not opened
-pub refused : (what : Report) (d0 d1 : DiskState) (bytes : List ℕ) (w0 w1 : Option (List ℕ)) (status : ℕ) → IsUnchanged d0 d1 → Refuses d0 d1 w0 w1 status → Judges what d0 d1 bytes w0 w1 status
+pub refused : (what : Report) (d0 d1 : DiskState) (bytes : List ℕ) (w0 w1 : SinkState) (status : ℕ) → IsUnchanged d0 d1 → Refuses d0 d1 w0 w1 status → Judges what d0 d1 bytes w0 w1 status
 refused what d0 d1 bytes w0 w1 status same refuses = record {
   unchanged = same;
   done = λ either. ⊎_elim (λ five. neither status 5 five (omega arith) (omega arith) either) (λ six. neither status 6 six (omega arith) (omega arith) either) refuses.statuses;

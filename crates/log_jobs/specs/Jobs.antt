@@ -1,9 +1,10 @@
 -- What the jobs on logs do and write, by the status with which they end.
-use Rattle.std.specs.Prelude.{◌≡◌, ◌≢◌, ◌⊎◌, ◌↔◌, ◌^◌, ◌<◌, ℕ, List, [], ◌∷◌, ◌++◌, length, codes, Option, Some, None, Result, Ok, Err, IsTrue}
+use Rattle.std.specs.Prelude.{◌≡◌, ◌≢◌, ◌⊎◌, ◌↔◌, ◌^◌, ◌<◌, ◌≤◌, ◌+◌, ℕ, List, [], ◌∷◌, ◌++◌, length, codes, Option, Some, None, Result, Ok, Err, IsTrue}
 use Rattle.std.specs.List.{concat}
 use Rattle.std.specs.Io.KnownBytes.{Appends, Consumes, IsAtEnd}
 use Rattle.outside_io.specs.Bytes.{AppendsPrefix}
 use Rattle.outside_io.specs.Causes.{Rose}
+use Rattle.outside_io.specs.Sinks.{SinkState, Tells}
 use Rattle.disk_model.specs.Disk.{DiskState, IsUnchanged}
 use Rattle.metric_laws.specs.Space.{Space}
 use Rattle.metric_mix.specs.MixSpaces.{mix_space}
@@ -77,40 +78,40 @@ pub record Puts (texts : List (List ℕ)) (old new : Option (List ℕ)) (why : O
 -- ---- by status
 
 -- what a stop puts, and its status
-abbrev pub Stops : Stop → Option (List ℕ) → Option (List ℕ) → ℕ → Type 0
+abbrev pub Stops : Stop → SinkState → SinkState → ℕ → Type 0
 Stops stop.Sink old new status = (status ≡ 4) × (new ≡ old)
-Stops stop.Disk old new status = (status ≡ 5) × AppendsPrefix old new (codes "fault disk\n")
-Stops stop.Memory old new status = (status ≡ 8) × AppendsPrefix old new (codes "fault memory\n")
+Stops stop.Disk old new status = (status ≡ 5) × Tells old new (codes "fault disk\n")
+Stops stop.Memory old new status = (status ≡ 8) × Tells old new (codes "fault memory\n")
 
 -- what was put behind whole texts, where `more` are the others, when a job ends with a status
-pub record Ends (status : ℕ) (said : Saying) (more : List (List ℕ)) (middle new : Option (List ℕ)) : Type 0 where
-  pub done : (status ≡ 0) ⊎ (status ≡ 1) → (status ≡ said.status) × (more ≡ []) × (new ≡ middle)
-  pub output : status ≡ 4 → IsCut more middle new
-  pub disk : status ≡ 5 → AppendsPrefix middle new (codes "fault disk\n")
-  pub memory : status ≡ 8 → AppendsPrefix middle new (codes "fault memory\n")
+pub record Ends (status : ℕ) (said : Saying) (more : List (List ℕ)) (middle new : SinkState) : Type 0 where
+  pub done : (status ≡ 0) ⊎ (status ≡ 1) → (status ≡ said.status) × (more ≡ []) × (new.written ≡ middle.written)
+  pub output : status ≡ 4 → IsCut more middle.written new.written
+  pub disk : status ≡ 5 → Tells middle new (codes "fault disk\n")
+  pub memory : status ≡ 8 → Tells middle new (codes "fault memory\n")
 
 -- some of the texts of what is said were put, each whole, and then what the status tells
-pub record Writes (status : ℕ) (said : Saying) (old new : Option (List ℕ)) : Type 0 where
+pub record Writes (status : ℕ) (said : Saying) (old new : SinkState) : Type 0 where
   pub put : List (List ℕ)
   pub more : List (List ℕ)
   pub middle : Option (List ℕ)
   pub whole : said.texts ≡ put ++ more
-  pub written : Appends old middle (concat put)
-  pub ends : Ends status said more middle new
+  pub written : Appends old.written middle (concat put)
+  pub ends : Ends status said more (record old { written = middle }) new
 
 -- where the disk tells its bytes, a job said what there is to say of them
-abbrev pub WritesOn : Report → DiskState → List ℕ → Option (List ℕ) → Option (List ℕ) → ℕ → Type 0
+abbrev pub WritesOn : Report → DiskState → List ℕ → SinkState → SinkState → ℕ → Type 0
 WritesOn what disk bytes old new status = IsTrue disk.tells → (said : Saying) × Says what disk.bytes bytes said × Writes status said old new
 
 -- what a job does with an index and the bytes of its logs
-pub record Judges (what : Report) (disk0 disk1 : DiskState) (bytes : List ℕ) (out0 out1 : Option (List ℕ)) (status : ℕ) : Type 0 where
+pub record Judges (what : Report) (disk0 disk1 : DiskState) (bytes : List ℕ) (out0 out1 : SinkState) (status : ℕ) : Type 0 where
   pub unchanged : IsUnchanged disk0 disk1
   pub done : (status ≡ 0) ⊎ (status ≡ 1) → WritesOn what disk0 bytes out0 out1 status
   pub output : status ≡ 4 → WritesOn what disk0 bytes out0 out1 status
   -- the disk failed, before the index was open or later
-  pub disk : status ≡ 5 → Rose disk0.faults disk1.faults × (AppendsPrefix out0 out1 (codes "fault disk\n") ⊎ WritesOn what disk0 bytes out0 out1 status)
-  pub not_index : status ≡ 6 → (name : List ℕ) × AppendsPrefix out0 out1 (not_index_text name) × (IsTrue disk0.tells → IsNoIndex disk0.bytes name)
-  pub memory : status ≡ 8 → AppendsPrefix out0 out1 (codes "fault memory\n") ⊎ WritesOn what disk0 bytes out0 out1 status
+  pub disk : status ≡ 5 → Rose disk0.faults disk1.faults × (Tells out0 out1 (codes "fault disk\n") ⊎ WritesOn what disk0 bytes out0 out1 status)
+  pub not_index : status ≡ 6 → (name : List ℕ) × Tells out0 out1 (not_index_text name) × (IsTrue disk0.tells → IsNoIndex disk0.bytes name)
+  pub memory : status ≡ 8 → Tells out0 out1 (codes "fault memory\n") ⊎ WritesOn what disk0 bytes out0 out1 status
 
 -- a job ends so and in no other way once it has read its logs
 abbrev pub IsJudgeStatus : ℕ → Type 0
@@ -119,16 +120,17 @@ IsJudgeStatus n = (n ≡ 0) ⊎ ((n ≡ 1) ⊎ ((n ≡ 4) ⊎ ((n ≡ 5) ⊎ ((n
 -- ---- the logs are read first
 
 -- what a job does that takes bytes of logs from `left0`
-pub record JudgesLogs (what : Report) (disk0 disk1 : DiskState) (left0 left1 out0 out1 : Option (List ℕ)) (status : ℕ) : Type 0 where
+pub record JudgesLogs (what : Report) (disk0 disk1 : DiskState) (left0 left1 : Option (List ℕ)) (out0 out1 : SinkState) (status : ℕ) : Type 0 where
   pub bytes : List ℕ
   pub taken : Consumes left0 left1 bytes
-  -- too many are told exactly where more than 2 ^ 30 were taken
+  -- at most 2 ^ 30 and a buffer more were taken, and too many are told exactly where more than 2 ^ 30 were
+  pub few : length bytes ≤ 2 ^ 30 + 4096
   pub long : (status ≡ 7) ↔ (2 ^ 30 < length bytes)
   pub all : status ≢ 3 → status ≢ 7 → status ≢ 8 → IsAtEnd left1
   pub judges : status ≢ 3 → status ≢ 7 → Judges what disk0 disk1 bytes out0 out1 status
   pub unchanged : IsUnchanged disk0 disk1
-  pub input_line : status ≡ 3 → AppendsPrefix out0 out1 (codes "fault input\n")
-  pub long_line : status ≡ 7 → AppendsPrefix out0 out1 (codes "fault long\n")
+  pub input_line : status ≡ 3 → Tells out0 out1 (codes "fault input\n")
+  pub long_line : status ≡ 7 → Tells out0 out1 (codes "fault long\n")
 
 abbrev pub IsLogStatus : ℕ → Type 0
 IsLogStatus n = (n ≡ 3) ⊎ ((n ≡ 7) ⊎ IsJudgeStatus n)

@@ -18,8 +18,8 @@ const MOST_LOGS: u64 = 1 << 30;
 
 // Ends a job that stopped.
 fn end_stopped<K: Sink>(why: Stop, out: &mut K) -> Status
-    ensures ends { Stops why (K.written out.old) (K.written out.new) result.0 }
-    ensures later { K.faults out.old ≤ K.faults out.new }
+    ensures ends { Stops why (K.state out.old) (K.state out.new) result.0 }
+    ensures later { (K.state out.old).faults ≤ (K.state out.new).faults }
 {
     match why {
         Stop::Sink => Status(4),
@@ -36,10 +36,10 @@ fn judge_index<D: Disk, K: Sink>(
     bytes: &[u8],
     out: &mut K,
 ) -> Status
-    ensures judges { Judges report (D.state index.old) (D.state index.new) bytes.now (K.written out.old) (K.written out.new) result.0 }
+    ensures judges { Judges report (D.state index.old) (D.state index.new) bytes.now (K.state out.old) (K.state out.new) result.0 }
     ensures statuses { IsJudgeStatus result.0 }
-    ensures output { result.0 ≡ 4 → Rose (K.faults out.old) (K.faults out.new) }
-    ensures later { K.faults out.old ≤ K.faults out.new }
+    ensures output { result.0 ≡ 4 → Rose (K.state out.old).faults (K.state out.new).faults }
+    ensures later { (K.state out.old).faults ≤ (K.state out.new).faults }
 {
     let opened = match open_index(index, out) {
         Ok(opened) => opened,
@@ -59,11 +59,11 @@ fn judge_logs<D: Disk, S: Source, K: Sink>(
     log_in: &mut S,
     out: &mut K,
 ) -> Status
-    ensures judges { JudgesLogs report (D.state index.old) (D.state index.new) (S.left log_in.old) (S.left log_in.new) (K.written out.old) (K.written out.new) result.0 }
+    ensures judges { JudgesLogs report (D.state index.old) (D.state index.new) (S.left log_in.old) (S.left log_in.new) (K.state out.old) (K.state out.new) result.0 }
     ensures statuses { IsLogStatus result.0 }
     ensures input { result.0 ≡ 3 → Rose (S.faults log_in.old) (S.faults log_in.new) }
-    ensures output { result.0 ≡ 4 → Rose (K.faults out.old) (K.faults out.new) }
-    ensures counts { (S.faults log_in.old ≤ S.faults log_in.new) × (K.faults out.old ≤ K.faults out.new) }
+    ensures output { result.0 ≡ 4 → Rose (K.state out.old).faults (K.state out.new).faults }
+    ensures counts { (S.faults log_in.old ≤ S.faults log_in.new) × ((K.state out.old).faults ≤ (K.state out.new).faults) }
 {
     match read_all(alloc, log_in, MOST_LOGS) {
         Ok(bytes) => judge_index(alloc, report, index, &bytes, out),
@@ -83,11 +83,11 @@ pub fn verify_logs<D: Disk, S: Source, K: Sink>(
     log_in: &mut S,
     out: &mut K,
 ) -> Status
-    ensures judges { JudgesLogs Report.Verdicts (D.state index.old) (D.state index.new) (S.left log_in.old) (S.left log_in.new) (K.written out.old) (K.written out.new) result.0 }
+    ensures judges { JudgesLogs Report.Verdicts (D.state index.old) (D.state index.new) (S.left log_in.old) (S.left log_in.new) (K.state out.old) (K.state out.new) result.0 }
     ensures statuses { IsLogStatus result.0 }
     ensures input { result.0 ≡ 3 → Rose (S.faults log_in.old) (S.faults log_in.new) }
-    ensures output { result.0 ≡ 4 → Rose (K.faults out.old) (K.faults out.new) }
-    ensures counts { (S.faults log_in.old ≤ S.faults log_in.new) × (K.faults out.old ≤ K.faults out.new) }
+    ensures output { result.0 ≡ 4 → Rose (K.state out.old).faults (K.state out.new).faults }
+    ensures counts { (S.faults log_in.old ≤ S.faults log_in.new) × ((K.state out.old).faults ≤ (K.state out.new).faults) }
 {
     judge_logs(alloc, Report::Verdicts, index, log_in, out)
 }
@@ -101,13 +101,13 @@ pub fn check_logs<D: Disk, S: Source, K: Sink>(
     log_in: &mut S,
     out: &mut K,
 ) -> Status
-    ensures judges { JudgesLogs Report.Answers (D.state index.old) (D.state index.new) (S.left log_in.old) (S.left log_in.new) (K.written out.old) (K.written out.new) result.0 }
+    ensures judges { JudgesLogs Report.Answers (D.state index.old) (D.state index.new) (S.left log_in.old) (S.left log_in.new) (K.state out.old) (K.state out.new) result.0 }
     // A log that is written complete is sound on a sound file, and its answers are those of the plain scan.
     ensures complete { FaultlessIsComplete (D.state index.old).bytes }
     ensures statuses { IsLogStatus result.0 }
     ensures input { result.0 ≡ 3 → Rose (S.faults log_in.old) (S.faults log_in.new) }
-    ensures output { result.0 ≡ 4 → Rose (K.faults out.old) (K.faults out.new) }
-    ensures counts { (S.faults log_in.old ≤ S.faults log_in.new) × (K.faults out.old ≤ K.faults out.new) }
+    ensures output { result.0 ≡ 4 → Rose (K.state out.old).faults (K.state out.new).faults }
+    ensures counts { (S.faults log_in.old ≤ S.faults log_in.new) × ((K.state out.old).faults ≤ (K.state out.new).faults) }
 {
     faultless_is_complete();
     judge_logs(alloc, Report::Answers, index, log_in, out)

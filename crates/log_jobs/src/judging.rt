@@ -36,9 +36,9 @@ pub struct Court<M: Metric> {
 
 /// Puts a text.
 pub fn put<K: Sink>(out: &mut K, text: &[u8]) -> Result<(), Stop>
-    ensures puts { Puts (text.now ∷ []) (K.written out.old) (K.written out.new) (stop_of result) }
-    ensures later { K.faults out.old ≤ K.faults out.new }
-    ensures output { IsErrOf result Stop.Sink → Rose (K.faults out.old) (K.faults out.new) }
+    ensures puts { Puts (text.now ∷ []) (K.state out.old).written (K.state out.new).written (stop_of result) }
+    ensures later { (K.state out.old).faults ≤ (K.state out.new).faults }
+    ensures output { IsErrOf result Stop.Sink → Rose (K.state out.old).faults (K.state out.new).faults }
     ensures not_disk { IsErrOf result Stop.Disk → ⊥ }
 {
     match out.put(text) {
@@ -83,10 +83,10 @@ fn judge_frame<M: Metric, P: Pages, K: Sink>(
     ensures same { HoldsSame (P.shelf pages.old) (P.shelf pages.new) }
     ensures keeps { P.keeps pages.old pages.new }
     ensures puts { IsTrue (P.shelf pages.old).tells →
-        Puts (frame_text court.now.report frame log (log_fault (M.space court.now.metric) (P.shelf pages.old).read court.now.live log) ∷ []) (K.written out.old) (K.written out.new) (stop_of result) }
+        Puts (frame_text court.now.report frame log (log_fault (M.space court.now.metric) (P.shelf pages.old).read court.now.live log) ∷ []) (K.state out.old).written (K.state out.new).written (stop_of result) }
     ensures sound { IfOk result (λ sound. IsTrue (P.shelf pages.old).tells → sound ≡ is_none (log_fault (M.space court.now.metric) (P.shelf pages.old).read court.now.live log)) }
-    ensures later { K.faults out.old ≤ K.faults out.new }
-    ensures output { IsErrOf result Stop.Sink → Rose (K.faults out.old) (K.faults out.new) }
+    ensures later { (K.state out.old).faults ≤ (K.state out.new).faults }
+    ensures output { IsErrOf result Stop.Sink → Rose (K.state out.old).faults (K.state out.new).faults }
     ensures disk { IsErrOf result Stop.Disk → Rose (P.shelf pages.old).faults (P.shelf pages.new).faults }
 {
     let fault = judge(alloc, court, pages, &log)?;
@@ -107,11 +107,11 @@ fn judge_frames<M: Metric, P: Pages, K: Sink>(
     ensures same { HoldsSame (P.shelf pages.old) (P.shelf pages.new) }
     ensures keeps { P.keeps pages.old pages.new }
     ensures puts { IsTrue (P.shelf pages.old).tells →
-        Puts (frame_texts court.now.report (log_fault (M.space court.now.metric) (P.shelf pages.old).read court.now.live) 0 logs.items) (K.written out.old) (K.written out.new) (stop_of result) }
+        Puts (frame_texts court.now.report (log_fault (M.space court.now.metric) (P.shelf pages.old).read court.now.live) 0 logs.items) (K.state out.old).written (K.state out.new).written (stop_of result) }
     ensures sound { IfOk result (λ sound. IsTrue (P.shelf pages.old).tells →
         sound ≡ are_sound (log_fault (M.space court.now.metric) (P.shelf pages.old).read court.now.live) logs.items) }
-    ensures later { K.faults out.old ≤ K.faults out.new }
-    ensures output { IsErrOf result Stop.Sink → Rose (K.faults out.old) (K.faults out.new) }
+    ensures later { (K.state out.old).faults ≤ (K.state out.new).faults }
+    ensures output { IsErrOf result Stop.Sink → Rose (K.state out.old).faults (K.state out.new).faults }
     ensures disk { IsErrOf result Stop.Disk → Rose (P.shelf pages.old).faults (P.shelf pages.new).faults }
 {
     let mut frame = 0;
@@ -135,12 +135,12 @@ pub fn judge_bytes<M: Metric, P: Pages, K: Sink>(
     ensures same { HoldsSame (P.shelf pages.old) (P.shelf pages.new) }
     ensures keeps { P.keeps pages.old pages.new }
     ensures puts { IsTrue (P.shelf pages.old).tells →
-        Puts (on_logs court.now.report (log_fault (M.space court.now.metric) (P.shelf pages.old).read court.now.live) (frames_at log_at bytes.now)).texts (K.written out.old) (K.written out.new) (stop_of result) }
+        Puts (on_logs court.now.report (log_fault (M.space court.now.metric) (P.shelf pages.old).read court.now.live) (frames_at log_at bytes.now)).texts (K.state out.old).written (K.state out.new).written (stop_of result) }
     ensures status { IfOk result (λ status. IsTrue (P.shelf pages.old).tells →
         status.0 ≡ (on_logs court.now.report (log_fault (M.space court.now.metric) (P.shelf pages.old).read court.now.live) (frames_at log_at bytes.now)).status) }
     ensures statuses { IfOk result (λ status. (status.0 ≡ 0) ⊎ (status.0 ≡ 1)) }
-    ensures later { K.faults out.old ≤ K.faults out.new }
-    ensures output { IsErrOf result Stop.Sink → Rose (K.faults out.old) (K.faults out.new) }
+    ensures later { (K.state out.old).faults ≤ (K.state out.new).faults }
+    ensures output { IsErrOf result Stop.Sink → Rose (K.state out.old).faults (K.state out.new).faults }
     ensures disk { IsErrOf result Stop.Disk → Rose (P.shelf pages.old).faults (P.shelf pages.new).faults }
 {
     let logs = match decode_frames(alloc, bytes) {

@@ -56,12 +56,12 @@ fn judge_opened<D: Disk, K: Sink>(
     requires pages { opened.now.1.pages ≤ 2 ^ 24 }
     ensures same { IsUnchanged (D.state index.old) (D.state index.new) }
     ensures puts { IsTrue (D.state index.old).tells →
-        Puts (on_logs report (judge_of (D.state index.old).bytes opened.now.0 opened.now.1) (frames_at log_at bytes.now)).texts (K.written out.old) (K.written out.new) (stop_of result) }
+        Puts (on_logs report (judge_of (D.state index.old).bytes opened.now.0 opened.now.1) (frames_at log_at bytes.now)).texts (K.state out.old).written (K.state out.new).written (stop_of result) }
     ensures status { IfOk result (λ status. IsTrue (D.state index.old).tells →
         status.0 ≡ (on_logs report (judge_of (D.state index.old).bytes opened.now.0 opened.now.1) (frames_at log_at bytes.now)).status) }
     ensures statuses { IfOk result (λ status. (status.0 ≡ 0) ⊎ (status.0 ≡ 1)) }
-    ensures later { K.faults out.old ≤ K.faults out.new }
-    ensures output { IsErrOf result Stop.Sink → Rose (K.faults out.old) (K.faults out.new) }
+    ensures later { (K.state out.old).faults ≤ (K.state out.new).faults }
+    ensures output { IsErrOf result Stop.Sink → Rose (K.state out.old).faults (K.state out.new).faults }
     ensures disk { IsErrOf result Stop.Disk → Rose (D.state index.old).faults (D.state index.new).faults }
 {
     let (head, live) = opened;
@@ -86,12 +86,12 @@ fn check_opened<D: Disk, K: Sink>(
     requires pages { opened.now.1.pages ≤ 2 ^ 24 }
     ensures same { IsUnchanged (D.state index.old) (D.state index.new) }
     ensures puts { IsTrue (D.state index.old).tells →
-        Puts (saying Report.Answers (fault_of (D.state index.old).bytes opened.now.0 opened.now.1) (judge_of (D.state index.old).bytes opened.now.0 opened.now.1) (frames_at log_at bytes.now)).texts (K.written out.old) (K.written out.new) (stop_of result) }
+        Puts (saying Report.Answers (fault_of (D.state index.old).bytes opened.now.0 opened.now.1) (judge_of (D.state index.old).bytes opened.now.0 opened.now.1) (frames_at log_at bytes.now)).texts (K.state out.old).written (K.state out.new).written (stop_of result) }
     ensures status { IfOk result (λ status. IsTrue (D.state index.old).tells →
         status.0 ≡ (saying Report.Answers (fault_of (D.state index.old).bytes opened.now.0 opened.now.1) (judge_of (D.state index.old).bytes opened.now.0 opened.now.1) (frames_at log_at bytes.now)).status) }
     ensures statuses { IfOk result (λ status. (status.0 ≡ 0) ⊎ (status.0 ≡ 1)) }
-    ensures later { K.faults out.old ≤ K.faults out.new }
-    ensures output { IsErrOf result Stop.Sink → Rose (K.faults out.old) (K.faults out.new) }
+    ensures later { (K.state out.old).faults ≤ (K.state out.new).faults }
+    ensures output { IsErrOf result Stop.Sink → Rose (K.state out.old).faults (K.state out.new).faults }
     ensures disk { IsErrOf result Stop.Disk → Rose (D.state index.old).faults (D.state index.new).faults }
 {
     let fault = audit_file(alloc, index, &opened.0, &opened.1)?;
@@ -116,12 +116,12 @@ pub fn report_on<D: Disk, K: Sink>(
     requires pages { opened.now.1.pages ≤ 2 ^ 24 }
     ensures same { IsUnchanged (D.state index.old) (D.state index.new) }
     ensures puts { IsTrue (D.state index.old).tells →
-        Puts (saying report (fault_of (D.state index.old).bytes opened.now.0 opened.now.1) (judge_of (D.state index.old).bytes opened.now.0 opened.now.1) (frames_at log_at bytes.now)).texts (K.written out.old) (K.written out.new) (stop_of result) }
+        Puts (saying report (fault_of (D.state index.old).bytes opened.now.0 opened.now.1) (judge_of (D.state index.old).bytes opened.now.0 opened.now.1) (frames_at log_at bytes.now)).texts (K.state out.old).written (K.state out.new).written (stop_of result) }
     ensures status { IfOk result (λ status. IsTrue (D.state index.old).tells →
         status.0 ≡ (saying report (fault_of (D.state index.old).bytes opened.now.0 opened.now.1) (judge_of (D.state index.old).bytes opened.now.0 opened.now.1) (frames_at log_at bytes.now)).status) }
     ensures statuses { IfOk result (λ status. (status.0 ≡ 0) ⊎ (status.0 ≡ 1)) }
-    ensures later { K.faults out.old ≤ K.faults out.new }
-    ensures output { IsErrOf result Stop.Sink → Rose (K.faults out.old) (K.faults out.new) }
+    ensures later { (K.state out.old).faults ≤ (K.state out.new).faults }
+    ensures output { IsErrOf result Stop.Sink → Rose (K.state out.old).faults (K.state out.new).faults }
     ensures disk { IsErrOf result Stop.Disk → Rose (D.state index.old).faults (D.state index.new).faults }
 {
     match report {

@@ -1,2 +1,3 @@
 mod ProgramLemmas
 mod TaskLemmas
+mod FileLemmas

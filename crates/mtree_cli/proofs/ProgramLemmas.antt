@@ -1,11 +1,13 @@
 -- What a run writes, by its status.
-use Rattle.std.proofs.Common.{◌≡◌, ℕ, List, [], ◌++◌, Option, Some, None, Err, refl, sym, ◌∙◌, ap, subst, arith}
+use Rattle.std.proofs.Common.{◌≡◌, ◌⊎◌, inl, inr, ⊎_elim, ◌≤◌, ℕ, List, [], ◌++◌, Option, Some, None, Err, refl, sym, ◌∙◌, ap, subst, arith}
 use Rattle.std.specs.Prelude.{codes, IfSome}
 use Rattle.std.specs.List.{concat}
-use Rattle.std.specs.Io.KnownBytes.{Consumes, IsAtEnd}
-use Rattle.std.proofs.KnownBytes.{Appends-nil, Consumes-all}
+use Rattle.std.specs.Io.KnownBytes.{Appends, Consumes, IsAtEnd}
+use Rattle.std.proofs.KnownBytes.{Appends-nil, Appends-trans, Consumes-all}
 use Rattle.std.proofs.lemmas.List.{append-nil}
 use Rattle.outside_io.specs.Bytes.{AppendsPrefix}
+use Rattle.outside_io.specs.Causes.{Rose}
+use Rattle.outside_io.specs.Sinks.{SinkState, Tells}
 use Rattle.job_words.specs.Names.{kind_of}
 use Rattle.job_words.specs.declared.job.Job.{Job}
 use Rattle.job_words.specs.declared.job.Job.TheVariants as job
@@ -14,7 +16,7 @@ use Rattle.plain_scan.specs.declared.session.Stop.TheVariants as stop
 use Rattle.plain_scan.specs.Written.{IsFrontOf, Writes, reply_texts}
 use Rattle.plain_scan.proofs.WrittenLemmas.{front_appended}
 use Rattle.rows_text.specs.Script.{script}
-use Rattle.mtree_cli.specs.Run.{Asked, IsScan, WritesScan, Ends, scan_texts}
+use Rattle.mtree_cli.specs.Run.{Asked, IsScan, WritesScan, Ends, IsTold, scan_texts}
 
 -- words ask for one scan
 
@@ -42,50 +44,63 @@ read_whole old new bs took end = Consumes-all old new bs [] bs took end refl
 
 -- faults
 
-pub fault_writes : (w0 w1 : Option (List ℕ)) (texts : List (List ℕ)) (status : ℕ) (line : List ℕ) → AppendsPrefix w0 w1 line →
-    ((front : List ℕ) → IsFrontOf front line → Ends status [] texts front) → WritesScan w0 w1 texts status
-fault_writes w0 w1 texts status line some ends =
-    let part = front_appended w0 w0 w1 [] line (Appends-nil w0) some in
+-- a line behind what was put
+told_appended : (w0 w1 w2 : Option (List ℕ)) (Failed : Type 0) (bs line : List ℕ) → Appends w0 w1 bs → Appends w1 w2 line ⊎ (AppendsPrefix w1 w2 line × Failed)
+    → (rest : List ℕ) × IsTold Failed rest line × Appends w0 w2 (bs ++ rest)
+told_appended w0 w1 w2 Failed bs line is (inl whole) = (line, inl refl, Appends-trans w0 w1 w2 bs line is whole)
+told_appended w0 w1 w2 Failed bs line is (inr cut) = let part = front_appended w0 w1 w2 bs line is cut.0 in (part.0, inr (part.1, cut.1), part.2)
+
+pub fault_writes : (w0 w1 : SinkState) (texts : List (List ℕ)) (status : ℕ) (line : List ℕ) → Tells w0 w1 line →
+    ((rest : List ℕ) → IsTold (Rose w0.faults w1.faults) rest line → Ends (Rose w0.faults w1.faults) status [] texts rest) → WritesScan w0 w1 texts status
+fault_writes w0 w1 texts status line told ends =
+    let part = told_appended w0.written w0.written w1.written (Rose w0.faults w1.faults) [] line (Appends-nil w0.written) told in
     record { acknowledged = []; more = texts; rest = part.0; whole = refl; ends = ends part.0 part.1; written = part.2 }
 
-pub input_ends : (status : ℕ) (texts : List (List ℕ)) (front : List ℕ) → status ≡ 3 → IsFrontOf front (codes "fault input\n") → Ends status [] texts front
-input_ends status texts front is line = record {
-  done = λ other. absurd (omega arith);
-  input = λ _. (refl, line);
-  output = λ other. absurd (omega arith);
-  long = λ other. absurd (omega arith);
-  memory = λ other. absurd (omega arith);
-}
+module _ (Failed : Type 0) where
+  pub input_ends : (status : ℕ) (texts : List (List ℕ)) (rest : List ℕ) → status ≡ 3 → IsTold Failed rest (codes "fault input\n") → Ends Failed status [] texts rest
+  input_ends status texts rest is line = record {
+    done = λ other. absurd (omega arith);
+    input = λ _. (refl, line);
+    output = λ other. absurd (omega arith);
+    long = λ other. absurd (omega arith);
+    memory = λ other. absurd (omega arith);
+  }
 
-pub long_ends : (status : ℕ) (texts : List (List ℕ)) (front : List ℕ) → status ≡ 7 → IsFrontOf front (codes "fault long\n") → Ends status [] texts front
-long_ends status texts front is line = record {
-  done = λ other. absurd (omega arith);
-  input = λ other. absurd (omega arith);
-  output = λ other. absurd (omega arith);
-  long = λ _. (refl, line);
-  memory = λ other. absurd (omega arith);
-}
+  pub long_ends : (status : ℕ) (texts : List (List ℕ)) (rest : List ℕ) → status ≡ 7 → IsTold Failed rest (codes "fault long\n") → Ends Failed status [] texts rest
+  long_ends status texts rest is line = record {
+    done = λ other. absurd (omega arith);
+    input = λ other. absurd (omega arith);
+    output = λ other. absurd (omega arith);
+    long = λ _. (refl, line);
+    memory = λ other. absurd (omega arith);
+  }
 
-pub memory_ends : (status : ℕ) (acknowledged texts : List (List ℕ)) (front : List ℕ) → status ≡ 8 → IsFrontOf front (codes "fault memory\n") →
-    Ends status acknowledged texts front
-memory_ends status acknowledged texts front is line = record {
-  done = λ other. absurd (omega arith);
-  input = λ other. absurd (omega arith);
-  output = λ other. absurd (omega arith);
-  long = λ other. absurd (omega arith);
-  memory = λ _. line;
-}
+  pub memory_ends : (status : ℕ) (acknowledged texts : List (List ℕ)) (rest : List ℕ) → status ≡ 8 → IsTold Failed rest (codes "fault memory\n") →
+      Ends Failed status acknowledged texts rest
+  memory_ends status acknowledged texts rest is line = record {
+    done = λ other. absurd (omega arith);
+    input = λ other. absurd (omega arith);
+    output = λ other. absurd (omega arith);
+    long = λ other. absurd (omega arith);
+    memory = λ _. line;
+  }
+
+rose_before : (a b c : ℕ) → a ≤ b → Rose b c → Rose a c
+rose_before a b c le rose = omega arith
 
 -- the line of want of memory after some replies
-pub stopped : (w0 w1 w2 : Option (List ℕ)) (texts : List (List ℕ)) (status : ℕ) → status ≡ 8 →
-    Writes w0 w1 texts (Err stop.Memory) → AppendsPrefix w1 w2 (codes "fault memory\n") → WritesScan w0 w2 texts status
-stopped w0 w1 w2 texts status is wrote line =
+pub stopped : (w0 w1 w2 : SinkState) (texts : List (List ℕ)) (status : ℕ) → status ≡ 8 → w0.faults ≤ w1.faults →
+    Writes w0.written w1.written texts (Err stop.Memory) → Tells w1 w2 (codes "fault memory\n") → WritesScan w0 w2 texts status
+stopped w0 w1 w2 texts status is later wrote line =
+    let Failed : Type 0 = Rose w0.faults w2.faults in
+    let told : Appends w1.written w2.written (codes "fault memory\n") ⊎ (AppendsPrefix w1.written w2.written (codes "fault memory\n") × Failed) =
+    ⊎_elim (λ whole. inl whole) (λ cut. inr (cut.0, rose_before w0.faults w1.faults w2.faults later cut.1)) line in
     let nothing : concat wrote.acknowledged ++ wrote.rest ≡ concat wrote.acknowledged = ap (λ (l : List ℕ). concat wrote.acknowledged ++ l) wrote.follows ∙ append-nil (concat wrote.acknowledged) in
-    let part = front_appended w0 w1 w2 (concat wrote.acknowledged) (codes "fault memory\n") (rw nothing at wrote.written) line in
-    record { acknowledged = wrote.acknowledged; more = wrote.more; rest = part.0; whole = wrote.whole; ends = memory_ends status wrote.acknowledged wrote.more part.0 is part.1; written = part.2 }
+    let part = told_appended w0.written w1.written w2.written Failed (concat wrote.acknowledged) (codes "fault memory\n") (rw nothing at wrote.written) told in
+    record { acknowledged = wrote.acknowledged; more = wrote.more; rest = part.0; whole = wrote.whole; ends = memory_ends Failed status wrote.acknowledged wrote.more part.0 is part.1; written = part.2 }
 
 -- the scan that the words ask for
-pub same_scan : (w0 w1 : Option (List ℕ)) (a b : Asked) (kind dim : ℕ) (xs ys : List ℕ) (status : ℕ) → a ≡ b → kind ≡ kind_of a.space.metric → dim ≡ a.space.dim → xs ≡ ys →
+pub same_scan : (w0 w1 : SinkState) (a b : Asked) (kind dim : ℕ) (xs ys : List ℕ) (status : ℕ) → a ≡ b → kind ≡ kind_of a.space.metric → dim ≡ a.space.dim → xs ≡ ys →
     WritesScan w0 w1 (reply_texts (record { space = mix_space kind dim; limit = a.limit }) a.show (script a.space.dim xs)) status → WritesScan w0 w1 (scan_texts b ys) status
 same_scan w0 w1 a b kind dim xs ys status same kinds dims bytes wrote =
     let P : List (List ℕ) → Type 0 = λ texts. WritesScan w0 w1 texts status in

@@ -1,9 +1,10 @@
 -- What stands of each task where a run met want of memory before it began.
-use Rattle.std.proofs.Common.{◌≡◌, ◌≢◌, ◌⊎◌, inl, inr, ⊎_elim, ℕ, ◌≤◌, ◌%◌, ◌<◌, length, List, [], Option, Some, Bool, true, IsTrue, refl, sym, ◌∙◌, ap, subst, arith}
+use Rattle.std.proofs.Common.{◌≡◌, ◌≢◌, ◌⊎◌, inl, inr, ⊎_elim, ℕ, ◌≤◌, ◌%◌, ◌<◌, ◌+◌, ◌^◌, length, List, [], Option, Some, Bool, true, IsTrue, refl, sym, ◌∙◌, ap, subst, arith}
 use Rattle.std.specs.Prelude.{codes, ◌↔◌}
 use Rattle.std.specs.Io.KnownBytes.{Consumes}
 use Rattle.std.proofs.KnownBytes.{Consumes-nil}
-use Rattle.outside_io.specs.Bytes.{AppendsPrefix}
+use Rattle.outside_io.specs.Bytes.{TakesUpTo}
+use Rattle.outside_io.specs.Sinks.{SinkState, Tells}
 use Rattle.outside_io.specs.Causes.{Rose}
 use Rattle.disk_model.specs.Disk.{DiskState, IsUnchanged, MayLeave}
 use Rattle.disk_model.specs.Moments.{started}
@@ -24,7 +25,7 @@ use Rattle.log_jobs.specs.declared.report.Report.{Report}
 use Rattle.log_jobs.specs.Jobs.{JudgesLogs}
 use Rattle.join_jobs.specs.declared.report.Report.{Report as JoinReport}
 use Rattle.join_jobs.specs.Jobs.{Joins, JudgesLogs as JudgesJoinLogs}
-use Rattle.mtree_cli.specs.Run.{Task, Scene, Does, IsStatusOf, TakesTooMuch, scan_texts}
+use Rattle.mtree_cli.specs.Run.{Task, Scene, Does, IsStatusOf, TakesWithin, scan_texts}
 use Rattle.mtree_cli.specs.Run.Task.{Scans, Makes, Judges, Reports, JoinsWithin, ReportsJoins, Nothing}
 use Rattle.mtree_cli.proofs.ProgramLemmas.{always, fault_writes, memory_ends}
 
@@ -42,10 +43,11 @@ unchanged disk = record {
 }
 
 -- no logs were taken
-no_logs_judged : (what : Report) (disk : DiskState) (left o0 o1 : Option (List ℕ)) → AppendsPrefix o0 o1 (codes "fault memory\n") → JudgesLogs what disk disk left left o0 o1 8
+no_logs_judged : (what : Report) (disk : DiskState) (left : Option (List ℕ)) (o0 o1 : SinkState) → Tells o0 o1 (codes "fault memory\n") → JudgesLogs what disk disk left left o0 o1 8
 no_logs_judged what disk left o0 o1 line = record {
   bytes = [];
   taken = Consumes-nil left;
+  few = omega arith;
   long = (λ is. absurd (omega arith), λ many. absurd (omega arith));
   all = λ a b other. absurd (other refl);
   judges = λ a b. record {
@@ -61,10 +63,11 @@ no_logs_judged what disk left o0 o1 line = record {
   long_line = λ is. absurd (omega arith);
 }
 
-no_join_logs_judged : (what : JoinReport) (disk other : DiskState) (left o0 o1 : Option (List ℕ)) → AppendsPrefix o0 o1 (codes "fault memory\n") → JudgesJoinLogs what disk disk other other left left o0 o1 8
+no_join_logs_judged : (what : JoinReport) (disk other : DiskState) (left : Option (List ℕ)) (o0 o1 : SinkState) → Tells o0 o1 (codes "fault memory\n") → JudgesJoinLogs what disk disk other other left left o0 o1 8
 no_join_logs_judged what disk other left o0 o1 line = record {
   bytes = [];
   taken = Consumes-nil left;
+  few = omega arith;
   long = (λ is. absurd (omega arith), λ many. absurd (omega arith));
   all = λ a b c. absurd (c refl);
   judges = λ a b. record {
@@ -81,11 +84,11 @@ no_join_logs_judged what disk other left o0 o1 line = record {
 }
 
 -- a scene in which this was put to out
-abbrev pub scene : DiskState → DiskState → Option (List ℕ) → Option (List ℕ) → Option (List ℕ) → Scene
+abbrev pub scene : DiskState → DiskState → Option (List ℕ) → SinkState → SinkState → Scene
 scene disk other left log_out out = record { index = disk; other = other; left = left; out = out; log_out = log_out }
 
-pub does_at_memory : (task : Task) (disk other : DiskState) (input left v o0 o1 : Option (List ℕ)) → AppendsPrefix o0 o1 (codes "fault memory\n") → Does task (scene disk other left v o0) (scene disk other left v o1) input 8
-does_at_memory (Scans asked) disk other input left v o0 o1 line = always _ _ (λ bytes. fault_writes o0 o1 (scan_texts asked bytes) 8 _ line (λ front part. memory_ends 8 [] _ front refl part))
+pub does_at_memory : (task : Task) (disk other : DiskState) (input left : Option (List ℕ)) (v o0 o1 : SinkState) → Tells o0 o1 (codes "fault memory\n") → Does task (scene disk other left v o0) (scene disk other left v o1) input 8
+does_at_memory (Scans asked) disk other input left v o0 o1 line = always _ _ (λ bytes. fault_writes o0 o1 (scan_texts asked bytes) 8 _ line (λ front part. memory_ends (Rose o0.faults o1.faults) 8 [] _ front refl part))
 does_at_memory (Makes head) disk other input left v o0 o1 line = record {
   made = λ is. ⊎_elim (λ e. absurd (omega arith)) (λ e. absurd (omega arith)) is;
   done = λ is. absurd (omega arith);
@@ -117,7 +120,7 @@ does_at_memory (JoinsWithin radius) disk other input left v o0 o1 line = record 
 does_at_memory (ReportsJoins what) disk other input left v o0 o1 line = no_join_logs_judged what disk other left o0 o1 line
 does_at_memory Nothing disk other input left v o0 o1 line = inr (inr (refl, line))
 
-pub memory_does : (task : Task) (disk other : DiskState) (input left v o0 o1 : Option (List ℕ)) (status : ℕ) → status ≡ 8 → AppendsPrefix o0 o1 (codes "fault memory\n") → Does task (scene disk other left v o0) (scene disk other left v o1) input status
+pub memory_does : (task : Task) (disk other : DiskState) (input left : Option (List ℕ)) (v o0 o1 : SinkState) (status : ℕ) → status ≡ 8 → Tells o0 o1 (codes "fault memory\n") → Does task (scene disk other left v o0) (scene disk other left v o1) input status
 memory_does task disk other input left v o0 o1 status is line = subst (Does task (scene disk other left v o0) (scene disk other left v o1) input) (sym is) (does_at_memory task disk other input left v o0 o1 line)
 
 status_eight : (task : Task) → IsStatusOf task 8
@@ -133,28 +136,56 @@ pub memory_status : (task : Task) (status : ℕ) → status ≡ 8 → IsStatusOf
 memory_status task status is = subst (IsStatusOf task) (sym is) (status_eight task)
 
 -- nothing was taken, and the status is not that of too much
-pub nothing_taken : (input left : Option (List ℕ)) (status : ℕ) → status ≢ 7 → TakesTooMuch input input left left status
-nothing_taken input left status other = ([], [], Consumes-nil input, Consumes-nil left, (λ is. absurd (other is), λ long. ⊎_elim (λ l. absurd (omega arith)) (λ l. absurd (omega arith)) long))
+pub nothing_taken : (input left : Option (List ℕ)) (status : ℕ) → status ≢ 7 → TakesWithin input input left left status
+nothing_taken input left status other = record {
+  script_bytes = [];
+  log_bytes = [];
+  script_taken = Consumes-nil input;
+  logs_taken = Consumes-nil left;
+  few = omega arith;
+  few_logs = omega arith;
+  long = (λ is. absurd (other is), λ long. ⊎_elim (λ l. absurd (omega arith)) (λ l. absurd (omega arith)) long);
+}
 
 -- input alone was taken
-pub input_taken : (input0 input1 left : Option (List ℕ)) (status : ℕ) → ((bs : List ℕ) × Consumes input0 input1 bs × ((status ≡ 7) ↔ (67108864 < length bs))) → TakesTooMuch input0 input1 left left status
-input_taken input0 input1 left status took = (took.0, [], took.1, Consumes-nil left, (λ is. inl (took.2.0 is), λ long. ⊎_elim (λ l. took.2.1 l) (λ l. absurd (omega arith)) long))
+pub input_taken : (input0 input1 left : Option (List ℕ)) (status : ℕ) → TakesUpTo (2 ^ 26) input0 input1 (status ≡ 7) → TakesWithin input0 input1 left left status
+input_taken input0 input1 left status took = record {
+  script_bytes = took.bytes;
+  log_bytes = [];
+  script_taken = took.taken;
+  logs_taken = Consumes-nil left;
+  few = took.few;
+  few_logs = omega arith;
+  long = (λ is. inl (took.long.0 is), λ long. ⊎_elim (λ l. took.long.1 l) (λ l. absurd (omega arith)) long);
+}
 
 -- logs alone were taken
-pub logs_taken : (input left0 left1 : Option (List ℕ)) (what : Report) (d0 d1 : DiskState) (o0 o1 : Option (List ℕ)) (status : ℕ) → JudgesLogs what d0 d1 left0 left1 o0 o1 status → TakesTooMuch input input left0 left1 status
-logs_taken input left0 left1 what d0 d1 o0 o1 status told = ([], told.bytes, Consumes-nil input, told.taken, (λ is. inr (told.long.0 is), λ long. ⊎_elim (λ l. absurd (omega arith)) (λ l. told.long.1 l) long))
+within_logs : (input left0 left1 : Option (List ℕ)) (status : ℕ) (bytes : List ℕ) → Consumes left0 left1 bytes → length bytes ≤ 2 ^ 30 + 4096 → (status ≡ 7) ↔ (2 ^ 30 < length bytes) → TakesWithin input input left0 left1 status
+within_logs input left0 left1 status bytes taken few long = record {
+  script_bytes = [];
+  log_bytes = bytes;
+  script_taken = Consumes-nil input;
+  logs_taken = taken;
+  few = omega arith;
+  few_logs = few;
+  long = (λ is. inr (long.0 is), λ either. ⊎_elim (λ l. absurd (omega arith)) (λ l. long.1 l) either);
+}
 
-pub join_logs_taken : (input left0 left1 : Option (List ℕ)) (what : JoinReport) (d0 d1 e0 e1 : DiskState) (o0 o1 : Option (List ℕ)) (status : ℕ) → JudgesJoinLogs what d0 d1 e0 e1 left0 left1 o0 o1 status → TakesTooMuch input input left0 left1 status
-join_logs_taken input left0 left1 what d0 d1 e0 e1 o0 o1 status told = ([], told.bytes, Consumes-nil input, told.taken, (λ is. inr (told.long.0 is), λ long. ⊎_elim (λ l. absurd (omega arith)) (λ l. told.long.1 l) long))
+pub logs_taken : (input left0 left1 : Option (List ℕ)) (what : Report) (d0 d1 : DiskState) (o0 o1 : SinkState) (status : ℕ) → JudgesLogs what d0 d1 left0 left1 o0 o1 status → TakesWithin input input left0 left1 status
+logs_taken input left0 left1 what d0 d1 o0 o1 status told = within_logs input left0 left1 status told.bytes told.taken told.few told.long
+
+pub join_logs_taken : (input left0 left1 : Option (List ℕ)) (what : JoinReport) (d0 d1 e0 e1 : DiskState) (o0 o1 : SinkState) (status : ℕ) → JudgesJoinLogs what d0 d1 e0 e1 left0 left1 o0 o1 status
+    → TakesWithin input input left0 left1 status
+join_logs_taken input left0 left1 what d0 d1 e0 e1 o0 o1 status told = within_logs input left0 left1 status told.bytes told.taken told.few told.long
 
 -- the disk's failure is told only where it failed
-pub logs_rose : (left0 left1 : Option (List ℕ)) (what : Report) (d0 d1 : DiskState) (o0 o1 : Option (List ℕ)) (status : ℕ) → JudgesLogs what d0 d1 left0 left1 o0 o1 status → status ≡ 5 → Rose d0.faults d1.faults
+pub logs_rose : (left0 left1 : Option (List ℕ)) (what : Report) (d0 d1 : DiskState) (o0 o1 : SinkState) (status : ℕ) → JudgesLogs what d0 d1 left0 left1 o0 o1 status → status ≡ 5 → Rose d0.faults d1.faults
 logs_rose left0 left1 what d0 d1 o0 o1 status told is = ((told.judges (omega arith) (omega arith)).disk is).0
 
-pub join_logs_rose : (left0 left1 : Option (List ℕ)) (what : JoinReport) (d0 d1 e0 e1 : DiskState) (o0 o1 : Option (List ℕ)) (status : ℕ) → JudgesJoinLogs what d0 d1 e0 e1 left0 left1 o0 o1 status → status ≡ 5 → Rose d0.faults d1.faults ⊎ Rose e0.faults e1.faults
+pub join_logs_rose : (left0 left1 : Option (List ℕ)) (what : JoinReport) (d0 d1 e0 e1 : DiskState) (o0 o1 : SinkState) (status : ℕ) → JudgesJoinLogs what d0 d1 e0 e1 left0 left1 o0 o1 status → status ≡ 5 → Rose d0.faults d1.faults ⊎ Rose e0.faults e1.faults
 join_logs_rose left0 left1 what d0 d1 e0 e1 o0 o1 status told is = ((told.judges (omega arith) (omega arith)).disk is).0
 
-pub join_rose : (radius : ℕ) (d0 d1 e0 e1 : DiskState) (o0 o1 v0 v1 : Option (List ℕ)) (status : ℕ) → Joins radius d0 d1 e0 e1 o0 o1 v0 v1 status → status ≡ 5 → Rose d0.faults d1.faults ⊎ Rose e0.faults e1.faults
+pub join_rose : (radius : ℕ) (d0 d1 e0 e1 : DiskState) (o0 o1 v0 v1 : SinkState) (status : ℕ) → Joins radius d0 d1 e0 e1 o0 o1 v0 v1 status → status ≡ 5 → Rose d0.faults d1.faults ⊎ Rose e0.faults e1.faults
 join_rose radius d0 d1 e0 e1 o0 o1 v0 v1 status told is = (told.disk is).0
 
 -- a lawful space is one of a head

@@ -1,8 +1,10 @@
 -- What a run does for the words that it is given.
-use Rattle.std.specs.Prelude.{◌≡◌, ◌⊎◌, ◌↔◌, ◌<◌, ◌^◌, ℕ, Bool, Option, Some, None, List, [], ◌++◌, length, codes, IfSome}
+use Rattle.std.specs.Prelude.{◌≡◌, ◌⊎◌, ◌↔◌, ◌<◌, ◌≤◌, ◌+◌, ◌^◌, ℕ, Bool, Option, Some, None, List, [], ◌++◌, length, codes, IfSome}
 use Rattle.std.specs.List.{concat}
 use Rattle.std.specs.Io.KnownBytes.{Appends, Consumes}
 use Rattle.outside_io.specs.Bytes.{AppendsPrefix}
+use Rattle.outside_io.specs.Causes.{Rose}
+use Rattle.outside_io.specs.Sinks.{SinkState, Tells}
 use Rattle.job_words.specs.Jobs.{job_of}
 use Rattle.job_words.specs.Names.{kind_of, promote_number, split_number}
 use Rattle.job_words.specs.declared.job.Job.{Job}
@@ -45,34 +47,38 @@ setting_of asked = record { space = mix_space (kind_of asked.space.metric) asked
 abbrev pub scan_texts : Asked → List ℕ → List (List ℕ)
 scan_texts asked bytes = reply_texts (setting_of asked) asked.show (script asked.space.dim bytes)
 
+-- a line stands there, or where out failed a front of it
+abbrev pub IsTold : Type 0 → List ℕ → List ℕ → Type 0
+IsTold Failed rest line = (rest ≡ line) ⊎ (IsFrontOf rest line × Failed)
+
 -- What stands on out when a scan ends with a status: the acknowledged replies, and then `rest`, where `more`
 -- are the texts of the other replies.
-pub record Ends (status : ℕ) (acknowledged more : List (List ℕ)) (rest : List ℕ) : Type 0 where
+pub record Ends (Failed : Type 0) (status : ℕ) (acknowledged more : List (List ℕ)) (rest : List ℕ) : Type 0 where
   pub done : status ≡ 0 → (more ≡ []) × (rest ≡ [])
-  pub input : status ≡ 3 → (acknowledged ≡ []) × IsFrontOf rest (codes "fault input\n")
+  pub input : status ≡ 3 → (acknowledged ≡ []) × IsTold Failed rest (codes "fault input\n")
   pub output : status ≡ 4 → IsFrontOf rest (first_text more)
-  pub long : status ≡ 7 → (acknowledged ≡ []) × IsFrontOf rest (codes "fault long\n")
-  pub memory : status ≡ 8 → IsFrontOf rest (codes "fault memory\n")
+  pub long : status ≡ 7 → (acknowledged ≡ []) × IsTold Failed rest (codes "fault long\n")
+  pub memory : status ≡ 8 → IsTold Failed rest (codes "fault memory\n")
 
 -- a scan put the first of these texts, each whole, and then what its status says
-pub record WritesScan (old new : Option (List ℕ)) (texts : List (List ℕ)) (status : ℕ) : Type 0 where
+pub record WritesScan (old new : SinkState) (texts : List (List ℕ)) (status : ℕ) : Type 0 where
   pub acknowledged : List (List ℕ)
   pub more : List (List ℕ)
   pub rest : List ℕ
   pub whole : texts ≡ acknowledged ++ more
-  pub ends : Ends status acknowledged more rest
-  pub written : Appends old new (concat acknowledged ++ rest)
+  pub ends : Ends (Rose old.faults new.faults) status acknowledged more rest
+  pub written : Appends old.written new.written (concat acknowledged ++ rest)
 
 -- what a run puts that was asked for nothing
 abbrev pub usage : List ℕ
 usage = codes "usage: mtree COMMAND INDEX [options]\n"
 
--- a run without a job put the usage line, or a front of it, or met want of memory
-abbrev pub WritesUsage : Option (List ℕ) → Option (List ℕ) → ℕ → Type 0
+-- a run without a job put the usage line, or where out failed a front of it, or met want of memory
+abbrev pub WritesUsage : SinkState → SinkState → ℕ → Type 0
 WritesUsage old new status =
-    ((status ≡ 2) × Appends old new usage)
-    ⊎ (((status ≡ 4) × AppendsPrefix old new usage)
-    ⊎ ((status ≡ 8) × AppendsPrefix old new (codes "fault memory\n")))
+    ((status ≡ 2) × Appends old.written new.written usage)
+    ⊎ (((status ≡ 4) × AppendsPrefix old.written new.written usage × Rose old.faults new.faults)
+    ⊎ ((status ≡ 8) × Tells old new (codes "fault memory\n")))
 
 -- ---- a run
 
@@ -114,8 +120,8 @@ pub record Scene : Type 1 where
   pub index : DiskState
   pub other : DiskState
   pub left : Option (List ℕ)
-  pub out : Option (List ℕ)
-  pub log_out : Option (List ℕ)
+  pub out : SinkState
+  pub log_out : SinkState
 
 -- what a run does to what it found, where `input` is what was left to read
 abbrev pub Does : Task → Scene → Scene → Option (List ℕ) → ℕ → Type 0
@@ -167,11 +173,16 @@ PutsNoLog (JoinsWithin radius) = ⊥
 PutsNoLog (ReportsJoins what) = Unit {0}
 PutsNoLog Nothing = Unit {0}
 
--- the status tells exactly whether too much was taken: more than 2 ^ 26 bytes of input, or 2 ^ 30 bytes of logs
-abbrev pub TakesTooMuch : Option (List ℕ) → Option (List ℕ) → Option (List ℕ) → Option (List ℕ) → ℕ → Type 0
-TakesTooMuch input0 input1 left0 left1 status =
-    (script_bytes : List ℕ) × (log_bytes : List ℕ) × Consumes input0 input1 script_bytes × Consumes left0 left1 log_bytes
-    × ((status ≡ 7) ↔ ((2 ^ 26 < length script_bytes) ⊎ (2 ^ 30 < length log_bytes)))
+-- Some bytes of input and of logs were taken, at most 2 ^ 26 and 2 ^ 30 and a buffer more. The status tells exactly whether
+-- more than that many were.
+pub record TakesWithin (input0 input1 left0 left1 : Option (List ℕ)) (status : ℕ) : Type 0 where
+  pub script_bytes : List ℕ
+  pub log_bytes : List ℕ
+  pub script_taken : Consumes input0 input1 script_bytes
+  pub logs_taken : Consumes left0 left1 log_bytes
+  pub few : length script_bytes ≤ 2 ^ 26 + 4096
+  pub few_logs : length log_bytes ≤ 2 ^ 30 + 4096
+  pub long : (status ≡ 7) ↔ ((2 ^ 26 < length script_bytes) ⊎ (2 ^ 30 < length log_bytes))
 
 -- the statuses of a scan
 abbrev pub IsScanStatus : ℕ → Type 0

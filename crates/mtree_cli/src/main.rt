@@ -13,19 +13,46 @@ mod scan_job;
 #[cfg(test)]
 mod tests;
 
+use file_jobs::{FAULT_MEMORY, end_with, put_line};
 use files::run_on_files;
-use outside_io::{Status, StdSink, StdSource};
+use job_words::JobFault;
+use named_files::HostFolder;
+use outside_io::{Sink, Source, Status, StdSink, StdSource};
+use program::USAGE;
+use std::env;
+use std::io::{self, ErrorKind};
 use std::process::ExitCode;
-use std::{env, io};
 
-fn main(rt: HostRuntime) -> io::Result<ExitCode> {
-    let alloc = rt.alloc();
-    let mut words = Vec::new(alloc);
-    for word in env::args(&rt)?.skip(1) {
-        words.push(word)?;
+// Why the words could not be read: one is no text, or there was no memory.
+fn words_fault(error: io::Error) -> JobFault {
+    match error.kind() {
+        ErrorKind::OutOfMemory => JobFault::Memory,
+        _ => JobFault::Usage,
     }
+}
+
+// The words after the program's name.
+fn read_words(rt: &HostRuntime) -> Result<Vec<String>, JobFault> {
+    let mut words = Vec::new(rt.alloc());
+    for word in env::args(rt).map_err(words_fault)?.skip(1) {
+        if words.push(word).is_err() {
+            return Err(JobFault::Memory);
+        }
+    }
+    Ok(words)
+}
+
+// Runs what the words ask for, and answers the status.
+fn run_words<S: Source, K: Sink>(rt: &HostRuntime, input: &mut S, out: &mut K) -> Status {
+    match read_words(rt) {
+        Ok(words) => run_on_files(rt.alloc(), &words, &HostFolder::new(rt), input, out),
+        Err(JobFault::Usage) => put_line(out, USAGE, 2),
+        Err(JobFault::Memory) => end_with(out, FAULT_MEMORY, 8),
+    }
+}
+
+fn main(rt: HostRuntime) -> ExitCode {
     let mut input = StdSource::new(rt.stdin());
     let mut out = StdSink::new(rt.stdout());
-    let Status(status) = run_on_files(&rt, alloc, &words, &mut input, &mut out);
-    Ok(ExitCode::from(status))
+    ExitCode::from(run_words(&rt, &mut input, &mut out).0)
 }

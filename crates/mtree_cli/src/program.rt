@@ -9,7 +9,7 @@ ghost use Rattle.node_page.specs.Heads.{IsLawfulHead};
 ghost use Rattle.log_jobs.specs.Laws.{FaultlessIsComplete};
 ghost use Rattle.join_jobs.specs.Trees.{Tree, IsOpened};
 ghost use Rattle.join_jobs.specs.Laws.{FaultlessIsComplete as JoinFaultlessIsComplete};
-ghost use Rattle.mtree_cli.specs.Run.{Asked, Does, HasNoScan, IsScan, IsStatusOf, PutsNoLog, TakesNoIndex, TakesNoLog, TakesNoOther, TakesTooMuch, new_head, task_of};
+ghost use Rattle.mtree_cli.specs.Run.{Asked, Does, HasNoScan, IsScan, IsStatusOf, PutsNoLog, TakesNoIndex, TakesNoLog, TakesNoOther, TakesWithin, new_head, task_of};
 
 use crate::scan_job::run_scan;
 use disk_model::Disk;
@@ -23,7 +23,8 @@ use node_page::Head;
 use outside_io::{Sink, Source, Status};
 use std::alloc::Global;
 
-const USAGE: &[u8] = b"usage: mtree COMMAND INDEX [options]\n";
+/// The line of words without a job.
+pub const USAGE: &[u8] = b"usage: mtree COMMAND INDEX [options]\n";
 
 // The head of a new file.
 fn new_head(space: SpaceName, policies: PolicyNames, limit: u32) -> Head
@@ -60,8 +61,8 @@ pub fn run<D: Disk, E: Disk, S: Source, L: Source, K: Sink, T: Sink>(
 ) -> Status
     // What the job of the words does to the files, and what it writes. Words without a job give the usage line.
     ensures does { Does (task_of (job_of (texts_of words.now)))
-        (record { index = D.state index.old; other = E.state other.old; left = L.left log_in.old; out = K.written out.old; log_out = T.written log_out.old })
-        (record { index = D.state index.new; other = E.state other.new; left = L.left log_in.new; out = K.written out.new; log_out = T.written log_out.new })
+        (record { index = D.state index.old; other = E.state other.old; left = L.left log_in.old; out = K.state out.old; log_out = T.state log_out.old })
+        (record { index = D.state index.new; other = E.state other.new; left = L.left log_in.new; out = K.state out.new; log_out = T.state log_out.new })
         (S.left input.old) result.0 }
 
     // What `check` says of a file and of its logs is so: no fault is soundness, and a complete log has the plain scan's answers.
@@ -84,21 +85,21 @@ pub fn run<D: Disk, E: Disk, S: Source, L: Source, K: Sink, T: Sink>(
 
     // A failed read or write is told only where the object's count of faults rose.
     ensures input { result.0 ≡ 3 → Rose (S.faults input.old) (S.faults input.new) ⊎ Rose (L.faults log_in.old) (L.faults log_in.new) }
-    ensures output { PutsNoLog (task_of (job_of (texts_of words.now))) → result.0 ≡ 4 → Rose (K.faults out.old) (K.faults out.new) }
-    ensures either_output { result.0 ≡ 4 → Rose (K.faults out.old) (K.faults out.new) ⊎ Rose (T.faults log_out.old) (T.faults log_out.new) }
+    ensures output { PutsNoLog (task_of (job_of (texts_of words.now))) → result.0 ≡ 4 → Rose (K.state out.old).faults (K.state out.new).faults }
+    ensures either_output { result.0 ≡ 4 → Rose (K.state out.old).faults (K.state out.new).faults ⊎ Rose (T.state log_out.old).faults (T.state log_out.new).faults }
     ensures disk { TakesNoOther (task_of (job_of (texts_of words.now))) → result.0 ≡ 5 → Rose (D.state index.old).faults (D.state index.new).faults }
     ensures either_disk { result.0 ≡ 5 → Rose (D.state index.old).faults (D.state index.new).faults ⊎ Rose (E.state other.old).faults (E.state other.new).faults }
 
-    // Too much is told exactly where more than 2 ^ 26 bytes of input or 2 ^ 30 bytes of logs were taken.
-    ensures long { TakesTooMuch (S.left input.old) (S.left input.new) (L.left log_in.old) (L.left log_in.new) result.0 }
+    // At most 2 ^ 26 bytes of input, 2 ^ 30 of logs and a buffer are taken; too much is told exactly where it was more than those.
+    ensures long { TakesWithin (S.left input.old) (S.left input.new) (L.left log_in.old) (L.left log_in.new) result.0 }
 
     // A scan that is done has taken all input.
     ensures end { (asked : Asked) → IsScan (texts_of words.now) asked → result.0 ≡ 0 → IsAtEnd (S.left input.new) }
 
     // With no fault and an input within its limit a scan is done, but for want of memory.
     ensures complete { (asked : Asked) → IsScan (texts_of words.now) asked → IfSome (S.left input.old) (λ bytes. length bytes ≤ 2 ^ 26 →
-        ¬ Rose (S.faults input.old) (S.faults input.new) → ¬ Rose (K.faults out.old) (K.faults out.new) → (result.0 ≡ 0) ⊎ (result.0 ≡ 8)) }
-    ensures counts { (S.faults input.old ≤ S.faults input.new) × (L.faults log_in.old ≤ L.faults log_in.new) × (K.faults out.old ≤ K.faults out.new) × (T.faults log_out.old ≤ T.faults log_out.new) }
+        ¬ Rose (S.faults input.old) (S.faults input.new) → ¬ Rose (K.state out.old).faults (K.state out.new).faults → (result.0 ≡ 0) ⊎ (result.0 ≡ 8)) }
+    ensures counts { (S.faults input.old ≤ S.faults input.new) × (L.faults log_in.old ≤ L.faults log_in.new) × ((K.state out.old).faults ≤ (K.state out.new).faults) × ((T.state log_out.old).faults ≤ (T.state log_out.new).faults) }
 {
     faultless_is_complete();
     joins_are_complete();

@@ -1,6 +1,7 @@
 // The job `scan`: a script on a plain list.
-ghost use Rattle.std.specs.Prelude.{◌≡◌, ◌⊎◌, ◌↔◌, ◌≤◌, ◌<◌, ◌^◌, List, ℕ, length, IfSome};
-ghost use Rattle.std.specs.Io.KnownBytes.{Consumes, IsAtEnd};
+ghost use Rattle.std.specs.Prelude.{◌≡◌, ◌⊎◌, ◌≤◌, ◌^◌, length, IfSome};
+ghost use Rattle.std.specs.Io.KnownBytes.{IsAtEnd};
+ghost use Rattle.outside_io.specs.Bytes.{TakesUpTo};
 ghost use Rattle.outside_io.specs.Causes.{Rose};
 ghost use Rattle.metric_mix.specs.MixKinds.{mix_kind, mix_dim};
 ghost use Rattle.job_words.specs.Lawful.{IsLawfulSpace, IsLimit};
@@ -46,11 +47,11 @@ fn run_bytes<K: Sink>(
     requires some { 1 ≤ dim }
     requires narrow { dim ≤ 64 }
     requires limit { IsLimit scan.now.limit }
-    ensures wrote { WritesScan (K.written out.old) (K.written out.new)
+    ensures wrote { WritesScan (K.state out.old) (K.state out.new)
         (reply_texts (record { space = mix_space (mix_kind scan.now.metric) (mix_dim scan.now.metric); limit = scan.now.limit }) scan.now.show_tags (script dim bytes.now)) result.0 }
     ensures statuses { (result.0 ≡ 0) ⊎ ((result.0 ≡ 4) ⊎ (result.0 ≡ 8)) }
-    ensures later { K.faults out.old ≤ K.faults out.new }
-    ensures rose { result.0 ≡ 4 → Rose (K.faults out.old) (K.faults out.new) }
+    ensures later { (K.state out.old).faults ≤ (K.state out.new).faults }
+    ensures rose { result.0 ≡ 4 → Rose (K.state out.old).faults (K.state out.new).faults }
 {
     let Ok(commands) = read_script(alloc, bytes, usize::from(dim)) else {
         return end_with(out, FAULT_MEMORY, 8);
@@ -76,20 +77,20 @@ pub fn run_scan<S: Source, K: Sink>(
     requires space { IsLawfulSpace space }
     requires limit { IsLimit limit }
     // The replies are those of the plain list, and what follows them is what the status says.
-    ensures wrote { IfSome (S.left input.old) (λ bytes. WritesScan (K.written out.old) (K.written out.new)
+    ensures wrote { IfSome (S.left input.old) (λ bytes. WritesScan (K.state out.old) (K.state out.new)
         (scan_texts (record { space = space; limit = limit; show = show_tags }) bytes) result.0) }
     ensures statuses { IsScanStatus result.0 }
     // A failed read or write is told only where the object's count of faults rose.
     ensures input { result.0 ≡ 3 → Rose (S.faults input.old) (S.faults input.new) }
-    ensures output { result.0 ≡ 4 → Rose (K.faults out.old) (K.faults out.new) }
+    ensures output { result.0 ≡ 4 → Rose (K.state out.old).faults (K.state out.new).faults }
     // Too long an input is told exactly where more than 2 ^ 26 bytes were taken.
-    ensures long { (bs : List ℕ) × Consumes (S.left input.old) (S.left input.new) bs × ((result.0 ≡ 7) ↔ (2 ^ 26 < length bs)) }
+    ensures long { TakesUpTo (2 ^ 26) (S.left input.old) (S.left input.new) (result.0 ≡ 7) }
     // A scan that is done has taken all input.
     ensures end { result.0 ≡ 0 → IsAtEnd (S.left input.new) }
     // With no fault and an input within its limit a scan is done, but for want of memory.
     ensures complete { IfSome (S.left input.old) (λ bytes. length bytes ≤ 2 ^ 26 →
-        ¬ Rose (S.faults input.old) (S.faults input.new) → ¬ Rose (K.faults out.old) (K.faults out.new) → (result.0 ≡ 0) ⊎ (result.0 ≡ 8)) }
-    ensures counts { (S.faults input.old ≤ S.faults input.new) × (K.faults out.old ≤ K.faults out.new) }
+        ¬ Rose (S.faults input.old) (S.faults input.new) → ¬ Rose (K.state out.old).faults (K.state out.new).faults → (result.0 ≡ 0) ⊎ (result.0 ≡ 8)) }
+    ensures counts { (S.faults input.old ≤ S.faults input.new) × ((K.state out.old).faults ≤ (K.state out.new).faults) }
 {
     let scan = Scan {
         metric: space_of(space),

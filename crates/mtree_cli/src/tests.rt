@@ -3,8 +3,10 @@ ghost use Rattle.std.specs.Prelude.{◌≤◌};
 use crate::files::run_on_files;
 use crate::program::run;
 use disk_model::{Disk, MemoryDisk};
+use named_files::HostFolder;
 use outside_io::{MemorySink, MemorySource, Status};
 use std::alloc::{AllocError, Global};
+use std::fs;
 use std::process::Abort;
 use std::test::Fail;
 
@@ -293,16 +295,33 @@ fn create_and_audit(rt: HostRuntime) -> Result<(), Fail> {
     check_index(&rt, &mut index, create, 6, "fault notindex notempty\n")
 }
 
+// Commands on real files, one after another, and their statuses.
 #[test]
-fn a_missing_file(rt: HostRuntime) -> Result<(), Fail> {
+fn named_files(rt: HostRuntime) -> Result<(), Fail> {
     let alloc = rt.alloc();
-    for line in ["audit missing.mt", "check missing.mt --log missing.log"] {
+    let cases = [
+        ("audit a.mt", 10),
+        ("gen a.mt --metric l1 --dim 2 --count 5 --seed 1", 2),
+        ("audit a.mt", 10),
+        ("create a.mt --metric l1 --dim 2", 0),
+        ("create a.mt --metric l1 --dim 2", 6),
+        ("audit a.mt", 0),
+        ("check a.mt --log missing.log", 10),
+        ("join a.mt --other a.mt --radius 0 --log a.mt", 10),
+        ("join a.mt --other a.mt --radius 0 --log a.log", 0),
+        ("check a.mt --other a.mt --log a.log", 0),
+        ("audit a.mt", 0),
+    ];
+    for (line, status) in &cases {
         let words = words(alloc, line)?;
         let mut input = MemorySource::new(Vec::new(alloc), 1, Vec::new(alloc));
         let mut out = MemorySink::new(alloc, 1000, Vec::new(alloc))?;
-        let status = run_on_files(&rt, alloc, &words, &mut input, &mut out);
-        assert_eq!(rt; status, Status(10));
+        let folder = HostFolder::new(&rt);
+        let found = run_on_files(alloc, &words, &folder, &mut input, &mut out);
+        assert_eq!(rt; found, Status(*status), "{}", line);
     }
+    fs::remove_file(&rt, "a.mt")?;
+    fs::remove_file(&rt, "a.log")?;
     Ok(())
 }
 

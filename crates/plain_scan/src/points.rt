@@ -6,7 +6,7 @@ use metric_laws::{Metric, Rows};
 use rows_text::Command;
 
 // Whether each row is a point of the metric's space.
-fn all_fit<M: Metric>(metric: &M, rows: &Rows) -> bool
+pub fn all_fit<M: Metric>(metric: &M, rows: &Rows) -> bool
     ensures { result ≡ list_all (M.space metric.now).fits rows.now.points }
 {
     for i in 0..rows.len() {

@@ -1,6 +1,6 @@
-use Rattle.std.proofs.Common.{inr, ℕ, List, refl, subst, arith}
+use Rattle.std.proofs.Common.{inr, refl, subst, arith}
 use Rattle.std.specs.Prelude.{codes}
-use Rattle.outside_io.specs.Bytes.{AppendsPrefix}
+use Rattle.outside_io.specs.Sinks.{Tells}
 use Rattle.file_jobs.proofs.Ends.{is_first, only, no_index, rose_by_disk}
 use Rattle.file_jobs.proofs.jobs.open_index.Goals as goal
 
@@ -19,6 +19,6 @@ returns-in-Err-clause-refuses g c =
       disk = λ is. (rose_by_disk old new c.in-Err.fault (c.end_unopened.ensures.disk is) c.in-Err.ensures.fault, rw (c.end_unopened.ensures.disk is) at c.end_unopened.ensures.line);
       not_index = λ is.
           let named = no_index old new c.in-Err.fault (c.end_unopened.ensures.index is) c.in-Err.ensures.fault in
-          (named.0, subst (λ (t : List ℕ). AppendsPrefix (g.K.Sink.written c.args.out.now) (g.K.Sink.written c.end_unopened.new.out) t) named.1 c.end_unopened.ensures.line, named.2);
+          (named.0, subst (Tells (g.K.Sink.state c.args.out.now) (g.K.Sink.state c.end_unopened.new.out)) named.1 c.end_unopened.ensures.line, named.2);
       statuses = c.end_unopened.ensures.statuses;
     }

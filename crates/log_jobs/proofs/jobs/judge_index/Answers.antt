@@ -26,14 +26,14 @@ returns-in-Err-report_on-clause-judges g c =
     let d0 = g.D.Disk.state c.args.index.now in
     let d1 = g.D.Disk.state c.open_index.new.disk in
     let d2 = g.D.Disk.state c.report_on.new.index in
-    let w1 = g.K.Sink.written c.report_on.new.out in
-    let w2 = g.K.Sink.written c.end_stopped.new.out in
+    let w1 = g.K.Sink.state c.report_on.new.out in
+    let w2 = g.K.Sink.state c.end_stopped.new.out in
     let first = c.in-Ok.ensures in
     let told = c.in-Err-report_on.ensures in
     let why = c.in-Err-report_on.why in
     let r = c.end_stopped.result.0 in
     let ends = c.end_stopped.ensures.ends in
-    let writes = says_some c.args.report d0 d1 c.args.bytes.now c.in-Ok.opened.0 c.in-Ok.opened.1 (g.K.Sink.written c.args.out.now) w1 w2 r why first.same first.opens first.version (rw first.silent at told.puts) ends in
+    let writes = says_some c.args.report d0 d1 c.args.bytes.now c.in-Ok.opened.0 c.in-Ok.opened.1 (g.K.Sink.state c.args.out.now) w1 w2 r why first.same first.opens first.version (rw first.silent at told.later) (rw first.silent at told.puts) ends in
     record {
       unchanged = then_unchanged d0 d1 d2 first.same told.same;
       done = λ either. stop_done why w1 w2 r ends either;

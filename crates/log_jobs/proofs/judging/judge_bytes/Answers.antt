@@ -14,8 +14,8 @@ returns-in_err-sound-clause-puts g c tells =
 pub returns-in_err-put-clause-puts : goal.returns-in_err-put-clause-puts
 returns-in_err-put-clause-puts g c tells =
     let p = err_from_is_err_and c.from_residual-in_err-put.result c.from_residual-in_err-put.ensures.1 in
-    let w1 = g.K.Sink.written c.judge_frames.new.out in
-    let w2 = g.K.Sink.written c.put-2.new.out in
+    let w1 = (g.K.Sink.state c.judge_frames.new.out).written in
+    let w2 = (g.K.Sink.state c.put-2.new.out).written in
     let judge = log_fault (g.M.Metric.space c.args.court.now.metric) (g.P.Pages.shelf c.args.pages.now).read c.args.court.now.live in
     let line : c.end_text.result.now ≡ end_text c.args.court.now.report (are_sound judge c.in-Ok.logs.items) =
     c.end_text.ensures ∙ ap (λ b. end_text c.args.court.now.report b) (c.in_ok-sound.ensures.sound tells) in
@@ -25,8 +25,8 @@ returns-in_err-put-clause-puts g c tells =
 
 pub returns-clause-puts : goal.returns-clause-puts
 returns-clause-puts g c tells =
-    let w1 = g.K.Sink.written c.judge_frames.new.out in
-    let w2 = g.K.Sink.written c.put-2.new.out in
+    let w1 = (g.K.Sink.state c.judge_frames.new.out).written in
+    let w2 = (g.K.Sink.state c.put-2.new.out).written in
     let judge = log_fault (g.M.Metric.space c.args.court.now.metric) (g.P.Pages.shelf c.args.pages.now).read c.args.court.now.live in
     let line : c.end_text.result.now ≡ end_text c.args.court.now.report (are_sound judge c.in-Ok.logs.items) =
     c.end_text.ensures ∙ ap (λ b. end_text c.args.court.now.report b) (c.in_ok-sound.ensures.sound tells) in

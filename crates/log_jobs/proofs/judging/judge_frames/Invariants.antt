@@ -17,9 +17,9 @@ invariant-loop-log g l = record {
   puts : IsTrue (g.P.Pages.shelf l.fn.pages).tells → HasPut
       (frame_texts l.court.report (log_fault (g.M.Metric.space l.court.metric) (g.P.Pages.shelf l.fn.pages).read l.court.live) 0 l.fn.logs.items)
       (frame_texts l.court.report (log_fault (g.M.Metric.space l.court.metric) (g.P.Pages.shelf l.fn.pages).read l.court.live) l.frame l.log-iterator.rest.items)
-      (g.K.Sink.written l.fn.out) (g.K.Sink.written l.out);
+      (g.K.Sink.state l.fn.out).written (g.K.Sink.state l.out).written;
   sound : IsTrue (g.P.Pages.shelf l.fn.pages).tells →
       are_sound (log_fault (g.M.Metric.space l.court.metric) (g.P.Pages.shelf l.fn.pages).read l.court.live) l.fn.logs.items
       ≡ (l.sound && are_sound (log_fault (g.M.Metric.space l.court.metric) (g.P.Pages.shelf l.fn.pages).read l.court.live) l.log-iterator.rest.items);
-  later : g.K.Sink.faults l.fn.out ≤ g.K.Sink.faults l.out;
+  later : (g.K.Sink.state l.fn.out).faults ≤ (g.K.Sink.state l.out).faults;
 }

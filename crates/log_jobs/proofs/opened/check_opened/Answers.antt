@@ -30,8 +30,8 @@ returns-clause-puts g c tells =
     let d0 = g.D.Disk.state c.args.index.now in
     let d1 = g.D.Disk.state c.audit_file.new.index in
     let same = c.in_ok-fault.ensures.same in
-    let w1 = g.K.Sink.written c.put.new.out in
-    let w2 = g.K.Sink.written c.judge_opened.new.out in
+    let w1 = (g.K.Sink.state c.put.new.out).written in
+    let w2 = (g.K.Sink.state c.judge_opened.new.out).written in
     let none : c.in_ok-fault.fault ≡ None = search rules in
     let rest = subst (λ (file : List ℕ). Puts (on_logs report.Answers (judge_of file c.args.opened.now.0 c.args.opened.now.1) (frames_at log_at c.args.bytes.now)).texts w1 w2 (stop_of c.judge_opened.result)) same.same_bytes
     (c.judge_opened.ensures.puts (subst IsTrue (sym same.same_tells) tells)) in

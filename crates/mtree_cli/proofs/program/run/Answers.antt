@@ -8,8 +8,8 @@ use Rattle.mtree_cli.proofs.program.run.Goals as goal
 
 pub returns-in-Ok-Scan-clause-does : goal.returns-in-Ok-Scan-clause-does
 returns-in-Ok-Scan-clause-does g c =
-    let P : Option (Job (List ℕ)) → Type 0 = λ j. Does (task_of j) (scene (g.D.Disk.state c.args.index.now) (g.E.Disk.state c.args.other.now) (g.L.Source.left c.args.log_in.now) (g.T.Sink.written c.args.log_out.now) (g.K.Sink.written c.args.out.now))
-    (scene (g.D.Disk.state c.args.index.now) (g.E.Disk.state c.args.other.now) (g.L.Source.left c.args.log_in.now) (g.T.Sink.written c.args.log_out.now) (g.K.Sink.written c.run_scan.new.out)) (g.S.Source.left c.args.input.now) c.run_scan.result.0 in
+    let P : Option (Job (List ℕ)) → Type 0 = λ j. Does (task_of j) (scene (g.D.Disk.state c.args.index.now) (g.E.Disk.state c.args.other.now) (g.L.Source.left c.args.log_in.now) (g.T.Sink.state c.args.log_out.now) (g.K.Sink.state c.args.out.now))
+    (scene (g.D.Disk.state c.args.index.now) (g.E.Disk.state c.args.other.now) (g.L.Source.left c.args.log_in.now) (g.T.Sink.state c.args.log_out.now) (g.K.Sink.state c.run_scan.new.out)) (g.S.Source.left c.args.input.now) c.run_scan.result.0 in
     subst P (sym (scan_named (texts_of c.args.words.now) c.in-Ok-Scan.field-0 c.in-Ok-Scan.space c.in-Ok-Scan.limit c.in-Ok-Scan.show_tags c.in-Ok-Scan.ensures.job c.in-Ok-Scan.field-0-is)) c.run_scan.ensures.wrote
 
 pub returns-in-Ok-Scan-clause-memory : goal.returns-in-Ok-Scan-clause-memory
@@ -29,7 +29,7 @@ pub returns-in-Ok-Audit-clause-long : goal.returns-in-Ok-Audit-clause-long
 returns-in-Ok-Audit-clause-long g c = nothing_taken (g.S.Source.left c.args.input.now) (g.L.Source.left c.args.log_in.now) c.audit_index.result.0 (grind (arith))
 
 pub returns-in-Err-Memory-clause-does : goal.returns-in-Err-Memory-clause-does
-returns-in-Err-Memory-clause-does g c = memory_does (task_of (job_of (texts_of c.args.words.now))) (g.D.Disk.state c.args.index.now) (g.E.Disk.state c.args.other.now) (g.S.Source.left c.args.input.now) (g.L.Source.left c.args.log_in.now) (g.T.Sink.written c.args.log_out.now) _ _ c.end_with.result.0 c.end_with.ensures.status c.end_with.ensures.line
+returns-in-Err-Memory-clause-does g c = memory_does (task_of (job_of (texts_of c.args.words.now))) (g.D.Disk.state c.args.index.now) (g.E.Disk.state c.args.other.now) (g.S.Source.left c.args.input.now) (g.L.Source.left c.args.log_in.now) (g.T.Sink.state c.args.log_out.now) _ _ c.end_with.result.0 c.end_with.ensures.status c.end_with.ensures.line
 
 pub returns-in-Err-Memory-clause-memory : goal.returns-in-Err-Memory-clause-memory
 returns-in-Err-Memory-clause-memory g c = λ is. unchanged (g.D.Disk.state c.args.index.now)

@@ -13,12 +13,12 @@ returns-in-Ok-clause-wrote g c =
 
 pub returns-in-Err-Fault-clause-wrote : goal.returns-in-Err-Fault-clause-wrote
 returns-in-Err-Fault-clause-wrote g c = always _ _ (λ bytes.
-    fault_writes _ _ _ c.end_with.result.0 _ c.end_with.ensures.line (λ front line. input_ends _ _ front c.end_with.ensures.status line))
+    fault_writes _ _ _ c.end_with.result.0 _ c.end_with.ensures.line (λ front line. input_ends _ _ _ front c.end_with.ensures.status line))
 
 pub returns-in-Err-TooLong-clause-wrote : goal.returns-in-Err-TooLong-clause-wrote
 returns-in-Err-TooLong-clause-wrote g c = always _ _ (λ bytes.
-    fault_writes _ _ _ c.end_with-in-Err-TooLong.result.0 _ c.end_with-in-Err-TooLong.ensures.line (λ front line. long_ends _ _ front c.end_with-in-Err-TooLong.ensures.status line))
+    fault_writes _ _ _ c.end_with-in-Err-TooLong.result.0 _ c.end_with-in-Err-TooLong.ensures.line (λ front line. long_ends _ _ _ front c.end_with-in-Err-TooLong.ensures.status line))
 
 pub returns-in-Err-Memory-clause-wrote : goal.returns-in-Err-Memory-clause-wrote
 returns-in-Err-Memory-clause-wrote g c = always _ _ (λ bytes.
-    fault_writes _ _ _ c.end_with-in-Err-Memory.result.0 _ c.end_with-in-Err-Memory.ensures.line (λ front line. memory_ends _ [] _ front c.end_with-in-Err-Memory.ensures.status line))
+    fault_writes _ _ _ c.end_with-in-Err-Memory.result.0 _ c.end_with-in-Err-Memory.ensures.line (λ front line. memory_ends _ _ [] _ front c.end_with-in-Err-Memory.ensures.status line))

@@ -34,7 +34,7 @@ pub returns-in_err-answer-clause-wrote : goal.returns-in_err-answer-clause-wrote
 returns-in_err-answer-clause-wrote g c =
     let so_far = rw c.in-Some.ensures.steps.0 at c.loop-command.invariant.wrote in
     let p = err_from_is_err_and c.from_residual.result c.from_residual.ensures.1 in
-    rw (p.1, p.2) (ended _ (g.K.Sink.written c.loop-command.out) _ _ _ _ _ so_far c.in_err-answer.ensures.puts (λ never. let no : ⊥ = cc never in absurd no))
+    rw (p.1, p.2) (ended _ (g.K.Sink.state c.loop-command.out).written _ _ _ _ _ so_far c.in_err-answer.ensures.puts (λ never. let no : ⊥ = cc never in absurd no))
 
 pub returns-clause-wrote : goal.returns-clause-wrote
 returns-clause-wrote g c =

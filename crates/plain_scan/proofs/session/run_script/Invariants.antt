@@ -10,11 +10,11 @@ use Rattle.plain_scan.proofs.session.run_script.Given as goal
 -- the replies so far are written, and the others are those of the other commands on the list as it is
 abbrev pub invariant-loop-command : goal.invariant-loop-command
 invariant-loop-command g l = record {
-  wrote : HasWritten (g.K.Sink.written l.fn.out) (g.K.Sink.written l.out)
+  wrote : HasWritten (g.K.Sink.state l.fn.out).written (g.K.Sink.state l.out).written
       (reply_texts (record { space = g.M.Metric.space l.scan.metric; limit = l.scan.limit }) l.scan.show_tags l.fn.commands.items)
       (map (text l.scan.show_tags) (replies (record { space = g.M.Metric.space l.scan.metric; limit = l.scan.limit }) (state_of l.list) l.command-iterator.rest.items));
   list : IsListOf (g.M.Metric.space l.scan.metric) l.scan.limit l.list;
   readable : All (IsReadable (g.M.Metric.space l.scan.metric).words) l.command-iterator.rest.items;
   numbers : l.list.next + length l.command-iterator.rest.items < 2 ^ 32;
-  later : g.K.Sink.faults l.fn.out ≤ g.K.Sink.faults l.out;
+  later : (g.K.Sink.state l.fn.out).faults ≤ (g.K.Sink.state l.out).faults;
 }

@@ -1,0 +1,54 @@
+-- The files that are opened for a job.
+use Rattle.std.proofs.Common.{inl, inr, subst, ◌≡◌, ℕ, Bool, true, false, List, Option, Some, None, refl, sym, ◌∙◌, ap, if◌then◌else◌}
+use Rattle.std.specs.Borrow.{Bor}
+use Rattle.job_words.specs.declared.files.FileNames.{FileNames}
+use Rattle.job_words.specs.declared.job.Job.{Job}
+use Rattle.job_words.specs.declared.job.Job.TheVariants as job
+use Rattle.job_words.specs.Files.{file_texts, files_of, no_files, same_texts}
+use Rattle.job_words.specs.Jobs.{texts_in}
+use Rattle.outside_io.specs.Sinks.{SinkState}
+use Rattle.disk_model.specs.Disk.{DiskState}
+use Rattle.named_files.specs.declared.opening.Opened.{Opened}
+use Rattle.mtree_cli.specs.Run.{Does, IsStatusOf, task_of}
+use Rattle.mtree_cli.specs.Files.{AnswersOnFiles, is_done, opened_names, scene_of}
+
+done_by_texts : (found : Job (Bor (List ℕ))) → is_done (texts_in found) ≡ is_done found
+done_by_texts (job.Scan space limit show) = refl
+done_by_texts (job.Create index space policies limit) = refl
+done_by_texts (job.Session index log workers show) = refl
+done_by_texts (job.Shape index) = refl
+done_by_texts (job.Audit index workers) = refl
+done_by_texts (job.Verify index log other) = refl
+done_by_texts (job.Check index log other) = refl
+done_by_texts (job.Join index other radius log) = refl
+done_by_texts (job.Gen index space count seed policies workers) = refl
+done_by_texts (job.Migrate index other) = refl
+done_by_texts (job.Batch index workers log show) = refl
+done_by_texts (job.Seal index) = refl
+done_by_texts (job.Carry index log proof) = refl
+done_by_texts (job.Prove log root) = refl
+
+pub done_names : (asked : Option (Job (List ℕ))) (found : Job (Bor (List ℕ))) (names : FileNames (Bor (List ℕ))) → asked ≡ Some (texts_in found) → is_done found ≡ true → names ≡ files_of found
+    → file_texts names ≡ opened_names asked
+done_names asked found names is done named =
+    let all : opened_names asked ≡ (if is_done (texts_in found) then files_of (texts_in found) else no_files) = ap opened_names is in
+    ap file_texts named ∙ same_texts found ∙ sym (all ∙ ap (λ (b : Bool). if b then files_of (texts_in found) else no_files) (done_by_texts found ∙ done))
+
+pub other_names : (asked : Option (Job (List ℕ))) (found : Job (Bor (List ℕ))) (names : FileNames (Bor (List ℕ))) → asked ≡ Some (texts_in found) → is_done found ≡ false → names ≡ no_files
+    → file_texts names ≡ opened_names asked
+other_names asked found names is done named =
+    let all : opened_names asked ≡ (if is_done (texts_in found) then files_of (texts_in found) else no_files) = ap opened_names is in
+    ap file_texts named ∙ sym (all ∙ ap (λ (b : Bool). if b then files_of (texts_in found) else no_files) (done_by_texts found ∙ done))
+
+-- ---- how a run on files ends
+
+module _ {I L T : Type 0} (disk : I → DiskState) (left : L → Option (List ℕ)) (sink : T → SinkState) (AreFiles : FileNames (List ℕ) → Opened I L T → Type 0)
+    (AreApart AreRefused : FileNames (List ℕ) → Type 0) (job : Option (Job (List ℕ))) (input : Option (List ℕ)) (names : FileNames (Bor (List ℕ))) (same : file_texts names ≡ opened_names job) where
+  pub ends_refused : (out : SinkState) → AreRefused (file_texts names) → AnswersOnFiles disk left sink AreFiles AreApart AreRefused job input out out 10
+  ends_refused out refused = inr (inr (refl, refl, subst AreRefused same refused))
+
+  pub ends_ran : (out0 out1 : SinkState) (before after : Opened I L T) (status : ℕ) → AreFiles (file_texts names) before → AreApart (file_texts names)
+      → Does (task_of job) (scene_of disk left sink before out0) (scene_of disk left sink after out1) input status → IsStatusOf (task_of job) status
+      → AnswersOnFiles disk left sink AreFiles AreApart AreRefused job input out0 out1 status
+  ends_ran out0 out1 before after status opened apart does statuses =
+      inl (record { before = before; after = after; opened = subst (λ (n : FileNames (List ℕ)). AreFiles n before) same opened; does = does; statuses = statuses }, subst AreApart same apart)
