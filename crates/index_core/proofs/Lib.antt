@@ -6,4 +6,5 @@ pub mod Settled
 pub mod Listed
 pub mod Outcome
 pub mod Loaded
+pub mod Taken
 pub mod Pinned

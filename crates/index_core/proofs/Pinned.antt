@@ -114,21 +114,6 @@ module _ {M : Type 0} (old : OpenIndex M) (file : OpenFile M) (f : FreePages) (b
       by_list None l = tt
       by_list (Some o) l = ap Some l
 
--- an index whose free list could not be made
-pub unmade_refused : {M : Type 0} (old : OpenIndex M) (file : OpenFile M) (before after : DiskState) → OnlyReads old.file file before after → old.free ≡ None →
-    IsRefused old (record old { file = file; free = None }) before after
-unmade_refused {M} old file before after reads none = record {
-  is = ap (λ (o : OpenFile M). record old { file = o; free = None }) reads.rest;
-  room = reads.room;
-  free = subst (λ (free : Option FreePages). MatchOption free (Unit {0}) (λ o. None ≡ Some o)) (sym none) tt;
-  same = reads.same;
-}
-
-pub unmade_stands : {M : Type 0} (old : OpenIndex M) (file : OpenFile M) (before after : DiskState) → OnlyReads old.file file before after → StandsOn file after → StandsAlone old before →
-    StandsAlone (record old { file = file; free = None }) after
-unmade_stands old file before after reads stands alone =
-    stands_alone_still (record old { free = None }) file before after reads stands (record { stands = alone.stands; only = alone.only; spare = λ tells. tt })
-
 -- ---- unpins
 
 -- an index whose free list lost a pin

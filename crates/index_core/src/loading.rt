@@ -1,20 +1,27 @@
 // Loads of an index that has no objects, each of them one commit.
-ghost use Rattle.std.specs.Prelude.{◌≡◌, ◌≢◌, ◌-◌, ◌^◌, ◌≤◌, ◌<◌, ◌∷◌, [], All, length, IsTrue, IfOk, IfErr};
+ghost use Rattle.std.specs.Prelude.{◌≡◌, ◌≢◌, ◌⊎◌, ◌-◌, ◌^◌, ◌≤◌, ◌<◌, ◌∷◌, [], All, length, false, None, Some, Err, IsTrue, IfOk, IfErr, OnOk};
+ghost use Rattle.disk_model.specs.Disk.{LeavesOnly};
 ghost use Rattle.tree_shape.specs.Tree.{Nodes, IsSoundTree};
 ghost use Rattle.page_store.specs.Succession.{StandsByItself};
 ghost use Rattle.free_pages.specs.Commits.{AreWithin};
-ghost use Rattle.index_core.specs.Index.{AreSpare};
-ghost use Rattle.index_core.specs.Loading.{HasLoadCause, build_fault};
-ghost use Rattle.index_core.specs.Writing.{IsPlacedFor, IsPlacedOn, Loads};
+ghost use Rattle.index_core.specs.Answers.{IsSoundOn};
+ghost use Rattle.index_core.specs.Causes.{BlamesNoPage};
+ghost use Rattle.index_core.specs.Files.{StandsOn, nodes_on};
+ghost use Rattle.index_core.specs.Index.{AreSpare, IsLawfulFree, MayGoOn};
+ghost use Rattle.index_core.specs.Loading.{HasLoadCause, HasLoadingCause, build_fault, ids, load_fault};
+ghost use Rattle.index_core.specs.Writing.{HasWritten, IsPlacedFor, IsPlacedOn, Loads};
 
-use crate::IndexFault;
+use crate::index::Index;
 use crate::placing::Placement;
 use crate::view::View;
+use crate::{IndexFault, Memory};
 use bulk_load::{BuildFault, build};
+use disk_model::Disk;
 use free_pages::Free;
 use metric_laws::{Metric, Rows};
 use std::alloc::Global;
 use std::thread::Threads;
+use tree_shape::LAST_GENERATION;
 
 // What the refusal of a load is to whoever called the index.
 fn build_fault(fault: BuildFault) -> IndexFault
@@ -77,5 +84,144 @@ impl<M: Metric> View<M> {
             }
             Err(fault) => Err(build_fault(fault)),
         }
+    }
+}
+
+// The tags of rows that come without: their ids.
+fn tags_of(alloc: Global, rows: usize) -> Result<Vec<u64>, Memory>
+    requires { rows < 2 ^ 32 }
+    ensures { IfOk result (λ tags. tags.items ≡ ids rows) }
+{
+    (0..rows as u64).collect(alloc)
+}
+
+impl<M: Metric> Index<M> {
+    // Whether so many rows may be loaded, as far as the index itself tells.
+    fn may_load(&self, rows: usize) -> Result<(), IndexFault>
+        ensures ok { OnOk result (load_fault self.now rows ≡ None) }
+        ensures err { IfErr result (λ fault. load_fault self.now rows ≡ Some fault) }
+    {
+        if self.stopped {
+            return Err(IndexFault::Stopped);
+        }
+        let live = self.live();
+        if live.count != 0 {
+            return Err(IndexFault::NotEmpty);
+        }
+        if rows > self.head().limit as usize {
+            return Err(IndexFault::Full);
+        }
+        if live.generation == LAST_GENERATION {
+            return Err(IndexFault::Worn);
+        }
+        Ok(())
+    }
+
+    // Loads rows, which may be loaded, with this free list.
+    fn load_on<R: Threads + Sync, D: Disk>(
+        &mut self,
+        rt: &R,
+        alloc: Global,
+        disk: &mut D,
+        free: Free,
+        rows: &Rows,
+        tags: &[u64],
+    ) -> Result<u32, IndexFault>
+        requires may { load_fault self.old (length rows.now.points) ≡ None }
+        requires stands { StandsOn self.old.file (D.state disk.old) }
+        requires only { IsTrue (D.state disk.old).tells → LeavesOnly (D.state disk.old) (D.state disk.old).bytes }
+        requires lawful { IsLawfulFree self.old.file.live free }
+        requires beside { IsTrue (D.state disk.old).tells → AreSpare (nodes_on self.old.file (D.state disk.old)) self.old.file.live free }
+        requires some { 0 < length rows.now.points }
+        requires fits { All (λ p. IsTrue ((M.space self.old.file.metric).fits p)) rows.now.points }
+        requires tags { length tags.now ≡ length rows.now.points }
+        ensures stands { MayGoOn self.new (D.state disk.new) }
+        ensures written { HasWritten (M.space self.old.file.metric) (Loads rows.now.points tags.now) (record self.old { free = Some free }) self.new
+            (D.state disk.old) (D.state disk.new) result }
+        ensures cause { IfErr result (λ fault. (fault ≡ IndexFault.Commit) ⊎
+            (HasLoadCause (M.space self.old.file.metric) self.old.file free rows.now.points tags.now fault × (self.new ≡ record self.old { free = Some free }))) }
+        ensures later { (D.state disk.old).faults ≤ (D.state disk.new).faults }
+    {
+        match self.view.build(rt, alloc, self.workers, &free, rows, tags) {
+            Ok(placement) => {
+                let count = placement.placed.next.count;
+                self.commit_placed(disk, free, &placement, count)
+            }
+            Err(fault) => {
+                self.put_free(free);
+                Err(fault)
+            }
+        }
+    }
+
+    /// Loads these rows into an index that has no objects, and answers how many they are. Row i gets the id i, and its id as its
+    /// tag. The refusals are those of `load_tagged`.
+    pub fn load<R: Threads + Sync, D: Disk>(
+        &mut self,
+        rt: &R,
+        alloc: Global,
+        disk: &mut D,
+        rows: &Rows,
+    ) -> Result<u32, IndexFault>
+        requires stands { MayGoOn self.old (D.state disk.old) }
+        requires some { 0 < length rows.now.points }
+        requires fits { All (λ p. IsTrue ((M.space self.old.file.metric).fits p)) rows.now.points }
+        ensures refused { (fault : IndexFault) → load_fault self.old (length rows.now.points) ≡ Some fault → (result ≡ Err fault) × (self.new ≡ self.old) × (disk.new ≡ disk.old) }
+        ensures stands { MayGoOn self.new (D.state disk.new) }
+        ensures written { self.old.stopped ≡ false →
+            HasWritten (M.space self.old.file.metric) (Loads rows.now.points (ids (length rows.now.points))) self.old self.new (D.state disk.old) (D.state disk.new) result }
+        ensures cause { load_fault self.old (length rows.now.points) ≡ None →
+            IfErr result (HasLoadingCause (M.space self.old.file.metric) self.old self.new rows.now.points (ids (length rows.now.points)) (D.state disk.old) (D.state disk.new).faults) }
+        ensures undamaged { IfErr result (λ fault. IsSoundOn (M.space self.old.file.metric) self.old.file (D.state disk.old) → BlamesNoPage fault) }
+        ensures later { (D.state disk.old).faults ≤ (D.state disk.new).faults }
+    {
+        self.view.is_lawful();
+        if let Err(fault) = self.may_load(rows.len()) {
+            return Err(fault);
+        }
+        let Ok(tags) = tags_of(alloc, rows.len()) else {
+            return Err(IndexFault::Memory);
+        };
+        self.load_tagged(rt, alloc, disk, rows, tags.as_slice())
+    }
+
+    /// Loads these rows with their tags into an index that has no objects, and answers how many they are. Row i gets the id i. It
+    /// is one commit: after `Ok` the objects are there whatever crash comes, and before that a crash leaves the file with all of
+    /// them or with none. The refusals come in this order, and all but the last change nothing: `Stopped` where a commit failed
+    /// before; `NotEmpty` where there are objects; `Full` where there are more rows than the head allows; `Worn` where there is
+    /// no further generation; `Disk` or `Damaged` (`Bad`, `Outside` or `Repeats`, with the page) of the walk that makes the free
+    /// list, where it isn't made yet; `NoRoom` where the new nodes need more pages than a file may have; `Memory`; and `Commit`
+    /// where the disk failed in the commit, which stops the index: the file then has the objects or not, and is to be opened
+    /// anew. As many threads as `workers` says share the work; any number of them makes the same tree.
+    pub fn load_tagged<R: Threads + Sync, D: Disk>(
+        &mut self,
+        rt: &R,
+        alloc: Global,
+        disk: &mut D,
+        rows: &Rows,
+        tags: &[u64],
+    ) -> Result<u32, IndexFault>
+        requires stands { MayGoOn self.old (D.state disk.old) }
+        requires some { 0 < length rows.now.points }
+        requires fits { All (λ p. IsTrue ((M.space self.old.file.metric).fits p)) rows.now.points }
+        requires tags { length tags.now ≡ length rows.now.points }
+        ensures refused { (fault : IndexFault) → load_fault self.old (length rows.now.points) ≡ Some fault → (result ≡ Err fault) × (self.new ≡ self.old) × (disk.new ≡ disk.old) }
+        ensures stands { MayGoOn self.new (D.state disk.new) }
+        ensures written { self.old.stopped ≡ false →
+            HasWritten (M.space self.old.file.metric) (Loads rows.now.points tags.now) self.old self.new (D.state disk.old) (D.state disk.new) result }
+        ensures cause { load_fault self.old (length rows.now.points) ≡ None →
+            IfErr result (HasLoadingCause (M.space self.old.file.metric) self.old self.new rows.now.points tags.now (D.state disk.old) (D.state disk.new).faults) }
+        ensures undamaged { IfErr result (λ fault. IsSoundOn (M.space self.old.file.metric) self.old.file (D.state disk.old) → BlamesNoPage fault) }
+        ensures later { (D.state disk.old).faults ≤ (D.state disk.new).faults }
+    {
+        self.view.is_lawful();
+        if let Err(fault) = self.may_load(rows.len()) {
+            return Err(fault);
+        }
+        let free = match self.take_free(alloc, disk) {
+            Ok(free) => free,
+            Err(fault) => return Err(fault),
+        };
+        self.load_on(rt, alloc, disk, free, rows, tags)
     }
 }
