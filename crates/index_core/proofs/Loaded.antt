@@ -1,6 +1,9 @@
 -- What a load places for a file that has no objects.
-use Rattle.std.proofs.Common.{◌≡◌, ℕ, zero, suc, ◌+◌, ◌-◌, ◌*◌, ◌^◌, ◌≤◌, List, [], ◌∷◌, refl, sym, ap, subst, ◌∙◌, arith, length, take, min}
-use Rattle.std.specs.Prelude.{◌≢◌}
+use Rattle.std.proofs.Common.{◌≡◌, ◌⊎◌, ℕ, zero, suc, ◌+◌, ◌-◌, ◌*◌, ◌^◌, ◌≤◌, ◌<◌, Bool, true, false, List, [], ◌∷◌, ◌++◌, inl, inr, refl, sym, ap, subst, ◌∙◌, arith, append_assoc, length, take, min, Option, Some, None, Result, Ok, Err}
+use Rattle.std.specs.Prelude.{◌≢◌, ◌==◌, nat_lt, if◌then◌else◌, IsTrue, IfErr, MatchOption}
+use Rattle.std.specs.List.{range_with_len}
+use Rattle.outside_io.specs.Causes.{Rose}
+use Rattle.disk_model.specs.Disk.{DiskState, LeavesOnly}
 use Rattle.metric_laws.specs.Space.{Space}
 use Rattle.tree_shape.specs.declared.live.Live.{Live}
 use Rattle.tree_shape.specs.Tree.{Nodes, IsSoundTree, pages_at, times}
@@ -12,13 +15,23 @@ use Rattle.page_store.specs.Staging.{pages_of}
 use Rattle.bulk_load.specs.Causes.{HasBuildCause}
 use Rattle.bulk_load.specs.Loaded.{HasLoaded, Stand}
 use Rattle.bulk_load.specs.declared.faults.BuildFault.{BuildFault}
-use Rattle.bulk_load.specs.declared.faults.BuildFault.TheVariants.{NoRoom, Worn, Memory}
+use Rattle.bulk_load.specs.declared.faults.BuildFault.TheVariants as build
+use Rattle.index_core.specs.declared.faults.IndexFault.{IndexFault}
+use Rattle.index_core.specs.declared.faults.IndexFault.TheVariants.{Disk, Damaged, Full, NotEmpty, NoRoom, Worn, Stopped, Memory, Commit}
 use Rattle.free_pages.specs.Keeping.{FreePages}
-use Rattle.index_core.specs.Files.{OpenFile}
-use Rattle.index_core.specs.Index.{AreSpare}
-use Rattle.index_core.specs.Loading.{HasLoadCause, build_fault}
-use Rattle.index_core.specs.Writing.{Loads, IsMadeBy, IsPlacedFor}
+use Rattle.index_core.specs.Causes.{HasListCause}
+use Rattle.index_core.specs.Files.{OpenFile, StandsOn, OnlyReads, IsLawfulFile}
+use Rattle.index_core.specs.Index.{OpenIndex, AreSpare}
+use Rattle.index_core.specs.Loading.{HasLoadCause, HasLoadingCause, build_fault, load_fault}
+use Rattle.index_core.specs.Writing.{Write, Loads, IsMadeBy, IsPlacedFor, HasWritten}
+use Rattle.index_core.proofs.Written.{refused_here, refused_written}
 use Rattle.index_core.proofs.Listed.{free_outside}
+
+some_none : {X : Type 0} {x : X} → (Some x ≡ None) → ⊥
+some_none e = cc
+
+rose_more : (a b c : ℕ) → a ≤ b → Rose b c → Rose a c
+rose_more a b c more rose = grind arith
 
 no_height : (h : ℕ) → (1 ≤ h → 2 * 3 ^ h ≤ 0) → h ≡ 0
 no_height zero big = refl
@@ -55,6 +68,99 @@ load_placed_for s head t f n rows labels numbers placed is few none left apart l
 -- why rows were not placed, by why no nodes were made of them
 pub load_cause : {M : Type 0} (s : Space) (file : OpenFile M) (f : FreePages) (rows : List (List ℕ)) (labels numbers : List ℕ) (fault : BuildFault) → numbers ≡ f.free →
     (file.live.generation ≢ 2 ^ 48 - 1) → HasBuildCause s rows labels numbers file.live fault → HasLoadCause s file f rows labels (build_fault fault)
-load_cause s file f rows labels numbers (NoRoom pages needed) is unworn cause = subst (λ (ns : List ℕ). HasBuildCause s rows labels ns file.live (NoRoom pages needed)) is cause
-load_cause s file f rows labels numbers Worn is unworn cause = absurd (unworn cause)
-load_cause s file f rows labels numbers Memory is unworn cause = tt
+load_cause s file f rows labels numbers (build.NoRoom pages needed) is unworn cause = subst (λ (ns : List ℕ). HasBuildCause s rows labels ns file.live (build.NoRoom pages needed)) is cause
+load_cause s file f rows labels numbers build.Worn is unworn cause = absurd (unworn cause)
+load_cause s file f rows labels numbers build.Memory is unworn cause = tt
+
+-- ---- loads of an index
+
+-- one tag more
+pub one_tag : (row rows : ℕ) (tags next all : List ℕ) → row < rows → next ≡ tags ++ row ∷ [] → tags ++ range_with_len row (rows - row) ≡ all → next ++ range_with_len (row + 1) (rows - (row + 1)) ≡ all
+one_tag row rows tags next all low is so_far =
+    ap (λ (ts : List ℕ). ts ++ range_with_len (row + 1) (rows - (row + 1))) is
+    ∙ (append_assoc tags (row ∷ []) (range_with_len (row + 1) (rows - (row + 1)))
+    ∙ subst (λ (n : ℕ). tags ++ range_with_len row n ≡ all) {x = rows - row} {y = suc (rows - (row + 1))} (omega arith) so_far)
+
+-- what refuses a load at once is none of the disk, and no commit
+pub at_once : {M : Type 0} (index : OpenIndex M) (rows : ℕ) (fault : IndexFault) → load_fault index rows ≡ Some fault → (fault ≡ Commit → ⊥)
+at_once index rows fault is e = tested index.stopped (index.file.live.count == 0) (nat_lt index.file.head.limit rows) (index.file.live.generation == 2 ^ 48 - 1) (is ∙ ap Some e)
+  where
+    tested : (a b c d : Bool) → (if a then Some Stopped else (if b then (if c then Some Full else (if d then Some Worn else None)) else Some NotEmpty)) ≡ Some Commit → ⊥
+    tested true b c d e = cc
+    tested false false c d e = cc
+    tested false true true d e = cc
+    tested false true false true e = cc
+    tested false true false false e = cc
+
+-- where nothing refuses a load at once there is no object
+pub may_be_loaded : {M : Type 0} (index : OpenIndex M) (rows : ℕ) → load_fault index rows ≡ None → index.file.live.count ≡ 0
+may_be_loaded index rows is = zero_of index.file.live.count (tested index.stopped (index.file.live.count == 0) _ is)
+  where
+    tested : (a b : Bool) (r : Option IndexFault) → (if a then Some Stopped else (if b then r else Some NotEmpty)) ≡ None → b ≡ true
+    tested true b r e = cc
+    tested false true r e = refl
+    tested false false r e = cc
+
+    zero_of : (n : ℕ) → (n == 0) ≡ true → n ≡ 0
+    zero_of zero e = refl
+    zero_of (suc n) e = cc
+
+-- a refusal that touched nothing
+pub nothing_written : {M : Type 0} (s : Space) (write : Write) (old : OpenIndex M) (disk : DiskState) (fault : IndexFault) → IsLawfulFile s.words old.file → StandsOn old.file disk →
+    (IsTrue disk.tells → LeavesOnly disk disk.bytes) → (fault ≡ Commit → ⊥) → HasWritten s write old old disk disk (Err fault)
+nothing_written s write old disk fault lawful stands only other = refused_written s write old old disk disk fault lawful stands only other (refused_here old disk)
+
+-- a commit's refusal, as one of the load
+pub commit_cause : {M : Type 0} (s : Space) (old new : OpenIndex M) (rows : List (List ℕ)) (labels : List ℕ) (before after : DiskState) (write : Write) (result : Result ℕ IndexFault) →
+    HasWritten s write old new before after result → IfErr result (λ fault. (fault ≡ Memory) ⊎ (fault ≡ Commit)) → IfErr result (HasLoadingCause s old new rows labels before after.faults)
+commit_cause s old new rows labels before after write (Ok n) written refused = tt
+commit_cause s old new rows labels before after write (Err fault) written refused = elim refused [
+  | inl memory ↦ subst (HasLoadingCause s old new rows labels before after.faults) (sym memory) tt
+  | inr commit ↦ subst (HasLoadingCause s old new rows labels before after.faults) (sym commit) (written.stops commit).1
+]
+
+-- a refusal to place rows, as one of the load
+pub place_cause : {M : Type 0} (s : Space) (old new : OpenIndex M) (f : FreePages) (rows : List (List ℕ)) (labels : List ℕ) (before : DiskState) (faults : ℕ) (fault : IndexFault) →
+    new.free ≡ Some f → HasLoadCause s old.file f rows labels fault → HasLoadingCause s old new rows labels before faults fault
+place_cause s old new f rows labels before faults (NoRoom pages needed) list cause = subst (λ (free : Option FreePages). MatchOption free ⊥ (λ g. HasLoadCause s old.file g rows labels (NoRoom pages needed))) (sym list) cause
+place_cause s old new f rows labels before faults Memory list cause = tt
+place_cause s old new f rows labels before faults Disk list cause = absurd cause
+place_cause s old new f rows labels before faults (Damaged fault) list cause = absurd cause
+place_cause s old new f rows labels before faults Full list cause = absurd cause
+place_cause s old new f rows labels before faults NotEmpty list cause = absurd cause
+place_cause s old new f rows labels before faults Worn list cause = absurd cause
+place_cause s old new f rows labels before faults Stopped list cause = absurd cause
+place_cause s old new f rows labels before faults Commit list cause = absurd cause
+
+-- a refusal of the walk that makes the free list, as one of the load
+pub list_cause : {M : Type 0} (s : Space) (old new : OpenIndex M) (rows : List (List ℕ)) (labels : List ℕ) (before : DiskState) (faults : ℕ) (fault : IndexFault) →
+    old.free ≡ None → HasListCause old.file before faults fault → HasLoadingCause s old new rows labels before faults fault
+list_cause s old new rows labels before faults Disk none cause = (none, cause)
+list_cause s old new rows labels before faults (Damaged fault) none cause = (none, cause)
+list_cause s old new rows labels before faults Memory none cause = tt
+list_cause s old new rows labels before faults Full none cause = absurd cause
+list_cause s old new rows labels before faults NotEmpty none cause = absurd cause
+list_cause s old new rows labels before faults (NoRoom pages needed) none cause = absurd cause
+list_cause s old new rows labels before faults Worn none cause = absurd cause
+list_cause s old new rows labels before faults Stopped none cause = absurd cause
+list_cause s old new rows labels before faults Commit none cause = absurd cause
+
+-- a refusal after calls that only read, said of the index before them
+pub cause_then : {M : Type 0} (s : Space) (old new : OpenIndex M) (file : OpenFile M) (f : FreePages) (rows : List (List ℕ)) (labels : List ℕ) (before mid : DiskState) (faults : ℕ) (fault : IndexFault) →
+    OnlyReads old.file file before mid → HasLoadingCause s (record old { file = file; free = Some f }) new rows labels mid faults fault → HasLoadingCause s old new rows labels before faults fault
+cause_then {M} s old new file f rows labels before mid faults (NoRoom pages needed) reads cause =
+    subst (λ (o : OpenFile M). MatchOption new.free ⊥ (λ g. HasLoadCause s o g rows labels (NoRoom pages needed))) reads.rest cause
+cause_then s old new file f rows labels before mid faults Memory reads cause = tt
+cause_then s old new file f rows labels before mid faults Commit reads cause = rose_more before.faults mid.faults faults reads.later cause
+cause_then s old new file f rows labels before mid faults Disk reads cause = absurd (some_none cause.0)
+cause_then s old new file f rows labels before mid faults (Damaged fault) reads cause = absurd (some_none cause.0)
+cause_then s old new file f rows labels before mid faults Full reads cause = absurd cause.1
+cause_then s old new file f rows labels before mid faults NotEmpty reads cause = absurd cause.1
+cause_then s old new file f rows labels before mid faults Worn reads cause = absurd cause.1
+cause_then s old new file f rows labels before mid faults Stopped reads cause = absurd cause.1
+
+-- the same of whatever was answered
+pub causes_then : {M : Type 0} (s : Space) (old new : OpenIndex M) (file : OpenFile M) (f : FreePages) (rows : List (List ℕ)) (labels : List ℕ) (before mid : DiskState) (faults : ℕ) (result : Result ℕ IndexFault) →
+    OnlyReads old.file file before mid → IfErr result (HasLoadingCause s (record old { file = file; free = Some f }) new rows labels mid faults) → IfErr result (HasLoadingCause s old new rows labels before faults)
+causes_then s old new file f rows labels before mid faults (Ok n) reads cause = tt
+causes_then s old new file f rows labels before mid faults (Err fault) reads cause = cause_then s old new file f rows labels before mid faults fault reads cause

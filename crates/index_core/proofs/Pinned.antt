@@ -1,6 +1,6 @@
 -- Pins of an index.
-use Rattle.std.proofs.Common.{◌≡◌, ℕ, ◌+◌, ◌≤◌, Bool, true, false, List, [], ◌∷◌, ◌++◌, inl, inr, refl, sym, ap, subst, ◌∙◌, arith, Option, Some, None}
-use Rattle.std.specs.Prelude.{IsTrue, MatchOption, ◌↔◌, ◌==◌, if◌then◌else◌}
+use Rattle.std.proofs.Common.{◌≡◌, ℕ, ◌+◌, ◌≤◌, Bool, true, false, List, [], ◌∷◌, ◌++◌, inl, inr, refl, sym, ap, subst, ◌∙◌, arith, Option, Some, None, Result, Ok, Err}
+use Rattle.std.specs.Prelude.{IsTrue, MatchOption, ◌↔◌, ◌==◌, if◌then◌else◌, OnOk, OnErr}
 use Rattle.std.specs.List.{AllByRecursion}
 use Rattle.metric_laws.specs.Lists.{IsIn}
 use Rattle.metric_laws.specs.Space.{Space}
@@ -31,6 +31,11 @@ pinned_lawful t f lawful = record {
   newest = lawful.newest;
   pins = all_append (λ pin. pin ≤ t.generation) f.pins (t.generation ∷ []) lawful.pins (omega arith, tt);
 }
+
+-- a list to which a pin came, or not
+pub pin_lawful : {X E : Type 0} (t : Live) (f g : FreePages) (r : Result X E) → IsLawfulFree t f → OnOk r (g ≡ pinned t.generation f) → OnErr r (g ≡ f) → IsLawfulFree t g
+pin_lawful t f g (Ok x) lawful ok err = subst (IsLawfulFree t) (sym ok) (pinned_lawful t f lawful)
+pin_lawful t f g (Err x) lawful ok err = subst (IsLawfulFree t) (sym err) lawful
 
 without_all : (P : ℕ → Type 0) (generation : ℕ) (pins : List ℕ) → AllByRecursion P pins → AllByRecursion P (without_pin generation pins)
 without_all P generation [] all = tt
@@ -69,6 +74,12 @@ module _ {M : Type 0} (old : OpenIndex M) (file : OpenFile M) (f : FreePages) (b
           MatchOption free (f.pins ++ old.file.live.generation ∷ [] ≡ old.file.live.generation ∷ []) (λ o. Some (pinned old.file.live.generation f) ≡ Some (pinned old.file.live.generation o))
       by_list None l = ap (λ (pins : List ℕ). pins ++ old.file.live.generation ∷ []) l
       by_list (Some o) l = ap (λ (h : FreePages). Some (pinned old.file.live.generation h)) l
+
+  pub pinned_guards : (tree : List ℕ) → AreSpare (nodes_on old.file before) old.file.live f → AreReached (nodes_on old.file before) old.file.live.root tree →
+      GuardsPages old.file.live.generation tree (record old { file = file; free = Some (pinned old.file.live.generation f) })
+  pinned_guards tree spare reached =
+      subst (λ (o : OpenFile M). IsGuarded o.live.pages old.file.live.generation (pinned old.file.live.generation f) tree) (sym reads.rest)
+      (pin_guards (nodes_on old.file before) old.file.live f tree spare reached)
 
   -- what was guarded stays so
   still_guarded : (g : FreePages) → ((generation : ℕ) (tree : List ℕ) → IsGuarded old.file.live.pages generation f tree → IsGuarded old.file.live.pages generation g tree) →

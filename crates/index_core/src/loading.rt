@@ -1,5 +1,5 @@
 // Loads of an index that has no objects, each of them one commit.
-ghost use Rattle.std.specs.Prelude.{◌≡◌, ◌≢◌, ◌⊎◌, ◌-◌, ◌^◌, ◌≤◌, ◌<◌, ◌∷◌, [], All, length, false, None, Some, Err, IsTrue, IfOk, IfErr, OnOk};
+ghost use Rattle.std.specs.Prelude.{◌≡◌, ◌≢◌, ◌-◌, ◌^◌, ◌≤◌, ◌<◌, ◌∷◌, [], All, length, false, None, Some, Err, IsTrue, IfOk, IfErr, OnOk};
 ghost use Rattle.disk_model.specs.Disk.{LeavesOnly};
 ghost use Rattle.tree_shape.specs.Tree.{Nodes, IsSoundTree};
 ghost use Rattle.page_store.specs.Succession.{StandsByItself};
@@ -89,10 +89,13 @@ impl<M: Metric> View<M> {
 
 // The tags of rows that come without: their ids.
 fn tags_of(alloc: Global, rows: usize) -> Result<Vec<u64>, Memory>
-    requires { rows < 2 ^ 32 }
     ensures { IfOk result (λ tags. tags.items ≡ ids rows) }
 {
-    (0..rows as u64).collect(alloc)
+    let mut tags = Vec::with_capacity(alloc, rows)?;
+    for row in 0..rows {
+        tags.push(row as u64)?;
+    }
+    Ok(tags)
 }
 
 impl<M: Metric> Index<M> {
@@ -138,10 +141,12 @@ impl<M: Metric> Index<M> {
         ensures stands { MayGoOn self.new (D.state disk.new) }
         ensures written { HasWritten (M.space self.old.file.metric) (Loads rows.now.points tags.now) (record self.old { free = Some free }) self.new
             (D.state disk.old) (D.state disk.new) result }
-        ensures cause { IfErr result (λ fault. (fault ≡ IndexFault.Commit) ⊎
-            (HasLoadCause (M.space self.old.file.metric) self.old.file free rows.now.points tags.now fault × (self.new ≡ record self.old { free = Some free }))) }
+        ensures cause { IfErr result (HasLoadingCause (M.space self.old.file.metric) (record self.old { free = Some free }) self.new rows.now.points tags.now
+            (D.state disk.old) (D.state disk.new).faults) }
+        ensures undamaged { IfErr result BlamesNoPage }
         ensures later { (D.state disk.old).faults ≤ (D.state disk.new).faults }
     {
+        self.view.is_lawful();
         match self.view.build(rt, alloc, self.workers, &free, rows, tags) {
             Ok(placement) => {
                 let count = placement.placed.next.count;
