@@ -204,8 +204,8 @@ pub fits_moved : {M : Type 0} (space : M → Space) (write : Write) (placed : Pl
     IsSoundOn (space new.metric) new after → IsPlacedFor (space new.metric) new.head write (nodes_on new after) new.live placed
 fits_moved {M} space write placed old new before after reads fits =
     subst (λ (f : OpenFile M). IsSoundOn (space f.metric) f after → IsPlacedFor (space f.metric) f.head write (nodes_on f after) f.live placed) (sym reads.rest) (λ sound.
-        subst (λ (bytes : List ℕ). IsPlacedFor (space old.metric) old.head write (nodes_of (reading old.head.dim old.live.pages bytes)) old.live placed) (sym reads.same.same_bytes)
-        (fits (rw (sym reads.same.same_tells) sound.0, subst (λ (bytes : List ℕ). IsSoundTree (space old.metric) (nodes_of (reading old.head.dim old.live.pages bytes)) old.live) reads.same.same_bytes sound.1)))
+    subst (λ (bytes : List ℕ). IsPlacedFor (space old.metric) old.head write (nodes_of (reading old.head.dim old.live.pages bytes)) old.live placed) (sym reads.same.same_bytes)
+    (fits (rw (sym reads.same.same_tells) sound.0, subst (λ (bytes : List ℕ). IsSoundTree (space old.metric) (nodes_of (reading old.head.dim old.live.pages bytes)) old.live) reads.same.same_bytes sound.1)))
 
 pub exact_moved : {M : Type 0} (f : FreePages) (old new : OpenFile M) (before after : DiskState) → OnlyReads old new before after → IsExactFor old f before → IsExactFor new f after
 exact_moved {M} f old new before after reads exact =

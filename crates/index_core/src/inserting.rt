@@ -37,7 +37,7 @@ impl<M: Metric> Index<M> {
         ensures stands { MayGoOn self.new (D.state disk.new) }
         ensures written { (write : Write) → placement.now.placed.next.count ≡ self.old.file.live.count + added_by write → answer ≡ answer_to write self.old.file.live.count →
             (IsSoundOn (M.space self.old.file.metric) self.old.file (D.state disk.old) →
-                IsPlacedFor (M.space self.old.file.metric) self.old.file.head write (nodes_on self.old.file (D.state disk.old)) self.old.file.live placement.now.placed) →
+            IsPlacedFor (M.space self.old.file.metric) self.old.file.head write (nodes_on self.old.file (D.state disk.old)) self.old.file.live placement.now.placed) →
             HasWritten (M.space self.old.file.metric) write (record self.old { free = Some free }) self.new (D.state disk.old) (D.state disk.new) result }
         ensures refusals { IfErr result (λ fault. (fault ≡ IndexFault.Memory) ⊎ (fault ≡ IndexFault.Commit)) }
         ensures rose { IfErr result (λ fault. fault ≡ IndexFault.Commit → Rose (D.state disk.old).faults (D.state disk.new).faults) }
@@ -125,7 +125,9 @@ impl<M: Metric> Index<M> {
         }
         self.view.is_lawful();
         let Live {
-            count, generation, ..
+            count,
+            generation,
+            ..
         } = self.view.live();
         if count == self.view.head().limit {
             return Err(IndexFault::Full);

@@ -21,4 +21,6 @@ pub use view::View;
 pub type Memory = std::alloc::AllocError;
 
 #[cfg(test)]
+mod insert_tests;
+#[cfg(test)]
 mod tests;

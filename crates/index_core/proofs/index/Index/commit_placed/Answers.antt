@@ -45,15 +45,15 @@ returns-in_default-write-clause-written g c = λ write count is fits.
     let lawful = subst (λ (i : OpenIndex g.row.M.Denot). IsLawfulFile (g.M.Metric.space i.file.metric).words i.file) c.self.view_is c.is_lawful.ensures in
     let kept = unspared c.args.free _ (subst IsKept c.in-Ok.ensures.ok c.reserve.ensures.kept) in
     let moments = subst (λ (i : OpenIndex g.row.M.Denot). IsTrue (g.D.Disk.state c.args.disk.now).tells →
-        EachImage (g.D.Disk.state c.args.disk.now) (g.D.Disk.state c.write.new.disk) (IsBeforeOrAfter i.file.head.dim i.file.live c.args.placement.now.placed.next c.args.placement.now.placed.staged
-        (g.D.Disk.state c.args.disk.now))) c.self.view_is c.write.ensures.moments in
+    EachImage (g.D.Disk.state c.args.disk.now) (g.D.Disk.state c.write.new.disk) (IsBeforeOrAfter i.file.head.dim i.file.live c.args.placement.now.placed.next c.args.placement.now.placed.staged
+    (g.D.Disk.state c.args.disk.now))) c.self.view_is c.write.ensures.moments in
     failed_written (g.M.Metric.space c.args.self.now.file.metric) write c.args.self.now c.args.free c.args.placement.now.used c.args.placement.now.placed lawful kept c.requires.lawful c.requires.placed
     (g.D.Disk.state c.args.disk.now) (g.D.Disk.state c.write.new.disk) c.requires.stands c.requires.only (λ tells sound. fits (tells, sound)) moments _ refl c.in_default-write.ensures.cause.failed
 
 pub invariant_of-self-2 : goal.invariant_of-self-2
 invariant_of-self-2 g c =
     let did = subst (λ (i : OpenIndex g.row.M.Denot). IsCommitted i.file c.write.new.self c.reserve.new.self c.write.new.free c.args.placement.now.used c.args.placement.now.placed (g.D.Disk.state c.args.disk.now)
-        (g.D.Disk.state c.write.new.disk)) c.self.view_is c.in-Ok-write.ensures.committed in
+    (g.D.Disk.state c.write.new.disk)) c.self.view_is c.in-Ok-write.ensures.committed in
     record {
       some_workers = c.self.invariant.some_workers;
       few_workers = c.self.invariant.few_workers;
@@ -68,13 +68,13 @@ returns-clause-written g c = λ write count is fits.
     let lawful = subst (λ (i : OpenIndex g.row.M.Denot). IsLawfulFile (g.M.Metric.space i.file.metric).words i.file) c.self.view_is c.is_lawful.ensures in
     let kept = unspared c.args.free _ (subst IsKept c.in-Ok.ensures.ok c.reserve.ensures.kept) in
     let moments = subst (λ (i : OpenIndex g.row.M.Denot). IsTrue (g.D.Disk.state c.args.disk.now).tells →
-        EachImage (g.D.Disk.state c.args.disk.now) (g.D.Disk.state c.write.new.disk) (IsBeforeOrAfter i.file.head.dim i.file.live c.args.placement.now.placed.next c.args.placement.now.placed.staged
-        (g.D.Disk.state c.args.disk.now))) c.self.view_is c.write.ensures.moments in
+    EachImage (g.D.Disk.state c.args.disk.now) (g.D.Disk.state c.write.new.disk) (IsBeforeOrAfter i.file.head.dim i.file.live c.args.placement.now.placed.next c.args.placement.now.placed.staged
+    (g.D.Disk.state c.args.disk.now))) c.self.view_is c.write.ensures.moments in
     let did = subst (λ (i : OpenIndex g.row.M.Denot). IsCommitted i.file c.write.new.self c.reserve.new.self c.write.new.free c.args.placement.now.used c.args.placement.now.placed (g.D.Disk.state c.args.disk.now)
-        (g.D.Disk.state c.write.new.disk)) c.self.view_is c.in-Ok-write.ensures.committed in
+    (g.D.Disk.state c.write.new.disk)) c.self.view_is c.in-Ok-write.ensures.committed in
     let whole = committed_of c.args.self.now.file c.write.new.self c.args.free c.write.new.free _ c.args.placement.now.used c.args.placement.now.placed (g.D.Disk.state c.args.disk.now) (g.D.Disk.state c.write.new.disk)
-        (subst (λ (f : FreePages). IsCommitted c.args.self.now.file c.write.new.self f c.write.new.free c.args.placement.now.used c.args.placement.now.placed (g.D.Disk.state c.args.disk.now)
-        (g.D.Disk.state c.write.new.disk)) c.in-Ok.ensures.ok did) in
+    (subst (λ (f : FreePages). IsCommitted c.args.self.now.file c.write.new.self f c.write.new.free c.args.placement.now.used c.args.placement.now.placed (g.D.Disk.state c.args.disk.now)
+    (g.D.Disk.state c.write.new.disk)) c.in-Ok.ensures.ok did) in
     subst (λ (n : OpenIndex g.row.M.Denot). HasWritten (g.M.Metric.space c.args.self.now.file.metric) write (record c.args.self.now { free = Some c.args.free }) n (g.D.Disk.state c.args.disk.now)
     (g.D.Disk.state c.write.new.disk) (Ok c.args.answer)) (sym (ap (λ (i : OpenIndex g.row.M.Denot). record i { file = c.write.new.self; free = Some c.write.new.free }) c.self.view_is))
     (done_written (g.M.Metric.space c.args.self.now.file.metric) write c.args.self.now c.args.free c.args.placement.now.used c.args.placement.now.placed lawful kept c.requires.lawful c.requires.placed

@@ -31,7 +31,7 @@ returns-in-Err-place-clause-written g c = λ going.
     let lawful = subst (λ (i : OpenIndex g.row.M.Denot). IsLawfulFile (g.M.Metric.space i.file.metric).words i.file) c.self.view_is c.is_lawful.ensures in
     let second = subst (λ (i : OpenIndex g.row.M.Denot). OnlyReads i.file c.place.new.self (g.D.Disk.state c.take_free.new.disk) (g.D.Disk.state c.place.new.disk)) c.self-2.view_is c.place.ensures.reads in
     let reads = reads_both c.args.self.now.file c.take_free.new.self.file c.place.new.self (g.D.Disk.state c.args.disk.now) (g.D.Disk.state c.take_free.new.disk) (g.D.Disk.state c.place.new.disk)
-        c.take_free.ensures.reads second in
+    c.take_free.ensures.reads second in
     let list = list_is c.args.self.now.free c.in-Ok.free c.in-Ok.ensures.list in
     subst (λ (n : OpenIndex g.row.M.Denot). HasWritten (g.M.Metric.space c.args.self.now.file.metric) (Inserts c.args.p.now c.args.tag) c.args.self.now n (g.D.Disk.state c.args.disk.now) (g.D.Disk.state c.place.new.disk)
     (Err c.in-Err-place.fault)) (sym (ap (λ (i : OpenIndex g.row.M.Denot). record i { file = c.place.new.self; free = Some c.in-Ok.free }) (c.self-2.view_is ∙ c.take_free.ensures.rest)))
@@ -45,15 +45,15 @@ returns-clause-written g c = λ going.
     let lawful = subst (λ (i : OpenIndex g.row.M.Denot). IsLawfulFile (g.M.Metric.space i.file.metric).words i.file) c.self.view_is c.is_lawful.ensures in
     let second = subst (λ (i : OpenIndex g.row.M.Denot). OnlyReads i.file c.place.new.self (g.D.Disk.state c.take_free.new.disk) (g.D.Disk.state c.place.new.disk)) c.self-2.view_is c.place.ensures.reads in
     let reads = reads_both c.args.self.now.file c.take_free.new.self.file c.place.new.self (g.D.Disk.state c.args.disk.now) (g.D.Disk.state c.take_free.new.disk) (g.D.Disk.state c.place.new.disk)
-        c.take_free.ensures.reads second in
+    c.take_free.ensures.reads second in
     let list = list_is c.args.self.now.free c.in-Ok.free c.in-Ok.ensures.list in
     let count = c.in-Ok-place.ensures.one ∙ ap (λ (f : OpenFile g.row.M.Denot). f.live.count + 1) (sym c.place.ensures.reads.rest) in
     let answer = ap (λ t. t.count) c.live-generation.ensures ∙ (ap (λ (i : OpenIndex g.row.M.Denot). i.file.live.count) c.self.view_is ∙ ap (λ (f : OpenFile g.row.M.Denot). f.live.count) (sym reads.rest)) in
     let written = c.commit_placed.ensures.written (Inserts c.args.p.now c.args.tag) count answer
-        (fits_moved g.M.Metric.space (Inserts c.args.p.now c.args.tag) c.in-Ok-place.placement.placed c.self-2.inside.view c.place.new.self (g.D.Disk.state c.take_free.new.disk) (g.D.Disk.state c.place.new.disk)
-        c.place.ensures.reads c.in-Ok-place.ensures.inserts) in
+    (fits_moved g.M.Metric.space (Inserts c.args.p.now c.args.tag) c.in-Ok-place.placement.placed c.self-2.inside.view c.place.new.self (g.D.Disk.state c.take_free.new.disk) (g.D.Disk.state c.place.new.disk)
+    c.place.ensures.reads c.in-Ok-place.ensures.inserts) in
     let measured = subst (λ (f : OpenFile g.row.M.Denot). HasWritten (g.M.Metric.space f.metric) (Inserts c.args.p.now c.args.tag) (record { file = c.place.new.self; free = Some c.in-Ok.free; stopped = c.self-2.inside.stopped; workers = c.self-2.inside.workers }) c.commit_placed.new.self (g.D.Disk.state c.place.new.disk)
-        (g.D.Disk.state c.commit_placed.new.disk) c.commit_placed.result) reads.rest written in
+    (g.D.Disk.state c.commit_placed.new.disk) c.commit_placed.result) reads.rest written in
     then_written (g.M.Metric.space c.args.self.now.file.metric) (Inserts c.args.p.now c.args.tag) c.args.self.now c.commit_placed.new.self c.place.new.self c.in-Ok.free (g.D.Disk.state c.args.disk.now)
     (g.D.Disk.state c.place.new.disk) (g.D.Disk.state c.commit_placed.new.disk) c.commit_placed.result lawful (c.requires.stands going).stands (c.requires.stands going).only reads list
     (λ points tags has exact. exact_moved c.in-Ok.free c.args.self.now.file c.place.new.self (g.D.Disk.state c.args.disk.now) (g.D.Disk.state c.place.new.disk) reads (c.in-Ok.ensures.exact (has.tells, has.sound) exact))
