@@ -2,6 +2,7 @@
 use Rattle.std.proofs.Common.{◌≡◌, ◌⊎◌, ℕ, zero, suc, ◌+◌, ◌-◌, ◌*◌, ◌^◌, ◌≤◌, ◌<◌, Bool, true, false, List, [], ◌∷◌, ◌++◌, inl, inr, refl, sym, ap, subst, ◌∙◌, arith, append_assoc, length, take, min, Option, Some, None, Result, Ok, Err}
 use Rattle.std.specs.Prelude.{◌≢◌, ◌==◌, nat_lt, if◌then◌else◌, IsTrue, IfErr, MatchOption}
 use Rattle.std.specs.List.{range_with_len}
+use Rattle.std.proofs.lemmas.Bool.Decides.{nat_tests}
 use Rattle.outside_io.specs.Causes.{Rose}
 use Rattle.disk_model.specs.Disk.{DiskState, LeavesOnly}
 use Rattle.metric_laws.specs.Space.{Space}
@@ -102,8 +103,10 @@ may_be_loaded index rows is = zero_of index.file.live.count (tested index.stoppe
     tested false false r e = cc
 
     zero_of : (n : ℕ) → (n == 0) ≡ true → n ≡ 0
-    zero_of zero e = refl
-    zero_of (suc n) e = cc
+    zero_of n e = grind (arith, nat_tests)
+
+pub counts : (n m k : ℕ) → n ≡ m → k ≡ 0 → n ≡ k + m
+counts n m k e none = omega arith
 
 -- a refusal that touched nothing
 pub nothing_written : {M : Type 0} (s : Space) (write : Write) (old : OpenIndex M) (disk : DiskState) (fault : IndexFault) → IsLawfulFile s.words old.file → StandsOn old.file disk →

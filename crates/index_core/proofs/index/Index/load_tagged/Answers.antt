@@ -13,7 +13,7 @@ returns-in-Err-clause-written g c = λ going.
     let lawful = subst (λ (i : OpenIndex g.row.M.Denot). IsLawfulFile (g.M.Metric.space i.file.metric).words i.file) c.self.view_is c.is_lawful.ensures in
     let alone = c.requires.stands going in
     nothing_written (g.M.Metric.space c.args.self.now.file.metric) (Loads c.args.rows.now.points c.args.tags.now) c.args.self.now (g.D.Disk.state c.args.disk.now) c.in-Err.fault lawful alone.stands alone.only
-    (at_once _ _ c.in-Err.fault c.in-Err.ensures.err)
+    (at_once c.args.self.now c.len.result c.in-Err.fault c.in-Err.ensures.err)
 
 pub returns-clause-written : goal.returns-clause-written
 returns-clause-written g c = λ going.
