@@ -6,5 +6,4 @@ pub mod Settled
 pub mod Listed
 pub mod Outcome
 pub mod Loaded
-pub mod Taken
 pub mod Pinned

@@ -28,12 +28,6 @@ use Rattle.index_core.specs.Writing.{Write, Loads, IsMadeBy, IsPlacedFor, HasWri
 use Rattle.index_core.proofs.Written.{refused_here, refused_written}
 use Rattle.index_core.proofs.Listed.{free_outside}
 
-some_none : {X : Type 0} {x : X} → (Some x ≡ None) → ⊥
-some_none e = cc
-
-rose_more : (a b c : ℕ) → a ≤ b → Rose b c → Rose a c
-rose_more a b c more rose = grind arith
-
 no_height : (h : ℕ) → (1 ≤ h → 2 * 3 ^ h ≤ 0) → h ≡ 0
 no_height zero big = refl
 no_height (suc h) big = let b = big (omega arith) in let p = power_rises (suc h) 0 (suc h) (omega arith) in absurd (omega arith)
@@ -65,13 +59,6 @@ load_placed_for s head t f n rows labels numbers placed is few none left apart l
   apart = apart nodes sound (subst (AreBeside nodes t) (sym is) (free_outside s nodes t f n spare sound));
   makes = λ new over. load_makes s head nodes t rows labels numbers placed new few none sound left (loaded new over.stand);
 }
-
--- why rows were not placed, by why no nodes were made of them
-pub load_cause : {M : Type 0} (s : Space) (file : OpenFile M) (f : FreePages) (rows : List (List ℕ)) (labels numbers : List ℕ) (fault : BuildFault) → numbers ≡ f.free →
-    (file.live.generation ≢ 2 ^ 48 - 1) → HasBuildCause s rows labels numbers file.live fault → HasLoadCause s file f rows labels (build_fault fault)
-load_cause s file f rows labels numbers (build.NoRoom pages needed) is unworn cause = subst (λ (ns : List ℕ). HasBuildCause s rows labels ns file.live (build.NoRoom pages needed)) is cause
-load_cause s file f rows labels numbers build.Worn is unworn cause = absurd (unworn cause)
-load_cause s file f rows labels numbers build.Memory is unworn cause = tt
 
 -- ---- loads of an index
 
@@ -121,49 +108,3 @@ commit_cause s old new rows labels before after write (Err fault) written refuse
   | inl memory ↦ subst (HasLoadingCause s old new rows labels before after.faults) (sym memory) tt
   | inr commit ↦ subst (HasLoadingCause s old new rows labels before after.faults) (sym commit) (written.stops commit).1
 ]
-
--- a refusal to place rows, as one of the load
-pub place_cause : {M : Type 0} (s : Space) (old new : OpenIndex M) (f : FreePages) (rows : List (List ℕ)) (labels : List ℕ) (before : DiskState) (faults : ℕ) (fault : IndexFault) →
-    new.free ≡ Some f → HasLoadCause s old.file f rows labels fault → HasLoadingCause s old new rows labels before faults fault
-place_cause s old new f rows labels before faults (NoRoom pages needed) list cause = subst (λ (free : Option FreePages). MatchOption free ⊥ (λ g. HasLoadCause s old.file g rows labels (NoRoom pages needed))) (sym list) cause
-place_cause s old new f rows labels before faults Memory list cause = tt
-place_cause s old new f rows labels before faults Disk list cause = absurd cause
-place_cause s old new f rows labels before faults (Damaged fault) list cause = absurd cause
-place_cause s old new f rows labels before faults Full list cause = absurd cause
-place_cause s old new f rows labels before faults NotEmpty list cause = absurd cause
-place_cause s old new f rows labels before faults Worn list cause = absurd cause
-place_cause s old new f rows labels before faults Stopped list cause = absurd cause
-place_cause s old new f rows labels before faults Commit list cause = absurd cause
-
--- a refusal of the walk that makes the free list, as one of the load
-pub list_cause : {M : Type 0} (s : Space) (old new : OpenIndex M) (rows : List (List ℕ)) (labels : List ℕ) (before : DiskState) (faults : ℕ) (fault : IndexFault) →
-    old.free ≡ None → HasListCause old.file before faults fault → HasLoadingCause s old new rows labels before faults fault
-list_cause s old new rows labels before faults Disk none cause = (none, cause)
-list_cause s old new rows labels before faults (Damaged fault) none cause = (none, cause)
-list_cause s old new rows labels before faults Memory none cause = tt
-list_cause s old new rows labels before faults Full none cause = absurd cause
-list_cause s old new rows labels before faults NotEmpty none cause = absurd cause
-list_cause s old new rows labels before faults (NoRoom pages needed) none cause = absurd cause
-list_cause s old new rows labels before faults Worn none cause = absurd cause
-list_cause s old new rows labels before faults Stopped none cause = absurd cause
-list_cause s old new rows labels before faults Commit none cause = absurd cause
-
--- a refusal after calls that only read, said of the index before them
-pub cause_then : {M : Type 0} (s : Space) (old new : OpenIndex M) (file : OpenFile M) (f : FreePages) (rows : List (List ℕ)) (labels : List ℕ) (before mid : DiskState) (faults : ℕ) (fault : IndexFault) →
-    OnlyReads old.file file before mid → HasLoadingCause s (record old { file = file; free = Some f }) new rows labels mid faults fault → HasLoadingCause s old new rows labels before faults fault
-cause_then {M} s old new file f rows labels before mid faults (NoRoom pages needed) reads cause =
-    subst (λ (o : OpenFile M). MatchOption new.free ⊥ (λ g. HasLoadCause s o g rows labels (NoRoom pages needed))) reads.rest cause
-cause_then s old new file f rows labels before mid faults Memory reads cause = tt
-cause_then s old new file f rows labels before mid faults Commit reads cause = rose_more before.faults mid.faults faults reads.later cause
-cause_then s old new file f rows labels before mid faults Disk reads cause = absurd (some_none cause.0)
-cause_then s old new file f rows labels before mid faults (Damaged fault) reads cause = absurd (some_none cause.0)
-cause_then s old new file f rows labels before mid faults Full reads cause = absurd cause.1
-cause_then s old new file f rows labels before mid faults NotEmpty reads cause = absurd cause.1
-cause_then s old new file f rows labels before mid faults Worn reads cause = absurd cause.1
-cause_then s old new file f rows labels before mid faults Stopped reads cause = absurd cause.1
-
--- the same of whatever was answered
-pub causes_then : {M : Type 0} (s : Space) (old new : OpenIndex M) (file : OpenFile M) (f : FreePages) (rows : List (List ℕ)) (labels : List ℕ) (before mid : DiskState) (faults : ℕ) (result : Result ℕ IndexFault) →
-    OnlyReads old.file file before mid → IfErr result (HasLoadingCause s (record old { file = file; free = Some f }) new rows labels mid faults) → IfErr result (HasLoadingCause s old new rows labels before faults)
-causes_then s old new file f rows labels before mid faults (Ok n) reads cause = tt
-causes_then s old new file f rows labels before mid faults (Err fault) reads cause = cause_then s old new file f rows labels before mid faults fault reads cause

@@ -21,7 +21,8 @@ use Rattle.index_core.specs.Files.{OpenFile, StandsOn, OnlyReads, nodes_on}
 use Rattle.index_core.specs.Index.{OpenIndex, AreSpare, IsLawfulFree, StandsAlone}
 use Rattle.index_core.specs.Pinning.{AreReached, HasPinned, LiesBesideTree, LiesOutside, pinned, unpinned}
 use Rattle.index_core.specs.Still.{stands_alone_still}
-use Rattle.index_core.specs.Writing.{GuardsPages, IsExact, IsExactFor, IsRefused}
+use Rattle.index_core.specs.Writing.{GuardsPages, IsExactFor}
+use Rattle.index_core.proofs.Written.{exact_moved}
 
 -- ---- one free list
 
@@ -32,7 +33,7 @@ pinned_lawful t f lawful = record {
   pins = all_append (λ pin. pin ≤ t.generation) f.pins (t.generation ∷ []) lawful.pins (omega arith, tt);
 }
 
--- a list to which a pin came, or not
+-- a list to which a pin came, or for which there was no memory
 pub pin_lawful : {X E : Type 0} (t : Live) (f g : FreePages) (r : Result X E) → IsLawfulFree t f → OnOk r (g ≡ pinned t.generation f) → OnErr r (g ≡ f) → IsLawfulFree t g
 pin_lawful t f g (Ok x) lawful ok err = subst (IsLawfulFree t) (sym ok) (pinned_lawful t f lawful)
 pin_lawful t f g (Err x) lawful ok err = subst (IsLawfulFree t) (sym err) lawful
@@ -67,14 +68,6 @@ pin_guards nodes t f tree spare reached =
 -- an index whose free list was taken out, and put back with a pin or without
 module _ {M : Type 0} (old : OpenIndex M) (file : OpenFile M) (f : FreePages) (before after : DiskState) (reads : OnlyReads old.file file before after)
     (list : MatchOption old.free (f.pins ≡ []) (λ o. f ≡ o)) where
-  pub has_pinned : HasPinned old.file.live.generation old (record old { file = file; free = Some (pinned old.file.live.generation f) })
-  has_pinned = by_list old.free list
-    where
-      by_list : (free : Option FreePages) → MatchOption free (f.pins ≡ []) (λ o. f ≡ o) →
-          MatchOption free (f.pins ++ old.file.live.generation ∷ [] ≡ old.file.live.generation ∷ []) (λ o. Some (pinned old.file.live.generation f) ≡ Some (pinned old.file.live.generation o))
-      by_list None l = ap (λ (pins : List ℕ). pins ++ old.file.live.generation ∷ []) l
-      by_list (Some o) l = ap (λ (h : FreePages). Some (pinned old.file.live.generation h)) l
-
   pub pinned_guards : (tree : List ℕ) → AreSpare (nodes_on old.file before) old.file.live f → AreReached (nodes_on old.file before) old.file.live.root tree →
       GuardsPages old.file.live.generation tree (record old { file = file; free = Some (pinned old.file.live.generation f) })
   pinned_guards tree spare reached =
@@ -91,9 +84,6 @@ module _ {M : Type 0} (old : OpenIndex M) (file : OpenFile M) (f : FreePages) (b
       by_list None l i = absurd i
       by_list (Some o) l i = subst (λ (h : FreePages). IsGuarded old.file.live.pages generation h tree) (sym l) i
 
-  pub put_back_guarded : (generation : ℕ) (tree : List ℕ) → GuardsPages generation tree old → GuardsPages generation tree (record old { file = file; free = Some f })
-  put_back_guarded = still_guarded f (λ generation tree is. is)
-
   pub pinned_guarded : (generation : ℕ) (tree : List ℕ) → GuardsPages generation tree old → GuardsPages generation tree (record old { file = file; free = Some (pinned old.file.live.generation f) })
   pinned_guarded = still_guarded (pinned old.file.live.generation f) (λ generation tree is. guard.pin old.file.live.pages generation old.file.live.generation f tree is)
 
@@ -108,22 +98,7 @@ module _ {M : Type 0} (old : OpenIndex M) (file : OpenFile M) (f : FreePages) (b
       })
 
   pub put_back_exact : (g : FreePages) → ((page : ℕ) → IsFreeOrHeld g page ↔ IsFreeOrHeld f page) → IsExactFor old.file f before → IsExactFor file g after
-  put_back_exact g same exact =
-      subst (λ (o : OpenFile M). IsExactFor o g after) (sym reads.rest)
-      (subst (λ (bytes : List ℕ). AreOutside old.file.live.pages (live_pages (nodes_of (reading old.file.head.dim old.file.live.pages bytes)) old.file.live) g) (sym reads.same.same_bytes)
-      (λ page. (λ i. (exact page).0 ((same page).0 i), λ both. (same page).1 ((exact page).1 both))))
-
-  pub put_back_refused : IsRefused old (record old { file = file; free = Some f }) before after
-  put_back_refused = record {
-    is = ap (λ (o : OpenFile M). record old { file = o; free = Some f }) reads.rest;
-    room = reads.room;
-    free = by_list old.free list;
-    same = reads.same;
-  }
-    where
-      by_list : (free : Option FreePages) → MatchOption free (f.pins ≡ []) (λ o. f ≡ o) → MatchOption free (Unit {0}) (λ o. Some f ≡ Some o)
-      by_list None l = tt
-      by_list (Some o) l = ap Some l
+  put_back_exact g same exact = λ page. let moved = exact_moved f old.file file before after reads exact page in (λ i. moved.0 ((same page).0 i), λ both. (same page).1 (moved.1 both))
 
 -- ---- unpins
 

@@ -1,5 +1,5 @@
 // Loads of an index that has no objects, each of them one commit.
-ghost use Rattle.std.specs.Prelude.{◌≡◌, ◌≢◌, ◌-◌, ◌^◌, ◌≤◌, ◌<◌, ◌∷◌, [], All, length, false, None, Some, Err, IsTrue, IfOk, IfErr, OnOk};
+ghost use Rattle.std.specs.Prelude.{◌≡◌, ◌≢◌, ◌+◌, ◌-◌, ◌^◌, ◌≤◌, ◌<◌, ◌∷◌, [], All, length, false, None, Some, Err, IsTrue, IsSome, IfOk, IfErr, OnOk};
 ghost use Rattle.disk_model.specs.Disk.{LeavesOnly};
 ghost use Rattle.tree_shape.specs.Tree.{Nodes, IsSoundTree};
 ghost use Rattle.page_store.specs.Succession.{StandsByItself};
@@ -57,7 +57,8 @@ impl<M: Metric> View<M> {
         ensures placed { IfOk result (λ placement. IsPlacedOn self.now free.now placement.used placement.placed) }
         ensures many { IfOk result (λ placement. placement.placed.next.count ≡ length rows.now.points) }
         ensures by_itself { IfOk result (λ placement. StandsByItself placement.placed × (placement.placed.left ≡ self.now.live.root ∷ [])) }
-        ensures loads { IfOk result (λ placement. (nodes : Nodes) → IsSoundTree (M.space self.now.metric) nodes self.now.live → AreSpare nodes self.now.live free.now →
+        ensures loads { IfOk result (λ placement. (nodes : Nodes) → IsSoundTree (M.space self.now.metric) nodes self.now.live →
+            AreSpare nodes self.now.live free.now →
             IsPlacedFor (M.space self.now.metric) self.now.head (Loads rows.now.points tags.now) nodes self.now.live placement.placed) }
         ensures cause { IfErr result (HasLoadCause (M.space self.now.metric) self.now free.now rows.now.points tags.now) }
     {
@@ -144,6 +145,8 @@ impl<M: Metric> Index<M> {
         ensures cause { IfErr result (HasLoadingCause (M.space self.old.file.metric) (record self.old { free = Some free }) self.new rows.now.points tags.now
             (D.state disk.old) (D.state disk.new).faults) }
         ensures undamaged { IfErr result BlamesNoPage }
+        ensures tells { (D.state disk.new).tells ≡ (D.state disk.old).tells }
+        ensures reads { (D.state disk.new).reads ≤ (D.state disk.old).reads + 1 }
         ensures later { (D.state disk.old).faults ≤ (D.state disk.new).faults }
     {
         self.view.is_lawful();
@@ -171,13 +174,16 @@ impl<M: Metric> Index<M> {
         requires stands { MayGoOn self.old (D.state disk.old) }
         requires some { 0 < length rows.now.points }
         requires fits { All (λ p. IsTrue ((M.space self.old.file.metric).fits p)) rows.now.points }
-        ensures refused { (fault : IndexFault) → load_fault self.old (length rows.now.points) ≡ Some fault → (result ≡ Err fault) × (self.new ≡ self.old) × (disk.new ≡ disk.old) }
+        ensures refused { (fault : IndexFault) → load_fault self.old (length rows.now.points) ≡ Some fault →
+            (result ≡ Err fault) × (self.new ≡ self.old) × (disk.new ≡ disk.old) }
         ensures stands { MayGoOn self.new (D.state disk.new) }
         ensures written { self.old.stopped ≡ false →
             HasWritten (M.space self.old.file.metric) (Loads rows.now.points (ids (length rows.now.points))) self.old self.new (D.state disk.old) (D.state disk.new) result }
         ensures cause { load_fault self.old (length rows.now.points) ≡ None →
             IfErr result (HasLoadingCause (M.space self.old.file.metric) self.old self.new rows.now.points (ids (length rows.now.points)) (D.state disk.old) (D.state disk.new).faults) }
         ensures undamaged { IfErr result (λ fault. IsSoundOn (M.space self.old.file.metric) self.old.file (D.state disk.old) → BlamesNoPage fault) }
+        ensures few { IsSome self.old.free → (D.state disk.new).reads ≤ (D.state disk.old).reads + 1 }
+        ensures tells { (D.state disk.new).tells ≡ (D.state disk.old).tells }
         ensures later { (D.state disk.old).faults ≤ (D.state disk.new).faults }
     {
         self.view.is_lawful();
@@ -210,13 +216,16 @@ impl<M: Metric> Index<M> {
         requires some { 0 < length rows.now.points }
         requires fits { All (λ p. IsTrue ((M.space self.old.file.metric).fits p)) rows.now.points }
         requires tags { length tags.now ≡ length rows.now.points }
-        ensures refused { (fault : IndexFault) → load_fault self.old (length rows.now.points) ≡ Some fault → (result ≡ Err fault) × (self.new ≡ self.old) × (disk.new ≡ disk.old) }
+        ensures refused { (fault : IndexFault) → load_fault self.old (length rows.now.points) ≡ Some fault →
+            (result ≡ Err fault) × (self.new ≡ self.old) × (disk.new ≡ disk.old) }
         ensures stands { MayGoOn self.new (D.state disk.new) }
         ensures written { self.old.stopped ≡ false →
             HasWritten (M.space self.old.file.metric) (Loads rows.now.points tags.now) self.old self.new (D.state disk.old) (D.state disk.new) result }
         ensures cause { load_fault self.old (length rows.now.points) ≡ None →
             IfErr result (HasLoadingCause (M.space self.old.file.metric) self.old self.new rows.now.points tags.now (D.state disk.old) (D.state disk.new).faults) }
         ensures undamaged { IfErr result (λ fault. IsSoundOn (M.space self.old.file.metric) self.old.file (D.state disk.old) → BlamesNoPage fault) }
+        ensures few { IsSome self.old.free → (D.state disk.new).reads ≤ (D.state disk.old).reads + 1 }
+        ensures tells { (D.state disk.new).tells ≡ (D.state disk.old).tells }
         ensures later { (D.state disk.old).faults ≤ (D.state disk.new).faults }
     {
         self.view.is_lawful();

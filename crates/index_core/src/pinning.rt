@@ -33,7 +33,8 @@ impl<M: Metric> Index<M> {
         ensures guards { OnOk result (IsTrue (D.state disk.old).tells → (tree : List ℕ) →
             AreReached (nodes_on self.old.file (D.state disk.old)) self.old.file.live.root tree → GuardsPages self.old.file.live.generation tree self.new) }
         ensures guarded { (generation : ℕ) (tree : List ℕ) → GuardsPages generation tree self.old → GuardsPages generation tree self.new }
-        ensures exact { IsSoundOn (M.space self.old.file.metric) self.old.file (D.state disk.old) → IsExact self.old (D.state disk.old) → IsExact self.new (D.state disk.new) }
+        ensures exact { IsSoundOn (M.space self.old.file.metric) self.old.file (D.state disk.old) → IsExact self.old (D.state disk.old) →
+            IsExact self.new (D.state disk.new) }
         ensures refused { IfErr result (λ fault. IsRefused self.old self.new (D.state disk.old) (D.state disk.new)) }
         ensures cause { self.old.stopped ≡ false → IfErr result (HasListCause self.old.file (D.state disk.old) (D.state disk.new).faults) }
         ensures made { self.old.stopped ≡ false → IfErr result (λ fault. fault ≢ IndexFault.Memory → self.old.free ≡ None) }

@@ -18,7 +18,7 @@ pub returns-in-Ok-clause-written : goal.returns-in-Ok-clause-written
 returns-in-Ok-clause-written g c =
     let none = may_be_loaded c.args.self.now (length c.args.rows.now.points) c.requires.may in
     let loads = subst (λ (i : OpenIndex g.row.M.Denot). (nodes : Nodes) → IsSoundTree (g.M.Metric.space i.file.metric) nodes i.file.live → AreSpare nodes i.file.live c.args.free →
-        IsPlacedFor (g.M.Metric.space i.file.metric) i.file.head (Loads c.args.rows.now.points c.args.tags.now) nodes i.file.live c.in-Ok.placement.placed) c.self.view_is c.in-Ok.ensures.loads in
+    IsPlacedFor (g.M.Metric.space i.file.metric) i.file.head (Loads c.args.rows.now.points c.args.tags.now) nodes i.file.live c.in-Ok.placement.placed) c.self.view_is c.in-Ok.ensures.loads in
     c.commit_placed.ensures.written (Loads c.args.rows.now.points c.args.tags.now) (counts _ _ _ c.in-Ok.ensures.many none) c.in-Ok.ensures.many (λ sound. loads _ sound.1 (c.requires.beside sound.0))
 
 pub returns-in-Ok-clause-cause : goal.returns-in-Ok-clause-cause
@@ -30,6 +30,6 @@ pub returns-in-Err-clause-written : goal.returns-in-Err-clause-written
 returns-in-Err-clause-written g c =
     let lawful = subst (λ (i : OpenIndex g.row.M.Denot). IsLawfulFile (g.M.Metric.space i.file.metric).words i.file) c.self.view_is c.is_lawful.ensures in
     subst (λ (n : OpenIndex g.row.M.Denot). HasWritten (g.M.Metric.space c.args.self.now.file.metric) (Loads c.args.rows.now.points c.args.tags.now) (record c.args.self.now { free = Some c.args.free }) n
-        (g.D.Disk.state c.args.disk.now) (g.D.Disk.state c.args.disk.now) (Err c.in-Err.fault)) (sym c.put_free.ensures)
+    (g.D.Disk.state c.args.disk.now) (g.D.Disk.state c.args.disk.now) (Err c.in-Err.fault)) (sym c.put_free.ensures)
     (nothing_written (g.M.Metric.space c.args.self.now.file.metric) (Loads c.args.rows.now.points c.args.tags.now) (record c.args.self.now { free = Some c.args.free }) (g.D.Disk.state c.args.disk.now) c.in-Err.fault
     lawful c.requires.stands c.requires.only (λ e. subst (HasLoadCause (g.M.Metric.space c.self.inside.view.metric) c.self.inside.view c.args.free c.args.rows.now.points c.args.tags.now) e c.in-Err.ensures.cause))

@@ -22,8 +22,8 @@ returns-clause-written g c = λ going.
     then_written (g.M.Metric.space c.args.self.now.file.metric) (Loads c.args.rows.now.points c.args.tags.now) c.args.self.now c.load_on.new.self c.take_free.new.self.file c.in-Ok.free
     (g.D.Disk.state c.args.disk.now) (g.D.Disk.state c.take_free.new.disk) (g.D.Disk.state c.load_on.new.disk) c.load_on.result lawful alone.stands alone.only c.in-Ok.ensures.reads (list_is c.args.self.now.free c.in-Ok.free c.in-Ok.ensures.list)
     (λ points tags has exact. exact_moved c.in-Ok.free c.args.self.now.file c.take_free.new.self.file (g.D.Disk.state c.args.disk.now) (g.D.Disk.state c.take_free.new.disk) c.in-Ok.ensures.reads
-        (c.in-Ok.ensures.exact (has.tells, has.sound) exact))
+    (c.in-Ok.ensures.exact (has.tells, has.sound) exact))
     (subst (λ (o : OpenFile g.row.M.Denot). HasWritten (g.M.Metric.space o.metric) (Loads c.args.rows.now.points c.args.tags.now) (record c.args.self.now { file = c.take_free.new.self.file; free = Some c.in-Ok.free })
-        c.load_on.new.self (g.D.Disk.state c.take_free.new.disk) (g.D.Disk.state c.load_on.new.disk) c.load_on.result) c.in-Ok.ensures.reads.rest
+    c.load_on.new.self (g.D.Disk.state c.take_free.new.disk) (g.D.Disk.state c.load_on.new.disk) c.load_on.result) c.in-Ok.ensures.reads.rest
     (subst (λ (i : OpenIndex g.row.M.Denot). HasWritten (g.M.Metric.space i.file.metric) (Loads c.args.rows.now.points c.args.tags.now) (record i { free = Some c.in-Ok.free }) c.load_on.new.self
-        (g.D.Disk.state c.take_free.new.disk) (g.D.Disk.state c.load_on.new.disk) c.load_on.result) c.in-Ok.ensures.rest c.load_on.ensures.written))
+    (g.D.Disk.state c.take_free.new.disk) (g.D.Disk.state c.load_on.new.disk) c.load_on.result) c.in-Ok.ensures.rest c.load_on.ensures.written))

@@ -16,7 +16,7 @@ pub returns-in-Some-clause-guarded : goal.returns-in-Some-clause-guarded
 returns-in-Some-clause-guarded g c = λ other tree stays guards.
     let list = sym (c.in-Some.ensures.value ∙ ap (λ (i : OpenIndex g.row.M.Denot). i.free) c.self.view_is) in
     let is = c.put_free.ensures ∙ (ap (λ (i : OpenIndex g.row.M.Denot). record i { free = Some c.unpin.new.self }) c.self.view_is
-        ∙ ap (λ (f : FreePages). record c.args.self.now { free = Some f }) c.unpin.ensures.pins) in
+    ∙ ap (λ (f : FreePages). record c.args.self.now { free = Some f }) c.unpin.ensures.pins) in
     subst (GuardsPages other tree) (sym is)
     (unpinned_guarded c.args.self.now c.in-Some.free c.args.generation list other tree (subst (IsPinned other) is stays) guards)
 
@@ -24,12 +24,12 @@ pub returns-in-Some-clause-beside : goal.returns-in-Some-clause-beside
 returns-in-Some-clause-beside g c = λ nodes beside.
     let list = sym (c.in-Some.ensures.value ∙ ap (λ (i : OpenIndex g.row.M.Denot). i.free) c.self.view_is) in
     let is = c.put_free.ensures ∙ (ap (λ (i : OpenIndex g.row.M.Denot). record i { free = Some c.unpin.new.self }) c.self.view_is
-        ∙ ap (λ (f : FreePages). record c.args.self.now { free = Some f }) c.unpin.ensures.pins) in
+    ∙ ap (λ (f : FreePages). record c.args.self.now { free = Some f }) c.unpin.ensures.pins) in
     subst (LiesBesideTree nodes) (sym is) (unpinned_beside c.args.self.now c.in-Some.free c.args.generation list nodes beside)
 
 pub returns-in-Some-clause-outside : goal.returns-in-Some-clause-outside
 returns-in-Some-clause-outside g c = λ tree outside.
     let list = sym (c.in-Some.ensures.value ∙ ap (λ (i : OpenIndex g.row.M.Denot). i.free) c.self.view_is) in
     let is = c.put_free.ensures ∙ (ap (λ (i : OpenIndex g.row.M.Denot). record i { free = Some c.unpin.new.self }) c.self.view_is
-        ∙ ap (λ (f : FreePages). record c.args.self.now { free = Some f }) c.unpin.ensures.pins) in
+    ∙ ap (λ (f : FreePages). record c.args.self.now { free = Some f }) c.unpin.ensures.pins) in
     subst (LiesOutside tree) (sym is) (unpinned_outside c.args.self.now c.in-Some.free c.args.generation list tree outside)

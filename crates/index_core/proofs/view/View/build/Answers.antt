@@ -18,6 +18,6 @@ returns-in-Ok-answer-clause-loads g c =
     let few = (g.M.Metric.axioms c.self.inside.metric).few_words in
     let empty = ap (λ (f : OpenFile g.row.M.Denot). f.live.count) c.self.view_is ∙ c.requires.empty in
     subst (λ (f : OpenFile g.row.M.Denot). (nodes : Nodes) → IsSoundTree (g.M.Metric.space f.metric) nodes f.live → AreSpare nodes f.live c.args.free.now →
-        IsPlacedFor (g.M.Metric.space f.metric) f.head (Loads c.args.rows.now.points c.args.tags.now) nodes f.live c.in-Ok-answer.placed) c.self.view_is
+    IsPlacedFor (g.M.Metric.space f.metric) f.head (Loads c.args.rows.now.points c.args.tags.now) nodes f.live c.in-Ok-answer.placed) c.self.view_is
     (load_placed_for (g.M.Metric.space c.self.inside.metric) c.self.inside.head c.self.inside.live c.args.free.now _ c.args.rows.now.points c.args.tags.now c.as_slice.result.now c.in-Ok-answer.placed
     (c.as_slice.ensures.value ∙ c.in-Ok.ensures) few empty c.in-Ok-answer.ensures.left c.in-Ok-answer.ensures.apart c.in-Ok-answer.ensures.loaded)
