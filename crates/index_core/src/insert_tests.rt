@@ -25,8 +25,8 @@ const HEAD: Head = Head {
 
 // A disk that holds these bytes and fails from a call on.
 fn disk_of(alloc: Global, bytes: Vec<u8>, stop: Option<u64>) -> Result<MemoryDisk, Memory> {
-    let room = (bytes.len() as u64).max(1 << 20);
-    MemoryDisk::new(alloc, bytes, room, 1 << 24, Vec::new(alloc), stop)
+    let room = (bytes.len() as u64).max(1 << 16);
+    MemoryDisk::new(alloc, bytes, room, 1 << 22, Vec::new(alloc), stop)
 }
 
 // Opens a file of points of one coordinate for writing.
@@ -119,7 +119,8 @@ fn a_cache_changes_no_byte(rt: HostRuntime) -> Result<(), Fail> {
 // How many objects a file holds, each of which is found.
 fn count_in(rt: &(impl AllocGlobal + Abort), bytes: Vec<u8>) -> Result<u32, Fail> {
     let alloc = rt.alloc();
-    let mut disk = disk_of(alloc, bytes, None)?;
+    let room = bytes.len() as u64;
+    let mut disk = MemoryDisk::new(alloc, bytes, room, 100, Vec::new(alloc), None)?;
     let mut index = open_on(&mut disk)?;
     assert!(rt; index.metric().fits(&[0]));
     let found = index.nearest(alloc, &mut disk, &[0], 100)?;
@@ -149,7 +150,7 @@ fn check_stopped<M: Metric>(
 fn an_insert_is_stopped_at_each_call(rt: HostRuntime) -> Result<(), Fail> {
     let alloc = rt.alloc();
     let before = numbers_below(&rt, 32, None)?;
-    for stop in 5..40 {
+    for stop in 5..22 {
         let mut disk = disk_of(alloc, before.as_slice().to_vec(alloc)?, Some(stop))?;
         let mut index = open_on(&mut disk)?;
         let began = disk.moments();
