@@ -1,9 +1,8 @@
 -- What a load places for a file that has no objects.
-use Rattle.std.proofs.Common.{◌≡◌, ◌⊎◌, ℕ, zero, suc, ◌+◌, ◌-◌, ◌*◌, ◌^◌, ◌≤◌, ◌<◌, Bool, true, false, List, [], ◌∷◌, ◌++◌, inl, inr, refl, sym, ap, subst, ◌∙◌, arith, append_assoc, length, take, min, Option, Some, None, Result, Ok, Err}
-use Rattle.std.specs.Prelude.{◌≢◌, ◌==◌, nat_lt, if◌then◌else◌, IsTrue, IfErr, MatchOption}
+use Rattle.std.proofs.Common.{◌≡◌, ◌⊎◌, ℕ, zero, suc, ◌+◌, ◌-◌, ◌*◌, ◌^◌, ◌≤◌, ◌<◌, Bool, true, false, List, [], ◌∷◌, ◌++◌, inl, inr, refl, sym, ap, subst, ◌∙◌, arith, append_assoc, take, Option, Some, None, Result, Ok, Err}
+use Rattle.std.specs.Prelude.{◌==◌, nat_lt, if◌then◌else◌, IsTrue, IfErr}
 use Rattle.std.specs.List.{range_with_len}
 use Rattle.std.proofs.lemmas.Bool.Decides.{nat_tests}
-use Rattle.outside_io.specs.Causes.{Rose}
 use Rattle.disk_model.specs.Disk.{DiskState, LeavesOnly}
 use Rattle.metric_laws.specs.Space.{Space}
 use Rattle.tree_shape.specs.declared.live.Live.{Live}
@@ -13,17 +12,13 @@ use Rattle.node_page.specs.declared.head.Head.{Head}
 use Rattle.page_store.specs.declared.staging.Placed.{Placed}
 use Rattle.page_store.specs.Placing.{AreOutside as AreBeside, live_pages}
 use Rattle.page_store.specs.Staging.{pages_of}
-use Rattle.bulk_load.specs.Causes.{HasBuildCause}
 use Rattle.bulk_load.specs.Loaded.{HasLoaded, Stand}
-use Rattle.bulk_load.specs.declared.faults.BuildFault.{BuildFault}
-use Rattle.bulk_load.specs.declared.faults.BuildFault.TheVariants as build
 use Rattle.index_core.specs.declared.faults.IndexFault.{IndexFault}
-use Rattle.index_core.specs.declared.faults.IndexFault.TheVariants.{Disk, Damaged, Full, NotEmpty, NoRoom, Worn, Stopped, Memory, Commit}
+use Rattle.index_core.specs.declared.faults.IndexFault.TheVariants.{Full, NotEmpty, Worn, Stopped, Memory, Commit}
 use Rattle.free_pages.specs.Keeping.{FreePages}
-use Rattle.index_core.specs.Causes.{HasListCause}
-use Rattle.index_core.specs.Files.{OpenFile, StandsOn, OnlyReads, IsLawfulFile}
+use Rattle.index_core.specs.Files.{StandsOn, IsLawfulFile}
 use Rattle.index_core.specs.Index.{OpenIndex, AreSpare}
-use Rattle.index_core.specs.Loading.{HasLoadCause, HasLoadingCause, build_fault, load_fault}
+use Rattle.index_core.specs.Loading.{HasLoadingCause, load_fault}
 use Rattle.index_core.specs.Writing.{Write, Loads, IsMadeBy, IsPlacedFor, HasWritten}
 use Rattle.index_core.proofs.Written.{refused_here, refused_written}
 use Rattle.index_core.proofs.Listed.{free_outside}

@@ -1,10 +1,10 @@
-use Rattle.std.proofs.Common.{◌≡◌, sym, ap, subst, ◌∙◌, length, Err}
+use Rattle.std.proofs.Common.{ap, subst, ◌∙◌, length}
 use Rattle.std.proofs.lemmas.List.FromFn.{length-range_with_len}
 use Rattle.index_core.specs.Files.{IsLawfulFile}
 use Rattle.index_core.specs.Index.{OpenIndex}
 use Rattle.index_core.specs.Loading.{ids}
 use Rattle.index_core.specs.Writing.{Loads}
-use Rattle.index_core.specs.declared.faults.IndexFault.TheVariants.{Commit, Memory}
+use Rattle.index_core.specs.declared.faults.IndexFault.TheVariants.{Memory}
 use Rattle.index_core.proofs.Loaded.{at_once, nothing_written}
 use Rattle.index_core.proofs.index.Index.load.Goals as goal
 

@@ -1,11 +1,9 @@
-use Rattle.std.proofs.Common.{◌≡◌, ◌+◌, ℕ, List, sym, ap, subst, ◌∙◌, arith, length, Some, Err}
-use Rattle.std.specs.Prelude.{IsTrue}
+use Rattle.std.proofs.Common.{sym, subst, length, Some, Err}
 use Rattle.tree_shape.specs.Tree.{Nodes, IsSoundTree}
 use Rattle.free_pages.specs.Commits.{AreWithin}
-use Rattle.index_core.specs.Answers.{IsSoundOn}
-use Rattle.index_core.specs.Files.{IsLawfulFile, nodes_on}
+use Rattle.index_core.specs.Files.{IsLawfulFile}
 use Rattle.index_core.specs.Index.{OpenIndex, AreSpare}
-use Rattle.index_core.specs.Loading.{HasLoadCause, HasLoadingCause}
+use Rattle.index_core.specs.Loading.{HasLoadCause}
 use Rattle.index_core.specs.Writing.{HasWritten, IsPlacedFor, Loads}
 use Rattle.index_core.proofs.Loaded.{commit_cause, counts, may_be_loaded, nothing_written}
 use Rattle.index_core.proofs.index.Index.load_on.Goals as goal

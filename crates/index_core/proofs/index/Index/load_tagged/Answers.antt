@@ -1,10 +1,8 @@
-use Rattle.std.proofs.Common.{◌≡◌, ℕ, List, sym, ap, subst, ◌∙◌, length, Some, None, Err}
-use Rattle.std.specs.Prelude.{IsTrue}
+use Rattle.std.proofs.Common.{subst, Some}
 use Rattle.index_core.specs.Files.{OpenFile, IsLawfulFile}
 use Rattle.index_core.specs.Index.{OpenIndex}
-use Rattle.index_core.specs.Loading.{load_fault}
 use Rattle.index_core.specs.Writing.{HasWritten, Loads}
-use Rattle.index_core.proofs.Loaded.{at_once, causes_then, nothing_written}
+use Rattle.index_core.proofs.Loaded.{at_once, nothing_written}
 use Rattle.index_core.proofs.Written.{exact_moved, list_is, then_written}
 use Rattle.index_core.proofs.index.Index.load_tagged.Goals as goal
 

@@ -1,4 +1,4 @@
-use Rattle.std.proofs.Common.{◌≡◌, ℕ, sym, ap, subst, ◌∙◌, Option, Some}
+use Rattle.std.proofs.Common.{◌≡◌, ℕ, sym, ap, subst, ◌∙◌, Some}
 use Rattle.std.specs.Prelude.{OnOk}
 use Rattle.tree_shape.specs.declared.live.Live.{Live}
 use Rattle.free_pages.specs.Keeping.{FreePages, IsFreeOrHeld}

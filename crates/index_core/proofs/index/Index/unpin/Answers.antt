@@ -1,8 +1,8 @@
-use Rattle.std.proofs.Common.{◌≡◌, sym, ap, subst, ◌∙◌, Option, Some}
+use Rattle.std.proofs.Common.{sym, ap, subst, ◌∙◌, Option, Some}
 use Rattle.std.specs.Prelude.{MatchOption}
 use Rattle.free_pages.specs.Keeping.{FreePages}
 use Rattle.index_core.specs.Index.{OpenIndex, IsLawfulFree}
-use Rattle.index_core.specs.Pinning.{IsPinned, LiesBesideTree, LiesOutside, unpinned}
+use Rattle.index_core.specs.Pinning.{IsPinned, LiesBesideTree, LiesOutside}
 use Rattle.index_core.specs.Writing.{GuardsPages}
 use Rattle.index_core.proofs.Pinned.{unpinned_lawful, unpinned_guarded, unpinned_beside, unpinned_outside}
 use Rattle.index_core.proofs.index.Index.unpin.Goals as goal
