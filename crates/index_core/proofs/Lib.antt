@@ -6,3 +6,5 @@ pub mod Settled
 pub mod Listed
 pub mod Outcome
 pub mod Tagged
+pub mod Loaded
+pub mod Pinned

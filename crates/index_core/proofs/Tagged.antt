@@ -1,5 +1,6 @@
 -- The tags of what was found, as those who called the index see them.
 use Rattle.std.specs.Prelude.{◌≡◌, ℕ, ◌+◌, ◌≤◌, List, [], ◌∷◌, length, Vec, vec_len, IsTrue, Result, Ok, Err, IfOk, IfErr, MatchResult}
+use Rattle.std.specs.List.{AllZip}
 use Rattle.std.specs.declared.alloc.Global.{Global}
 use Rattle.std.proofs.Common.{sym, subst}
 use Rattle.metric_laws.specs.Space.{Space}
@@ -12,7 +13,7 @@ use Rattle.page_store.specs.declared.pages.PageFault.TheVariants.{Disk, Memory, 
 use Rattle.page_store.specs.Reading.{nodes_of}
 use Rattle.page_store.specs.Shelf.{Shelf, IsPassing}
 use Rattle.log_model.specs.declared.logs.Found.{Found}
-use Rattle.hit_tags.specs.Tags.{met_tags, object_tags, IsShown, HasTagsCause}
+use Rattle.hit_tags.specs.Tags.{met_tags, object_tags, IsOwnTag, IsShown, HasTagsCause}
 use Rattle.index_core.specs.Answers.{IsSoundOn, HasTagged, HasTagCause}
 use Rattle.index_core.specs.Causes.{read_fault, MayComeAnytime}
 use Rattle.index_core.specs.Files.{OpenFile, pages_on, nodes_on}
@@ -23,6 +24,7 @@ pub record Tells (found : Found) (t : Live) (old new : Shelf) (answer : Result (
   pub few : new.reads ≤ old.reads + length found.log.records
   pub each : IfOk answer (λ tags. vec_len tags ≡ length found.hits)
   pub met : IfOk answer (λ tags. IsTrue old.tells → tags.items ≡ met_tags (nodes_of old.read) t found)
+  pub own : IfOk answer (λ tags. IsTrue old.tells → (s : Space) → IsSoundTree s (nodes_of old.read) t → AllZip (IsOwnTag (nodes_of old.read) t) found.hits tags.items)
   pub objects : IfOk answer (λ tags. IsTrue old.tells → (s : Space) → IsShown s (nodes_of old.read) t found → tags.items ≡ object_tags (nodes_of old.read) t found)
   pub cause : IfErr answer (HasTagsCause old new (t.root ∷ []) found.log.records)
   pub sound : IfErr answer (λ fault. IsTrue old.tells → (s : Space) → IsSoundTree s (nodes_of old.read) t → IsPassing fault)
@@ -50,6 +52,7 @@ tagged_here : {M : Type 0} (s : Space) (file : OpenFile M) (found : Found) (befo
 tagged_here s file found before after new (Ok tags) result faults reads is tells = subst (HasTagged s file found before after) (sym is) (record {
   each = tells.each;
   met = tells.met;
+  own = λ sound. tells.own sound.0 s sound.1;
   objects = λ told shown. tells.objects told s shown;
   reads = subst (λ (n : ℕ). n ≤ before.reads + length found.log.records) reads tells.few;
   cause = tt;
@@ -58,6 +61,7 @@ tagged_here s file found before after new (Ok tags) result faults reads is tells
 tagged_here s file found before after new (Err fault) result faults reads is tells = subst (HasTagged s file found before after) (sym is) (record {
   each = tt;
   met = tt;
+  own = tt;
   objects = tt;
   reads = subst (λ (n : ℕ). n ≤ before.reads + length found.log.records) reads tells.few;
   cause = cause_of file found before after new fault faults tells.cause;

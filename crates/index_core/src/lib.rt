@@ -6,6 +6,8 @@ mod index;
 mod inserting;
 mod lending;
 mod listing;
+mod loading;
+mod pinning;
 mod placing;
 mod tagging;
 mod view;
