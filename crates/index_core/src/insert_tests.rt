@@ -14,7 +14,7 @@ use std::test::Fail;
 use tree_shape::{LAST_GENERATION, Live};
 use vector_kinds::L1;
 
-const HEAD: Head = Head {
+pub(crate) const HEAD: Head = Head {
     version: 2,
     kind: 2,
     dim: 1,
@@ -24,7 +24,11 @@ const HEAD: Head = Head {
 };
 
 // A disk that holds these bytes and fails from a call on.
-fn disk_of(alloc: Global, bytes: Vec<u8>, stop: Option<u64>) -> Result<MemoryDisk, Memory> {
+pub(crate) fn disk_of(
+    alloc: Global,
+    bytes: Vec<u8>,
+    stop: Option<u64>,
+) -> Result<MemoryDisk, Memory> {
     let room = (bytes.len() as u64).max(1 << 16);
     MemoryDisk::new(alloc, bytes, room, 1 << 22, Vec::new(alloc), stop)
 }
@@ -51,7 +55,7 @@ fn insert<D: Disk, M: Metric>(
 }
 
 // Inserts the numbers from one up to another, which are their ids.
-fn insert_all<D: Disk, M: Metric>(
+pub(crate) fn insert_all<D: Disk, M: Metric>(
     rt: &(impl AllocGlobal + Abort),
     index: &mut Index<M>,
     disk: &mut D,

@@ -24,4 +24,6 @@ pub type Memory = std::alloc::AllocError;
 #[cfg(test)]
 mod insert_tests;
 #[cfg(test)]
+mod load_tests;
+#[cfg(test)]
 mod tests;

@@ -39,7 +39,7 @@ fn a_pinned_tree_stays_while_objects_come(rt: HostRuntime) -> Result<(), Fail> {
         assert_eq!(&rt; (live.root, live.height, live.count, live.pages), (8, 1, 33, 9));
         assert_eq!(&rt; index.pin(alloc, &mut disk)?, live);
         let pinned = disk.bytes().to_vec(alloc)?;
-        insert_all(&rt, &mut index, &mut disk, 33, 40)?;
+        insert_all(&rt, &mut index, &mut disk, 33, 36)?;
         for (place, (now, then)) in disk.bytes().iter().zip(pinned.as_slice()).enumerate() {
             assert!(&rt; place < 4 * 4096 || now == then);
         }
@@ -64,7 +64,7 @@ fn hits_have_their_tags(rt: HostRuntime) -> Result<(), Fail> {
     assert!(&rt; index.metric().fits(&[32]));
     let found = index.range(alloc, &mut disk, &[32], 2)?;
     let tags = index.tags(alloc, &mut disk, &found)?;
-    assert_eq!(&rt; tags.as_slice(), &[32u64, 31, 30, 700]);
+    assert_eq!(&rt; tags.as_slice(), [32u64, 31, 30, 700].as_slice());
     Ok(())
 }
 
