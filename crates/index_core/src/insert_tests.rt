@@ -1,4 +1,5 @@
 ghost use Rattle.std.specs.Prelude.{IfOk};
+ghost use Rattle.disk_model.specs.Memory.Images.{memory_state};
 ghost use Rattle.index_core.specs.Index.{MayGoOn};
 
 use crate::tests::{file_of, pad, six_entries};
@@ -132,13 +133,33 @@ fn count_in(rt: &(impl AllocGlobal + Abort), bytes: Vec<u8>) -> Result<u32, Fail
     Ok(index.count())
 }
 
+// At each moment from one on a crash leaves as many objects as before or as after, and where the call is done those after.
+pub(crate) fn check_images(
+    rt: &(impl AllocGlobal + Abort),
+    disk: &MemoryDisk,
+    began: u64,
+    counts: (u32, u32),
+    done: bool,
+) -> Result<(), Fail> {
+    let (before, after) = counts;
+    let ended = disk.moments();
+    for moment in began..=ended {
+        for pick in [0, 1, 165, 255] {
+            let count = count_in(rt, disk.image(rt.alloc(), moment, pick)?)?;
+            assert!(rt; count == before || count == after);
+            assert!(rt; count == after || moment < ended || !done);
+        }
+    }
+    Ok(())
+}
+
 // After a commit that failed nothing goes on, and the disk is left alone.
 fn check_stopped<M: Metric>(
     rt: &(impl AllocGlobal + Abort),
     index: &mut Index<M>,
     disk: &mut MemoryDisk,
 ) -> Result<(), Fail>
-    requires { MayGoOn index.old (MemoryDisk.Disk.state disk.old) }
+    requires { MayGoOn index.old (memory_state disk.old) }
 {
     let alloc = rt.alloc();
     let moments = disk.moments();
@@ -159,14 +180,7 @@ fn an_insert_is_stopped_at_each_call(rt: HostRuntime) -> Result<(), Fail> {
         let mut index = open_on(&mut disk)?;
         let began = disk.moments();
         let answer = insert(&rt, &mut index, &mut disk, 32)?;
-        let ended = disk.moments();
-        for moment in began..=ended {
-            for pick in [0, 1, 165, 255] {
-                let count = count_in(&rt, disk.image(alloc, moment, pick)?)?;
-                assert!(rt; count == 32 || count == 33);
-                assert!(rt; count == 33 || moment < ended || answer.is_err());
-            }
-        }
+        check_images(&rt, &disk, began, (32, 33), answer.is_ok())?;
         match answer {
             Ok(id) => assert_eq!(rt; id, 32),
             Err(IndexFault::Commit) => check_stopped(&rt, &mut index, &mut disk)?,
@@ -175,7 +189,7 @@ fn an_insert_is_stopped_at_each_call(rt: HostRuntime) -> Result<(), Fail> {
                 assert_eq!(rt; disk.bytes(), before.as_slice());
             }
         }
-        let mut again = disk_of(alloc, disk.image(alloc, ended, 1)?, None)?;
+        let mut again = disk_of(alloc, disk.image(alloc, disk.moments(), 1)?, None)?;
         let mut index = open_on(&mut again)?;
         let count = index.count();
         assert_eq!(rt; insert(&rt, &mut index, &mut again, 40)?, Ok(count));

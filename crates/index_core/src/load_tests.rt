@@ -1,7 +1,7 @@
 ghost use Rattle.std.specs.Prelude.{◌≡◌, All, IfOk, IsTrue, length};
 ghost use Rattle.vector_kinds.specs.Vectors.{vector_space};
 
-use crate::insert_tests::{HEAD, disk_of, insert_all};
+use crate::insert_tests::{HEAD, check_images, disk_of, insert_all};
 use crate::{Index, IndexFault};
 use meeting::{Meeting, Seen};
 use metric_laws::{Memory, Metric, Rows};
@@ -48,6 +48,28 @@ fn a_pinned_tree_stays_while_objects_come(rt: HostRuntime) -> Result<(), Fail> {
             Err(IndexFault::NotEmpty)
         );
     }
+    Ok(())
+}
+
+#[test]
+fn a_load_is_stopped_at_each_call(rt: HostRuntime) -> Result<(), Fail> {
+    let alloc = rt.alloc();
+    let rows = numbers(alloc)?;
+    let mut empty = disk_of(alloc, Vec::new(alloc), None)?;
+    create(&mut empty, &HEAD)?;
+    let mut loaded = 0;
+    for stop in 5..24 {
+        let mut disk = disk_of(alloc, empty.bytes().to_vec(alloc)?, Some(stop))?;
+        let mut index = Index::open_write(&mut disk, L1::new(1))?;
+        let began = disk.moments();
+        let answer = index.load(&rt, alloc, &mut disk, &rows);
+        check_images(&rt, &disk, began, (0, 33), answer.is_ok())?;
+        match answer {
+            Ok(count) => loaded = count,
+            Err(fault) => assert!(&rt; matches!(fault, IndexFault::Disk | IndexFault::Commit)),
+        }
+    }
+    assert_eq!(&rt; loaded, 33);
     Ok(())
 }
 
