@@ -91,11 +91,11 @@ module _ (head : Head) (t : Live) (f : FreePages) (asked added : ℕ) (placed : 
           ])
           (λ page l i. elim (in-append (without placed.left tree) (pages_of placed.staged) page i) [
             | inl o ↦ (
-              let z = (in-filter (λ (p : ℕ). times p placed.left == 0) tree page o).1 in
-              let s = times_from_in page placed.left l in
-              let e : times page placed.left ≡ 0 = grind (arith, nat_tests) in
-              absurd (omega arith)
-            )
+                let z = (in-filter (λ (p : ℕ). times p placed.left == 0) tree page o).1 in
+                let s = times_from_in page placed.left l in
+                let e : times page placed.left ≡ 0 = grind (arith, nat_tests) in
+                absurd (omega arith)
+                )
             | inr n ↦ fresh.outside page n (stand_on_pages.reached (nodes_in head.dim t old) t tree page stands (all_in _ placed.left page takes.left l))
           ]);
     }

@@ -41,7 +41,7 @@ forgotten_agrees lasts law pages None old new grows same agrees = tt
 forgotten_agrees lasts law pages (Some kept) old new grows same agrees =
     lasts (forgotten pages kept) old new grows (still pages kept agrees)
     (λ tells k d low.
-        same _ _ (still pages kept agrees k d low) (λ i. forgotten_none law pages kept k d low _ i refl) tells)
+    same _ _ (still pages kept agrees k d low) (λ i. forgotten_none law pages kept k d low _ i refl) tells)
   where
     still : (pages : List ℕ) (kept : Pairs) → Agrees kept old → Agrees (forgotten pages kept) old
     still pages kept agrees = forgotten_all (λ pair. IsNodeOf old pair.0 pair.1) pages kept agrees

@@ -5,3 +5,6 @@ pub mod Written
 pub mod Settled
 pub mod Listed
 pub mod Outcome
+pub mod Tagged
+pub mod Loaded
+pub mod Pinned

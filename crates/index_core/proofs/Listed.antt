@@ -105,7 +105,7 @@ insertion_makes s head old t tag point placed new has = record {
 pub placed_for : (s space : Space) → s ≡ space → (old pages : Shelf) → old ≡ pages → (head : Head) (t : Live) (tag : ℕ) (point : List ℕ) (placed : Placed) →
     (IsTrue old.tells → IsSoundTree s (nodes_of old.read) t → AreBeside (nodes_of old.read) t (pages_of placed.staged)) →
     (IsTrue old.tells → IsSoundTree s (nodes_of old.read) t → (new : Nodes) → IsOver (nodes_of old.read) t placed.staged new →
-        HasInserted s (rules s head.promote head.split) (nodes_of old.read) t (record { id = t.count; tag = tag; point = point }) placed new) →
+    HasInserted s (rules s head.promote head.split) (nodes_of old.read) t (record { id = t.count; tag = tag; point = point }) placed new) →
     IsTrue pages.tells → IsSoundTree space (nodes_of pages.read) t → IsPlacedFor space head (Inserts point tag) (nodes_of pages.read) t placed
 placed_for s space same old pages is head t tag point placed apart inserted =
     subst (λ (h : Shelf). IsTrue h.tells → IsSoundTree space (nodes_of h.read) t → IsPlacedFor space head (Inserts point tag) (nodes_of h.read) t placed) is

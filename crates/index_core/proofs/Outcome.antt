@@ -51,8 +51,8 @@ module _ {M : Type 0} (s : Space) (write : Write) (file : OpenFile M) (f : FreeP
 
   exchanged : IsExchange file.live.pages placed.next.pages used f (pages_of placed.staged) placed.left
   exchanged = subst (λ (n : ℕ). IsExchange file.live.pages placed.next.pages n f (pages_of placed.staged) placed.left) (sym on.used_is) (
-    let e = exchange file.head file.live (record f { spare = spare }) on.asked on.added placed kept within on.placement three on.left_within in
-    record { given = e.given; uses = e.uses; more = e.more; fresh = e.fresh; once = e.once; left_within = e.left_within })
+      let e = exchange file.head file.live (record f { spare = spare }) on.asked on.added placed kept within on.placement three on.left_within in
+      record { given = e.given; uses = e.uses; more = e.more; fresh = e.fresh; once = e.once; left_within = e.left_within })
 
   sound_file : {points : List (List ℕ)} {tags : List ℕ} → HasObjects s file before points tags → IsSoundFile s file.head file.live before.bytes
   sound_file has = record { opens = stands.opens has.tells; version = lawful.version; words = lawful.words_are; tree = has.sound }
@@ -74,13 +74,13 @@ module _ {M : Type 0} (s : Space) (write : Write) (file : OpenFile M) (f : FreeP
       one image is = elim (commits_keep_lists s file.head file.live placed.next placed.staged (points_after write points) (tags_after write tags) before.bytes image (sound_file has)
           ((can_follow s.words file f spare used placed lawful kept within on).0) ((can_follow s.words file f spare used placed lawful kept within on).1)
           (λ new over. after_is has ((fits has.tells has.sound).makes new over).objects) is.either (alone_keeps file.live placed.staged before image (only has.tells) is.others)) [
-        | inl old ↦ inl (record {
-          live = file.live;
-          is = subst (λ (ps : List (List ℕ)). IsFileOf s file.head file.live ps tags image) has.points_are
-              (subst (λ (ts : List ℕ). IsFileOf s file.head file.live (points_by_id (nodes_on file before) file.live) ts image) has.tags_are old);
-        })
-        | inr new ↦ inr (record { live = placed.next; is = new })
-      ]
+            | inl old ↦ inl (record {
+              live = file.live;
+              is = subst (λ (ps : List (List ℕ)). IsFileOf s file.head file.live ps tags image) has.points_are
+                  (subst (λ (ts : List ℕ). IsFileOf s file.head file.live (points_by_id (nodes_on file before) file.live) ts image) has.tags_are old);
+            })
+            | inr new ↦ inr (record { live = placed.next; is = new })
+          ]
 
   -- a guarded page is none of the new ones
   guarded_unstaged : (generation : ℕ) (tree : List ℕ) → IsGuarded file.live.pages generation f tree → (page : ℕ) → IsIn page tree → IsNotStaged placed.staged page
@@ -199,16 +199,17 @@ module _ {M : Type 0} (s : Space) (write : Write) (old : OpenIndex M) (f : FreeP
     kept = λ generation tree tells guards. pages_kept s write old.file f f.spare used placed lawful kept list.within on before after stands only fits moments generation tree tells guards;
   }
 
-  -- after the commit the free list is lawful
-  pub next_list : (file : OpenFile M) (g : FreePages) → IsCommitted old.file file f g used placed before after → IsLawfulFree file.live g
-  next_list file g did = subst (λ (n : OpenFile M). IsLawfulFree n.live g) (sym did.file) (record {
-    within = did.within;
-    newest = subst (λ (h : FreePages). h.newest ≤ placed.next.generation) (sym did.free)
-        (newest_left placed.next.generation placed.left (record f { spare = did.spare; free = drop used f.free }) (let l = list.newest in let e = on.placement.generation in omega arith));
-    pins = subst (λ (h : FreePages). AllByRecursion (λ pin. pin ≤ placed.next.generation) h.pins) (sym did.free)
-        (subst (AllByRecursion (λ pin. pin ≤ placed.next.generation)) (sym (pins_all_left placed.next.generation placed.left (record f { spare = did.spare; free = drop used f.free })))
-        (all_weaker (λ (pin : ℕ). pin ≤ old.file.live.generation) (λ pin. pin ≤ placed.next.generation) f.pins (λ pin l. let e = on.placement.generation in omega arith) list.pins));
-  })
+-- after a commit the free list is lawful
+pub next_list : {M : Type 0} (old : OpenFile M) (f : FreePages) (used : ℕ) (placed : Placed) → IsLawfulFree old.live f → IsPlacedOn old f used placed → (before after : DiskState) (file : OpenFile M) (g : FreePages) →
+    IsCommitted old file f g used placed before after → IsLawfulFree file.live g
+next_list {M} old f used placed list on before after file g did = subst (λ (n : OpenFile M). IsLawfulFree n.live g) (sym did.file) (record {
+  within = did.within;
+  newest = subst (λ (h : FreePages). h.newest ≤ placed.next.generation) (sym did.free)
+      (newest_left placed.next.generation placed.left (record f { spare = did.spare; free = drop used f.free }) (let l = list.newest in let e = on.placement.generation in omega arith));
+  pins = subst (λ (h : FreePages). AllByRecursion (λ pin. pin ≤ placed.next.generation) h.pins) (sym did.free)
+      (subst (AllByRecursion (λ pin. pin ≤ placed.next.generation)) (sym (pins_all_left placed.next.generation placed.left (record f { spare = did.spare; free = drop used f.free })))
+      (all_weaker (λ (pin : ℕ). pin ≤ old.live.generation) (λ pin. pin ≤ placed.next.generation) f.pins (λ pin l. let e = on.placement.generation in omega arith) list.pins));
+})
 
 -- how much the free list has room for doesn't matter
 pub unspared : (f : FreePages) (spare : ℕ) → IsKept (record f { spare = spare }) → IsKept (record f { spare = f.spare })

@@ -83,9 +83,9 @@ module _ {M : Type 0} (words : ℕ) (file : OpenFile M) (f : FreePages) (spare u
         agrees = forgotten_agrees agreement_lasts law (pages_of placed.staged) file.kept (pages_on file before 0)
             (pages_on (record file { live = placed.next; kept = forgotten_of (pages_of placed.staged) file.kept }) after 0) grows
             (λ page node is unstaged tells.
-                read_same ((pages_on file before 0).read page) ((pages_on (record file { live = placed.next; kept = forgotten_of (pages_of placed.staged) file.kept }) after 0).read page) node (is.told (told tells))
-                (page_same file.head file.live (record f { spare = spare }) on.asked on.added placed kept within on.placement before.bytes after.bytes page lawful.side is.within unstaged
-                ((done (told tells)).in_place) (others tells)))
+            read_same ((pages_on file before 0).read page) ((pages_on (record file { live = placed.next; kept = forgotten_of (pages_of placed.staged) file.kept }) after 0).read page) node (is.told (told tells))
+            (page_same file.head file.live (record f { spare = spare }) on.asked on.added placed kept within on.placement before.bytes after.bytes page lawful.side is.within unstaged
+            ((done (told tells)).in_place) (others tells)))
             stands.agrees;
       };
       only = λ tells. last;

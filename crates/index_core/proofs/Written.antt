@@ -14,13 +14,18 @@ use Rattle.page_store.specs.Reading.{nodes_of, reading}
 use Rattle.page_store.specs.Kept.{unchanged_by_none}
 use Rattle.page_cache.specs.Keeping.{Pairs}
 use Rattle.free_pages.specs.Keeping.{FreePages}
-use Rattle.free_pages.specs.Commits.{IsGuarded}
+use Rattle.free_pages.specs.Commits.{AreOutside, IsGuarded}
 use Rattle.index_core.specs.declared.faults.IndexFault.{IndexFault}
-use Rattle.index_core.specs.declared.faults.IndexFault.TheVariants.{Commit}
+use Rattle.index_core.specs.declared.faults.IndexFault.TheVariants.{Commit, Memory as NoMemory}
+use Rattle.tree_shape.specs.Plain.{Object}
+use Rattle.page_store.specs.declared.staging.Placed.{Placed}
+use Rattle.page_store.specs.Placing.{live_pages}
+use Rattle.index_core.specs.Answers.{IsSoundOn}
+use Rattle.index_core.specs.Causes.{HasInsertCause}
 use Rattle.index_core.specs.Files.{OpenFile, StandsOn, OnlyReads, IsLawfulFile, nodes_on}
 use Rattle.index_core.specs.Index.{OpenIndex}
 use Rattle.index_core.specs.Lending.{SameRoom, same_room_by_none, same_room_by_both}
-use Rattle.index_core.specs.Writing.{Write, added_by, answer_to, points_after, tags_after, tree_after, HasObjects, HoldsObjects, LeavesEither, IsExact, IsExactFor, IsNext, IsRefused, GuardsPages, KeepsPages, HasWritten}
+use Rattle.index_core.specs.Writing.{Write, added_by, answer_to, points_after, tags_after, tree_after, HasObjects, HoldsObjects, LeavesEither, IsExact, IsExactFor, IsNext, IsPlacedFor, IsRefused, GuardsPages, KeepsPages, HasWritten}
 
 rose_more : (a b c : ℕ) → a ≤ b → Rose b c → Rose a c
 rose_more a b c more rose = grind arith
@@ -157,3 +162,61 @@ module _ {M : Type 0} (s : Space) (write : Write) (old new : OpenIndex M) (file 
       tree_then has e =
           e ∙ (ap (λ (o : OpenFile M). tree_after s o.head write o.live.count (tree_of (nodes_on o mid) o.live)) reads.rest
           ∙ ap (λ (bytes : List ℕ). tree_after s old.file.head write old.file.live.count (tree_of (nodes_of (reading old.file.head.dim old.file.live.pages bytes)) old.file.live)) reads.same.same_bytes)
+
+-- ---- what stands while the disk is only read
+
+-- a refusal at once
+pub refused_here : {M : Type 0} (index : OpenIndex M) (disk : DiskState) → IsRefused index index disk disk
+refused_here index disk = record { is = refl; room = same_room_by_none index.file.kept; free = free_here index.free; same = unchanged_by_none disk }
+  where
+    free_here : (free : Option FreePages) → MatchOption free (Unit {0}) (λ f. free ≡ Some f)
+    free_here None = tt
+    free_here (Some f) = refl
+
+pub reads_both : {M : Type 0} (a b c : OpenFile M) (before mid after : DiskState) → OnlyReads a b before mid → OnlyReads b c mid after → OnlyReads a c before after
+reads_both {M} a b c before mid after first second = record {
+  rest = second.rest ∙ ap (λ (f : OpenFile M). record f { kept = c.kept }) first.rest;
+  room = same_room_by_both a.kept b.kept c.kept first.room second.room;
+  same = then_unchanged before mid after first.same second.same;
+  later = let l = first.later in let m = second.later in omega arith;
+}
+
+-- the list that the index has, if it has one
+pub list_is : (free : Option FreePages) (f : FreePages) → MatchOption free (f.pins ≡ []) (λ g. f ≡ g) → MatchOption free (Unit {0}) (λ g. f ≡ g)
+list_is None f l = tt
+list_is (Some g) f l = l
+
+pub refused_by : {M : Type 0} (old : OpenIndex M) (file : OpenFile M) (f : FreePages) (before after : DiskState) → OnlyReads old.file file before after → MatchOption old.free (Unit {0}) (λ g. f ≡ g) →
+    IsRefused old (record old { file = file; free = Some f }) before after
+refused_by {M} old file f before after reads list = record {
+  is = ap (λ (n : OpenFile M). record old { file = n; free = Some f }) reads.rest;
+  room = reads.room;
+  free = some old.free list;
+  same = reads.same;
+}
+  where
+    some : (free : Option FreePages) → MatchOption free (Unit {0}) (λ g. f ≡ g) → MatchOption free (Unit {0}) (λ g. Some f ≡ Some g)
+    some None l = tt
+    some (Some g) l = ap Some l
+
+pub fits_moved : {M : Type 0} (space : M → Space) (write : Write) (placed : Placed) (old new : OpenFile M) (before after : DiskState) → OnlyReads old new before after →
+    (IsSoundOn (space old.metric) old before → IsPlacedFor (space old.metric) old.head write (nodes_on old before) old.live placed) →
+    IsSoundOn (space new.metric) new after → IsPlacedFor (space new.metric) new.head write (nodes_on new after) new.live placed
+fits_moved {M} space write placed old new before after reads fits =
+    subst (λ (f : OpenFile M). IsSoundOn (space f.metric) f after → IsPlacedFor (space f.metric) f.head write (nodes_on f after) f.live placed) (sym reads.rest) (λ sound.
+    subst (λ (bytes : List ℕ). IsPlacedFor (space old.metric) old.head write (nodes_of (reading old.head.dim old.live.pages bytes)) old.live placed) (sym reads.same.same_bytes)
+    (fits (rw (sym reads.same.same_tells) sound.0, subst (λ (bytes : List ℕ). IsSoundTree (space old.metric) (nodes_of (reading old.head.dim old.live.pages bytes)) old.live) reads.same.same_bytes sound.1)))
+
+pub exact_moved : {M : Type 0} (f : FreePages) (old new : OpenFile M) (before after : DiskState) → OnlyReads old new before after → IsExactFor old f before → IsExactFor new f after
+exact_moved {M} f old new before after reads exact =
+    subst (λ (n : OpenFile M). IsExactFor n f after) (sym reads.rest)
+    (subst (λ (bytes : List ℕ). AreOutside old.live.pages (live_pages (nodes_of (reading old.head.dim old.live.pages bytes)) old.live) f) (sym reads.same.same_bytes) exact)
+
+-- why a commit was refused
+pub commit_cause : {M : Type 0} (s : Space) (index : OpenIndex M) (o : Object) (before mid after : DiskState) (r : Result ℕ IndexFault) → before.faults ≤ mid.faults →
+    IfErr r (λ fault. (fault ≡ NoMemory) ⊎ (fault ≡ Commit)) → IfErr r (λ fault. fault ≡ Commit → Rose mid.faults after.faults) → IfErr r (HasInsertCause s index o before after)
+commit_cause s index o before mid after (Ok n) later either rose = tt
+commit_cause s index o before mid after (Err fault) later either rose = elim either [
+  | inl e ↦ subst (HasInsertCause s index o before after) (sym e) tt
+  | inr e ↦ subst (HasInsertCause s index o before after) (sym e) (rose_more before.faults mid.faults after.faults later (rose e))
+]

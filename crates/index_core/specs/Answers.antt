@@ -1,5 +1,7 @@
 -- What the reading calls of an opened index answer, and why they refuse.
-use Rattle.std.specs.Prelude.{◌≡◌, ℕ, ◌+◌, ◌≤◌, min, List, [], ◌∷◌, length, IsTrue, Result, IfOk, IfErr, MatchResult}
+use Rattle.std.specs.Prelude.{◌≡◌, ℕ, ◌+◌, ◌≤◌, min, List, [], ◌∷◌, length, Vec, vec_len, IsTrue, Result, IfOk, IfErr, MatchResult}
+use Rattle.std.specs.List.{AllZip}
+use Rattle.std.specs.declared.alloc.Global.{Global}
 use Rattle.metric_laws.specs.Space.{Space, bound}
 use Rattle.disk_model.specs.Disk.{DiskState}
 use Rattle.scan_model.specs.declared.query.Query.{Query}
@@ -9,6 +11,7 @@ use Rattle.log_model.specs.Counts.{count_up, measured}
 use Rattle.log_model.specs.Laws.{scan_answers}
 use Rattle.log_model.specs.Sound.{IsLogOf, IsLeastLog}
 use Rattle.log_model.specs.Walk.{search_at}
+use Rattle.hit_tags.specs.Tags.{met_tags, object_tags, IsOwnTag, IsShown, HasTagsCause}
 use Rattle.range_search.specs.Searched.{IsFound, HasWalkCause}
 use Rattle.nearest_search.specs.Searched.{HasNearestCause}
 use Rattle.index_core.specs.declared.faults.IndexFault.{IndexFault}
@@ -68,4 +71,20 @@ pub record HasDrawn {M : Type 0} (s : Space) (file : OpenFile M) (old new : Disk
   pub walk : IfOk result (λ shape. IsTrue old.tells → DrawsTo (nodes_on file old) (root_named file.live.root ∷ []) shape.lines [])
   pub lines : IfOk result (λ shape. IsSoundOn s file old → shape.lines ≡ tree_lines (nodes_on file old) file.live)
   pub cause : IfErr result (HasDrawCause file old new)
+  pub undamaged : IsSoundOn s file old → IfErr result MayComeAnytime
+
+-- why there are no tags of what was found: the disk failed, memory ran out, or the walk by the found log came to a damaged page
+abbrev pub HasTagCause : {M : Type 0} → OpenFile M → Found → DiskState → DiskState → IndexFault → Type 0
+HasTagCause file found old new = HasReadCause (HasTagsCause (pages_on file old 0) (pages_on file new 0) (file.live.root ∷ []) found.log.records)
+
+-- What the walk by a found log gives: a tag for each hit; where the disk tells its bytes, that of the first object with its id that
+-- the walk meets; where the log shows the hits, those of the hits' objects. On a sound file no hit has another object's tag,
+-- whatever the log says, and only the disk or memory refuses. The disk was read at most once per record of the log.
+pub record HasTagged {M : Type 0} (s : Space) (file : OpenFile M) (found : Found) (old new : DiskState) (result : Result (Vec ℕ Global) IndexFault) : Type 0 where
+  pub each : IfOk result (λ tags. vec_len tags ≡ length found.hits)
+  pub met : IfOk result (λ tags. IsTrue old.tells → tags.items ≡ met_tags (nodes_on file old) file.live found)
+  pub own : IfOk result (λ tags. IsSoundOn s file old → AllZip (IsOwnTag (nodes_on file old) file.live) found.hits tags.items)
+  pub objects : IfOk result (λ tags. IsTrue old.tells → IsShown s (nodes_on file old) file.live found → tags.items ≡ object_tags (nodes_on file old) file.live found)
+  pub reads : new.reads ≤ old.reads + length found.log.records
+  pub cause : IfErr result (HasTagCause file found old new)
   pub undamaged : IsSoundOn s file old → IfErr result MayComeAnytime

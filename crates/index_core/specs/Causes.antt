@@ -1,5 +1,5 @@
 -- Why a call of an opened index refuses.
-use Rattle.std.specs.Prelude.{◌≡◌, ◌≢◌, ◌⊎◌, ℕ, IsTrue, List, take, Err}
+use Rattle.std.specs.Prelude.{◌≡◌, ◌≢◌, ◌⊎◌, ℕ, IsTrue, List, take, true, Err, None, Some, MatchOption}
 use Rattle.disk_model.specs.Disk.{DiskState}
 use Rattle.tree_shape.specs.declared.live.Live.{Live}
 use Rattle.node_page.specs.declared.head.Head.{Head}
@@ -16,13 +16,14 @@ use Rattle.tree_growth.specs.Insertion.{Rules, rules}
 use Rattle.metric_laws.specs.Space.{Space as Metrized}
 use Rattle.insert_path.specs.declared.faults.PlaceFault.{PlaceFault}
 use Rattle.insert_path.specs.declared.faults.PlaceFault.TheVariants as place
-use Rattle.insert_path.specs.Causes.{HasPlaceCause, HasWalkCause}
+use Rattle.insert_path.specs.Causes.{HasPlaceCause}
 use Rattle.insert_path.specs.Placing.{place_fault as faults_of_path}
 use Rattle.free_pages.specs.Keeping.{FreePages}
 use Rattle.free_pages.specs.Walk.{tree_walk}
 use Rattle.index_core.specs.Files.{OpenFile, pages_on}
+use Rattle.index_core.specs.Index.{OpenIndex}
 use Rattle.index_core.specs.declared.faults.IndexFault.{IndexFault}
-use Rattle.index_core.specs.declared.faults.IndexFault.TheVariants.{Disk, Damaged, Full, NoRoom, Worn, Memory}
+use Rattle.index_core.specs.declared.faults.IndexFault.TheVariants.{Disk, Damaged, Full, NotEmpty, NoRoom, Worn, Stopped, Memory, Commit}
 
 -- the bytes open to a head of this version
 abbrev pub OpensAs : List ℕ → (Head → Type 0) → Type 0
@@ -87,7 +88,7 @@ rules_of s file = rules s file.head.promote file.head.split
 abbrev pub HasPathCause : {M : Type 0} → Metrized → OpenFile M → FreePages → Object → DiskState → DiskState → IndexFault → Type 0
 HasPathCause s file f o old new Disk = Rose old.faults new.faults
 HasPathCause s file f o old new (Damaged fault) =
-    IsPathDamage fault × HasWalkCause (pages_on file old 0) (pages_on file new 0) (faults_of_path s (rules_of s file) (pages_on file old 0).read file.live o) fault
+    IsPathDamage fault × (IsTrue old.tells → faults_of_path s (rules_of s file) (pages_on file old 0).read file.live o ≡ Some fault)
 HasPathCause s file f o old new (NoRoom pages needed) =
     (asked : ℕ) × HasPlaceCause s (rules_of s file) (take asked f.free) file.live o (pages_on file old 0) (pages_on file new 0) (place.NoRoom pages needed)
 HasPathCause s file f o old new Memory = Unit {0}
@@ -105,3 +106,23 @@ HasListCause file old faults Disk = Rose old.faults faults
 HasListCause file old faults (Damaged fault) = IsDamage fault × (IsTrue old.tells → tree_walk (pages_on file old 0).read file.live ≡ Err fault)
 HasListCause file old faults Memory = Unit {0}
 HasListCause file old faults _ = ⊥
+
+-- the free list is the one that the index has, if it has one
+abbrev pub IsListOf : {M : Type 0} → OpenIndex M → FreePages → Type 0
+IsListOf index f = MatchOption index.free (Unit {0}) (λ g. f ≡ g)
+
+-- Why an object was not inserted: a commit failed before; the disk failed; a page is damaged to which the walk came that makes the free
+-- list, or that of the insertion; the new nodes have no room; memory ran out; or the disk failed in the commit. That the index is full
+-- or worn is said by itself.
+abbrev pub HasInsertCause : {M : Type 0} → Metrized → OpenIndex M → Object → DiskState → DiskState → IndexFault → Type 0
+HasInsertCause s index o old new Stopped = index.stopped ≡ true
+HasInsertCause s index o old new Full = Unit {0}
+HasInsertCause s index o old new Worn = Unit {0}
+HasInsertCause s index o old new Disk = Rose old.faults new.faults
+HasInsertCause s index o old new (Damaged fault) =
+    ((index.free ≡ None) × HasListCause index.file old new.faults (Damaged fault)) ⊎ (IsPathDamage fault × (IsTrue old.tells → faults_of_path s (rules_of s index.file) (pages_on index.file old 0).read index.file.live o ≡ Some fault))
+HasInsertCause s index o old new (NoRoom pages needed) =
+    (f : FreePages) × IsListOf index f × (asked : ℕ) × HasPlaceCause s (rules_of s index.file) (take asked f.free) index.file.live o (pages_on index.file old 0) (pages_on index.file new 0) (place.NoRoom pages needed)
+HasInsertCause s index o old new Memory = Unit {0}
+HasInsertCause s index o old new Commit = Rose old.faults new.faults
+HasInsertCause s index o old new NotEmpty = ⊥

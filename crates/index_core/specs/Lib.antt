@@ -4,4 +4,6 @@ pub mod Index
 pub mod Causes
 pub mod Answers
 pub mod Writing
+pub mod Loading
+pub mod Pinning
 pub mod Still

@@ -29,7 +29,7 @@ pub struct Index<M: Metric> {
     pub(crate) view: View<M>,
     pub(crate) free: Option<Free>,
     pub(crate) stopped: bool,
-    workers: usize,
+    pub(crate) workers: usize,
 }
 
 impl<M: Metric> Model for Index<M> {

@@ -6,7 +6,10 @@ mod index;
 mod inserting;
 mod lending;
 mod listing;
+mod loading;
+mod pinning;
 mod placing;
+mod tagging;
 mod view;
 mod writing;
 
@@ -18,5 +21,9 @@ pub use view::View;
 /// Want of memory.
 pub type Memory = std::alloc::AllocError;
 
+#[cfg(test)]
+mod insert_tests;
+#[cfg(test)]
+mod load_tests;
 #[cfg(test)]
 mod tests;

@@ -1,5 +1,5 @@
 // The free list of an index, which is made when it is first needed.
-ghost use Rattle.std.specs.Prelude.{◌≡◌, [], List, ℕ, None, IsTrue, IfOk, IfErr, MatchOption};
+ghost use Rattle.std.specs.Prelude.{◌≡◌, [], List, ℕ, None, IsTrue, IsSome, IfOk, IfErr, MatchOption};
 ghost use Rattle.free_pages.specs.Keeping.{IsKept};
 ghost use Rattle.index_core.specs.Answers.{IsSoundOn};
 ghost use Rattle.index_core.specs.Causes.{BlamesNoPage, HasListCause};
@@ -61,6 +61,7 @@ impl<M: Metric> Index<M> {
         ensures beside { IfOk result (λ f. IsTrue (D.state disk.old).tells → AreSpare (nodes_on self.old.file (D.state disk.old)) self.old.file.live f) }
         ensures exact { IfOk result (λ f. IsSoundOn (M.space self.old.file.metric) self.old.file (D.state disk.old) → IsExact self.old (D.state disk.old) →
             IsExactFor self.old.file f (D.state disk.old)) }
+        ensures there { IsSome self.old.free → disk.new ≡ disk.old }
         ensures made { IfErr result (λ fault. self.old.free ≡ None) }
         ensures cause { IfErr result (HasListCause self.old.file (D.state disk.old) (D.state disk.new).faults) }
         ensures undamaged { IfErr result (λ fault. IsSoundOn (M.space self.old.file.metric) self.old.file (D.state disk.old) → BlamesNoPage fault) }

@@ -1,6 +1,7 @@
 ghost use Rattle.std.specs.Prelude.{◌≡◌, ◌≤◌, IsTrue, IfOk, OnOk};
 ghost use Rattle.disk_model.specs.Disk.{IsUnchanged};
-ghost use Rattle.index_core.specs.Files.{StandsOn, StandsAlone};
+ghost use Rattle.index_core.specs.Files.{StandsOn};
+ghost use Rattle.index_core.specs.Index.{MayGoOn};
 
 use crate::{Index, IndexFault, ShapeLine, View};
 use disk_model::{Disk, MemoryDisk};
@@ -45,7 +46,7 @@ const SIX: Live = Live {
 };
 
 // A page of zeros up to this place.
-fn pad(bytes: &mut Vec<u8>, end: usize) -> Result<(), Memory> {
+pub(crate) fn pad(bytes: &mut Vec<u8>, end: usize) -> Result<(), Memory> {
     for _ in bytes.len()..end {
         bytes.push(0)?;
     }
@@ -54,7 +55,7 @@ fn pad(bytes: &mut Vec<u8>, end: usize) -> Result<(), Memory> {
 
 // The head, the slot of a live tree, and a slot that is closed.
 #[tactic(auto, unfolding(node_page::specs::Heads::is_version, node_page::specs::Heads::is_space, node_page::specs::Heads::is_policy, node_page::specs::Heads::is_limit))]
-fn file_of(alloc: Global, live: &Live) -> Result<Vec<u8>, Memory> {
+pub(crate) fn file_of(alloc: Global, live: &Live) -> Result<Vec<u8>, Memory> {
     let mut page = [0; 4096];
     encode_head(&HEAD, &mut page);
     let mut bytes = page.to_vec(alloc)?;
@@ -121,7 +122,7 @@ fn numbers(alloc: Global) -> Result<Vec<u8>, Memory> {
 }
 
 // A root on page 3 with six entries for one page.
-fn six_entries(alloc: Global, child: u32) -> Result<Vec<u8>, Memory> {
+pub(crate) fn six_entries(alloc: Global, child: u32) -> Result<Vec<u8>, Memory> {
     let mut bytes = file_of(alloc, &SIX)?;
     put_head(&mut bytes, 1, 6)?;
     for _ in 0..6 {
@@ -382,8 +383,8 @@ fn check_index<D: Disk, M: Metric>(
     index: &mut Index<M>,
     disk: &mut D,
 ) -> Result<(), Fail>
-    requires { StandsAlone index.old.file (D.state disk.old) }
-    ensures { StandsAlone index.new.file (D.state disk.new) }
+    requires { MayGoOn index.old (D.state disk.old) }
+    ensures { MayGoOn index.new (D.state disk.new) }
 {
     let alloc = rt.alloc();
     assert_eq!(rt;

@@ -62,7 +62,13 @@ impl<M: Metric> View<M> {
     {
         free.are_kept();
         forget(&mut self.kept, &placed.staged);
-        commit(disk, self.head.dim, &self.live, &placed.next, &placed.staged)?;
+        commit(
+            disk,
+            self.head.dim,
+            &self.live,
+            &placed.next,
+            &placed.staged,
+        )?;
         forgetting_keeps_agreement();
         self.live = placed.next;
         free.settle(used, placed.left.as_slice(), placed.next.generation);

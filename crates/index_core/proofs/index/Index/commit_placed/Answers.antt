@@ -1,4 +1,4 @@
-use Rattle.std.proofs.Common.{◌≡◌, ◌≤◌, true, ℕ, refl, sym, ap, subst, ◌∙◌, Option, Some, Err}
+use Rattle.std.proofs.Common.{◌≡◌, ◌≤◌, true, ℕ, refl, sym, ap, subst, ◌∙◌, Option, Some, Ok, Err}
 use Rattle.std.specs.Prelude.{IsTrue}
 use Rattle.disk_model.specs.Disk.{EachImage}
 use Rattle.page_store.specs.Kept.{unchanged_by_none}
@@ -30,13 +30,13 @@ returns-in_default-clause-written g c = λ write count is fits.
     }))
 
 pub write-requires-clause-beside : goal.write-requires-clause-beside
-write-requires-clause-beside g c = λ tells.
+write-requires-clause-beside g c = λ κs bounds tells.
     subst (λ (i : OpenIndex g.row.M.Denot). AreSpare (nodes_on i.file (g.D.Disk.state c.args.disk.now)) i.file.live c.reserve.new.self) (sym c.self.view_is)
     (subst (AreSpare (nodes_on c.args.self.now.file (g.D.Disk.state c.args.disk.now)) c.args.self.now.file.live) (sym c.in-Ok.ensures.ok)
     (spare_of (nodes_on c.args.self.now.file (g.D.Disk.state c.args.disk.now)) c.args.self.now.file.live c.args.free _ (c.requires.beside tells)))
 
 pub write-requires-clause-within : goal.write-requires-clause-within
-write-requires-clause-within g c =
+write-requires-clause-within g c = λ κs bounds.
     subst (λ (i : OpenIndex g.row.M.Denot). AreWithin i.file.live.pages c.reserve.new.self) (sym c.self.view_is)
     (subst (AreWithin c.args.self.now.file.live.pages) (sym c.in-Ok.ensures.ok) c.requires.lawful.within)
 
@@ -45,16 +45,38 @@ returns-in_default-write-clause-written g c = λ write count is fits.
     let lawful = subst (λ (i : OpenIndex g.row.M.Denot). IsLawfulFile (g.M.Metric.space i.file.metric).words i.file) c.self.view_is c.is_lawful.ensures in
     let kept = unspared c.args.free _ (subst IsKept c.in-Ok.ensures.ok c.reserve.ensures.kept) in
     let moments = subst (λ (i : OpenIndex g.row.M.Denot). IsTrue (g.D.Disk.state c.args.disk.now).tells →
-        EachImage (g.D.Disk.state c.args.disk.now) (g.D.Disk.state c.write.new.disk) (IsBeforeOrAfter i.file.head.dim i.file.live c.args.placement.now.placed.next c.args.placement.now.placed.staged
-        (g.D.Disk.state c.args.disk.now))) c.self.view_is c.write.ensures.moments in
+    EachImage (g.D.Disk.state c.args.disk.now) (g.D.Disk.state c.write.new.disk) (IsBeforeOrAfter i.file.head.dim i.file.live c.args.placement.now.placed.next c.args.placement.now.placed.staged
+    (g.D.Disk.state c.args.disk.now))) c.self.view_is c.write.ensures.moments in
     failed_written (g.M.Metric.space c.args.self.now.file.metric) write c.args.self.now c.args.free c.args.placement.now.used c.args.placement.now.placed lawful kept c.requires.lawful c.requires.placed
     (g.D.Disk.state c.args.disk.now) (g.D.Disk.state c.write.new.disk) c.requires.stands c.requires.only (λ tells sound. fits (tells, sound)) moments _ refl c.in_default-write.ensures.cause.failed
 
 pub invariant_of-self-2 : goal.invariant_of-self-2
 invariant_of-self-2 g c =
-    let lawful = subst (λ (i : OpenIndex g.row.M.Denot). IsLawfulFile (g.M.Metric.space i.file.metric).words i.file) c.self.view_is c.is_lawful.ensures in
-    let kept = unspared c.args.free _ (subst IsKept c.in-Ok.ensures.ok c.reserve.ensures.kept) in
-    ?
+    let did = subst (λ (i : OpenIndex g.row.M.Denot). IsCommitted i.file c.write.new.self c.reserve.new.self c.write.new.free c.args.placement.now.used c.args.placement.now.placed (g.D.Disk.state c.args.disk.now)
+    (g.D.Disk.state c.write.new.disk)) c.self.view_is c.in-Ok-write.ensures.committed in
+    record {
+      some_workers = c.self.invariant.some_workers;
+      few_workers = c.self.invariant.few_workers;
+      free = next_list c.args.self.now.file c.args.free c.args.placement.now.used c.args.placement.now.placed c.requires.lawful c.requires.placed _ _ c.write.new.self c.write.new.free
+          (committed_of c.args.self.now.file c.write.new.self c.args.free c.write.new.free _ c.args.placement.now.used c.args.placement.now.placed (g.D.Disk.state c.args.disk.now) (g.D.Disk.state c.write.new.disk)
+          (subst (λ (f : FreePages). IsCommitted c.args.self.now.file c.write.new.self f c.write.new.free c.args.placement.now.used c.args.placement.now.placed (g.D.Disk.state c.args.disk.now)
+          (g.D.Disk.state c.write.new.disk)) c.in-Ok.ensures.ok did));
+    }
 
 pub returns-clause-written : goal.returns-clause-written
-returns-clause-written g c = λ write count is fits. ?
+returns-clause-written g c = λ write count is fits.
+    let lawful = subst (λ (i : OpenIndex g.row.M.Denot). IsLawfulFile (g.M.Metric.space i.file.metric).words i.file) c.self.view_is c.is_lawful.ensures in
+    let kept = unspared c.args.free _ (subst IsKept c.in-Ok.ensures.ok c.reserve.ensures.kept) in
+    let moments = subst (λ (i : OpenIndex g.row.M.Denot). IsTrue (g.D.Disk.state c.args.disk.now).tells →
+    EachImage (g.D.Disk.state c.args.disk.now) (g.D.Disk.state c.write.new.disk) (IsBeforeOrAfter i.file.head.dim i.file.live c.args.placement.now.placed.next c.args.placement.now.placed.staged
+    (g.D.Disk.state c.args.disk.now))) c.self.view_is c.write.ensures.moments in
+    let did = subst (λ (i : OpenIndex g.row.M.Denot). IsCommitted i.file c.write.new.self c.reserve.new.self c.write.new.free c.args.placement.now.used c.args.placement.now.placed (g.D.Disk.state c.args.disk.now)
+    (g.D.Disk.state c.write.new.disk)) c.self.view_is c.in-Ok-write.ensures.committed in
+    let whole = committed_of c.args.self.now.file c.write.new.self c.args.free c.write.new.free _ c.args.placement.now.used c.args.placement.now.placed (g.D.Disk.state c.args.disk.now) (g.D.Disk.state c.write.new.disk)
+    (subst (λ (f : FreePages). IsCommitted c.args.self.now.file c.write.new.self f c.write.new.free c.args.placement.now.used c.args.placement.now.placed (g.D.Disk.state c.args.disk.now)
+    (g.D.Disk.state c.write.new.disk)) c.in-Ok.ensures.ok did) in
+    subst (λ (n : OpenIndex g.row.M.Denot). HasWritten (g.M.Metric.space c.args.self.now.file.metric) write (record c.args.self.now { free = Some c.args.free }) n (g.D.Disk.state c.args.disk.now)
+    (g.D.Disk.state c.write.new.disk) (Ok c.args.answer)) (sym (ap (λ (i : OpenIndex g.row.M.Denot). record i { file = c.write.new.self; free = Some c.write.new.free }) c.self.view_is))
+    (done_written (g.M.Metric.space c.args.self.now.file.metric) write c.args.self.now c.args.free c.args.placement.now.used c.args.placement.now.placed lawful kept c.requires.lawful c.requires.placed
+    (g.D.Disk.state c.args.disk.now) (g.D.Disk.state c.write.new.disk) c.requires.stands c.requires.only (λ tells sound. fits (tells, sound)) moments c.write.new.self c.write.new.free c.args.answer
+    (g.met.D.Disk.read_is_image c.write.new.disk) c.write.ensures.tells whole count is)

@@ -31,11 +31,11 @@ pub returns-clause-exact : goal.returns-clause-exact
 returns-clause-exact g c =
     subst (λ (f : OpenFile g.row.M.Denot). IsSoundOn (g.M.Metric.space c.args.self.now.metric) f (g.D.Disk.state c.args.disk.now) → IsExactFor f c.in-Ok.free (g.D.Disk.state c.args.disk.now)) c.self.view_is
     (λ sound.
-        let exact = subst (λ (h : Shelf). IsTrue h.tells → IsSoundTree (g.M.Metric.space c.args.self.now.metric) (nodes_of h.read) c.self.inside.live →
-            AreOutside c.self.inside.live.pages (live_pages (nodes_of h.read) c.self.inside.live) c.in-Ok.free) c.lend-pages.ensures.shelf
-            (λ tells is. fresh_exact c.self.inside.live _ c.in-Ok.free (c.in-Ok.ensures.sound (g.M.Metric.space c.args.self.now.metric) tells is) c.in-Ok.ensures.fresh) in
-        subst (λ (f : OpenFile g.row.M.Denot). IsTrue (g.D.Disk.state c.args.disk.now).tells → IsSoundTree (g.M.Metric.space c.args.self.now.metric) (nodes_on f (g.D.Disk.state c.args.disk.now)) c.self.inside.live →
-            AreOutside c.self.inside.live.pages (live_pages (nodes_on f (g.D.Disk.state c.args.disk.now)) c.self.inside.live) c.in-Ok.free) (sym c.self.view_is) exact sound.0 sound.1)
+    let exact = subst (λ (h : Shelf). IsTrue h.tells → IsSoundTree (g.M.Metric.space c.args.self.now.metric) (nodes_of h.read) c.self.inside.live →
+    AreOutside c.self.inside.live.pages (live_pages (nodes_of h.read) c.self.inside.live) c.in-Ok.free) c.lend-pages.ensures.shelf
+    (λ tells is. fresh_exact c.self.inside.live _ c.in-Ok.free (c.in-Ok.ensures.sound (g.M.Metric.space c.args.self.now.metric) tells is) c.in-Ok.ensures.fresh) in
+    subst (λ (f : OpenFile g.row.M.Denot). IsTrue (g.D.Disk.state c.args.disk.now).tells → IsSoundTree (g.M.Metric.space c.args.self.now.metric) (nodes_on f (g.D.Disk.state c.args.disk.now)) c.self.inside.live →
+    AreOutside c.self.inside.live.pages (live_pages (nodes_on f (g.D.Disk.state c.args.disk.now)) c.self.inside.live) c.in-Ok.free) (sym c.self.view_is) exact sound.0 sound.1)
 
 pub returns-in-Err-clause-cause : goal.returns-in-Err-clause-cause
 returns-in-Err-clause-cause g c =

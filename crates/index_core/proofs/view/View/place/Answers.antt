@@ -21,7 +21,7 @@ pub place-answer-requires-clause-outside : goal.place-answer-requires-clause-out
 place-answer-requires-clause-outside g c = λ κs within tells sound.
     let told = subst (λ (h : Shelf). IsTrue h.tells) c.lend-pages.ensures.shelf tells in
     let is = subst (λ (f : OpenFile g.row.M.Denot). IsSoundTree (g.M.Metric.space c.new-ruler.result.metric) (nodes_on c.args.self.now (g.D.Disk.state c.args.disk.now)) f.live) c.self.view_is
-        (subst (λ (h : Shelf). IsSoundTree (g.M.Metric.space c.new-ruler.result.metric) (nodes_of h.read) c.self.inside.live) c.lend-pages.ensures.shelf sound) in
+    (subst (λ (h : Shelf). IsSoundTree (g.M.Metric.space c.new-ruler.result.metric) (nodes_of h.read) c.self.inside.live) c.lend-pages.ensures.shelf sound) in
     subst (λ (h : Shelf). AreOutside (nodes_of h.read) c.self.inside.live c.as_slice.result.now) (sym c.lend-pages.ensures.shelf)
     (subst (λ (f : OpenFile g.row.M.Denot). AreOutside (nodes_on c.args.self.now (g.D.Disk.state c.args.disk.now)) f.live c.as_slice.result.now) (sym c.self.view_is)
     (subst (AreOutside (nodes_on c.args.self.now (g.D.Disk.state c.args.disk.now)) c.args.self.now.live) (sym (c.as_slice.ensures.value ∙ c.in-Ok.ensures))
@@ -36,6 +36,6 @@ returns-in-Ok-answer-clause-takes_place g c = λ tells.
 pub returns-in-Ok-answer-clause-inserts : goal.returns-in-Ok-answer-clause-inserts
 returns-in-Ok-answer-clause-inserts g c = λ sound.
     subst (λ (f : OpenFile g.row.M.Denot). IsTrue (g.D.Disk.state c.args.disk.now).tells → IsSoundTree (g.M.Metric.space f.metric) (nodes_on c.args.self.now (g.D.Disk.state c.args.disk.now)) f.live →
-        IsPlacedFor (g.M.Metric.space f.metric) f.head (Inserts c.args.p.now c.args.tag) (nodes_on c.args.self.now (g.D.Disk.state c.args.disk.now)) f.live c.in-Ok-answer.placed) c.self.view_is
+    IsPlacedFor (g.M.Metric.space f.metric) f.head (Inserts c.args.p.now c.args.tag) (nodes_on c.args.self.now (g.D.Disk.state c.args.disk.now)) f.live c.in-Ok-answer.placed) c.self.view_is
     (placed_for _ _ (ap g.M.Metric.space c.new-ruler.ensures.metric) _ _ c.lend-pages.ensures.shelf c.self.inside.head c.self.inside.live c.args.tag c.args.p.now c.in-Ok-answer.placed c.in-Ok-answer.ensures.apart
     c.in-Ok-answer.ensures.inserted) sound.0 sound.1

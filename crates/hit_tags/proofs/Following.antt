@@ -1,0 +1,132 @@
+-- The walk from record to record: what it meets, where it ends, and why.
+use Rattle.std.proofs.Common.{◌≡◌, ℕ, suc, ◌+◌, ◌<◌, ◌≤◌, true, false, List, [], ◌∷◌, ◌++◌, length, drop, get_or, reverse, Some, refl, sym, ap, subst, ◌∙◌, arith, append_assoc, drop-cons, inr}
+use Rattle.std.specs.Prelude.{IsTrue, ◌==◌}
+use Rattle.std.proofs.lemmas.List.{append-nil}
+use Rattle.std.proofs.lemmas.Bool.Decides.{nat_tests}
+use Rattle.metric_laws.specs.Counts.{next_count}
+use Rattle.tree_shape.specs.declared.entry.LeafEntry.{LeafEntry}
+use Rattle.tree_shape.specs.declared.entry.Node.{Node}
+use Rattle.tree_shape.specs.Tree.{Nodes}
+use Rattle.page_store.specs.declared.pages.PageFault.{PageFault}
+use Rattle.page_store.specs.declared.pages.PageFault.TheVariants.{Disk, Bad, Outside, Memory, Repeats, Level}
+use Rattle.page_store.specs.Reading.{Read, IsWithin, is_within, nodes_of}
+use Rattle.page_store.specs.Shelf.{Shelf, HoldsSame, HasPageCause}
+use Rattle.log_model.specs.declared.marks.Record.{Record}
+use Rattle.log_model.specs.Counts.{count_up, entry_count, CountsUpTo}
+use Rattle.log_model.proofs.Reached.{count_up_both}
+use Rattle.hit_tags.specs.declared.walking.Walk.{Walk}
+use Rattle.hit_tags.specs.Met.{near_objects, near_pages, marked_node, met, ComesTo}
+use Rattle.hit_tags.specs.Tags.{HasTagsCause}
+use Rattle.hit_tags.specs.Wanted.{TakesIn}
+use Rattle.hit_tags.specs.Steps.{IsUnderWay, HasFollowed}
+use Rattle.hit_tags.proofs.Taking.{takes_both}
+
+-- ---- one record
+
+same_number : (a b : ℕ) → a ≡ b → (a == b) ≡ true
+same_number a b same = grind (arith, nat_tests)
+
+-- a record that marks its node
+pub marks_node : (nodes : Nodes) (page : ℕ) (r : Record) (node : Node) → r.page ≡ page → nodes page ≡ Some node → length r.marks ≡ entry_count node → marked_node nodes page r ≡ Some node
+marks_node nodes page r node named is long = rw (same_number r.page page named, is, same_number (length r.marks) (entry_count node) long) refl
+
+pub met_none : (nodes : Nodes) (ns : List ℕ) → met nodes ns [] ≡ []
+met_none nodes [] = refl
+met_none nodes (n ∷ ns) = refl
+
+module _ (nodes : Nodes) (old new : Walk) (r : Record) (page : ℕ) (rest : List ℕ) (stack : reverse old.stack.items ≡ page ∷ rest) where
+  pub goes_on : (node : Node) → marked_node nodes page r ≡ Some node → TakesIn old.wanted (near_objects node r.marks) new.wanted → reverse new.stack.items ≡ near_pages node r.marks ++ rest →
+      (rs : List Record) → IsUnderWay nodes old (r ∷ rs) new rs
+  goes_on node marked taken pages rs = record {
+    objects = near_objects node r.marks;
+    taken = taken;
+    whole = rw (pages, stack, marked) refl;
+    comes = λ p comes. subst (λ (ns : List ℕ). ComesTo nodes ns (r ∷ rs) p) (sym stack) (inr (node, marked, subst (λ (ns : List ℕ). ComesTo nodes ns rs p) pages comes));
+  }
+
+-- ---- from record to record
+
+module _ (nodes : Nodes) (start : Walk) (all : List Record) where
+  module _ (mid : Walk) (i : ℕ) (r : Record) (low : i < length all) (is : r ≡ get_or all i r) (way : IsUnderWay nodes start all mid (drop i all)) where
+    here : IsUnderWay nodes start all mid (r ∷ drop (suc i) all)
+    here = subst (IsUnderWay nodes start all mid) (drop-cons all i r low ∙ ap (λ (e : Record). e ∷ drop (suc i) all) (sym is)) way
+
+    pub way_on : (new : Walk) → HasFollowed nodes mid r new true → IsUnderWay nodes start all new (drop (i + 1) all)
+    way_on new followed =
+        let step : IsUnderWay nodes mid (r ∷ drop (suc i) all) new (drop (suc i) all) = followed (drop (suc i) all) in
+        let so_far : IsUnderWay nodes start all mid (r ∷ drop (suc i) all) = here in
+        subst (λ (k : ℕ). IsUnderWay nodes start all new (drop k all)) (let e : suc i ≡ i + 1 = omega arith in e)
+        (record {
+          objects = so_far.objects ++ step.objects;
+          taken = takes_both start.wanted mid.wanted new.wanted so_far.objects step.objects so_far.taken step.taken;
+          whole = append_assoc so_far.objects step.objects (met nodes (reverse new.stack.items) (drop (suc i) all)) ∙ ap (λ (os : List LeafEntry). so_far.objects ++ os) step.whole ∙ so_far.whole;
+          comes = λ page comes. so_far.comes page (step.comes page comes);
+        })
+
+    pub way_ends : (new : Walk) → HasFollowed nodes mid r new false → TakesIn start.wanted (met nodes (reverse start.stack.items) all) new.wanted
+    way_ends new ended =
+        let so_far : IsUnderWay nodes start all mid (r ∷ drop (suc i) all) = here in
+        rw ended.0 (subst (λ (os : List LeafEntry). TakesIn start.wanted os mid.wanted)
+        (sym (append-nil so_far.objects) ∙ ap (λ (os : List LeafEntry). so_far.objects ++ os) (sym (ended.1 (drop (suc i) all))) ∙ so_far.whole) so_far.taken)
+
+    pub way_comes : (page : ℕ) → ComesTo nodes (reverse mid.stack.items) (r ∷ drop (suc i) all) page → ComesTo nodes (reverse start.stack.items) all page
+    way_comes = here.comes
+
+-- ---- causes
+
+pub holds_both : (old mid new : Shelf) → HoldsSame old mid → HoldsSame mid new → HoldsSame old new
+holds_both old mid new one two = record {
+  dim = two.dim ∙ one.dim;
+  pages = two.pages ∙ one.pages;
+  tells = two.tells ∙ one.tells;
+  read = two.read ∙ one.read;
+  faults = omega (arith, one.faults, two.faults);
+}
+
+-- a page's cause since an earlier state
+page_cause_kept : (old mid new : Shelf) (page : ℕ) (fault : PageFault) → HoldsSame old mid → HasPageCause mid new page fault → HasPageCause old new page fault
+page_cause_kept old mid new page Disk same cause = let c = cause in omega (arith, same.faults, c)
+page_cause_kept old mid new page (Bad p fault) same cause = (
+  cause.0,
+  cause.1,
+  subst (λ (n : ℕ). IsWithin n page) same.pages cause.2,
+  λ tells. ap (λ (read : Read). read page) (sym same.read) ∙ cause.3 (same.tells ∙ tells),
+)
+page_cause_kept old mid new page (Outside p) same cause = (
+  cause.0,
+  ap (λ (n : ℕ). is_within n page) (sym same.pages) ∙ cause.1,
+  λ tells. ap (λ (read : Read). read page) (sym same.read) ∙ cause.2 (same.tells ∙ tells),
+)
+page_cause_kept old mid new page Memory same cause = tt
+page_cause_kept old mid new page (Repeats p) same cause = cause
+page_cause_kept old mid new page (Level p) same cause = cause
+
+-- a cause since the walk began
+module _ (old mid new : Shelf) (same : HoldsSame old mid) (ns ms : List ℕ) (rs ss : List Record)
+    (comes : IsTrue old.tells → (page : ℕ) → ComesTo (nodes_of old.read) ms ss page → ComesTo (nodes_of old.read) ns rs page) where
+  kept : (fault : PageFault) → (page : ℕ) × HasPageCause mid new page fault × (IsTrue mid.tells → ComesTo (nodes_of mid.read) ms ss page) →
+      (page : ℕ) × HasPageCause old new page fault × (IsTrue old.tells → ComesTo (nodes_of old.read) ns rs page)
+  kept fault cause = (
+    cause.0,
+    page_cause_kept old mid new cause.0 fault same cause.1,
+    λ tells. comes tells cause.0 (subst (λ (read : Read). ComesTo (nodes_of read) ms ss cause.0) same.read (cause.2 (same.tells ∙ tells))),
+  )
+
+  pub cause_kept : (fault : PageFault) → HasTagsCause mid new ms ss fault → HasTagsCause old new ns rs fault
+  cause_kept Memory cause = tt
+  cause_kept Disk cause = kept Disk cause
+  cause_kept (Bad p fault) cause = kept (Bad p fault) cause
+  cause_kept (Outside p) cause = kept (Outside p) cause
+  cause_kept (Repeats p) cause = kept (Repeats p) cause
+  cause_kept (Level p) cause = kept (Level p) cause
+
+-- ---- counts
+
+pub upto_once : (a b : ℕ) → b ≡ next_count a → CountsUpTo a b 1
+upto_once a b is = (1, omega arith, is)
+
+pub upto_more : (a b m n : ℕ) → m ≤ n → CountsUpTo a b m → CountsUpTo a b n
+upto_more a b m n le few = (few.0, omega (arith, few.1), few.2)
+
+pub upto_both : (a b c m n : ℕ) → CountsUpTo a b m → CountsUpTo b c n → CountsUpTo a c (m + n)
+upto_both a b c m n one two = (one.0 + two.0, omega (arith, one.1, two.1), two.2 ∙ ap (λ (u : ℕ). count_up u two.0) one.2 ∙ count_up_both a one.0 two.0)

@@ -1,0 +1,3 @@
+pub mod Taking
+pub mod Following
+pub mod Showing

@@ -1,0 +1,133 @@
+-- What is held of the ids, and the marks of one entry.
+use Rattle.std.proofs.Common.{◌≡◌, ℕ, zero, suc, take, ◌+◌, ◌-◌, ◌<◌, ◌≤◌, Bool, true, false, cond, List, [], ◌∷◌, ◌++◌, map, length, drop, get_or, Option, Some, None, refl, sym, ap, ◌∙◌, arith, drop-cons, append_assoc}
+use Rattle.std.specs.Prelude.{if◌then◌else◌, ◌==◌}
+use Rattle.std.specs.Option.{option_or}
+use Rattle.std.specs.Ordering.{nat_cmp}
+use Rattle.std.specs.BTreeMap.{is_at}
+use Rattle.std.proofs.lemmas.List.{append-nil}
+use Rattle.std.proofs.lemmas.Grind.{common_steps}
+use Rattle.std.proofs.lemmas.Bool.Decides.{nat_tests}
+use Rattle.std.specs.List.{AllByRecursion}
+use Rattle.scan_model.specs.declared.hit.Hit.{Hit}
+use Rattle.tree_shape.specs.declared.entry.LeafEntry.{LeafEntry}
+use Rattle.log_model.specs.declared.marks.Mark.{Mark}
+use Rattle.log_model.specs.declared.marks.Mark.TheVariants.{Skip, Far, Near}
+use Rattle.log_model.specs.contracts.marks.Mark.{the_type}
+use denote.Enum.Bare.{sameb}
+use Rattle.log_model.specs.Walk.{near_ones}
+use Rattle.tree_shape.specs.Tree.{tag_of}
+use Rattle.hit_tags.specs.Tags.{tags_among}
+use Rattle.hit_tags.specs.Wanted.{Tagging, held, tag_held, first_tag, TakesIn}
+
+-- ---- what is held
+
+pub first_append : (id : ℕ) (xs ys : List LeafEntry) → first_tag id (xs ++ ys) ≡ option_or (first_tag id xs) (first_tag id ys)
+first_append id [] ys = refl
+first_append id (x ∷ xs) ys = cases (x.id == id) (first_append id xs ys)
+  where
+    cases : (b : Bool) → first_tag id (xs ++ ys) ≡ option_or (first_tag id xs) (first_tag id ys) →
+        (if b then Some x.tag else first_tag id (xs ++ ys)) ≡ option_or (if b then Some x.tag else first_tag id xs) (first_tag id ys)
+    cases true ih = refl
+    cases false ih = ih
+
+or_none : (o : Option ℕ) → option_or o None ≡ o
+or_none None = refl
+or_none (Some x) = refl
+
+is_at_same : (k q : ℕ) → is_at (nat_cmp k) q ≡ (k == q)
+is_at_same k q = grind (arith, common_steps, nat_tests)
+
+-- an id that is wanted is held with its first tag; no other
+pub noted : (e : LeafEntry) (old new : Tagging) (t : Option ℕ) → held old e.id ≡ Some t →
+    ((q : ℕ) → held new q ≡ cond (is_at (nat_cmp e.id) q) (Some (option_or t (Some e.tag))) (held old q)) → TakesIn old (e ∷ []) new
+noted e old new t here each id es was = each id ∙ rw is_at_same (cases (e.id == id) refl) ∙ ap Some (sym (first_append id es (e ∷ [])))
+  where
+    cases : (b : Bool) → (e.id == id) ≡ b → cond b (Some (option_or t (Some e.tag))) (held old id) ≡ Some (option_or (first_tag id es) (if b then Some e.tag else None))
+    cases true is =
+        let same : e.id ≡ id = grind (arith, nat_tests) in
+        let one : Some t ≡ Some (first_tag id es) = sym here ∙ ap (held old) same ∙ was in
+        let both : t ≡ first_tag id es = cc in
+        ap (λ (o : Option ℕ). Some (option_or o (Some e.tag))) both
+    cases false is = was ∙ ap Some (sym (or_none (first_tag id es)))
+
+pub not_noted : (e : LeafEntry) (old : Tagging) → held old e.id ≡ None → TakesIn old (e ∷ []) old
+not_noted e old none id es was = was ∙ ap Some (sym (or_none (first_tag id es))) ∙ ap (λ (o : Option ℕ). Some (option_or (first_tag id es) o)) (sym (cases (e.id == id) refl)) ∙ ap Some (sym (first_append id es (e ∷ [])))
+  where
+    cases : (b : Bool) → (e.id == id) ≡ b → (if b then Some e.tag else None) ≡ None
+    cases true is =
+        let same : e.id ≡ id = grind (arith, nat_tests) in
+        let one : None ≡ Some (first_tag id es) = sym none ∙ ap (held old) same ∙ was in
+        absurd (cc)
+    cases false is = refl
+
+pub takes_none : (old : Tagging) → TakesIn old [] old
+takes_none old id es was = was ∙ ap (λ (os : List LeafEntry). Some (first_tag id os)) (sym (append-nil es))
+
+pub takes_both : (old mid new : Tagging) (xs ys : List LeafEntry) → TakesIn old xs mid → TakesIn mid ys new → TakesIn old (xs ++ ys) new
+takes_both old mid new xs ys one two id es was = two id (es ++ xs) (one id es was) ∙ ap (λ (os : List LeafEntry). Some (first_tag id os)) (append_assoc es xs ys)
+
+-- ---- one entry and its mark
+
+pub near_if : {X : Type 0} (e : X) (es : List X) (m : Mark) (marks : List Mark) (b : Bool) → b ≡ sameb the_type m Near → near_ones (e ∷ es) (m ∷ marks) ≡ (if b then e ∷ near_ones es marks else near_ones es marks)
+near_if e es Skip marks b is = rw is refl
+near_if e es Far marks b is = rw is refl
+near_if e es Near marks b is = rw is refl
+
+-- the entry before these, and its mark
+pub near_drop : {X : Type 0} (es : List X) (marks : List Mark) (i : ℕ) (e : X) (b : Bool) → length marks ≡ length es → 0 < i → i ≤ length es → e ≡ get_or es (i - 1) e → b ≡ sameb the_type (get_or marks (i - 1) Skip) Near →
+    near_ones (drop (i - 1) es) (drop (i - 1) marks) ≡ (if b then e ∷ near_ones (drop i es) (drop i marks) else near_ones (drop i es) (drop i marks))
+near_drop es marks i e b long some low is near =
+    let one : i - 1 < length es = omega arith in
+    let mark : i - 1 < length marks = omega arith in
+    let next : suc (i - 1) ≡ i = omega arith in
+    rw (drop-cons es (i - 1) e one, drop-cons marks (i - 1) Skip mark, next, ← is) (near_if e (drop i es) (get_or marks (i - 1) Skip) (drop i marks) b near)
+
+-- the entry at a place
+pub entry_at : {X : Type 0} (es : List X) (i : ℕ) → i < length es → (e : X) × (e ≡ get_or es i e)
+entry_at [] i low = absurd (let f : ⊥ = omega arith in f)
+entry_at (x ∷ xs) zero low = (x, refl)
+entry_at (x ∷ xs) (suc i) low = entry_at xs i (omega arith)
+
+pub none_near : {X : Type 0} (es : List X) (marks : List Mark) → length es ≡ 0 → near_ones es marks ≡ []
+none_near [] marks none = refl
+none_near (e ∷ es) marks none = absurd (let f : ⊥ = omega arith in f)
+
+pub near_none : {X : Type 0} (es : List X) (marks : List Mark) → length marks ≡ 0 → near_ones es marks ≡ []
+near_none [] [] none = refl
+near_none (e ∷ es) [] none = refl
+near_none es (m ∷ marks) none = absurd (let f : ⊥ = omega arith in f)
+
+-- ---- the ids that are wanted
+
+-- one more id is wanted
+pub wanted_more : (hits : List Hit) (i : ℕ) (h d : Hit) (old new : Tagging) → i < length hits → h ≡ get_or hits i d → ((q : ℕ) → held new q ≡ cond (is_at (nat_cmp h.id) q) (Some None) (held old q)) →
+    AllByRecursion (λ h. held old h.id ≡ Some None) (take i hits) → AllByRecursion (λ h. held new h.id ≡ Some None) (take (i + 1) hits)
+wanted_more [] i h d old new low is each all = absurd (let f : ⊥ = omega arith in f)
+wanted_more (x ∷ xs) zero h d old new low is each all = (ap (λ (y : Hit). held new y.id) (sym is) ∙ each h.id ∙ rw is_at_same (cases (h.id == h.id) refl), tt)
+  where
+    cases : (b : Bool) → (h.id == h.id) ≡ b → cond b (Some None) (held old h.id) ≡ Some None
+    cases true is = refl
+    cases false is = absurd (grind (arith, nat_tests))
+wanted_more (x ∷ xs) (suc i) h d old new low is each all =
+    let next : suc i + 1 ≡ suc (i + 1) = omega arith in
+    rw next (each x.id ∙ kept (is_at (nat_cmp h.id) x.id) all.0, wanted_more xs i h d old new (omega arith) is each all.1)
+  where
+    kept : (b : Bool) → held old x.id ≡ Some None → cond b (Some None) (held old x.id) ≡ Some None
+    kept true was = refl
+    kept false was = was
+
+-- the tags that are held at the end
+pub tags_held : (hits : List Hit) (start now : Tagging) (objects : List LeafEntry) → AllByRecursion (λ h. held start h.id ≡ Some None) hits → TakesIn start objects now →
+    map (λ h. tag_held (held now h.id)) hits ≡ tags_among objects hits
+tags_held [] start now objects all taken = refl
+tags_held (h ∷ hs) start now objects all taken =
+    ap (λ (tag : ℕ). tag ∷ map (λ h. tag_held (held now h.id)) hs) (ap tag_held (taken h.id [] all.0) ∙ first_is h.id objects)
+    ∙ ap (λ (tags : List ℕ). tag_of h.id objects ∷ tags) (tags_held hs start now objects all.1 taken)
+  where
+    first_is : (id : ℕ) (es : List LeafEntry) → tag_held (Some (first_tag id es)) ≡ tag_of id es
+    first_is id [] = refl
+    first_is id (e ∷ es) = cases (e.id == id) (first_is id es)
+      where
+        cases : (b : Bool) → tag_held (Some (first_tag id es)) ≡ tag_of id es → tag_held (Some (if b then Some e.tag else first_tag id es)) ≡ (if b then e.tag else tag_of id es)
+        cases true ih = refl
+        cases false ih = ih

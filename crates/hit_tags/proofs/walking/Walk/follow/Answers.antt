@@ -1,0 +1,24 @@
+use Rattle.std.proofs.Common.{◌≡◌, ◌∙◌, ◌∷◌, length, reverse, sym, ap, arith}
+use Rattle.std.proofs.lemmas.Grind.{common_steps}
+use Rattle.page_store.specs.Reading.{nodes_of, node_or_none}
+use Rattle.log_model.specs.Counts.{entry_count}
+use Rattle.hit_tags.proofs.Following.{upto_once, goes_on, marks_node}
+use Rattle.hit_tags.proofs.walking.Walk.follow.Goals as goal
+
+pub returns-then-marks-entry_count-clause-asked : goal.returns-then-marks-entry_count-clause-asked
+returns-then-marks-entry_count-clause-asked g c = upto_once _ _ c.node.ensures.asked
+
+pub returns-in-Ok-clause-asked : goal.returns-in-Ok-clause-asked
+returns-in-Ok-clause-asked g c = upto_once _ _ c.node.ensures.asked
+
+pub returns-clause-asked : goal.returns-clause-asked
+returns-clause-asked g c = upto_once _ _ c.node.ensures.asked
+
+pub returns-in-Ok-clause-ok : goal.returns-in-Ok-clause-ok
+returns-in-Ok-clause-ok g c = λ tells.
+    let nodes = nodes_of (g.P.Pages.shelf c.args.pages.now).read in
+    let stack : reverse c.args.self.now.stack.items ≡ c.in-Some.page ∷ reverse c.pop.new.self.items = grind (arith, common_steps, c.in-Some.ensures.items) in
+    let marks : length c.args.told.now.marks ≡ entry_count c.in_ok-node.node = ap length (sym c.as_slice-marks.ensures) ∙ c.if-marks-entry_count.false ∙ c.entry_count.ensures in
+    let marked = marks_node nodes c.in-Some.page c.args.told.now c.in_ok-node.node c.if-told-page.false (ap node_or_none (c.in_ok-node.ensures.ok.told tells)) marks in
+    goes_on nodes c.args.self.now c.take_node.new.self c.args.told.now c.in-Some.page (reverse c.pop.new.self.items) stack c.in_ok-node.node marked
+    (rw (sym c.as_slice-marks.ensures) c.in-Ok.ensures.objects) (rw (sym c.as_slice-marks.ensures) c.in-Ok.ensures.pages)

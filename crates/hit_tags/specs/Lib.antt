@@ -1,0 +1,4 @@
+pub mod Met
+pub mod Tags
+pub mod Wanted
+pub mod Steps

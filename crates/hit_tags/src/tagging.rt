@@ -1,0 +1,60 @@
+ghost use Rattle.std.specs.Prelude.{◌≡◌, ◌≤◌, ◌+◌, [], ◌∷◌, length, vec_len, IsTrue, IfOk, IfErr};
+ghost use Rattle.std.specs.List.{AllZip};
+ghost use Rattle.metric_laws.specs.Space.{Space};
+ghost use Rattle.tree_shape.specs.Tree.{IsSoundTree};
+ghost use Rattle.page_store.specs.Reading.{nodes_of};
+ghost use Rattle.page_store.specs.Shelf.{HoldsSame, IsPassing};
+ghost use Rattle.log_model.specs.Counts.{CountsUpTo};
+ghost use Rattle.hit_tags.specs.Tags.{met_tags, object_tags, IsOwnTag, IsShown, HasTagsCause};
+
+use crate::walking::Walk;
+use log_model::Found;
+use page_store::{PageFault, Pages};
+use std::alloc::Global;
+use tree_shape::Live;
+
+/// The tag of each hit: that of the first object with its id that the walk of the live tree by the found log meets, and 0
+/// where it meets none. Where the log shows the hits, these are the tags of the hits' objects.
+///
+/// The walk begins at the root and goes by the log's records. Each names the page that is needed next and has one mark for
+/// each entry of its node. An object that is marked Near is met, and the node of a subtree that is marked Near is needed.
+/// Where no record is left, or a record names another page or has another number of marks, the walk ends, and the tags are
+/// those of what it met. No distance is computed.
+///
+/// It asks for at most one page for each record. `Disk` comes where the disk failed, and `Repeats` and `Level` never come.
+pub fn tags_of<P: Pages>(
+    alloc: Global,
+    pages: &mut P,
+    live: &Live,
+    found: &Found,
+) -> Result<Vec<u64>, PageFault>
+    ensures same { HoldsSame (P.shelf pages.old) (P.shelf pages.new) }
+    ensures keeps { P.keeps pages.old pages.new }
+    ensures asked { CountsUpTo (P.shelf pages.old).asked (P.shelf pages.new).asked (length found.now.log.records) }
+    ensures reads { (P.shelf pages.new).reads ≤ (P.shelf pages.old).reads + length found.now.log.records }
+
+    ensures each { IfOk result (λ tags. vec_len tags ≡ length found.now.hits) }
+    ensures met { IfOk result (λ tags. IsTrue (P.shelf pages.old).tells →
+        tags.items ≡ met_tags (nodes_of (P.shelf pages.old).read) live.now found.now) }
+    // Whatever the log says, no hit has another object's tag on a sound tree.
+    ensures own { IfOk result (λ tags. IsTrue (P.shelf pages.old).tells →
+        (s : Space) → IsSoundTree s (nodes_of (P.shelf pages.old).read) live.now →
+        AllZip (IsOwnTag (nodes_of (P.shelf pages.old).read) live.now) found.now.hits tags.items) }
+    ensures objects { IfOk result (λ tags. IsTrue (P.shelf pages.old).tells →
+        (s : Space) → IsShown s (nodes_of (P.shelf pages.old).read) live.now found.now →
+        tags.items ≡ object_tags (nodes_of (P.shelf pages.old).read) live.now found.now) }
+
+    ensures cause { IfErr result (HasTagsCause (P.shelf pages.old) (P.shelf pages.new) (live.now.root ∷ []) found.now.log.records) }
+    ensures sound { IfErr result (λ fault. IsTrue (P.shelf pages.old).tells →
+        (s : Space) → IsSoundTree s (nodes_of (P.shelf pages.old).read) live.now → IsPassing fault) }
+{
+    let hits = found.hits.as_slice();
+    let Ok(mut walk) = Walk::begin(alloc, live.root, hits) else {
+        return Err(PageFault::Memory);
+    };
+    walk.follow_all(alloc, pages, found.log.records.as_slice())?;
+    match walk.wanted.tags(alloc, hits) {
+        Ok(tags) => Ok(tags),
+        Err(_) => Err(PageFault::Memory),
+    }
+}

@@ -1,0 +1,226 @@
+use crate::{Memory, tags_of};
+use disk_model::MemoryDisk;
+use log_model::{Found, Log, Mark, Record};
+use metric_laws::{Listed, Point};
+use node_page::NodeFault;
+use page_store::{DiskPages, ImagePages, PageFault, Pages};
+use scan_model::{Hit, Query};
+use std::alloc::Global;
+use std::process::Abort;
+use std::test::Fail;
+use tree_shape::Live;
+
+// The live tree of the numbers 0 to 32.
+const NUMBERS: Live = Live {
+    side: 0,
+    generation: 34,
+    root: 5,
+    height: 1,
+    count: 33,
+    pages: 6,
+};
+
+// A page of zeros up to this place.
+fn pad(bytes: &mut Vec<u8>, end: usize) -> Result<(), Memory> {
+    for _ in bytes.len()..end {
+        bytes.push(0)?;
+    }
+    Ok(())
+}
+
+// The level and the number of entries of a node.
+fn put_head(bytes: &mut Vec<u8>, level: u8, count: u8) -> Result<(), Memory> {
+    bytes.extend_from_slice(&[level, 0, 0, count, 0, 0, 0, 0, 0, 0, 0, 0, 0, 0, 0, 0])
+}
+
+// An entry of a leaf with this tag, or of an inner node with the child's page as id and the radius as tag.
+fn put_entry(bytes: &mut Vec<u8>, id: u32, tag: u64, point: u32) -> Result<(), Memory> {
+    bytes.extend_from_slice(&id.to_be_bytes())?;
+    bytes.extend_from_slice(&tag.to_be_bytes())?;
+    bytes.extend_from_slice(&[0; 8])?;
+    bytes.extend_from_slice(&point.to_be_bytes())
+}
+
+// A leaf of the numbers from one up to another, each with 100 more as its tag.
+fn put_leaf(bytes: &mut Vec<u8>, from: u8, to: u8) -> Result<(), Memory> {
+    put_head(bytes, 0, to.saturating_sub(from))?;
+    for id in from..to {
+        put_entry(bytes, u32::from(id), u64::from(id) + 100, u32::from(id))?;
+    }
+    Ok(())
+}
+
+// The numbers 0 to 32 in two leaves, on pages 3 and 4, below a root on page 5.
+fn numbers(alloc: Global) -> Result<Vec<u8>, Memory> {
+    let mut bytes = Vec::new(alloc);
+    pad(&mut bytes, 3 * 4096)?;
+    put_leaf(&mut bytes, 0, 16)?;
+    pad(&mut bytes, 4 * 4096)?;
+    put_leaf(&mut bytes, 16, 33)?;
+    pad(&mut bytes, 5 * 4096)?;
+    put_head(&mut bytes, 1, 2)?;
+    put_entry(&mut bytes, 3, 8, 7)?;
+    put_entry(&mut bytes, 4, 8, 24)?;
+    pad(&mut bytes, 6 * 4096)?;
+    Ok(bytes)
+}
+
+// A record of a page with so many marks, of which those from one place up to another are Near.
+type Marked = (u32, u8, u8, u8);
+
+fn record_of(alloc: Global, marked: &Marked) -> Result<Record, Memory> {
+    let (page, count, from, to) = *marked;
+    let mut marks = Vec::new(alloc);
+    for i in 0..count {
+        marks.push(if from <= i && i < to {
+            Mark::Near
+        } else {
+            Mark::Far
+        })?;
+    }
+    Ok(Record {
+        page,
+        marks: Listed::new(marks),
+    })
+}
+
+// Hits with these ids, and a log with these records.
+fn found_of(alloc: Global, ids: &[u32], marked: &[Marked]) -> Result<Found, Memory> {
+    let mut hits = Vec::new(alloc);
+    for id in ids {
+        hits.push(Hit { id: *id, dist: 0 })?;
+    }
+    let mut records = Vec::new(alloc);
+    for one in marked {
+        records.push(record_of(alloc, one)?)?;
+    }
+    Ok(Found {
+        hits: Listed::new(hits),
+        log: Log {
+            generation: 34,
+            root: 5,
+            query: Query::Range {
+                q: Point::new(alloc, &[0])?,
+                r: 40,
+            },
+            answers: Listed::new(Vec::new(alloc)),
+            records: Listed::new(records),
+        },
+    })
+}
+
+// The tags of these ids by these records are these.
+fn check_tags<R: AllocGlobal + Abort, P: Pages>(
+    rt: &R,
+    pages: &mut P,
+    live: &Live,
+    ids: &[u32],
+    marked: &[Marked],
+    wanted: Result<&[u64], PageFault>,
+) -> Result<(), Fail> {
+    let found = found_of(rt.alloc(), ids, marked)?;
+    let tags = tags_of(rt.alloc(), pages, live, &found);
+    match (tags, wanted) {
+        (Ok(tags), Ok(wanted)) => assert_eq!(rt; tags.as_slice(), wanted),
+        (Err(fault), Err(wanted)) => assert_eq!(rt; fault, wanted),
+        _ => assert!(rt; false),
+    }
+    Ok(())
+}
+
+// The root with both of its children, and each leaf with some of its numbers.
+const ROOT: Marked = (5, 2, 0, 2);
+
+const LOW: Marked = (3, 16, 2, 5);
+
+const HIGH: Marked = (4, 17, 0, 2);
+
+#[test]
+fn a_hit_has_the_tag_of_its_object_where_the_walk_meets_it(rt: HostRuntime) -> Result<(), Fail> {
+    let bytes = numbers(rt.alloc())?;
+    let cases: &[(&[Marked], [u64; 4], u64)] = &[
+        (&[ROOT, LOW, HIGH], [103, 117, 0, 102], 3),
+        // A record more than the walk needs.
+        (&[ROOT, LOW, HIGH, LOW], [103, 117, 0, 102], 3),
+        // A log that is cut short.
+        (&[ROOT, LOW], [103, 0, 0, 102], 2),
+        (&[ROOT], [0, 0, 0, 0], 1),
+        (&[], [0, 0, 0, 0], 0),
+        // Another page than the one that is needed, and then that one.
+        (&[ROOT, HIGH, LOW], [0, 0, 0, 0], 1),
+        (&[ROOT, LOW, ROOT, HIGH], [103, 0, 0, 102], 2),
+        // One mark too few, and one too many.
+        (&[ROOT, (3, 15, 2, 5), HIGH], [0, 0, 0, 0], 2),
+        (&[ROOT, LOW, (4, 18, 0, 2)], [103, 0, 0, 102], 3),
+        // Nothing is Near in the first leaf; only the second leaf is Near in the root.
+        (&[ROOT, (3, 16, 0, 0), HIGH], [0, 117, 0, 0], 3),
+        (&[(5, 2, 1, 2), HIGH], [0, 117, 0, 0], 2),
+    ];
+    for (marked, wanted, asked) in cases {
+        let mut pages = ImagePages::new(&bytes, 1, 6);
+        let ids = [3, 17, 40, 2];
+        check_tags(&rt, &mut pages, &NUMBERS, &ids, marked, Ok(wanted))?;
+        assert_eq!(rt; pages.asked, *asked);
+    }
+    Ok(())
+}
+
+#[test]
+fn the_first_object_with_an_id_counts(rt: HostRuntime) -> Result<(), Fail> {
+    let mut bytes = Vec::new(rt.alloc());
+    pad(&mut bytes, 3 * 4096)?;
+    put_head(&mut bytes, 0, 4)?;
+    put_entry(&mut bytes, 7, 1, 0)?;
+    put_entry(&mut bytes, 7, 2, 0)?;
+    put_entry(&mut bytes, 8, 0, 0)?;
+    put_entry(&mut bytes, 8, 3, 0)?;
+    pad(&mut bytes, 4 * 4096)?;
+    let live = Live {
+        root: 3,
+        height: 0,
+        count: 4,
+        pages: 4,
+        ..NUMBERS
+    };
+    let cases: &[(Marked, [u64; 3])] = &[((3, 4, 0, 4), [1, 0, 1]), ((3, 4, 1, 4), [2, 0, 2])];
+    for (marked, wanted) in cases {
+        let mut pages = ImagePages::new(&bytes, 1, 4);
+        check_tags(&rt, &mut pages, &live, &[7, 8, 7], &[*marked], Ok(wanted))?;
+    }
+    Ok(())
+}
+
+#[test]
+fn a_page_that_gives_no_node_is_named(rt: HostRuntime) -> Result<(), Fail> {
+    let mut bytes = numbers(rt.alloc())?;
+    let mut pages = ImagePages::new(&bytes, 1, 4);
+    let outside = PageFault::Outside(5);
+    check_tags(&rt, &mut pages, &NUMBERS, &[3], &[ROOT], Err(outside))?;
+    if let Some(level) = bytes.get_mut(3 * 4096) {
+        *level = 15;
+    }
+    let mut pages = ImagePages::new(&bytes, 1, 6);
+    let bad = PageFault::Bad(3, NodeFault::Kind);
+    check_tags(&rt, &mut pages, &NUMBERS, &[3], &[ROOT, LOW], Err(bad))?;
+    check_tags(&rt, &mut pages, &NUMBERS, &[3], &[ROOT], Ok(&[0]))
+}
+
+#[test]
+fn a_read_that_fails(rt: HostRuntime) -> Result<(), Fail> {
+    let alloc = rt.alloc();
+    let bytes = numbers(alloc)?;
+    let room = bytes.len() as u64;
+    let mut disk = MemoryDisk::new(alloc, bytes, room, 100, vec![in alloc; 1]?, None)?;
+    let mut pages = DiskPages::new(&mut disk, 1, 6);
+    let marked = [ROOT, LOW, HIGH];
+    let failed = Err(PageFault::Disk);
+    check_tags(&rt, &mut pages, &NUMBERS, &[3, 17], &marked, failed)?;
+    check_tags(
+        &rt,
+        &mut pages,
+        &NUMBERS,
+        &[3, 17],
+        &marked,
+        Ok(&[103, 117]),
+    )
+}

@@ -1,0 +1,61 @@
+ghost use Rattle.std.specs.Prelude.{◌≡◌, ◌∷◌, [], map, Some, None, IfOk};
+ghost use Rattle.std.specs.List.{AllByRecursion};
+ghost use Rattle.hit_tags.specs.Wanted.{Tagging, held, tag_held, TakesIn};
+
+use crate::Memory;
+use scan_model::Hit;
+use std::alloc::Global;
+use std::collections::BTreeMap;
+use std::marker::Model;
+use tree_shape::LeafEntry;
+
+/// The ids of the hits, each with the tag of the first object with this id, once one was met.
+#[derive(Drop)]
+pub struct Wanted {
+    tags: BTreeMap<u32, Option<u64>>,
+}
+
+impl Model for Wanted {
+    ghost Value = { Tagging };
+
+    ghost view = { λ w. w.tags.entries };
+}
+
+impl Wanted {
+    /// The ids of the hits, none of which was met.
+    pub fn new(alloc: Global, hits: &[Hit]) -> Result<Self, Memory>
+        ensures { IfOk result (λ wanted. AllByRecursion (λ h. held wanted h.id ≡ Some None) hits.now) }
+    {
+        let mut tags = BTreeMap::new(alloc);
+        for hit in hits {
+            tags.insert(hit.id, None)?;
+        }
+        Ok(Wanted { tags })
+    }
+
+    /// Takes in an object that was met.
+    pub fn note(&mut self, object: &LeafEntry)
+        ensures { TakesIn self.old (object.now ∷ []) self.new }
+    {
+        if let Some(tag) = self.tags.get_mut(&object.id) {
+            *tag = tag.or(Some(object.tag));
+        }
+    }
+
+    // The tag of an id, and 0 where it was not met.
+    fn tag(&self, id: u32) -> u64
+        ensures { result ≡ tag_held (held self.now id) }
+    {
+        match self.tags.get(&id) {
+            Some(Some(tag)) => *tag,
+            Some(None) | None => 0,
+        }
+    }
+
+    /// The tag of each hit, and 0 where its id was not met.
+    pub fn tags(&self, alloc: Global, hits: &[Hit]) -> Result<Vec<u64>, Memory>
+        ensures { IfOk result (λ tags. tags.items ≡ map (λ h. tag_held (held self.now h.id)) hits.now) }
+    {
+        hits.iter().map(|hit| self.tag(hit.id)).collect(alloc)
+    }
+}

@@ -1,0 +1,26 @@
+use Rattle.std.proofs.Common.{ap, subst, ◌∙◌, length}
+use Rattle.std.proofs.lemmas.List.FromFn.{length-range_with_len}
+use Rattle.index_core.specs.Files.{IsLawfulFile}
+use Rattle.index_core.specs.Index.{OpenIndex}
+use Rattle.index_core.specs.Loading.{ids}
+use Rattle.index_core.specs.Writing.{Loads}
+use Rattle.index_core.specs.declared.faults.IndexFault.TheVariants.{Memory}
+use Rattle.index_core.proofs.Loaded.{at_once, nothing_written}
+use Rattle.index_core.proofs.index.Index.load.Goals as goal
+
+pub returns-in-Err-clause-written : goal.returns-in-Err-clause-written
+returns-in-Err-clause-written g c = λ going.
+    let lawful = subst (λ (i : OpenIndex g.row.M.Denot). IsLawfulFile (g.M.Metric.space i.file.metric).words i.file) c.self.view_is c.is_lawful.ensures in
+    let alone = c.requires.stands going in
+    nothing_written (g.M.Metric.space c.args.self.now.file.metric) (Loads c.args.rows.now.points (ids (length c.args.rows.now.points))) c.args.self.now (g.D.Disk.state c.args.disk.now) c.in-Err.fault lawful alone.stands
+    alone.only (at_once c.args.self.now c.len.result c.in-Err.fault c.in-Err.ensures.err)
+
+pub returns-in_default-tags_of-clause-written : goal.returns-in_default-tags_of-clause-written
+returns-in_default-tags_of-clause-written g c = λ going.
+    let lawful = subst (λ (i : OpenIndex g.row.M.Denot). IsLawfulFile (g.M.Metric.space i.file.metric).words i.file) c.self.view_is c.is_lawful.ensures in
+    let alone = c.requires.stands going in
+    nothing_written (g.M.Metric.space c.args.self.now.file.metric) (Loads c.args.rows.now.points (ids (length c.args.rows.now.points))) c.args.self.now (g.D.Disk.state c.args.disk.now) Memory lawful alone.stands
+    alone.only (λ e. cc)
+
+pub load_tagged-requires-clause-tags : goal.load_tagged-requires-clause-tags
+load_tagged-requires-clause-tags g c = λ κs within. ap length (c.as_slice.ensures.value ∙ c.in-Ok.ensures) ∙ (length-range_with_len 0 c.len-2.result ∙ c.len-2.ensures)
