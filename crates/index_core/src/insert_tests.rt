@@ -1,5 +1,6 @@
-ghost use Rattle.std.specs.Prelude.{IfOk};
+ghost use Rattle.std.specs.Prelude.{◌≤◌, ◌^◌, IfOk, OnOk};
 ghost use Rattle.disk_model.specs.Memory.Images.{memory_state};
+ghost use Rattle.node_page.specs.Heads.{IsLawfulHead};
 ghost use Rattle.index_core.specs.Index.{MayGoOn};
 
 use crate::tests::{file_of, pad, six_entries};
@@ -15,14 +16,22 @@ use std::test::Fail;
 use tree_shape::{LAST_GENERATION, Live};
 use vector_kinds::L1;
 
-pub(crate) const HEAD: Head = Head {
-    version: 2,
-    kind: 2,
-    dim: 1,
-    promote: 2,
-    split: 1,
-    limit: 16_777_216,
-};
+// A head of one dimension under L1.
+#[tactic(auto, unfolding(node_page::specs::Heads::is_version, node_page::specs::Heads::is_space, node_page::specs::Heads::is_policy, node_page::specs::Heads::is_limit))]
+pub(crate) fn head_of(limit: u32) -> Head
+    requires some { 1 ≤ limit }
+    requires most { limit ≤ 2 ^ 24 }
+    ensures { IsLawfulHead result }
+{
+    Head {
+        version: 2,
+        kind: 2,
+        dim: 1,
+        promote: 2,
+        split: 1,
+        limit,
+    }
+}
 
 // A disk that holds these bytes and fails from a call on.
 pub(crate) fn disk_of(
@@ -72,6 +81,21 @@ pub(crate) fn insert_all<D: Disk, M: Metric>(
     Ok(())
 }
 
+// Keeps so many nodes of an index that goes on.
+fn keep_nodes<D: Disk, M: Metric>(
+    alloc: Global,
+    index: &mut Index<M>,
+    disk: &D,
+    nodes: usize,
+) -> Result<(), Memory>
+    requires goes_on { MayGoOn index.old (D.state disk.now) }
+    requires some { 1 ≤ nodes }
+    ensures { OnOk result (MayGoOn index.new (D.state disk.now)) }
+{
+    let _disk = disk;
+    index.use_cache(alloc, nodes)
+}
+
 // The bytes of an index of the numbers below this one, of whose nodes so many are kept while they are inserted.
 fn numbers_below(
     rt: &(impl AllocGlobal + Abort),
@@ -80,10 +104,10 @@ fn numbers_below(
 ) -> Result<Vec<u8>, Fail> {
     let alloc = rt.alloc();
     let mut disk = disk_of(alloc, Vec::new(alloc), None)?;
-    create(&mut disk, &HEAD)?;
+    create(&mut disk, &head_of(1_000))?;
     let mut index = open_on(&mut disk)?;
     if let Some(nodes) = kept {
-        index.use_cache(alloc, nodes.max(1))?;
+        keep_nodes(alloc, &mut index, &disk, nodes.max(1))?;
     }
     insert_all(rt, &mut index, &mut disk, 0, count)?;
     Ok(disk.bytes().to_vec(alloc)?)
@@ -201,7 +225,7 @@ fn an_insert_is_stopped_at_each_call(rt: HostRuntime) -> Result<(), Fail> {
 fn inserts_that_are_refused(rt: HostRuntime) -> Result<(), Fail> {
     let alloc = rt.alloc();
     let mut disk = disk_of(alloc, Vec::new(alloc), None)?;
-    create(&mut disk, &Head { limit: 3, ..HEAD })?;
+    create(&mut disk, &head_of(3))?;
     let mut index = open_on(&mut disk)?;
     insert_all(&rt, &mut index, &mut disk, 0, 3)?;
     assert_eq!(rt;

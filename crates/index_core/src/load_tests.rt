@@ -1,11 +1,10 @@
 ghost use Rattle.std.specs.Prelude.{◌≡◌, All, IfOk, IsTrue, length};
 ghost use Rattle.vector_kinds.specs.Vectors.{vector_space};
 
-use crate::insert_tests::{HEAD, check_images, disk_of, insert_all};
+use crate::insert_tests::{check_images, disk_of, head_of, insert_all};
 use crate::{Index, IndexFault};
 use meeting::{Meeting, Seen};
 use metric_laws::{Memory, Metric, Rows};
-use node_page::Head;
 use shadow_root::create;
 use std::alloc::Global;
 use std::process::Abort;
@@ -31,12 +30,15 @@ fn a_pinned_tree_stays_while_objects_come(rt: HostRuntime) -> Result<(), Fail> {
     let rows = numbers(alloc)?;
     for workers in [1usize, 2] {
         let mut disk = disk_of(alloc, Vec::new(alloc), None)?;
-        create(&mut disk, &HEAD)?;
+        create(&mut disk, &head_of(1_000))?;
         let mut index = Index::open_write(&mut disk, L1::new(1))?;
         index.set_workers(workers);
         assert_eq!(&rt; index.load(&rt, alloc, &mut disk, &rows), Ok(33));
         let live = index.live();
-        assert_eq!(&rt; (live.root, live.height, live.count, live.pages), (8, 1, 33, 9));
+        assert_eq!(&rt;
+            (live.root, live.height, live.count, live.pages),
+            (8, 1, 33, 9)
+        );
         assert_eq!(&rt; index.pin(alloc, &mut disk)?, live);
         let pinned = disk.bytes().to_vec(alloc)?;
         insert_all(&rt, &mut index, &mut disk, 33, 36)?;
@@ -56,7 +58,7 @@ fn a_load_is_stopped_at_each_call(rt: HostRuntime) -> Result<(), Fail> {
     let alloc = rt.alloc();
     let rows = numbers(alloc)?;
     let mut empty = disk_of(alloc, Vec::new(alloc), None)?;
-    create(&mut empty, &HEAD)?;
+    create(&mut empty, &head_of(1_000))?;
     let mut loaded = 0;
     for stop in 5..24 {
         let mut disk = disk_of(alloc, empty.bytes().to_vec(alloc)?, Some(stop))?;
@@ -77,7 +79,7 @@ fn a_load_is_stopped_at_each_call(rt: HostRuntime) -> Result<(), Fail> {
 fn hits_have_their_tags(rt: HostRuntime) -> Result<(), Fail> {
     let alloc = rt.alloc();
     let mut disk = disk_of(alloc, Vec::new(alloc), None)?;
-    create(&mut disk, &Head { limit: 34, ..HEAD })?;
+    create(&mut disk, &head_of(34))?;
     let mut index = Index::open_write(&mut disk, L1::new(1))?;
     let rows = numbers(alloc)?;
     assert_eq!(&rt; index.load(&rt, alloc, &mut disk, &rows), Ok(33));
@@ -103,7 +105,7 @@ fn two_workers_of_a_load_meet(rt: HostRuntime) -> Result<(), Fail> {
             seen: &seen,
         };
         let mut disk = disk_of(alloc, Vec::new(alloc), None)?;
-        create(&mut disk, &HEAD)?;
+        create(&mut disk, &head_of(1_000))?;
         let mut index = Index::open_write(&mut disk, metric)?;
         index.set_workers(workers);
         assert_eq!(&rt; index.load(&rt, alloc, &mut disk, &rows), Ok(33));
