@@ -1,19 +1,15 @@
 ghost use Rattle.std.specs.Prelude.{◌≤◌, ◌^◌, IfOk, OnOk};
-ghost use Rattle.disk_model.specs.Memory.Images.{memory_state};
 ghost use Rattle.node_page.specs.Heads.{IsLawfulHead};
 ghost use Rattle.index_core.specs.Index.{MayGoOn};
 
-use crate::tests::{file_of, pad, six_entries};
 use crate::{Index, IndexFault, View};
 use disk_model::{Disk, MemoryDisk};
 use metric_laws::{Memory, Metric};
 use node_page::Head;
-use page_store::PageFault;
 use shadow_root::{OpenFault, create};
 use std::alloc::Global;
 use std::process::Abort;
 use std::test::Fail;
-use tree_shape::{LAST_GENERATION, Live};
 use vector_kinds::L1;
 
 // A head of one dimension under L1.
@@ -142,117 +138,5 @@ fn a_cache_changes_no_byte(rt: HostRuntime) -> Result<(), Fail> {
     for nodes in [1, 256] {
         assert!(rt; numbers_below(&rt, 120, Some(nodes))? == plain);
     }
-    Ok(())
-}
-
-// How many objects a file holds, each of which is found.
-fn count_in(rt: &(impl AllocGlobal + Abort), bytes: Vec<u8>) -> Result<u32, Fail> {
-    let alloc = rt.alloc();
-    let room = bytes.len() as u64;
-    let mut disk = MemoryDisk::new(alloc, bytes, room, 100, Vec::new(alloc), None)?;
-    let mut index = open_on(&mut disk)?;
-    assert!(rt; index.metric().fits(&[0]));
-    let found = index.nearest(alloc, &mut disk, &[0], 100)?;
-    assert_eq!(rt; found.hits.as_slice().len(), index.count() as usize);
-    Ok(index.count())
-}
-
-// At each moment from one on a crash leaves as many objects as before or as after, and where the call is done those after.
-pub(crate) fn check_images(
-    rt: &(impl AllocGlobal + Abort),
-    disk: &MemoryDisk,
-    began: u64,
-    counts: (u32, u32),
-    done: bool,
-) -> Result<(), Fail> {
-    let (before, after) = counts;
-    let ended = disk.moments();
-    for moment in began..=ended {
-        for pick in [0, 1, 165, 255] {
-            let count = count_in(rt, disk.image(rt.alloc(), moment, pick)?)?;
-            assert!(rt; count == before || count == after);
-            assert!(rt; count == after || moment < ended || !done);
-        }
-    }
-    Ok(())
-}
-
-// After a commit that failed nothing goes on, and the disk is left alone.
-fn check_stopped<M: Metric>(
-    rt: &(impl AllocGlobal + Abort),
-    index: &mut Index<M>,
-    disk: &mut MemoryDisk,
-) -> Result<(), Fail>
-    requires { MayGoOn index.old (memory_state disk.old) }
-{
-    let alloc = rt.alloc();
-    let moments = disk.moments();
-    assert_eq!(rt; insert(rt, index, disk, 7)?, Err(IndexFault::Stopped));
-    assert!(rt; index.metric().fits(&[0]));
-    assert!(rt; matches!(index.range(alloc, disk, &[0], 2), Err(IndexFault::Stopped)));
-    assert!(rt; matches!(index.shape(alloc, disk), Err(IndexFault::Stopped)));
-    assert_eq!(rt; disk.moments(), moments);
-    Ok(())
-}
-
-#[test]
-fn an_insert_is_stopped_at_each_call(rt: HostRuntime) -> Result<(), Fail> {
-    let alloc = rt.alloc();
-    let before = numbers_below(&rt, 32, None)?;
-    for stop in 5..22 {
-        let mut disk = disk_of(alloc, before.as_slice().to_vec(alloc)?, Some(stop))?;
-        let mut index = open_on(&mut disk)?;
-        let began = disk.moments();
-        let answer = insert(&rt, &mut index, &mut disk, 32)?;
-        check_images(&rt, &disk, began, (32, 33), answer.is_ok())?;
-        match answer {
-            Ok(id) => assert_eq!(rt; id, 32),
-            Err(IndexFault::Commit) => check_stopped(&rt, &mut index, &mut disk)?,
-            Err(fault) => {
-                assert_eq!(rt; fault, IndexFault::Disk);
-                assert_eq!(rt; disk.bytes(), before.as_slice());
-            }
-        }
-        let mut again = disk_of(alloc, disk.image(alloc, disk.moments(), 1)?, None)?;
-        let mut index = open_on(&mut again)?;
-        let count = index.count();
-        assert_eq!(rt; insert(&rt, &mut index, &mut again, 40)?, Ok(count));
-    }
-    Ok(())
-}
-
-#[test]
-fn inserts_that_are_refused(rt: HostRuntime) -> Result<(), Fail> {
-    let alloc = rt.alloc();
-    let mut disk = disk_of(alloc, Vec::new(alloc), None)?;
-    create(&mut disk, &head_of(3))?;
-    let mut index = open_on(&mut disk)?;
-    insert_all(&rt, &mut index, &mut disk, 0, 3)?;
-    assert_eq!(rt;
-        insert(&rt, &mut index, &mut disk, 3)?,
-        Err(IndexFault::Full)
-    );
-    let last = Live {
-        side: 0,
-        generation: LAST_GENERATION,
-        root: 3,
-        height: 0,
-        count: 0,
-        pages: 4,
-    };
-    let mut bytes = file_of(alloc, &last)?;
-    pad(&mut bytes, 4 * 4096)?;
-    let mut disk = disk_of(alloc, bytes, None)?;
-    let mut index = open_on(&mut disk)?;
-    assert_eq!(rt;
-        insert(&rt, &mut index, &mut disk, 1)?,
-        Err(IndexFault::Worn)
-    );
-    let mut disk = disk_of(alloc, six_entries(alloc, 4)?, None)?;
-    let mut index = open_on(&mut disk)?;
-    assert_eq!(rt;
-        insert(&rt, &mut index, &mut disk, 0)?,
-        Err(IndexFault::Damaged(PageFault::Repeats(4)))
-    );
     Ok(())
 }

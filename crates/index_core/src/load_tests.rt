@@ -1,9 +1,8 @@
 ghost use Rattle.std.specs.Prelude.{◌≡◌, All, IfOk, IsTrue, length};
 ghost use Rattle.vector_kinds.specs.Vectors.{vector_space};
 
-use crate::insert_tests::{check_images, disk_of, head_of, insert_all};
+use crate::insert_tests::{disk_of, head_of, insert_all};
 use crate::{Index, IndexFault};
-use meeting::{Meeting, Seen};
 use metric_laws::{Memory, Metric, Rows};
 use shadow_root::create;
 use std::alloc::Global;
@@ -54,28 +53,6 @@ fn a_pinned_tree_stays_while_objects_come(rt: HostRuntime) -> Result<(), Fail> {
 }
 
 #[test]
-fn a_load_is_stopped_at_each_call(rt: HostRuntime) -> Result<(), Fail> {
-    let alloc = rt.alloc();
-    let rows = numbers(alloc)?;
-    let mut empty = disk_of(alloc, Vec::new(alloc), None)?;
-    create(&mut empty, &head_of(1_000))?;
-    let mut loaded = 0;
-    for stop in 5..24 {
-        let mut disk = disk_of(alloc, empty.bytes().to_vec(alloc)?, Some(stop))?;
-        let mut index = Index::open_write(&mut disk, L1::new(1))?;
-        let began = disk.moments();
-        let answer = index.load(&rt, alloc, &mut disk, &rows);
-        check_images(&rt, &disk, began, (0, 33), answer.is_ok())?;
-        match answer {
-            Ok(count) => loaded = count,
-            Err(fault) => assert!(&rt; matches!(fault, IndexFault::Disk | IndexFault::Commit)),
-        }
-    }
-    assert_eq!(&rt; loaded, 33);
-    Ok(())
-}
-
-#[test]
 fn hits_have_their_tags(rt: HostRuntime) -> Result<(), Fail> {
     let alloc = rt.alloc();
     let mut disk = disk_of(alloc, Vec::new(alloc), None)?;
@@ -89,27 +66,5 @@ fn hits_have_their_tags(rt: HostRuntime) -> Result<(), Fail> {
     let found = index.range(alloc, &mut disk, &[32], 2)?;
     let tags = index.tags(alloc, &mut disk, &found)?;
     assert_eq!(&rt; tags.as_slice(), [32u64, 31, 30, 700].as_slice());
-    Ok(())
-}
-
-#[test]
-fn two_workers_of_a_load_meet(rt: HostRuntime) -> Result<(), Fail> {
-    let alloc = rt.alloc();
-    let rows = numbers(alloc)?;
-    for workers in [2usize, 1] {
-        let seen = Seen::new();
-        let metric = Meeting {
-            plain: L1::new(1),
-            first: &[1],
-            second: &[32],
-            seen: &seen,
-        };
-        let mut disk = disk_of(alloc, Vec::new(alloc), None)?;
-        create(&mut disk, &head_of(1_000))?;
-        let mut index = Index::open_write(&mut disk, metric)?;
-        index.set_workers(workers);
-        assert_eq!(&rt; index.load(&rt, alloc, &mut disk, &rows), Ok(33));
-        assert_eq!(&rt; seen.met(), workers == 2);
-    }
     Ok(())
 }
