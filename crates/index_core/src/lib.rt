@@ -22,8 +22,4 @@ pub use view::View;
 pub type Memory = std::alloc::AllocError;
 
 #[cfg(test)]
-mod insert_tests;
-#[cfg(test)]
-mod load_tests;
-#[cfg(test)]
 mod tests;
