@@ -74,6 +74,13 @@ impl<M: Metric> Index<M> {
         }
     }
 
+    /// What always holds of an opened index, for whoever is lent one.
+    pub fn is_lawful(&self)
+        ensures { IsLawfulFile (M.space self.now.file.metric).words self.now.file }
+    {
+        self.view.is_lawful();
+    }
+
     /// How many threads a load may use from now on, 1 to 64.
     pub fn set_workers(&mut self, workers: usize)
         requires some { 1 ≤ workers }

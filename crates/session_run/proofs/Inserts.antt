@@ -1,0 +1,126 @@
+-- Inserts and loads of a session, by what the index says of them.
+use Rattle.std.proofs.Common.{◌≡◌, ◌≢◌, ◌⊎◌, ◌↔◌, ℕ, zero, suc, ◌+◌, ◌-◌, ◌^◌, ◌≤◌, ◌<◌, Bool, true, false, List, [], ◌∷◌, ◌++◌, length, take, inl, inr, refl, sym, ap, subst, ◌∙◌, arith, Option, Some, None, Result, Ok, Err}
+use Rattle.std.specs.Prelude.{IsTrue, MatchOption, OnOk, IfOk, IfErr, nat_lt, ◌==◌, if◌then◌else◌}
+use Rattle.std.specs.List.{range_with_len}
+use Rattle.metric_laws.specs.Space.{Space}
+use Rattle.outside_io.specs.Causes.{Rose}
+use Rattle.disk_model.specs.Disk.{DiskState}
+use Rattle.rows_text.specs.declared.command.Command.{Command}
+use Rattle.rows_text.specs.declared.refusal.Refusal.TheVariants as refusal
+use Rattle.rows_text.specs.declared.reply.Reply.{Reply}
+use Rattle.rows_text.specs.declared.reply.Reply.TheVariants as reply
+use Rattle.rows_text.specs.Meaning.{Holdings, State, Step, insert_step, load_step, numbers_from, step, TagsAre}
+use Rattle.plain_scan.specs.OpenCursors.{OpenCursors, with_cursors}
+use Rattle.tree_shape.specs.Plain.{Object}
+use Rattle.tree_shape.specs.Tree.{objects}
+use Rattle.page_store.specs.declared.pages.PageFault.{PageFault}
+use Rattle.page_store.specs.declared.pages.PageFault.TheVariants as page
+use Rattle.log_model.proofs.ByScan.{length-points}
+use Rattle.free_pages.specs.Keeping.{FreePages}
+use Rattle.index_core.specs.declared.faults.IndexFault.{IndexFault}
+use Rattle.index_core.specs.declared.faults.IndexFault.TheVariants as fault
+use Rattle.index_core.specs.Answers.{IsSoundOn, points_on, tags_on}
+use Rattle.index_core.specs.Causes.{BlamesNoPage, HasInsertCause, HasListCause, IsPathDamage, IsDamage as IsWalkDamage}
+use Rattle.index_core.specs.Files.{OpenFile, IsLawfulFile, nodes_on}
+use Rattle.index_core.specs.Index.{OpenIndex, StandsAlone}
+use Rattle.index_core.specs.Loading.{HasLoadingCause, ids, load_fault}
+use Rattle.index_core.specs.Writing.{Write, Inserts, Loads, HasWritten}
+use Rattle.session_run.specs.Session.{IsDamage, setting_of, state_on}
+use Rattle.session_run.specs.Steps.{HasStepCause, HasStepped, answer_of_fault, written_answer}
+use Rattle.session_run.specs.Turns.{Hinders, answered_query, version_on, write_of}
+use Rattle.session_run.proofs.Writes.{IsWriteOf, write_stepped}
+
+-- ids from 0 on
+pub ids_are : (first n : ℕ) → numbers_from first n ≡ range_with_len first n
+ids_are first zero = refl
+ids_are first (suc n) = ap (λ (l : List ℕ). first ∷ l) (ids_are (first + 1) n)
+
+path_damage : (f : PageFault) → IsPathDamage f → IsDamage f
+path_damage (page.Bad p n) is = tt
+path_damage (page.Outside p) is = tt
+path_damage (page.Repeats p) is = tt
+path_damage (page.Level p) is = tt
+path_damage page.Disk is = absurd is
+path_damage page.Memory is = absurd is
+
+pub walk_damage : (f : PageFault) → IsWalkDamage f → IsDamage f
+walk_damage (page.Bad p n) is = tt
+walk_damage (page.Outside p) is = tt
+walk_damage (page.Repeats p) is = tt
+walk_damage (page.Level p) is = absurd is
+walk_damage page.Disk is = absurd is
+walk_damage page.Memory is = absurd is
+
+module _ {M : Type 0} (s : Space) (show : Bool) (old new : OpenIndex M) (open : OpenCursors) (before after : DiskState) (c : Command) (lawful : IsLawfulFile s.words old.file) (alone : StandsAlone old before)
+    (going : old.stopped ≡ false) (told : after.tells ≡ before.tells) (later : before.faults ≤ after.faults) where
+  pub count_is : length (points_on old.file before) ≡ old.file.live.count
+  count_is = length-points (objects (nodes_on old.file before) old.file.live) 0 old.file.live.count
+
+  insert_cause : (o : Object) (why : IndexFault) → HasInsertCause s old o before after why → (IsSoundOn s old.file before → BlamesNoPage why) →
+      IfErr (answer_of_fault why) (HasStepCause (IsSoundOn s old.file before) before after)
+  insert_cause o fault.Disk cause undamaged = cause
+  insert_cause o (fault.Damaged f) cause undamaged = (elim cause [
+    | inl listed ↦ walk_damage f listed.1.0
+    | inr walked ↦ path_damage f walked.0
+  ], undamaged)
+  insert_cause o fault.Memory cause undamaged = tt
+  insert_cause o fault.Full cause undamaged = tt
+  insert_cause o fault.NotEmpty cause undamaged = absurd cause
+  insert_cause o (fault.NoRoom pages needed) cause undamaged = tt
+  insert_cause o fault.Worn cause undamaged = tt
+  insert_cause o fault.Stopped cause undamaged = absurd (let e : true ≡ false = sym cause ∙ going in cc)
+  insert_cause o fault.Commit cause undamaged = cause
+
+  no_filled : (o : Object) (result : Result ℕ IndexFault) → IfErr result (HasInsertCause s old o before after) → result ≡ Err fault.NotEmpty → ⊥
+  no_filled o result cause is = rw is at cause
+
+  -- an insert
+  pub insert_stepped : (point : List ℕ) (tag : ℕ) (result : Result ℕ IndexFault) → HasWritten s (Inserts point tag) old new before after result →
+      (result ≡ Err fault.Full) ↔ (old.file.live.count ≡ old.file.head.limit) →
+      (result ≡ Err fault.Worn) ↔ ((old.file.live.count ≢ old.file.head.limit) × (old.file.live.generation ≡ 2 ^ 48 - 1)) →
+      IfErr result (HasInsertCause s old (record { id = old.file.live.count; tag = tag; point = point }) before after) →
+      IfErr result (λ why. IsSoundOn s old.file before → BlamesNoPage why) →
+      write_of old.file.live.count c ≡ Some (Inserts point tag) → answered_query s c ≡ None →
+      step (setting_of s old.file) (state_on old.file before open) c ≡ insert_step old.file.head.limit (state_on old.file before open) point tag →
+      HasStepped s show old new open open before after c (written_answer (λ id. reply.Id id) result)
+  insert_stepped point tag result written full worn cause undamaged writes unasked meaning =
+      write_stepped s show old new open before after c (Inserts point tag) (λ id. reply.Id id) lawful alone going result written (record {
+        writes = writes;
+        unasked = unasked;
+        accepting = λ room filled. meaning ∙ accepted (few (λ e. room (full.1 e)));
+        full = λ is. meaning ∙ no_room (full.0 is);
+        filled = λ is. absurd (no_filled _ result cause is);
+        worn = λ is. (worn.0 is).1;
+        room = λ pages needed is sound. hinders pages needed (rw is at cause) sound;
+        cause = causes result cause undamaged;
+        accepts_says = λ n. refl;
+        tags_says = λ n. tt;
+        tells = told;
+        later = later;
+      })
+    where
+      few : (old.file.live.count ≢ old.file.head.limit) → nat_lt (length (points_on old.file before)) old.file.head.limit ≡ true
+      few less = let most = lawful.live.1.count in rw count_is (grind arith)
+
+      accepted : nat_lt (length (points_on old.file before)) old.file.head.limit ≡ true →
+          insert_step old.file.head.limit (state_on old.file before open) point tag ≡ record {
+            reply = reply.Id old.file.live.count;
+            state = with_cursors (record { points = points_on old.file before ++ point ∷ []; tags = tags_on old.file before ++ tag ∷ [] }) open;
+          }
+      accepted less = rw less (ap (λ (n : ℕ). (let done : Step = record {
+        reply = reply.Id n;
+        state = with_cursors (record { points = points_on old.file before ++ point ∷ []; tags = tags_on old.file before ++ tag ∷ [] }) open;
+      } in done)) count_is)
+
+      no_room : old.file.live.count ≡ old.file.head.limit → insert_step old.file.head.limit (state_on old.file before open) point tag ≡ record { reply = reply.Refused refusal.Full; state = state_on old.file before open }
+      no_room all = let no : nat_lt (length (points_on old.file before)) old.file.head.limit ≡ false = rw count_is (grind arith) in rw no refl
+
+      hinders : (pages needed : ℕ) → HasInsertCause s old (record { id = old.file.live.count; tag = tag; point = point }) before after (fault.NoRoom pages needed) → IsSoundOn s old.file before →
+          Hinders s old.file.head (version_on old.file before) refusal.NoRoom (Inserts point tag)
+      hinders pages needed (f, is, asked, at, over, told_so) sound =
+          let exact = (told_so sound.0).1 in (length (take asked f.free), rw (at, exact) at over)
+
+      causes : (result : Result ℕ IndexFault) → IfErr result (HasInsertCause s old (record { id = old.file.live.count; tag = tag; point = point }) before after) →
+          IfErr result (λ why. IsSoundOn s old.file before → BlamesNoPage why) → IfErr result (λ why. IfErr (answer_of_fault why) (HasStepCause (IsSoundOn s old.file before) before after))
+      causes (Ok n) cause undamaged = tt
+      causes (Err why) cause undamaged = insert_cause _ why cause undamaged

@@ -1,0 +1,157 @@
+-- Loads of a session, by what the index says of them.
+use Rattle.std.proofs.Common.{◌≡◌, ◌≢◌, ◌⊎◌, ◌↔◌, ℕ, zero, suc, ◌+◌, ◌-◌, ◌^◌, ◌≤◌, ◌<◌, Bool, true, false, List, [], ◌∷◌, ◌++◌, length, inl, inr, refl, sym, ap, subst, ◌∙◌, arith, Option, Some, None, Result, Ok, Err}
+use Rattle.std.specs.Prelude.{IsTrue, MatchOption, OnOk, IfOk, IfErr, nat_lt, ◌==◌, if◌then◌else◌}
+use Rattle.metric_laws.specs.Space.{Space}
+use Rattle.disk_model.specs.Disk.{DiskState}
+use Rattle.rows_text.specs.declared.command.Command.{Command}
+use Rattle.rows_text.specs.declared.refusal.Refusal.TheVariants as refusal
+use Rattle.rows_text.specs.declared.reply.Reply.{Reply}
+use Rattle.rows_text.specs.declared.reply.Reply.TheVariants as reply
+use Rattle.rows_text.specs.Meaning.{State, Step, load_step, step}
+use Rattle.plain_scan.specs.OpenCursors.{OpenCursors, with_cursors}
+use Rattle.free_pages.specs.Keeping.{FreePages}
+use Rattle.index_core.specs.declared.faults.IndexFault.{IndexFault}
+use Rattle.index_core.specs.declared.faults.IndexFault.TheVariants as fault
+use Rattle.index_core.specs.Answers.{IsSoundOn, points_on, tags_on}
+use Rattle.index_core.specs.Causes.{BlamesNoPage, HasListCause}
+use Rattle.index_core.specs.Files.{IsLawfulFile}
+use Rattle.index_core.specs.Index.{OpenIndex, StandsAlone}
+use Rattle.index_core.specs.Loading.{HasLoadCause, HasLoadingCause, load_fault}
+use Rattle.index_core.specs.Writing.{Loads, HasWritten}
+use Rattle.session_run.specs.Session.{setting_of, state_on}
+use Rattle.session_run.specs.Steps.{HasStepCause, HasStepped, answer_of_fault, written_answer}
+use Rattle.session_run.specs.Turns.{Hinders, answered_query, version_on, write_of}
+use Rattle.session_run.proofs.Inserts.{count_is, walk_damage}
+use Rattle.session_run.proofs.Writes.{IsWriteOf, write_stepped}
+
+module _ {M : Type 0} (s : Space) (show : Bool) (old new : OpenIndex M) (open : OpenCursors) (before after : DiskState) (c : Command) (rows : List (List ℕ)) (labels : List ℕ)
+    (lawful : IsLawfulFile s.words old.file) (alone : StandsAlone old before) (going : old.stopped ≡ false) (told : after.tells ≡ before.tells) (later : before.faults ≤ after.faults) where
+  count_on : length (points_on old.file before) ≡ old.file.live.count
+  count_on = count_is s show old new open before after c lawful alone going told later
+
+  filled_fault : (old.file.live.count == 0) ≡ false → load_fault old (length rows) ≡ Some fault.NotEmpty
+  filled_fault some = rw (going, some) refl
+
+  full_fault : (old.file.live.count == 0) ≡ true → nat_lt old.file.head.limit (length rows) ≡ true → load_fault old (length rows) ≡ Some fault.Full
+  full_fault none many = rw (going, none, many) refl
+
+  worn_fault : (old.file.live.count == 0) ≡ true → nat_lt old.file.head.limit (length rows) ≡ false → (old.file.live.generation == 2 ^ 48 - 1) ≡ true → load_fault old (length rows) ≡ Some fault.Worn
+  worn_fault none few last = rw (going, none, few, last) refl
+
+  no_fault : (old.file.live.count == 0) ≡ true → nat_lt old.file.head.limit (length rows) ≡ false → (old.file.live.generation == 2 ^ 48 - 1) ≡ false → load_fault old (length rows) ≡ None
+  no_fault none few more = rw (going, none, few, more) refl
+
+  state : State
+  state = state_on old.file before open
+
+  loaded_step : Step
+  loaded_step = record { reply = reply.Loaded (length rows); state = with_cursors (record { points = rows; tags = labels }) open }
+
+  -- ---- by the meaning
+  some_objects : (old.file.live.count == 0) ≡ false → load_step old.file.head.limit state rows labels ≡ record { reply = reply.Refused refusal.NotEmpty; state = state }
+  some_objects some = let more : nat_lt 0 (length (points_on old.file before)) ≡ true = rw count_on (grind arith) in rw more refl
+
+  too_many : (old.file.live.count == 0) ≡ true → nat_lt old.file.head.limit (length rows) ≡ true → load_step old.file.head.limit state rows labels ≡ record { reply = reply.Refused refusal.Full; state = state }
+  too_many none many = let no : nat_lt 0 (length (points_on old.file before)) ≡ false = rw count_on (grind arith) in rw (no, many) refl
+
+  accepted : (old.file.live.count == 0) ≡ true → nat_lt old.file.head.limit (length rows) ≡ false → load_step old.file.head.limit state rows labels ≡ loaded_step
+  accepted none few = let no : nat_lt 0 (length (points_on old.file before)) ≡ false = rw count_on (grind arith) in rw (no, few) refl
+
+  load_cause : (why : IndexFault) → (load_fault old (length rows) ≡ None → HasLoadingCause s old new rows labels before after.faults why) → (load_fault old (length rows) ≡ None) →
+      (IsSoundOn s old.file before → BlamesNoPage why) → IfErr (answer_of_fault why) (HasStepCause (IsSoundOn s old.file before) before after)
+  load_cause fault.Disk cause none undamaged = (cause none).1
+  load_cause (fault.Damaged f) cause none undamaged = (walk_damage f (cause none).1.0, undamaged)
+  load_cause fault.Memory cause none undamaged = tt
+  load_cause fault.Full cause none undamaged = tt
+  load_cause fault.NotEmpty cause none undamaged = tt
+  load_cause (fault.NoRoom pages needed) cause none undamaged = tt
+  load_cause fault.Worn cause none undamaged = tt
+  load_cause fault.Stopped cause none undamaged = absurd (cause none).1
+  load_cause fault.Commit cause none undamaged = cause none
+
+  hinders : (pages needed : ℕ) → HasLoadingCause s old new rows labels before after.faults (fault.NoRoom pages needed) → Hinders s old.file.head (version_on old.file before) refusal.NoRoom (Loads rows labels)
+  hinders pages needed cause = given new.free cause
+    where
+      given : (free : Option FreePages) → MatchOption free ⊥ (λ f. HasLoadCause s old.file f rows labels (fault.NoRoom pages needed)) → Hinders s old.file.head (version_on old.file before) refusal.NoRoom (Loads rows labels)
+      given None cause = absurd cause
+      given (Some f) (other, at, exact, over) = (length f.free, rw (at, exact) at over)
+
+  -- a load
+  pub load_stepped : (result : Result ℕ IndexFault) → HasWritten s (Loads rows labels) old new before after result →
+      ((why : IndexFault) → load_fault old (length rows) ≡ Some why → result ≡ Err why) →
+      (load_fault old (length rows) ≡ None → IfErr result (HasLoadingCause s old new rows labels before after.faults)) →
+      IfErr result (λ why. IsSoundOn s old.file before → BlamesNoPage why) →
+      write_of old.file.live.count c ≡ Some (Loads rows labels) → answered_query s c ≡ None →
+      step (setting_of s old.file) state c ≡ load_step old.file.head.limit state rows labels →
+      HasStepped s show old new open open before after c (written_answer (λ count. reply.Loaded count) result)
+  load_stepped result written refused cause undamaged writes unasked meaning =
+      write_stepped s show old new open before after c (Loads rows labels) (λ count. reply.Loaded count) lawful alone going result written (record {
+        writes = writes;
+        unasked = unasked;
+        accepting = λ room filled. meaning ∙ accepting room filled (old.file.live.count == 0) refl (nat_lt old.file.head.limit (length rows)) refl;
+        full = λ is. meaning ∙ full is (old.file.live.count == 0) refl (nat_lt old.file.head.limit (length rows)) refl (old.file.live.generation == 2 ^ 48 - 1) refl;
+        filled = λ is. meaning ∙ filled is (old.file.live.count == 0) refl (nat_lt old.file.head.limit (length rows)) refl (old.file.live.generation == 2 ^ 48 - 1) refl;
+        worn = λ is. worn is (old.file.live.count == 0) refl (nat_lt old.file.head.limit (length rows)) refl (old.file.live.generation == 2 ^ 48 - 1) refl;
+        room = λ pages needed is sound. room pages needed is (load_fault old (length rows)) refl;
+        cause = causes result refl (load_fault old (length rows)) refl;
+        accepts_says = λ n. refl;
+        tags_says = λ n. tt;
+        tells = told;
+        later = later;
+      })
+    where
+      accepting : result ≢ Err fault.Full → result ≢ Err fault.NotEmpty → (none : Bool) → (old.file.live.count == 0) ≡ none → (many : Bool) → nat_lt old.file.head.limit (length rows) ≡ many →
+          load_step old.file.head.limit state rows labels ≡ loaded_step
+      accepting room filled false n many m = absurd (filled (refused fault.NotEmpty (filled_fault n)))
+      accepting room filled true n true m = absurd (room (refused fault.Full (full_fault n m)))
+      accepting room filled true n false m = accepted n m
+
+      full : result ≡ Err fault.Full → (none : Bool) → (old.file.live.count == 0) ≡ none → (many : Bool) → nat_lt old.file.head.limit (length rows) ≡ many → (last : Bool) →
+          (old.file.live.generation == 2 ^ 48 - 1) ≡ last → load_step old.file.head.limit state rows labels ≡ record { reply = reply.Refused refusal.Full; state = state }
+      full is false n many m last l = absurd (let e = sym is ∙ refused fault.NotEmpty (filled_fault n) in cc)
+      full is true n true m last l = too_many n m
+      full is true n false m true l = absurd (let e = sym is ∙ refused fault.Worn (worn_fault n m l) in cc)
+      full is true n false m false l = let no = rw is at cause (no_fault n m l) in absurd (no.1)
+
+      filled : result ≡ Err fault.NotEmpty → (none : Bool) → (old.file.live.count == 0) ≡ none → (many : Bool) → nat_lt old.file.head.limit (length rows) ≡ many → (last : Bool) →
+          (old.file.live.generation == 2 ^ 48 - 1) ≡ last → load_step old.file.head.limit state rows labels ≡ record { reply = reply.Refused refusal.NotEmpty; state = state }
+      filled is false n many m last l = some_objects n
+      filled is true n true m last l = absurd (let e = sym is ∙ refused fault.Full (full_fault n m) in cc)
+      filled is true n false m true l = absurd (let e = sym is ∙ refused fault.Worn (worn_fault n m l) in cc)
+      filled is true n false m false l = let no = rw is at cause (no_fault n m l) in absurd (no.1)
+
+      worn : result ≡ Err fault.Worn → (none : Bool) → (old.file.live.count == 0) ≡ none → (many : Bool) → nat_lt old.file.head.limit (length rows) ≡ many → (last : Bool) →
+          (old.file.live.generation == 2 ^ 48 - 1) ≡ last → old.file.live.generation ≡ 2 ^ 48 - 1
+      worn is false n many m last l = absurd (let e = sym is ∙ refused fault.NotEmpty (filled_fault n) in cc)
+      worn is true n true m last l = absurd (let e = sym is ∙ refused fault.Full (full_fault n m) in cc)
+      worn is true n false m true l = grind arith
+      worn is true n false m false l = let no = rw is at cause (no_fault n m l) in absurd (no.1)
+
+      room : (pages needed : ℕ) → result ≡ Err (fault.NoRoom pages needed) → (f : Option IndexFault) → load_fault old (length rows) ≡ f →
+          Hinders s old.file.head (version_on old.file before) refusal.NoRoom (Loads rows labels)
+      room pages needed is None l = hinders pages needed (rw is at cause l)
+      room pages needed is (Some why) l = absurd (only why l)
+        where
+          only : (why : IndexFault) → load_fault old (length rows) ≡ Some why → ⊥
+          only why l = by_cases (old.file.live.count == 0) refl (nat_lt old.file.head.limit (length rows)) refl (old.file.live.generation == 2 ^ 48 - 1) refl
+            where
+              by_cases : (none : Bool) → (old.file.live.count == 0) ≡ none → (many : Bool) → nat_lt old.file.head.limit (length rows) ≡ many → (last : Bool) → (old.file.live.generation == 2 ^ 48 - 1) ≡ last → ⊥
+              by_cases false n many m last e = let x = sym is ∙ refused fault.NotEmpty (filled_fault n) in cc
+              by_cases true n true m last e = let x = sym is ∙ refused fault.Full (full_fault n m) in cc
+              by_cases true n false m true e = let x = sym is ∙ refused fault.Worn (worn_fault n m e) in cc
+              by_cases true n false m false e = let x = sym l ∙ no_fault n m e in cc
+
+      causes : (r : Result ℕ IndexFault) → result ≡ r → (f : Option IndexFault) → load_fault old (length rows) ≡ f → IfErr r (λ why. IfErr (answer_of_fault why) (HasStepCause (IsSoundOn s old.file before) before after))
+      causes (Ok n) is f l = tt
+      causes (Err why) is None l = load_cause why (λ none. rw is at cause none) l (rw is at undamaged)
+      causes (Err why) is (Some g) l = once (old.file.live.count == 0) refl (nat_lt old.file.head.limit (length rows)) refl (old.file.live.generation == 2 ^ 48 - 1) refl
+        where
+          free : (h : IndexFault) → result ≡ Err h → IfErr (answer_of_fault h) (HasStepCause (IsSoundOn s old.file before) before after) → IfErr (answer_of_fault why) (HasStepCause (IsSoundOn s old.file before) before after)
+          free h e has = let same : why ≡ h = (let x = sym is ∙ e in cc) in rw same has
+
+          once : (none : Bool) → (old.file.live.count == 0) ≡ none → (many : Bool) → nat_lt old.file.head.limit (length rows) ≡ many → (last : Bool) → (old.file.live.generation == 2 ^ 48 - 1) ≡ last →
+              IfErr (answer_of_fault why) (HasStepCause (IsSoundOn s old.file before) before after)
+          once false n many m last e = free fault.NotEmpty (refused fault.NotEmpty (filled_fault n)) tt
+          once true n true m last e = free fault.Full (refused fault.Full (full_fault n m)) tt
+          once true n false m true e = free fault.Worn (refused fault.Worn (worn_fault n m e)) tt
+          once true n false m false e = absurd (let x = sym l ∙ no_fault n m e in cc)

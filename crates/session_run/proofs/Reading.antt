@@ -1,0 +1,114 @@
+-- What a command does that leaves the objects of a file as they are.
+use Rattle.std.proofs.Common.{◌≡◌, ◌⊎◌, ℕ, ◌+◌, ◌≤◌, Bool, true, false, List, inl, inr, refl, sym, ap, subst, ◌∙◌, Option, Some, None, Result, Ok, Err}
+use Rattle.std.specs.Prelude.{IsTrue, MatchOption, OnOk, IfOk, IfErr}
+use Rattle.metric_laws.specs.Space.{Space}
+use Rattle.disk_model.specs.Disk.{DiskState, MayLeave, EachImage}
+use Rattle.disk_model.specs.Moments.{weakened}
+use Rattle.rows_text.specs.declared.command.Command.{Command}
+use Rattle.rows_text.specs.declared.refusal.Refusal.{Refusal}
+use Rattle.rows_text.specs.declared.reply.Reply.{Reply}
+use Rattle.rows_text.specs.declared.reply.Reply.TheVariants as reply
+use Rattle.rows_text.specs.Meaning.{Holdings, State, Step, accepts, hindered, refused, step, TagsAre}
+use Rattle.rows_text.specs.Texts.{text}
+use Rattle.plain_scan.specs.OpenCursors.{OpenCursors, with_cursors}
+use Rattle.tree_shape.specs.Tree.{IsSoundTree, points_by_id, tags_by_id}
+use Rattle.page_store.specs.Reading.{reading, nodes_of}
+use Rattle.log_model.specs.Grammar.{IsLawfulLog}
+use Rattle.index_core.specs.Answers.{IsSoundOn, points_on, tags_on}
+use Rattle.index_core.specs.Files.{OpenFile, IsLawfulFile, OnlyReads, StandsOn, nodes_on}
+use Rattle.index_core.specs.Index.{OpenIndex, StandsAlone}
+use Rattle.index_core.specs.Writing.{HasObjects}
+use Rattle.index_core.proofs.Written.{holds, has_still}
+use Rattle.session_run.specs.declared.answer.Answer.{Answer}
+use Rattle.session_run.specs.declared.stop.Stop.{Stop}
+use Rattle.session_run.specs.Session.{HoldsState, setting_of, state_on}
+use Rattle.session_run.specs.Steps.{HasStepCause, HasStepped, HoldsOne, IsTaken}
+use Rattle.session_run.specs.Turns.{HasLog, IsHindrance, IsVersionAfter, Version, answered_query, version_on}
+
+-- the objects of a sound file
+pub objects_on : {M : Type 0} (s : Space) (file : OpenFile M) (disk : DiskState) → IsSoundOn s file disk → HasObjects s file disk (points_on file disk) (tags_on file disk)
+objects_on s file disk sound = record { tells = sound.0; sound = sound.1; points_are = refl; tags_are = refl }
+
+-- a call that only reads leaves what the file holds
+pub version_still : {M : Type 0} (old new : OpenFile M) (before after : DiskState) → OnlyReads old new before after → version_on new after ≡ version_on old before
+version_still {M} old new before after reads =
+    ap (λ (file : OpenFile M). version_on file after) reads.rest
+    ∙ ap (λ (bytes : List ℕ). (let v : Version = record { nodes = nodes_of (reading old.head.dim old.live.pages bytes); live = old.live } in v)) reads.same.same_bytes
+
+pub state_still : {M : Type 0} (old new : OpenFile M) (before after : DiskState) (open : OpenCursors) → OnlyReads old new before after → state_on new after open ≡ state_on old before open
+state_still old new before after open reads =
+    ap (λ (v : Version). with_cursors (record { points = points_by_id v.nodes v.live; tags = tags_by_id v.nodes v.live }) open) (version_still old new before after reads)
+
+pub sound_still : {M : Type 0} (s : Space) (old new : OpenFile M) (before after : DiskState) → OnlyReads old new before after → IsSoundOn s old before → IsSoundOn s new after
+sound_still s old new before after reads sound =
+    let has = has_still s old new before after _ _ reads (objects_on s old before sound) in (has.tells, has.sound)
+
+-- and it leaves what a crash may leave
+pub either_reading : {M : Type 0} (s : Space) (index : OpenIndex M) (new : OpenFile M) (opened : OpenCursors) (before after : DiskState) (other : State) →
+    IsLawfulFile s.words index.file → StandsAlone index before → OnlyReads index.file new before after → IsSoundOn s index.file before →
+    EachImage before after (HoldsOne s index.file.head (state_on index.file before opened) other)
+either_reading s index new opened before after other lawful alone reads sound =
+    weakened before after (MayLeave before) (HoldsOne s index.file.head (state_on index.file before opened) other) reads.same.time
+    (λ image left. inl (subst (λ (file : List ℕ). HoldsState s index.file.head (state_on index.file before opened) file) (sym (alone.only sound.0 image left))
+      (holds s index.file before _ _ lawful alone.stands (objects_on s index.file before sound))))
+
+-- an answer that accepts no object is a turn
+pub read_taken : {M : Type 0} (s : Space) (show : Bool) (index : OpenIndex M) (new : OpenFile M) (opened open : OpenCursors) (before after : DiskState) (c : Command) (a : Answer) (why : Option Refusal) (meant : Reply) →
+    IsLawfulFile s.words index.file → StandsAlone index before → OnlyReads index.file new before after → IsSoundOn s index.file before →
+    hindered why (state_on index.file before opened) (step (setting_of s index.file) (state_on index.file before opened) c) ≡ record { reply = meant; state = state_on index.file before open } →
+    accepts meant ≡ false → IsHindrance s index.file.head (version_on index.file before) c why → HasLog s (version_on index.file before) (answered_query s c) a.log → text show a.reply ≡ text show meant →
+    IsTaken s show index.file new opened open before after c a
+read_taken s show index new opened open before after c a why meant lawful alone reads sound meaning none hindrance logged same = let old = index.file in record {
+  turn = record { command = c; why = why; reply = meant; log = a.log; state = state_on new after open; file = version_on new after };
+  is = record {
+    meaning = meaning ∙ ap (λ (state : State). (let done : Step = record { reply = meant; state = state } in done)) (sym (state_still old new before after open reads));
+    hindrance = hindrance;
+    logged = logged;
+    after = subst (λ (b : Bool). IsVersionAfter s old.head (version_on old before) c b (version_on new after)) (sym none) (version_still old new before after reads);
+    objects = record { sound = (sound_still s old new before after reads sound).1; points_are = refl; tags_are = refl };
+  };
+  command = refl;
+  state = refl;
+  file = refl;
+  log = refl;
+  same_text = same;
+  moments = either_reading s index new opened before after (state_on new after open) lawful alone reads sound;
+}
+
+-- a command that only reads and is answered
+pub read_stepped : {M : Type 0} (s : Space) (show : Bool) (old new : OpenIndex M) (opened open : OpenCursors) (before after : DiskState) (c : Command) (a : Answer) →
+    IsLawfulFile s.words old.file → StandsAlone old before → new.stopped ≡ false → OnlyReads old.file new.file before after → open.next ≤ opened.next + 1 →
+    MatchOption a.log (Unit {0}) IsLawfulLog → (show ≡ true → TagsAre a.reply) →
+    (IsSoundOn s old.file before → IsTaken s show old.file new.file opened open before after c a) →
+    HasStepped s show old new opened open before after c (Ok a)
+read_stepped {M} s show old new opened open before after c a lawful alone going reads numbers spelled tagged taken = record {
+  going = going;
+  head = ap (λ (file : OpenFile M). file.head) reads.rest;
+  metric = ap (λ (file : OpenFile M). file.metric) reads.rest;
+  tells = reads.same.same_tells;
+  later = reads.later;
+  numbers = numbers;
+  spelled = spelled;
+  tagged = tagged;
+  cause = tt;
+  taken = taken;
+  moments = λ sound. tt;
+}
+
+-- a command that only reads and ends the session
+pub read_stopped : {M : Type 0} (s : Space) (show : Bool) (old new : OpenIndex M) (opened open : OpenCursors) (before after : DiskState) (c : Command) (why : Stop) →
+    IsLawfulFile s.words old.file → StandsAlone old before → OnlyReads old.file new.file before after → open.next ≤ opened.next + 1 → HasStepCause (IsSoundOn s old.file before) before after why →
+    HasStepped s show old new opened open before after c (Err why)
+read_stopped {M} s show old new opened open before after c why lawful alone reads numbers cause = record {
+  going = tt;
+  head = tt;
+  metric = tt;
+  tells = reads.same.same_tells;
+  later = reads.later;
+  numbers = numbers;
+  spelled = tt;
+  tagged = tt;
+  cause = cause;
+  taken = λ sound. tt;
+  moments = λ sound. either_reading s old new.file opened before after _ lawful alone reads sound;
+}

@@ -1,0 +1,144 @@
+-- A command whose log and reply are written.
+use Rattle.std.proofs.Common.{◌≡◌, ◌⊎◌, ℕ, ◌+◌, ◌≤◌, Bool, true, false, List, [], ◌∷◌, inl, inr, refl, sym, ap, subst, ◌∙◌, arith, Option, Some, None, Result, Ok, Err}
+use Rattle.std.specs.Prelude.{IsTrue, MatchOption, OnOk, IfOk, IfErr}
+use Rattle.std.specs.Io.KnownBytes.{Appends}
+use Rattle.metric_laws.specs.Space.{Space}
+use Rattle.outside_io.specs.Bytes.{AppendsPrefix}
+use Rattle.outside_io.specs.Causes.{Rose}
+use Rattle.outside_io.specs.Sinks.{SinkState}
+use Rattle.disk_model.specs.Disk.{DiskState, EachImage}
+use Rattle.disk_model.specs.Moments.{weakened}
+use Rattle.rows_text.specs.declared.command.Command.{Command}
+use Rattle.rows_text.specs.declared.refusal.Refusal.{Refusal}
+use Rattle.rows_text.specs.Meaning.{State, Step, accepts, hindered, refused, step}
+use Rattle.rows_text.specs.Texts.{text}
+use Rattle.plain_scan.specs.OpenCursors.{OpenCursors}
+use Rattle.log_model.specs.declared.logs.Log.{Log}
+use Rattle.index_core.specs.Answers.{IsSoundOn}
+use Rattle.index_core.specs.Index.{OpenIndex}
+use Rattle.session_run.specs.declared.answer.Answer.{Answer}
+use Rattle.session_run.specs.declared.stop.Stop.{Stop}
+use Rattle.session_run.specs.declared.stop.Stop.TheVariants as stop
+use Rattle.session_run.specs.Session.{HasStopCause, HoldsState, setting_of, state_on}
+use Rattle.session_run.specs.Steps.{HasStepCause, HasStepped, HasTurned, HoldsEither, HoldsOne, IsPartlyPut, IsPut, IsStoppedAt, IsTaken}
+use Rattle.session_run.specs.Turns.{Turn, framed, if_any}
+
+-- a step has the state that is meant, or the one before
+either_state : (why : Option Refusal) (state : State) (done meant : Step) → hindered why state done ≡ meant → (meant.state ≡ done.state) ⊎ (meant.state ≡ state)
+either_state None state done meant is = inl (ap (λ (d : Step). d.state) (sym is))
+either_state (Some why) state done meant is = by_reply (accepts done.reply) refl
+  where
+    by_reply : (b : Bool) → accepts done.reply ≡ b → (meant.state ≡ done.state) ⊎ (meant.state ≡ state)
+    by_reply true e = let same : refused state why ≡ meant = rw e at is in inr (ap (λ (d : Step). d.state) (sym same))
+    by_reply false e = let same : done ≡ meant = rw e at is in inl (ap (λ (d : Step). d.state) (sym same))
+
+module _ {M : Type 0} (s : Space) (show : Bool) (old new : OpenIndex M) (opened open : OpenCursors) (before after : DiskState) (c : Command) where
+  taken_moments : (a : Answer) → IsTaken s show old.file new.file opened open before after c a → EachImage before after (HoldsEither s old.file before opened c)
+  taken_moments a taken =
+      weakened before after (HoldsOne s old.file.head (state_on old.file before opened) taken.turn.state) (HoldsEither s old.file before opened c) taken.moments (λ image holds. elim holds [
+        | inl was ↦ inl was
+        | inr now ↦ elim (either_state taken.turn.why (state_on old.file before opened) (step (setting_of s old.file) (state_on old.file before opened) taken.turn.command) _ taken.is.meaning) [
+            | inl same ↦ inr (subst (λ (d : Command). HoldsState s old.file.head (step (setting_of s old.file) (state_on old.file before opened) d).state image) taken.command
+                (subst (λ (state : State). HoldsState s old.file.head state image) same now))
+            | inr same ↦ inl (subst (λ (state : State). HoldsState s old.file.head state image) same now)
+          ]
+      ])
+
+  -- the step itself ended the session
+  pub turned_stopped : (why : Stop) (out log : SinkState) → HasStepped s show old new opened open before after c (Err why) → HasTurned s show old new opened open before after c out out log log (Err why)
+  turned_stopped why out log did = record {
+    going = tt;
+    head = tt;
+    metric = tt;
+    tells = did.tells;
+    later = did.later;
+    out_later = omega arith;
+    log_later = omega arith;
+    numbers = did.numbers;
+    cause = cause why did.cause;
+    put = λ sound. tt;
+    stopped = λ sound. stopped why did.cause;
+    moments = did.moments;
+  }
+    where
+      cause : (why : Stop) → HasStepCause (IsSoundOn s old.file before) before after why → HasStopCause (IsSoundOn s old.file before) before after out out log log why
+      cause stop.Disk is = is
+      cause (stop.Damaged page) is = is
+      cause stop.Memory is = tt
+      cause stop.Sink is = absurd is
+
+      stopped : (why : Stop) → HasStepCause (IsSoundOn s old.file before) before after why → IsStoppedAt s show old.file opened before c out out log log why
+      stopped stop.Disk is = (refl, refl)
+      stopped (stop.Damaged page) is = (refl, refl)
+      stopped stop.Memory is = (refl, refl)
+      stopped stop.Sink is = absurd is
+
+  -- there was no memory for what is written
+  pub turned_memory : (a : Answer) (out log : SinkState) → HasStepped s show old new opened open before after c (Ok a) → HasTurned s show old new opened open before after c out out log log (Err stop.Memory)
+  turned_memory a out log did = record {
+    going = tt;
+    head = tt;
+    metric = tt;
+    tells = did.tells;
+    later = did.later;
+    out_later = omega arith;
+    log_later = omega arith;
+    numbers = did.numbers;
+    cause = tt;
+    put = λ sound. tt;
+    stopped = λ sound. (refl, refl);
+    moments = λ sound. taken_moments a (did.taken sound);
+  }
+
+  -- all is written
+  pub turned : (a : Answer) (reply frame : List ℕ) (out0 out1 log0 log1 : SinkState) → HasStepped s show old new opened open before after c (Ok a) → reply ≡ text show a.reply → frame ≡ framed (if_any a.log) →
+      Appends out0.written out1.written reply → Appends log0.written log1.written frame → out0.faults ≤ out1.faults → log0.faults ≤ log1.faults →
+      HasTurned s show old new opened open before after c out0 out1 log0 log1 (Ok tt)
+  turned a reply frame out0 out1 log0 log1 did is_reply is_frame put framed_put out_later log_later = record {
+    going = did.going;
+    head = did.head;
+    metric = did.metric;
+    tells = did.tells;
+    later = did.later;
+    out_later = out_later;
+    log_later = log_later;
+    numbers = did.numbers;
+    cause = tt;
+    put = λ sound. let taken = did.taken sound in record {
+      turn = taken.turn;
+      is = taken.is;
+      command = taken.command;
+      state = taken.state;
+      file = taken.file;
+      written = subst (λ (bytes : List ℕ). Appends out0.written out1.written bytes) (is_reply ∙ taken.same_text) put;
+      logged = subst (λ (bytes : List ℕ). Appends log0.written log1.written bytes) (is_frame ∙ ap (λ (log : Option Log). framed (if_any log)) (sym taken.log)) framed_put;
+      moments = taken.moments;
+    };
+    stopped = λ sound. tt;
+    moments = λ sound. tt;
+  }
+
+  -- an output failed
+  pub turned_cut : (a : Answer) (reply frame : List ℕ) (out0 out1 log0 log1 : SinkState) → HasStepped s show old new opened open before after c (Ok a) → reply ≡ text show a.reply → frame ≡ framed (if_any a.log) →
+      AppendsPrefix out0.written out1.written reply → AppendsPrefix log0.written log1.written frame → out0.faults ≤ out1.faults → log0.faults ≤ log1.faults →
+      Rose out0.faults out1.faults ⊎ Rose log0.faults log1.faults → HasTurned s show old new opened open before after c out0 out1 log0 log1 (Err stop.Sink)
+  turned_cut a reply frame out0 out1 log0 log1 did is_reply is_frame put framed_put out_later log_later rose = record {
+    going = tt;
+    head = tt;
+    metric = tt;
+    tells = did.tells;
+    later = did.later;
+    out_later = out_later;
+    log_later = log_later;
+    numbers = did.numbers;
+    cause = rose;
+    put = λ sound. tt;
+    stopped = λ sound. let taken = did.taken sound in record {
+      turn = taken.turn;
+      is = taken.is;
+      command = taken.command;
+      written = subst (λ (bytes : List ℕ). AppendsPrefix out0.written out1.written bytes) (is_reply ∙ taken.same_text) put;
+      logged = subst (λ (bytes : List ℕ). AppendsPrefix log0.written log1.written bytes) (is_frame ∙ ap (λ (log : Option Log). framed (if_any log)) (sym taken.log)) framed_put;
+    };
+    moments = λ sound. taken_moments a (did.taken sound);
+  }

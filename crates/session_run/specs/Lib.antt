@@ -1,0 +1,4 @@
+pub mod Turns
+pub mod Session
+pub mod Steps
+pub mod Laws

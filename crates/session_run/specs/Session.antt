@@ -1,0 +1,105 @@
+-- What a session of commands on an index does and writes, and what a crash in it may leave.
+use Rattle.std.specs.Prelude.{◌≡◌, ◌⊎◌, ℕ, Bool, List, [], ◌∷◌, ◌++◌, length, Option, Some, None, MatchOption}
+use Rattle.std.specs.List.{concat}
+use Rattle.std.specs.Io.KnownBytes.{Appends}
+use Rattle.metric_laws.specs.Space.{Space}
+use Rattle.outside_io.specs.Causes.{Rose}
+use Rattle.outside_io.specs.Sinks.{SinkState}
+use Rattle.disk_model.specs.Disk.{DiskState, MayLeave, EachImage}
+use Rattle.node_page.specs.declared.head.Head.{Head}
+use Rattle.page_store.specs.declared.pages.PageFault.{PageFault}
+use Rattle.page_store.specs.declared.pages.PageFault.TheVariants as page
+use Rattle.rows_text.specs.declared.command.Command.{Command}
+use Rattle.rows_text.specs.Meaning.{Setting, State, step}
+use Rattle.rows_text.specs.Texts.{text}
+use Rattle.plain_scan.specs.OpenCursors.{OpenCursors, with_cursors}
+use Rattle.plain_scan.specs.Written.{IsFrontOf}
+use Rattle.index_core.specs.Answers.{points_on, tags_on}
+use Rattle.index_core.specs.Files.{OpenFile}
+use Rattle.index_core.specs.Writing.{HoldsObjects}
+use Rattle.session_run.specs.declared.stop.Stop.{Stop}
+use Rattle.session_run.specs.declared.stop.Stop.TheVariants as stop
+use Rattle.session_run.specs.Turns.{Turn, Version, AreTurns, IsTurn, commands_of, file_after, framed, if_any, logs_of, state_after, texts_of}
+
+-- the points of the index's space, and how many objects it may have
+abbrev pub setting_of : {M : Type 0} → Space → OpenFile M → Setting
+setting_of s file = record { space = s; limit = file.head.limit }
+
+-- the objects of the index with these open cursors
+abbrev pub state_on : {M : Type 0} → OpenFile M → DiskState → OpenCursors → State
+state_on file disk open = with_cursors (record { points = points_on file disk; tags = tags_on file disk }) open
+
+-- no cursor is open
+abbrev pub no_cursors : OpenCursors
+no_cursors = record { cursors = []; next = 0 }
+
+-- ---- what a crash leaves
+
+-- the file is sound and has the objects of this state
+abbrev pub HoldsState : Space → Head → State → List ℕ → Type 0
+HoldsState s head state image = HoldsObjects s head state.objects.points state.objects.tags image
+
+-- the objects after the next command, if there is one
+abbrev pub HoldsNext : Setting → Head → State → List Command → List ℕ → Type 0
+HoldsNext setting head state [] image = ⊥
+HoldsNext setting head state (c ∷ more) image = HoldsState setting.space head (step setting state c).state image
+
+-- the objects after the first of these turns, for some number of them
+abbrev pub HoldsSome : Setting → Head → State → List Turn → List ℕ → Type 0
+HoldsSome setting head state [] image = HoldsState setting.space head state image
+HoldsSome setting head state (t ∷ turns) image = HoldsState setting.space head state image ⊎ HoldsSome setting head t.state turns image
+
+-- ---- what is written
+
+-- The command after the acknowledged ones was carried out, and a front of its log's frame and of its reply was put.
+pub record IsCutShort (setting : Setting) (head : Head) (show : Bool) (state : State) (file : Version) (more : List Command) (rest log_rest : List ℕ) : Type 0 where
+  pub turn : Turn
+  pub others : List Command
+  pub is : IsTurn setting head state file turn
+  pub next : more ≡ turn.command ∷ others
+  pub front : IsFrontOf rest (text show turn.reply)
+  pub log_front : IsFrontOf log_rest (framed (if_any turn.log))
+
+-- how a session ends after the acknowledged commands: with no command left; or an output failed in the next command's frame or reply;
+-- or it was stopped before anything of them was put
+abbrev pub Ends : Setting → Head → Bool → State → Version → List Command → Option Stop → List ℕ → List ℕ → Type 0
+Ends setting head show state file more None rest log_rest = (more ≡ []) × (rest ≡ []) × (log_rest ≡ [])
+Ends setting head show state file more (Some stop.Sink) rest log_rest = IsCutShort setting head show state file more rest log_rest
+Ends setting head show state file more (Some why) rest log_rest = (rest ≡ []) × (log_rest ≡ [])
+
+-- What a session of these commands does on a sound file. The first commands are acknowledged: each is a turn, whose reply is put
+-- whole, and before it the frame of its log. At every moment a crash leaves the objects after some of them, or after one command
+-- more; at the end those after all acknowledged ones, or after one command more.
+pub record HasRun (setting : Setting) (head : Head) (show : Bool) (commands : List Command) (state : State) (file : Version)
+    (disk0 disk1 : DiskState) (out0 out1 log0 log1 : SinkState) (acknowledged : ℕ) (stopped : Option Stop) (left : Version) : Type 0 where
+  pub turns : List Turn
+  pub more : List Command
+  pub rest : List ℕ
+  pub log_rest : List ℕ
+  pub whole : commands ≡ commands_of turns ++ more
+  pub are : AreTurns setting head state file turns
+  pub count : acknowledged ≡ length turns
+  pub ends : Ends setting head show (state_after state turns) (file_after file turns) more stopped rest log_rest
+  pub written : Appends out0.written out1.written (concat (texts_of show turns) ++ rest)
+  pub logged : Appends log0.written log1.written (framed (logs_of turns) ++ log_rest)
+  pub last : stopped ≡ None → left ≡ file_after file turns
+  pub moments : EachImage disk0 disk1 (λ image. HoldsSome setting head state turns image ⊎ HoldsNext setting head (state_after state turns) more image)
+  pub remains : (image : List ℕ) → MayLeave disk1 image →
+      HoldsState setting.space head (state_after state turns) image ⊎ HoldsNext setting head (state_after state turns) more image
+
+-- ---- why it stops
+
+-- a page is damaged: it holds no node, or is none of the file's, or is reached twice, or stands at another level than its depth asks for
+abbrev pub IsDamage : PageFault → Type 0
+IsDamage (page.Bad p fault) = Unit {0}
+IsDamage (page.Outside p) = Unit {0}
+IsDamage (page.Repeats p) = Unit {0}
+IsDamage (page.Level p) = Unit {0}
+IsDamage _ = ⊥
+
+-- Why a session stops: an output failed; the disk failed; a page is damaged, of a file that was not sound; or memory ran out.
+abbrev pub HasStopCause : Type 0 → DiskState → DiskState → SinkState → SinkState → SinkState → SinkState → Stop → Type 0
+HasStopCause Sound disk0 disk1 out0 out1 log0 log1 stop.Sink = Rose out0.faults out1.faults ⊎ Rose log0.faults log1.faults
+HasStopCause Sound disk0 disk1 out0 out1 log0 log1 stop.Disk = Rose disk0.faults disk1.faults
+HasStopCause Sound disk0 disk1 out0 out1 log0 log1 (stop.Damaged fault) = IsDamage fault × ¬ Sound
+HasStopCause Sound disk0 disk1 out0 out1 log0 log1 stop.Memory = Unit {0}

@@ -1,0 +1,140 @@
+-- What one command of a session does.
+use Rattle.std.specs.Prelude.{◌≡◌, ◌⊎◌, ℕ, ◌+◌, ◌≤◌, List, length, Bool, true, false, IsTrue, Option, Some, None, MatchOption, Result, Ok, Err, IfOk, IfErr, OnOk, OnErr}
+use Rattle.metric_laws.specs.Space.{Space}
+use Rattle.std.specs.Io.KnownBytes.{Appends}
+use Rattle.outside_io.specs.Bytes.{AppendsPrefix}
+use Rattle.outside_io.specs.Causes.{Rose}
+use Rattle.outside_io.specs.Sinks.{SinkState}
+use Rattle.disk_model.specs.Disk.{DiskState, EachImage}
+use Rattle.rows_text.specs.declared.command.Command.{Command}
+use Rattle.rows_text.specs.declared.refusal.Refusal.TheVariants as refusal
+use Rattle.rows_text.specs.declared.reply.Reply.{Reply}
+use Rattle.rows_text.specs.declared.reply.Reply.TheVariants as reply
+use Rattle.node_page.specs.declared.head.Head.{Head}
+use Rattle.rows_text.specs.Meaning.{State, TagsAre, step}
+use Rattle.rows_text.specs.Texts.{text}
+use Rattle.plain_scan.specs.OpenCursors.{OpenCursors}
+use Rattle.log_model.specs.declared.logs.Found.{Found}
+use Rattle.log_model.specs.Grammar.{IsLawfulLog}
+use Rattle.hit_tags.specs.Tags.{IsShown, object_tags}
+use Rattle.index_core.specs.Answers.{IsSoundOn}
+use Rattle.index_core.specs.Files.{OpenFile, nodes_on}
+use Rattle.index_core.specs.Index.{OpenIndex}
+use Rattle.index_core.specs.declared.faults.IndexFault.{IndexFault}
+use Rattle.index_core.specs.declared.faults.IndexFault.TheVariants as fault
+use Rattle.session_run.specs.declared.answer.Answer.{Answer}
+use Rattle.session_run.specs.declared.stop.Stop.{Stop}
+use Rattle.session_run.specs.declared.stop.Stop.TheVariants as stop
+use Rattle.session_run.specs.Turns.{Turn, IsTurn, framed, if_any, version_on}
+use Rattle.session_run.specs.Session.{HasStopCause, HoldsState, IsDamage, setting_of, state_on}
+
+-- an answer without a log
+abbrev pub plain_answer : Reply → Answer
+plain_answer r = record { reply = r; log = None }
+
+-- what the index's refusal is to a session: a reply, or its end
+abbrev pub answer_of_fault : IndexFault → Result Answer Stop
+answer_of_fault fault.Full = Ok (plain_answer (reply.Refused refusal.Full))
+answer_of_fault fault.NotEmpty = Ok (plain_answer (reply.Refused refusal.NotEmpty))
+answer_of_fault (fault.NoRoom pages needed) = Ok (plain_answer (reply.Refused refusal.NoRoom))
+answer_of_fault fault.Worn = Ok (plain_answer (reply.Refused refusal.Worn))
+answer_of_fault fault.Disk = Err stop.Disk
+answer_of_fault fault.Commit = Err stop.Disk
+answer_of_fault fault.Stopped = Err stop.Disk
+answer_of_fault (fault.Damaged page) = Err (stop.Damaged page)
+answer_of_fault fault.Memory = Err stop.Memory
+
+-- what a write is answered
+abbrev pub written_answer : (ℕ → Reply) → Result ℕ IndexFault → Result Answer Stop
+written_answer says (Ok n) = Ok (plain_answer (says n))
+written_answer says (Err why) = answer_of_fault why
+
+-- why a command ends the session
+abbrev pub HasStepCause : Type 0 → DiskState → DiskState → Stop → Type 0
+HasStepCause Sound before after stop.Disk = Rose before.faults after.faults
+HasStepCause Sound before after (stop.Damaged page) = IsDamage page × ¬ Sound
+HasStepCause Sound before after stop.Memory = Unit {0}
+HasStepCause Sound before after stop.Sink = ⊥
+
+-- the file is sound and has the objects of one of two states
+abbrev pub HoldsOne : Space → Head → State → State → List ℕ → Type 0
+HoldsOne s head first second image = HoldsState s head first image ⊎ HoldsState s head second image
+
+-- the objects from before a command, or those after it
+abbrev pub HoldsEither : {M : Type 0} → Space → OpenFile M → DiskState → OpenCursors → Command → List ℕ → Type 0
+HoldsEither s file disk open c image = HoldsOne s file.head (state_on file disk open) (step (setting_of s file) (state_on file disk open) c).state image
+
+-- What a command did on a sound file is a turn, whose reply has the text of the answer's; a crash within it leaves the objects before
+-- or after.
+pub record IsTaken {M : Type 0} (s : Space) (show : Bool) (old new : OpenFile M) (opened open : OpenCursors) (before after : DiskState) (c : Command) (answer : Answer) : Type 0 where
+  pub turn : Turn
+  pub is : IsTurn (setting_of s old) old.head (state_on old before opened) (version_on old before) turn
+  pub command : turn.command ≡ c
+  pub state : turn.state ≡ state_on new after open
+  pub file : turn.file ≡ version_on new after
+  pub log : turn.log ≡ answer.log
+  pub same_text : text show answer.reply ≡ text show turn.reply
+  pub moments : EachImage before after (HoldsOne s old.head (state_on old before opened) turn.state)
+
+-- What one command does. On a sound file it is a turn; where it ends the session, a crash leaves the objects before or after.
+pub record HasStepped {M : Type 0} (s : Space) (show : Bool) (old new : OpenIndex M) (opened open : OpenCursors) (before after : DiskState) (c : Command) (result : Result Answer Stop) : Type 0 where
+  pub going : OnOk result (new.stopped ≡ false)
+  pub head : OnOk result (new.file.head ≡ old.file.head)
+  pub metric : OnOk result (new.file.metric ≡ old.file.metric)
+  pub tells : after.tells ≡ before.tells
+  pub later : before.faults ≤ after.faults
+  pub numbers : open.next ≤ opened.next + 1
+  pub spelled : IfOk result (λ a. MatchOption a.log (Unit {0}) IsLawfulLog)
+  pub tagged : IfOk result (λ a. show ≡ true → TagsAre a.reply)
+  pub cause : IfErr result (HasStepCause (IsSoundOn s old.file before) before after)
+  pub taken : IsSoundOn s old.file before → IfOk result (IsTaken s show old.file new.file opened open before after c)
+  pub moments : IsSoundOn s old.file before → OnErr result (EachImage before after (HoldsEither s old.file before opened c))
+
+-- what was found is answered with its tags, where they are shown, and with its log
+pub record IsShownAs {M : Type 0} (s : Space) (show : Bool) (file : OpenFile M) (found : Found) (disk : DiskState) (answer : Answer) : Type 0 where
+  pub tags : List ℕ
+  pub is : answer ≡ record { reply = reply.Hits found.hits tags; log = Some found.log }
+  pub each : show ≡ true → length tags ≡ length found.hits
+  pub objects : show ≡ true → IsTrue disk.tells → IsShown s (nodes_on file disk) file.live found → tags ≡ object_tags (nodes_on file disk) file.live found
+
+-- a turn was put: the reply's text, and before it the frame of its log
+pub record IsPut {M : Type 0} (s : Space) (show : Bool) (old new : OpenFile M) (opened open : OpenCursors) (before after : DiskState) (c : Command)
+    (out0 out1 log0 log1 : SinkState) : Type 0 where
+  pub turn : Turn
+  pub is : IsTurn (setting_of s old) old.head (state_on old before opened) (version_on old before) turn
+  pub command : turn.command ≡ c
+  pub state : turn.state ≡ state_on new after open
+  pub file : turn.file ≡ version_on new after
+  pub written : Appends out0.written out1.written (text show turn.reply)
+  pub logged : Appends log0.written log1.written (framed (if_any turn.log))
+  pub moments : EachImage before after (HoldsOne s old.head (state_on old before opened) turn.state)
+
+-- a front of them was put
+pub record IsPartlyPut {M : Type 0} (s : Space) (show : Bool) (old : OpenFile M) (opened : OpenCursors) (before : DiskState) (c : Command)
+    (out0 out1 log0 log1 : SinkState) : Type 0 where
+  pub turn : Turn
+  pub is : IsTurn (setting_of s old) old.head (state_on old before opened) (version_on old before) turn
+  pub command : turn.command ≡ c
+  pub written : AppendsPrefix out0.written out1.written (text show turn.reply)
+  pub logged : AppendsPrefix log0.written log1.written (framed (if_any turn.log))
+
+-- what stands on the outputs after a command at which the session stops
+abbrev pub IsStoppedAt : {M : Type 0} → Space → Bool → OpenFile M → OpenCursors → DiskState → Command → SinkState → SinkState → SinkState → SinkState → Stop → Type 0
+IsStoppedAt s show old opened before c out0 out1 log0 log1 stop.Sink = IsPartlyPut s show old opened before c out0 out1 log0 log1
+IsStoppedAt s show old opened before c out0 out1 log0 log1 why = (out1 ≡ out0) × (log1 ≡ log0)
+
+-- What one command does and writes.
+pub record HasTurned {M : Type 0} (s : Space) (show : Bool) (old new : OpenIndex M) (opened open : OpenCursors) (before after : DiskState) (c : Command)
+    (out0 out1 log0 log1 : SinkState) (result : Result (Unit {0}) Stop) : Type 0 where
+  pub going : OnOk result (new.stopped ≡ false)
+  pub head : OnOk result (new.file.head ≡ old.file.head)
+  pub metric : OnOk result (new.file.metric ≡ old.file.metric)
+  pub tells : after.tells ≡ before.tells
+  pub later : before.faults ≤ after.faults
+  pub out_later : out0.faults ≤ out1.faults
+  pub log_later : log0.faults ≤ log1.faults
+  pub numbers : open.next ≤ opened.next + 1
+  pub cause : IfErr result (HasStopCause (IsSoundOn s old.file before) before after out0 out1 log0 log1)
+  pub put : IsSoundOn s old.file before → OnOk result (IsPut s show old.file new.file opened open before after c out0 out1 log0 log1)
+  pub stopped : IsSoundOn s old.file before → IfErr result (IsStoppedAt s show old.file opened before c out0 out1 log0 log1)
+  pub moments : IsSoundOn s old.file before → OnErr result (EachImage before after (HoldsEither s old.file before opened c))

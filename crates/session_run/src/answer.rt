@@ -1,0 +1,62 @@
+ghost use Rattle.std.specs.Prelude.{◌≡◌, None};
+ghost use Rattle.session_run.specs.Steps.{answer_of_fault, plain_answer, written_answer};
+
+use crate::stop::Stop;
+use index_core::IndexFault;
+use log_model::Log;
+use rows_text::{Refusal, Reply};
+
+/// What a command is answered: the reply, and the log of a query.
+#[derive(Drop)]
+pub struct Answer {
+    /// The reply.
+    pub reply: Reply,
+
+    /// The log of a query that was answered.
+    pub log: Option<Log>,
+}
+
+impl Answer {
+    /// An answer without a log.
+    pub fn plain(reply: Reply) -> Self
+        ensures { result ≡ plain_answer reply }
+    {
+        Answer { reply, log: None }
+    }
+}
+
+/// What the index's refusal is to a session: a reply, or its end.
+pub fn answer_of_fault(fault: IndexFault) -> Result<Answer, Stop>
+    ensures { result ≡ answer_of_fault fault }
+{
+    let why = match fault {
+        IndexFault::Full => Refusal::Full,
+        IndexFault::NotEmpty => Refusal::NotEmpty,
+        IndexFault::NoRoom { .. } => Refusal::NoRoom,
+        IndexFault::Worn => Refusal::Worn,
+        IndexFault::Disk | IndexFault::Commit | IndexFault::Stopped => return Err(Stop::Disk),
+        IndexFault::Damaged(page) => return Err(Stop::Damaged(page)),
+        IndexFault::Memory => return Err(Stop::Memory),
+    };
+    Ok(Answer::plain(Reply::Refused(why)))
+}
+
+/// What an insert is answered.
+pub fn inserted(written: Result<u32, IndexFault>) -> Result<Answer, Stop>
+    ensures { result ≡ written_answer (λ id. Reply.Id id) written }
+{
+    match written {
+        Ok(id) => Ok(Answer::plain(Reply::Id(id))),
+        Err(fault) => answer_of_fault(fault),
+    }
+}
+
+/// What a load is answered.
+pub fn loaded(written: Result<u32, IndexFault>) -> Result<Answer, Stop>
+    ensures { result ≡ written_answer (λ count. Reply.Loaded count) written }
+{
+    match written {
+        Ok(count) => Ok(Answer::plain(Reply::Loaded(count))),
+        Err(fault) => answer_of_fault(fault),
+    }
+}

@@ -1,0 +1,82 @@
+// One command of a session.
+ghost use Rattle.std.specs.Prelude.{◌≡◌, ◌≤◌, ◌<◌, ◌+◌, ◌^◌, false, IsTrue};
+ghost use Rattle.rows_text.specs.Meaning.{has_points_of};
+ghost use Rattle.rows_text.specs.Readable.{IsReadable};
+ghost use Rattle.index_core.specs.Index.{MayGoOn};
+ghost use Rattle.session_run.specs.Steps.{HasStepped};
+
+use crate::answer::{Answer, inserted, loaded};
+use crate::queries::{nearest, open_cursor, range};
+use crate::stop::Stop;
+use disk_model::Disk;
+use index_core::Index;
+use metric_laws::Metric;
+use plain_scan::{Cursors, has_points_of};
+use rows_text::{Command, Refusal, Reply};
+use std::alloc::Global;
+use std::thread::Threads;
+
+// Does what a command asks for whose points are points of the space.
+fn execute<R: Threads + Sync, M: Metric, D: Disk>(
+    rt: &R,
+    alloc: Global,
+    index: &mut Index<M>,
+    cursors: &mut Cursors,
+    disk: &mut D,
+    show: bool,
+    command: Command,
+) -> Result<Answer, Stop>
+    requires going { index.old.stopped ≡ false }
+    requires stands { MayGoOn index.old (D.state disk.old) }
+    requires numbers { cursors.old.next + 1 < 2 ^ 32 }
+    requires readable { IsReadable (M.space index.old.file.metric).words command }
+    requires points { IsTrue (has_points_of (M.space index.old.file.metric) command) }
+    ensures stands { MayGoOn index.new (D.state disk.new) }
+    ensures stepped { HasStepped (M.space index.old.file.metric) show index.old index.new cursors.old cursors.new (D.state disk.old) (D.state disk.new) command result }
+{
+    index.is_lawful();
+    match command {
+        Command::Insert(p) => inserted(index.insert(alloc, disk, p.as_slice())),
+        Command::TagInsert { tag, p } => {
+            inserted(index.insert_tagged(alloc, disk, p.as_slice(), tag))
+        }
+        Command::Load(rows) => loaded(index.load(rt, alloc, disk, &rows)),
+        Command::TagLoad { tags, rows } => {
+            loaded(index.load_tagged(rt, alloc, disk, &rows, tags.as_slice()))
+        }
+        Command::Range { r, q } => range(alloc, index, disk, show, &q, r),
+        Command::Nearest { k, q } => nearest(alloc, index, disk, show, &q, k),
+        Command::Count => Ok(Answer::plain(Reply::Count(index.count()))),
+        Command::Bad(why) => Ok(Answer::plain(Reply::Refused(why))),
+        Command::Cursor(q) => open_cursor(alloc, index, cursors, disk, show, &q),
+        Command::Next { cursor, n } => match cursors.advance(alloc, cursor, n) {
+            Ok(reply) => Ok(Answer::plain(reply)),
+            Err(_) => Err(Stop::Memory),
+        },
+        Command::Close(cursor) => Ok(Answer::plain(cursors.close(cursor))),
+    }
+}
+
+/// Does what a command asks for. A command with a point that is none of the space is refused.
+pub fn step<R: Threads + Sync, M: Metric, D: Disk>(
+    rt: &R,
+    alloc: Global,
+    index: &mut Index<M>,
+    cursors: &mut Cursors,
+    disk: &mut D,
+    show: bool,
+    command: Command,
+) -> Result<Answer, Stop>
+    requires going { index.old.stopped ≡ false }
+    requires stands { MayGoOn index.old (D.state disk.old) }
+    requires numbers { cursors.old.next + 1 < 2 ^ 32 }
+    requires readable { IsReadable (M.space index.old.file.metric).words command }
+    ensures stands { MayGoOn index.new (D.state disk.new) }
+    ensures stepped { HasStepped (M.space index.old.file.metric) show index.old index.new cursors.old cursors.new (D.state disk.old) (D.state disk.new) command result }
+{
+    index.is_lawful();
+    if !has_points_of(&index.metric(), &command) {
+        return Ok(Answer::plain(Reply::Refused(Refusal::Unfit)));
+    }
+    execute(rt, alloc, index, cursors, disk, show, command)
+}

@@ -1,0 +1,15 @@
+//! A session of commands on an index: every reply is the plain scan's, and every query's log is put before its reply.
+#![tactic(auto)]
+
+mod answer;
+mod commands;
+pub mod laws;
+mod queries;
+mod session;
+mod stop;
+
+pub use session::{Ended, session};
+pub use stop::Stop;
+
+/// Want of memory.
+pub type Memory = std::alloc::AllocError;

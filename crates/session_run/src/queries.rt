@@ -1,0 +1,132 @@
+// The commands of a session that read: queries, and the opening of a cursor.
+ghost use Rattle.std.specs.Prelude.{◌≡◌, ◌≤◌, ◌<◌, ◌+◌, ◌^◌, true, false, IsTrue, IfOk, IfErr};
+ghost use Rattle.rows_text.specs.declared.command.Command.TheVariants as command;
+ghost use Rattle.plain_scan.specs.OpenCursors.{OpenCursors};
+ghost use Rattle.index_core.specs.Answers.{IsSoundOn};
+ghost use Rattle.index_core.specs.Files.{OnlyReads};
+ghost use Rattle.index_core.specs.Index.{MayGoOn};
+ghost use Rattle.session_run.specs.Steps.{HasStepCause, HasStepped, IsShownAs};
+
+use crate::answer::{Answer, answer_of_fault};
+use crate::stop::Stop;
+use disk_model::Disk;
+use index_core::{Index, IndexFault};
+use log_model::Found;
+use metric_laws::{Listed, Metric, Point};
+use plain_scan::Cursors;
+use rows_text::{Refusal, Reply};
+use std::alloc::Global;
+
+// The hits that were found, with their tags where they are shown, and their log.
+fn found_answer<M: Metric, D: Disk>(
+    alloc: Global,
+    index: &mut Index<M>,
+    disk: &mut D,
+    show: bool,
+    found: Found,
+) -> Result<Answer, Stop>
+    requires going { index.old.stopped ≡ false }
+    requires stands { MayGoOn index.old (D.state disk.old) }
+    ensures stands { MayGoOn index.new (D.state disk.new) }
+    ensures reads { OnlyReads index.old.file index.new.file (D.state disk.old) (D.state disk.new) }
+    ensures rest { index.new ≡ record index.old { file = index.new.file } }
+    ensures answer { IfOk result (IsShownAs (M.space index.old.file.metric) show index.old.file found (D.state disk.old)) }
+    ensures cause { IfErr result (HasStepCause (IsSoundOn (M.space index.old.file.metric) index.old.file (D.state disk.old)) (D.state disk.old) (D.state disk.new)) }
+{
+    let mut tags = Vec::new(alloc);
+    if show {
+        tags = match index.tags(alloc, disk, &found) {
+            Ok(tags) => tags,
+            Err(fault) => return answer_of_fault(fault),
+        };
+    }
+    Ok(Answer {
+        reply: Reply::Hits {
+            hits: found.hits,
+            tags: Listed::new(tags),
+        },
+        log: Some(found.log),
+    })
+}
+
+/// Every object within `r` of `q`.
+pub fn range<M: Metric, D: Disk>(
+    alloc: Global,
+    index: &mut Index<M>,
+    disk: &mut D,
+    show: bool,
+    q: &Point,
+    r: u64,
+) -> Result<Answer, Stop>
+    requires going { index.old.stopped ≡ false }
+    requires stands { MayGoOn index.old (D.state disk.old) }
+    requires point { IsTrue ((M.space index.old.file.metric).fits q.now) }
+    ensures stands { MayGoOn index.new (D.state disk.new) }
+    ensures stepped { (open : OpenCursors) →
+        HasStepped (M.space index.old.file.metric) show index.old index.new open open (D.state disk.old) (D.state disk.new) (command.Range r q.now) result }
+{
+    index.is_lawful();
+    match index.range(alloc, disk, q.as_slice(), r) {
+        Ok(found) => found_answer(alloc, index, disk, show, found),
+        Err(fault) => answer_of_fault(fault),
+    }
+}
+
+/// The `k` objects nearest to `q`.
+pub fn nearest<M: Metric, D: Disk>(
+    alloc: Global,
+    index: &mut Index<M>,
+    disk: &mut D,
+    show: bool,
+    q: &Point,
+    k: u64,
+) -> Result<Answer, Stop>
+    requires going { index.old.stopped ≡ false }
+    requires stands { MayGoOn index.old (D.state disk.old) }
+    requires point { IsTrue ((M.space index.old.file.metric).fits q.now) }
+    requires some { 1 ≤ k }
+    ensures stands { MayGoOn index.new (D.state disk.new) }
+    ensures stepped { (open : OpenCursors) →
+        HasStepped (M.space index.old.file.metric) show index.old index.new open open (D.state disk.old) (D.state disk.new) (command.Nearest k q.now) result }
+{
+    index.is_lawful();
+    match index.nearest(alloc, disk, q.as_slice(), k) {
+        Ok(found) => found_answer(alloc, index, disk, show, found),
+        Err(fault) => answer_of_fault(fault),
+    }
+}
+
+/// Opens a cursor over all objects, from the one nearest to `q` on.
+pub fn open_cursor<M: Metric, D: Disk>(
+    alloc: Global,
+    index: &mut Index<M>,
+    cursors: &mut Cursors,
+    disk: &mut D,
+    show: bool,
+    q: &Point,
+) -> Result<Answer, Stop>
+    requires going { index.old.stopped ≡ false }
+    requires stands { MayGoOn index.old (D.state disk.old) }
+    requires point { IsTrue ((M.space index.old.file.metric).fits q.now) }
+    requires numbers { cursors.old.next + 1 < 2 ^ 32 }
+    ensures stands { MayGoOn index.new (D.state disk.new) }
+    ensures stepped { HasStepped (M.space index.old.file.metric) show index.old index.new cursors.old cursors.new (D.state disk.old) (D.state disk.new) (command.Cursor q.now) result }
+{
+    index.is_lawful();
+    if cursors.is_full() {
+        return Ok(Answer::plain(Reply::Refused(Refusal::Cursors)));
+    }
+    let all = u64::from(index.count().max(1));
+    let found = match index.nearest(alloc, disk, q.as_slice(), all) {
+        Ok(found) => found,
+        Err(fault) => return answer_of_fault(fault),
+    };
+    let tags = match index.tags(alloc, disk, &found) {
+        Ok(tags) => tags,
+        Err(fault) => return answer_of_fault(fault),
+    };
+    match cursors.open(found.hits.into_vec(), tags) {
+        Ok(number) => Ok(Answer::plain(Reply::Cursor(number))),
+        Err(_) => Err(Stop::Memory),
+    }
+}

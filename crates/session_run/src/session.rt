@@ -1,0 +1,177 @@
+ghost use Rattle.std.specs.Prelude.{◌≡◌, ◌≤◌, ◌<◌, ◌+◌, ◌^◌, ◌⊎◌, length, false, true, All, IfOk, IfErr, OnOk, OnErr, MatchOption, None};
+ghost use Rattle.std.specs.Io.KnownBytes.{Appends};
+ghost use Rattle.outside_io.specs.Bytes.{AppendsPrefix};
+ghost use Rattle.outside_io.specs.Causes.{Rose};
+ghost use Rattle.rows_text.specs.Meaning.{TagsAre};
+ghost use Rattle.rows_text.specs.Readable.{IsReadable};
+ghost use Rattle.rows_text.specs.Texts.{text};
+ghost use Rattle.log_model.specs.Grammar.{IsLawfulLog};
+ghost use Rattle.index_core.specs.Answers.{IsSoundOn};
+ghost use Rattle.index_core.specs.Index.{MayGoOn};
+ghost use Rattle.session_run.specs.Session.{HasRun, HasStopCause, no_cursors, setting_of, state_on};
+ghost use Rattle.session_run.specs.Steps.{HasTurned};
+ghost use Rattle.session_run.specs.Turns.{framed, if_any, version_on};
+
+use crate::Memory;
+use crate::answer::Answer;
+use crate::commands::step;
+use crate::stop::Stop;
+use disk_model::Disk;
+use index_core::Index;
+use metric_laws::Metric;
+use outside_io::Sink;
+use plain_scan::Cursors;
+use prune_log::{encode_log, frame};
+use rows_text::{Command, reply_text};
+use std::alloc::Global;
+use std::thread::Threads;
+
+/// How a session ended.
+#[derive(Clone, Copy, Debug, PartialEq, Eq)]
+pub struct Ended {
+    /// How many commands were acknowledged: each has its reply written whole.
+    pub acknowledged: u64,
+
+    /// Why it ended before its script did.
+    pub stopped: Option<Stop>,
+}
+
+// What is written for a command: the text of its reply, and the frame of its log, which is empty where there is none.
+#[derive(Drop)]
+struct Texts {
+    reply: Vec<u8>,
+    frame: Vec<u8>,
+}
+
+fn texts_of(alloc: Global, answer: &Answer, show: bool) -> Result<Texts, Memory>
+    requires spelled { MatchOption answer.now.log (Unit {0}) IsLawfulLog }
+    requires tagged { show ≡ true → TagsAre answer.now.reply }
+    ensures reply { IfOk result (λ texts. texts.reply.items ≡ text show answer.now.reply) }
+    ensures frame { IfOk result (λ texts. texts.frame.items ≡ framed (if_any answer.now.log)) }
+{
+    let mut reply = Vec::new(alloc);
+    reply_text(&answer.reply, show, &mut reply)?;
+    let mut framed = Vec::new(alloc);
+    if let Some(log) = &answer.log {
+        let bytes = encode_log(alloc, log)?;
+        frame(&bytes, &mut framed)?;
+    }
+    Ok(Texts {
+        reply,
+        frame: framed,
+    })
+}
+
+// Puts the frame of a log, where there is one, and then the text of the reply.
+fn put_texts<K: Sink, T: Sink>(texts: &Texts, out: &mut K, log_out: &mut T) -> Result<(), Stop>
+    ensures reply { OnOk result (Appends (K.state out.old).written (K.state out.new).written texts.now.reply.items) }
+    ensures frame { OnOk result (Appends (T.state log_out.old).written (T.state log_out.new).written texts.now.frame.items) }
+    ensures reply_front { OnErr result (AppendsPrefix (K.state out.old).written (K.state out.new).written texts.now.reply.items) }
+    ensures frame_front { OnErr result (AppendsPrefix (T.state log_out.old).written (T.state log_out.new).written texts.now.frame.items) }
+    ensures sink { IfErr result (λ why. why ≡ Stop.Sink) }
+    ensures rose { OnErr result (Rose (K.state out.old).faults (K.state out.new).faults ⊎ Rose (T.state log_out.old).faults (T.state log_out.new).faults) }
+    ensures later { (K.state out.old).faults ≤ (K.state out.new).faults }
+    ensures log_later { (T.state log_out.old).faults ≤ (T.state log_out.new).faults }
+{
+    if !texts.frame.is_empty() && log_out.put(&texts.frame).is_err() {
+        return Err(Stop::Sink);
+    }
+    match out.put(&texts.reply) {
+        Ok(()) => Ok(()),
+        Err(_) => Err(Stop::Sink),
+    }
+}
+
+// Does one command, and writes the frame of its log and its reply.
+fn turn<R: Threads + Sync, M: Metric, D: Disk, K: Sink, T: Sink>(
+    rt: &R,
+    alloc: Global,
+    index: &mut Index<M>,
+    cursors: &mut Cursors,
+    disk: &mut D,
+    show: bool,
+    command: Command,
+    out: &mut K,
+    log_out: &mut T,
+) -> Result<(), Stop>
+    requires going { index.old.stopped ≡ false }
+    requires stands { MayGoOn index.old (D.state disk.old) }
+    requires numbers { cursors.old.next + 1 < 2 ^ 32 }
+    requires readable { IsReadable (M.space index.old.file.metric).words command }
+    ensures stands { MayGoOn index.new (D.state disk.new) }
+    ensures turned { HasTurned (M.space index.old.file.metric) show index.old index.new cursors.old cursors.new (D.state disk.old) (D.state disk.new) command
+        (K.state out.old) (K.state out.new) (T.state log_out.old) (T.state log_out.new) result }
+{
+    index.is_lawful();
+    let answer = match step(rt, alloc, index, cursors, disk, show, command) {
+        Ok(answer) => answer,
+        Err(why) => return Err(why),
+    };
+    let texts = match texts_of(alloc, &answer, show) {
+        Ok(texts) => texts,
+        Err(_) => return Err(Stop::Memory),
+    };
+    put_texts(&texts, out, log_out)
+}
+
+/// Does each command of a script in turn on an index, and writes its reply to `out`, in one put and after its commit. A query
+/// that is answered has its log put to `log_out` before its reply, as one frame. A refusal doesn't end the session; the first
+/// fault does.
+///
+/// On a sound index each reply is that of a plain list, unless the file has no room or no further generation, each log is the
+/// least one, and a crash at any moment leaves the objects after some first commands, at the end at least those of the
+/// acknowledged ones.
+pub fn session<R: Threads + Sync, M: Metric, D: Disk, K: Sink, T: Sink>(
+    rt: &R,
+    alloc: Global,
+    index: &mut Index<M>,
+    disk: &mut D,
+    commands: Vec<Command>,
+    show: bool,
+    out: &mut K,
+    log_out: &mut T,
+) -> Ended
+    requires going { index.old.stopped ≡ false }
+    requires stands { MayGoOn index.old (D.state disk.old) }
+    requires few { length commands.items < 2 ^ 32 }
+    requires readable { All (IsReadable (M.space index.old.file.metric).words) commands.items }
+    ensures stands { MayGoOn index.new (D.state disk.new) }
+    ensures run { IsSoundOn (M.space index.old.file.metric) index.old.file (D.state disk.old) →
+        HasRun (setting_of (M.space index.old.file.metric) index.old.file) index.old.file.head show commands.items
+            (state_on index.old.file (D.state disk.old) no_cursors) (version_on index.old.file (D.state disk.old))
+            (D.state disk.old) (D.state disk.new) (K.state out.old) (K.state out.new) (T.state log_out.old) (T.state log_out.new)
+            result.acknowledged result.stopped (version_on index.new.file (D.state disk.new)) }
+    ensures going { result.stopped ≡ None → index.new.stopped ≡ false }
+    ensures cause { MatchOption result.stopped (Unit {0}) (HasStopCause (IsSoundOn (M.space index.old.file.metric) index.old.file (D.state disk.old))
+        (D.state disk.old) (D.state disk.new) (K.state out.old) (K.state out.new) (T.state log_out.old) (T.state log_out.new)) }
+    ensures tells { (D.state disk.new).tells ≡ (D.state disk.old).tells }
+    ensures later { (D.state disk.old).faults ≤ (D.state disk.new).faults }
+    ensures out_later { (K.state out.old).faults ≤ (K.state out.new).faults }
+    ensures log_later { (T.state log_out.old).faults ≤ (T.state log_out.new).faults }
+{
+    let mut cursors = Cursors::new(alloc);
+    let mut acknowledged = 0u64;
+    for command in commands {
+        if let Err(why) = turn(
+            rt,
+            alloc,
+            index,
+            &mut cursors,
+            disk,
+            show,
+            command,
+            out,
+            log_out,
+        ) {
+            return Ended {
+                acknowledged,
+                stopped: Some(why),
+            };
+        }
+        acknowledged += 1;
+    }
+    Ended {
+        acknowledged,
+        stopped: None,
+    }
+}
