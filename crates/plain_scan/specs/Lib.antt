@@ -1,2 +1,3 @@
+pub mod OpenCursors
 pub mod List
 pub mod Written

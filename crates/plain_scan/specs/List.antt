@@ -2,15 +2,12 @@
 use Rattle.std.specs.Prelude.{◌≡◌, ℕ, ◌≤◌, length, All, IsTrue}
 use Rattle.metric_laws.specs.Space.{Space}
 use Rattle.rows_text.specs.Meaning.{State}
+use Rattle.plain_scan.specs.OpenCursors.{with_cursors}
 use Rattle.plain_scan.specs.declared.list.PlainList.{PlainList}
 
 -- the objects and cursors of a list
 abbrev pub state_of : PlainList → State
-state_of list = record {
-  objects = record { points = list.rows.points; tags = list.tags.items };
-  cursors = list.cursors.items;
-  next = list.next;
-}
+state_of list = with_cursors (record { points = list.rows.points; tags = list.tags.items }) list.cursors
 
 -- a list of points of a space, no more than the limit, each with a tag
 pub record IsListOf (s : Space) (limit : ℕ) (list : PlainList) : Type 0 where

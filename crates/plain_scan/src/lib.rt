@@ -2,11 +2,14 @@
 #![tactic(auto)]
 
 mod cursor;
+mod cursors;
 mod list;
 mod points;
 mod session;
 
+pub use cursors::Cursors;
 pub use list::PlainList;
+pub use points::has_points_of;
 pub use session::{Scan, Stop, run_script};
 
 /// Want of memory.

@@ -1,26 +1,23 @@
-ghost use Rattle.std.specs.Prelude.{◌≡◌, ◌≤◌, ◌<◌, ◌+◌, ◌-◌, ◌^◌, length, map, option_map, IfOk, OnErr, IsTrue, All};
-ghost use Rattle.rows_text.specs.Meaning.{nothing_yet, insert_step, load_step, hits_reply, tags_of, cursor_step, cursor_named, next_from, close_from, advanced, execute, step, has_points_of, numbers_from, TagsAre};
+ghost use Rattle.std.specs.Prelude.{◌≡◌, ◌≤◌, ◌<◌, ◌+◌, ◌-◌, ◌^◌, length, IfOk, OnErr, IsTrue, All};
+ghost use Rattle.rows_text.specs.Meaning.{nothing_yet, insert_step, load_step, hits_reply, tags_of, cursor_step, execute, step, has_points_of, numbers_from, TagsAre};
 ghost use Rattle.rows_text.specs.Readable.{IsReadable};
 ghost use Rattle.scan_model.specs.Scan.{nearest_hits};
 ghost use Rattle.plain_scan.specs.List.{state_of, IsListOf};
 
 use crate::Memory;
-use crate::cursor::OpenCursor;
+use crate::cursors::Cursors;
 use crate::points::has_points_of;
 use metric_laws::{Listed, Metric, Point, Rows};
 use rows_text::{Command, Refusal, Reply};
 use scan_model::{Hit, scan_nearest, scan_range};
 use std::alloc::Global;
 
-const MOST_CURSORS: usize = 16;
-
 /// The objects accepted so far, and the open cursors.
 #[derive(Debug, Drop)]
 pub struct PlainList {
     rows: Rows,
     tags: Vec<u64>,
-    cursors: Vec<OpenCursor>,
-    next: u32,
+    cursors: Cursors,
 }
 
 // The tags of objects that are their ids.
@@ -35,15 +32,6 @@ fn ids(alloc: Global, count: usize) -> Result<Vec<u64>, Memory>
     Ok(ids)
 }
 
-// The cursor of this number leaves out its next `n` hits.
-fn advance_cursors(cursors: &mut [OpenCursor], number: u32, n: u64)
-    ensures { cursors.new ≡ map (advanced number n) cursors.old }
-{
-    for cursor in cursors.iter_mut() {
-        cursor.advance(number, n);
-    }
-}
-
 impl PlainList {
     /// An empty list of points of `words` coordinates.
     pub fn new(alloc: Global, words: usize) -> Self
@@ -53,8 +41,7 @@ impl PlainList {
         PlainList {
             rows: Rows::new(alloc, words),
             tags: Vec::new(alloc),
-            cursors: Vec::new(alloc),
-            next: 0,
+            cursors: Cursors::new(alloc),
         }
     }
 
@@ -123,67 +110,19 @@ impl PlainList {
         requires few { length self.old.rows.points < 2 ^ 32 }
         requires points { All (λ p. IsTrue ((M.space metric.now).fits p)) self.old.rows.points }
         requires query { IsTrue ((M.space metric.now).fits q.now) }
-        requires numbers { self.old.next + 1 < 2 ^ 32 }
+        requires numbers { self.old.cursors.next + 1 < 2 ^ 32 }
         ensures ok { IfOk result (λ reply. cursor_step (M.space metric.now) (state_of self.old) q.now ≡ record { reply = reply; state = state_of self.new }) }
         ensures tagged { IfOk result TagsAre }
         ensures err { OnErr result (state_of self.new ≡ state_of self.old) }
         ensures rows { self.new.rows ≡ self.old.rows }
         ensures tags { self.new.tags ≡ self.old.tags }
     {
-        if self.cursors.len() >= MOST_CURSORS {
+        if self.cursors.is_full() {
             return Ok(Reply::Refused(Refusal::Cursors));
         }
         let hits = scan_nearest(alloc, metric, &self.rows, q, self.rows.len() as u64)?;
         let tags = self.tags_of(alloc, &hits)?;
-        let number = self.next;
-        self.cursors.reserve(1)?;
-        self.cursors
-            .push_reserved(OpenCursor::new(number, hits, tags));
-        self.next = number + 1;
-        Ok(Reply::Cursor(number))
-    }
-
-    // The open cursor of this number.
-    fn cursor_named(&self, number: u32) -> Option<&OpenCursor>
-        ensures { option_map (λ c. c.now) result ≡ cursor_named number (state_of self.now) }
-    {
-        self.cursors.iter().find(|cursor| cursor.number() == number)
-    }
-
-    // The next hits of a cursor.
-    fn advance(&mut self, alloc: Global, number: u32, n: u64) -> Result<Reply, Memory>
-        ensures ok { IfOk result (λ reply. next_from (state_of self.old) number n (cursor_named number (state_of self.old)) ≡ record { reply = reply; state = state_of self.new }) }
-        ensures tagged { IfOk result TagsAre }
-        ensures err { OnErr result (state_of self.new ≡ state_of self.old) }
-        ensures rows { self.new.rows ≡ self.old.rows }
-        ensures tags { self.new.tags ≡ self.old.tags }
-        ensures next { self.new.next ≡ self.old.next }
-    {
-        let Some(cursor) = self.cursor_named(number) else {
-            return Ok(Reply::Refused(Refusal::NoCursor));
-        };
-        let hits = cursor.next_hits(alloc, n)?;
-        let tags = cursor.next_tags(alloc, n)?;
-        advance_cursors(&mut self.cursors, number, n);
-        Ok(Reply::Next {
-            hits: Listed::new(hits),
-            tags: Listed::new(tags),
-        })
-    }
-
-    // Closes a cursor.
-    fn close(&mut self, number: u32) -> Reply
-        ensures step { close_from (state_of self.old) number (cursor_named number (state_of self.old)) ≡ record { reply = result; state = state_of self.new } }
-        ensures tagged { TagsAre result }
-        ensures rows { self.new.rows ≡ self.old.rows }
-        ensures tags { self.new.tags ≡ self.old.tags }
-        ensures next { self.new.next ≡ self.old.next }
-    {
-        if self.cursor_named(number).is_none() {
-            return Reply::Refused(Refusal::NoCursor);
-        }
-        self.cursors.retain(|cursor| cursor.number() != number);
-        Reply::Closed(number)
+        Ok(Reply::Cursor(self.cursors.open(hits, tags)?))
     }
 
     // Does what a command asks for whose points are points of the space.
@@ -196,14 +135,14 @@ impl PlainList {
     ) -> Result<Reply, Memory>
         requires list { IsListOf (M.space metric.now) limit self.old }
         requires limit { limit < 2 ^ 32 - 1 }
-        requires numbers { self.old.next + 1 < 2 ^ 32 }
+        requires numbers { self.old.cursors.next + 1 < 2 ^ 32 }
         requires readable { IsReadable (M.space metric.now).words command }
         requires points { IsTrue (has_points_of (M.space metric.now) command) }
         ensures ok { IfOk result (λ reply. execute (record { space = M.space metric.now; limit = limit }) (state_of self.old) command ≡ record { reply = reply; state = state_of self.new }) }
         ensures tagged { IfOk result TagsAre }
         ensures err { OnErr result (state_of self.new ≡ state_of self.old) }
         ensures list { IsListOf (M.space metric.now) limit self.new }
-        ensures numbers { self.new.next ≤ self.old.next + 1 }
+        ensures numbers { self.new.cursors.next ≤ self.old.cursors.next + 1 }
     {
         match command {
             Command::Insert(p) => {
@@ -227,8 +166,8 @@ impl PlainList {
             Command::Count => Ok(Reply::Count(self.rows.len() as u32)),
             Command::Bad(why) => Ok(Reply::Refused(why)),
             Command::Cursor(q) => self.open(alloc, metric, q.as_slice()),
-            Command::Next { cursor, n } => self.advance(alloc, cursor, n),
-            Command::Close(cursor) => Ok(self.close(cursor)),
+            Command::Next { cursor, n } => self.cursors.advance(alloc, cursor, n),
+            Command::Close(cursor) => Ok(self.cursors.close(cursor)),
         }
     }
 
@@ -242,13 +181,13 @@ impl PlainList {
     ) -> Result<Reply, Memory>
         requires list { IsListOf (M.space metric.now) limit self.old }
         requires limit { limit < 2 ^ 32 - 1 }
-        requires numbers { self.old.next + 1 < 2 ^ 32 }
+        requires numbers { self.old.cursors.next + 1 < 2 ^ 32 }
         requires readable { IsReadable (M.space metric.now).words command }
         ensures ok { IfOk result (λ reply. step (record { space = M.space metric.now; limit = limit }) (state_of self.old) command ≡ record { reply = reply; state = state_of self.new }) }
         ensures tagged { IfOk result TagsAre }
         ensures err { OnErr result (state_of self.new ≡ state_of self.old) }
         ensures list { IsListOf (M.space metric.now) limit self.new }
-        ensures numbers { self.new.next ≤ self.old.next + 1 }
+        ensures numbers { self.new.cursors.next ≤ self.old.cursors.next + 1 }
     {
         if !has_points_of(metric, &command) {
             return Ok(Reply::Refused(Refusal::Unfit));

@@ -9,7 +9,7 @@ loop-command-init g c =
     let empty = c.new-list.ensures.state in
     let points : c.new-list.result.rows.points ≡ [] = ap (λ (s : State). s.objects.points) empty in
     let tags : c.new-list.result.tags.items ≡ [] = ap (λ (s : State). s.objects.tags) empty in
-    let next : c.new-list.result.next ≡ 0 = ap (λ (s : State). s.next) empty in
+    let next : c.new-list.result.cursors.next ≡ 0 = ap (λ (s : State). s.next) empty in
     let all : c.into_iter-command-iterator.result.rest.items ≡ c.args.commands.items = search rules in
     record {
       wrote = rw (empty, all) (begun _ _);

@@ -15,6 +15,6 @@ invariant-loop-command g l = record {
       (map (text l.scan.show_tags) (replies (record { space = g.M.Metric.space l.scan.metric; limit = l.scan.limit }) (state_of l.list) l.command-iterator.rest.items));
   list : IsListOf (g.M.Metric.space l.scan.metric) l.scan.limit l.list;
   readable : All (IsReadable (g.M.Metric.space l.scan.metric).words) l.command-iterator.rest.items;
-  numbers : l.list.next + length l.command-iterator.rest.items < 2 ^ 32;
+  numbers : l.list.cursors.next + length l.command-iterator.rest.items < 2 ^ 32;
   later : (g.K.Sink.state l.fn.out).faults ≤ (g.K.Sink.state l.out).faults;
 }

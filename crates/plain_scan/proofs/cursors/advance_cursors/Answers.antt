@@ -1,6 +1,6 @@
 use Rattle.rows_text.specs.Meaning.{advanced}
 use Rattle.plain_scan.proofs.Mapped.{changed_more}
-use Rattle.plain_scan.proofs.list.advance_cursors.Goals as goal
+use Rattle.plain_scan.proofs.cursors.advance_cursors.Goals as goal
 
 pub loop-cursor-preserved : goal.loop-cursor-preserved
 loop-cursor-preserved c =

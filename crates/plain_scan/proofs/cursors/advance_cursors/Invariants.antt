@@ -1,7 +1,7 @@
 use Rattle.std.proofs.Common.{◌≡◌, ◌++◌, take, drop}
 use Rattle.std.specs.Prelude.{map}
 use Rattle.rows_text.specs.Meaning.{advanced}
-use Rattle.plain_scan.proofs.list.advance_cursors.Given as goal
+use Rattle.plain_scan.proofs.cursors.advance_cursors.Given as goal
 
 -- the cursors so far are done, and the others are as before
 abbrev pub invariant-loop-cursor : goal.invariant-loop-cursor
