@@ -6,10 +6,11 @@ use Rattle.metric_laws.specs.Space.{Space}
 use Rattle.outside_io.specs.Causes.{Rose}
 use Rattle.disk_model.specs.Disk.{DiskState}
 use Rattle.rows_text.specs.declared.command.Command.{Command}
+use Rattle.rows_text.specs.declared.command.Command.TheVariants as command
 use Rattle.rows_text.specs.declared.refusal.Refusal.TheVariants as refusal
 use Rattle.rows_text.specs.declared.reply.Reply.{Reply}
 use Rattle.rows_text.specs.declared.reply.Reply.TheVariants as reply
-use Rattle.rows_text.specs.Meaning.{Holdings, State, Step, insert_step, load_step, numbers_from, step, TagsAre}
+use Rattle.rows_text.specs.Meaning.{Holdings, State, Step, execute, has_points_of, insert_step, load_step, numbers_from, step, TagsAre}
 use Rattle.plain_scan.specs.OpenCursors.{OpenCursors, with_cursors}
 use Rattle.tree_shape.specs.Plain.{Object}
 use Rattle.tree_shape.specs.Tree.{objects}
@@ -27,7 +28,7 @@ use Rattle.index_core.specs.Loading.{HasLoadingCause, ids, load_fault}
 use Rattle.index_core.specs.Writing.{Write, Inserts, Loads, HasWritten}
 use Rattle.session_run.specs.Session.{IsDamage, setting_of, state_on}
 use Rattle.session_run.specs.Steps.{HasStepCause, HasStepped, answer_of_fault, written_answer}
-use Rattle.session_run.specs.Turns.{Hinders, answered_query, version_on, write_of}
+use Rattle.session_run.specs.Turns.{Hinders, answered_query, query_of, version_on, write_of}
 use Rattle.session_run.proofs.Writes.{IsWriteOf, write_stepped}
 
 -- ids from 0 on
@@ -51,7 +52,13 @@ walk_damage (page.Level p) is = absurd is
 walk_damage page.Disk is = absurd is
 walk_damage page.Memory is = absurd is
 
-module _ {M : Type 0} (s : Space) (show : Bool) (old new : OpenIndex M) (open : OpenCursors) (before after : DiskState) (c : Command) (lawful : IsLawfulFile s.words old.file) (alone : StandsAlone old before)
+few_of : (n count limit : ℕ) → n ≡ count → count ≤ limit → count ≢ limit → nat_lt n limit ≡ true
+few_of n count limit is most other = grind arith
+
+none_of : (n count limit : ℕ) → n ≡ count → count ≡ limit → nat_lt n limit ≡ false
+none_of n count limit is all = grind arith
+
+module _ {M : Type 0} (s : Space) (show : Bool) (old new : OpenIndex M) (cursors : OpenCursors) (before after : DiskState) (c : Command) (lawful : IsLawfulFile s.words old.file) (alone : StandsAlone old before)
     (going : old.stopped ≡ false) (told : after.tells ≡ before.tells) (later : before.faults ≤ after.faults) where
   pub count_is : length (points_on old.file before) ≡ old.file.live.count
   count_is = length-points (objects (nodes_on old.file before) old.file.live) 0 old.file.live.count
@@ -59,10 +66,13 @@ module _ {M : Type 0} (s : Space) (show : Bool) (old new : OpenIndex M) (open : 
   insert_cause : (o : Object) (why : IndexFault) → HasInsertCause s old o before after why → (IsSoundOn s old.file before → BlamesNoPage why) →
       IfErr (answer_of_fault why) (HasStepCause (IsSoundOn s old.file before) before after)
   insert_cause o fault.Disk cause undamaged = cause
-  insert_cause o (fault.Damaged f) cause undamaged = (elim cause [
-    | inl listed ↦ walk_damage f listed.1.0
-    | inr walked ↦ path_damage f walked.0
-  ], undamaged)
+  insert_cause o (fault.Damaged f) cause undamaged = (
+    elim cause [
+      | inl listed ↦ walk_damage f listed.1.0
+      | inr walked ↦ path_damage f walked.0
+    ],
+    undamaged,
+  )
   insert_cause o fault.Memory cause undamaged = tt
   insert_cause o fault.Full cause undamaged = tt
   insert_cause o fault.NotEmpty cause undamaged = absurd cause
@@ -81,10 +91,10 @@ module _ {M : Type 0} (s : Space) (show : Bool) (old new : OpenIndex M) (open : 
       IfErr result (HasInsertCause s old (record { id = old.file.live.count; tag = tag; point = point }) before after) →
       IfErr result (λ why. IsSoundOn s old.file before → BlamesNoPage why) →
       write_of old.file.live.count c ≡ Some (Inserts point tag) → answered_query s c ≡ None →
-      step (setting_of s old.file) (state_on old.file before open) c ≡ insert_step old.file.head.limit (state_on old.file before open) point tag →
-      HasStepped s show old new open open before after c (written_answer (λ id. reply.Id id) result)
+      step (setting_of s old.file) (state_on old.file before cursors) c ≡ insert_step old.file.head.limit (state_on old.file before cursors) point tag →
+      HasStepped s show old new cursors cursors before after c (written_answer (λ id. reply.Id id) result)
   insert_stepped point tag result written full worn cause undamaged writes unasked meaning =
-      write_stepped s show old new open before after c (Inserts point tag) (λ id. reply.Id id) lawful alone going result written (record {
+      write_stepped s show old new cursors before after c (Inserts point tag) (λ id. reply.Id id) lawful alone going result written (record {
         writes = writes;
         unasked = unasked;
         accepting = λ room filled. meaning ∙ accepted (few (λ e. room (full.1 e)));
@@ -100,27 +110,57 @@ module _ {M : Type 0} (s : Space) (show : Bool) (old new : OpenIndex M) (open : 
       })
     where
       few : (old.file.live.count ≢ old.file.head.limit) → nat_lt (length (points_on old.file before)) old.file.head.limit ≡ true
-      few less = let most = lawful.live.1.count in rw count_is (grind arith)
+      few less = few_of (length (points_on old.file before)) old.file.live.count old.file.head.limit count_is lawful.live.1.count less
 
       accepted : nat_lt (length (points_on old.file before)) old.file.head.limit ≡ true →
-          insert_step old.file.head.limit (state_on old.file before open) point tag ≡ record {
+          insert_step old.file.head.limit (state_on old.file before cursors) point tag ≡ record {
             reply = reply.Id old.file.live.count;
-            state = with_cursors (record { points = points_on old.file before ++ point ∷ []; tags = tags_on old.file before ++ tag ∷ [] }) open;
+            state = with_cursors (record { points = points_on old.file before ++ point ∷ []; tags = tags_on old.file before ++ tag ∷ [] }) cursors;
           }
       accepted less = rw less (ap (λ (n : ℕ). (let done : Step = record {
         reply = reply.Id n;
-        state = with_cursors (record { points = points_on old.file before ++ point ∷ []; tags = tags_on old.file before ++ tag ∷ [] }) open;
+        state = with_cursors (record { points = points_on old.file before ++ point ∷ []; tags = tags_on old.file before ++ tag ∷ [] }) cursors;
       } in done)) count_is)
 
-      no_room : old.file.live.count ≡ old.file.head.limit → insert_step old.file.head.limit (state_on old.file before open) point tag ≡ record { reply = reply.Refused refusal.Full; state = state_on old.file before open }
-      no_room all = let no : nat_lt (length (points_on old.file before)) old.file.head.limit ≡ false = rw count_is (grind arith) in rw no refl
+      no_room : old.file.live.count ≡ old.file.head.limit → insert_step old.file.head.limit (state_on old.file before cursors) point tag ≡ record { reply = reply.Refused refusal.Full; state = state_on old.file before cursors }
+      no_room all = let no : nat_lt (length (points_on old.file before)) old.file.head.limit ≡ false = none_of (length (points_on old.file before)) old.file.live.count old.file.head.limit count_is all in rw no refl
+
+      room_of : (pages needed made given : ℕ) → pages ≡ old.file.live.pages → needed ≡ made - given → 2 ^ 24 < pages + needed → 2 ^ 24 < old.file.live.pages + (made - given)
+      room_of pages needed made given at exact over = rw (sym at, sym exact) over
 
       hinders : (pages needed : ℕ) → HasInsertCause s old (record { id = old.file.live.count; tag = tag; point = point }) before after (fault.NoRoom pages needed) → IsSoundOn s old.file before →
           Hinders s old.file.head (version_on old.file before) refusal.NoRoom (Inserts point tag)
-      hinders pages needed (f, is, asked, at, over, told_so) sound =
-          let exact = (told_so sound.0).1 in (length (take asked f.free), rw (at, exact) at over)
+      hinders pages needed (f, is, asked, cause) sound =
+          let exact = (cause.2 sound.0).1 in (length (take asked f.free), room_of pages needed _ (length (take asked f.free)) cause.0 exact cause.1)
 
       causes : (result : Result ℕ IndexFault) → IfErr result (HasInsertCause s old (record { id = old.file.live.count; tag = tag; point = point }) before after) →
           IfErr result (λ why. IsSoundOn s old.file before → BlamesNoPage why) → IfErr result (λ why. IfErr (answer_of_fault why) (HasStepCause (IsSoundOn s old.file before) before after))
       causes (Ok n) cause undamaged = tt
       causes (Err why) cause undamaged = insert_cause _ why cause undamaged
+
+  unasked : IsTrue (has_points_of s c) → query_of c ≡ None → answered_query s c ≡ None
+  unasked points none = rw points none
+
+  executed : IsTrue (has_points_of s c) → step (setting_of s old.file) (state_on old.file before cursors) c ≡ execute (setting_of s old.file) (state_on old.file before cursors) c
+  executed points = rw points refl
+
+  -- the command `insert`
+  pub inserted_stepped : (point : List ℕ) (result : Result ℕ IndexFault) → IsTrue (has_points_of s c) → c ≡ command.Insert point → HasWritten s (Inserts point old.file.live.count) old new before after result →
+      (result ≡ Err fault.Full) ↔ (old.file.live.count ≡ old.file.head.limit) →
+      (result ≡ Err fault.Worn) ↔ ((old.file.live.count ≢ old.file.head.limit) × (old.file.live.generation ≡ 2 ^ 48 - 1)) →
+      IfErr result (HasInsertCause s old (record { id = old.file.live.count; tag = old.file.live.count; point = point }) before after) →
+      IfErr result (λ why. IsSoundOn s old.file before → BlamesNoPage why) → HasStepped s show old new cursors cursors before after c (written_answer (λ id. reply.Id id) result)
+  inserted_stepped point result points is written full worn cause undamaged =
+      insert_stepped point old.file.live.count result written full worn cause undamaged (rw is refl) (unasked points (rw is refl))
+      (executed points ∙ ap (λ (d : Command). execute (setting_of s old.file) (state_on old.file before cursors) d) is
+      ∙ ap (λ (n : ℕ). insert_step old.file.head.limit (state_on old.file before cursors) point n) count_is)
+
+  -- and `tinsert`
+  pub tag_inserted_stepped : (point : List ℕ) (tag : ℕ) (result : Result ℕ IndexFault) → IsTrue (has_points_of s c) → c ≡ command.TagInsert tag point → HasWritten s (Inserts point tag) old new before after result →
+      (result ≡ Err fault.Full) ↔ (old.file.live.count ≡ old.file.head.limit) →
+      (result ≡ Err fault.Worn) ↔ ((old.file.live.count ≢ old.file.head.limit) × (old.file.live.generation ≡ 2 ^ 48 - 1)) →
+      IfErr result (HasInsertCause s old (record { id = old.file.live.count; tag = tag; point = point }) before after) →
+      IfErr result (λ why. IsSoundOn s old.file before → BlamesNoPage why) → HasStepped s show old new cursors cursors before after c (written_answer (λ id. reply.Id id) result)
+  tag_inserted_stepped point tag result points is written full worn cause undamaged =
+      insert_stepped point tag result written full worn cause undamaged (rw is refl) (unasked points (rw is refl))
+      (executed points ∙ ap (λ (d : Command). execute (setting_of s old.file) (state_on old.file before cursors) d) is)

@@ -1,5 +1,6 @@
 pub mod Reading
-pub mod Queries
+pub mod Asking
+pub mod Opening
 pub mod Writes
 pub mod Inserts
 pub mod Loads

@@ -3,11 +3,13 @@ use Rattle.std.proofs.Common.{◌≡◌, ◌≢◌, ◌⊎◌, ◌↔◌, ℕ, z
 use Rattle.std.specs.Prelude.{IsTrue, MatchOption, OnOk, IfOk, IfErr, nat_lt, ◌==◌, if◌then◌else◌}
 use Rattle.metric_laws.specs.Space.{Space}
 use Rattle.disk_model.specs.Disk.{DiskState}
+use Rattle.metric_laws.specs.Rows.{Table}
 use Rattle.rows_text.specs.declared.command.Command.{Command}
+use Rattle.rows_text.specs.declared.command.Command.TheVariants as command
 use Rattle.rows_text.specs.declared.refusal.Refusal.TheVariants as refusal
 use Rattle.rows_text.specs.declared.reply.Reply.{Reply}
 use Rattle.rows_text.specs.declared.reply.Reply.TheVariants as reply
-use Rattle.rows_text.specs.Meaning.{State, Step, load_step, step}
+use Rattle.rows_text.specs.Meaning.{State, Step, execute, has_points_of, load_step, step}
 use Rattle.plain_scan.specs.OpenCursors.{OpenCursors, with_cursors}
 use Rattle.free_pages.specs.Keeping.{FreePages}
 use Rattle.index_core.specs.declared.faults.IndexFault.{IndexFault}
@@ -16,18 +18,27 @@ use Rattle.index_core.specs.Answers.{IsSoundOn, points_on, tags_on}
 use Rattle.index_core.specs.Causes.{BlamesNoPage, HasListCause}
 use Rattle.index_core.specs.Files.{IsLawfulFile}
 use Rattle.index_core.specs.Index.{OpenIndex, StandsAlone}
-use Rattle.index_core.specs.Loading.{HasLoadCause, HasLoadingCause, load_fault}
+use Rattle.index_core.specs.Loading.{HasLoadCause, HasLoadingCause, ids, load_fault}
 use Rattle.index_core.specs.Writing.{Loads, HasWritten}
 use Rattle.session_run.specs.Session.{setting_of, state_on}
 use Rattle.session_run.specs.Steps.{HasStepCause, HasStepped, answer_of_fault, written_answer}
-use Rattle.session_run.specs.Turns.{Hinders, answered_query, version_on, write_of}
-use Rattle.session_run.proofs.Inserts.{count_is, walk_damage}
+use Rattle.session_run.specs.Turns.{Hinders, answered_query, query_of, version_on, write_of}
+use Rattle.session_run.proofs.Inserts.{count_is, ids_are, walk_damage}
 use Rattle.session_run.proofs.Writes.{IsWriteOf, write_stepped}
 
-module _ {M : Type 0} (s : Space) (show : Bool) (old new : OpenIndex M) (open : OpenCursors) (before after : DiskState) (c : Command) (rows : List (List ℕ)) (labels : List ℕ)
+some_of : (n count : ℕ) → n ≡ count → (count == 0) ≡ false → nat_lt 0 n ≡ true
+some_of n count is some = grind arith
+
+zero_of : (n count : ℕ) → n ≡ count → (count == 0) ≡ true → nat_lt 0 n ≡ false
+zero_of n count is none = grind arith
+
+last_of : (n last : ℕ) → (n == last) ≡ true → n ≡ last
+last_of n last is = grind arith
+
+module _ {M : Type 0} (s : Space) (show : Bool) (old new : OpenIndex M) (cursors : OpenCursors) (before after : DiskState) (c : Command) (rows : List (List ℕ)) (labels : List ℕ)
     (lawful : IsLawfulFile s.words old.file) (alone : StandsAlone old before) (going : old.stopped ≡ false) (told : after.tells ≡ before.tells) (later : before.faults ≤ after.faults) where
   count_on : length (points_on old.file before) ≡ old.file.live.count
-  count_on = count_is s show old new open before after c lawful alone going told later
+  count_on = count_is s show old new cursors before after c lawful alone going told later
 
   filled_fault : (old.file.live.count == 0) ≡ false → load_fault old (length rows) ≡ Some fault.NotEmpty
   filled_fault some = rw (going, some) refl
@@ -41,21 +52,21 @@ module _ {M : Type 0} (s : Space) (show : Bool) (old new : OpenIndex M) (open : 
   no_fault : (old.file.live.count == 0) ≡ true → nat_lt old.file.head.limit (length rows) ≡ false → (old.file.live.generation == 2 ^ 48 - 1) ≡ false → load_fault old (length rows) ≡ None
   no_fault none few more = rw (going, none, few, more) refl
 
-  state : State
-  state = state_on old.file before open
+  abbrev state : State
+  state = state_on old.file before cursors
 
-  loaded_step : Step
-  loaded_step = record { reply = reply.Loaded (length rows); state = with_cursors (record { points = rows; tags = labels }) open }
+  abbrev loaded_step : Step
+  loaded_step = record { reply = reply.Loaded (length rows); state = with_cursors (record { points = rows; tags = labels }) cursors }
 
   -- ---- by the meaning
   some_objects : (old.file.live.count == 0) ≡ false → load_step old.file.head.limit state rows labels ≡ record { reply = reply.Refused refusal.NotEmpty; state = state }
-  some_objects some = let more : nat_lt 0 (length (points_on old.file before)) ≡ true = rw count_on (grind arith) in rw more refl
+  some_objects some = let more : nat_lt 0 (length (points_on old.file before)) ≡ true = some_of (length (points_on old.file before)) old.file.live.count count_on some in rw more refl
 
   too_many : (old.file.live.count == 0) ≡ true → nat_lt old.file.head.limit (length rows) ≡ true → load_step old.file.head.limit state rows labels ≡ record { reply = reply.Refused refusal.Full; state = state }
-  too_many none many = let no : nat_lt 0 (length (points_on old.file before)) ≡ false = rw count_on (grind arith) in rw (no, many) refl
+  too_many none many = let no : nat_lt 0 (length (points_on old.file before)) ≡ false = zero_of (length (points_on old.file before)) old.file.live.count count_on none in rw (no, many) refl
 
   accepted : (old.file.live.count == 0) ≡ true → nat_lt old.file.head.limit (length rows) ≡ false → load_step old.file.head.limit state rows labels ≡ loaded_step
-  accepted none few = let no : nat_lt 0 (length (points_on old.file before)) ≡ false = rw count_on (grind arith) in rw (no, few) refl
+  accepted none few = let no : nat_lt 0 (length (points_on old.file before)) ≡ false = zero_of (length (points_on old.file before)) old.file.live.count count_on none in rw (no, few) refl
 
   load_cause : (why : IndexFault) → (load_fault old (length rows) ≡ None → HasLoadingCause s old new rows labels before after.faults why) → (load_fault old (length rows) ≡ None) →
       (IsSoundOn s old.file before → BlamesNoPage why) → IfErr (answer_of_fault why) (HasStepCause (IsSoundOn s old.file before) before after)
@@ -83,9 +94,9 @@ module _ {M : Type 0} (s : Space) (show : Bool) (old new : OpenIndex M) (open : 
       IfErr result (λ why. IsSoundOn s old.file before → BlamesNoPage why) →
       write_of old.file.live.count c ≡ Some (Loads rows labels) → answered_query s c ≡ None →
       step (setting_of s old.file) state c ≡ load_step old.file.head.limit state rows labels →
-      HasStepped s show old new open open before after c (written_answer (λ count. reply.Loaded count) result)
+      HasStepped s show old new cursors cursors before after c (written_answer (λ count. reply.Loaded count) result)
   load_stepped result written refused cause undamaged writes unasked meaning =
-      write_stepped s show old new open before after c (Loads rows labels) (λ count. reply.Loaded count) lawful alone going result written (record {
+      write_stepped s show old new cursors before after c (Loads rows labels) (λ count. reply.Loaded count) lawful alone going result written (record {
         writes = writes;
         unasked = unasked;
         accepting = λ room filled. meaning ∙ accepting room filled (old.file.live.count == 0) refl (nat_lt old.file.head.limit (length rows)) refl;
@@ -124,7 +135,7 @@ module _ {M : Type 0} (s : Space) (show : Bool) (old new : OpenIndex M) (open : 
           (old.file.live.generation == 2 ^ 48 - 1) ≡ last → old.file.live.generation ≡ 2 ^ 48 - 1
       worn is false n many m last l = absurd (let e = sym is ∙ refused fault.NotEmpty (filled_fault n) in cc)
       worn is true n true m last l = absurd (let e = sym is ∙ refused fault.Full (full_fault n m) in cc)
-      worn is true n false m true l = grind arith
+      worn is true n false m true l = last_of old.file.live.generation (2 ^ 48 - 1) l
       worn is true n false m false l = let no = rw is at cause (no_fault n m l) in absurd (no.1)
 
       room : (pages needed : ℕ) → result ≡ Err (fault.NoRoom pages needed) → (f : Option IndexFault) → load_fault old (length rows) ≡ f →
@@ -155,3 +166,28 @@ module _ {M : Type 0} (s : Space) (show : Bool) (old new : OpenIndex M) (open : 
           once true n true m last e = free fault.Full (refused fault.Full (full_fault n m)) tt
           once true n false m true e = free fault.Worn (refused fault.Worn (worn_fault n m e)) tt
           once true n false m false e = absurd (let x = sym l ∙ no_fault n m e in cc)
+
+-- the commands `load` and `tload`
+module _ {M : Type 0} (s : Space) (show : Bool) (old new : OpenIndex M) (cursors : OpenCursors) (before after : DiskState) (c : Command) (rows : Table) (lawful : IsLawfulFile s.words old.file)
+    (alone : StandsAlone old before) (going : old.stopped ≡ false) (told : after.tells ≡ before.tells) (later : before.faults ≤ after.faults) (points : IsTrue (has_points_of s c)) where
+  unasked : query_of c ≡ None → answered_query s c ≡ None
+  unasked none = rw points none
+
+  executed : (d : Command) → c ≡ d → step (setting_of s old.file) (state_on old.file before cursors) c ≡ execute (setting_of s old.file) (state_on old.file before cursors) d
+  executed d is = rw points (ap (λ (e : Command). execute (setting_of s old.file) (state_on old.file before cursors) e) is)
+
+  pub loaded_stepped : (result : Result ℕ IndexFault) → c ≡ command.Load rows → HasWritten s (Loads rows.points (ids (length rows.points))) old new before after result →
+      ((why : IndexFault) → load_fault old (length rows.points) ≡ Some why → result ≡ Err why) →
+      (load_fault old (length rows.points) ≡ None → IfErr result (HasLoadingCause s old new rows.points (ids (length rows.points)) before after.faults)) →
+      IfErr result (λ why. IsSoundOn s old.file before → BlamesNoPage why) → HasStepped s show old new cursors cursors before after c (written_answer (λ count. reply.Loaded count) result)
+  loaded_stepped result is written refused cause undamaged =
+      load_stepped s show old new cursors before after c rows.points (ids (length rows.points)) lawful alone going told later result written refused cause undamaged
+      (rw is (ap (λ (l : List ℕ). Some (Loads rows.points l)) (ids_are 0 (length rows.points)))) (unasked (rw is refl))
+      (executed (command.Load rows) is ∙ ap (λ (l : List ℕ). load_step old.file.head.limit (state_on old.file before cursors) rows.points l) (ids_are 0 (length rows.points)))
+
+  pub tag_loaded_stepped : (tags : List ℕ) (result : Result ℕ IndexFault) → c ≡ command.TagLoad tags rows → HasWritten s (Loads rows.points tags) old new before after result →
+      ((why : IndexFault) → load_fault old (length rows.points) ≡ Some why → result ≡ Err why) →
+      (load_fault old (length rows.points) ≡ None → IfErr result (HasLoadingCause s old new rows.points tags before after.faults)) →
+      IfErr result (λ why. IsSoundOn s old.file before → BlamesNoPage why) → HasStepped s show old new cursors cursors before after c (written_answer (λ count. reply.Loaded count) result)
+  tag_loaded_stepped tags result is written refused cause undamaged =
+      load_stepped s show old new cursors before after c rows.points tags lawful alone going told later result written refused cause undamaged (rw is refl) (unasked (rw is refl)) (executed (command.TagLoad tags rows) is)

@@ -14,6 +14,6 @@ turns_are_their_meaning setting head state file (t ∷ turns) are none =
     let one : step setting state t.command ≡ record { reply = t.reply; state = t.state } = rw none.0 at are.0.meaning in
     let more = turns_are_their_meaning setting head t.state t.file turns are.1 none.1 in (
       ap (λ (r : List Reply). t.reply ∷ r) more.0
-      ∙ ap (λ (done : Step). done.reply ∷ replies setting done.state (commands_of turns)) (sym one),
+          ∙ ap (λ (done : Step). done.reply ∷ replies setting done.state (commands_of turns)) (sym one),
       more.1 ∙ ap (λ (done : Step). after setting done.state (commands_of turns)) (sym one),
     )

@@ -35,9 +35,9 @@ version_still {M} old new before after reads =
     ap (λ (file : OpenFile M). version_on file after) reads.rest
     ∙ ap (λ (bytes : List ℕ). (let v : Version = record { nodes = nodes_of (reading old.head.dim old.live.pages bytes); live = old.live } in v)) reads.same.same_bytes
 
-pub state_still : {M : Type 0} (old new : OpenFile M) (before after : DiskState) (open : OpenCursors) → OnlyReads old new before after → state_on new after open ≡ state_on old before open
-state_still old new before after open reads =
-    ap (λ (v : Version). with_cursors (record { points = points_by_id v.nodes v.live; tags = tags_by_id v.nodes v.live }) open) (version_still old new before after reads)
+pub state_still : {M : Type 0} (old new : OpenFile M) (before after : DiskState) (cursors : OpenCursors) → OnlyReads old new before after → state_on new after cursors ≡ state_on old before cursors
+state_still old new before after cursors reads =
+    ap (λ (v : Version). with_cursors (record { points = points_by_id v.nodes v.live; tags = tags_by_id v.nodes v.live }) cursors) (version_still old new before after reads)
 
 pub sound_still : {M : Type 0} (s : Space) (old new : OpenFile M) (before after : DiskState) → OnlyReads old new before after → IsSoundOn s old before → IsSoundOn s new after
 sound_still s old new before after reads sound =
@@ -50,18 +50,18 @@ pub either_reading : {M : Type 0} (s : Space) (index : OpenIndex M) (new : OpenF
 either_reading s index new opened before after other lawful alone reads sound =
     weakened before after (MayLeave before) (HoldsOne s index.file.head (state_on index.file before opened) other) reads.same.time
     (λ image left. inl (subst (λ (file : List ℕ). HoldsState s index.file.head (state_on index.file before opened) file) (sym (alone.only sound.0 image left))
-      (holds s index.file before _ _ lawful alone.stands (objects_on s index.file before sound))))
+    (holds s index.file before _ _ lawful alone.stands (objects_on s index.file before sound))))
 
 -- an answer that accepts no object is a turn
-pub read_taken : {M : Type 0} (s : Space) (show : Bool) (index : OpenIndex M) (new : OpenFile M) (opened open : OpenCursors) (before after : DiskState) (c : Command) (a : Answer) (why : Option Refusal) (meant : Reply) →
+pub read_taken : {M : Type 0} (s : Space) (show : Bool) (index : OpenIndex M) (new : OpenFile M) (opened cursors : OpenCursors) (before after : DiskState) (c : Command) (a : Answer) (why : Option Refusal) (meant : Reply) →
     IsLawfulFile s.words index.file → StandsAlone index before → OnlyReads index.file new before after → IsSoundOn s index.file before →
-    hindered why (state_on index.file before opened) (step (setting_of s index.file) (state_on index.file before opened) c) ≡ record { reply = meant; state = state_on index.file before open } →
+    hindered why (state_on index.file before opened) (step (setting_of s index.file) (state_on index.file before opened) c) ≡ record { reply = meant; state = state_on index.file before cursors } →
     accepts meant ≡ false → IsHindrance s index.file.head (version_on index.file before) c why → HasLog s (version_on index.file before) (answered_query s c) a.log → text show a.reply ≡ text show meant →
-    IsTaken s show index.file new opened open before after c a
-read_taken s show index new opened open before after c a why meant lawful alone reads sound meaning none hindrance logged same = let old = index.file in record {
-  turn = record { command = c; why = why; reply = meant; log = a.log; state = state_on new after open; file = version_on new after };
+    IsTaken s show index.file new opened cursors before after c a
+read_taken s show index new opened cursors before after c a why meant lawful alone reads sound meaning none hindrance logged same = let old = index.file in record {
+  turn = record { command = c; why = why; reply = meant; log = a.log; state = state_on new after cursors; file = version_on new after };
   is = record {
-    meaning = meaning ∙ ap (λ (state : State). (let done : Step = record { reply = meant; state = state } in done)) (sym (state_still old new before after open reads));
+    meaning = meaning ∙ ap (λ (state : State). (let done : Step = record { reply = meant; state = state } in done)) (sym (state_still old new before after cursors reads));
     hindrance = hindrance;
     logged = logged;
     after = subst (λ (b : Bool). IsVersionAfter s old.head (version_on old before) c b (version_on new after)) (sym none) (version_still old new before after reads);
@@ -72,16 +72,16 @@ read_taken s show index new opened open before after c a why meant lawful alone 
   file = refl;
   log = refl;
   same_text = same;
-  moments = either_reading s index new opened before after (state_on new after open) lawful alone reads sound;
+  moments = either_reading s index new opened before after (state_on new after cursors) lawful alone reads sound;
 }
 
 -- a command that only reads and is answered
-pub read_stepped : {M : Type 0} (s : Space) (show : Bool) (old new : OpenIndex M) (opened open : OpenCursors) (before after : DiskState) (c : Command) (a : Answer) →
-    IsLawfulFile s.words old.file → StandsAlone old before → new.stopped ≡ false → OnlyReads old.file new.file before after → open.next ≤ opened.next + 1 →
+pub read_stepped : {M : Type 0} (s : Space) (show : Bool) (old new : OpenIndex M) (opened cursors : OpenCursors) (before after : DiskState) (c : Command) (a : Answer) →
+    IsLawfulFile s.words old.file → StandsAlone old before → new.stopped ≡ false → OnlyReads old.file new.file before after → cursors.next ≤ opened.next + 1 →
     MatchOption a.log (Unit {0}) IsLawfulLog → (show ≡ true → TagsAre a.reply) →
-    (IsSoundOn s old.file before → IsTaken s show old.file new.file opened open before after c a) →
-    HasStepped s show old new opened open before after c (Ok a)
-read_stepped {M} s show old new opened open before after c a lawful alone going reads numbers spelled tagged taken = record {
+    (IsSoundOn s old.file before → IsTaken s show old.file new.file opened cursors before after c a) →
+    HasStepped s show old new opened cursors before after c (Ok a)
+read_stepped {M} s show old new opened cursors before after c a lawful alone going reads numbers spelled tagged taken = record {
   going = going;
   head = ap (λ (file : OpenFile M). file.head) reads.rest;
   metric = ap (λ (file : OpenFile M). file.metric) reads.rest;
@@ -96,10 +96,10 @@ read_stepped {M} s show old new opened open before after c a lawful alone going 
 }
 
 -- a command that only reads and ends the session
-pub read_stopped : {M : Type 0} (s : Space) (show : Bool) (old new : OpenIndex M) (opened open : OpenCursors) (before after : DiskState) (c : Command) (why : Stop) →
-    IsLawfulFile s.words old.file → StandsAlone old before → OnlyReads old.file new.file before after → open.next ≤ opened.next + 1 → HasStepCause (IsSoundOn s old.file before) before after why →
-    HasStepped s show old new opened open before after c (Err why)
-read_stopped {M} s show old new opened open before after c why lawful alone reads numbers cause = record {
+pub read_stopped : {M : Type 0} (s : Space) (show : Bool) (old new : OpenIndex M) (opened cursors : OpenCursors) (before after : DiskState) (c : Command) (why : Stop) →
+    IsLawfulFile s.words old.file → StandsAlone old before → OnlyReads old.file new.file before after → cursors.next ≤ opened.next + 1 → HasStepCause (IsSoundOn s old.file before) before after why →
+    HasStepped s show old new opened cursors before after c (Err why)
+read_stopped {M} s show old new opened cursors before after c why lawful alone reads numbers cause = record {
   going = tt;
   head = tt;
   metric = tt;
@@ -110,5 +110,5 @@ read_stopped {M} s show old new opened open before after c why lawful alone read
   tagged = tt;
   cause = cause;
   taken = λ sound. tt;
-  moments = λ sound. either_reading s old new.file opened before after _ lawful alone reads sound;
+  moments = λ sound. either_reading s old new.file opened before after (step (setting_of s old.file) (state_on old.file before opened) c).state lawful alone reads sound;
 }

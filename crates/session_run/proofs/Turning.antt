@@ -1,6 +1,6 @@
 -- A command whose log and reply are written.
 use Rattle.std.proofs.Common.{◌≡◌, ◌⊎◌, ℕ, ◌+◌, ◌≤◌, Bool, true, false, List, [], ◌∷◌, inl, inr, refl, sym, ap, subst, ◌∙◌, arith, Option, Some, None, Result, Ok, Err}
-use Rattle.std.specs.Prelude.{IsTrue, MatchOption, OnOk, IfOk, IfErr}
+use Rattle.std.specs.Prelude.{IsTrue, MatchOption, OnOk, OnErr, IfOk, IfErr}
 use Rattle.std.specs.Io.KnownBytes.{Appends}
 use Rattle.metric_laws.specs.Space.{Space}
 use Rattle.outside_io.specs.Bytes.{AppendsPrefix}
@@ -20,7 +20,7 @@ use Rattle.session_run.specs.declared.answer.Answer.{Answer}
 use Rattle.session_run.specs.declared.stop.Stop.{Stop}
 use Rattle.session_run.specs.declared.stop.Stop.TheVariants as stop
 use Rattle.session_run.specs.Session.{HasStopCause, HoldsState, setting_of, state_on}
-use Rattle.session_run.specs.Steps.{HasStepCause, HasStepped, HasTurned, HoldsEither, HoldsOne, IsPartlyPut, IsPut, IsStoppedAt, IsTaken}
+use Rattle.session_run.specs.Steps.{HasStepCause, HasStepped, HasTurned, HoldsEither, HoldsOne, IsCut, IsPartlyPut, IsPut, IsStoppedAt, IsTaken}
 use Rattle.session_run.specs.Turns.{Turn, framed, if_any}
 
 -- a step has the state that is meant, or the one before
@@ -32,20 +32,20 @@ either_state (Some why) state done meant is = by_reply (accepts done.reply) refl
     by_reply true e = let same : refused state why ≡ meant = rw e at is in inr (ap (λ (d : Step). d.state) (sym same))
     by_reply false e = let same : done ≡ meant = rw e at is in inl (ap (λ (d : Step). d.state) (sym same))
 
-module _ {M : Type 0} (s : Space) (show : Bool) (old new : OpenIndex M) (opened open : OpenCursors) (before after : DiskState) (c : Command) where
-  taken_moments : (a : Answer) → IsTaken s show old.file new.file opened open before after c a → EachImage before after (HoldsEither s old.file before opened c)
+module _ {M : Type 0} (s : Space) (show : Bool) (old new : OpenIndex M) (opened cursors : OpenCursors) (before after : DiskState) (c : Command) where
+  taken_moments : (a : Answer) → IsTaken s show old.file new.file opened cursors before after c a → EachImage before after (HoldsEither s old.file before opened c)
   taken_moments a taken =
       weakened before after (HoldsOne s old.file.head (state_on old.file before opened) taken.turn.state) (HoldsEither s old.file before opened c) taken.moments (λ image holds. elim holds [
         | inl was ↦ inl was
         | inr now ↦ elim (either_state taken.turn.why (state_on old.file before opened) (step (setting_of s old.file) (state_on old.file before opened) taken.turn.command) _ taken.is.meaning) [
-            | inl same ↦ inr (subst (λ (d : Command). HoldsState s old.file.head (step (setting_of s old.file) (state_on old.file before opened) d).state image) taken.command
-                (subst (λ (state : State). HoldsState s old.file.head state image) same now))
-            | inr same ↦ inl (subst (λ (state : State). HoldsState s old.file.head state image) same now)
-          ]
+          | inl same ↦ inr (subst (λ (d : Command). HoldsState s old.file.head (step (setting_of s old.file) (state_on old.file before opened) d).state image) taken.command
+              (subst (λ (state : State). HoldsState s old.file.head state image) same now))
+          | inr same ↦ inl (subst (λ (state : State). HoldsState s old.file.head state image) same now)
+        ]
       ])
 
   -- the step itself ended the session
-  pub turned_stopped : (why : Stop) (out log : SinkState) → HasStepped s show old new opened open before after c (Err why) → HasTurned s show old new opened open before after c out out log log (Err why)
+  pub turned_stopped : (why : Stop) (out log : SinkState) → HasStepped s show old new opened cursors before after c (Err why) → HasTurned s show old new opened cursors before after c out out log log (Err why)
   turned_stopped why out log did = record {
     going = tt;
     head = tt;
@@ -74,7 +74,7 @@ module _ {M : Type 0} (s : Space) (show : Bool) (old new : OpenIndex M) (opened 
       stopped stop.Sink is = absurd is
 
   -- there was no memory for what is written
-  pub turned_memory : (a : Answer) (out log : SinkState) → HasStepped s show old new opened open before after c (Ok a) → HasTurned s show old new opened open before after c out out log log (Err stop.Memory)
+  pub turned_memory : (a : Answer) (out log : SinkState) → HasStepped s show old new opened cursors before after c (Ok a) → HasTurned s show old new opened cursors before after c out out log log (Err stop.Memory)
   turned_memory a out log did = record {
     going = tt;
     head = tt;
@@ -91,9 +91,9 @@ module _ {M : Type 0} (s : Space) (show : Bool) (old new : OpenIndex M) (opened 
   }
 
   -- all is written
-  pub turned : (a : Answer) (reply frame : List ℕ) (out0 out1 log0 log1 : SinkState) → HasStepped s show old new opened open before after c (Ok a) → reply ≡ text show a.reply → frame ≡ framed (if_any a.log) →
+  pub turned : (a : Answer) (reply frame : List ℕ) (out0 out1 log0 log1 : SinkState) → HasStepped s show old new opened cursors before after c (Ok a) → reply ≡ text show a.reply → frame ≡ framed (if_any a.log) →
       Appends out0.written out1.written reply → Appends log0.written log1.written frame → out0.faults ≤ out1.faults → log0.faults ≤ log1.faults →
-      HasTurned s show old new opened open before after c out0 out1 log0 log1 (Ok tt)
+      HasTurned s show old new opened cursors before after c out0 out1 log0 log1 (Ok tt)
   turned a reply frame out0 out1 log0 log1 did is_reply is_frame put framed_put out_later log_later = record {
     going = did.going;
     head = did.head;
@@ -119,10 +119,10 @@ module _ {M : Type 0} (s : Space) (show : Bool) (old new : OpenIndex M) (opened 
   }
 
   -- an output failed
-  pub turned_cut : (a : Answer) (reply frame : List ℕ) (out0 out1 log0 log1 : SinkState) → HasStepped s show old new opened open before after c (Ok a) → reply ≡ text show a.reply → frame ≡ framed (if_any a.log) →
-      AppendsPrefix out0.written out1.written reply → AppendsPrefix log0.written log1.written frame → out0.faults ≤ out1.faults → log0.faults ≤ log1.faults →
-      Rose out0.faults out1.faults ⊎ Rose log0.faults log1.faults → HasTurned s show old new opened open before after c out0 out1 log0 log1 (Err stop.Sink)
-  turned_cut a reply frame out0 out1 log0 log1 did is_reply is_frame put framed_put out_later log_later rose = record {
+  pub turned_cut : (a : Answer) (reply frame : List ℕ) (out0 out1 log0 log1 : SinkState) → HasStepped s show old new opened cursors before after c (Ok a) → reply ≡ text show a.reply → frame ≡ framed (if_any a.log) →
+      IsCut out0 out1 log0 log1 reply frame → out0.faults ≤ out1.faults → log0.faults ≤ log1.faults →
+      Rose out0.faults out1.faults ⊎ Rose log0.faults log1.faults → HasTurned s show old new opened cursors before after c out0 out1 log0 log1 (Err stop.Sink)
+  turned_cut a reply frame out0 out1 log0 log1 did is_reply is_frame cut out_later log_later rose = record {
     going = tt;
     head = tt;
     metric = tt;
@@ -137,8 +137,18 @@ module _ {M : Type 0} (s : Space) (show : Bool) (old new : OpenIndex M) (opened 
       turn = taken.turn;
       is = taken.is;
       command = taken.command;
-      written = subst (λ (bytes : List ℕ). AppendsPrefix out0.written out1.written bytes) (is_reply ∙ taken.same_text) put;
-      logged = subst (λ (bytes : List ℕ). AppendsPrefix log0.written log1.written bytes) (is_frame ∙ ap (λ (log : Option Log). framed (if_any log)) (sym taken.log)) framed_put;
+      cut = subst (λ (bytes : List ℕ). IsCut out0 out1 log0 log1 bytes (framed (if_any taken.turn.log))) (is_reply ∙ taken.same_text)
+          (subst (λ (bytes : List ℕ). IsCut out0 out1 log0 log1 reply bytes) (is_frame ∙ ap (λ (log : Option Log). framed (if_any log)) (sym taken.log)) cut);
     };
     moments = λ sound. taken_moments a (did.taken sound);
   }
+
+  -- what was put
+  pub turned_by : (a : Answer) (reply frame : List ℕ) (out0 out1 log0 log1 : SinkState) (result : Result (Unit {0}) Stop) → HasStepped s show old new opened cursors before after c (Ok a) → reply ≡ text show a.reply →
+      frame ≡ framed (if_any a.log) → OnOk result (Appends out0.written out1.written reply) → OnOk result (Appends log0.written log1.written frame) → OnErr result (IsCut out0 out1 log0 log1 reply frame) →
+      IfErr result (λ why. why ≡ stop.Sink) → OnErr result (Rose out0.faults out1.faults ⊎ Rose log0.faults log1.faults) → out0.faults ≤ out1.faults → log0.faults ≤ log1.faults →
+      HasTurned s show old new opened cursors before after c out0 out1 log0 log1 result
+  turned_by a reply frame out0 out1 log0 log1 (Ok done) did is_reply is_frame put framed_put cut sink rose out_later log_later =
+      turned a reply frame out0 out1 log0 log1 did is_reply is_frame put framed_put out_later log_later
+  turned_by a reply frame out0 out1 log0 log1 (Err why) did is_reply is_frame put framed_put cut sink rose out_later log_later =
+      rw sink (turned_cut a reply frame out0 out1 log0 log1 did is_reply is_frame cut out_later log_later rose)

@@ -39,16 +39,16 @@ refused_reads {M} old new before after refused later = record {
 
 -- What is known of a write by its command: it means to add the objects, unless it is refused as full or for the objects that are
 -- there; and why it is refused.
-pub record IsWriteOf {M : Type 0} (s : Space) (old : OpenIndex M) (open : OpenCursors) (before after : DiskState) (c : Command) (write : Write) (says : ℕ → Reply) (result : Result ℕ IndexFault) : Type 0 where
+pub record IsWriteOf {M : Type 0} (s : Space) (old : OpenIndex M) (cursors : OpenCursors) (before after : DiskState) (c : Command) (write : Write) (says : ℕ → Reply) (result : Result ℕ IndexFault) : Type 0 where
   pub writes : write_of old.file.live.count c ≡ Some write
   pub unasked : answered_query s c ≡ None
   pub accepting : result ≢ Err fault.Full → result ≢ Err fault.NotEmpty →
-      step (setting_of s old.file) (state_on old.file before open) c ≡ record {
+      step (setting_of s old.file) (state_on old.file before cursors) c ≡ record {
         reply = says (answer_to write old.file.live.count);
-        state = with_cursors (record { points = points_after write (points_on old.file before); tags = tags_after write (tags_on old.file before) }) open;
+        state = with_cursors (record { points = points_after write (points_on old.file before); tags = tags_after write (tags_on old.file before) }) cursors;
       }
-  pub full : result ≡ Err fault.Full → step (setting_of s old.file) (state_on old.file before open) c ≡ record { reply = reply.Refused refusal.Full; state = state_on old.file before open }
-  pub filled : result ≡ Err fault.NotEmpty → step (setting_of s old.file) (state_on old.file before open) c ≡ record { reply = reply.Refused refusal.NotEmpty; state = state_on old.file before open }
+  pub full : result ≡ Err fault.Full → step (setting_of s old.file) (state_on old.file before cursors) c ≡ record { reply = reply.Refused refusal.Full; state = state_on old.file before cursors }
+  pub filled : result ≡ Err fault.NotEmpty → step (setting_of s old.file) (state_on old.file before cursors) c ≡ record { reply = reply.Refused refusal.NotEmpty; state = state_on old.file before cursors }
   pub worn : result ≡ Err fault.Worn → old.file.live.generation ≡ 2 ^ 48 - 1
   pub room : (pages needed : ℕ) → result ≡ Err (fault.NoRoom pages needed) → IsSoundOn s old.file before → Hinders s old.file.head (version_on old.file before) refusal.NoRoom write
   pub cause : IfErr result (λ why. IfErr (answer_of_fault why) (HasStepCause (IsSoundOn s old.file before) before after))
@@ -57,28 +57,28 @@ pub record IsWriteOf {M : Type 0} (s : Space) (old : OpenIndex M) (open : OpenCu
   pub tells : after.tells ≡ before.tells
   pub later : before.faults ≤ after.faults
 
-module _ {M : Type 0} (s : Space) (show : Bool) (old new : OpenIndex M) (open : OpenCursors) (before after : DiskState) (c : Command) (write : Write) (says : ℕ → Reply)
+module _ {M : Type 0} (s : Space) (show : Bool) (old new : OpenIndex M) (cursors : OpenCursors) (before after : DiskState) (c : Command) (write : Write) (says : ℕ → Reply)
     (lawful : IsLawfulFile s.words old.file) (alone : StandsAlone old before) (going : old.stopped ≡ false) where
-  Meant : Type 0
-  Meant = step (setting_of s old.file) (state_on old.file before open) c ≡ record {
+  abbrev Meant : Type 0
+  Meant = step (setting_of s old.file) (state_on old.file before cursors) c ≡ record {
     reply = says (answer_to write old.file.live.count);
-    state = with_cursors (record { points = points_after write (points_on old.file before); tags = tags_after write (tags_on old.file before) }) open;
+    state = with_cursors (record { points = points_after write (points_on old.file before); tags = tags_after write (tags_on old.file before) }) cursors;
   }
 
   -- a crash leaves the objects before or after
-  Written : State → Type 0
+  abbrev Written : State → Type 0
   Written state = (state.objects.points ≡ points_after write (points_on old.file before)) × (state.objects.tags ≡ tags_after write (tags_on old.file before))
 
   either : (result : Result ℕ IndexFault) → HasWritten s write old new before after result → (state : State) → Written state → IsSoundOn s old.file before →
-      EachImage before after (HoldsOne s old.file.head (state_on old.file before open) state)
+      EachImage before after (HoldsOne s old.file.head (state_on old.file before cursors) state)
   either result written state is sound =
-      weakened before after _ (HoldsOne s old.file.head (state_on old.file before open) state) (written.moments _ _ (objects_on s old.file before sound)) (λ image left. elim left [
+      weakened before after _ (HoldsOne s old.file.head (state_on old.file before cursors) state) (written.moments _ _ (objects_on s old.file before sound)) (λ image left. elim left [
         | inl was ↦ inl was
         | inr now ↦ inr (rw (is.0, is.1) now)
       ])
 
   -- the write is done
-  done : (n : ℕ) → HasWritten s write old new before after (Ok n) → IsWriteOf s old open before after c write says (Ok n) → HasStepped s show old new open open before after c (Ok (plain_answer (says n)))
+  done : (n : ℕ) → HasWritten s write old new before after (Ok n) → IsWriteOf s old cursors before after c write says (Ok n) → HasStepped s show old new cursors cursors before after c (Ok (plain_answer (says n)))
   done n written of = record {
     going = ap (λ (i : OpenIndex M). i.stopped) written.next.is ∙ going;
     head = ap (λ (i : OpenIndex M). i.file.head) written.next.is;
@@ -87,7 +87,7 @@ module _ {M : Type 0} (s : Space) (show : Bool) (old new : OpenIndex M) (open : 
     later = of.later;
     numbers = omega arith;
     spelled = tt;
-    tagged = λ yes. of.tags_says n;
+    tagged = λ taking. of.tags_says n;
     cause = tt;
     taken = taken;
     moments = λ sound. tt;
@@ -96,13 +96,13 @@ module _ {M : Type 0} (s : Space) (show : Bool) (old new : OpenIndex M) (open : 
       meant : Meant
       meant = of.accepting (λ e. absurd (cc)) (λ e. absurd (cc))
 
-      taken : IsSoundOn s old.file before → IsTaken s show old.file new.file open open before after c (plain_answer (says n))
+      taken : IsSoundOn s old.file before → IsTaken s show old.file new.file cursors cursors before after c (plain_answer (says n))
       taken sound = record {
-        turn = record { command = c; why = None; reply = says n; log = None; state = state_on new.file after open; file = version_on new.file after };
+        turn = record { command = c; why = None; reply = says n; log = None; state = state_on new.file after cursors; file = version_on new.file after };
         is = record {
           meaning = meant ∙ (λ i. record {
             reply = says (sym written.answer i);
-            state = with_cursors (record { points = sym has.points_are i; tags = sym has.tags_are i }) open;
+            state = with_cursors (record { points = sym has.points_are i; tags = sym has.tags_are i }) cursors;
           });
           hindrance = tt;
           logged = subst (λ (q : Option Query). HasLog s (version_on old.file before) q None) (sym of.unasked) refl;
@@ -118,7 +118,7 @@ module _ {M : Type 0} (s : Space) (show : Bool) (old new : OpenIndex M) (open : 
         file = refl;
         log = refl;
         same_text = refl;
-        moments = either (Ok n) written (state_on new.file after open) (has.points_are, has.tags_are) sound;
+        moments = either (Ok n) written (state_on new.file after cursors) (has.points_are, has.tags_are) sound;
       }
         where
           has : HasObjects s new.file after (points_after write (points_on old.file before)) (tags_after write (tags_on old.file before))
@@ -128,34 +128,34 @@ module _ {M : Type 0} (s : Space) (show : Bool) (old new : OpenIndex M) (open : 
   unlogged none = subst (λ (q : Option Query). HasLog s (version_on old.file before) q None) (sym none) refl
 
   -- it is refused, and nothing changes
-  refused : (why : IndexFault) (r : Refusal) (hindrance : Option Refusal) → why ≢ fault.Commit → HasWritten s write old new before after (Err why) → IsWriteOf s old open before after c write says (Err why) →
-      hindered hindrance (state_on old.file before open) (step (setting_of s old.file) (state_on old.file before open) c) ≡ record { reply = reply.Refused r; state = state_on old.file before open } →
+  refused : (why : IndexFault) (r : Refusal) (hindrance : Option Refusal) → why ≢ fault.Commit → HasWritten s write old new before after (Err why) → IsWriteOf s old cursors before after c write says (Err why) →
+      hindered hindrance (state_on old.file before cursors) (step (setting_of s old.file) (state_on old.file before cursors) c) ≡ record { reply = reply.Refused r; state = state_on old.file before cursors } →
       (IsSoundOn s old.file before → IsHindrance s old.file.head (version_on old.file before) c hindrance) →
-      HasStepped s show old new open open before after c (Ok (plain_answer (reply.Refused r)))
+      HasStepped s show old new cursors cursors before after c (Ok (plain_answer (reply.Refused r)))
   refused why r hindrance other written of meaning hinders =
-      read_stepped s show old new open open before after c (plain_answer (reply.Refused r)) lawful alone (ap (λ (i : OpenIndex M). i.stopped) (written.refused other).is ∙ going) reads
-      (omega arith) tt (λ yes. tt)
-      (λ sound. read_taken s show old new.file open open before after c (plain_answer (reply.Refused r)) hindrance (reply.Refused r) lawful alone reads sound meaning refl (hinders sound) (unlogged of.unasked) refl)
+      read_stepped s show old new cursors cursors before after c (plain_answer (reply.Refused r)) lawful alone (ap (λ (i : OpenIndex M). i.stopped) (written.refused other).is ∙ going) reads
+      (omega arith) tt (λ taking. tt)
+      (λ sound. read_taken s show old new.file cursors cursors before after c (plain_answer (reply.Refused r)) hindrance (reply.Refused r) lawful alone reads sound meaning refl (hinders sound) (unlogged of.unasked) refl)
     where
       reads : OnlyReads old.file new.file before after
       reads = refused_reads old new before after (written.refused other) of.later
 
   -- the file stands in the way
   hinders : (r : Refusal) → Meant → ((n : ℕ) → accepts (says n) ≡ true) →
-      hindered (Some r) (state_on old.file before open) (step (setting_of s old.file) (state_on old.file before open) c) ≡ record { reply = reply.Refused r; state = state_on old.file before open }
-  hinders r meant yes = rw (meant, yes (answer_to write old.file.live.count)) refl
+      hindered (Some r) (state_on old.file before cursors) (step (setting_of s old.file) (state_on old.file before cursors) c) ≡ record { reply = reply.Refused r; state = state_on old.file before cursors }
+  hinders r meant taking = rw (meant, taking (answer_to write old.file.live.count)) refl
 
   -- it ends the session
   ended : (why : IndexFault) (end : Stop) → why ≢ fault.Commit → HasWritten s write old new before after (Err why) → before.faults ≤ after.faults →
-      HasStepCause (IsSoundOn s old.file before) before after end → HasStepped s show old new open open before after c (Err end)
+      HasStepCause (IsSoundOn s old.file before) before after end → HasStepped s show old new cursors cursors before after c (Err end)
   ended why end other written later cause =
-      read_stopped s show old new open open before after c end lawful alone (refused_reads old new before after (written.refused other) later) (omega arith) cause
+      read_stopped s show old new cursors cursors before after c end lawful alone (refused_reads old new before after (written.refused other) later) (omega arith) cause
 
-  meant_written : Meant → Written (step (setting_of s old.file) (state_on old.file before open) c).state
+  meant_written : Meant → Written (step (setting_of s old.file) (state_on old.file before cursors) c).state
   meant_written meant = (ap (λ (done : Step). done.state.objects.points) meant, ap (λ (done : Step). done.state.objects.tags) meant)
 
   -- the disk failed in the commit
-  failed : HasWritten s write old new before after (Err fault.Commit) → IsWriteOf s old open before after c write says (Err fault.Commit) → HasStepped s show old new open open before after c (Err stop.Disk)
+  failed : HasWritten s write old new before after (Err fault.Commit) → IsWriteOf s old cursors before after c write says (Err fault.Commit) → HasStepped s show old new cursors cursors before after c (Err stop.Disk)
   failed written of = record {
     going = tt;
     head = tt;
@@ -167,7 +167,7 @@ module _ {M : Type 0} (s : Space) (show : Bool) (old new : OpenIndex M) (open : 
     tagged = tt;
     cause = (written.stops refl).1;
     taken = λ sound. tt;
-    moments = λ sound. either (Err fault.Commit) written _ (meant_written (of.accepting (λ e. absurd (cc)) (λ e. absurd (cc)))) sound;
+    moments = λ sound. either (Err fault.Commit) written (step (setting_of s old.file) (state_on old.file before cursors) c).state (meant_written (of.accepting (λ e. absurd (cc)) (λ e. absurd (cc)))) sound;
   }
 
   hindrance_is : (why : Refusal) → write_of old.file.live.count c ≡ Some write → Hinders s old.file.head (version_on old.file before) why write →
@@ -175,8 +175,8 @@ module _ {M : Type 0} (s : Space) (show : Bool) (old new : OpenIndex M) (open : 
   hindrance_is why writes hinders = subst (λ (w : Option Write). MatchOption w ⊥ (Hinders s old.file.head (version_on old.file before) why)) (sym writes) hinders
 
   -- a write, whatever came of it
-  pub write_stepped : (result : Result ℕ IndexFault) → HasWritten s write old new before after result → IsWriteOf s old open before after c write says result →
-      HasStepped s show old new open open before after c (written_answer says result)
+  pub write_stepped : (result : Result ℕ IndexFault) → HasWritten s write old new before after result → IsWriteOf s old cursors before after c write says result →
+      HasStepped s show old new cursors cursors before after c (written_answer says result)
   write_stepped (Ok n) written of = done n written of
   write_stepped (Err fault.Full) written of = refused fault.Full refusal.Full None (λ e. absurd (cc)) written of (of.full refl) (λ sound. tt)
   write_stepped (Err fault.NotEmpty) written of = refused fault.NotEmpty refusal.NotEmpty None (λ e. absurd (cc)) written of (of.filled refl) (λ sound. tt)

@@ -25,11 +25,11 @@ use Rattle.session_run.specs.Turns.{Turn, Version, AreTurns, IsTurn, commands_of
 abbrev pub setting_of : {M : Type 0} → Space → OpenFile M → Setting
 setting_of s file = record { space = s; limit = file.head.limit }
 
--- the objects of the index with these open cursors
+-- the objects of the index with these cursors cursors
 abbrev pub state_on : {M : Type 0} → OpenFile M → DiskState → OpenCursors → State
-state_on file disk open = with_cursors (record { points = points_on file disk; tags = tags_on file disk }) open
+state_on file disk cursors = with_cursors (record { points = points_on file disk; tags = tags_on file disk }) cursors
 
--- no cursor is open
+-- no cursor is cursors
 abbrev pub no_cursors : OpenCursors
 no_cursors = record { cursors = []; next = 0 }
 
@@ -51,14 +51,14 @@ HoldsSome setting head state (t ∷ turns) image = HoldsState setting.space head
 
 -- ---- what is written
 
--- The command after the acknowledged ones was carried out, and a front of its log's frame and of its reply was put.
+-- The command after the acknowledged ones was carried out, and a front of its log's frame was put; or all of the frame, and a front of
+-- its reply.
 pub record IsCutShort (setting : Setting) (head : Head) (show : Bool) (state : State) (file : Version) (more : List Command) (rest log_rest : List ℕ) : Type 0 where
   pub turn : Turn
   pub others : List Command
   pub is : IsTurn setting head state file turn
   pub next : more ≡ turn.command ∷ others
-  pub front : IsFrontOf rest (text show turn.reply)
-  pub log_front : IsFrontOf log_rest (framed (if_any turn.log))
+  pub cut : ((rest ≡ []) × IsFrontOf log_rest (framed (if_any turn.log))) ⊎ (IsFrontOf rest (text show turn.reply) × (log_rest ≡ framed (if_any turn.log)))
 
 -- how a session ends after the acknowledged commands: with no command left; or an output failed in the next command's frame or reply;
 -- or it was stopped before anything of them was put

@@ -62,32 +62,32 @@ HoldsOne s head first second image = HoldsState s head first image ⊎ HoldsStat
 
 -- the objects from before a command, or those after it
 abbrev pub HoldsEither : {M : Type 0} → Space → OpenFile M → DiskState → OpenCursors → Command → List ℕ → Type 0
-HoldsEither s file disk open c image = HoldsOne s file.head (state_on file disk open) (step (setting_of s file) (state_on file disk open) c).state image
+HoldsEither s file disk cursors c image = HoldsOne s file.head (state_on file disk cursors) (step (setting_of s file) (state_on file disk cursors) c).state image
 
 -- What a command did on a sound file is a turn, whose reply has the text of the answer's; a crash within it leaves the objects before
 -- or after.
-pub record IsTaken {M : Type 0} (s : Space) (show : Bool) (old new : OpenFile M) (opened open : OpenCursors) (before after : DiskState) (c : Command) (answer : Answer) : Type 0 where
+pub record IsTaken {M : Type 0} (s : Space) (show : Bool) (old new : OpenFile M) (opened cursors : OpenCursors) (before after : DiskState) (c : Command) (answer : Answer) : Type 0 where
   pub turn : Turn
   pub is : IsTurn (setting_of s old) old.head (state_on old before opened) (version_on old before) turn
   pub command : turn.command ≡ c
-  pub state : turn.state ≡ state_on new after open
+  pub state : turn.state ≡ state_on new after cursors
   pub file : turn.file ≡ version_on new after
   pub log : turn.log ≡ answer.log
   pub same_text : text show answer.reply ≡ text show turn.reply
   pub moments : EachImage before after (HoldsOne s old.head (state_on old before opened) turn.state)
 
 -- What one command does. On a sound file it is a turn; where it ends the session, a crash leaves the objects before or after.
-pub record HasStepped {M : Type 0} (s : Space) (show : Bool) (old new : OpenIndex M) (opened open : OpenCursors) (before after : DiskState) (c : Command) (result : Result Answer Stop) : Type 0 where
+pub record HasStepped {M : Type 0} (s : Space) (show : Bool) (old new : OpenIndex M) (opened cursors : OpenCursors) (before after : DiskState) (c : Command) (result : Result Answer Stop) : Type 0 where
   pub going : OnOk result (new.stopped ≡ false)
   pub head : OnOk result (new.file.head ≡ old.file.head)
   pub metric : OnOk result (new.file.metric ≡ old.file.metric)
   pub tells : after.tells ≡ before.tells
   pub later : before.faults ≤ after.faults
-  pub numbers : open.next ≤ opened.next + 1
+  pub numbers : cursors.next ≤ opened.next + 1
   pub spelled : IfOk result (λ a. MatchOption a.log (Unit {0}) IsLawfulLog)
   pub tagged : IfOk result (λ a. show ≡ true → TagsAre a.reply)
   pub cause : IfErr result (HasStepCause (IsSoundOn s old.file before) before after)
-  pub taken : IsSoundOn s old.file before → IfOk result (IsTaken s show old.file new.file opened open before after c)
+  pub taken : IsSoundOn s old.file before → IfOk result (IsTaken s show old.file new.file opened cursors before after c)
   pub moments : IsSoundOn s old.file before → OnErr result (EachImage before after (HoldsEither s old.file before opened c))
 
 -- what was found is answered with its tags, where they are shown, and with its log
@@ -98,25 +98,29 @@ pub record IsShownAs {M : Type 0} (s : Space) (show : Bool) (file : OpenFile M) 
   pub objects : show ≡ true → IsTrue disk.tells → IsShown s (nodes_on file disk) file.live found → tags ≡ object_tags (nodes_on file disk) file.live found
 
 -- a turn was put: the reply's text, and before it the frame of its log
-pub record IsPut {M : Type 0} (s : Space) (show : Bool) (old new : OpenFile M) (opened open : OpenCursors) (before after : DiskState) (c : Command)
+pub record IsPut {M : Type 0} (s : Space) (show : Bool) (old new : OpenFile M) (opened cursors : OpenCursors) (before after : DiskState) (c : Command)
     (out0 out1 log0 log1 : SinkState) : Type 0 where
   pub turn : Turn
   pub is : IsTurn (setting_of s old) old.head (state_on old before opened) (version_on old before) turn
   pub command : turn.command ≡ c
-  pub state : turn.state ≡ state_on new after open
+  pub state : turn.state ≡ state_on new after cursors
   pub file : turn.file ≡ version_on new after
   pub written : Appends out0.written out1.written (text show turn.reply)
   pub logged : Appends log0.written log1.written (framed (if_any turn.log))
   pub moments : EachImage before after (HoldsOne s old.head (state_on old before opened) turn.state)
 
--- a front of them was put
+-- what was put of a reply with this text and of a log with this frame: a front of the frame, or the frame and a front of the text
+abbrev pub IsCut : SinkState → SinkState → SinkState → SinkState → List ℕ → List ℕ → Type 0
+IsCut out0 out1 log0 log1 reply frame =
+    ((out1 ≡ out0) × AppendsPrefix log0.written log1.written frame) ⊎ (AppendsPrefix out0.written out1.written reply × Appends log0.written log1.written frame)
+
+-- a turn was put in part
 pub record IsPartlyPut {M : Type 0} (s : Space) (show : Bool) (old : OpenFile M) (opened : OpenCursors) (before : DiskState) (c : Command)
     (out0 out1 log0 log1 : SinkState) : Type 0 where
   pub turn : Turn
   pub is : IsTurn (setting_of s old) old.head (state_on old before opened) (version_on old before) turn
   pub command : turn.command ≡ c
-  pub written : AppendsPrefix out0.written out1.written (text show turn.reply)
-  pub logged : AppendsPrefix log0.written log1.written (framed (if_any turn.log))
+  pub cut : IsCut out0 out1 log0 log1 (text show turn.reply) (framed (if_any turn.log))
 
 -- what stands on the outputs after a command at which the session stops
 abbrev pub IsStoppedAt : {M : Type 0} → Space → Bool → OpenFile M → OpenCursors → DiskState → Command → SinkState → SinkState → SinkState → SinkState → Stop → Type 0
@@ -124,7 +128,7 @@ IsStoppedAt s show old opened before c out0 out1 log0 log1 stop.Sink = IsPartlyP
 IsStoppedAt s show old opened before c out0 out1 log0 log1 why = (out1 ≡ out0) × (log1 ≡ log0)
 
 -- What one command does and writes.
-pub record HasTurned {M : Type 0} (s : Space) (show : Bool) (old new : OpenIndex M) (opened open : OpenCursors) (before after : DiskState) (c : Command)
+pub record HasTurned {M : Type 0} (s : Space) (show : Bool) (old new : OpenIndex M) (opened cursors : OpenCursors) (before after : DiskState) (c : Command)
     (out0 out1 log0 log1 : SinkState) (result : Result (Unit {0}) Stop) : Type 0 where
   pub going : OnOk result (new.stopped ≡ false)
   pub head : OnOk result (new.file.head ≡ old.file.head)
@@ -133,8 +137,8 @@ pub record HasTurned {M : Type 0} (s : Space) (show : Bool) (old new : OpenIndex
   pub later : before.faults ≤ after.faults
   pub out_later : out0.faults ≤ out1.faults
   pub log_later : log0.faults ≤ log1.faults
-  pub numbers : open.next ≤ opened.next + 1
+  pub numbers : cursors.next ≤ opened.next + 1
   pub cause : IfErr result (HasStopCause (IsSoundOn s old.file before) before after out0 out1 log0 log1)
-  pub put : IsSoundOn s old.file before → OnOk result (IsPut s show old.file new.file opened open before after c out0 out1 log0 log1)
+  pub put : IsSoundOn s old.file before → OnOk result (IsPut s show old.file new.file opened cursors before after c out0 out1 log0 log1)
   pub stopped : IsSoundOn s old.file before → IfErr result (IsStoppedAt s show old.file opened before c out0 out1 log0 log1)
   pub moments : IsSoundOn s old.file before → OnErr result (EachImage before after (HoldsEither s old.file before opened c))

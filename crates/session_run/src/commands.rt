@@ -24,36 +24,36 @@ fn execute<R: Threads + Sync, M: Metric, D: Disk>(
     cursors: &mut Cursors,
     disk: &mut D,
     show: bool,
-    command: Command,
+    command: &Command,
 ) -> Result<Answer, Stop>
     requires going { index.old.stopped ≡ false }
     requires stands { MayGoOn index.old (D.state disk.old) }
     requires numbers { cursors.old.next + 1 < 2 ^ 32 }
-    requires readable { IsReadable (M.space index.old.file.metric).words command }
-    requires points { IsTrue (has_points_of (M.space index.old.file.metric) command) }
+    requires readable { IsReadable (M.space index.old.file.metric).words command.now }
+    requires points { IsTrue (has_points_of (M.space index.old.file.metric) command.now) }
     ensures stands { MayGoOn index.new (D.state disk.new) }
-    ensures stepped { HasStepped (M.space index.old.file.metric) show index.old index.new cursors.old cursors.new (D.state disk.old) (D.state disk.new) command result }
+    ensures stepped { HasStepped (M.space index.old.file.metric) show index.old index.new cursors.old cursors.new (D.state disk.old) (D.state disk.new) command.now result }
 {
     index.is_lawful();
     match command {
         Command::Insert(p) => inserted(index.insert(alloc, disk, p.as_slice())),
         Command::TagInsert { tag, p } => {
-            inserted(index.insert_tagged(alloc, disk, p.as_slice(), tag))
+            inserted(index.insert_tagged(alloc, disk, p.as_slice(), *tag))
         }
-        Command::Load(rows) => loaded(index.load(rt, alloc, disk, &rows)),
+        Command::Load(rows) => loaded(index.load(rt, alloc, disk, rows)),
         Command::TagLoad { tags, rows } => {
-            loaded(index.load_tagged(rt, alloc, disk, &rows, tags.as_slice()))
+            loaded(index.load_tagged(rt, alloc, disk, rows, tags.as_slice()))
         }
-        Command::Range { r, q } => range(alloc, index, disk, show, &q, r),
-        Command::Nearest { k, q } => nearest(alloc, index, disk, show, &q, k),
+        Command::Range { r, q } => range(alloc, index, disk, show, q, *r),
+        Command::Nearest { k, q } => nearest(alloc, index, disk, show, q, *k),
         Command::Count => Ok(Answer::plain(Reply::Count(index.count()))),
-        Command::Bad(why) => Ok(Answer::plain(Reply::Refused(why))),
-        Command::Cursor(q) => open_cursor(alloc, index, cursors, disk, show, &q),
-        Command::Next { cursor, n } => match cursors.advance(alloc, cursor, n) {
+        Command::Bad(why) => Ok(Answer::plain(Reply::Refused(*why))),
+        Command::Cursor(q) => open_cursor(alloc, index, cursors, disk, show, q),
+        Command::Next { cursor, n } => match cursors.advance(alloc, *cursor, *n) {
             Ok(reply) => Ok(Answer::plain(reply)),
             Err(_) => Err(Stop::Memory),
         },
-        Command::Close(cursor) => Ok(Answer::plain(cursors.close(cursor))),
+        Command::Close(cursor) => Ok(Answer::plain(cursors.close(*cursor))),
     }
 }
 
@@ -65,17 +65,17 @@ pub fn step<R: Threads + Sync, M: Metric, D: Disk>(
     cursors: &mut Cursors,
     disk: &mut D,
     show: bool,
-    command: Command,
+    command: &Command,
 ) -> Result<Answer, Stop>
     requires going { index.old.stopped ≡ false }
     requires stands { MayGoOn index.old (D.state disk.old) }
     requires numbers { cursors.old.next + 1 < 2 ^ 32 }
-    requires readable { IsReadable (M.space index.old.file.metric).words command }
+    requires readable { IsReadable (M.space index.old.file.metric).words command.now }
     ensures stands { MayGoOn index.new (D.state disk.new) }
-    ensures stepped { HasStepped (M.space index.old.file.metric) show index.old index.new cursors.old cursors.new (D.state disk.old) (D.state disk.new) command result }
+    ensures stepped { HasStepped (M.space index.old.file.metric) show index.old index.new cursors.old cursors.new (D.state disk.old) (D.state disk.new) command.now result }
 {
     index.is_lawful();
-    if !has_points_of(&index.metric(), &command) {
+    if !has_points_of(&index.metric(), command) {
         return Ok(Answer::plain(Reply::Refused(Refusal::Unfit)));
     }
     execute(rt, alloc, index, cursors, disk, show, command)

@@ -5,10 +5,10 @@ mod answer;
 mod commands;
 pub mod laws;
 mod queries;
-mod session;
+mod running;
 mod stop;
 
-pub use session::{Ended, session};
+pub use running::{Ended, session};
 pub use stop::Stop;
 
 /// Want of memory.

@@ -62,8 +62,8 @@ pub fn range<M: Metric, D: Disk>(
     requires stands { MayGoOn index.old (D.state disk.old) }
     requires point { IsTrue ((M.space index.old.file.metric).fits q.now) }
     ensures stands { MayGoOn index.new (D.state disk.new) }
-    ensures stepped { (open : OpenCursors) →
-        HasStepped (M.space index.old.file.metric) show index.old index.new open open (D.state disk.old) (D.state disk.new) (command.Range r q.now) result }
+    ensures stepped { (cursors : OpenCursors) →
+        HasStepped (M.space index.old.file.metric) show index.old index.new cursors cursors (D.state disk.old) (D.state disk.new) (command.Range r q.now) result }
 {
     index.is_lawful();
     match index.range(alloc, disk, q.as_slice(), r) {
@@ -86,8 +86,8 @@ pub fn nearest<M: Metric, D: Disk>(
     requires point { IsTrue ((M.space index.old.file.metric).fits q.now) }
     requires some { 1 ≤ k }
     ensures stands { MayGoOn index.new (D.state disk.new) }
-    ensures stepped { (open : OpenCursors) →
-        HasStepped (M.space index.old.file.metric) show index.old index.new open open (D.state disk.old) (D.state disk.new) (command.Nearest k q.now) result }
+    ensures stepped { (cursors : OpenCursors) →
+        HasStepped (M.space index.old.file.metric) show index.old index.new cursors cursors (D.state disk.old) (D.state disk.new) (command.Nearest k q.now) result }
 {
     index.is_lawful();
     match index.nearest(alloc, disk, q.as_slice(), k) {

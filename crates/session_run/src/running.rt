@@ -1,6 +1,5 @@
 ghost use Rattle.std.specs.Prelude.{◌≡◌, ◌≤◌, ◌<◌, ◌+◌, ◌^◌, ◌⊎◌, length, false, true, All, IfOk, IfErr, OnOk, OnErr, MatchOption, None};
 ghost use Rattle.std.specs.Io.KnownBytes.{Appends};
-ghost use Rattle.outside_io.specs.Bytes.{AppendsPrefix};
 ghost use Rattle.outside_io.specs.Causes.{Rose};
 ghost use Rattle.rows_text.specs.Meaning.{TagsAre};
 ghost use Rattle.rows_text.specs.Readable.{IsReadable};
@@ -9,7 +8,7 @@ ghost use Rattle.log_model.specs.Grammar.{IsLawfulLog};
 ghost use Rattle.index_core.specs.Answers.{IsSoundOn};
 ghost use Rattle.index_core.specs.Index.{MayGoOn};
 ghost use Rattle.session_run.specs.Session.{HasRun, HasStopCause, no_cursors, setting_of, state_on};
-ghost use Rattle.session_run.specs.Steps.{HasTurned};
+ghost use Rattle.session_run.specs.Steps.{HasTurned, IsCut};
 ghost use Rattle.session_run.specs.Turns.{framed, if_any, version_on};
 
 use crate::Memory;
@@ -66,8 +65,7 @@ fn texts_of(alloc: Global, answer: &Answer, show: bool) -> Result<Texts, Memory>
 fn put_texts<K: Sink, T: Sink>(texts: &Texts, out: &mut K, log_out: &mut T) -> Result<(), Stop>
     ensures reply { OnOk result (Appends (K.state out.old).written (K.state out.new).written texts.now.reply.items) }
     ensures frame { OnOk result (Appends (T.state log_out.old).written (T.state log_out.new).written texts.now.frame.items) }
-    ensures reply_front { OnErr result (AppendsPrefix (K.state out.old).written (K.state out.new).written texts.now.reply.items) }
-    ensures frame_front { OnErr result (AppendsPrefix (T.state log_out.old).written (T.state log_out.new).written texts.now.frame.items) }
+    ensures cut { OnErr result (IsCut (K.state out.old) (K.state out.new) (T.state log_out.old) (T.state log_out.new) texts.now.reply.items texts.now.frame.items) }
     ensures sink { IfErr result (λ why. why ≡ Stop.Sink) }
     ensures rose { OnErr result (Rose (K.state out.old).faults (K.state out.new).faults ⊎ Rose (T.state log_out.old).faults (T.state log_out.new).faults) }
     ensures later { (K.state out.old).faults ≤ (K.state out.new).faults }
@@ -90,16 +88,16 @@ fn turn<R: Threads + Sync, M: Metric, D: Disk, K: Sink, T: Sink>(
     cursors: &mut Cursors,
     disk: &mut D,
     show: bool,
-    command: Command,
+    command: &Command,
     out: &mut K,
     log_out: &mut T,
 ) -> Result<(), Stop>
     requires going { index.old.stopped ≡ false }
     requires stands { MayGoOn index.old (D.state disk.old) }
     requires numbers { cursors.old.next + 1 < 2 ^ 32 }
-    requires readable { IsReadable (M.space index.old.file.metric).words command }
+    requires readable { IsReadable (M.space index.old.file.metric).words command.now }
     ensures stands { MayGoOn index.new (D.state disk.new) }
-    ensures turned { HasTurned (M.space index.old.file.metric) show index.old index.new cursors.old cursors.new (D.state disk.old) (D.state disk.new) command
+    ensures turned { HasTurned (M.space index.old.file.metric) show index.old index.new cursors.old cursors.new (D.state disk.old) (D.state disk.new) command.now
         (K.state out.old) (K.state out.new) (T.state log_out.old) (T.state log_out.new) result }
 {
     index.is_lawful();
@@ -126,21 +124,21 @@ pub fn session<R: Threads + Sync, M: Metric, D: Disk, K: Sink, T: Sink>(
     alloc: Global,
     index: &mut Index<M>,
     disk: &mut D,
-    commands: Vec<Command>,
+    commands: &[Command],
     show: bool,
     out: &mut K,
     log_out: &mut T,
 ) -> Ended
     requires going { index.old.stopped ≡ false }
     requires stands { MayGoOn index.old (D.state disk.old) }
-    requires few { length commands.items < 2 ^ 32 }
-    requires readable { All (IsReadable (M.space index.old.file.metric).words) commands.items }
+    requires few { length commands.now < 2 ^ 32 }
+    requires readable { All (IsReadable (M.space index.old.file.metric).words) commands.now }
     ensures stands { MayGoOn index.new (D.state disk.new) }
     ensures run { IsSoundOn (M.space index.old.file.metric) index.old.file (D.state disk.old) →
-        HasRun (setting_of (M.space index.old.file.metric) index.old.file) index.old.file.head show commands.items
-            (state_on index.old.file (D.state disk.old) no_cursors) (version_on index.old.file (D.state disk.old))
-            (D.state disk.old) (D.state disk.new) (K.state out.old) (K.state out.new) (T.state log_out.old) (T.state log_out.new)
-            result.acknowledged result.stopped (version_on index.new.file (D.state disk.new)) }
+        HasRun (setting_of (M.space index.old.file.metric) index.old.file) index.old.file.head show commands.now
+        (state_on index.old.file (D.state disk.old) no_cursors) (version_on index.old.file (D.state disk.old))
+        (D.state disk.old) (D.state disk.new) (K.state out.old) (K.state out.new) (T.state log_out.old) (T.state log_out.new)
+        result.acknowledged result.stopped (version_on index.new.file (D.state disk.new)) }
     ensures going { result.stopped ≡ None → index.new.stopped ≡ false }
     ensures cause { MatchOption result.stopped (Unit {0}) (HasStopCause (IsSoundOn (M.space index.old.file.metric) index.old.file (D.state disk.old))
         (D.state disk.old) (D.state disk.new) (K.state out.old) (K.state out.new) (T.state log_out.old) (T.state log_out.new)) }
@@ -149,6 +147,7 @@ pub fn session<R: Threads + Sync, M: Metric, D: Disk, K: Sink, T: Sink>(
     ensures out_later { (K.state out.old).faults ≤ (K.state out.new).faults }
     ensures log_later { (T.state log_out.old).faults ≤ (T.state log_out.new).faults }
 {
+    index.is_lawful();
     let mut cursors = Cursors::new(alloc);
     let mut acknowledged = 0u64;
     for command in commands {
@@ -170,6 +169,7 @@ pub fn session<R: Threads + Sync, M: Metric, D: Disk, K: Sink, T: Sink>(
         }
         acknowledged += 1;
     }
+    index.is_lawful();
     Ended {
         acknowledged,
         stopped: None,

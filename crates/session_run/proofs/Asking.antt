@@ -1,0 +1,183 @@
+-- What a query of a session answers, and what the opening of a cursor does.
+use Rattle.std.proofs.Common.{◌≡◌, ◌⊎◌, ℕ, ◌+◌, ◌≤◌, Bool, true, false, List, [], ◌∷◌, ◌++◌, length, map, min, inl, inr, refl, sym, ap, subst, ◌∙◌, arith, Option, Some, None, Result, Ok, Err}
+use Rattle.std.specs.Prelude.{IsTrue, MatchOption, OnOk, IfOk, IfErr, codes, flat_map, slice_index_or}
+use Rattle.metric_laws.specs.Space.{Space, bound}
+use Rattle.outside_io.specs.Causes.{Rose}
+use Rattle.disk_model.specs.Disk.{DiskState}
+use Rattle.scan_model.specs.declared.hit.Hit.{Hit}
+use Rattle.scan_model.specs.declared.query.Query.{Query}
+use Rattle.rows_text.specs.declared.command.Command.{Command}
+use Rattle.rows_text.specs.declared.reply.Reply.{Reply}
+use Rattle.rows_text.specs.declared.reply.Reply.TheVariants as reply
+use Rattle.rows_text.specs.Meaning.{Holdings, State, Step, hits_reply, step, tags_of, TagsAre}
+use Rattle.rows_text.specs.Texts.{counted, hit_line, tagged_lines, text}
+use Rattle.plain_scan.specs.OpenCursors.{OpenCursors}
+use Rattle.page_store.specs.declared.pages.PageFault.{PageFault}
+use Rattle.page_store.specs.declared.pages.PageFault.TheVariants as page
+use Rattle.log_model.specs.declared.logs.Found.{Found}
+use Rattle.log_model.specs.declared.logs.Log.{Log}
+use Rattle.log_model.specs.Grammar.{IsLawfulLog}
+use Rattle.log_model.specs.Laws.{scan_answers}
+use Rattle.log_model.specs.Sound.{IsLogOf, IsSoundLog}
+use Rattle.tree_shape.specs.Tree.{tags_by_id}
+use Rattle.log_model.proofs.LeastLog.{least_sound}
+use Rattle.range_search.specs.Searched.{HasWalkCause}
+use Rattle.nearest_search.specs.Searched.{HasNearestCause}
+use Rattle.log_model.specs.Counts.{count_up}
+use Rattle.log_model.specs.Walk.{search_at}
+use Rattle.hit_tags.specs.Tags.{HasTagsCause, IsShown, object_tags}
+use Rattle.index_core.specs.declared.faults.IndexFault.{IndexFault}
+use Rattle.index_core.specs.declared.faults.IndexFault.TheVariants as fault
+use Rattle.index_core.specs.Answers.{HasRangeCause, HasReachCause, HasSearched, HasTagCause, IsAnswerOn, IsSoundOn, points_on, tags_on}
+use Rattle.index_core.specs.Causes.{HasReadCause, MayComeAnytime, IsDamage as IsWalkDamage}
+use Rattle.index_core.specs.Files.{OpenFile, IsLawfulFile, OnlyReads, nodes_on, pages_on}
+use Rattle.index_core.specs.Index.{OpenIndex, StandsAlone}
+use Rattle.index_core.proofs.Written.{reads_both}
+use Rattle.session_run.specs.declared.answer.Answer.{Answer}
+use Rattle.session_run.specs.declared.stop.Stop.{Stop}
+use Rattle.session_run.specs.declared.stop.Stop.TheVariants as stop
+use Rattle.session_run.specs.Session.{IsDamage, setting_of, state_on}
+use Rattle.session_run.specs.Steps.{HasStepCause, HasStepped, IsShownAs, answer_of_fault}
+use Rattle.session_run.specs.Turns.{HasLog, Version, answered_query, version_on}
+use Rattle.session_run.proofs.Reading.{read_stepped, read_stopped, read_taken, sound_still, version_still}
+
+pub rose_more : (a b c : ℕ) → a ≤ b → Rose b c → Rose a c
+rose_more a b c more rose = grind arith
+
+-- what ends a walk ends the session with the same cause
+pub fault_cause : {Sound : Type 0} (before after : DiskState) (walk : PageFault → Type 0) (why : IndexFault) → HasReadCause walk why → (walk page.Disk → Rose before.faults after.faults) →
+    (Sound → MayComeAnytime why) → IfErr (answer_of_fault why) (HasStepCause Sound before after)
+fault_cause before after walk fault.Disk cause rose undamaged = rose cause
+fault_cause before after walk (fault.Damaged f) cause rose undamaged = (damage f cause.0, λ sound. undamaged sound)
+  where
+    damage : (f : PageFault) → IsWalkDamage f → IsDamage f
+    damage (page.Bad p n) is = tt
+    damage (page.Outside p) is = tt
+    damage (page.Repeats p) is = tt
+    damage (page.Level p) is = absurd is
+    damage page.Disk is = absurd is
+    damage page.Memory is = absurd is
+fault_cause before after walk fault.Memory cause rose undamaged = tt
+fault_cause before after walk fault.Full cause rose undamaged = absurd cause
+fault_cause before after walk fault.NotEmpty cause rose undamaged = absurd cause
+fault_cause before after walk (fault.NoRoom pages needed) cause rose undamaged = absurd cause
+fault_cause before after walk fault.Worn cause rose undamaged = absurd cause
+fault_cause before after walk fault.Stopped cause rose undamaged = absurd cause
+fault_cause before after walk fault.Commit cause rose undamaged = absurd cause
+
+-- and it gives no answer
+pub fault_ends : (walk : PageFault → Type 0) (why : IndexFault) → HasReadCause walk why → (end : Stop) × (answer_of_fault why ≡ Err end)
+fault_ends walk fault.Disk cause = (_, refl)
+fault_ends walk (fault.Damaged f) cause = (_, refl)
+fault_ends walk fault.Memory cause = (_, refl)
+fault_ends walk fault.Full cause = absurd cause
+fault_ends walk fault.NotEmpty cause = absurd cause
+fault_ends walk (fault.NoRoom pages needed) cause = absurd cause
+fault_ends walk fault.Worn cause = absurd cause
+fault_ends walk fault.Stopped cause = absurd cause
+fault_ends walk fault.Commit cause = absurd cause
+
+pub fault_stepped : {M : Type 0} (s : Space) (show : Bool) (old new : OpenIndex M) (cursors : OpenCursors) (before after : DiskState) (c : Command) (walk : PageFault → Type 0) (why : IndexFault) →
+    IsLawfulFile s.words old.file → StandsAlone old before → OnlyReads old.file new.file before after → HasReadCause walk why → (walk page.Disk → Rose before.faults after.faults) →
+    (IsSoundOn s old.file before → MayComeAnytime why) → HasStepped s show old new cursors cursors before after c (answer_of_fault why)
+fault_stepped s show old new cursors before after c walk why lawful alone reads cause rose undamaged =
+    let ends = fault_ends walk why cause in
+    let is = fault_cause {Sound = IsSoundOn s old.file before} before after walk why cause rose undamaged in
+    subst (λ (r : Result Answer Stop). HasStepped s show old new cursors cursors before after c r) (sym ends.1)
+    (read_stopped s show old new cursors cursors before after c ends.0 lawful alone reads (omega arith) (rw ends.1 at is))
+
+-- hits have one text, shown with the same tags, or hidden
+same_text : (show : Bool) (hits scanned : List Hit) (tags meant : List ℕ) → hits ≡ scanned → (show ≡ true → tags ≡ meant) → text show (reply.Hits hits tags) ≡ text show (reply.Hits scanned meant)
+same_text true hits scanned tags meant same shown = (λ i. text true (reply.Hits (same i) (shown refl i)))
+same_text false hits scanned tags meant same shown = (λ i. counted (codes "hits ") (length (same i)) ++ flat_map hit_line (same i))
+
+-- a query that is answered
+pub query_stepped : {M : Type 0} (s : Space) (show : Bool) (old new : OpenIndex M) (file : OpenFile M) (cursors : OpenCursors) (before mid after : DiskState) (c : Command) (asked : Query) (found : Found) (a : Answer) →
+    IsLawfulFile s.words old.file → StandsAlone old before → new.stopped ≡ false → OnlyReads old.file file before mid → OnlyReads file new.file mid after →
+    HasSearched s old.file asked before mid (Ok found) → IsShownAs s show file found mid a → answered_query s c ≡ Some asked →
+    step (setting_of s old.file) (state_on old.file before cursors) c
+    ≡ record { reply = hits_reply (state_on old.file before cursors).objects (scan_answers s asked (points_on old.file before)); state = state_on old.file before cursors } →
+    HasStepped s show old new cursors cursors before after c (Ok a)
+query_stepped {M} s show old new file cursors before mid after c asked found a lawful alone going first second searched shown answered meaning =
+    read_stepped s show old new cursors cursors before after c a lawful alone going both (omega arith)
+    (subst (λ (x : Answer). MatchOption x.log (Unit {0}) IsLawfulLog) (sym shown.is) searched.log.lawful)
+    (λ asks. subst (λ (x : Answer). TagsAre x.reply) (sym shown.is) (shown.each asks))
+    (λ sound. read_taken s show old new.file cursors cursors before after c a None (hits_reply objects (scan_answers s asked objects.points)) lawful alone both sound meaning refl tt (logged sound) (same sound))
+  where
+    both : OnlyReads old.file new.file before after
+    both = reads_both old.file file new.file before mid after first second
+
+    objects : Holdings
+    objects = (state_on old.file before cursors).objects
+
+    logged : IsSoundOn s old.file before → HasLog s (version_on old.file before) (answered_query s c) a.log
+    logged sound = subst (λ (q : Option Query). HasLog s (version_on old.file before) q a.log) (sym answered)
+        (subst (λ (x : Answer). HasLog s (version_on old.file before) (Some asked) x.log) (sym shown.is) (searched.answer sound).least)
+
+    own_tags : IsSoundOn s old.file before → show ≡ true → shown.tags ≡ tags_of objects (scan_answers s asked objects.points)
+    own_tags sound asks =
+        shown.objects asks (sound_still s old.file file before mid first sound).0 (record {
+          tree = (sound_still s old.file file before mid first sound).1;
+          log = subst (λ (v : Version). IsSoundLog s v.nodes v.live found.log) (sym (version_still old.file file before mid first)) (least_sound s (nodes_on old.file before) old.file.live asked found.log (searched.answer sound).least);
+          hits_are = searched.log.hits_are;
+        })
+        ∙ (λ i. map (λ h. slice_index_or (tags_still i) h.id 0) ((searched.answer sound).hits i))
+      where
+        tags_still : tags_on file mid ≡ tags_on old.file before
+        tags_still = ap (λ (v : Version). tags_by_id v.nodes v.live) (version_still old.file file before mid first)
+
+    same : IsSoundOn s old.file before → text show a.reply ≡ text show (hits_reply objects (scan_answers s asked objects.points))
+    same sound = ap (λ (x : Answer). text show x.reply) shown.is
+        ∙ same_text show found.hits (scan_answers s asked objects.points) shown.tags (tags_of objects (scan_answers s asked objects.points)) (searched.answer sound).hits (own_tags sound)
+
+-- ---- what was found, with its tags or without
+
+cause_then : {S T : Type 0} (before mid after : DiskState) (why : Stop) → before.faults ≤ mid.faults → (S → T) → HasStepCause T mid after why → HasStepCause S before after why
+cause_then before mid after stop.Disk later kept rose = rose_more before.faults mid.faults after.faults later rose
+cause_then before mid after (stop.Damaged f) later kept cause = (cause.0, λ sound. cause.1 (kept sound))
+cause_then before mid after stop.Memory later kept cause = tt
+cause_then before mid after stop.Sink later kept cause = absurd cause
+
+pub found_stepped : {M : Type 0} (space : M → Space) (show : Bool) (old new : OpenIndex M) (file : OpenFile M) (cursors : OpenCursors) (before mid after : DiskState) (c : Command) (asked : Query) (found : Found)
+    (result : Result Answer Stop) → IsLawfulFile (space old.file.metric).words old.file → StandsAlone old before → new.stopped ≡ false → OnlyReads old.file file before mid → OnlyReads file new.file mid after →
+    HasSearched (space old.file.metric) old.file asked before mid (Ok found) → IfOk result (IsShownAs (space file.metric) show file found mid) →
+    IfErr result (HasStepCause (IsSoundOn (space file.metric) file mid) mid after) → answered_query (space old.file.metric) c ≡ Some asked →
+    step (setting_of (space old.file.metric) old.file) (state_on old.file before cursors) c ≡ record {
+      reply = hits_reply (state_on old.file before cursors).objects (scan_answers (space old.file.metric) asked (points_on old.file before));
+      state = state_on old.file before cursors;
+    } → HasStepped (space old.file.metric) show old new cursors cursors before after c result
+found_stepped {M} space show old new file cursors before mid after c asked found (Ok a) lawful alone going first second searched shown cause answered meaning =
+    query_stepped (space old.file.metric) show old new file cursors before mid after c asked found a lawful alone going first second searched
+    (subst (λ (m : M). IsShownAs (space m) show file found mid a) (ap (λ (f : OpenFile M). f.metric) first.rest) shown) answered meaning
+found_stepped {M} space show old new file cursors before mid after c asked found (Err why) lawful alone going first second searched shown cause answered meaning =
+    read_stopped (space old.file.metric) show old new cursors cursors before after c why lawful alone (reads_both old.file file new.file before mid after first second) (omega arith)
+    (cause_then before mid after why first.later (λ sound. sound_still (space old.file.metric) old.file file before mid first sound)
+    (subst (λ (m : M). HasStepCause (IsSoundOn (space m) file mid) mid after why) (ap (λ (f : OpenFile M). f.metric) first.rest) cause))
+
+pub range_fault : {M : Type 0} (s : Space) (show : Bool) (old new : OpenIndex M) (cursors : OpenCursors) (before after : DiskState) (c : Command) (q : List ℕ) (r : ℕ) (why : IndexFault) →
+    IsLawfulFile s.words old.file → StandsAlone old before → OnlyReads old.file new.file before after → HasRangeCause s old.file q r before after why → (IsSoundOn s old.file before → MayComeAnytime why) →
+    HasStepped s show old new cursors cursors before after c (answer_of_fault why)
+range_fault s show old new cursors before after c q r why lawful alone reads cause undamaged = fault_stepped s show old new cursors before after c
+    (HasWalkCause (search_at s q (min r bound)) old.file.live (pages_on old.file before 0) (pages_on old.file after (count_up 0 old.file.live.pages))) why lawful alone reads cause (λ rose. rose) undamaged
+
+pub reach_fault : {M : Type 0} (s : Space) (show : Bool) (old new : OpenIndex M) (cursors : OpenCursors) (before after : DiskState) (c : Command) (why : IndexFault) →
+    IsLawfulFile s.words old.file → StandsAlone old before → OnlyReads old.file new.file before after → HasReachCause old.file before after why → (IsSoundOn s old.file before → MayComeAnytime why) →
+    HasStepped s show old new cursors cursors before after c (answer_of_fault why)
+reach_fault s show old new cursors before after c why lawful alone reads cause undamaged = fault_stepped s show old new cursors before after c
+    (HasNearestCause old.file.live (pages_on old.file before 0) (pages_on old.file after (count_up 0 old.file.live.pages))) why lawful alone reads cause (λ rose. rose) undamaged
+
+-- why the walk for tags stops
+abbrev tag_walk : {M : Type 0} → OpenFile M → Found → DiskState → DiskState → PageFault → Type 0
+tag_walk file found old new = HasTagsCause (pages_on file old 0) (pages_on file new 0) (file.live.root ∷ []) found.log.records
+
+-- the walk for tags ended the session, after a search
+pub tag_fault : {M : Type 0} (space : M → Space) (show : Bool) (old new : OpenIndex M) (file : OpenFile M) (cursors : OpenCursors) (before mid after : DiskState) (c : Command) (found : Found) (why : IndexFault) →
+    IsLawfulFile (space old.file.metric).words old.file → StandsAlone old before → OnlyReads old.file file before mid → OnlyReads file new.file mid after → HasTagCause file found mid after why →
+    (IsSoundOn (space file.metric) file mid → MayComeAnytime why) → HasStepped (space old.file.metric) show old new cursors cursors before after c (answer_of_fault why)
+tag_fault {M} space show old new file cursors before mid after c found why lawful alone first second cause undamaged =
+    let ends = fault_ends (tag_walk file found mid after) why cause in
+    let is = fault_cause {Sound = IsSoundOn (space file.metric) file mid} mid after (tag_walk file found mid after) why cause (λ rose. rose.1) undamaged in
+    subst (λ (r : Result Answer Stop). HasStepped (space old.file.metric) show old new cursors cursors before after c r) (sym ends.1)
+    (read_stopped (space old.file.metric) show old new cursors cursors before after c ends.0 lawful alone (reads_both old.file file new.file before mid after first second) (omega arith)
+    (cause_then before mid after ends.0 first.later (λ sound. subst (λ (m : M). IsSoundOn (space m) file mid) (sym (ap (λ (f : OpenFile M). f.metric) first.rest)) (sound_still (space old.file.metric) old.file file before mid first sound))
+    (rw ends.1 at is)))
