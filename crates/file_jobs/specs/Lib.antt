@@ -1,3 +1,4 @@
 pub mod Lines
 pub mod Jobs
+pub mod Shapes
 pub mod Laws

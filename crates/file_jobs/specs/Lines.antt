@@ -1,5 +1,6 @@
 -- The lines of the jobs on files.
-use Rattle.std.specs.Prelude.{ℕ, List, ◌++◌, codes, decimal}
+use Rattle.std.specs.Prelude.{ℕ, List, ◌++◌, length, map, flat_map, codes, decimal, Option, Some, None}
+use Rattle.std.specs.List.{join_with_byte}
 use Rattle.shadow_root.specs.declared.faults.OpenFault.{OpenFault}
 use Rattle.shadow_root.specs.declared.faults.OpenFault.TheVariants as open_fault
 use Rattle.rows_text.specs.Texts.{line_end, space, counted}
@@ -11,6 +12,7 @@ use Rattle.page_store.specs.declared.pages.PageFault.{PageFault}
 use Rattle.page_store.specs.declared.pages.PageFault.TheVariants as page
 use Rattle.tree_audit.specs.declared.faults.AuditFault.{AuditFault}
 use Rattle.tree_audit.specs.declared.faults.AuditFault.TheVariants as audit
+use Rattle.tree_outline.specs.declared.outline.ShapeLine.{ShapeLine}
 use Rattle.node_page.specs.Opening.{Unopened}
 use Rattle.node_page.specs.Opening.Unopened.{Short, NoHead, Unfinished, TwoRoots, BadSlot}
 
@@ -66,6 +68,29 @@ sound_text objects nodes = codes "sound\n" ++ counted (codes "objects ") objects
 
 abbrev pub rejected_text : AuditFault → List ℕ
 rejected_text fault = codes "rejected " ++ audit_fault_text fault ++ line_end
+
+-- the line of a file of which a page gave no node
+abbrev pub damaged_text : PageFault → List ℕ
+damaged_text fault = codes "fault damaged " ++ page_fault_text fault ++ line_end
+
+-- a point's coordinates, joined by commas
+abbrev pub point_text : List ℕ → List ℕ
+point_text point = join_with_byte 44 (map decimal point)
+
+-- a text of what there is, and a dash where there is nothing
+abbrev pub or_dash : {A : Type 0} → (A → List ℕ) → Option A → List ℕ
+or_dash text None = codes "-"
+or_dash text (Some x) = text x
+
+-- `LEVEL ENTRIES CENTRE RADIUS`: the root has no centre and no radius
+abbrev pub node_text : ShapeLine → List ℕ
+node_text line =
+    decimal line.level ++ numbered space line.entries ++ space ++ or_dash point_text line.centre ++ space ++ or_dash decimal line.radius ++ line_end
+
+-- the lines of a tree of this height, with so many objects and with these nodes
+abbrev pub shape_text : ℕ → ℕ → List ShapeLine → List ℕ
+shape_text height objects lines =
+    counted (codes "height ") height ++ counted (codes "objects ") objects ++ counted (codes "nodes ") (length lines) ++ flat_map node_text lines
 
 -- the line of a file that is no index
 abbrev pub not_index_text : List ℕ → List ℕ

@@ -1,14 +1,19 @@
-//! The jobs on whole files, and their lines: making an index, and auditing one.
+//! The jobs on whole files, and their lines: making an index, auditing one, and writing the shape of its tree.
 #![tactic(auto)]
 
 mod jobs;
 pub mod laws;
 mod lines;
+mod shape_lines;
+mod shaping;
 
 pub use jobs::{
     FAULT_DISK, FAULT_MEMORY, audit_index, audit_opened, create_index, open_index, space_of,
 };
-pub use lines::{end_with, push_numbered, push_page_fault, put_line, rejected_text, sound_text};
+pub use lines::{
+    damaged_text, end_with, push_numbered, push_page_fault, put_line, rejected_text, sound_text,
+};
+pub use shaping::{end_at_page, shape_index};
 
 #[cfg(test)]
 mod tests;

@@ -4,7 +4,7 @@ ghost use Rattle.outside_io.specs.Bytes.{AppendsPrefix};
 ghost use Rattle.outside_io.specs.Causes.{Rose};
 ghost use Rattle.outside_io.specs.Sinks.{Tells};
 ghost use Rattle.rows_text.specs.Texts.{counted, space, line_end};
-ghost use Rattle.file_jobs.specs.Lines.{node_fault_name, head_fault_name, page_fault_text, audit_fault_text, sound_text, rejected_text, not_index_text, numbered};
+ghost use Rattle.file_jobs.specs.Lines.{node_fault_name, head_fault_name, page_fault_text, audit_fault_text, damaged_text, sound_text, rejected_text, not_index_text, numbered};
 
 use itoa::Buffer;
 use node_page::{HeadFault, NodeFault};
@@ -75,6 +75,17 @@ pub fn push_page_fault(fault: PageFault, out: &mut Vec<u8>) -> Result<(), Memory
         PageFault::Disk => out.extend_from_slice(b"disk"),
         PageFault::Memory => out.extend_from_slice(b"memory"),
     }
+}
+
+/// The line of a file of which a page gave no node.
+pub fn damaged_text(alloc: Global, fault: PageFault) -> Result<Vec<u8>, Memory>
+    ensures { IfOk result (λ text. text.items ≡ damaged_text fault) }
+{
+    let mut text = Vec::new(alloc);
+    text.extend_from_slice(b"fault damaged ")?;
+    push_page_fault(fault, &mut text)?;
+    text.extend_from_slice(b"\n")?;
+    Ok(text)
 }
 
 fn push_audit_fault(fault: AuditFault, out: &mut Vec<u8>) -> Result<(), Memory>

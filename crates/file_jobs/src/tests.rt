@@ -1,4 +1,4 @@
-use crate::{audit_index, create_index};
+use crate::{audit_index, create_index, shape_index};
 use disk_model::{Disk, MemoryDisk};
 use node_page::Head;
 use outside_io::{MemorySink, Sink, Status};
@@ -129,4 +129,67 @@ fn a_sink_that_fails(rt: HostRuntime) -> Result<(), Fail> {
     assert_eq!(rt; make(&mut disk, &mut out), Status(4));
     assert_eq!(rt; out.written(), b"".as_slice());
     Ok(())
+}
+
+// The shape of a new index of a page more in which these bytes stand at these places, with a sink one of whose calls fails.
+fn check_shape<R: AllocGlobal + Abort>(
+    rt: &R,
+    changes: &[(usize, &[u8])],
+    fails: Option<u64>,
+    status: u8,
+    lines: &str,
+) -> Result<(), Fail> {
+    let alloc = rt.alloc();
+    let mut disk = disk_of(alloc, Vec::new(alloc), None)?;
+    let mut out = sink_of(alloc, None)?;
+    assert_eq!(rt; make(&mut disk, &mut out), Status(0));
+    let mut bytes = disk.bytes().to_vec(alloc)?;
+    bytes.extend_from_slice(&[0; 4096])?;
+    for (at, change) in changes {
+        for (byte, new) in bytes.iter_mut().skip(*at).zip(change.iter()) {
+            *byte = *new;
+        }
+    }
+    let mut changed = disk_of(alloc, bytes, None)?;
+    let mut out = sink_of(alloc, fails)?;
+    assert_eq!(rt; shape_index(alloc, &mut changed, &mut out), Status(status));
+    assert_eq!(rt; out.written(), lines.as_bytes());
+    Ok(())
+}
+
+// The live slot's root on page 4, height 1, two objects and five pages.
+const HIGHER: (usize, &[u8]) = (4096 + 16, &[0, 0, 0, 4, 0, 0, 0, 1, 0, 0, 0, 2, 0, 0, 0, 5]);
+
+// A leaf of two entries on page 3.
+const LEAF: (usize, &[u8]) = (12288, &[0, 0, 0, 2]);
+
+// An inner node of one entry on page 4: its child on page 3, the radius 7 and the point (3, 4).
+const ROOT: (usize, &[u8]) = (16384, &[1, 0, 0, 1]);
+
+const ENTRY: (usize, &[u8]) = (
+    16384 + 16,
+    &[
+        0, 0, 0, 3, 0, 0, 0, 0, 0, 0, 0, 7, 0, 0, 0, 0, 0, 0, 0, 0, 0, 0, 0, 3, 0, 0, 0, 4,
+    ],
+);
+
+#[test]
+fn the_shape_of_a_tree(rt: HostRuntime) -> Result<(), Fail> {
+    let new = "height 0\nobjects 0\nnodes 1\n0 0 - -\n";
+    check_shape(&rt, &[], None, 0, new)?;
+    let higher = "height 1\nobjects 2\nnodes 2\n1 1 - -\n0 2 3,4 7\n";
+    check_shape(&rt, &[HIGHER, LEAF, ROOT, ENTRY], None, 0, higher)?;
+    check_shape(&rt, &[HIGHER, LEAF, ROOT, ENTRY], Some(0), 4, "")?;
+    check_shape(&rt, &[(0, b"x")], None, 6, "fault notindex magic\n")
+}
+
+#[test]
+fn the_shape_of_a_damaged_tree(rt: HostRuntime) -> Result<(), Fail> {
+    let bad = "fault damaged bad 3 kind\n";
+    check_shape(&rt, &[HIGHER, ROOT, ENTRY, (12288, &[15])], None, 9, bad)?;
+    let outside = "fault damaged outside 5\n";
+    check_shape(&rt, &[HIGHER, ROOT, ENTRY, (16403, &[5])], None, 9, outside)?;
+    let repeats = "fault damaged repeats 4\n";
+    check_shape(&rt, &[HIGHER, ROOT, ENTRY, (16403, &[4])], None, 9, repeats)?;
+    check_shape(&rt, &[HIGHER, ROOT, ENTRY, (16403, &[4])], Some(0), 9, "")
 }

@@ -13,11 +13,11 @@ use Rattle.prune_log.specs.Spelling.{join_log_bytes, frame_bytes}
 use Rattle.metric_join.specs.declared.faults.JoinFault.{JoinFault}
 use Rattle.metric_join.specs.declared.faults.JoinFault.TheVariants as join
 use Rattle.metric_join.specs.Tours.{Names, NamesInside}
-use Rattle.file_jobs.specs.Lines.{not_index_text}
+use Rattle.file_jobs.specs.Lines.{damaged_text, not_index_text}
 use Rattle.file_jobs.specs.Jobs.{IsNoIndex}
 use Rattle.join_jobs.specs.declared.report.Report.{Report}
 use Rattle.join_jobs.specs.declared.opened.Trees.{Trees}
-use Rattle.join_jobs.specs.Lines.{status_of, pairs_text, spaces_text, damaged_text}
+use Rattle.join_jobs.specs.Lines.{status_of, pairs_text, spaces_text}
 use Rattle.join_jobs.specs.Trees.{Tree, tree_of, IsOpened, IsSoundFile, IsLeastLog, is_one_space, read_of, tree_nodes, scanned_pairs, said_of}
 
 -- ---- opening

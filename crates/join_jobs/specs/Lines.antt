@@ -5,7 +5,6 @@ use Rattle.std.specs.Option.{is_none}
 use Rattle.scan_model.specs.declared.hit.Pair.{Pair}
 use Rattle.rows_text.specs.Texts.{line_end, space, counted, text}
 use Rattle.rows_text.specs.declared.reply.Reply.TheVariants as reply
-use Rattle.page_store.specs.declared.pages.PageFault.{PageFault}
 use Rattle.log_model.specs.declared.logs.JoinLog.{JoinLog}
 use Rattle.log_verify.specs.declared.faults.JoinVerdict.{JoinVerdict}
 use Rattle.log_verify.specs.declared.faults.JoinVerdict.TheVariants as verdict
@@ -29,10 +28,6 @@ pairs_text pairs = text false (reply.Pairs pairs)
 -- two files of different spaces
 abbrev pub spaces_text : List ℕ
 spaces_text = codes "rejected spaces\n"
-
--- a page that gave no node
-abbrev pub damaged_text : PageFault → List ℕ
-damaged_text fault = codes "fault damaged " ++ page_fault_text fault ++ line_end
 
 -- ---- a log
 

@@ -7,14 +7,15 @@ ghost use Rattle.outside_io.specs.Sinks.{Tells};
 ghost use Rattle.disk_model.specs.Disk.{IsUnchanged};
 ghost use Rattle.log_model.specs.Grammar.{IsLawfulJoinLog};
 ghost use Rattle.prune_log.specs.Spelling.{join_log_bytes, frame_bytes};
-ghost use Rattle.join_jobs.specs.Lines.{pairs_text, damaged_text};
+ghost use Rattle.file_jobs.specs.Lines.{damaged_text};
+ghost use Rattle.join_jobs.specs.Lines.{pairs_text};
 ghost use Rattle.join_jobs.specs.Trees.{tree_of, is_one_space};
 ghost use Rattle.join_jobs.specs.Jobs.{AreLawful, IsJoinOf, HasRefusal, EndsRefused, PutsJoin, CutsJoin};
 
-use crate::lines::{damaged_text, push_pairs};
+use crate::lines::push_pairs;
 use crate::opened::Trees;
 use disk_model::Disk;
-use file_jobs::{FAULT_DISK, FAULT_MEMORY, end_with, put_line, space_of};
+use file_jobs::{FAULT_DISK, FAULT_MEMORY, damaged_text, end_with, put_line, space_of};
 use log_model::Joined;
 use metric_join::{JoinFault, join};
 use metric_laws::{Memory, Meter};

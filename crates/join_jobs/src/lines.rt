@@ -1,6 +1,6 @@
 // The lines on two files and the logs of their join.
 ghost use Rattle.std.specs.Prelude.{◌≡◌, ◌++◌, OnOk, IfOk};
-ghost use Rattle.join_jobs.specs.Lines.{pairs_text, damaged_text, side_name, state_text, verdict_text, frame_text, end_text, undecoded_text, opening_text, unsound_text};
+ghost use Rattle.join_jobs.specs.Lines.{pairs_text, side_name, state_text, verdict_text, frame_text, end_text, undecoded_text, opening_text, unsound_text};
 
 use crate::Report;
 use file_jobs::{push_numbered, push_page_fault, rejected_text};
@@ -8,7 +8,6 @@ use log_model::JoinLog;
 use log_verify::JoinVerdict;
 use metric_laws::Listed;
 use outside_io::Memory;
-use page_store::PageFault;
 use prune_log::LogFault;
 use rows_text::{Reply, reply_text};
 use scan_model::Pair;
@@ -20,17 +19,6 @@ pub fn push_pairs(pairs: Listed<Pair>, out: &mut Vec<u8>) -> Result<(), Memory>
     ensures { OnOk result (out.new.items ≡ out.old.items ++ pairs_text pairs) }
 {
     reply_text(&Reply::Pairs(pairs), false, out)
-}
-
-/// The line of a page that gave no node.
-pub fn damaged_text(alloc: Global, fault: PageFault) -> Result<Vec<u8>, Memory>
-    ensures { IfOk result (λ text. text.items ≡ damaged_text fault) }
-{
-    let mut text = Vec::new(alloc);
-    text.extend_from_slice(b"fault damaged ")?;
-    push_page_fault(fault, &mut text)?;
-    text.extend_from_slice(b"\n")?;
-    Ok(text)
 }
 
 fn side_name(right: bool) -> &'static [u8]

@@ -26,7 +26,7 @@ use Rattle.log_jobs.specs.Jobs.{JudgesLogs}
 use Rattle.join_jobs.specs.declared.report.Report.{Report as JoinReport}
 use Rattle.join_jobs.specs.Jobs.{Joins, JudgesLogs as JudgesJoinLogs}
 use Rattle.mtree_cli.specs.Run.{Task, Scene, Does, IsStatusOf, TakesWithin, scan_texts}
-use Rattle.mtree_cli.specs.Run.Task.{Scans, Makes, Judges, Reports, JoinsWithin, ReportsJoins, Nothing}
+use Rattle.mtree_cli.specs.Run.Task.{Scans, Makes, Draws, Judges, Reports, JoinsWithin, ReportsJoins, Nothing}
 use Rattle.mtree_cli.proofs.ProgramLemmas.{always, fault_writes, memory_ends}
 
 -- the words of a scan
@@ -97,6 +97,16 @@ does_at_memory (Makes head) disk other input left v o0 o1 line = record {
   not_empty = λ is. absurd (omega arith);
   memory = λ is. (unchanged disk, line);
 }
+does_at_memory Draws disk other input left v o0 o1 line = record {
+  unchanged = unchanged disk;
+  done = λ is. absurd (omega arith);
+  part = λ is. absurd (omega arith);
+  disk = λ is. absurd (omega arith);
+  not_index = λ is. absurd (omega arith);
+  memory = λ is. line;
+  damaged = λ is. absurd (omega arith);
+  sound = λ tells head live sound. (λ is. absurd (omega arith), λ is. absurd (omega arith));
+}
 does_at_memory Judges disk other input left v o0 o1 line = record {
   unchanged = unchanged disk;
   sound = λ is. absurd (omega arith);
@@ -126,6 +136,7 @@ memory_does task disk other input left v o0 o1 status is line = subst (Does task
 status_eight : (task : Task) → IsStatusOf task 8
 status_eight (Scans asked) = inr (inr (inr (inr refl)))
 status_eight (Makes head) = inr (inr (inr (inr refl)))
+status_eight Draws = inr (inr (inr (inr (inl refl))))
 status_eight Judges = inr (inr (inr (inr (inr refl))))
 status_eight (Reports what) = inr (inr (inr (inr (inr (inr (inr refl))))))
 status_eight (JoinsWithin radius) = inr (inr (inr (inr (inr (inl refl)))))

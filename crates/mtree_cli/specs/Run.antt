@@ -12,6 +12,7 @@ use Rattle.job_words.specs.declared.names.PolicyNames.{PolicyNames}
 use Rattle.disk_model.specs.Disk.{DiskState}
 use Rattle.node_page.specs.declared.head.Head.{Head}
 use Rattle.file_jobs.specs.Jobs.{Creates, Audits, IsAuditStatus}
+use Rattle.file_jobs.specs.Shapes.{Shapes, IsShapeStatus}
 use Rattle.log_jobs.specs.declared.report.Report.{Report}
 use Rattle.log_jobs.specs.declared.report.Report.TheVariants as report
 use Rattle.log_jobs.specs.Jobs.{JudgesLogs, IsLogStatus}
@@ -97,6 +98,7 @@ new_head space policies limit = record {
 pub data Task : Type 0 where
   Scans : Asked → Task
   Makes : Head → Task
+  Draws : Task
   Judges : Task
   Reports : Report → Task
   JoinsWithin : ℕ → Task
@@ -106,6 +108,7 @@ pub data Task : Type 0 where
 abbrev pub task_of : Option (Job (List ℕ)) → Task
 task_of (Some (job.Scan space limit show)) = Scans (record { space = space; limit = limit; show = show })
 task_of (Some (job.Create index space policies limit)) = Makes (new_head space policies limit)
+task_of (Some (job.Shape index)) = Draws
 task_of (Some (job.Audit index workers)) = Judges
 task_of (Some (job.Verify index log None)) = Reports report.Verdicts
 task_of (Some (job.Check index log None)) = Reports report.Answers
@@ -127,6 +130,7 @@ pub record Scene : Type 1 where
 abbrev pub Does : Task → Scene → Scene → Option (List ℕ) → ℕ → Type 0
 Does (Scans asked) a b input status = IfSome input (λ bytes. WritesScan a.out b.out (scan_texts asked bytes) status)
 Does (Makes head) a b input status = Creates head a.index b.index a.out b.out status
+Does Draws a b input status = Shapes a.index b.index a.out b.out status
 Does Judges a b input status = Audits a.index b.index a.out b.out status
 Does (Reports what) a b input status = JudgesLogs what a.index b.index a.left b.left a.out b.out status
 Does (JoinsWithin radius) a b input status = Joins radius a.index b.index a.other b.other a.out b.out a.log_out b.log_out status
@@ -137,6 +141,7 @@ Does Nothing a b input status = WritesUsage a.out b.out status
 abbrev pub TakesNoIndex : Task → Type 0
 TakesNoIndex (Scans asked) = Unit {0}
 TakesNoIndex (Makes head) = ⊥
+TakesNoIndex Draws = ⊥
 TakesNoIndex Judges = ⊥
 TakesNoIndex (Reports what) = ⊥
 TakesNoIndex (JoinsWithin radius) = ⊥
@@ -147,6 +152,7 @@ TakesNoIndex Nothing = Unit {0}
 abbrev pub TakesNoLog : Task → Type 0
 TakesNoLog (Scans asked) = Unit {0}
 TakesNoLog (Makes head) = Unit {0}
+TakesNoLog Draws = Unit {0}
 TakesNoLog Judges = Unit {0}
 TakesNoLog (Reports what) = ⊥
 TakesNoLog (JoinsWithin radius) = Unit {0}
@@ -157,6 +163,7 @@ TakesNoLog Nothing = Unit {0}
 abbrev pub TakesNoOther : Task → Type 0
 TakesNoOther (Scans asked) = Unit {0}
 TakesNoOther (Makes head) = Unit {0}
+TakesNoOther Draws = Unit {0}
 TakesNoOther Judges = Unit {0}
 TakesNoOther (Reports what) = Unit {0}
 TakesNoOther (JoinsWithin radius) = ⊥
@@ -167,6 +174,7 @@ TakesNoOther Nothing = Unit {0}
 abbrev pub PutsNoLog : Task → Type 0
 PutsNoLog (Scans asked) = Unit {0}
 PutsNoLog (Makes head) = Unit {0}
+PutsNoLog Draws = Unit {0}
 PutsNoLog Judges = Unit {0}
 PutsNoLog (Reports what) = Unit {0}
 PutsNoLog (JoinsWithin radius) = ⊥
@@ -192,6 +200,7 @@ IsScanStatus n = (n ≡ 0) ⊎ ((n ≡ 3) ⊎ ((n ≡ 4) ⊎ ((n ≡ 7) ⊎ (n �
 abbrev pub IsStatusOf : Task → ℕ → Type 0
 IsStatusOf (Scans asked) n = IsScanStatus n
 IsStatusOf (Makes head) n = (n ≡ 0) ⊎ ((n ≡ 4) ⊎ ((n ≡ 5) ⊎ ((n ≡ 6) ⊎ (n ≡ 8))))
+IsStatusOf Draws n = IsShapeStatus n
 IsStatusOf Judges n = IsAuditStatus n
 IsStatusOf (Reports what) n = IsLogStatus n
 IsStatusOf (JoinsWithin radius) n = IsJoinStatus n

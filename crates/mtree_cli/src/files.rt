@@ -21,6 +21,7 @@ fn is_done<Name>(job: &Job<Name>) -> bool
         job,
         Job::Scan { .. }
             | Job::Create { .. }
+            | Job::Shape { .. }
             | Job::Audit { .. }
             | Job::Verify { .. }
             | Job::Check { .. }

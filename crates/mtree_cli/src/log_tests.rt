@@ -88,6 +88,13 @@ const CHECK: Case<'static> = Case {
     ..VERIFY
 };
 
+// The shape of the index, which takes no logs.
+const SHAPE: Case<'static> = Case {
+    command: "shape a.mt",
+    output: "height 0\nobjects 1\nnodes 1\n0 1 - -\n",
+    ..VERIFY
+};
+
 // The index of a case.
 fn index_of(alloc: Global, case: &Case<'_>) -> Result<MemoryDisk, AllocError> {
     let mut file = small_index(alloc)?;
@@ -165,6 +172,32 @@ fn check<R: AllocGlobal + Abort>(rt: &R, case: &Case<'_>) -> Result<(), Fail> {
         out,
         (case.status, case.output),
     )
+}
+
+#[test]
+fn the_shape_of_an_index(rt: HostRuntime) -> Result<(), Fail> {
+    check(&rt, &SHAPE)?;
+    let damaged = Case {
+        file_change: Some((16384, 15)),
+        status: 9,
+        output: "fault damaged bad 4 kind\n",
+        ..SHAPE
+    };
+    check(&rt, &damaged)?;
+    let no_disk = Case {
+        disk_stop: Some(0),
+        status: 5,
+        output: "fault disk\n",
+        ..SHAPE
+    };
+    check(&rt, &no_disk)?;
+    let no_out = Case {
+        out_fails: Some(0),
+        status: 4,
+        output: "",
+        ..SHAPE
+    };
+    check(&rt, &no_out)
 }
 
 #[test]

@@ -110,6 +110,8 @@ fn check<R: AllocGlobal + Abort>(
 
 const AUDIT: &str = "audit a.mt";
 
+const SHAPE: &str = "shape a.mt";
+
 const VERIFY: &str = "verify a.mt --log a.log";
 
 const CHECK: &str = "check a.mt --log a.log";
@@ -172,6 +174,11 @@ fn a_later_state_and_a_radius_too_small(rt: HostRuntime) -> Result<(), Fail> {
     let alloc = rt.alloc();
     let sound = (0, "sound\nobjects 33\nnodes 3\n");
     check(&rt, AUDIT, index_of_numbers(alloc, 34, 8)?, &[], sound)?;
+    let shape = (
+        0,
+        "height 1\nobjects 33\nnodes 3\n1 2 - -\n0 16 7 8\n0 17 24 8\n",
+    );
+    check(&rt, SHAPE, index_of_numbers(alloc, 34, 8)?, &[], shape)?;
     let least: [Record<'_>; 2] = [ROOT, LEAF];
     let frame = frame_of(alloc, 0, [0, 1, 2], &least)?;
     let other = (1, "frame 0 rejected otherstate 34 6 35 6\nlog rejected\n");

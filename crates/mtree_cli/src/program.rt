@@ -13,7 +13,7 @@ ghost use Rattle.mtree_cli.specs.Run.{Asked, Does, HasNoScan, IsScan, IsStatusOf
 
 use crate::scan_job::run_scan;
 use disk_model::Disk;
-use file_jobs::{FAULT_MEMORY, audit_index, create_index, end_with, put_line};
+use file_jobs::{FAULT_MEMORY, audit_index, create_index, end_with, put_line, shape_index};
 use job_words::{Job, JobFault, PolicyNames, SpaceName, read_job};
 use join_jobs::laws::faultless_is_complete as joins_are_complete;
 use join_jobs::{check_join_logs, join_indexes, verify_join_logs};
@@ -45,10 +45,10 @@ fn new_head(space: SpaceName, policies: PolicyNames, limit: u32) -> Head
 
 /// Does what the words after the program's name ask for, and answers the status.
 ///
-/// The program does six jobs so far: `scan` runs the script of `input` on a plain list, `create` makes an empty index of
-/// `index`, `audit` tells whether `index` is sound, `verify` judges the logs of `log_in` by `index`, `check` does both, and
-/// `join` joins `index` with `other` and puts its log to `log_out`. With `--other`, `verify` and `check` take join logs and
-/// both indexes. Every other job of the words is answered as no job.
+/// The program does seven jobs so far: `scan` runs the script of `input` on a plain list, `create` makes an empty index of
+/// `index`, `shape` writes the shape of its tree, `audit` tells whether it is sound, `verify` judges the logs of `log_in` by
+/// it, `check` does both, and `join` joins `index` with `other` and puts its log to `log_out`. With `--other`, `verify` and
+/// `check` take join logs and both indexes. Every other job of the words is answered as no job.
 pub fn run<D: Disk, E: Disk, S: Source, L: Source, K: Sink, T: Sink>(
     alloc: Global,
     words: &[String],
@@ -119,6 +119,7 @@ pub fn run<D: Disk, E: Disk, S: Source, L: Source, K: Sink, T: Sink>(
                 ..
             },
         ) => create_index(index, &new_head(space, policies, limit), out),
+        Ok(Job::Shape { .. }) => shape_index(alloc, index, out),
         Ok(Job::Audit { .. }) => audit_index(alloc, index, out),
         Ok(Job::Verify { other: None, .. }) => verify_logs(alloc, index, log_in, out),
         Ok(Job::Check { other: None, .. }) => check_logs(alloc, index, log_in, out),

@@ -285,13 +285,17 @@ fn check_index<R: AllocGlobal + Abort, D: Disk>(
 }
 
 #[test]
-fn create_and_audit(rt: HostRuntime) -> Result<(), Fail> {
+fn create_audit_and_shape(rt: HostRuntime) -> Result<(), Fail> {
     let create = "create a.mt --metric l1 --dim 2";
     let audit = "audit a.mt";
+    let shape = "shape a.mt";
+    let new = "height 0\nobjects 0\nnodes 1\n0 0 - -\n";
     let mut index = empty_disk(rt.alloc(), 65536)?;
+    check_index(&rt, &mut index, shape, 6, "fault notindex short\n")?;
     check_index(&rt, &mut index, audit, 6, "fault notindex short\n")?;
     check_index(&rt, &mut index, create, 0, "created\n")?;
     check_index(&rt, &mut index, audit, 0, "sound\nobjects 0\nnodes 1\n")?;
+    check_index(&rt, &mut index, shape, 0, new)?;
     check_index(&rt, &mut index, create, 6, "fault notindex notempty\n")
 }
 

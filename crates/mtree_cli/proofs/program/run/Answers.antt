@@ -22,6 +22,12 @@ returns-in-Ok-Scan-clause-untouched g c = λ none.
 pub returns-in-Ok-Create-clause-long : goal.returns-in-Ok-Create-clause-long
 returns-in-Ok-Create-clause-long g c = nothing_taken (g.S.Source.left c.args.input.now) (g.L.Source.left c.args.log_in.now) c.create_index.result.0 (grind (arith))
 
+pub returns-in-Ok-Shape-clause-memory : goal.returns-in-Ok-Shape-clause-memory
+returns-in-Ok-Shape-clause-memory g c = λ is. c.shape_index.ensures.shapes.unchanged
+
+pub returns-in-Ok-Shape-clause-long : goal.returns-in-Ok-Shape-clause-long
+returns-in-Ok-Shape-clause-long g c = nothing_taken (g.S.Source.left c.args.input.now) (g.L.Source.left c.args.log_in.now) c.shape_index.result.0 (grind (arith))
+
 pub returns-in-Ok-Audit-clause-memory : goal.returns-in-Ok-Audit-clause-memory
 returns-in-Ok-Audit-clause-memory g c = λ is. c.audit_index.ensures.audits.unchanged
 
@@ -76,6 +82,9 @@ returns-in-Ok-Scan-clause-other_same g c = unchanged (g.E.Disk.state c.args.othe
 
 pub returns-in-Ok-Create-clause-other_same : goal.returns-in-Ok-Create-clause-other_same
 returns-in-Ok-Create-clause-other_same g c = unchanged (g.E.Disk.state c.args.other.now)
+
+pub returns-in-Ok-Shape-clause-other_same : goal.returns-in-Ok-Shape-clause-other_same
+returns-in-Ok-Shape-clause-other_same g c = unchanged (g.E.Disk.state c.args.other.now)
 
 pub returns-in-Ok-Audit-clause-other_same : goal.returns-in-Ok-Audit-clause-other_same
 returns-in-Ok-Audit-clause-other_same g c = unchanged (g.E.Disk.state c.args.other.now)
