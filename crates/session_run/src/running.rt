@@ -140,6 +140,7 @@ pub fn session<R: Threads + Sync, M: Metric, D: Disk, K: Sink, T: Sink>(
         (D.state disk.old) (D.state disk.new) (K.state out.old) (K.state out.new) (T.state log_out.old) (T.state log_out.new)
         result.acknowledged result.stopped (version_on index.new.file (D.state disk.new)) }
     ensures going { result.stopped ≡ None → index.new.stopped ≡ false }
+    ensures head { result.stopped ≡ None → index.new.file.head ≡ index.old.file.head }
     ensures cause { MatchOption result.stopped (Unit {0}) (HasStopCause (IsSoundOn (M.space index.old.file.metric) index.old.file (D.state disk.old))
         (D.state disk.old) (D.state disk.new) (K.state out.old) (K.state out.new) (T.state log_out.old) (T.state log_out.new)) }
     ensures tells { (D.state disk.new).tells ≡ (D.state disk.old).tells }
