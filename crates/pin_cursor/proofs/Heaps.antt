@@ -10,7 +10,7 @@ use Rattle.std.proofs.lemmas.List.Sorted.{IsPermutation-map, length_permutation}
 use Rattle.metric_laws.specs.Lists.{IsIn}
 use Rattle.pin_cursor.specs.declared.waiting.Subtree.{Subtree}
 use Rattle.pin_cursor.specs.declared.waiting.Candidate.{Candidate}
-use Rattle.pin_cursor.specs.Order.{subtree_order, candidate_order, IsReach, AllBeyond, IsFirst}
+use Rattle.pin_cursor.specs.Order.{subtree_order, candidate_order, IsReach, IsBeyond, AllBeyond, IsFirst}
 use Rattle.pin_cursor.proofs.Lists.{in-permutation}
 
 -- what a heap holds
@@ -42,8 +42,9 @@ least_low top [] up y i = absurd i
 least_low top (x ∷ xs) up y i =
     elim i [ inl e ↦ rw e (not_before x.0.low top.0.low (nat_cmp x.0.page top.0.page) up.0) | inr w ↦ least_low top xs up.1 y w ]
 
-pub all_beyond : (reach : ℕ) (xs : List (Reverse Subtree)) (top : Reverse Subtree) → IsUpperBound (λ x y. subtree_order y.0 x.0) top xs → reach < top.0.low → AllBeyond (Some reach) (held xs)
-all_beyond reach xs top up far y i = let l = least_low top xs up y i in omega arith
+pub all_beyond : (reach : Option ℕ) (xs : List (Reverse Subtree)) (top : Reverse Subtree) → IsUpperBound (λ x y. subtree_order y.0 x.0) top xs → IsBeyond reach top.0.low → AllBeyond reach (held xs)
+all_beyond None xs top up far = absurd far
+all_beyond (Some reach) xs top up far = λ y i. let l = least_low top xs up y i in omega arith
 
 pub none_beyond : (reach : Option ℕ) (xs : List (Reverse Subtree)) → length xs ≡ 0 → AllBeyond reach (held xs)
 none_beyond None xs is = held-none xs is

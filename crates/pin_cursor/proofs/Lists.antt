@@ -28,10 +28,6 @@ pub total-permutation : {X : Type 0} (g : X → ℕ) (xs ys : List X) → IsPerm
 total-permutation g xs ys moved =
     is_sum_by (total g) g refl (λ x xs. refl) xs ∙ sym (sum_by-IsPermutation g xs ys moved) ∙ sym (is_sum_by (total g) g refl (λ x xs. refl) ys)
 
-pub length-total : {X : Type 0} (xs : List X) → length xs ≡ total (λ x. 1) xs
-length-total [] = refl
-length-total (x ∷ xs) = ap suc (length-total xs)
-
 -- how often an id stands
 abbrev pub one_of : ℕ → Candidate → ℕ
 one_of id x = if x.id == id then 1 else 0
@@ -130,13 +126,13 @@ module _ {X Y : Type 0} (f : X → List Y) (C C' N : List Y) (xs rest xs' M : Li
 
 -- ---- fronts
 
+drop_none : {X : Type 0} (n : ℕ) → drop {A = X} n [] ≡ []
+drop_none zero = refl
+drop_none (suc n) = refl
+
 pub drop_add : {X : Type 0} (a b : ℕ) (l : List X) → drop b (drop a l) ≡ drop (a + b) l
 drop_add zero b l = ap (λ n. drop n l) (let e : b ≡ 0 + b = omega arith in e)
-drop_add (suc a) b [] = drop_none b
-  where
-    drop_none : (b : ℕ) → drop b [] ≡ drop (suc a + b) []
-    drop_none zero = refl
-    drop_none (suc b) = refl
+drop_add {X = X} (suc a) b [] = drop_none {X = X} b ∙ sym (drop_none {X = X} (suc a + b))
 drop_add (suc a) b (x ∷ l) = drop_add a b l ∙ ap (λ n. drop n (x ∷ l)) (let e : suc (a + b) ≡ suc a + b = omega arith in e)
 
 pub take_more : {X : Type 0} (k : ℕ) (l t : List X) (h : X) → drop k l ≡ h ∷ t → take (k + 1) l ≡ take k l ++ h ∷ []

@@ -62,7 +62,7 @@ module _ (s : Space) (axioms : IsSpace s) (nodes : Nodes) (live : Live) (q : Lis
         none = ap inner_entries sound.1
 
     module _ (h least : ℕ) (above : Option (List ℕ)) (sound : IsSoundAt s nodes (suc h) least above x.page) (within : (page : ℕ) → IsIn page (pages_at nodes (suc h) x.page) → IsIn page (live_pages nodes live)) where
-      es : List InnerEntry
+      abbrev es : List InnerEntry
       es = inner_entries (nodes x.page)
 
       level : node_level (nodes x.page) ≡ suc h

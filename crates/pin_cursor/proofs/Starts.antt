@@ -1,6 +1,6 @@
 -- A cursor that was just opened stands on its tree.
 use Rattle.std.proofs.Common.{◌≡◌, ℕ, zero, suc, ◌+◌, ◌<◌, ◌≤◌, Bool, true, false, cond, List, [], ◌∷◌, ◌++◌, Option, Some, None, refl, sym, ap, inl, inr, arith, ◌∙◌, length, get_or, take, drop, subst}
-use Rattle.std.specs.Prelude.{map, filter, IsTrue}
+use Rattle.std.specs.Prelude.{map, filter, IsTrue, if◌then◌else◌, ◌==◌}
 use Rattle.std.specs.List.{flat_map}
 use Rattle.std.specs.declared.cmp.Ordering.{Ordering}
 use Rattle.std.specs.Ordering.{is_gt}
@@ -66,7 +66,7 @@ all_named s points q count few =
 
 ids_same : (s : Space) (q : List ℕ) (id : ℕ) (os : List LeafEntry) → times id (map (λ x. x.id) (map (candidate_of s q) os)) ≡ times id (ids_of os)
 ids_same s q id [] = refl
-ids_same s q id (o ∷ os) = ap (λ n. (times id (o.id ∷ [])) + n) (ids_same s q id os)
+ids_same s q id (o ∷ os) = ap (λ (n : ℕ). (if o.id == id then 1 else 0) + n) (ids_same s q id os)
 
 module _ (s : Space) (nodes : Nodes) (axioms : IsSpace s) (live : Live) (q : List ℕ) (sound : IsSoundTree s nodes live) (q_fits : IsTrue (s.fits q)) where
   abbrev os : List LeafEntry
@@ -111,5 +111,5 @@ module _ (s : Space) (nodes : Nodes) (axioms : IsSpace s) (live : Live) (q : Lis
     once = λ id.
         let e = ap (λ (l : List Candidate). times id (map (λ x. x.id) l)) all_wait in let f = ids_same s q id os in
         let o = once_counted os live.count id sound.ids in omega arith;
-    opened = ap length (append-nil (pages_below nodes (root_of live)) ∙ ap (λ h. pages_at nodes h live.root) level);
+    opened = let e = ap length (append-nil (pages_below nodes (root_of live)) ∙ ap (λ h. pages_at nodes h live.root) level) in omega arith;
   }

@@ -19,6 +19,11 @@ abbrev pub IsReach : List Candidate → Option ℕ → Type 0
 IsReach cs None = cs ≡ []
 IsReach cs (Some reach) = (c : Candidate) × IsIn c cs × (c.dist ≡ reach)
 
+-- further than the reach, where there is one
+abbrev pub IsBeyond : Option ℕ → ℕ → Type 0
+IsBeyond None low = ⊥
+IsBeyond (Some reach) low = reach < low
+
 -- all are further than the reach; without one there are none
 abbrev pub AllBeyond : Option ℕ → List Subtree → Type 0
 AllBeyond None xs = xs ≡ []

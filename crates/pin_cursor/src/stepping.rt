@@ -43,14 +43,14 @@ pub fn advance<P: Pages, R: Ruler>(
     ensures same { HoldsSame (P.shelf pages.old) (P.shelf pages.new) }
     ensures keeps { P.keeps pages.old pages.new }
     ensures way { IfOk result (λ _. IsUnderWay (R.M.space (R.metric ruler.old)) (P.shelf pages.old) (P.shelf pages.new)
-        (stage goal.live.now goal.q.now walk.old.given walk.old.opened walk.old.subtrees walk.old.candidates)
-        (stage goal.live.now goal.q.now walk.new.given walk.new.opened walk.new.subtrees walk.new.candidates) walk.new.hits.items walk.new.tags.items) }
-    ensures ends { IfOk result (λ _. HasGiven goal.n walk.new.hits.items walk.new.candidates walk.new.subtrees) }
-    ensures asked { CountsUpTo (P.shelf pages.old).asked (P.shelf pages.new).asked (goal.live.now.pages - walk.old.opened) }
-    ensures reads { (P.shelf pages.new).reads ≤ (P.shelf pages.old).reads + (goal.live.now.pages - walk.old.opened) }
-    ensures cause { IfErr result (HasStepCause (stage goal.live.now goal.q.now walk.old.given walk.old.opened walk.old.subtrees walk.old.candidates) (P.shelf pages.old) (P.shelf pages.new)) }
-    ensures sound { IfErr result (λ fault. (nodes : Nodes) → IsTrue (P.shelf pages.old).tells → IsSoundTree (R.M.space (R.metric ruler.old)) nodes goal.live.now → HoldsTree nodes goal.live.now (P.shelf pages.old) →
-        IsCursorOn (R.M.space (R.metric ruler.old)) nodes (stage goal.live.now goal.q.now walk.old.given walk.old.opened walk.old.subtrees walk.old.candidates) → IsPassing fault) }
+        (stage goal.entry.live.now goal.entry.q.now walk.old.given walk.old.opened walk.old.subtrees walk.old.candidates)
+        (stage goal.entry.live.now goal.entry.q.now walk.new.given walk.new.opened walk.new.subtrees walk.new.candidates) walk.new.hits.items walk.new.tags.items) }
+    ensures ends { IfOk result (λ _. HasGiven goal.entry.n walk.new.hits.items walk.new.candidates walk.new.subtrees) }
+    ensures asked { CountsUpTo (P.shelf pages.old).asked (P.shelf pages.new).asked (goal.entry.live.now.pages - walk.old.opened) }
+    ensures reads { (P.shelf pages.new).reads ≤ (P.shelf pages.old).reads + (goal.entry.live.now.pages - walk.old.opened) }
+    ensures cause { IfErr result (HasStepCause (stage goal.entry.live.now goal.entry.q.now walk.old.given walk.old.opened walk.old.subtrees walk.old.candidates) (P.shelf pages.old) (P.shelf pages.new)) }
+    ensures sound { IfErr result (λ fault. (nodes : Nodes) → IsTrue (P.shelf pages.old).tells → IsSoundTree (R.M.space (R.metric ruler.old)) nodes goal.entry.live.now → HoldsTree nodes goal.entry.live.now (P.shelf pages.old) →
+        IsCursorOn (R.M.space (R.metric ruler.old)) nodes (stage goal.entry.live.now goal.entry.q.now walk.old.given walk.old.opened walk.old.subtrees walk.old.candidates) → IsPassing fault) }
 {
     while (walk.hits.len() as u64) < goal.n {
         let reach = walk.candidates.reach();

@@ -1,14 +1,25 @@
 ghost use Rattle.std.specs.Prelude.{◌≡◌, List, [], ◌∷◌, map, IfOk, IfSome, IfNone, OnOk, IsPermutation};
+ghost use Rattle.std.specs.Bool.{OnTrue};
 ghost use Rattle.std.specs.BinaryHeap.{heap_items, IsHeap};
 ghost use Rattle.pin_cursor.specs.declared.waiting.Subtree.{Subtree};
 ghost use Rattle.pin_cursor.specs.declared.waiting.Candidate.{Candidate};
-ghost use Rattle.pin_cursor.specs.Order.{subtree_order, candidate_order, IsReach, AllBeyond, IsFirst};
+ghost use Rattle.pin_cursor.specs.Order.{subtree_order, candidate_order, IsReach, IsBeyond, AllBeyond, IsFirst};
 
 use crate::waiting::{Candidate, Subtree};
 use std::alloc::{AllocError, Global};
 use std::cmp::Reverse;
 use std::collections::BinaryHeap;
 use std::marker::Model;
+
+// Whether a distance is beyond the reach. Nothing is beyond none.
+fn is_beyond(reach: Option<u64>, low: u64) -> bool
+    ensures { OnTrue result (IsBeyond reach low) }
+{
+    match reach {
+        Some(reach) => low > reach,
+        None => false,
+    }
+}
 
 /// The subtrees that are not opened yet, the nearest first.
 #[derive(Drop)]
@@ -60,10 +71,8 @@ impl Subtrees {
         let Some(Reverse(first)) = self.heap.peek() else {
             return None;
         };
-        if let Some(reach) = reach {
-            if first.low > reach {
-                return None;
-            }
+        if is_beyond(reach, first.low) {
+            return None;
         }
         let Some(Reverse(next)) = self.heap.pop() else {
             return None;
