@@ -1,5 +1,5 @@
 -- A step from its beginning to its end, over pages that may tell a sound tree or not.
-use Rattle.std.proofs.Common.{◌≡◌, ◌⊎◌, ℕ, zero, suc, ◌+◌, ◌-◌, ◌*◌, ◌<◌, ◌≤◌, List, [], ◌∷◌, ◌++◌, Option, Some, None, Err, refl, sym, ap, inl, inr, arith, ◌∙◌, length, length-append, take, drop, subst}
+use Rattle.std.proofs.Common.{◌≡◌, ◌⊎◌, ℕ, zero, suc, ◌+◌, ◌-◌, ◌*◌, ◌^◌, ◌<◌, ◌≤◌, List, [], ◌∷◌, ◌++◌, Option, Some, None, Err, refl, sym, ap, inl, inr, arith, ◌∙◌, length, length-append, take, drop, subst}
 use Rattle.std.specs.Prelude.{map, false, IsTrue, IsPermutation}
 use Rattle.std.proofs.lemmas.List.Sorted.{length_permutation}
 use Rattle.metric_laws.specs.Space.{Space, IsSpace}
@@ -80,6 +80,10 @@ module _ (s : Space) (axioms : IsSpace s) (old : Shelf) (live : Live) (q : List 
 
     pub way_reads : now.reads ≤ old.reads + (live.pages - o0)
     way_reads = let r = way.reads in let f = way.few in let m = way.more in omega arith
+
+    -- the hits can be counted
+    pub way_small : live.pages < 2 ^ 32 → g + 1 < 2 ^ 64
+    way_small low = let r = way.room in let f = way.few in omega arith
 
     pub one_more : (new : Shelf) → new.asked ≡ next_count now.asked → new.asked ≡ count_up old.asked ((o + 1) - o0)
     one_more new next =

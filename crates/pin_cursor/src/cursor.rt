@@ -136,11 +136,10 @@ impl Cursor {
         };
         let mut walk = Walk::begin(alloc, subtrees, candidates, self.opened, self.given);
         let goal = Goal {
-            live: &self.live,
             q: self.point.as_slice(),
             n,
         };
-        match advance(alloc, pages, ruler, goal, &mut walk) {
+        match advance(alloc, pages, ruler, &self.live, goal, &mut walk) {
             Ok(()) => Ok(self.settle(walk)),
             Err(fault) => Err(fault),
         }

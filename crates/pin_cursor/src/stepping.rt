@@ -17,8 +17,6 @@ use tree_shape::Live;
 /// What a step is for.
 #[derive(Clone, Copy, Debug)]
 pub struct Goal<'a> {
-    /// The cursor's tree.
-    pub live: &'a Live,
     /// The cursor's point.
     pub q: &'a [u32],
     /// How many hits are wanted.
@@ -31,41 +29,46 @@ pub fn advance<P: Pages, R: Ruler>(
     alloc: Global,
     pages: &mut P,
     ruler: &mut R,
+    live: &Live,
     goal: Goal,
     walk: &mut Walk,
 ) -> Result<(), PageFault>
     requires point { IsTrue ((R.M.space (R.metric ruler.old)).fits goal.q.now) }
     requires hits { walk.old.hits.items ≡ [] }
     requires tags { walk.old.tags.items ≡ [] }
-    requires few { walk.old.opened ≤ goal.live.now.pages }
+    requires few { walk.old.opened ≤ live.now.pages }
     requires room { walk.old.given + length walk.old.candidates ≤ 32 * walk.old.opened }
     ensures metric { R.metric ruler.new ≡ R.metric ruler.old }
     ensures same { HoldsSame (P.shelf pages.old) (P.shelf pages.new) }
     ensures keeps { P.keeps pages.old pages.new }
     ensures way { IfOk result (λ _. IsUnderWay (R.M.space (R.metric ruler.old)) (P.shelf pages.old) (P.shelf pages.new)
-        (stage goal.entry.live.now goal.entry.q.now walk.old.given walk.old.opened walk.old.subtrees walk.old.candidates)
-        (stage goal.entry.live.now goal.entry.q.now walk.new.given walk.new.opened walk.new.subtrees walk.new.candidates) walk.new.hits.items walk.new.tags.items) }
+        (stage live.now goal.entry.q.now walk.old.given walk.old.opened walk.old.subtrees walk.old.candidates)
+        (stage live.now goal.entry.q.now walk.new.given walk.new.opened walk.new.subtrees walk.new.candidates) walk.new.hits.items walk.new.tags.items) }
     ensures ends { IfOk result (λ _. HasGiven goal.entry.n walk.new.hits.items walk.new.candidates walk.new.subtrees) }
-    ensures asked { CountsUpTo (P.shelf pages.old).asked (P.shelf pages.new).asked (goal.entry.live.now.pages - walk.old.opened) }
-    ensures reads { (P.shelf pages.new).reads ≤ (P.shelf pages.old).reads + (goal.entry.live.now.pages - walk.old.opened) }
-    ensures cause { IfErr result (HasStepCause (stage goal.entry.live.now goal.entry.q.now walk.old.given walk.old.opened walk.old.subtrees walk.old.candidates) (P.shelf pages.old) (P.shelf pages.new)) }
-    ensures sound { IfErr result (λ fault. (nodes : Nodes) → IsTrue (P.shelf pages.old).tells → IsSoundTree (R.M.space (R.metric ruler.old)) nodes goal.entry.live.now → HoldsTree nodes goal.entry.live.now (P.shelf pages.old) →
-        IsCursorOn (R.M.space (R.metric ruler.old)) nodes (stage goal.entry.live.now goal.entry.q.now walk.old.given walk.old.opened walk.old.subtrees walk.old.candidates) → IsPassing fault) }
+    ensures asked { CountsUpTo (P.shelf pages.old).asked (P.shelf pages.new).asked (live.now.pages - walk.old.opened) }
+    ensures reads { (P.shelf pages.new).reads ≤ (P.shelf pages.old).reads + (live.now.pages - walk.old.opened) }
+    ensures cause { IfErr result (HasStepCause (stage live.now goal.entry.q.now walk.old.given walk.old.opened walk.old.subtrees walk.old.candidates) (P.shelf pages.old) (P.shelf pages.new)) }
+    ensures sound { IfErr result (λ fault. (nodes : Nodes) → IsTrue (P.shelf pages.old).tells → IsSoundTree (R.M.space (R.metric ruler.old)) nodes live.now → HoldsTree nodes live.now (P.shelf pages.old) →
+        IsCursorOn (R.M.space (R.metric ruler.old)) nodes (stage live.now goal.entry.q.now walk.old.given walk.old.opened walk.old.subtrees walk.old.candidates) → IsPassing fault) }
 {
     while (walk.hits.len() as u64) < goal.n {
+        let spent = walk.opened == live.pages;
         let reach = walk.candidates.reach();
         if let Some(next) = walk.subtrees.take_within(reach) {
-            if walk.opened == goal.live.pages {
+            if spent {
                 return Err(PageFault::Repeats(next.page));
             }
-            open_page(alloc, pages, ruler, goal.q, next.page, walk)?;
-            walk.opened += 1;
+            match open_page(alloc, pages, ruler, goal.q, next.page, walk) {
+                Ok(()) => walk.opened += 1,
+                Err(fault) => return Err(fault),
+            }
         } else {
             let Some(next) = walk.candidates.take_first() else {
                 return Ok(());
             };
-            if walk.give(next).is_err() {
-                return Err(PageFault::Memory);
+            match walk.give(next) {
+                Ok(()) => {}
+                Err(_) => return Err(PageFault::Memory),
             }
         }
     }
