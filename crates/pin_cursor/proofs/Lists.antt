@@ -1,5 +1,5 @@
 -- Sums over lists, lists in another order, and fronts of lists.
-use Rattle.std.proofs.Common.{◌≡◌, ℕ, zero, suc, ◌+◌, ◌<◌, ◌≤◌, List, [], ◌∷◌, ◌++◌, refl, sym, ap, inl, inr, arith, ◌∙◌, length, length-append, get_or, take, drop, drop-cons, add-one, subst}
+use Rattle.std.proofs.Common.{◌≡◌, ℕ, zero, suc, ◌+◌, ◌<◌, ◌≤◌, List, [], ◌∷◌, ◌++◌, refl, sym, ap, inl, inr, arith, ◌∙◌, length, get_or, take, drop, drop-cons, add-one, subst}
 use Rattle.std.specs.Prelude.{map, if◌then◌else◌, ◌==◌, Contains, IsPermutation}
 use Rattle.std.specs.List.{flat_map}
 use Rattle.std.proofs.lemmas.List.Recursion.{is_sum_by}

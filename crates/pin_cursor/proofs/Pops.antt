@@ -1,7 +1,7 @@
 -- A candidate is given.
-use Rattle.std.proofs.Common.{◌≡◌, ◌⊎◌, ℕ, zero, suc, ◌+◌, ◌<◌, ◌≤◌, Bool, true, false, List, [], ◌∷◌, ◌++◌, Option, Some, None, refl, sym, ap, inl, inr, arith, ◌∙◌, length, get_or, take, drop, subst}
-use Rattle.std.specs.Prelude.{map, nat_lt, if◌then◌else◌, ◌==◌, IsTrue, IsPermutation, slice_index_or}
-use Rattle.std.specs.List.{AllByRecursion, flat_map}
+use Rattle.std.proofs.Common.{◌≡◌, ◌⊎◌, ℕ, zero, suc, ◌+◌, ◌<◌, ◌≤◌, List, [], ◌∷◌, ◌++◌, Option, Some, None, refl, sym, ap, inl, inr, arith, ◌∙◌, get_or, take, drop, subst}
+use Rattle.std.specs.Prelude.{IsPermutation, slice_index_or}
+use Rattle.std.specs.List.{flat_map}
 use Rattle.std.proofs.lemmas.Bool.Decides.{nat_tests}
 use Rattle.metric_laws.specs.Space.{Space, IsSpace, bound}
 use Rattle.metric_laws.specs.Lists.{IsIn}
@@ -10,18 +10,16 @@ use Rattle.scan_model.specs.declared.hit.Hit.{Hit}
 use Rattle.scan_model.specs.Scan.{nearest_hits, range_hits}
 use Rattle.scan_model.specs.Laws.{Ascends, HitBefore, IsRangeAnswer}
 use Rattle.scan_model.proofs.RangeLaw.{range_answers}
-use Rattle.tree_shape.specs.declared.live.Live.{Live}
 use Rattle.tree_shape.specs.declared.entry.LeafEntry.{LeafEntry}
-use Rattle.tree_shape.specs.Tree.{Nodes, IsSoundAt, IsSoundTree, objects_at, objects, points_by_id, tags_by_id, tags_from, tag_of, times}
+use Rattle.tree_shape.specs.Tree.{Nodes, IsSoundAt, IsSoundTree, objects_at, objects, points_by_id, tags_by_id, tags_from, tag_of}
 use Rattle.page_store.proofs.Ids.{tag_of-in, once_counted}
 use Rattle.log_model.proofs.ByScan.{AreIds, length-points, id_below, at_id}
 use Rattle.log_model.proofs.Hits.{ascends_take}
-use Rattle.log_model.proofs.Walk.{map-append}
 use Rattle.pin_cursor.specs.declared.waiting.Subtree.{Subtree}
 use Rattle.pin_cursor.specs.declared.waiting.Candidate.{Candidate}
 use Rattle.pin_cursor.specs.Order.{IsReach, AllBeyond, IsFirst}
-use Rattle.pin_cursor.specs.Cursor.{OpenCursor, candidate_of, hit_of, node_level, objects_below, coming, waiting, tree_candidates, rest_of, tags_of, IsSubtreeOf, IsCursorOn}
-use Rattle.pin_cursor.proofs.Lists.{total, total-append, total-permutation, one_of, times_total, in-permutation, in-permutation_back, flat_map-in, drop_add, drop_more}
+use Rattle.pin_cursor.specs.Cursor.{OpenCursor, candidate_of, hit_of, node_level, objects_below, coming, waiting, rest_of, IsCursorOn}
+use Rattle.pin_cursor.proofs.Lists.{total, total-append, total-permutation, one_of, times_total, in-permutation, in-permutation_back, flat_map-in, drop_add}
 
 -- ---- lists
 
@@ -187,16 +185,19 @@ module _ (s : Space) (axioms : IsSpace s) (nodes : Nodes) (c : OpenCursor) (soun
     given_stands = record {
       subtrees = on.subtrees;
       waits = λ y. (
-        (λ k. let o = (on.waits y).0 (back y k) in (o.0, elim (subst (λ (l : List Hit). IsIn (hit_of y) l) given_first.1 o.1) [
-          | inl same ↦ absurd (another y k same)
-          | inr w ↦ subst (λ (l : List Hit). IsIn (hit_of y) l) (sym rest_next) w
-        ])),
+        (λ k. let o = (on.waits y).0 (back y k) in (
+          o.0,
+          elim (subst (λ (l : List Hit). IsIn (hit_of y) l) given_first.1 o.1) [
+            | inl same ↦ absurd (another y k same)
+            | inr w ↦ subst (λ (l : List Hit). IsIn (hit_of y) l) (sym rest_next) w
+          ],
+        )),
         (λ k.
-          let behind : IsIn (hit_of y) given_first.0 = subst (λ (l : List Hit). IsIn (hit_of y) l) rest_next k.1 in
-          elim (onward y ((on.waits y).1 (k.0, subst (λ (l : List Hit). IsIn (hit_of y) l) (sym given_first.1) (inr behind)))) [
-            | inl e ↦ absurd (not_again (hit_of x) given_first.0 rises_next (subst (λ (z : Candidate). IsIn (hit_of z) given_first.0) e behind))
-            | inr w ↦ w
-          ]),
+            let behind : IsIn (hit_of y) given_first.0 = subst (λ (l : List Hit). IsIn (hit_of y) l) rest_next k.1 in
+            elim (onward y ((on.waits y).1 (k.0, subst (λ (l : List Hit). IsIn (hit_of y) l) (sym given_first.1) (inr behind)))) [
+              | inl e ↦ absurd (not_again (hit_of x) given_first.0 rises_next (subst (λ (z : Candidate). IsIn (hit_of z) given_first.0) e behind))
+              | inr w ↦ w
+            ]),
       );
       once = λ id. let f = few id in let n = counts id in let t = times_total id (rest ++ later) in omega arith;
       opened = on.opened;

@@ -1,13 +1,12 @@
 -- A cursor that was just opened stands on its tree.
-use Rattle.std.proofs.Common.{◌≡◌, ℕ, zero, suc, ◌+◌, ◌<◌, ◌≤◌, Bool, true, false, cond, List, [], ◌∷◌, ◌++◌, Option, Some, None, refl, sym, ap, inl, inr, arith, ◌∙◌, length, get_or, take, drop, subst}
+use Rattle.std.proofs.Common.{◌≡◌, ℕ, suc, ◌+◌, ◌≤◌, Bool, true, false, cond, List, [], ◌∷◌, None, refl, sym, ap, inl, inr, arith, ◌∙◌, length, subst}
 use Rattle.std.specs.Prelude.{map, filter, IsTrue, if◌then◌else◌, ◌==◌}
-use Rattle.std.specs.List.{flat_map}
 use Rattle.std.specs.declared.cmp.Ordering.{Ordering}
 use Rattle.std.specs.Ordering.{is_gt}
 use Rattle.std.proofs.lemmas.List.{append-nil, take_all}
 use Rattle.metric_laws.specs.Space.{Space, IsSpace, bound}
 use Rattle.metric_laws.specs.Lists.{IsIn}
-use Rattle.metric_laws.proofs.Lists.{all_in, in-map, map-in}
+use Rattle.metric_laws.proofs.Lists.{all_in, in-map}
 use Rattle.scan_model.specs.declared.hit.Hit.{Hit}
 use Rattle.scan_model.specs.Hits.{hit_cmp}
 use Rattle.scan_model.specs.Ordered.{put, ordered}
@@ -19,12 +18,10 @@ use Rattle.tree_shape.specs.Fill.{root_least}
 use Rattle.tree_shape.specs.Tree.{Nodes, IsSoundTree, objects_at, objects, pages_at, points_by_id, times}
 use Rattle.tree_shape.proofs.ById.{ids_of}
 use Rattle.tree_shape.proofs.Within.{Fits, objects_fit}
-use Rattle.page_store.specs.Placing.{live_pages}
 use Rattle.page_store.proofs.Ids.{once_counted}
 use Rattle.log_model.proofs.ByScan.{length-points, id_below}
-use Rattle.pin_cursor.specs.declared.waiting.Subtree.{Subtree}
 use Rattle.pin_cursor.specs.declared.waiting.Candidate.{Candidate}
-use Rattle.pin_cursor.specs.Cursor.{OpenCursor, root_of, begun, candidate_of, hit_of, node_level, objects_below, pages_below, coming, waiting, rest_of, IsSubtreeOf, IsCursorOn}
+use Rattle.pin_cursor.specs.Cursor.{root_of, begun, candidate_of, hit_of, node_level, pages_below, coming, waiting, rest_of, IsSubtreeOf, IsCursorOn}
 use Rattle.pin_cursor.proofs.Pops.{level_is}
 
 -- ---- a search for all objects names each of them
@@ -103,9 +100,9 @@ module _ (s : Space) (nodes : Nodes) (axioms : IsSpace s) (live : Live) (q : Lis
     subtrees = λ x k. elim k [ inl e ↦ subst (IsSubtreeOf s nodes live q) (sym e) root_whole | inr w ↦ absurd w ];
     waits = λ y. (
       (λ k.
-        let there : IsIn y (map (candidate_of s q) os) = subst (λ (l : List Candidate). IsIn y l) all_wait k in
-        let o = in-map (candidate_of s q) os y there in
-        (there, subst (λ (z : Candidate). IsIn (hit_of z) (rest_of s nodes (begun live q))) (sym o.2) (named o.0 o.1))),
+          let there : IsIn y (map (candidate_of s q) os) = subst (λ (l : List Candidate). IsIn y l) all_wait k in
+          let o = in-map (candidate_of s q) os y there in
+          (there, subst (λ (z : Candidate). IsIn (hit_of z) (rest_of s nodes (begun live q))) (sym o.2) (named o.0 o.1))),
       (λ k. subst (λ (l : List Candidate). IsIn y l) (sym all_wait) k.0),
     );
     once = λ id.

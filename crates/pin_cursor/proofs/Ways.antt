@@ -1,5 +1,5 @@
 -- A step from its beginning to its end, over pages that may tell a sound tree or not.
-use Rattle.std.proofs.Common.{◌≡◌, ◌⊎◌, ℕ, zero, suc, ◌+◌, ◌-◌, ◌*◌, ◌^◌, ◌<◌, ◌≤◌, List, [], ◌∷◌, ◌++◌, Option, Some, None, Err, refl, sym, ap, inl, inr, arith, ◌∙◌, length, length-append, take, drop, subst}
+use Rattle.std.proofs.Common.{◌≡◌, ℕ, suc, ◌+◌, ◌-◌, ◌*◌, ◌^◌, ◌<◌, ◌≤◌, List, [], ◌∷◌, ◌++◌, Option, Some, None, Err, refl, sym, ap, inl, inr, arith, ◌∙◌, length, length-append, take, drop, subst}
 use Rattle.std.specs.Prelude.{map, false, IsTrue, IsPermutation}
 use Rattle.std.proofs.lemmas.List.Sorted.{length_permutation}
 use Rattle.metric_laws.specs.Space.{Space, IsSpace}
@@ -9,7 +9,6 @@ use Rattle.metric_laws.proofs.Lists.{in-append, in-map, length_map}
 use Rattle.scan_model.specs.declared.hit.Hit.{Hit}
 use Rattle.scan_model.specs.Scan.{nearest_hits}
 use Rattle.tree_shape.specs.declared.live.Live.{Live}
-use Rattle.tree_shape.specs.declared.entry.InnerEntry.{InnerEntry}
 use Rattle.tree_shape.specs.declared.entry.Node.{Node}
 use Rattle.tree_shape.specs.declared.entry.Node.TheVariants.{Leaf, Inner}
 use Rattle.tree_shape.specs.Tree.{Nodes, IsSoundTree, leaf_entries, inner_entries, points_by_id}
@@ -19,7 +18,7 @@ use Rattle.page_store.specs.declared.pages.PageFault.TheVariants.{Disk, Bad, Out
 use Rattle.page_store.specs.Reached.{IsReached}
 use Rattle.page_store.specs.Reached.IsReached.{at_root, by_child}
 use Rattle.page_store.specs.Reading.{Read, IsWithin, is_within, nodes_of, node_or_none}
-use Rattle.page_store.specs.Shelf.{Shelf, HoldsSame, IsNodeOf, HasPageCause, IsPassing}
+use Rattle.page_store.specs.Shelf.{Shelf, HoldsSame, HasPageCause, IsPassing}
 use Rattle.log_model.specs.Counts.{count_up, CountsUpTo}
 use Rattle.log_model.proofs.Reached.{count_up_more}
 use Rattle.log_model.proofs.Walk.{map-append}
@@ -271,3 +270,25 @@ module _ (s : Space) (axioms : IsSpace s) (old : Shelf) (live : Live) (q : List 
             ∙ none_in (rest_of s nodes here) (λ h k. let y = standing s axioms nodes here sound stands h k in
             let empty : waiting s nodes here ≡ [] = (λ i. waiting s nodes (stage live q g o (none_left i) (none_met i))) in
             subst (λ (l : List Candidate). IsIn y.0 l) empty y.1)
+
+-- what a whole step gives: from the cursor a it made the cursor b
+module _ (s : Space) (axioms : IsSpace s) (old now : Shelf) (live : Live) (q : List ℕ) (g0 o0 : ℕ) (xs0 : List Subtree) (cs0 : List Candidate) (g o : ℕ) (xs : List Subtree) (cs : List Candidate)
+    (hits : List Hit) (tags : List ℕ) (way : IsUnderWay s old now (stage live q g0 o0 xs0 cs0) (stage live q g o xs cs) hits tags) (a b : OpenCursor)
+    (first : stage live q g0 o0 xs0 cs0 ≡ a) (last : b ≡ stage a.live a.point g o xs cs) where
+  end_is : stage live q g o xs cs ≡ b
+  end_is = (λ i. stage (first i).live (first i).point g o xs cs) ∙ sym last
+
+  pub step_reached : IsTrue old.tells → (x : Subtree) → IsIn x b.subtrees → IsReachedFrom (nodes_of old.read) a x.page
+  step_reached tells x k =
+      subst (λ (c : OpenCursor). IsReachedFrom (nodes_of old.read) c x.page) first (way.reached tells x (subst (λ (c : OpenCursor). IsIn x c.subtrees) (sym end_is) k))
+
+  pub step_gives : IsTrue (s.fits a.point) → (n : ℕ) → HasGiven n hits cs xs → (h : List Hit) (t : List ℕ) → h ≡ hits → t ≡ tags → (nodes : Nodes) → IsTrue old.tells → IsSoundTree s nodes a.live →
+      HoldsTree nodes a.live old → IsCursorOn s nodes a → GivesNext s nodes a b n h t
+  step_gives fits n given h t hits_are tags_are nodes tells sound holds on =
+      let given_next : GivesNext s nodes (stage live q g0 o0 xs0 cs0) (stage live q g o xs cs) n hits tags =
+      way_ends s axioms old live q (subst (λ (c : OpenCursor). IsTrue (s.fits c.point)) (sym first) fits) g0 o0 xs0 cs0 now g o xs cs hits tags way n given nodes tells
+      (subst (λ (c : OpenCursor). IsSoundTree s nodes c.live) (sym first) sound) (subst (λ (c : OpenCursor). HoldsTree nodes c.live old) (sym first) holds) (subst (IsCursorOn s nodes) (sym first) on) in
+      subst (λ (c : OpenCursor). GivesNext s nodes c b n h t) first
+      (subst (λ (c : OpenCursor). GivesNext s nodes (stage live q g0 o0 xs0 cs0) c n h t) end_is
+      (subst (λ (l : List Hit). GivesNext s nodes (stage live q g0 o0 xs0 cs0) (stage live q g o xs cs) n l t) (sym hits_are)
+      (subst (λ (l : List ℕ). GivesNext s nodes (stage live q g0 o0 xs0 cs0) (stage live q g o xs cs) n hits l) (sym tags_are) given_next)))

@@ -1,5 +1,5 @@
 -- What a cursor is, and what holds of it on a sound tree.
-use Rattle.std.specs.Prelude.{◌≡◌, ◌↔◌, ℕ, ◌+◌, ◌-◌, ◌≤◌, List, [], ◌∷◌, ◌++◌, length, map, take, drop, Option, Some, None, IsTrue, slice_index_or}
+use Rattle.std.specs.Prelude.{◌≡◌, ◌↔◌, ℕ, ◌+◌, ◌-◌, ◌≤◌, List, [], ◌∷◌, ◌++◌, length, map, drop, Option, Some, None, slice_index_or}
 use Rattle.std.specs.List.{flat_map}
 use Rattle.metric_laws.specs.Space.{Space}
 use Rattle.metric_laws.specs.Lists.{IsIn}

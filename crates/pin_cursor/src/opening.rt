@@ -78,9 +78,7 @@ pub fn open_page<P: Pages, R: Ruler>(
 {
     let node = pages.node(alloc, page)?;
     let taken = match &node {
-        Node::Leaf(entries) => {
-            meet_objects(ruler, q, entries.as_slice(), &mut walk.candidates)
-        }
+        Node::Leaf(entries) => { meet_objects(ruler, q, entries.as_slice(), &mut walk.candidates) }
         Node::Inner { entries, .. } => {
             queue_subtrees(ruler, q, entries.as_slice(), &mut walk.subtrees)
         }

@@ -95,13 +95,7 @@ fn take(
 }
 
 // The same, where no step is refused.
-fn given(
-    rt: &impl Abort,
-    alloc: Global,
-    bytes: &[u8],
-    cursor: &mut Cursor,
-    n: u64,
-) -> Stepped {
+fn given(rt: &impl Abort, alloc: Global, bytes: &[u8], cursor: &mut Cursor, n: u64) -> Stepped {
     let (Ok(stepped), _) = take(rt, alloc, bytes, cursor, n) else {
         panic!(rt; "a step is refused");
     };

@@ -25,7 +25,13 @@ pub struct Walk {
 
 impl Walk {
     /// A step that begins with these.
-    pub fn begin(alloc: Global, subtrees: Subtrees, candidates: Candidates, opened: u32, given: u64) -> Self
+    pub fn begin(
+        alloc: Global,
+        subtrees: Subtrees,
+        candidates: Candidates,
+        opened: u32,
+        given: u64,
+    ) -> Self
         ensures subtrees { result.subtrees ≡ subtrees }
         ensures candidates { result.candidates ≡ candidates }
         ensures opened { result.opened ≡ opened }

@@ -1,4 +1,4 @@
-use Rattle.std.proofs.Common.{rules, ◌≡◌, ◌∙◌, ◌+◌, ◌≤◌, [], ◌∷◌, ap, arith, subst, refl, List, length, length-append}
+use Rattle.std.proofs.Common.{rules, ◌∙◌, [], ◌∷◌, arith, subst, refl, length-append}
 use Rattle.pin_cursor.specs.Cursor.{hit_of}
 use Rattle.pin_cursor.specs.Steps.{IsOpened}
 use Rattle.pin_cursor.proofs.Ways.{way_begins, way_asked_more, way_opens, way_cause, way_repeats, way_passes, way_room, way_small, way_gives}

@@ -1,4 +1,3 @@
-use Rattle.std.proofs.Common.{rules}
 use Rattle.std.specs.BinaryHeap.{heap_items}
 use Rattle.pin_cursor.proofs.Heaps.{held-popped, is_first}
 use Rattle.pin_cursor.proofs.waits.Candidates.take_first.Goals as goal
