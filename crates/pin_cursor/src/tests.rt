@@ -1,5 +1,6 @@
 use crate::{Cursor, Stepped};
 use metric_laws::{Memory, Meter, Point, Ruler};
+use node_page::NodeFault;
 use page_store::{ImagePages, PageFault};
 use scan_model::Hit;
 use std::alloc::Global;
@@ -148,7 +149,7 @@ fn each_hit_has_its_tag(rt: HostRuntime) -> Result<(), Memory> {
 #[test]
 fn a_leaf_is_read_when_it_may_hold_the_next(rt: HostRuntime) -> Result<(), Memory> {
     let bytes = two_leaves(rt.alloc(), 4)?;
-    for (q, n, asked) in [(3, 4, 2), (16, 1, 3), (30, 3, 2), (0, 33, 3)] {
+    for (q, n, asked) in [(3, 4, 2), (16, 1, 2), (16, 2, 3), (30, 3, 2), (0, 33, 3)] {
         let mut cursor = cursor_at(rt.alloc(), q)?;
         let (stepped, count) = take(&rt, rt.alloc(), &bytes, &mut cursor, n);
         assert!(rt; stepped.is_ok());
@@ -157,19 +158,38 @@ fn a_leaf_is_read_when_it_may_hold_the_next(rt: HostRuntime) -> Result<(), Memor
     Ok(())
 }
 
-// Of a root whose second child is this page: why the step that comes to it is refused. Then the cursor goes on where it was.
+// The ids of the next n hits of a cursor at 0.
+fn ids_from(
+    rt: &impl Abort,
+    alloc: Global,
+    bytes: &[u8],
+    cursor: &mut Cursor,
+    n: u64,
+) -> Result<Vec<u32>, Memory> {
+    let stepped = given(rt, alloc, bytes, cursor, n);
+    let mut ids = Vec::new(alloc);
+    for hit in stepped.hits.as_slice() {
+        ids.push(hit.id)?;
+    }
+    Ok(ids)
+}
+
+// The leaf of page 4 is damaged at the second step, and whole at the third.
 #[test]
 fn a_step_that_is_refused_leaves_the_cursor(rt: HostRuntime) -> Result<(), Memory> {
     let good = two_leaves(rt.alloc(), 4)?;
     let mut torn = two_leaves(rt.alloc(), 4)?;
-    torn.truncate(4 * 4096);
-    torn.push(99)?;
-    let all = from_sixteen(rt.alloc())?;
-    let mut cursor = cursor_at(rt.alloc(), 16)?;
-    let (refused, _) = take(&rt, rt.alloc(), &torn, &mut cursor, 1);
-    assert!(rt; refused.is_err());
-    let stepped = given(&rt, rt.alloc(), &good, &mut cursor, 33);
-    assert_eq!(rt; stepped.hits.as_slice(), all.as_slice());
+    if let Some(level) = torn.get_mut(4 * 4096) {
+        *level = 99;
+    }
+    let mut cursor = cursor_at(rt.alloc(), 0)?;
+    let first = ids_from(&rt, rt.alloc(), &torn, &mut cursor, 3)?;
+    assert_eq!(rt; first.as_slice(), [0, 1, 2].as_slice());
+    let (refused, _) = take(&rt, rt.alloc(), &torn, &mut cursor, 20);
+    assert_eq!(rt; refused.err(), Some(PageFault::Bad(4, NodeFault::Kind)));
+    assert_eq!(rt; cursor.given(), 3);
+    let next = ids_from(&rt, rt.alloc(), &good, &mut cursor, 2)?;
+    assert_eq!(rt; next.as_slice(), [3, 4].as_slice());
     Ok(())
 }
 
