@@ -10,7 +10,7 @@ use Rattle.std.proofs.lemmas.List.Sorted.{IsPermutation-map, length_permutation}
 use Rattle.metric_laws.specs.Lists.{IsIn}
 use Rattle.pin_cursor.specs.declared.waiting.Subtree.{Subtree}
 use Rattle.pin_cursor.specs.declared.waiting.Candidate.{Candidate}
-use Rattle.pin_cursor.specs.Order.{subtree_order, candidate_order, IsReach, IsBeyond, AllBeyond, IsFirst}
+use Rattle.pin_cursor.specs.Order.{subtree_order, candidate_order, IsBeyond, AllBeyond, IsFirst}
 use Rattle.pin_cursor.proofs.Lists.{in-permutation}
 
 -- what a heap holds
@@ -28,10 +28,6 @@ held-at [] k x low is = absurd (omega arith)
 held-at (y ∷ ys) zero x low is = inl (sym (ap (λ r. r.0) is))
 held-at (y ∷ ys) (suc k) x low is = inr (held-at ys k x (omega arith) is)
 
-pub held-none : {X : Type 0} (xs : List (Reverse X)) → length xs ≡ 0 → held xs ≡ []
-held-none [] is = refl
-held-none (x ∷ xs) is = absurd (omega arith)
-
 -- ---- subtrees
 
 not_before : (a b : ℕ) (o : Ordering) → is_lt (ordering_then (nat_cmp a b) o) ≡ false → b ≤ a
@@ -46,10 +42,11 @@ pub all_beyond : (reach : Option ℕ) (xs : List (Reverse Subtree)) (top : Rever
 all_beyond None xs top up far = absurd far
 all_beyond (Some reach) xs top up far = λ y i. let l = least_low top xs up y i in omega arith
 
-pub none_beyond : (reach : Option ℕ) (xs : List (Reverse Subtree)) → length xs ≡ 0 → AllBeyond reach (held xs)
-none_beyond None xs is = held-none xs is
-none_beyond (Some reach) [] is = λ y i. absurd i
-none_beyond (Some reach) (x ∷ xs) is = absurd (omega arith)
+-- the nearest is not beyond the reach where another is not
+pub not_beyond : (reach : Option ℕ) (xs : List (Reverse Subtree)) (top other : Reverse Subtree) → IsUpperBound (λ x y. subtree_order y.0 x.0) top xs → IsIn other.0 (held xs) →
+    (IsBeyond reach other.0.low → ⊥) → IsBeyond reach top.0.low → ⊥
+not_beyond None xs top other up i near far = far
+not_beyond (Some reach) xs top other up i near far = near (let l = least_low top xs up other.0 i in omega arith)
 
 -- a list of one is in one order
 pub one_alone : (x : Subtree) (ys : List Subtree) → IsPermutation (x ∷ []) ys → ys ≡ x ∷ []
@@ -76,6 +73,3 @@ is_first top (x ∷ xs) up y i =
       | inl e ↦ rw e (not_after top.0.dist top.0.id x.0.dist x.0.id (nat_cmp x.0.tag top.0.tag) up.0)
       | inr w ↦ is_first top xs up.1 y w
     ]
-
-pub is_reach : (xs : List (Reverse Candidate)) (top : Reverse Candidate) → 0 < length xs → top ≡ get_or xs 0 top → IsReach (held xs) (Some top.0.dist)
-is_reach xs top some is = (top.0, held-at xs 0 top some (sym is), refl)

@@ -143,9 +143,6 @@ take_more k l t h is = subst (λ (n : ℕ). take n l ≡ take k l ++ h ∷ []) (
     more (suc k) [] is = absurd (cc)
     more (suc k) (x ∷ l) is = ap (λ r. x ∷ r) (more k l is)
 
-pub drop_more : {X : Type 0} (k : ℕ) (l t : List X) (h : X) → drop k l ≡ h ∷ t → drop (k + 1) l ≡ t
-drop_more k l t h is = sym (drop_add k 1 l) ∙ ap (drop 1) is
-
 -- nothing is left behind the front
 pub take_rest : {X : Type 0} (k n : ℕ) (l : List X) → drop k l ≡ [] → k ≤ n → take k l ≡ take n l
 take_rest zero zero l is low = refl

@@ -73,13 +73,6 @@ module _ (s : Space) (axioms : IsSpace s) (old : Shelf) (live : Live) (q : List 
     abbrev here : OpenCursor
     here = stage live q g o xs cs
 
-    -- the count of asks, so far and after one more
-    pub way_asked : CountsUpTo old.asked now.asked (live.pages - o0)
-    way_asked = (o - o0, (let f = way.few in let m = way.more in omega arith), way.asked)
-
-    pub way_reads : now.reads ≤ old.reads + (live.pages - o0)
-    way_reads = let r = way.reads in let f = way.few in let m = way.more in omega arith
-
     -- the hits can be counted
     pub way_small : live.pages < 2 ^ 32 → g + 1 < 2 ^ 64
     way_small low = let r = way.room in let f = way.few in omega arith
@@ -90,9 +83,6 @@ module _ (s : Space) (axioms : IsSpace s) (old : Shelf) (live : Live) (q : List 
 
     pub way_asked_more : (new : Shelf) → o < live.pages → new.asked ≡ next_count now.asked → CountsUpTo old.asked new.asked (live.pages - o0)
     way_asked_more new low next = ((o + 1) - o0, (let m = way.more in omega arith), one_more new next)
-
-    pub way_reads_more : (new : Shelf) → o < live.pages → new.reads ≤ now.reads + 1 → new.reads ≤ old.reads + (live.pages - o0)
-    way_reads_more new low next = let r = way.reads in let m = way.more in omega arith
 
     -- ---- a subtree is taken
 
@@ -243,11 +233,6 @@ module _ (s : Space) (axioms : IsSpace s) (old : Shelf) (live : Live) (q : List 
       }
 
     -- ---- the end
-
-    -- nothing waits
-    pub nothing_waits : (n : ℕ) → length hits ≤ n → (reach : Option ℕ) → IsReach cs reach → AllBeyond reach xs → cs ≡ [] → HasGiven n hits cs xs
-    nothing_waits n low None is beyond none = inr (low, none, beyond)
-    nothing_waits n low (Some reach) is beyond none = absurd (subst (λ (l : List Candidate). IsIn is.0 l) none is.1)
 
     pub way_ends : (n : ℕ) → HasGiven n hits cs xs → (nodes : Nodes) → IsTrue old.tells → IsSoundTree s nodes live → HoldsTree nodes live old → IsCursorOn s nodes start →
         GivesNext s nodes start here n hits tags

@@ -1,5 +1,4 @@
-ghost use Rattle.std.specs.Prelude.{◌≡◌, List, [], ◌∷◌, map, IfOk, IfSome, IfNone, OnOk, IsPermutation};
-ghost use Rattle.std.specs.Bool.{OnTrue};
+ghost use Rattle.std.specs.Prelude.{◌≡◌, ◌↔◌, IsTrue, List, [], ◌∷◌, map, IfOk, IfSome, IfNone, OnOk, IsPermutation};
 ghost use Rattle.std.specs.BinaryHeap.{heap_items, IsHeap};
 ghost use Rattle.pin_cursor.specs.declared.waiting.Subtree.{Subtree};
 ghost use Rattle.pin_cursor.specs.declared.waiting.Candidate.{Candidate};
@@ -13,7 +12,7 @@ use std::marker::Model;
 
 // Whether a distance is beyond the reach. Nothing is beyond none.
 fn is_beyond(reach: Option<u64>, low: u64) -> bool
-    ensures { OnTrue result (IsBeyond reach low) }
+    ensures { IsTrue result ↔ IsBeyond reach low }
 {
     match reach {
         Some(reach) => low > reach,
@@ -65,6 +64,7 @@ impl Subtrees {
     /// of a lower id.
     pub fn take_within(&mut self, reach: Option<u64>) -> Option<Subtree>
         ensures some { IfSome result (λ x. IsPermutation self.old (x ∷ self.new)) }
+        ensures within { IfSome result (λ x. IsBeyond reach x.low → ⊥) }
         ensures none { IfNone result (AllBeyond reach self.old) }
         ensures same { IfNone result (self.new ≡ self.old) }
     {
