@@ -17,8 +17,8 @@ use Rattle.page_store.specs.Shelf.{Shelf}
 use Rattle.pin_cursor.specs.declared.waiting.Subtree.{Subtree}
 use Rattle.pin_cursor.specs.declared.waiting.Candidate.{Candidate}
 
--- a cursor: its tree and its point, how many hits it gave and how many nodes it opened, the subtrees that are not opened
--- yet, and the objects that were met and are not given yet
+-- a cursor: its tree and its point, how many hits it gave and how many nodes it opened, the subtrees that are not
+-- opened yet, and the objects that were met and are not given yet
 pub record OpenCursor : Type 0 where
   pub live : Live
   pub point : List ℕ

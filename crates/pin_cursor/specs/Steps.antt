@@ -22,8 +22,9 @@ use Rattle.pin_cursor.specs.Cursor.{OpenCursor, IsCursorOn, HoldsTree, candidate
 abbrev pub IsReachedFrom : Nodes → OpenCursor → ℕ → Type 0
 IsReachedFrom nodes c page = (x : Subtree) × IsIn x c.subtrees × IsReached nodes x.page page
 
--- why a step refuses: the disk failed or memory ran out; or a reached page holds no node, or is none of the file's; or this
--- step and those that answered before it opened as many nodes as the file has pages, and this reached one was to be opened besides
+-- why a step refuses: the disk failed or memory ran out; or a reached page holds no node, or is none of the file's; or
+-- this step and those that answered before it opened as many nodes as the file has pages, and this reached one was to be
+-- opened besides
 abbrev pub HasStepCause : OpenCursor → Shelf → Shelf → PageFault → Type 0
 HasStepCause c old new Disk = Rose old.faults new.faults
 HasStepCause c old new Memory = Unit {0}
@@ -48,8 +49,8 @@ pub record Gives (s : Space) (nodes : Nodes) (old new : OpenCursor) (hits : List
   pub tags_are : tags ≡ tags_of nodes old.live hits
   pub stands : IsCursorOn s nodes new
 
--- A cursor has given some hits and opened some nodes, and asked for each of these once. Where the pages tell a sound tree,
--- on which it stood, these are the next hits, and it stands there.
+-- A cursor has given some hits and opened some nodes, and asked for each of these once. Where the pages tell a sound
+-- tree, on which it stood, these are the next hits, and it stands there.
 pub record IsUnderWay (s : Space) (old now : Shelf) (start c : OpenCursor) (hits : List Hit) (tags : List ℕ) : Type 0 where
   pub same : HoldsSame old now
   pub more : start.opened ≤ c.opened

@@ -93,9 +93,10 @@ impl Cursor {
 
     /// The next `n` hits, or all that are left. After a refusal the cursor is as before.
     ///
-    /// A page that holds no node is `Bad`, one below 3 or not below the number of pages is `Outside`; where this step and
-    /// those that answered before it opened as many nodes as the file has pages and a further one is to be opened, that one
-    /// is `Repeats`. None of these comes on a sound tree. `Disk` comes where the disk failed.
+    /// A page that holds no node is `Bad`, one below 3 or not below the number of pages is `Outside`; where this step
+    /// and those that answered before it opened as many nodes as the file has pages and a further one is to be opened,
+    /// that one is `Repeats`. None of these comes on a sound tree. `Disk` comes where the disk failed, and `Memory`
+    /// where there was no memory.
     pub fn step<P: Pages, R: Ruler>(
         &mut self,
         alloc: Global,
@@ -114,7 +115,7 @@ impl Cursor {
         ensures few { IfOk result (λ stepped. length stepped.hits ≤ n) }
         ensures each { IfOk result (λ stepped. length stepped.tags ≡ length stepped.hits) }
         ensures unchanged { OnErr result (self.new ≡ self.old) }
-        // On the tree of a sound file, which the pages still hold, these are the next hits of the scan, with their tags.
+        // On the tree of a sound file, which the pages still hold, these are the scan's next hits, with their tags.
         ensures gives { IfOk result (λ stepped. (nodes : Nodes) → IsTrue (P.shelf pages.old).tells → IsSoundTree (R.M.space (R.metric ruler.old)) nodes self.old.live → HoldsTree nodes self.old.live (P.shelf pages.old) →
             IsCursorOn (R.M.space (R.metric ruler.old)) nodes self.old → GivesNext (R.M.space (R.metric ruler.old)) nodes self.old self.new n stepped.hits stepped.tags) }
         ensures sound { IfErr result (λ fault. (nodes : Nodes) → IsTrue (P.shelf pages.old).tells → IsSoundTree (R.M.space (R.metric ruler.old)) nodes self.old.live → HoldsTree nodes self.old.live (P.shelf pages.old) →
@@ -122,7 +123,7 @@ impl Cursor {
         ensures cause { IfErr result (HasStepCause self.old (P.shelf pages.old) (P.shelf pages.new)) }
         // What waits is reached from what waited.
         ensures reached { IfOk result (λ _. IsTrue (P.shelf pages.old).tells → (x : Subtree) → IsIn x self.new.subtrees → IsReachedFrom (nodes_of (P.shelf pages.old).read) self.old x.page) }
-        // A node that is opened is asked for once. Over all steps that answer Ok no more are opened than the file has pages.
+        // An opened node is asked for once. Over all steps that answer Ok no more are opened than the file has pages.
         ensures opened { IfOk result (λ _. (self.old.opened ≤ self.new.opened) × (self.new.opened ≤ self.old.live.pages)) }
         ensures work { IfOk result (λ _. (P.shelf pages.new).asked ≡ count_up (P.shelf pages.old).asked (self.new.opened - self.old.opened)) }
         ensures asked { CountsUpTo (P.shelf pages.old).asked (P.shelf pages.new).asked (self.old.live.pages - self.old.opened) }

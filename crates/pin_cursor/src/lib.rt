@@ -1,5 +1,5 @@
-//! A cursor that gives the objects of one tree by distance, then by id, some at a time. The tree is that of the live slot
-//! at the cursor's opening; somebody else keeps its pages.
+//! A cursor that gives the objects of one tree by distance, then by id, some at a time. The tree is that of the live
+//! slot at the cursor's opening; somebody else keeps its pages.
 #![tactic(auto)]
 
 mod cursor;

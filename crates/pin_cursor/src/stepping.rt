@@ -23,8 +23,8 @@ pub struct Goal<'a> {
     pub n: u64,
 }
 
-/// Gives the next hits: as many as are wanted, or all that are left. A subtree is opened before a candidate is given that is
-/// as far as the subtree may be near, since it may hold an object of a lower id (VLDB 1997, section 4.2).
+/// Gives the next hits: as many as are wanted, or all that are left. A subtree is opened before a candidate is given
+/// that is as far as the subtree may be near, since it may hold an object of a lower id (VLDB 1997, section 4.2).
 pub fn advance<P: Pages, R: Ruler>(
     alloc: Global,
     pages: &mut P,

@@ -60,8 +60,8 @@ impl Subtrees {
         Ok(())
     }
 
-    /// Takes the nearest subtree, unless each is further than the reach. One that is as far is taken: it may hold an object
-    /// of a lower id.
+    /// Takes the nearest subtree, unless each is further than the reach. One that is as far is taken: it may hold an
+    /// object of a lower id.
     pub fn take_within(&mut self, reach: Option<u64>) -> Option<Subtree>
         ensures some { IfSome result (λ x. IsPermutation self.old (x ∷ self.new)) }
         ensures within { IfSome result (λ x. IsBeyond reach x.low → ⊥) }
