@@ -1,9 +1,10 @@
 -- Sums over lists, lists in another order, and fronts of lists.
-use Rattle.std.proofs.Common.{◌≡◌, ℕ, zero, suc, ◌+◌, ◌<◌, ◌≤◌, List, [], ◌∷◌, ◌++◌, refl, sym, ap, inl, inr, arith, ◌∙◌, length, get_or, take, drop, drop-cons, add-one, subst}
+use Rattle.std.proofs.Common.{◌≡◌, ℕ, zero, suc, ◌+◌, ◌<◌, ◌≤◌, List, [], ◌∷◌, ◌++◌, refl, sym, ap, inl, inr, arith, ◌∙◌, append_assoc, length, get_or, take, drop, drop-cons, add-one, subst}
 use Rattle.std.specs.Prelude.{map, if◌then◌else◌, ◌==◌, Contains, IsPermutation}
 use Rattle.std.specs.List.{flat_map}
+use Rattle.std.proofs.lemmas.List.{append-nil}
 use Rattle.std.proofs.lemmas.List.Recursion.{is_sum_by}
-use Rattle.std.proofs.lemmas.List.Sorted.{Contains-permutation, IsPermutation-sym, IsPermutation-trans, IsPermutation-middle, IsPermutation-append_right, sum_by-IsPermutation}
+use Rattle.std.proofs.lemmas.List.Sorted.{Contains-permutation, IsPermutation-sym, IsPermutation-trans, IsPermutation-middle, IsPermutation-append_right, IsPermutation-append_left, IsPermutation-append_comm, IsPermutation-cons, IsPermutation-refl, sum_by-IsPermutation}
 use Rattle.metric_laws.specs.Lists.{IsIn}
 use Rattle.metric_laws.proofs.Lists.{in-append, in-append_left, in-append_right}
 use Rattle.tree_shape.specs.Tree.{times}
@@ -163,3 +164,34 @@ moved_one all P cur cur' x before pushed =
 
 pub map-drop : {X Y : Type 0} (f : X → Y) (es : List X) (i : ℕ) (e : X) → i < length es → e ≡ get_or es i e → map f (drop i es) ≡ f e ∷ map f (drop (i + 1) es)
 map-drop f es i e low is = rw (add-one, drop-cons es i e low, ← is) refl
+
+-- ---- accounts
+
+swapped : {X : Type 0} (a b c : List X) → IsPermutation (a ++ (b ++ c)) (b ++ (a ++ c))
+swapped a b c =
+    subst (λ l. IsPermutation l (b ++ (a ++ c))) (append_assoc a b c)
+    (subst (λ l. IsPermutation ((a ++ b) ++ c) l) (append_assoc b a c) (IsPermutation-append_left c (a ++ b) (b ++ a) (IsPermutation-append_comm a b)))
+
+-- one of what waits was opened, and what it holds waits
+pub account_opened : {X : Type 0} (a f F opened xs rest xs' : List X) (x : X) → IsPermutation (a ++ F) (opened ++ xs) → IsPermutation xs (x ∷ rest) → IsPermutation (f ++ rest) xs' →
+    IsPermutation (a ++ (f ++ F)) (x ∷ (opened ++ xs'))
+account_opened a f F opened xs rest xs' x before popped queued =
+    IsPermutation-trans (a ++ (f ++ F)) (f ++ (a ++ F)) (x ∷ (opened ++ xs')) (swapped a f F)
+    (IsPermutation-trans (f ++ (a ++ F)) (f ++ (opened ++ xs)) (x ∷ (opened ++ xs')) (IsPermutation-append_right f (a ++ F) (opened ++ xs) before)
+    (IsPermutation-trans (f ++ (opened ++ xs)) (f ++ (opened ++ (x ∷ rest))) (x ∷ (opened ++ xs'))
+    (IsPermutation-append_right f (opened ++ xs) (opened ++ (x ∷ rest)) (IsPermutation-append_right opened xs (x ∷ rest) popped))
+    (IsPermutation-trans (f ++ (opened ++ (x ∷ rest))) (opened ++ (f ++ (x ∷ rest))) (x ∷ (opened ++ xs')) (swapped f opened (x ∷ rest))
+    (IsPermutation-trans (opened ++ (f ++ (x ∷ rest))) (opened ++ (x ∷ xs')) (x ∷ (opened ++ xs'))
+    (IsPermutation-append_right opened (f ++ (x ∷ rest)) (x ∷ xs') (IsPermutation-trans (f ++ (x ∷ rest)) (x ∷ (f ++ rest)) (x ∷ xs') (IsPermutation-middle f x rest) (IsPermutation-cons x (f ++ rest) xs' queued)))
+    (IsPermutation-middle opened x xs')))))
+
+-- more waits
+pub account_met : {X : Type 0} (a f F given cs cs' : List X) → IsPermutation (a ++ F) (given ++ cs) → IsPermutation (f ++ cs) cs' → IsPermutation (a ++ (f ++ F)) (given ++ cs')
+account_met a f F given cs cs' before met =
+    IsPermutation-trans (a ++ (f ++ F)) (f ++ (a ++ F)) (given ++ cs') (swapped a f F)
+    (IsPermutation-trans (f ++ (a ++ F)) (f ++ (given ++ cs)) (given ++ cs') (IsPermutation-append_right f (a ++ F) (given ++ cs) before)
+    (IsPermutation-trans (f ++ (given ++ cs)) (given ++ (f ++ cs)) (given ++ cs') (swapped f given cs) (IsPermutation-append_right given (f ++ cs) cs' met)))
+
+-- nothing was opened or given
+pub account_begun : {X : Type 0} (xs : List X) → IsPermutation (xs ++ []) xs
+account_begun xs = subst (λ l. IsPermutation l xs) (sym (append-nil xs)) (IsPermutation-refl xs)

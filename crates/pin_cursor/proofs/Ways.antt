@@ -1,7 +1,8 @@
 -- A step from its beginning to its end, over pages that may tell a sound tree or not.
 use Rattle.std.proofs.Common.{◌≡◌, ℕ, suc, ◌+◌, ◌-◌, ◌*◌, ◌^◌, ◌<◌, ◌≤◌, List, [], ◌∷◌, ◌++◌, Option, Some, None, Err, refl, sym, ap, inl, inr, arith, ◌∙◌, length, length-append, take, drop, subst}
 use Rattle.std.specs.Prelude.{map, false, IsTrue, IsPermutation}
-use Rattle.std.proofs.lemmas.List.Sorted.{length_permutation}
+use Rattle.std.proofs.lemmas.List.Sorted.{length_permutation, IsPermutation-pop_more}
+use Rattle.std.specs.List.{flat_map}
 use Rattle.metric_laws.specs.Space.{Space, IsSpace}
 use Rattle.metric_laws.specs.Counts.{next_count}
 use Rattle.metric_laws.specs.Lists.{IsIn}
@@ -26,8 +27,8 @@ use Rattle.pin_cursor.specs.declared.waiting.Subtree.{Subtree}
 use Rattle.pin_cursor.specs.declared.waiting.Candidate.{Candidate}
 use Rattle.pin_cursor.specs.Order.{IsReach, AllBeyond, IsFirst}
 use Rattle.pin_cursor.specs.Cursor.{OpenCursor, candidate_of, subtree_of, hit_of, rest_of, tags_of, waiting, IsCursorOn, HoldsTree}
-use Rattle.pin_cursor.specs.Steps.{IsReachedFrom, HasStepCause, IsOpened, Gives, IsUnderWay, stage, HasGiven, GivesNext}
-use Rattle.pin_cursor.proofs.Lists.{in-permutation_back, drop_add, take_more, take_rest}
+use Rattle.pin_cursor.specs.Steps.{IsReachedFrom, HasStepCause, IsOpened, Gives, IsUnderWay, IsAccounted, objects_in, subtrees_in, stage, HasGiven, GivesNext}
+use Rattle.pin_cursor.proofs.Lists.{in-permutation_back, drop_add, take_more, take_rest, account_begun, account_opened, account_met}
 use Rattle.pin_cursor.proofs.Pops.{standing, given_first, given_stands, given_tag}
 use Rattle.pin_cursor.proofs.Opens.{page_there, node_there, opens_room, opened_stands}
 
@@ -66,6 +67,16 @@ module _ (s : Space) (axioms : IsSpace s) (old : Shelf) (live : Live) (q : List 
     tagged = refl;
     room = room;
     reached = λ tells x k. (x, k, at_root);
+    accounted = λ tells. record {
+      opened = [];
+      given = [];
+      count = omega arith;
+      have = tt;
+      subtrees = account_begun xs0;
+      objects = account_begun cs0;
+      hits_are = refl;
+      tags_are = refl;
+    };
     gives = λ nodes tells sound holds on. record { hits_are = refl; tags_are = refl; stands = on };
   }
 
@@ -127,6 +138,21 @@ module _ (s : Space) (axioms : IsSpace s) (old : Shelf) (live : Live) (q : List 
               stands = opened_stands s axioms nodes here q_fits sound so_far.stands x rest popped done.node is cs' xs' done.candidates done.subtrees;
             }
 
+        accounted_after : IsTrue old.tells → IsAccounted s (nodes_of old.read) start (stage live q g (o + 1) xs' cs') hits tags
+        accounted_after tells =
+            let so_far = way.accounted tells in record {
+              opened = x ∷ so_far.opened;
+              given = so_far.given;
+              count = (let n = so_far.count in omega arith);
+              have = ((done.node, told tells), so_far.have);
+              subtrees = account_opened xs0 (subtrees_in s q (nodes_of old.read) x) (flat_map (subtrees_in s q (nodes_of old.read)) so_far.opened) so_far.opened xs rest xs' x so_far.subtrees popped
+                  (subst (λ (n : Option Node). IsPermutation (map (subtree_of s q) (inner_entries n) ++ rest) xs') (sym (told tells)) done.subtrees);
+              objects = account_met cs0 (objects_in s q (nodes_of old.read) x) (flat_map (objects_in s q (nodes_of old.read)) so_far.opened) so_far.given cs cs' so_far.objects
+                  (subst (λ (n : Option Node). IsPermutation (map (candidate_of s q) (leaf_entries n) ++ cs) cs') (sym (told tells)) done.candidates);
+              hits_are = so_far.hits_are;
+              tags_are = so_far.tags_are;
+            }
+
         pub way_opens : IsUnderWay s old new start (stage live q g (o + 1) xs' cs') hits tags
         way_opens = record {
           same = same_both old now new way.same kept;
@@ -138,6 +164,7 @@ module _ (s : Space) (axioms : IsSpace s) (old : Shelf) (live : Live) (q : List 
           tagged = way.tagged;
           room = room_after;
           reached = reached_after;
+          accounted = accounted_after;
           gives = gives_after;
         }
 
@@ -218,6 +245,19 @@ module _ (s : Space) (axioms : IsSpace s) (old : Shelf) (live : Live) (q : List 
             stands = given_stands s axioms nodes here sound so_far.stands x rest popped first reach is beyond;
           }
 
+      accounted_next : IsTrue old.tells → IsAccounted s (nodes_of old.read) start (stage live q (g + 1) o xs rest) (hits ++ hit_of x ∷ []) (tags ++ x.tag ∷ [])
+      accounted_next tells =
+          let so_far = way.accounted tells in record {
+            opened = so_far.opened;
+            given = so_far.given ++ x ∷ [];
+            count = so_far.count;
+            have = so_far.have;
+            subtrees = so_far.subtrees;
+            objects = IsPermutation-pop_more (cs0 ++ flat_map (objects_in s q (nodes_of old.read)) so_far.opened) so_far.given cs rest x so_far.objects popped;
+            hits_are = ap (λ (l : List Hit). l ++ hit_of x ∷ []) so_far.hits_are ∙ sym (map-append hit_of so_far.given (x ∷ []));
+            tags_are = ap (λ (l : List ℕ). l ++ x.tag ∷ []) so_far.tags_are ∙ sym (map-append (λ c. c.tag) so_far.given (x ∷ []));
+          }
+
       pub way_gives : IsUnderWay s old now start (stage live q (g + 1) o xs rest) (hits ++ hit_of x ∷ []) (tags ++ x.tag ∷ [])
       way_gives = record {
         same = way.same;
@@ -229,6 +269,7 @@ module _ (s : Space) (axioms : IsSpace s) (old : Shelf) (live : Live) (q : List 
         tagged = (let e = way.tagged in let l = long in let t = length-append tags (x.tag ∷ []) in omega arith);
         room = (let r = way.room in let f = fewer in omega arith);
         reached = way.reached;
+        accounted = accounted_next;
         gives = gives_next;
       }
 
@@ -266,6 +307,13 @@ module _ (s : Space) (axioms : IsSpace s) (old now : Shelf) (live : Live) (q : L
   pub step_reached : IsTrue old.tells → (x : Subtree) → IsIn x b.subtrees → IsReachedFrom (nodes_of old.read) a x.page
   step_reached tells x k =
       subst (λ (c : OpenCursor). IsReachedFrom (nodes_of old.read) c x.page) first (way.reached tells x (subst (λ (c : OpenCursor). IsIn x c.subtrees) (sym end_is) k))
+
+  pub step_accounted : (h : List Hit) (t : List ℕ) → h ≡ hits → t ≡ tags → IsTrue old.tells → IsAccounted s (nodes_of old.read) a b h t
+  step_accounted h t hits_are tags_are tells =
+      subst (λ (c : OpenCursor). IsAccounted s (nodes_of old.read) c b h t) first
+      (subst (λ (c : OpenCursor). IsAccounted s (nodes_of old.read) (stage live q g0 o0 xs0 cs0) c h t) end_is
+      (subst (λ (l : List Hit). IsAccounted s (nodes_of old.read) (stage live q g0 o0 xs0 cs0) (stage live q g o xs cs) l t) (sym hits_are)
+      (subst (λ (l : List ℕ). IsAccounted s (nodes_of old.read) (stage live q g0 o0 xs0 cs0) (stage live q g o xs cs) hits l) (sym tags_are) (way.accounted tells))))
 
   pub step_gives : IsTrue (s.fits a.point) → (n : ℕ) → HasGiven n hits cs xs → (h : List Hit) (t : List ℕ) → h ≡ hits → t ≡ tags → (nodes : Nodes) → IsTrue old.tells → IsSoundTree s nodes a.live →
       HoldsTree nodes a.live old → IsCursorOn s nodes a → GivesNext s nodes a b n h t

@@ -1,5 +1,6 @@
 -- What a step does, and why it may refuse.
 use Rattle.std.specs.Prelude.{◌≡◌, ◌≢◌, ◌⊎◌, ℕ, ◌+◌, ◌-◌, ◌*◌, ◌≤◌, false, List, [], ◌++◌, length, map, take, Some, Err, IsTrue, IsPermutation}
+use Rattle.std.specs.List.{AllByRecursion, flat_map}
 use Rattle.metric_laws.specs.Space.{Space}
 use Rattle.metric_laws.specs.Lists.{IsIn}
 use Rattle.outside_io.specs.Causes.{Rose}
@@ -16,15 +17,15 @@ use Rattle.page_store.specs.Shelf.{Shelf, HoldsSame, IsNodeOf}
 use Rattle.log_model.specs.Counts.{count_up}
 use Rattle.pin_cursor.specs.declared.waiting.Subtree.{Subtree}
 use Rattle.pin_cursor.specs.declared.waiting.Candidate.{Candidate}
-use Rattle.pin_cursor.specs.Cursor.{OpenCursor, IsCursorOn, HoldsTree, candidate_of, subtree_of, rest_of, tags_of}
+use Rattle.pin_cursor.specs.Cursor.{OpenCursor, IsCursorOn, HoldsTree, candidate_of, subtree_of, hit_of, rest_of, tags_of}
 
 -- child numbers lead to the page from a subtree that waits
 abbrev pub IsReachedFrom : Nodes → OpenCursor → ℕ → Type 0
 IsReachedFrom nodes c page = (x : Subtree) × IsIn x c.subtrees × IsReached nodes x.page page
 
 -- why a step refuses: the disk failed or memory ran out; or a reached page holds no node, or is none of the file's; or
--- this step and those that answered before it opened as many nodes as the file has pages, and this reached one was to be
--- opened besides
+-- this step and those that answered before it opened as many nodes as the file has pages, and this reached one was to
+-- be opened besides
 abbrev pub HasStepCause : OpenCursor → Shelf → Shelf → PageFault → Type 0
 HasStepCause c old new Disk = Rose old.faults new.faults
 HasStepCause c old new Memory = Unit {0}
@@ -42,6 +43,29 @@ pub record IsOpened (s : Space) (q : List ℕ) (shelf : Shelf) (page : ℕ) (old
   pub is : IsNodeOf shelf page node
   pub candidates : IsPermutation (map (candidate_of s q) (leaf_entries (Some node)) ++ old) new
   pub subtrees : IsPermutation (map (subtree_of s q) (inner_entries (Some node)) ++ before) after
+
+-- what stands in the node of a subtree's page: the objects of a leaf, the subtrees of an inner node
+abbrev pub objects_in : Space → List ℕ → Nodes → Subtree → List Candidate
+objects_in s q nodes x = map (candidate_of s q) (leaf_entries (nodes x.page))
+
+abbrev pub subtrees_in : Space → List ℕ → Nodes → Subtree → List Subtree
+subtrees_in s q nodes x = map (subtree_of s q) (inner_entries (nodes x.page))
+
+-- the page of a subtree holds a node
+abbrev pub HasNode : Nodes → Subtree → Type 0
+HasNode nodes x = (node : Node) × (nodes x.page ≡ Some node)
+
+-- On any tree: some subtrees were opened, and each of them has a node. Every subtree that waited, or that stands in these
+-- nodes, was opened or waits now; every object that waited, or that stands in them, was given or waits now.
+pub record IsAccounted (s : Space) (nodes : Nodes) (old new : OpenCursor) (hits : List Hit) (tags : List ℕ) : Type 0 where
+  pub opened : List Subtree
+  pub given : List Candidate
+  pub count : new.opened ≡ old.opened + length opened
+  pub have : AllByRecursion (HasNode nodes) opened
+  pub subtrees : IsPermutation (old.subtrees ++ flat_map (subtrees_in s old.point nodes) opened) (opened ++ new.subtrees)
+  pub objects : IsPermutation (old.candidates ++ flat_map (objects_in s old.point nodes) opened) (given ++ new.candidates)
+  pub hits_are : hits ≡ map hit_of given
+  pub tags_are : tags ≡ map (λ c. c.tag) given
 
 -- these are the next hits with their tags, and the cursor stands behind them
 pub record Gives (s : Space) (nodes : Nodes) (old new : OpenCursor) (hits : List Hit) (tags : List ℕ) : Type 0 where
@@ -61,6 +85,7 @@ pub record IsUnderWay (s : Space) (old now : Shelf) (start c : OpenCursor) (hits
   pub tagged : length tags ≡ length hits
   pub room : c.given + length c.candidates ≤ 32 * c.opened
   pub reached : IsTrue old.tells → (x : Subtree) → IsIn x c.subtrees → IsReachedFrom (nodes_of old.read) start x.page
+  pub accounted : IsTrue old.tells → IsAccounted s (nodes_of old.read) start c hits tags
   pub gives : (nodes : Nodes) → IsTrue old.tells → IsSoundTree s nodes start.live → HoldsTree nodes start.live old → IsCursorOn s nodes start →
       Gives s nodes start c hits tags
 

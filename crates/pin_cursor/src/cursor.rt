@@ -6,7 +6,7 @@ ghost use Rattle.page_store.specs.Reading.{nodes_of};
 ghost use Rattle.page_store.specs.Shelf.{HoldsSame, IsPassing};
 ghost use Rattle.log_model.specs.Counts.{CountsUpTo, count_up};
 ghost use Rattle.pin_cursor.specs.Cursor.{OpenCursor, begun, IsCursorOn, HoldsTree};
-ghost use Rattle.pin_cursor.specs.Steps.{HasStepCause, IsReachedFrom, GivesNext};
+ghost use Rattle.pin_cursor.specs.Steps.{HasStepCause, HasGiven, IsAccounted, IsReachedFrom, GivesNext};
 
 use crate::Memory;
 use crate::stepping::{Goal, advance};
@@ -121,6 +121,9 @@ impl Cursor {
         ensures sound { IfErr result (λ fault. (nodes : Nodes) → IsTrue (P.shelf pages.old).tells → IsSoundTree (R.M.space (R.metric ruler.old)) nodes self.old.live → HoldsTree nodes self.old.live (P.shelf pages.old) →
             IsCursorOn (R.M.space (R.metric ruler.old)) nodes self.old → IsPassing fault) }
         ensures cause { IfErr result (HasStepCause self.old (P.shelf pages.old) (P.shelf pages.new)) }
+        // On any tree: as many hits as are wanted, or all; and what was opened, met and given adds up.
+        ensures ends { IfOk result (λ stepped. HasGiven n stepped.hits self.new.candidates self.new.subtrees) }
+        ensures accounted { IfOk result (λ stepped. IsTrue (P.shelf pages.old).tells → IsAccounted (R.M.space (R.metric ruler.old)) (nodes_of (P.shelf pages.old).read) self.old self.new stepped.hits stepped.tags) }
         // What waits is reached from what waited.
         ensures reached { IfOk result (λ _. IsTrue (P.shelf pages.old).tells → (x : Subtree) → IsIn x self.new.subtrees → IsReachedFrom (nodes_of (P.shelf pages.old).read) self.old x.page) }
         // An opened node is asked for once. Over all steps that answer Ok no more are opened than the file has pages.
