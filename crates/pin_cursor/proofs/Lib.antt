@@ -1,0 +1,6 @@
+pub mod Lists
+pub mod Heaps
+pub mod Opens
+pub mod Pops
+pub mod Starts
+pub mod Ways

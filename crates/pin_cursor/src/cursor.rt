@@ -1,0 +1,169 @@
+ghost use Rattle.std.specs.Prelude.{◌≡◌, ◌+◌, ◌-◌, ◌*◌, ◌≤◌, IsTrue, IfOk, IfErr, OnErr, OnOk, length};
+ghost use Rattle.metric_laws.specs.Space.{Space, IsSpace};
+ghost use Rattle.metric_laws.specs.Lists.{IsIn};
+ghost use Rattle.tree_shape.specs.Tree.{Nodes, IsSoundTree};
+ghost use Rattle.page_store.specs.Reading.{nodes_of};
+ghost use Rattle.page_store.specs.Shelf.{HoldsSame, IsPassing};
+ghost use Rattle.log_model.specs.Counts.{CountsUpTo, count_up};
+ghost use Rattle.pin_cursor.specs.Cursor.{OpenCursor, begun, IsCursorOn, HoldsTree};
+ghost use Rattle.pin_cursor.specs.Steps.{HasStepCause, HasGiven, IsAccounted, IsReachedFrom, GivesNext};
+
+use crate::Memory;
+use crate::stepping::{Goal, advance};
+use crate::waiting::Subtree;
+use crate::waits::{Candidates, Subtrees};
+use crate::walk::Walk;
+use metric_laws::{Listed, Point, Ruler};
+use page_store::{PageFault, Pages};
+use scan_model::Hit;
+use std::alloc::Global;
+use std::marker::Model;
+use tree_shape::Live;
+
+/// Gives the objects of the tree of one live slot by their distance from a point, then by id, some at a time.
+#[derive(Drop)]
+pub struct Cursor {
+    live: Live,
+    point: Point,
+    given: u64,
+    opened: u32,
+    subtrees: Subtrees,
+    candidates: Candidates,
+}
+
+impl Model for Cursor {
+    ghost Value = { OpenCursor };
+
+    ghost view = { λ c. record { live = c.live; point = c.point; given = c.given; opened = c.opened; subtrees = c.subtrees; candidates = c.candidates } };
+
+    // Only opened nodes are counted, and each of them has at most 32 objects.
+    ghost invariant = { λ c. (c.opened ≤ c.live.pages) × (c.given + length c.candidates ≤ 32 * c.opened) };
+}
+
+/// What a step gives.
+#[derive(Debug, Drop)]
+pub struct Stepped {
+    /// The next hits, by distance, then by id.
+    pub hits: Listed<Hit>,
+    /// The tag of each hit's object.
+    pub tags: Listed<u64>,
+}
+
+impl Cursor {
+    /// A cursor before the first object. Only its root waits.
+    pub fn open(alloc: Global, live: Live, q: Point) -> Result<Self, Memory>
+        ensures begun { IfOk result (λ c. c ≡ begun live q) }
+        ensures starts { IfOk result (λ c. (s : Space) (nodes : Nodes) → IsSpace s → IsSoundTree s nodes live → IsTrue (s.fits q) → IsCursorOn s nodes c) }
+    {
+        let mut subtrees = Subtrees::new(alloc);
+        subtrees.add(Subtree {
+            low: 0,
+            page: live.root,
+        })?;
+        Ok(Cursor {
+            live,
+            point: q,
+            given: 0,
+            opened: 0,
+            subtrees,
+            candidates: Candidates::new(alloc),
+        })
+    }
+
+    /// The live slot whose tree the cursor goes through.
+    pub fn live(&self) -> Live
+        ensures { result ≡ self.now.live }
+    {
+        self.live
+    }
+
+    /// The point from which distances are measured.
+    pub fn point(&self) -> &[u32]
+        ensures { result.now ≡ self.now.point }
+    {
+        self.point.as_slice()
+    }
+
+    /// How many hits the cursor has given.
+    pub fn given(&self) -> u64
+        ensures { result ≡ self.now.given }
+    {
+        self.given
+    }
+
+    /// The next `n` hits, or all that are left. After a refusal the cursor is as before.
+    ///
+    /// A page that holds no node is `Bad`, one below 3 or not below the number of pages is `Outside`; where this step
+    /// and those that answered before it opened as many nodes as the file has pages and a further one is to be opened,
+    /// that one is `Repeats`. None of these comes on a sound tree. `Disk` comes where the disk failed, and `Memory`
+    /// where there was no memory.
+    pub fn step<P: Pages, R: Ruler>(
+        &mut self,
+        alloc: Global,
+        pages: &mut P,
+        ruler: &mut R,
+        n: u64,
+    ) -> Result<Stepped, PageFault>
+        requires point { IsTrue ((R.M.space (R.metric ruler.old)).fits self.old.point) }
+        requires some { 1 ≤ n }
+        ensures metric { R.metric ruler.new ≡ R.metric ruler.old }
+        ensures same { HoldsSame (P.shelf pages.old) (P.shelf pages.new) }
+        ensures keeps { P.keeps pages.old pages.new }
+        ensures live { self.new.live ≡ self.old.live }
+        ensures point { self.new.point ≡ self.old.point }
+        ensures given { IfOk result (λ stepped. self.new.given ≡ self.old.given + length stepped.hits) }
+        ensures few { IfOk result (λ stepped. length stepped.hits ≤ n) }
+        ensures each { IfOk result (λ stepped. length stepped.tags ≡ length stepped.hits) }
+        ensures unchanged { OnErr result (self.new ≡ self.old) }
+        // On the tree of a sound file, which the pages still hold, these are the scan's next hits, with their tags.
+        ensures gives { IfOk result (λ stepped. (nodes : Nodes) → IsTrue (P.shelf pages.old).tells → IsSoundTree (R.M.space (R.metric ruler.old)) nodes self.old.live → HoldsTree nodes self.old.live (P.shelf pages.old) →
+            IsCursorOn (R.M.space (R.metric ruler.old)) nodes self.old → GivesNext (R.M.space (R.metric ruler.old)) nodes self.old self.new n stepped.hits stepped.tags) }
+        ensures sound { IfErr result (λ fault. (nodes : Nodes) → IsTrue (P.shelf pages.old).tells → IsSoundTree (R.M.space (R.metric ruler.old)) nodes self.old.live → HoldsTree nodes self.old.live (P.shelf pages.old) →
+            IsCursorOn (R.M.space (R.metric ruler.old)) nodes self.old → IsPassing fault) }
+        ensures cause { IfErr result (HasStepCause self.old (P.shelf pages.old) (P.shelf pages.new)) }
+        // On any tree: as many hits as are wanted, or all; and what was opened, met and given adds up.
+        ensures ends { IfOk result (λ stepped. HasGiven n stepped.hits self.new.candidates self.new.subtrees) }
+        ensures accounted { IfOk result (λ stepped. IsTrue (P.shelf pages.old).tells → IsAccounted (R.M.space (R.metric ruler.old)) (nodes_of (P.shelf pages.old).read) self.old self.new stepped.hits stepped.tags) }
+        // What waits is reached from what waited.
+        ensures reached { IfOk result (λ _. IsTrue (P.shelf pages.old).tells → (x : Subtree) → IsIn x self.new.subtrees → IsReachedFrom (nodes_of (P.shelf pages.old).read) self.old x.page) }
+        // An opened node is asked for once. Over all steps that answer Ok no more are opened than the file has pages.
+        ensures opened { IfOk result (λ _. (self.old.opened ≤ self.new.opened) × (self.new.opened ≤ self.old.live.pages)) }
+        ensures work { IfOk result (λ _. (P.shelf pages.new).asked ≡ count_up (P.shelf pages.old).asked (self.new.opened - self.old.opened)) }
+        ensures asked { CountsUpTo (P.shelf pages.old).asked (P.shelf pages.new).asked (self.old.live.pages - self.old.opened) }
+        ensures reads { (P.shelf pages.new).reads ≤ (P.shelf pages.old).reads + (self.old.live.pages - self.old.opened) }
+    {
+        let Ok(subtrees) = self.subtrees.copy() else {
+            return Err(PageFault::Memory);
+        };
+        let Ok(candidates) = self.candidates.copy() else {
+            return Err(PageFault::Memory);
+        };
+        let mut walk = Walk::begin(alloc, subtrees, candidates, self.opened, self.given);
+        let goal = Goal {
+            q: self.point.as_slice(),
+            n,
+        };
+        match advance(alloc, pages, ruler, &self.live, goal, &mut walk) {
+            Ok(()) => Ok(self.settle(walk)),
+            Err(fault) => Err(fault),
+        }
+    }
+
+    // The cursor after a step.
+    fn settle(&mut self, walk: Walk) -> Stepped
+        requires few { walk.opened ≤ self.old.live.pages }
+        requires room { walk.given + length walk.candidates ≤ 32 * walk.opened }
+        ensures after { self.new ≡ record { live = self.old.live; point = self.old.point; given = walk.given; opened = walk.opened; subtrees = walk.subtrees; candidates = walk.candidates } }
+        ensures hits { result.hits ≡ walk.hits.items }
+        ensures tags { result.tags ≡ walk.tags.items }
+    {
+        self.subtrees = walk.subtrees;
+        self.candidates = walk.candidates;
+        self.opened = walk.opened;
+        self.given = walk.given;
+        Stepped {
+            hits: Listed::new(walk.hits),
+            tags: Listed::new(walk.tags),
+        }
+    }
+}

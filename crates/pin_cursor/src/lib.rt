@@ -1,0 +1,19 @@
+//! A cursor that gives the objects of one tree by distance, then by id, some at a time. The tree is that of the live
+//! slot at the cursor's opening; somebody else keeps its pages.
+#![tactic(auto)]
+
+mod cursor;
+mod opening;
+mod stepping;
+mod waiting;
+mod waits;
+mod walk;
+
+pub use cursor::{Cursor, Stepped};
+pub use waiting::{Candidate, Subtree};
+
+/// Want of memory.
+pub type Memory = std::alloc::AllocError;
+
+#[cfg(test)]
+mod tests;

@@ -1,0 +1,90 @@
+//! Opens a page.
+
+ghost use Rattle.std.specs.Prelude.{◌≡◌, ◌+◌, ◌≤◌, ◌++◌, map, IfErr, OnOk, IsPermutation};
+ghost use Rattle.metric_laws.specs.Counts.{next_count};
+ghost use Rattle.page_store.specs.Shelf.{HoldsSame, HasPageCause};
+ghost use Rattle.pin_cursor.specs.Cursor.{candidate_of, subtree_of};
+ghost use Rattle.pin_cursor.specs.Steps.{IsOpened};
+
+use crate::waiting::{Candidate, Subtree};
+use crate::waits::{Candidates, Subtrees};
+use crate::walk::Walk;
+use metric_laws::Ruler;
+use page_store::{PageFault, Pages};
+use std::alloc::{AllocError, Global};
+use tree_shape::{InnerEntry, LeafEntry, Node};
+
+/// Adds a leaf's objects to the candidates.
+pub fn meet_objects<R: Ruler>(
+    ruler: &mut R,
+    q: &[u32],
+    entries: &[LeafEntry],
+    candidates: &mut Candidates,
+) -> Result<(), AllocError>
+    ensures metric { R.metric ruler.new ≡ R.metric ruler.old }
+    ensures met { OnOk result (IsPermutation (map (candidate_of (R.M.space (R.metric ruler.old)) q.now) entries.now ++ candidates.old) candidates.new) }
+{
+    for entry in entries {
+        let dist = ruler.dist(entry.point.as_slice(), q);
+        candidates.add(Candidate {
+            dist,
+            id: entry.id,
+            tag: entry.tag,
+        })?;
+    }
+    Ok(())
+}
+
+/// Adds an inner node's subtrees to those that wait.
+pub fn queue_subtrees<R: Ruler>(
+    ruler: &mut R,
+    q: &[u32],
+    entries: &[InnerEntry],
+    subtrees: &mut Subtrees,
+) -> Result<(), AllocError>
+    ensures metric { R.metric ruler.new ≡ R.metric ruler.old }
+    ensures queued { OnOk result (IsPermutation (map (subtree_of (R.M.space (R.metric ruler.old)) q.now) entries.now ++ subtrees.old) subtrees.new) }
+{
+    for entry in entries {
+        let dist = ruler.dist(entry.point.as_slice(), q);
+        subtrees.add(Subtree {
+            low: dist.saturating_sub(entry.radius),
+            page: entry.child,
+        })?;
+    }
+    Ok(())
+}
+
+/// Opens a page: what stands in its node waits from now on.
+pub fn open_page<P: Pages, R: Ruler>(
+    alloc: Global,
+    pages: &mut P,
+    ruler: &mut R,
+    q: &[u32],
+    page: u32,
+    walk: &mut Walk,
+) -> Result<(), PageFault>
+    ensures metric { R.metric ruler.new ≡ R.metric ruler.old }
+    ensures same { HoldsSame (P.shelf pages.old) (P.shelf pages.new) }
+    ensures keeps { P.keeps pages.old pages.new }
+    ensures asked { (P.shelf pages.new).asked ≡ next_count (P.shelf pages.old).asked }
+    ensures reads { (P.shelf pages.new).reads ≤ (P.shelf pages.old).reads + 1 }
+    ensures opened { walk.new.opened ≡ walk.old.opened }
+    ensures given { walk.new.given ≡ walk.old.given }
+    ensures hits { walk.new.hits ≡ walk.old.hits }
+    ensures tags { walk.new.tags ≡ walk.old.tags }
+    ensures node { OnOk result (IsOpened (R.M.space (R.metric ruler.old)) q.now (P.shelf pages.old) page walk.old.candidates walk.new.candidates walk.old.subtrees walk.new.subtrees) }
+    ensures cause { IfErr result (HasPageCause (P.shelf pages.old) (P.shelf pages.new) page) }
+{
+    let node = pages.node(alloc, page)?;
+    let taken = match &node {
+        Node::Leaf(entries) => { meet_objects(ruler, q, entries.as_slice(), &mut walk.candidates) }
+        Node::Inner { entries, .. } => {
+            queue_subtrees(ruler, q, entries.as_slice(), &mut walk.subtrees)
+        }
+    };
+    match taken {
+        Ok(()) => Ok(()),
+        Err(_) => Err(PageFault::Memory),
+    }
+}

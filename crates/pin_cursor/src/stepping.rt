@@ -1,0 +1,76 @@
+//! Opens subtrees and gives candidates, the nearest first.
+
+ghost use Rattle.std.specs.Prelude.{◌≡◌, ◌+◌, ◌-◌, ◌*◌, ◌≤◌, [], length, IfOk, IfErr, IsTrue};
+ghost use Rattle.tree_shape.specs.Tree.{Nodes, IsSoundTree};
+ghost use Rattle.page_store.specs.Shelf.{HoldsSame, IsPassing};
+ghost use Rattle.log_model.specs.Counts.{CountsUpTo};
+ghost use Rattle.pin_cursor.specs.Cursor.{OpenCursor, IsCursorOn, HoldsTree};
+ghost use Rattle.pin_cursor.specs.Steps.{HasStepCause, IsUnderWay, HasGiven, stage};
+
+use crate::opening::open_page;
+use crate::walk::Walk;
+use metric_laws::Ruler;
+use page_store::{PageFault, Pages};
+use std::alloc::Global;
+use tree_shape::Live;
+
+/// What a step is for.
+#[derive(Clone, Copy, Debug)]
+pub struct Goal<'a> {
+    /// The cursor's point.
+    pub q: &'a [u32],
+    /// How many hits are wanted.
+    pub n: u64,
+}
+
+/// Gives the next hits: as many as are wanted, or all that are left. A subtree is opened before a candidate is given
+/// that is as far as the subtree may be near, since it may hold an object of a lower id (VLDB 1997, section 4.2).
+pub fn advance<P: Pages, R: Ruler>(
+    alloc: Global,
+    pages: &mut P,
+    ruler: &mut R,
+    live: &Live,
+    goal: Goal,
+    walk: &mut Walk,
+) -> Result<(), PageFault>
+    requires point { IsTrue ((R.M.space (R.metric ruler.old)).fits goal.q.now) }
+    requires hits { walk.old.hits.items ≡ [] }
+    requires tags { walk.old.tags.items ≡ [] }
+    requires few { walk.old.opened ≤ live.now.pages }
+    requires room { walk.old.given + length walk.old.candidates ≤ 32 * walk.old.opened }
+    ensures metric { R.metric ruler.new ≡ R.metric ruler.old }
+    ensures same { HoldsSame (P.shelf pages.old) (P.shelf pages.new) }
+    ensures keeps { P.keeps pages.old pages.new }
+    ensures way { IfOk result (λ _. IsUnderWay (R.M.space (R.metric ruler.old)) (P.shelf pages.old) (P.shelf pages.new)
+        (stage live.now goal.entry.q.now walk.old.given walk.old.opened walk.old.subtrees walk.old.candidates)
+        (stage live.now goal.entry.q.now walk.new.given walk.new.opened walk.new.subtrees walk.new.candidates) walk.new.hits.items walk.new.tags.items) }
+    ensures ends { IfOk result (λ _. HasGiven goal.entry.n walk.new.hits.items walk.new.candidates walk.new.subtrees) }
+    ensures asked { CountsUpTo (P.shelf pages.old).asked (P.shelf pages.new).asked (live.now.pages - walk.old.opened) }
+    ensures reads { (P.shelf pages.new).reads ≤ (P.shelf pages.old).reads + (live.now.pages - walk.old.opened) }
+    ensures cause { IfErr result (HasStepCause (stage live.now goal.entry.q.now walk.old.given walk.old.opened walk.old.subtrees walk.old.candidates) (P.shelf pages.old) (P.shelf pages.new)) }
+    ensures sound { IfErr result (λ fault. (nodes : Nodes) → IsTrue (P.shelf pages.old).tells → IsSoundTree (R.M.space (R.metric ruler.old)) nodes live.now → HoldsTree nodes live.now (P.shelf pages.old) →
+        IsCursorOn (R.M.space (R.metric ruler.old)) nodes (stage live.now goal.entry.q.now walk.old.given walk.old.opened walk.old.subtrees walk.old.candidates) → IsPassing fault) }
+{
+    while (walk.hits.len() as u64) < goal.n {
+        let spent = walk.opened == live.pages;
+        let reach = walk.candidates.reach();
+        if let Some(next) = walk.subtrees.take_within(reach) {
+            if spent {
+                return Err(PageFault::Repeats(next.page));
+            }
+            match open_page(alloc, pages, ruler, goal.q, next.page, walk) {
+                Ok(()) => walk.opened += 1,
+                Err(fault) => return Err(fault),
+            }
+        } else {
+            let Some(next) = walk.candidates.take_first() else {
+                return Ok(());
+            };
+            match walk.give(next) {
+                Ok(()) => {}
+                Err(_) => return Err(PageFault::Memory),
+            }
+        }
+    }
+    Ok(())
+}
