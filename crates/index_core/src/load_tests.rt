@@ -1,0 +1,257 @@
+ghost use Rattle.std.specs.Prelude.{◌≡◌, All, IfOk, IsTrue, length};
+ghost use Rattle.index_core.specs.Index.{MayGoOn};
+
+use crate::trial::{
+    Watched, check_images, check_stopped, count_on, disk_of, empty_file, insert, insert_all,
+    open_on, worn_file,
+};
+use crate::{Index, IndexFault};
+use disk_model::Disk;
+use meeting::{Meeting, Seen};
+use metric_laws::{Metric, Rows};
+use std::process::Abort;
+use std::test::Fail;
+use std::thread::Threads;
+use tree_shape::Live;
+use vector_kinds::L1;
+
+// The numbers below this one, each as a point.
+fn numbers<M: Metric>(rt: &(impl AllocGlobal + Abort), metric: &M, count: u32) -> Result<Rows, Fail>
+    ensures points { IfOk result (λ rows. length rows.points ≡ count) }
+    ensures fit { IfOk result (λ rows. All (λ p. IsTrue ((M.space metric.now).fits p)) rows.points) }
+{
+    let mut rows = Rows::new(rt.alloc(), 1);
+    for x in 0..count {
+        assert!(rt; metric.fits(&[x]));
+        rows.push(&[x])?;
+    }
+    Ok(rows)
+}
+
+// Loads the numbers 0 to 32.
+fn load<R: AllocGlobal + Abort + Threads + Sync, D: Disk, M: Metric>(
+    rt: &R,
+    index: &mut Index<M>,
+    disk: &mut D,
+) -> Result<Result<u32, IndexFault>, Fail>
+    requires { MayGoOn index.old (D.state disk.old) }
+    ensures { MayGoOn index.new (D.state disk.new) }
+{
+    let rows = numbers(rt, &index.metric(), 33)?;
+    Ok(index.load(rt, rt.alloc(), disk, &rows))
+}
+
+// The numbers 0 to 32, loaded into an empty index.
+fn check_load<R: AllocGlobal + Abort + Threads + Sync, D: Disk>(
+    rt: &R,
+    disk: &mut D,
+    workers: usize,
+) -> Result<(), Fail>
+    requires some { 1 ≤ workers }
+    requires few { workers ≤ 64 }
+{
+    let mut index = open_on(disk)?;
+    index.set_workers(workers);
+    assert_eq!(rt; load(rt, &mut index, disk)?, Ok(33));
+    let live = Live {
+        side: 1,
+        generation: 2,
+        root: 8,
+        height: 1,
+        count: 33,
+        pages: 9,
+    };
+    assert_eq!(rt; index.live(), live);
+    Ok(())
+}
+
+// The bytes of an index into which the numbers 0 to 32 were loaded.
+fn loaded<R: AllocGlobal + Abort + Threads + Sync>(rt: &R) -> Result<Vec<u8>, Fail> {
+    let alloc = rt.alloc();
+    let mut disk = disk_of(alloc, empty_file(alloc, 1_000)?, None)?;
+    check_load(rt, &mut disk, 1)?;
+    Ok(disk.file().to_vec(alloc)?)
+}
+
+#[test]
+fn a_load_makes_one_tree(rt: HostRuntime) -> Result<(), Fail> {
+    let alloc = rt.alloc();
+    let mut first = disk_of(alloc, empty_file(alloc, 33)?, None)?;
+    check_load(&rt, &mut first, 1)?;
+    assert_eq!(&rt; count_on(&rt, &mut first)?, 33);
+    let mut second = disk_of(alloc, empty_file(alloc, 33)?, None)?;
+    check_load(&rt, &mut second, 64)?;
+    assert_eq!(&rt; first.file(), second.file());
+    Ok(())
+}
+
+// A load that is refused makes no call of the disk.
+fn check_refused<R: AllocGlobal + Abort + Threads + Sync, D: Disk + Watched>(
+    rt: &R,
+    disk: &mut D,
+    expected: IndexFault,
+) -> Result<(), Fail> {
+    let mut index = open_on(disk)?;
+    let calls = disk.calls();
+    assert_eq!(rt; load(rt, &mut index, disk)?, Err(expected));
+    assert_eq!(rt; disk.calls(), calls);
+    Ok(())
+}
+
+#[test]
+fn loads_that_are_refused(rt: HostRuntime) -> Result<(), Fail> {
+    let alloc = rt.alloc();
+    let mut small = disk_of(alloc, empty_file(alloc, 32)?, None)?;
+    check_refused(&rt, &mut small, IndexFault::Full)?;
+    let mut used = disk_of(alloc, loaded(&rt)?, None)?;
+    check_refused(&rt, &mut used, IndexFault::NotEmpty)?;
+    let mut worn = disk_of(alloc, worn_file(alloc)?, None)?;
+    check_refused(&rt, &mut worn, IndexFault::Worn)
+}
+
+// Loads into an empty index, with a disk that may stop: a crash at any moment leaves all of the rows or none.
+fn check_stopped_load<R: AllocGlobal + Abort + Threads + Sync, D: Disk + Watched>(
+    rt: &R,
+    disk: &mut D,
+) -> Result<bool, Fail> {
+    let mut index = open_on(disk)?;
+    let began = disk.calls();
+    let answer = load(rt, &mut index, disk)?;
+    check_images(rt, disk, began, (0, 33), answer.is_ok())?;
+    match answer {
+        Ok(count) => assert_eq!(rt; count, 33),
+        Err(IndexFault::Commit) => check_stopped(rt, &mut index, disk)?,
+        Err(fault) => assert_eq!(rt; fault, IndexFault::Disk),
+    }
+    Ok(answer.is_ok())
+}
+
+#[test]
+fn a_load_is_stopped_at_each_call(rt: HostRuntime) -> Result<(), Fail> {
+    let alloc = rt.alloc();
+    let mut done = false;
+    for stop in 5..24 {
+        let mut disk = disk_of(alloc, empty_file(alloc, 1_000)?, Some(stop))?;
+        done = check_stopped_load(&rt, &mut disk)?;
+    }
+    assert!(&rt; done);
+    Ok(())
+}
+
+// Pins the live tree, whose generation and pages these are.
+fn pin<D: Disk, M: Metric>(
+    rt: &(impl AllocGlobal + Abort),
+    index: &mut Index<M>,
+    disk: &mut D,
+) -> Result<Result<Live, IndexFault>, Fail>
+    requires { MayGoOn index.old (D.state disk.old) }
+    ensures { MayGoOn index.new (D.state disk.new) }
+{
+    let live = index.live();
+    let answer = index.pin(rt.alloc(), disk);
+    assert!(rt; answer.is_err() || answer == Ok(live));
+    Ok(answer)
+}
+
+// The pages from the fourth to the eighth.
+fn middle(bytes: &[u8]) -> Option<&[u8]> {
+    bytes.get(4 * 4096..9 * 4096)
+}
+
+// At each moment from one on a crash leaves the pages of the tree as they are.
+fn check_kept<D: Watched>(
+    rt: &(impl AllocGlobal + Abort),
+    disk: &D,
+    began: u64,
+    before: &[u8],
+) -> Result<(), Fail> {
+    for moment in began..=disk.calls() {
+        for pick in [1, 170] {
+            let image = disk.left(rt.alloc(), moment, pick)?;
+            assert_eq!(rt; middle(image.as_slice()), middle(before));
+        }
+    }
+    Ok(())
+}
+
+// Inserts an object while the tree is pinned that was loaded, with a disk that may stop.
+fn check_pinned<D: Disk + Watched>(
+    rt: &(impl AllocGlobal + Abort),
+    disk: &mut D,
+    before: &[u8],
+) -> Result<bool, Fail> {
+    let mut index = open_on(disk)?;
+    let began = disk.calls();
+    if let Err(fault) = pin(rt, &mut index, disk)? {
+        assert_eq!(rt; fault, IndexFault::Disk);
+        return Ok(false);
+    }
+    let answer = insert(rt, &mut index, disk, 33)?;
+    check_kept(rt, disk, began, before)?;
+    Ok(answer.is_ok())
+}
+
+#[test]
+fn a_pinned_tree_stays_at_each_stop(rt: HostRuntime) -> Result<(), Fail> {
+    let alloc = rt.alloc();
+    let before = loaded(&rt)?;
+    let mut done = false;
+    for stop in 5..22 {
+        let mut disk = disk_of(alloc, before.as_slice().to_vec(alloc)?, Some(stop))?;
+        done = check_pinned(&rt, &mut disk, before.as_slice())?;
+    }
+    assert!(&rt; done);
+    Ok(())
+}
+
+// The tags of what a range query finds.
+fn check_tags<D: Disk>(rt: &(impl AllocGlobal + Abort), disk: &mut D) -> Result<(), Fail> {
+    let alloc = rt.alloc();
+    let mut index = open_on(disk)?;
+    assert!(rt; index.metric().fits(&[34]));
+    assert_eq!(rt; index.insert_tagged(alloc, disk, &[34], 700), Ok(33));
+    assert!(rt; index.metric().fits(&[32]));
+    let found = index.range(alloc, disk, &[32], 2)?;
+    let tags = index.tags(alloc, disk, &found)?;
+    assert_eq!(rt; tags.as_slice(), [32u64, 31, 30, 700].as_slice());
+    Ok(())
+}
+
+#[test]
+fn hits_have_their_tags(rt: HostRuntime) -> Result<(), Fail> {
+    let alloc = rt.alloc();
+    let mut disk = disk_of(alloc, loaded(&rt)?, None)?;
+    check_tags(&rt, &mut disk)
+}
+
+// Whether the two halves of a load with so many workers met.
+fn has_met<R: AllocGlobal + Abort + Threads + Sync, D: Disk>(
+    rt: &R,
+    disk: &mut D,
+    workers: usize,
+) -> Result<bool, Fail>
+    requires some { 1 ≤ workers }
+    requires few { workers ≤ 64 }
+{
+    let seen = Seen::new();
+    let metric = Meeting {
+        plain: L1::new(1),
+        first: &[1],
+        second: &[32],
+        seen: &seen,
+    };
+    let mut index = Index::open_write(disk, metric)?;
+    index.set_workers(workers);
+    assert_eq!(rt; load(rt, &mut index, disk)?, Ok(33));
+    Ok(seen.met())
+}
+
+#[test]
+fn two_workers_of_a_load_meet(rt: HostRuntime) -> Result<(), Fail> {
+    let alloc = rt.alloc();
+    for workers in [2usize, 1] {
+        let mut disk = disk_of(alloc, empty_file(alloc, 1_000)?, None)?;
+        assert_eq!(&rt; has_met(&rt, &mut disk, workers)?, workers == 2);
+    }
+    Ok(())
+}
