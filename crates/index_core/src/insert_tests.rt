@@ -3,8 +3,8 @@ ghost use Rattle.index_core.specs.Index.{MayGoOn};
 
 use crate::tests::six_entries;
 use crate::trial::{
-    Watched, check_images, check_stopped, count_on, disk_of, empty_file, insert, insert_all,
-    open_on, worn_file,
+    Watched, check_found, check_images, check_stopped, count_on, disk_of, empty_file, insert,
+    insert_all, open_on, worn_file,
 };
 use crate::{Index, IndexFault};
 use disk_model::Disk;
@@ -30,7 +30,7 @@ fn keep_nodes<D: Disk, M: Metric>(
     index.use_cache(alloc, nodes)
 }
 
-// Inserts the numbers below this one into an empty index, of whose nodes so many are kept.
+// Inserts the numbers below this one into an empty index, of whose nodes so many are kept, and finds them.
 fn fill<D: Disk>(
     rt: &(impl AllocGlobal + Abort),
     disk: &mut D,
@@ -42,13 +42,14 @@ fn fill<D: Disk>(
         keep_nodes(rt.alloc(), &mut index, disk, nodes.max(1))?;
     }
     insert_all(rt, &mut index, disk, 0, count)?;
+    check_found(rt, &mut index, disk)?;
     Ok(index.live())
 }
 
 // The bytes of an index of the numbers below this one.
 fn numbers_below(rt: &(impl AllocGlobal + Abort), count: u32) -> Result<Vec<u8>, Fail> {
     let alloc = rt.alloc();
-    let mut disk = disk_of(alloc, empty_file(alloc, 1_000)?, None)?;
+    let mut disk = disk_of(alloc, empty_file(alloc, 1_000)?, &[], None)?;
     fill(rt, &mut disk, count, None)?;
     Ok(disk.file().to_vec(alloc)?)
 }
@@ -67,7 +68,7 @@ const PAGES: [(u32, u32, u32); 6] = [
 fn pages_that_are_left_are_used_again(rt: HostRuntime) -> Result<(), Fail> {
     let alloc = rt.alloc();
     for (count, root, pages) in PAGES {
-        let mut disk = disk_of(alloc, empty_file(alloc, 1_000)?, None)?;
+        let mut disk = disk_of(alloc, empty_file(alloc, 1_000)?, &[], None)?;
         let live = fill(&rt, &mut disk, count, None)?;
         assert_eq!(rt; (live.count, live.root, live.pages), (count, root, pages));
         assert_eq!(rt; disk.file().len(), pages as usize * 4096);
@@ -80,7 +81,7 @@ fn a_cache_changes_no_byte(rt: HostRuntime) -> Result<(), Fail> {
     let alloc = rt.alloc();
     let plain = numbers_below(&rt, 120)?;
     for nodes in [1, 256] {
-        let mut disk = disk_of(alloc, empty_file(alloc, 1_000)?, None)?;
+        let mut disk = disk_of(alloc, empty_file(alloc, 1_000)?, &[], None)?;
         fill(&rt, &mut disk, 120, Some(nodes))?;
         assert!(rt; disk.file() == plain.as_slice());
     }
@@ -123,12 +124,36 @@ fn an_insert_is_stopped_at_each_call(rt: HostRuntime) -> Result<(), Fail> {
     let before = numbers_below(&rt, 32)?;
     let mut done = false;
     for stop in 5..22 {
-        let mut disk = disk_of(alloc, before.as_slice().to_vec(alloc)?, Some(stop))?;
+        let mut disk = disk_of(alloc, before.as_slice().to_vec(alloc)?, &[], Some(stop))?;
         done = check_insert(&rt, &mut disk, before.as_slice())?;
-        let mut again = disk_of(alloc, disk.left(alloc, disk.calls(), 1)?, None)?;
+        let mut again = disk_of(alloc, disk.left(alloc, disk.calls(), 1)?, &[], None)?;
         goes_on(&rt, &mut again)?;
     }
     assert!(rt; done);
+    Ok(())
+}
+
+// An insert of whose walks a read fails changes nothing, and the next ones go on.
+fn check_next<D: Disk + Watched>(
+    rt: &(impl AllocGlobal + Abort),
+    disk: &mut D,
+    before: &[u8],
+) -> Result<(), Fail> {
+    let mut index = open_on(disk)?;
+    assert_eq!(rt; insert(rt, &mut index, disk, 34)?, Err(IndexFault::Disk));
+    assert_eq!(rt; disk.file(), before);
+    insert_all(rt, &mut index, disk, 34, 36)?;
+    check_found(rt, &mut index, disk)
+}
+
+#[test]
+fn inserts_go_on_after_a_read_that_fails(rt: HostRuntime) -> Result<(), Fail> {
+    let alloc = rt.alloc();
+    let before = numbers_below(&rt, 34)?;
+    for call in 5..8 {
+        let mut disk = disk_of(alloc, before.as_slice().to_vec(alloc)?, &[call], None)?;
+        check_next(&rt, &mut disk, before.as_slice())?;
+    }
     Ok(())
 }
 
@@ -149,7 +174,7 @@ fn check_refused<D: Disk + Watched>(
 #[test]
 fn a_full_index_takes_no_more(rt: HostRuntime) -> Result<(), Fail> {
     let alloc = rt.alloc();
-    let mut disk = disk_of(alloc, empty_file(alloc, 3)?, None)?;
+    let mut disk = disk_of(alloc, empty_file(alloc, 3)?, &[], None)?;
     fill(&rt, &mut disk, 3, None)?;
     check_refused(&rt, &mut disk, IndexFault::Full)?;
     assert_eq!(rt; count_on(&rt, &mut disk)?, 3);
@@ -159,7 +184,7 @@ fn a_full_index_takes_no_more(rt: HostRuntime) -> Result<(), Fail> {
 #[test]
 fn a_worn_index_takes_no_more(rt: HostRuntime) -> Result<(), Fail> {
     let alloc = rt.alloc();
-    let mut disk = disk_of(alloc, worn_file(alloc)?, None)?;
+    let mut disk = disk_of(alloc, worn_file(alloc)?, &[], None)?;
     check_refused(&rt, &mut disk, IndexFault::Worn)
 }
 
@@ -167,7 +192,7 @@ fn a_worn_index_takes_no_more(rt: HostRuntime) -> Result<(), Fail> {
 fn a_damaged_tree_takes_no_more(rt: HostRuntime) -> Result<(), Fail> {
     let alloc = rt.alloc();
     for (child, fault) in [(4, PageFault::Repeats(4)), (9, PageFault::Outside(9))] {
-        let mut disk = disk_of(alloc, six_entries(alloc, child)?, None)?;
+        let mut disk = disk_of(alloc, six_entries(alloc, child)?, &[], None)?;
         check_refused(&rt, &mut disk, IndexFault::Damaged(fault))?;
     }
     Ok(())

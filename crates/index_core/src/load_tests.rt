@@ -1,5 +1,6 @@
 ghost use Rattle.std.specs.Prelude.{◌≡◌, ◌≤◌, All, IfOk, IsTrue, length};
 ghost use Rattle.index_core.specs.Index.{MayGoOn};
+ghost use Rattle.index_core.specs.Pinning.{IsPinned};
 
 use crate::trial::{
     Watched, check_images, check_stopped, count_on, disk_of, empty_file, insert, insert_all,
@@ -9,6 +10,7 @@ use crate::{Index, IndexFault};
 use disk_model::Disk;
 use meeting::{Meeting, Seen};
 use metric_laws::{Metric, Rows};
+use std::alloc::Global;
 use std::process::Abort;
 use std::test::Fail;
 use std::thread::Threads;
@@ -52,6 +54,7 @@ fn check_load<R: AllocGlobal + Abort + Threads + Sync, D: Disk>(
 {
     let mut index = open_on(disk)?;
     index.set_workers(workers);
+    assert_eq!(rt; index.workers(), workers);
     assert_eq!(rt; load(rt, &mut index, disk)?, Ok(33));
     let live = Live {
         side: 1,
@@ -68,7 +71,7 @@ fn check_load<R: AllocGlobal + Abort + Threads + Sync, D: Disk>(
 // The bytes of an index into which the numbers 0 to 32 were loaded.
 fn loaded<R: AllocGlobal + Abort + Threads + Sync>(rt: &R) -> Result<Vec<u8>, Fail> {
     let alloc = rt.alloc();
-    let mut disk = disk_of(alloc, empty_file(alloc, 1_000)?, None)?;
+    let mut disk = disk_of(alloc, empty_file(alloc, 1_000)?, &[], None)?;
     check_load(rt, &mut disk, 1)?;
     Ok(disk.file().to_vec(alloc)?)
 }
@@ -76,10 +79,10 @@ fn loaded<R: AllocGlobal + Abort + Threads + Sync>(rt: &R) -> Result<Vec<u8>, Fa
 #[test]
 fn a_load_makes_one_tree(rt: HostRuntime) -> Result<(), Fail> {
     let alloc = rt.alloc();
-    let mut first = disk_of(alloc, empty_file(alloc, 33)?, None)?;
+    let mut first = disk_of(alloc, empty_file(alloc, 33)?, &[], None)?;
     check_load(&rt, &mut first, 1)?;
     assert_eq!(&rt; count_on(&rt, &mut first)?, 33);
-    let mut second = disk_of(alloc, empty_file(alloc, 33)?, None)?;
+    let mut second = disk_of(alloc, empty_file(alloc, 33)?, &[], None)?;
     check_load(&rt, &mut second, 64)?;
     assert_eq!(&rt; first.file(), second.file());
     Ok(())
@@ -101,11 +104,11 @@ fn check_refused<R: AllocGlobal + Abort + Threads + Sync, D: Disk + Watched>(
 #[test]
 fn loads_that_are_refused(rt: HostRuntime) -> Result<(), Fail> {
     let alloc = rt.alloc();
-    let mut small = disk_of(alloc, empty_file(alloc, 32)?, None)?;
+    let mut small = disk_of(alloc, empty_file(alloc, 32)?, &[], None)?;
     check_refused(&rt, &mut small, IndexFault::Full)?;
-    let mut used = disk_of(alloc, loaded(&rt)?, None)?;
+    let mut used = disk_of(alloc, loaded(&rt)?, &[], None)?;
     check_refused(&rt, &mut used, IndexFault::NotEmpty)?;
-    let mut worn = disk_of(alloc, worn_file(alloc)?, None)?;
+    let mut worn = disk_of(alloc, worn_file(alloc)?, &[], None)?;
     check_refused(&rt, &mut worn, IndexFault::Worn)
 }
 
@@ -131,7 +134,7 @@ fn a_load_is_stopped_at_each_call(rt: HostRuntime) -> Result<(), Fail> {
     let alloc = rt.alloc();
     let mut done = false;
     for stop in 5..24 {
-        let mut disk = disk_of(alloc, empty_file(alloc, 1_000)?, Some(stop))?;
+        let mut disk = disk_of(alloc, empty_file(alloc, 1_000)?, &[], Some(stop))?;
         done = check_stopped_load(&rt, &mut disk)?;
     }
     assert!(&rt; done);
@@ -197,10 +200,63 @@ fn a_pinned_tree_stays_at_each_stop(rt: HostRuntime) -> Result<(), Fail> {
     let before = loaded(&rt)?;
     let mut done = false;
     for stop in 5..22 {
-        let mut disk = disk_of(alloc, before.as_slice().to_vec(alloc)?, Some(stop))?;
+        let mut disk = disk_of(alloc, before.as_slice().to_vec(alloc)?, &[], Some(stop))?;
         done = check_pinned(&rt, &mut disk, before.as_slice())?;
     }
     assert!(&rt; done);
+    Ok(())
+}
+
+// Takes a pin back.
+fn release<D: Disk, M: Metric>(index: &mut Index<M>, disk: &D, generation: u64)
+    requires goes_on { MayGoOn index.old (D.state disk.now) }
+    requires pinned { IsPinned generation index.old }
+    ensures { MayGoOn index.new (D.state disk.now) }
+{
+    let _disk = disk;
+    index.unpin(generation);
+}
+
+// Pins the live tree and takes the pin back.
+fn pin_shortly<D: Disk, M: Metric>(
+    alloc: Global,
+    index: &mut Index<M>,
+    disk: &mut D,
+) -> Result<(), IndexFault>
+    requires { MayGoOn index.old (D.state disk.old) }
+    ensures { MayGoOn index.new (D.state disk.new) }
+{
+    let live = match index.pin(alloc, disk) {
+        Ok(live) => live,
+        Err(fault) => return Err(fault),
+    };
+    release(index, disk, live.generation);
+    Ok(())
+}
+
+// The slot after two inserts into what was loaded, whose tree is pinned all the while or only before.
+fn slot_after<D: Disk>(
+    rt: &(impl AllocGlobal + Abort),
+    disk: &mut D,
+    is_pinned: bool,
+) -> Result<Live, Fail> {
+    let mut index = open_on(disk)?;
+    if is_pinned {
+        index.pin(rt.alloc(), disk)?;
+    }
+    pin_shortly(rt.alloc(), &mut index, disk)?;
+    insert_all(rt, &mut index, disk, 33, 35)?;
+    Ok(index.live())
+}
+
+#[test]
+fn the_pages_of_a_pin_that_is_taken_back_are_used_again(rt: HostRuntime) -> Result<(), Fail> {
+    let alloc = rt.alloc();
+    for (is_pinned, root, pages) in [(false, 8, 10), (true, 11, 12)] {
+        let mut disk = disk_of(alloc, loaded(&rt)?, &[], None)?;
+        let live = slot_after(&rt, &mut disk, is_pinned)?;
+        assert_eq!(&rt; (live.root, live.pages), (root, pages));
+    }
     Ok(())
 }
 
@@ -220,7 +276,7 @@ fn check_tags<D: Disk>(rt: &(impl AllocGlobal + Abort), disk: &mut D) -> Result<
 #[test]
 fn hits_have_their_tags(rt: HostRuntime) -> Result<(), Fail> {
     let alloc = rt.alloc();
-    let mut disk = disk_of(alloc, loaded(&rt)?, None)?;
+    let mut disk = disk_of(alloc, loaded(&rt)?, &[], None)?;
     check_tags(&rt, &mut disk)
 }
 
@@ -250,7 +306,7 @@ fn has_met<R: AllocGlobal + Abort + Threads + Sync, D: Disk>(
 fn two_workers_of_a_load_meet(rt: HostRuntime) -> Result<(), Fail> {
     let alloc = rt.alloc();
     for workers in [2usize, 1] {
-        let mut disk = disk_of(alloc, empty_file(alloc, 1_000)?, None)?;
+        let mut disk = disk_of(alloc, empty_file(alloc, 1_000)?, &[], None)?;
         assert_eq!(&rt; has_met(&rt, &mut disk, workers)?, workers == 2);
     }
     Ok(())

@@ -60,14 +60,15 @@ pub(crate) fn head_of(limit: u32) -> Head
     }
 }
 
-// A disk that holds these bytes, has room for sixteen pages, and fails from a call on.
+// A disk that holds these bytes and has room for sixteen pages. These calls fail, and all from one on.
 pub(crate) fn disk_of(
     alloc: Global,
     bytes: Vec<u8>,
+    fails: &[u64],
     stop: Option<u64>,
 ) -> Result<MemoryDisk, Memory> {
     let room = (bytes.len() as u64).max(1 << 16);
-    MemoryDisk::new(alloc, bytes, room, 1 << 22, Vec::new(alloc), stop)
+    MemoryDisk::new(alloc, bytes, room, 1 << 22, fails.to_vec(alloc)?, stop)
 }
 
 // The bytes of an index that has no objects and may have so many.
@@ -75,7 +76,7 @@ pub(crate) fn empty_file(alloc: Global, limit: u32) -> Result<Vec<u8>, Fail>
     requires some { 1 ≤ limit }
     requires most { limit ≤ 2 ^ 24 }
 {
-    let mut disk = disk_of(alloc, Vec::new(alloc), None)?;
+    let mut disk = disk_of(alloc, Vec::new(alloc), &[], None)?;
     create(&mut disk, &head_of(limit))?;
     Ok(disk.file().to_vec(alloc)?)
 }
@@ -133,24 +134,37 @@ pub(crate) fn insert_all<D: Disk, M: Metric>(
     Ok(())
 }
 
-// Finds all objects, which are the numbers below their count, and answers how many they are.
-pub(crate) fn count_on<D: Disk>(
+// Finds all objects, which are the numbers below their count.
+pub(crate) fn check_found<D: Disk, M: Metric>(
     rt: &(impl AllocGlobal + Abort),
+    index: &mut Index<M>,
     disk: &mut D,
-) -> Result<u32, Fail> {
-    let mut index = open_on(disk)?;
+) -> Result<(), Fail>
+    requires { MayGoOn index.old (D.state disk.old) }
+    ensures { MayGoOn index.new (D.state disk.new) }
+{
     assert!(rt; index.metric().fits(&[0]));
-    let found = index.nearest(rt.alloc(), disk, &[0], 100)?;
+    let found = index.nearest(rt.alloc(), disk, &[0], 200)?;
     let hits = found.hits.as_slice();
     assert_eq!(rt; hits.len(), index.count() as usize);
     for i in 0..hits.len() {
         let (id, dist) = (i as u32, i as u64);
         assert_eq!(rt; hits[i], Hit { id, dist });
     }
+    Ok(())
+}
+
+// The same of a disk that is opened anew, and how many objects there are.
+pub(crate) fn count_on<D: Disk>(
+    rt: &(impl AllocGlobal + Abort),
+    disk: &mut D,
+) -> Result<u32, Fail> {
+    let mut index = open_on(disk)?;
+    check_found(rt, &mut index, disk)?;
     Ok(index.count())
 }
 
-// The same of a file of these bytes.
+// How many objects a file of these bytes holds.
 fn count_in(rt: &(impl AllocGlobal + Abort), bytes: Vec<u8>) -> Result<u32, Fail> {
     let alloc = rt.alloc();
     let room = bytes.len() as u64;
