@@ -3,11 +3,11 @@ ghost use Rattle.index_core.specs.Index.{MayGoOn};
 
 use crate::tests::six_entries;
 use crate::trial::{
-    Watched, check_found, check_images, check_stopped, count_on, disk_of, empty_file, insert,
-    insert_all, open_on, worn_file,
+    Watched, check_found, check_images, check_stopped, count_on, empty_file, insert, insert_all,
+    open_on, worn_file,
 };
 use crate::{Index, IndexFault};
-use disk_model::Disk;
+use disk_model::{Disk, MemoryDisk};
 use metric_laws::{Memory, Metric};
 use page_store::PageFault;
 use std::alloc::Global;
@@ -47,9 +47,12 @@ fn fill<D: Disk>(
 }
 
 // The bytes of an index of the numbers below this one.
-fn numbers_below(rt: &(impl AllocGlobal + Abort), count: u32) -> Result<Vec<u8>, Fail> {
+fn numbers_below<D: Disk + Watched + Drop>(
+    rt: &(impl AllocGlobal + Abort),
+    count: u32,
+) -> Result<Vec<u8>, Fail> {
     let alloc = rt.alloc();
-    let mut disk = disk_of(alloc, empty_file(alloc, 1_000)?, &[], None)?;
+    let mut disk = D::of(alloc, empty_file(alloc, 1_000)?, &[], None)?;
     fill(rt, &mut disk, count, None)?;
     Ok(disk.file().to_vec(alloc)?)
 }
@@ -64,12 +67,12 @@ const PAGES: [(u32, u32, u32); 6] = [
     (34, 7, 8),
 ];
 
-#[test]
-fn pages_that_are_left_are_used_again(rt: HostRuntime) -> Result<(), Fail> {
+// The slots and the sizes of files after so many inserts.
+fn check_pages<D: Disk + Watched + Drop>(rt: &(impl AllocGlobal + Abort)) -> Result<(), Fail> {
     let alloc = rt.alloc();
     for (count, root, pages) in PAGES {
-        let mut disk = disk_of(alloc, empty_file(alloc, 1_000)?, &[], None)?;
-        let live = fill(&rt, &mut disk, count, None)?;
+        let mut disk = D::of(alloc, empty_file(alloc, 1_000)?, &[], None)?;
+        let live = fill(rt, &mut disk, count, None)?;
         assert_eq!(rt; (live.count, live.root, live.pages), (count, root, pages));
         assert_eq!(rt; disk.file().len(), pages as usize * 4096);
     }
@@ -77,18 +80,29 @@ fn pages_that_are_left_are_used_again(rt: HostRuntime) -> Result<(), Fail> {
 }
 
 #[test]
-fn a_cache_changes_no_byte(rt: HostRuntime) -> Result<(), Fail> {
+fn pages_that_are_left_are_used_again(rt: HostRuntime) -> Result<(), Fail> {
+    check_pages::<MemoryDisk>(&rt)
+}
+
+// The same bytes, however many nodes are kept.
+fn check_caches<D: Disk + Watched + Drop>(rt: &(impl AllocGlobal + Abort)) -> Result<(), Fail> {
     let alloc = rt.alloc();
-    let plain = numbers_below(&rt, 120)?;
+    let plain = numbers_below::<D>(rt, 120)?;
     for nodes in [1, 256] {
-        let mut disk = disk_of(alloc, empty_file(alloc, 1_000)?, &[], None)?;
-        fill(&rt, &mut disk, 120, Some(nodes))?;
+        let mut disk = D::of(alloc, empty_file(alloc, 1_000)?, &[], None)?;
+        fill(rt, &mut disk, 120, Some(nodes))?;
         assert!(rt; disk.file() == plain.as_slice());
     }
     Ok(())
 }
 
-// Inserts 32 into the numbers below it, with a disk that may stop: a crash at any moment leaves the numbers with it or without.
+#[test]
+fn a_cache_changes_no_byte(rt: HostRuntime) -> Result<(), Fail> {
+    check_caches::<MemoryDisk>(&rt)
+}
+
+// Inserts 32 into the numbers below it, with a disk that may stop: a crash at any moment leaves the numbers with it or
+// without.
 fn check_insert<D: Disk + Watched>(
     rt: &(impl AllocGlobal + Abort),
     disk: &mut D,
@@ -118,19 +132,24 @@ fn goes_on<D: Disk>(rt: &(impl AllocGlobal + Abort), disk: &mut D) -> Result<(),
     Ok(())
 }
 
-#[test]
-fn an_insert_is_stopped_at_each_call(rt: HostRuntime) -> Result<(), Fail> {
+// A stop at each call of an insert, and what comes of the file that is left.
+fn check_stops<D: Disk + Watched + Drop>(rt: &(impl AllocGlobal + Abort)) -> Result<(), Fail> {
     let alloc = rt.alloc();
-    let before = numbers_below(&rt, 32)?;
+    let before = numbers_below::<D>(rt, 32)?;
     let mut done = false;
     for stop in 5..22 {
-        let mut disk = disk_of(alloc, before.as_slice().to_vec(alloc)?, &[], Some(stop))?;
-        done = check_insert(&rt, &mut disk, before.as_slice())?;
-        let mut again = disk_of(alloc, disk.left(alloc, disk.calls(), 1)?, &[], None)?;
-        goes_on(&rt, &mut again)?;
+        let mut disk = D::of(alloc, before.as_slice().to_vec(alloc)?, &[], Some(stop))?;
+        done = check_insert(rt, &mut disk, before.as_slice())?;
+        let mut again = D::of(alloc, disk.left(alloc, disk.calls(), 1)?, &[], None)?;
+        goes_on(rt, &mut again)?;
     }
     assert!(rt; done);
     Ok(())
+}
+
+#[test]
+fn an_insert_is_stopped_at_each_call(rt: HostRuntime) -> Result<(), Fail> {
+    check_stops::<MemoryDisk>(&rt)
 }
 
 // An insert of whose walks a read fails changes nothing, and the next ones go on.
@@ -146,15 +165,20 @@ fn check_next<D: Disk + Watched>(
     check_found(rt, &mut index, disk)
 }
 
-#[test]
-fn inserts_go_on_after_a_read_that_fails(rt: HostRuntime) -> Result<(), Fail> {
+// A fault of each read of an insert.
+fn check_reads<D: Disk + Watched + Drop>(rt: &(impl AllocGlobal + Abort)) -> Result<(), Fail> {
     let alloc = rt.alloc();
-    let before = numbers_below(&rt, 34)?;
+    let before = numbers_below::<D>(rt, 34)?;
     for call in 5..8 {
-        let mut disk = disk_of(alloc, before.as_slice().to_vec(alloc)?, &[call], None)?;
-        check_next(&rt, &mut disk, before.as_slice())?;
+        let mut disk = D::of(alloc, before.as_slice().to_vec(alloc)?, &[call], None)?;
+        check_next(rt, &mut disk, before.as_slice())?;
     }
     Ok(())
+}
+
+#[test]
+fn inserts_go_on_after_a_read_that_fails(rt: HostRuntime) -> Result<(), Fail> {
+    check_reads::<MemoryDisk>(&rt)
 }
 
 // Inserts are refused, and the file stays as it was.
@@ -171,29 +195,44 @@ fn check_refused<D: Disk + Watched>(
     Ok(())
 }
 
+// Three objects where the head allows no more.
+fn check_full<D: Disk + Watched + Drop>(rt: &(impl AllocGlobal + Abort)) -> Result<(), Fail> {
+    let alloc = rt.alloc();
+    let mut disk = D::of(alloc, empty_file(alloc, 3)?, &[], None)?;
+    fill(rt, &mut disk, 3, None)?;
+    check_refused(rt, &mut disk, IndexFault::Full)?;
+    assert_eq!(rt; count_on(rt, &mut disk)?, 3);
+    Ok(())
+}
+
 #[test]
 fn a_full_index_takes_no_more(rt: HostRuntime) -> Result<(), Fail> {
+    check_full::<MemoryDisk>(&rt)
+}
+
+// A slot of the last generation.
+fn check_worn<D: Disk + Watched + Drop>(rt: &(impl AllocGlobal + Abort)) -> Result<(), Fail> {
     let alloc = rt.alloc();
-    let mut disk = disk_of(alloc, empty_file(alloc, 3)?, &[], None)?;
-    fill(&rt, &mut disk, 3, None)?;
-    check_refused(&rt, &mut disk, IndexFault::Full)?;
-    assert_eq!(rt; count_on(&rt, &mut disk)?, 3);
-    Ok(())
+    let mut disk = D::of(alloc, worn_file(alloc)?, &[], None)?;
+    check_refused(rt, &mut disk, IndexFault::Worn)
 }
 
 #[test]
 fn a_worn_index_takes_no_more(rt: HostRuntime) -> Result<(), Fail> {
+    check_worn::<MemoryDisk>(&rt)
+}
+
+// A root that names one page six times, or one that the file does not have.
+fn check_damaged<D: Disk + Watched + Drop>(rt: &(impl AllocGlobal + Abort)) -> Result<(), Fail> {
     let alloc = rt.alloc();
-    let mut disk = disk_of(alloc, worn_file(alloc)?, &[], None)?;
-    check_refused(&rt, &mut disk, IndexFault::Worn)
+    for (child, fault) in [(4, PageFault::Repeats(4)), (9, PageFault::Outside(9))] {
+        let mut disk = D::of(alloc, six_entries(alloc, child)?, &[], None)?;
+        check_refused(rt, &mut disk, IndexFault::Damaged(fault))?;
+    }
+    Ok(())
 }
 
 #[test]
 fn a_damaged_tree_takes_no_more(rt: HostRuntime) -> Result<(), Fail> {
-    let alloc = rt.alloc();
-    for (child, fault) in [(4, PageFault::Repeats(4)), (9, PageFault::Outside(9))] {
-        let mut disk = disk_of(alloc, six_entries(alloc, child)?, &[], None)?;
-        check_refused(&rt, &mut disk, IndexFault::Damaged(fault))?;
-    }
-    Ok(())
+    check_damaged::<MemoryDisk>(&rt)
 }

@@ -3,11 +3,11 @@ ghost use Rattle.index_core.specs.Index.{MayGoOn};
 ghost use Rattle.index_core.specs.Pinning.{IsPinned};
 
 use crate::trial::{
-    Watched, check_images, check_stopped, count_on, disk_of, empty_file, insert, insert_all,
-    open_on, worn_file,
+    Watched, check_images, check_stopped, count_on, empty_file, insert, insert_all, open_on,
+    worn_file,
 };
 use crate::{Index, IndexFault};
-use disk_model::Disk;
+use disk_model::{Disk, MemoryDisk};
 use meeting::{Meeting, Seen};
 use metric_laws::{Metric, Rows};
 use std::alloc::Global;
@@ -69,23 +69,32 @@ fn check_load<R: AllocGlobal + Abort + Threads + Sync, D: Disk>(
 }
 
 // The bytes of an index into which the numbers 0 to 32 were loaded.
-fn loaded<R: AllocGlobal + Abort + Threads + Sync>(rt: &R) -> Result<Vec<u8>, Fail> {
+fn loaded<R: AllocGlobal + Abort + Threads + Sync, D: Disk + Watched + Drop>(
+    rt: &R,
+) -> Result<Vec<u8>, Fail> {
     let alloc = rt.alloc();
-    let mut disk = disk_of(alloc, empty_file(alloc, 1_000)?, &[], None)?;
+    let mut disk = D::of(alloc, empty_file(alloc, 1_000)?, &[], None)?;
     check_load(rt, &mut disk, 1)?;
     Ok(disk.file().to_vec(alloc)?)
 }
 
+// The same bytes by one thread and by many.
+fn check_workers<R: AllocGlobal + Abort + Threads + Sync, D: Disk + Watched + Drop>(
+    rt: &R,
+) -> Result<(), Fail> {
+    let alloc = rt.alloc();
+    let mut first = D::of(alloc, empty_file(alloc, 33)?, &[], None)?;
+    check_load(rt, &mut first, 1)?;
+    assert_eq!(rt; count_on(rt, &mut first)?, 33);
+    let mut second = D::of(alloc, empty_file(alloc, 33)?, &[], None)?;
+    check_load(rt, &mut second, 64)?;
+    assert_eq!(rt; first.file(), second.file());
+    Ok(())
+}
+
 #[test]
 fn a_load_makes_one_tree(rt: HostRuntime) -> Result<(), Fail> {
-    let alloc = rt.alloc();
-    let mut first = disk_of(alloc, empty_file(alloc, 33)?, &[], None)?;
-    check_load(&rt, &mut first, 1)?;
-    assert_eq!(&rt; count_on(&rt, &mut first)?, 33);
-    let mut second = disk_of(alloc, empty_file(alloc, 33)?, &[], None)?;
-    check_load(&rt, &mut second, 64)?;
-    assert_eq!(&rt; first.file(), second.file());
-    Ok(())
+    check_workers::<HostRuntime, MemoryDisk>(&rt)
 }
 
 // A load that is refused makes no call of the disk.
@@ -101,15 +110,22 @@ fn check_refused<R: AllocGlobal + Abort + Threads + Sync, D: Disk + Watched>(
     Ok(())
 }
 
+// Too many rows, an index that has objects, and one without a further generation.
+fn check_refusals<R: AllocGlobal + Abort + Threads + Sync, D: Disk + Watched + Drop>(
+    rt: &R,
+) -> Result<(), Fail> {
+    let alloc = rt.alloc();
+    let mut small = D::of(alloc, empty_file(alloc, 32)?, &[], None)?;
+    check_refused(rt, &mut small, IndexFault::Full)?;
+    let mut used = D::of(alloc, loaded::<R, D>(rt)?, &[], None)?;
+    check_refused(rt, &mut used, IndexFault::NotEmpty)?;
+    let mut worn = D::of(alloc, worn_file(alloc)?, &[], None)?;
+    check_refused(rt, &mut worn, IndexFault::Worn)
+}
+
 #[test]
 fn loads_that_are_refused(rt: HostRuntime) -> Result<(), Fail> {
-    let alloc = rt.alloc();
-    let mut small = disk_of(alloc, empty_file(alloc, 32)?, &[], None)?;
-    check_refused(&rt, &mut small, IndexFault::Full)?;
-    let mut used = disk_of(alloc, loaded(&rt)?, &[], None)?;
-    check_refused(&rt, &mut used, IndexFault::NotEmpty)?;
-    let mut worn = disk_of(alloc, worn_file(alloc)?, &[], None)?;
-    check_refused(&rt, &mut worn, IndexFault::Worn)
+    check_refusals::<HostRuntime, MemoryDisk>(&rt)
 }
 
 // Loads into an empty index, with a disk that may stop: a crash at any moment leaves all of the rows or none.
@@ -129,16 +145,23 @@ fn check_stopped_load<R: AllocGlobal + Abort + Threads + Sync, D: Disk + Watched
     Ok(answer.is_ok())
 }
 
-#[test]
-fn a_load_is_stopped_at_each_call(rt: HostRuntime) -> Result<(), Fail> {
+// A stop at each call of a load.
+fn check_stops<R: AllocGlobal + Abort + Threads + Sync, D: Disk + Watched + Drop>(
+    rt: &R,
+) -> Result<(), Fail> {
     let alloc = rt.alloc();
     let mut done = false;
     for stop in 5..24 {
-        let mut disk = disk_of(alloc, empty_file(alloc, 1_000)?, &[], Some(stop))?;
-        done = check_stopped_load(&rt, &mut disk)?;
+        let mut disk = D::of(alloc, empty_file(alloc, 1_000)?, &[], Some(stop))?;
+        done = check_stopped_load(rt, &mut disk)?;
     }
-    assert!(&rt; done);
+    assert!(rt; done);
     Ok(())
+}
+
+#[test]
+fn a_load_is_stopped_at_each_call(rt: HostRuntime) -> Result<(), Fail> {
+    check_stops::<HostRuntime, MemoryDisk>(&rt)
 }
 
 // Pins the live tree, whose generation and pages these are.
@@ -194,17 +217,24 @@ fn check_pinned<D: Disk + Watched>(
     Ok(answer.is_ok())
 }
 
-#[test]
-fn a_pinned_tree_stays_at_each_stop(rt: HostRuntime) -> Result<(), Fail> {
+// A stop at each call of a pin and an insert.
+fn check_pins<R: AllocGlobal + Abort + Threads + Sync, D: Disk + Watched + Drop>(
+    rt: &R,
+) -> Result<(), Fail> {
     let alloc = rt.alloc();
-    let before = loaded(&rt)?;
+    let before = loaded::<R, D>(rt)?;
     let mut done = false;
     for stop in 5..22 {
-        let mut disk = disk_of(alloc, before.as_slice().to_vec(alloc)?, &[], Some(stop))?;
-        done = check_pinned(&rt, &mut disk, before.as_slice())?;
+        let mut disk = D::of(alloc, before.as_slice().to_vec(alloc)?, &[], Some(stop))?;
+        done = check_pinned(rt, &mut disk, before.as_slice())?;
     }
-    assert!(&rt; done);
+    assert!(rt; done);
     Ok(())
+}
+
+#[test]
+fn a_pinned_tree_stays_at_each_stop(rt: HostRuntime) -> Result<(), Fail> {
+    check_pins::<HostRuntime, MemoryDisk>(&rt)
 }
 
 // Takes a pin back.
@@ -249,15 +279,22 @@ fn slot_after<D: Disk>(
     Ok(index.live())
 }
 
-#[test]
-fn the_pages_of_a_pin_that_is_taken_back_are_used_again(rt: HostRuntime) -> Result<(), Fail> {
+// Two inserts below a pin, and two after it.
+fn check_released<R: AllocGlobal + Abort + Threads + Sync, D: Disk + Watched + Drop>(
+    rt: &R,
+) -> Result<(), Fail> {
     let alloc = rt.alloc();
     for (is_pinned, root, pages) in [(false, 8, 10), (true, 11, 12)] {
-        let mut disk = disk_of(alloc, loaded(&rt)?, &[], None)?;
-        let live = slot_after(&rt, &mut disk, is_pinned)?;
-        assert_eq!(&rt; (live.root, live.pages), (root, pages));
+        let mut disk = D::of(alloc, loaded::<R, D>(rt)?, &[], None)?;
+        let live = slot_after(rt, &mut disk, is_pinned)?;
+        assert_eq!(rt; (live.root, live.pages), (root, pages));
     }
     Ok(())
+}
+
+#[test]
+fn the_pages_of_a_pin_that_is_taken_back_are_used_again(rt: HostRuntime) -> Result<(), Fail> {
+    check_released::<HostRuntime, MemoryDisk>(&rt)
 }
 
 // The tags of what a range query finds.
@@ -273,11 +310,18 @@ fn check_tags<D: Disk>(rt: &(impl AllocGlobal + Abort), disk: &mut D) -> Result<
     Ok(())
 }
 
+// A tag that was given, and those of a load.
+fn check_tagged<R: AllocGlobal + Abort + Threads + Sync, D: Disk + Watched + Drop>(
+    rt: &R,
+) -> Result<(), Fail> {
+    let alloc = rt.alloc();
+    let mut disk = D::of(alloc, loaded::<R, D>(rt)?, &[], None)?;
+    check_tags(rt, &mut disk)
+}
+
 #[test]
 fn hits_have_their_tags(rt: HostRuntime) -> Result<(), Fail> {
-    let alloc = rt.alloc();
-    let mut disk = disk_of(alloc, loaded(&rt)?, &[], None)?;
-    check_tags(&rt, &mut disk)
+    check_tagged::<HostRuntime, MemoryDisk>(&rt)
 }
 
 // Whether the two halves of a load with so many workers met.
@@ -302,12 +346,19 @@ fn has_met<R: AllocGlobal + Abort + Threads + Sync, D: Disk>(
     Ok(seen.met())
 }
 
-#[test]
-fn two_workers_of_a_load_meet(rt: HostRuntime) -> Result<(), Fail> {
+// One thread waits in vain, and two meet.
+fn check_meetings<R: AllocGlobal + Abort + Threads + Sync, D: Disk + Watched + Drop>(
+    rt: &R,
+) -> Result<(), Fail> {
     let alloc = rt.alloc();
     for workers in [2usize, 1] {
-        let mut disk = disk_of(alloc, empty_file(alloc, 1_000)?, &[], None)?;
-        assert_eq!(&rt; has_met(&rt, &mut disk, workers)?, workers == 2);
+        let mut disk = D::of(alloc, empty_file(alloc, 1_000)?, &[], None)?;
+        assert_eq!(rt; has_met(rt, &mut disk, workers)?, workers == 2);
     }
     Ok(())
+}
+
+#[test]
+fn two_workers_of_a_load_meet(rt: HostRuntime) -> Result<(), Fail> {
+    check_meetings::<HostRuntime, MemoryDisk>(&rt)
 }

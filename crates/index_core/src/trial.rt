@@ -16,8 +16,12 @@ use std::test::Fail;
 use tree_shape::{LAST_GENERATION, Live};
 use vector_kinds::L1;
 
-// A disk whose calls, bytes and images a test sees.
-pub(crate) trait Watched {
+// A disk that tests make, and whose calls, bytes and images they see. They are generic over it, so that no proof of
+// theirs looks into its state.
+pub(crate) trait Watched: Sized {
+    // A disk that holds these bytes and has room for sixteen pages. These calls fail, and all from one on.
+    fn of(alloc: Global, bytes: Vec<u8>, fails: &[u64], stop: Option<u64>) -> Result<Self, Memory>;
+
     // The number of calls made.
     fn calls(&self) -> u64;
 
@@ -29,6 +33,11 @@ pub(crate) trait Watched {
 }
 
 impl Watched for MemoryDisk {
+    fn of(alloc: Global, bytes: Vec<u8>, fails: &[u64], stop: Option<u64>) -> Result<Self, Memory> {
+        let room = (bytes.len() as u64).max(1 << 16);
+        MemoryDisk::new(alloc, bytes, room, 1 << 22, fails.to_vec(alloc)?, stop)
+    }
+
     fn calls(&self) -> u64 {
         self.moments()
     }
@@ -60,23 +69,12 @@ pub(crate) fn head_of(limit: u32) -> Head
     }
 }
 
-// A disk that holds these bytes and has room for sixteen pages. These calls fail, and all from one on.
-pub(crate) fn disk_of(
-    alloc: Global,
-    bytes: Vec<u8>,
-    fails: &[u64],
-    stop: Option<u64>,
-) -> Result<MemoryDisk, Memory> {
-    let room = (bytes.len() as u64).max(1 << 16);
-    MemoryDisk::new(alloc, bytes, room, 1 << 22, fails.to_vec(alloc)?, stop)
-}
-
 // The bytes of an index that has no objects and may have so many.
 pub(crate) fn empty_file(alloc: Global, limit: u32) -> Result<Vec<u8>, Fail>
     requires some { 1 ≤ limit }
     requires most { limit ≤ 2 ^ 24 }
 {
-    let mut disk = disk_of(alloc, Vec::new(alloc), &[], None)?;
+    let mut disk = MemoryDisk::of(alloc, Vec::new(alloc), &[], None)?;
     create(&mut disk, &head_of(limit))?;
     Ok(disk.file().to_vec(alloc)?)
 }
@@ -172,7 +170,8 @@ fn count_in(rt: &(impl AllocGlobal + Abort), bytes: Vec<u8>) -> Result<u32, Fail
     count_on(rt, &mut disk)
 }
 
-// At each moment from one on a crash leaves the objects from before or those after, and where the call is done those after.
+// At each moment from one on a crash leaves the objects from before or those after, and where the call is done those
+// after.
 pub(crate) fn check_images<D: Watched>(
     rt: &(impl AllocGlobal + Abort),
     disk: &D,
