@@ -22,4 +22,10 @@ pub use view::View;
 pub type Memory = std::alloc::AllocError;
 
 #[cfg(test)]
+mod insert_tests;
+#[cfg(test)]
+mod load_tests;
+#[cfg(test)]
 mod tests;
+#[cfg(test)]
+mod trial;
