@@ -2,8 +2,8 @@ use Rattle.std.proofs.Common.{ℕ, List, Option, inl, sym, subst, arith}
 use Rattle.job_words.specs.Words.{texts_of}
 use Rattle.job_words.specs.Jobs.{job_of}
 use Rattle.job_words.specs.declared.job.Job.{Job}
-use Rattle.mtree_cli.specs.Run.{Does, task_of}
-use Rattle.mtree_cli.proofs.TaskLemmas.{scene, scan_named, unchanged, memory_does, memory_status, nothing_taken, input_taken, logs_taken, logs_rose, join_logs_taken, join_logs_rose, join_rose}
+use Rattle.mtree_cli.specs.Run.{Does, IsNoSession, Task, task_of}
+use Rattle.mtree_cli.proofs.TaskLemmas.{scene, scan_named, session_named, session_task, unchanged, memory_does, memory_status, nothing_taken, input_taken, logs_taken, logs_rose, join_logs_taken, join_logs_rose, join_rose}
 use Rattle.mtree_cli.proofs.program.run.Goals as goal
 
 pub returns-in-Ok-Scan-clause-does : goal.returns-in-Ok-Scan-clause-does
@@ -136,3 +136,30 @@ returns-in-Ok-Create-clause-either_disk g c = λ is. inl ((c.create_index.ensure
 
 pub returns-in-Ok-Audit-clause-either_disk : goal.returns-in-Ok-Audit-clause-either_disk
 returns-in-Ok-Audit-clause-either_disk g c = λ is. inl ((c.audit_index.ensures.audits.disk is).0)
+
+pub returns-in-Ok-Session-clause-does : goal.returns-in-Ok-Session-clause-does
+returns-in-Ok-Session-clause-does g c =
+    let P : Task → Type 0 = λ t. Does t (scene (g.D.Disk.state c.args.index.now) (g.E.Disk.state c.args.other.now) (g.L.Source.left c.args.log_in.now) (g.T.Sink.state c.args.log_out.now) (g.K.Sink.state c.args.out.now))
+    (scene (g.D.Disk.state c.run_session.new.index) (g.E.Disk.state c.args.other.now) (g.L.Source.left c.args.log_in.now) (g.T.Sink.state c.run_session.new.log_out) (g.K.Sink.state c.run_session.new.out)) (g.S.Source.left c.args.input.now) c.run_session.result.0 in
+    subst P (sym (session_task (texts_of c.args.words.now) c.in-Ok-Session.field-0 c.in-Ok-Session.field-0-0 c.in-Ok-Session.field-0-1 c.in-Ok-Session.workers c.in-Ok-Session.show_tags c.in-Ok-Session.ensures.job c.in-Ok-Session.field-0-is)) c.run_session.ensures.runs
+
+pub returns-in-Ok-Session-clause-memory : goal.returns-in-Ok-Session-clause-memory
+returns-in-Ok-Session-clause-memory g c = λ no is.
+    absurd (subst IsNoSession (session_task (texts_of c.args.words.now) c.in-Ok-Session.field-0 c.in-Ok-Session.field-0-0 c.in-Ok-Session.field-0-1 c.in-Ok-Session.workers c.in-Ok-Session.show_tags c.in-Ok-Session.ensures.job c.in-Ok-Session.field-0-is) no)
+
+pub returns-in-Ok-Session-clause-kept : goal.returns-in-Ok-Session-clause-kept
+returns-in-Ok-Session-clause-kept g c = λ no a b.
+    absurd (subst IsNoSession (session_task (texts_of c.args.words.now) c.in-Ok-Session.field-0 c.in-Ok-Session.field-0-0 c.in-Ok-Session.field-0-1 c.in-Ok-Session.workers c.in-Ok-Session.show_tags c.in-Ok-Session.ensures.job c.in-Ok-Session.field-0-is) no)
+
+pub returns-in-Ok-Session-clause-untouched : goal.returns-in-Ok-Session-clause-untouched
+returns-in-Ok-Session-clause-untouched g c = λ none no.
+    absurd (no (_, _, _, _, session_named (texts_of c.args.words.now) c.in-Ok-Session.field-0 c.in-Ok-Session.field-0-0 c.in-Ok-Session.field-0-1 c.in-Ok-Session.workers c.in-Ok-Session.show_tags c.in-Ok-Session.ensures.job c.in-Ok-Session.field-0-is))
+
+pub returns-in-Ok-Session-clause-long : goal.returns-in-Ok-Session-clause-long
+returns-in-Ok-Session-clause-long g c = input_taken _ _ (g.L.Source.left c.args.log_in.now) c.run_session.result.0 c.run_session.ensures.long
+
+pub returns-in-Ok-Session-clause-other_same : goal.returns-in-Ok-Session-clause-other_same
+returns-in-Ok-Session-clause-other_same g c = unchanged (g.E.Disk.state c.args.other.now)
+
+pub returns-in-Ok-Session-clause-either_disk : goal.returns-in-Ok-Session-clause-either_disk
+returns-in-Ok-Session-clause-either_disk g c = λ is. inl (c.run_session.ensures.runs.disk is)
