@@ -126,8 +126,8 @@ fn end_rejected<K: Sink>(alloc: Global, fault: AuditFault, out: &mut K) -> Statu
     }
 }
 
-// Ends with the line of a file that is not opened.
-fn end_unopened<K: Sink>(fault: OpenFault, out: &mut K) -> Status
+/// Ends with the line of a file that is not opened: status 5 where the disk failed, and else 6.
+pub fn end_unopened<K: Sink>(fault: OpenFault, out: &mut K) -> Status
     ensures disk { result.0 ≡ 5 → fault ≡ OpenFault.Disk }
     ensures index { result.0 ≡ 6 → fault ≢ OpenFault.Disk }
     ensures line { Tells (K.state out.old) (K.state out.new) (unopened_text fault) }

@@ -1,3 +1,4 @@
 mod ProgramLemmas
 mod TaskLemmas
 mod FileLemmas
+pub mod Sessions

@@ -16,7 +16,8 @@ use Rattle.plain_scan.specs.declared.session.Stop.TheVariants as stop
 use Rattle.plain_scan.specs.Written.{IsFrontOf, Writes, reply_texts}
 use Rattle.plain_scan.proofs.WrittenLemmas.{front_appended}
 use Rattle.rows_text.specs.Script.{script}
-use Rattle.mtree_cli.specs.Run.{Asked, IsScan, WritesScan, Ends, IsTold, scan_texts}
+use Rattle.mtree_cli.specs.Told.{IsTold}
+use Rattle.mtree_cli.specs.Run.{Asked, IsScan, WritesScan, Ends, scan_texts}
 
 -- words ask for one scan
 

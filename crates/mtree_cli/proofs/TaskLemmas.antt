@@ -25,13 +25,23 @@ use Rattle.log_jobs.specs.declared.report.Report.{Report}
 use Rattle.log_jobs.specs.Jobs.{JudgesLogs}
 use Rattle.join_jobs.specs.declared.report.Report.{Report as JoinReport}
 use Rattle.join_jobs.specs.Jobs.{Joins, JudgesLogs as JudgesJoinLogs}
-use Rattle.mtree_cli.specs.Run.{Task, Scene, Does, IsStatusOf, TakesWithin, scan_texts}
-use Rattle.mtree_cli.specs.Run.Task.{Scans, Makes, Draws, Judges, Reports, JoinsWithin, ReportsJoins, Nothing}
+use Rattle.mtree_cli.proofs.Sessions.{memory_session}
+use Rattle.mtree_cli.specs.Run.{Task, Scene, Does, IsStatusOf, TakesWithin, scan_texts, task_of}
+use Rattle.mtree_cli.specs.Run.Task.{Scans, Makes, Draws, Sessions, Judges, Reports, JoinsWithin, ReportsJoins, Nothing}
 use Rattle.mtree_cli.proofs.ProgramLemmas.{always, fault_writes, memory_ends}
 
 -- the words of a scan
 pub scan_named : (words : List (List ℕ)) (found : Job (Bor (List ℕ))) (space : SpaceName) (limit : ℕ) (show : Bool) → job_of words ≡ Some (texts_in found) → found ≡ job.Scan space limit show → job_of words ≡ Some (job.Scan space limit show)
 scan_named words found space limit show is named = is ∙ ap (λ (f : Job (Bor (List ℕ))). Some (texts_in f)) named
+
+-- the words of a session
+pub session_named : (words : List (List ℕ)) (found : Job (Bor (List ℕ))) (index : Bor (List ℕ)) (log : Option (Bor (List ℕ))) (workers : ℕ) (show : Bool) → job_of words ≡ Some (texts_in found) →
+    found ≡ job.Session index log workers show → job_of words ≡ Some (texts_in (job.Session index log workers show))
+session_named words found index log workers show is named = is ∙ ap (λ (f : Job (Bor (List ℕ))). Some (texts_in f)) named
+
+pub session_task : (words : List (List ℕ)) (found : Job (Bor (List ℕ))) (index : Bor (List ℕ)) (log : Option (Bor (List ℕ))) (workers : ℕ) (show : Bool) → job_of words ≡ Some (texts_in found) →
+    found ≡ job.Session index log workers show → task_of (job_of words) ≡ Sessions show
+session_task words found index log workers show is named = ap task_of (session_named words found index log workers show is named)
 
 -- no call was made
 pub unchanged : (disk : DiskState) → IsUnchanged disk disk
@@ -97,6 +107,7 @@ does_at_memory (Makes head) disk other input left v o0 o1 line = record {
   not_empty = λ is. absurd (omega arith);
   memory = λ is. (unchanged disk, line);
 }
+does_at_memory (Sessions show) disk other input left v o0 o1 line = memory_session show input disk o0 o1 v 8 refl line
 does_at_memory Draws disk other input left v o0 o1 line = record {
   unchanged = unchanged disk;
   done = λ is. absurd (omega arith);
@@ -136,6 +147,7 @@ memory_does task disk other input left v o0 o1 status is line = subst (Does task
 status_eight : (task : Task) → IsStatusOf task 8
 status_eight (Scans asked) = inr (inr (inr (inr refl)))
 status_eight (Makes head) = inr (inr (inr (inr refl)))
+status_eight (Sessions show) = inr (inr (inr (inr (inr (inr (inl refl))))))
 status_eight Draws = inr (inr (inr (inr (inl refl))))
 status_eight Judges = inr (inr (inr (inr (inr refl))))
 status_eight (Reports what) = inr (inr (inr (inr (inr (inr (inr refl))))))

@@ -15,6 +15,7 @@ abbrev pub is_done : {Name : Type 0} → Job Name → Bool
 is_done (job.Scan space limit show) = true
 is_done (job.Create index space policies limit) = true
 is_done (job.Shape index) = true
+is_done (job.Session index log workers show) = true
 is_done (job.Audit index workers) = true
 is_done (job.Verify index log other) = true
 is_done (job.Check index log other) = true

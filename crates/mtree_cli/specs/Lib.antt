@@ -1,2 +1,4 @@
+pub mod Told
+pub mod Session
 pub mod Run
 pub mod Files

@@ -23,6 +23,8 @@ use Rattle.job_words.specs.declared.job.Job.TheVariants as job
 use Rattle.job_words.specs.declared.names.SpaceName.{SpaceName}
 use Rattle.metric_mix.specs.MixSpaces.{mix_space}
 use Rattle.plain_scan.specs.Written.{IsFrontOf, first_text, reply_texts}
+use Rattle.mtree_cli.specs.Told.{IsTold}
+use Rattle.mtree_cli.specs.Session.{RunsSession, IsSessionStatus}
 use Rattle.rows_text.specs.Meaning.{Setting}
 use Rattle.rows_text.specs.Script.{script}
 
@@ -36,6 +38,14 @@ pub record Asked : Type 0 where
 abbrev pub IsScan : List (List ℕ) → Asked → Type 0
 IsScan words asked = job_of words ≡ Some (job.Scan asked.space asked.limit asked.show)
 
+-- the words ask for a session
+abbrev pub IsSession : List (List ℕ) → Type 0
+IsSession words = (index : List ℕ) × (log : Option (List ℕ)) × (workers : ℕ) × (show : Bool) × (job_of words ≡ Some (job.Session index log workers show))
+
+-- the words ask for no session
+abbrev pub HasNoSession : List (List ℕ) → Type 0
+HasNoSession words = ¬ IsSession words
+
 -- the words ask for no scan
 abbrev pub HasNoScan : List (List ℕ) → Type 0
 HasNoScan words = (asked : Asked) → ¬ IsScan words asked
@@ -47,10 +57,6 @@ setting_of asked = record { space = mix_space (kind_of asked.space.metric) asked
 -- the texts of the replies to a script
 abbrev pub scan_texts : Asked → List ℕ → List (List ℕ)
 scan_texts asked bytes = reply_texts (setting_of asked) asked.show (script asked.space.dim bytes)
-
--- a line stands there, or where out failed a front of it
-abbrev pub IsTold : Type 0 → List ℕ → List ℕ → Type 0
-IsTold Failed rest line = (rest ≡ line) ⊎ (IsFrontOf rest line × Failed)
 
 -- What stands on out when a scan ends with a status: the acknowledged replies, and then `rest`, where `more`
 -- are the texts of the other replies.
@@ -99,6 +105,7 @@ pub data Task : Type 0 where
   Scans : Asked → Task
   Makes : Head → Task
   Draws : Task
+  Sessions : Bool → Task
   Judges : Task
   Reports : Report → Task
   JoinsWithin : ℕ → Task
@@ -109,6 +116,7 @@ abbrev pub task_of : Option (Job (List ℕ)) → Task
 task_of (Some (job.Scan space limit show)) = Scans (record { space = space; limit = limit; show = show })
 task_of (Some (job.Create index space policies limit)) = Makes (new_head space policies limit)
 task_of (Some (job.Shape index)) = Draws
+task_of (Some (job.Session index log workers show)) = Sessions show
 task_of (Some (job.Audit index workers)) = Judges
 task_of (Some (job.Verify index log None)) = Reports report.Verdicts
 task_of (Some (job.Check index log None)) = Reports report.Answers
@@ -130,6 +138,7 @@ pub record Scene : Type 1 where
 abbrev pub Does : Task → Scene → Scene → Option (List ℕ) → ℕ → Type 0
 Does (Scans asked) a b input status = IfSome input (λ bytes. WritesScan a.out b.out (scan_texts asked bytes) status)
 Does (Makes head) a b input status = Creates head a.index b.index a.out b.out status
+Does (Sessions show) a b input status = RunsSession show input a.index b.index a.out b.out a.log_out b.log_out status
 Does Draws a b input status = Shapes a.index b.index a.out b.out status
 Does Judges a b input status = Audits a.index b.index a.out b.out status
 Does (Reports what) a b input status = JudgesLogs what a.index b.index a.left b.left a.out b.out status
@@ -141,6 +150,7 @@ Does Nothing a b input status = WritesUsage a.out b.out status
 abbrev pub TakesNoIndex : Task → Type 0
 TakesNoIndex (Scans asked) = Unit {0}
 TakesNoIndex (Makes head) = ⊥
+TakesNoIndex (Sessions show) = ⊥
 TakesNoIndex Draws = ⊥
 TakesNoIndex Judges = ⊥
 TakesNoIndex (Reports what) = ⊥
@@ -152,6 +162,7 @@ TakesNoIndex Nothing = Unit {0}
 abbrev pub TakesNoLog : Task → Type 0
 TakesNoLog (Scans asked) = Unit {0}
 TakesNoLog (Makes head) = Unit {0}
+TakesNoLog (Sessions show) = Unit {0}
 TakesNoLog Draws = Unit {0}
 TakesNoLog Judges = Unit {0}
 TakesNoLog (Reports what) = ⊥
@@ -163,6 +174,7 @@ TakesNoLog Nothing = Unit {0}
 abbrev pub TakesNoOther : Task → Type 0
 TakesNoOther (Scans asked) = Unit {0}
 TakesNoOther (Makes head) = Unit {0}
+TakesNoOther (Sessions show) = Unit {0}
 TakesNoOther Draws = Unit {0}
 TakesNoOther Judges = Unit {0}
 TakesNoOther (Reports what) = Unit {0}
@@ -174,12 +186,18 @@ TakesNoOther Nothing = Unit {0}
 abbrev pub PutsNoLog : Task → Type 0
 PutsNoLog (Scans asked) = Unit {0}
 PutsNoLog (Makes head) = Unit {0}
+PutsNoLog (Sessions show) = ⊥
 PutsNoLog Draws = Unit {0}
 PutsNoLog Judges = Unit {0}
 PutsNoLog (Reports what) = Unit {0}
 PutsNoLog (JoinsWithin radius) = ⊥
 PutsNoLog (ReportsJoins what) = Unit {0}
 PutsNoLog Nothing = Unit {0}
+
+-- the task is no session
+abbrev pub IsNoSession : Task → Type 0
+IsNoSession (Sessions show) = ⊥
+IsNoSession other = Unit {0}
 
 -- Some bytes of input and of logs were taken, at most 2 ^ 26 and 2 ^ 30 and a buffer more. The status tells exactly whether
 -- more than that many were.
@@ -200,6 +218,7 @@ IsScanStatus n = (n ≡ 0) ⊎ ((n ≡ 3) ⊎ ((n ≡ 4) ⊎ ((n ≡ 7) ⊎ (n �
 abbrev pub IsStatusOf : Task → ℕ → Type 0
 IsStatusOf (Scans asked) n = IsScanStatus n
 IsStatusOf (Makes head) n = (n ≡ 0) ⊎ ((n ≡ 4) ⊎ ((n ≡ 5) ⊎ ((n ≡ 6) ⊎ (n ≡ 8))))
+IsStatusOf (Sessions show) n = IsSessionStatus n
 IsStatusOf Draws n = IsShapeStatus n
 IsStatusOf Judges n = IsAuditStatus n
 IsStatusOf (Reports what) n = IsLogStatus n

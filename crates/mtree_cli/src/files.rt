@@ -12,6 +12,7 @@ use job_words::{FileNames, Job, JobFault, files_of, no_files, read_job};
 use named_files::{Folder, open_files};
 use outside_io::{Sink, Source, Status};
 use std::alloc::Global;
+use std::thread::Threads;
 
 // Whether the program does this job so far. For a job that it doesn't do no file is opened or made.
 fn is_done<Name>(job: &Job<Name>) -> bool
@@ -21,6 +22,7 @@ fn is_done<Name>(job: &Job<Name>) -> bool
         job,
         Job::Scan { .. }
             | Job::Create { .. }
+            | Job::Session { .. }
             | Job::Shape { .. }
             | Job::Audit { .. }
             | Job::Verify { .. }
@@ -42,7 +44,8 @@ fn opened_names(alloc: Global, words: &[String]) -> Result<FileNames<&str>, JobF
 
 /// Runs the job of the words on the files that they name, of which `create` makes the index where it is not there. Status 10:
 /// a file could not be opened, or one that would be written is one that would be read; then none was opened.
-pub fn run_on_files<F: Folder, S: Source, K: Sink>(
+pub fn run_on_files<R: Threads + Sync, F: Folder, S: Source, K: Sink>(
+    rt: &R,
     alloc: Global,
     words: &[String],
     folder: &F,
@@ -60,6 +63,7 @@ pub fn run_on_files<F: Folder, S: Source, K: Sink>(
         return Status(10);
     };
     run(
+        rt,
         alloc,
         words,
         &mut files.index,

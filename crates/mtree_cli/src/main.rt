@@ -10,6 +10,7 @@ mod log_tests;
 mod number_tests;
 mod program;
 mod scan_job;
+mod session_job;
 #[cfg(test)]
 mod tests;
 
@@ -17,7 +18,7 @@ use file_jobs::{FAULT_MEMORY, end_with, put_line};
 use files::run_on_files;
 use job_words::JobFault;
 use named_files::HostFolder;
-use outside_io::{Sink, Source, Status, StdSink, StdSource};
+use outside_io::{StdSink, StdSource};
 use program::USAGE;
 use std::env;
 use std::io::{self, ErrorKind};
@@ -42,17 +43,20 @@ fn read_words(rt: &HostRuntime) -> Result<Vec<String>, JobFault> {
     Ok(words)
 }
 
-// Runs what the words ask for, and answers the status.
-fn run_words<S: Source, K: Sink>(rt: &HostRuntime, input: &mut S, out: &mut K) -> Status {
-    match read_words(rt) {
-        Ok(words) => run_on_files(rt.alloc(), &words, &HostFolder::new(rt), input, out),
-        Err(JobFault::Usage) => put_line(out, USAGE, 2),
-        Err(JobFault::Memory) => end_with(out, FAULT_MEMORY, 8),
-    }
-}
-
 fn main(rt: HostRuntime) -> ExitCode {
     let mut input = StdSource::new(rt.stdin());
     let mut out = StdSink::new(rt.stdout());
-    ExitCode::from(run_words(&rt, &mut input, &mut out).0)
+    let status = match read_words(&rt) {
+        Ok(words) => run_on_files(
+            &rt,
+            rt.alloc(),
+            &words,
+            &HostFolder::new(&rt),
+            &mut input,
+            &mut out,
+        ),
+        Err(JobFault::Usage) => put_line(&mut out, USAGE, 2),
+        Err(JobFault::Memory) => end_with(&mut out, FAULT_MEMORY, 8),
+    };
+    ExitCode::from(status.0)
 }

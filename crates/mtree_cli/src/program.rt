@@ -9,9 +9,12 @@ ghost use Rattle.node_page.specs.Heads.{IsLawfulHead};
 ghost use Rattle.log_jobs.specs.Laws.{FaultlessIsComplete};
 ghost use Rattle.join_jobs.specs.Trees.{Tree, IsOpened};
 ghost use Rattle.join_jobs.specs.Laws.{FaultlessIsComplete as JoinFaultlessIsComplete};
-ghost use Rattle.mtree_cli.specs.Run.{Asked, Does, HasNoScan, IsScan, IsStatusOf, PutsNoLog, TakesNoIndex, TakesNoLog, TakesNoOther, TakesWithin, new_head, task_of};
+ghost use Rattle.log_model.specs.Laws.{LeastLogsAreSound};
+ghost use Rattle.session_run.specs.Laws.{TurnsAreTheirMeaning};
+ghost use Rattle.mtree_cli.specs.Run.{Asked, Does, HasNoScan, HasNoSession, IsNoSession, IsScan, IsStatusOf, PutsNoLog, TakesNoIndex, TakesNoLog, TakesNoOther, TakesWithin, new_head, task_of};
 
 use crate::scan_job::run_scan;
+use crate::session_job::run_session;
 use disk_model::Disk;
 use file_jobs::{FAULT_MEMORY, audit_index, create_index, end_with, put_line, shape_index};
 use job_words::{Job, JobFault, PolicyNames, SpaceName, read_job};
@@ -19,9 +22,12 @@ use join_jobs::laws::faultless_is_complete as joins_are_complete;
 use join_jobs::{check_join_logs, join_indexes, verify_join_logs};
 use log_jobs::laws::faultless_is_complete;
 use log_jobs::{check_logs, verify_logs};
+use log_model::laws::least_logs_are_sound;
 use node_page::Head;
 use outside_io::{Sink, Source, Status};
+use session_run::laws::turns_are_their_meaning;
 use std::alloc::Global;
+use std::thread::Threads;
 
 /// The line of words without a job.
 pub const USAGE: &[u8] = b"usage: mtree COMMAND INDEX [options]\n";
@@ -49,7 +55,8 @@ fn new_head(space: SpaceName, policies: PolicyNames, limit: u32) -> Head
 /// `index`, `shape` writes the shape of its tree, `audit` tells whether it is sound, `verify` judges the logs of `log_in` by
 /// it, `check` does both, and `join` joins `index` with `other` and puts its log to `log_out`. With `--other`, `verify` and
 /// `check` take join logs and both indexes. Every other job of the words is answered as no job.
-pub fn run<D: Disk, E: Disk, S: Source, L: Source, K: Sink, T: Sink>(
+pub fn run<R: Threads + Sync, D: Disk, E: Disk, S: Source, L: Source, K: Sink, T: Sink>(
+    rt: &R,
     alloc: Global,
     words: &[String],
     index: &mut D,
@@ -69,19 +76,24 @@ pub fn run<D: Disk, E: Disk, S: Source, L: Source, K: Sink, T: Sink>(
     ensures check_is_true { (file : List ℕ) → FaultlessIsComplete file }
     ensures join_check_is_true { (left right : Tree) → IsOpened left → IsOpened right → JoinFaultlessIsComplete left right }
 
+    // What the turns of a session are: where the file stands in no command's way, its replies and its objects are the plain
+    // list's; and the least log of a query is sound.
+    ensures session_is_plain { TurnsAreTheirMeaning }
+    ensures logs_are_sound { LeastLogsAreSound }
+
     // There are no other answers.
     ensures statuses { IsStatusOf (task_of (job_of (texts_of words.now))) result.0 }
 
     // Want of memory leaves the index as it is, no run changes the other index, and words without a scan, without an index,
     // without logs, without another index or without a join take none.
-    ensures memory { result.0 ≡ 8 → IsUnchanged (D.state index.old) (D.state index.new) }
+    ensures memory { IsNoSession (task_of (job_of (texts_of words.now))) → result.0 ≡ 8 → IsUnchanged (D.state index.old) (D.state index.new) }
     ensures other_same { IsUnchanged (E.state other.old) (E.state other.new) }
     ensures index { TakesNoIndex (task_of (job_of (texts_of words.now))) → index.new ≡ index.old }
-    ensures untouched { HasNoScan (texts_of words.now) → input.new ≡ input.old }
+    ensures untouched { HasNoScan (texts_of words.now) → HasNoSession (texts_of words.now) → input.new ≡ input.old }
     ensures log_untouched { TakesNoLog (task_of (job_of (texts_of words.now))) → log_in.new ≡ log_in.old }
     ensures other { TakesNoOther (task_of (job_of (texts_of words.now))) → other.new ≡ other.old }
     ensures log_out { PutsNoLog (task_of (job_of (texts_of words.now))) → log_out.new ≡ log_out.old }
-    ensures kept { result.0 ≢ 0 → result.0 ≢ 4 → log_out.new ≡ log_out.old }
+    ensures kept { IsNoSession (task_of (job_of (texts_of words.now))) → result.0 ≢ 0 → result.0 ≢ 4 → log_out.new ≡ log_out.old }
 
     // A failed read or write is told only where the object's count of faults rose.
     ensures input { result.0 ≡ 3 → Rose (S.faults input.old) (S.faults input.new) ⊎ Rose (L.faults log_in.old) (L.faults log_in.new) }
@@ -103,6 +115,8 @@ pub fn run<D: Disk, E: Disk, S: Source, L: Source, K: Sink, T: Sink>(
 {
     faultless_is_complete();
     joins_are_complete();
+    turns_are_their_meaning();
+    least_logs_are_sound();
     match read_job(alloc, words) {
         Ok(
             Job::Scan {
@@ -119,6 +133,13 @@ pub fn run<D: Disk, E: Disk, S: Source, L: Source, K: Sink, T: Sink>(
                 ..
             },
         ) => create_index(index, &new_head(space, policies, limit), out),
+        Ok(
+            Job::Session {
+                workers,
+                show_tags,
+                ..
+            },
+        ) => run_session(rt, alloc, index, workers, show_tags, input, out, log_out),
         Ok(Job::Shape { .. }) => shape_index(alloc, index, out),
         Ok(Job::Audit { .. }) => audit_index(alloc, index, out),
         Ok(Job::Verify { other: None, .. }) => verify_logs(alloc, index, log_in, out),

@@ -20,7 +20,7 @@ use rows_text::read_script;
 use std::alloc::Global;
 
 /// The most bytes of input that are read.
-const MOST_INPUT: u64 = 1 << 26;
+pub const MOST_INPUT: u64 = 1 << 26;
 
 // The space of a name.
 fn space_of(name: SpaceName) -> MixSpace

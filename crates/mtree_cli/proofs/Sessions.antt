@@ -1,0 +1,534 @@
+-- What a session on an index leaves and writes, by its status.
+use Rattle.std.proofs.Common.{◌≡◌, ◌≢◌, ◌⊎◌, inl, inr, ℕ, ◌+◌, ◌≤◌, ◌<◌, ◌^◌, Bool, true, false, List, [], ◌∷◌, ◌++◌, Option, Some, None, refl, sym, ◌∙◌, ap, subst, arith}
+use Rattle.std.specs.Prelude.{codes, IsTrue, MatchOption}
+use Rattle.std.specs.List.{concat}
+use Rattle.std.specs.Io.KnownBytes.{Appends}
+use Rattle.std.proofs.KnownBytes.{Appends-nil, Appends-trans}
+use Rattle.std.proofs.lemmas.List.{append-nil}
+use Rattle.outside_io.specs.Bytes.{AppendsPrefix}
+use Rattle.outside_io.specs.Causes.{Rose}
+use Rattle.outside_io.specs.Sinks.{SinkState, Tells}
+use Rattle.disk_model.specs.Disk.{DiskState, EachImage, EachImageOnce, IsUnchanged, LeavesOnly, MayLeave}
+use Rattle.disk_model.specs.Moments.{once, joined, started, weakened}
+use Rattle.node_page.specs.declared.head.Head.{Head}
+use Rattle.node_page.specs.Laws.{FaultIsNotOpen, OneLiveSlot}
+use Rattle.node_page.specs.Opening.{OpensTo, open_fault}
+use Rattle.node_page.specs.Opening.Unopened.{Short, NoHead, Unfinished, TwoRoots, BadSlot}
+use Rattle.shadow_root.specs.declared.faults.OpenFault.{OpenFault}
+use Rattle.shadow_root.specs.declared.faults.OpenFault.TheVariants as fault
+use Rattle.page_store.specs.Files.{nodes_in}
+use Rattle.index_core.specs.Causes.{HasReaderCause}
+use Rattle.file_jobs.specs.Jobs.{IsNoIndex, Refuses}
+use Rattle.file_jobs.proofs.Ends.{no_index, rose_by_disk}
+use Rattle.file_jobs.proofs.Unsound.{no_index_unsound}
+use Rattle.tree_shape.specs.declared.live.Live.{Live}
+use Rattle.tree_shape.specs.Tree.{IsSoundTree}
+use Rattle.index_core.specs.Answers.{IsSoundOn}
+use Rattle.metric_laws.specs.Space.{Space}
+use Rattle.index_core.specs.Files.{IsLawfulFile, nodes_on}
+use Rattle.index_core.specs.Index.{OpenIndex, StandsAlone}
+use Rattle.index_core.proofs.Written.{holds}
+use Rattle.session_run.proofs.Reading.{objects_on}
+use Rattle.page_store.specs.declared.pages.PageFault.{PageFault}
+use Rattle.file_jobs.specs.Lines.{damaged_text, not_index_text, unopened_name, unopened_text}
+use Rattle.rows_text.specs.declared.command.Command.{Command}
+use Rattle.rows_text.specs.Meaning.{State}
+use Rattle.rows_text.specs.Script.{script}
+use Rattle.plain_scan.specs.Written.{IsFrontOf}
+use Rattle.plain_scan.proofs.WrittenLemmas.{front_appended}
+use Rattle.session_run.specs.declared.stop.Stop.{Stop}
+use Rattle.session_run.specs.declared.stop.Stop.TheVariants as stop
+use Rattle.session_run.specs.Session.{HasRun, HasStopCause, HoldsNext, HoldsSome, HoldsState, IsDamage, no_cursors, setting_of, state_on}
+use Rattle.session_run.specs.Turns.{AreTurns, Turn, Version, commands_of, file_after, framed, logs_of, state_after, texts_of, version_on}
+use Rattle.mtree_cli.specs.Told.{IsTold}
+use Rattle.mtree_cli.proofs.ProgramLemmas.{always}
+use Rattle.mtree_cli.specs.Session.{Ends, HasEnded, HasFinished, HasRefused, HoldsFront, HoldsLast, IsLeft, Leaves, LeavesAll, RunsOn, RunsScript, RunsSession, setting_in, space_in, state_in, version_in}
+
+rose_late : (a b c d : ℕ) → a ≤ b → c ≤ d → Rose b c → Rose a d
+rose_late a b c d more late rose = grind arith
+
+-- a line behind what was put
+line_appended : (w0 w1 w2 : Option (List ℕ)) (Failed : Type 0) (bs line : List ℕ) → Appends w0 w1 bs → Appends w1 w2 line ⊎ (AppendsPrefix w1 w2 line × Failed)
+    → (rest : List ℕ) × IsTold Failed rest line × Appends w0 w2 (bs ++ rest)
+line_appended w0 w1 w2 Failed bs line is (inl whole) = (line, inl refl, Appends-trans w0 w1 w2 bs line is whole)
+line_appended w0 w1 w2 Failed bs line is (inr cut) = let part = front_appended w0 w1 w2 bs line is cut.0 in (part.0, inr (part.1, cut.1), part.2)
+
+module _ (show : Bool) (bytes : List ℕ) (head : Head) (live : Live) (file : List ℕ) (disk0 disk1 : DiskState) (out0 out1 out2 log0 log1 : SinkState) where
+  abbrev pub state0 : State
+  state0 = state_in head live file
+
+  abbrev pub file0 : Version
+  file0 = version_in head live file
+
+  -- the line of a fault stands behind the acknowledged replies
+  module _ (Left : List Turn → List Command → Type 0) (turns : List Turn) (more : List Command) (line : List ℕ) (whole : script head.dim bytes ≡ commands_of turns ++ more)
+      (are : AreTurns (setting_in head) head state0 file0 turns) (written : Appends out0.written out1.written (concat (texts_of show turns))) (logged : Appends log0.written log1.written (framed (logs_of turns)))
+      (later : out0.faults ≤ out1.faults) (told : Tells out1 out2 line) (left : Left turns more) where
+    told_since : Appends out1.written out2.written line ⊎ (AppendsPrefix out1.written out2.written line × Rose out0.faults out2.faults)
+    told_since = elim told [
+      | inl all ↦ inl all
+      | inr cut ↦ inr (cut.0, rose_late _ _ _ _ later (omega arith) cut.1)
+    ]
+
+    pub with_line : (status : ℕ) →
+        ((rest : List ℕ) → IsTold (Rose out0.faults out2.faults) rest line → Ends (Rose out0.faults out2.faults) status head show state0 file0 turns more rest []) → status ≢ 0 →
+        RunsOn Left show bytes head live file disk1 out0 out2 log0 log1 status
+    with_line status ends other =
+        let part = line_appended out0.written out1.written out2.written (Rose out0.faults out2.faults) (concat (texts_of show turns)) line written told_since in
+        record {
+          turns = turns;
+          more = more;
+          rest = part.0;
+          log_rest = [];
+          whole = whole;
+          are = are;
+          ends = ends part.0 part.1;
+          written = part.2;
+          logged = rw (append-nil (framed (logs_of turns))) logged;
+          last = λ is. absurd (other is);
+          leaves = left;
+        }
+
+-- what an end with a line says, by the status
+module _ (Failed : Type 0) (head : Head) (show : Bool) (state : State) (file : Version) (more : List Command) (rest : List ℕ) where
+  pub disk_ends : (turns : List Turn) (status : ℕ) → status ≡ 5 → IsTold Failed rest (codes "fault disk\n") → Ends Failed status head show state file turns more rest []
+  disk_ends turns status is line = record {
+    done = λ e. absurd (omega arith);
+    input = λ e. absurd (omega arith);
+    output = λ e. absurd (omega arith);
+    disk = λ e. line;
+    long = λ e. absurd (omega arith);
+    memory = λ e. absurd (omega arith);
+    unlogged = λ e. refl;
+    index = λ e. absurd (omega arith);
+    undamaged = λ e. absurd (omega arith);
+  }
+
+  pub memory_ends : (turns : List Turn) (status : ℕ) → status ≡ 8 → IsTold Failed rest (codes "fault memory\n") → Ends Failed status head show state file turns more rest []
+  memory_ends turns status is line = record {
+    done = λ e. absurd (omega arith);
+    input = λ e. absurd (omega arith);
+    output = λ e. absurd (omega arith);
+    disk = λ e. absurd (omega arith);
+    long = λ e. absurd (omega arith);
+    memory = λ e. line;
+    unlogged = λ e. refl;
+    index = λ e. absurd (omega arith);
+    undamaged = λ e. absurd (omega arith);
+  }
+
+  pub input_ends : (status : ℕ) → status ≡ 3 → IsTold Failed rest (codes "fault input\n") → Ends Failed status head show state file [] more rest []
+  input_ends status is line = record {
+    done = λ e. absurd (omega arith);
+    input = λ e. (refl, line);
+    output = λ e. absurd (omega arith);
+    disk = λ e. absurd (omega arith);
+    long = λ e. absurd (omega arith);
+    memory = λ e. absurd (omega arith);
+    unlogged = λ e. refl;
+    index = λ e. absurd (omega arith);
+    undamaged = λ e. absurd (omega arith);
+  }
+
+  pub long_ends : (status : ℕ) → status ≡ 7 → IsTold Failed rest (codes "fault long\n") → Ends Failed status head show state file [] more rest []
+  long_ends status is line = record {
+    done = λ e. absurd (omega arith);
+    input = λ e. absurd (omega arith);
+    output = λ e. absurd (omega arith);
+    disk = λ e. absurd (omega arith);
+    long = λ e. (refl, line);
+    memory = λ e. absurd (omega arith);
+    unlogged = λ e. refl;
+    index = λ e. absurd (omega arith);
+    undamaged = λ e. absurd (omega arith);
+  }
+
+-- ---- after a session on an opened index
+
+module _ (show : Bool) (bytes : List ℕ) (head : Head) (live : Live) (file : List ℕ) (disk0 disk1 : DiskState) (out0 out1 log0 log1 : SinkState) (commands : List Command) (ack : ℕ) (left : Version)
+    (script_is : commands ≡ script head.dim bytes) (later : out0.faults ≤ out1.faults) where
+  pub done_runs : HasRun (setting_in head) head show commands (state_in head live file) (version_in head live file) disk0 disk1 out0 out1 log0 log1 ack None left → IsLeft head left disk1 →
+      RunsOn (LeavesAll head (state_in head live file) disk0 disk1) show bytes head live file disk1 out0 out1 log0 log1 0
+  done_runs ran is_left = record {
+    turns = ran.turns;
+    more = ran.more;
+    rest = ran.rest;
+    log_rest = ran.log_rest;
+    whole = sym script_is ∙ ran.whole;
+    are = ran.are;
+    ends = record {
+      done = λ e. ran.ends;
+      input = λ e. absurd (omega arith);
+      output = λ e. absurd (omega arith);
+      disk = λ e. absurd (omega arith);
+      long = λ e. absurd (omega arith);
+      memory = λ e. absurd (omega arith);
+      unlogged = λ e. ran.ends.2;
+      index = λ e. absurd (omega arith);
+      undamaged = λ e. absurd (omega arith);
+    };
+    written = ran.written;
+    logged = ran.logged;
+    last = λ e. subst (λ (v : Version). IsLeft head v disk1) (ran.last refl) is_left;
+    leaves = (ran.moments, ran.remains);
+  }
+
+  -- an output failed
+  pub cut_runs : HasRun (setting_in head) head show commands (state_in head live file) (version_in head live file) disk0 disk1 out0 out1 log0 log1 ack (Some stop.Sink) left → (status : ℕ) → status ≡ 4 →
+      RunsOn (LeavesAll head (state_in head live file) disk0 disk1) show bytes head live file disk1 out0 out1 log0 log1 status
+  cut_runs ran status is = record {
+    turns = ran.turns;
+    more = ran.more;
+    rest = ran.rest;
+    log_rest = ran.log_rest;
+    whole = sym script_is ∙ ran.whole;
+    are = ran.are;
+    ends = record {
+      done = λ e. absurd (omega arith);
+      input = λ e. absurd (omega arith);
+      output = λ e. ran.ends;
+      disk = λ e. absurd (omega arith);
+      long = λ e. absurd (omega arith);
+      memory = λ e. absurd (omega arith);
+      unlogged = λ e. absurd (e is);
+      index = λ e. absurd (omega arith);
+      undamaged = λ e. absurd (omega arith);
+    };
+    written = ran.written;
+    logged = ran.logged;
+    last = λ e. absurd (omega arith);
+    leaves = (ran.moments, ran.remains);
+  }
+
+  module _ (Sound : Type 0) (out2 : SinkState) where
+    -- a line is put behind the acknowledged replies
+    lined : (why : Stop) (line : List ℕ) (ran : HasRun (setting_in head) head show commands (state_in head live file) (version_in head live file) disk0 disk1 out0 out1 log0 log1 ack (Some why) left) →
+        (ran.rest ≡ []) × (ran.log_rest ≡ []) → Tells out1 out2 line → (status : ℕ) →
+        ((rest : List ℕ) → IsTold (Rose out0.faults out2.faults) rest line → Ends (Rose out0.faults out2.faults) status head show (state_in head live file) (version_in head live file) ran.turns ran.more rest []) → status ≢ 0 →
+        RunsOn (LeavesAll head (state_in head live file) disk0 disk1) show bytes head live file disk1 out0 out2 log0 log1 status
+    lined why line ran nothing told status ends other =
+        with_line show bytes head live file disk0 disk1 out0 out1 out2 log0 log1 (LeavesAll head (state_in head live file) disk0 disk1) ran.turns ran.more line (sym script_is ∙ ran.whole) ran.are
+        (subst (λ (l : List ℕ). Appends out0.written out1.written l) (append-nil (concat (texts_of show ran.turns)))
+        (subst (λ (rest : List ℕ). Appends out0.written out1.written (concat (texts_of show ran.turns) ++ rest)) nothing.0 ran.written))
+        (subst (λ (l : List ℕ). Appends log0.written log1.written l) (append-nil (framed (logs_of ran.turns)))
+        (subst (λ (rest : List ℕ). Appends log0.written log1.written (framed (logs_of ran.turns) ++ rest)) nothing.1 ran.logged))
+        later told (ran.moments, ran.remains) status ends other
+
+    -- it was stopped
+    pub stopped_runs : (why : Stop) (status : ℕ) → HasRun (setting_in head) head show commands (state_in head live file) (version_in head live file) disk0 disk1 out0 out1 log0 log1 ack (Some why) left →
+        HasEnded why out1 out2 status → HasStopCause Sound disk0 disk1 out0 out1 log0 log1 why → Sound →
+        RunsOn (LeavesAll head (state_in head live file) disk0 disk1) show bytes head live file disk1 out0 out2 log0 log1 status
+    stopped_runs stop.Sink status ran ended cause sound = rw ended.1 (cut_runs ran status ended.0)
+    stopped_runs stop.Disk status ran ended cause sound =
+        lined stop.Disk (codes "fault disk\n") ran ran.ends ended.1 status (λ rest line. disk_ends _ head show _ _ ran.more rest ran.turns status ended.0 line) (λ e. absurd (omega (arith, ended.0)))
+    stopped_runs stop.Memory status ran ended cause sound =
+        lined stop.Memory (codes "fault memory\n") ran ran.ends ended.1 status (λ rest line. memory_ends _ head show _ _ ran.more rest ran.turns status ended.0 line) (λ e. absurd (omega (arith, ended.0)))
+    stopped_runs (stop.Damaged fault) status ran ended cause sound = absurd (cause.1 sound)
+
+-- why it ended, on any file
+pub finished : (Sound : Type 0) (disk0 disk1 : DiskState) (out0 out1 out2 log0 log1 : SinkState) (why : Stop) (status : ℕ) → out1.faults ≤ out2.faults → HasEnded why out1 out2 status →
+    HasStopCause Sound disk0 disk1 out0 out1 log0 log1 why → HasFinished disk0 disk1 out0 out2 log0 log1 status
+finished Sound disk0 disk1 out0 out1 out2 log0 log1 stop.Sink status later ended cause = record {
+  output = λ e. rw ended.1 cause;
+  disk = λ e. absurd (omega (arith, ended.0));
+  damaged = λ e. absurd (omega (arith, ended.0));
+  statuses = inr (inl ended.0);
+}
+finished Sound disk0 disk1 out0 out1 out2 log0 log1 stop.Disk status later ended cause = record {
+  output = λ e. absurd (omega (arith, ended.0));
+  disk = λ e. cause;
+  damaged = λ e. absurd (omega (arith, ended.0));
+  statuses = inr (inr (inl ended.0));
+}
+finished Sound disk0 disk1 out0 out1 out2 log0 log1 stop.Memory status later ended cause = record {
+  output = λ e. absurd (omega (arith, ended.0));
+  disk = λ e. absurd (omega (arith, ended.0));
+  damaged = λ e. absurd (omega (arith, ended.0));
+  statuses = inr (inr (inr (inl ended.0)));
+}
+finished Sound disk0 disk1 out0 out1 out2 log0 log1 (stop.Damaged fault) status later (inl ended) cause = record {
+  output = λ e. absurd (omega (arith, ended.0));
+  disk = λ e. absurd (omega (arith, ended.0));
+  damaged = λ e. (fault, out1, cause.0, ended.1);
+  statuses = inr (inr (inr (inr ended.0)));
+}
+finished Sound disk0 disk1 out0 out1 out2 log0 log1 (stop.Damaged fault) status later (inr ended) cause = record {
+  output = λ e. absurd (omega (arith, ended.0));
+  disk = λ e. absurd (omega (arith, ended.0));
+  damaged = λ e. absurd (omega (arith, ended.0));
+  statuses = inr (inr (inr (inl ended.0)));
+}
+
+-- ---- on an opened index
+
+is_left : {M : Type 0} (new : OpenIndex M) (disk1 : DiskState) (head : Head) → new.file.head ≡ head → StandsAlone new disk1 → IsTrue disk1.tells → IsLeft head (version_on new.file disk1) disk1
+is_left new disk1 head same alone tells = subst (λ (h : Head). IsLeft h (version_on new.file disk1) disk1) same (record { opens = alone.stands.opens tells; nodes = refl; only = alone.only tells })
+
+module _ {M : Type 0} (show : Bool) (bytes : List ℕ) (old new : OpenIndex M) (disk0 disk1 : DiskState) (out0 out1 log0 log1 : SinkState) (commands : List Command) (ack : ℕ)
+    (script_is : commands ≡ script old.file.head.dim bytes) (later : out0.faults ≤ out1.faults) (told : disk1.tells ≡ disk0.tells) where
+  pub opened_done : (IsSoundOn (space_in old.file.head) old.file disk0 →
+      HasRun (setting_of (space_in old.file.head) old.file) old.file.head show commands (state_on old.file disk0 no_cursors) (version_on old.file disk0) disk0 disk1 out0 out1 log0 log1 ack None (version_on new.file disk1)) →
+      new.file.head ≡ old.file.head → StandsAlone new disk1 → IsTrue disk0.tells → IsSoundTree (space_in old.file.head) (nodes_on old.file disk0) old.file.live →
+      RunsOn (LeavesAll old.file.head (state_in old.file.head old.file.live disk0.bytes) disk0 disk1) show bytes old.file.head old.file.live disk0.bytes disk1 out0 out1 log0 log1 0
+  opened_done run same alone tells sound =
+      done_runs show bytes old.file.head old.file.live disk0.bytes disk0 disk1 out0 out1 log0 log1 commands ack (version_on new.file disk1) script_is later (run (tells, sound))
+      (is_left new disk1 old.file.head same alone (rw told tells))
+
+  pub opened_stopped : (out2 : SinkState) (why : Stop) (status : ℕ) → (IsSoundOn (space_in old.file.head) old.file disk0 →
+      HasRun (setting_of (space_in old.file.head) old.file) old.file.head show commands (state_on old.file disk0 no_cursors) (version_on old.file disk0) disk0 disk1 out0 out1 log0 log1 ack (Some why)
+      (version_on new.file disk1)) → HasEnded why out1 out2 status → HasStopCause (IsSoundOn (space_in old.file.head) old.file disk0) disk0 disk1 out0 out1 log0 log1 why →
+      IsTrue disk0.tells → IsSoundTree (space_in old.file.head) (nodes_on old.file disk0) old.file.live →
+      RunsOn (LeavesAll old.file.head (state_in old.file.head old.file.live disk0.bytes) disk0 disk1) show bytes old.file.head old.file.live disk0.bytes disk1 out0 out2 log0 log1 status
+  opened_stopped out2 why status run ended cause tells sound =
+      stopped_runs show bytes old.file.head old.file.live disk0.bytes disk0 disk1 out0 out1 log0 log1 commands ack (version_on new.file disk1) script_is later (IsSoundOn (space_in old.file.head) old.file disk0) out2 why status
+      (run (tells, sound)) ended cause (tells, sound)
+
+module _ {M : Type 0} (s : Space) (show : Bool) (bytes : List ℕ) (old new : OpenIndex M) (disk0 disk1 : DiskState) (out0 out1 log0 log1 : SinkState) (commands : List Command) (ack : ℕ) (ended : Option Stop)
+    (same : s ≡ space_in old.file.head) (script_is : commands ≡ script old.file.head.dim bytes) (later : out0.faults ≤ out1.faults) (told : disk1.tells ≡ disk0.tells)
+    (run : IsSoundOn s old.file disk0 →
+    HasRun (setting_of s old.file) old.file.head show commands (state_on old.file disk0 no_cursors) (version_on old.file disk0) disk0 disk1 out0 out1 log0 log1 ack ended (version_on new.file disk1)) where
+  run_in : (e : Option Stop) → ended ≡ e → IsSoundOn (space_in old.file.head) old.file disk0 →
+      HasRun (setting_of (space_in old.file.head) old.file) old.file.head show commands (state_on old.file disk0 no_cursors) (version_on old.file disk0) disk0 disk1 out0 out1 log0 log1 ack e (version_on new.file disk1)
+  run_in e is =
+      subst (λ (o : Option Stop). IsSoundOn (space_in old.file.head) old.file disk0 →
+      HasRun (setting_of (space_in old.file.head) old.file) old.file.head show commands (state_on old.file disk0 no_cursors) (version_on old.file disk0) disk0 disk1 out0 out1 log0 log1 ack o (version_on new.file disk1)) is
+      (subst (λ (x : Space). IsSoundOn x old.file disk0 →
+      HasRun (setting_of x old.file) old.file.head show commands (state_on old.file disk0 no_cursors) (version_on old.file disk0) disk0 disk1 out0 out1 log0 log1 ack ended (version_on new.file disk1)) same run)
+
+  pub is_done : ended ≡ None → new.file.head ≡ old.file.head → StandsAlone new disk1 → IsTrue disk0.tells → IsSoundTree (space_in old.file.head) (nodes_on old.file disk0) old.file.live →
+      RunsOn (LeavesAll old.file.head (state_in old.file.head old.file.live disk0.bytes) disk0 disk1) show bytes old.file.head old.file.live disk0.bytes disk1 out0 out1 log0 log1 0
+  is_done is same_head alone tells sound = opened_done show bytes old new disk0 disk1 out0 out1 log0 log1 commands ack script_is later told (run_in None is) same_head alone tells sound
+
+  pub is_stopped : (out2 : SinkState) (why : Stop) (status : ℕ) → ended ≡ Some why → HasEnded why out1 out2 status →
+      MatchOption ended (Unit {0}) (HasStopCause (IsSoundOn s old.file disk0) disk0 disk1 out0 out1 log0 log1) → IsTrue disk0.tells → IsSoundTree (space_in old.file.head) (nodes_on old.file disk0) old.file.live →
+      RunsOn (LeavesAll old.file.head (state_in old.file.head old.file.live disk0.bytes) disk0 disk1) show bytes old.file.head old.file.live disk0.bytes disk1 out0 out2 log0 log1 status
+  is_stopped out2 why status is end cause tells sound =
+      opened_stopped show bytes old new disk0 disk1 out0 out1 log0 log1 commands ack script_is later told out2 why status (run_in (Some why) is) end
+      (subst (λ (x : Space). HasStopCause (IsSoundOn x old.file disk0) disk0 disk1 out0 out1 log0 log1 why) same (rw is at cause)) tells sound
+
+-- what a crash leaves that comes before the first command
+pub held : {M : Type 0} (index : OpenIndex M) (disk : DiskState) (words : ℕ) → words ≡ index.file.head.dim → IsLawfulFile words index.file → StandsAlone index disk → IsTrue disk.tells →
+    IsSoundTree (space_in index.file.head) (nodes_on index.file disk) index.file.live → (image : List ℕ) → MayLeave disk image →
+    HoldsState (space_in index.file.head) index.file.head (state_in index.file.head index.file.live disk.bytes) image
+held index disk words same lawful alone tells sound image left =
+    subst (λ (file : List ℕ). HoldsState (space_in index.file.head) index.file.head (state_in index.file.head index.file.live disk.bytes) file) (sym (alone.only tells image left))
+    (holds (space_in index.file.head) index.file disk _ _ (subst (λ (w : ℕ). IsLawfulFile w index.file) same lawful) alone.stands (objects_on (space_in index.file.head) index.file disk (tells, sound)))
+
+-- nothing was done: the line of a fault is all that was put
+pub unread : (show : Bool) (bytes : List ℕ) (head : Head) (live : Live) (file : List ℕ) (disk0 disk1 : DiskState) (out0 out1 log : SinkState) (line : List ℕ) (Left : List Turn → List Command → Type 0) →
+    Tells out0 out1 line → Left [] (script head.dim bytes) → (status : ℕ) →
+    ((rest : List ℕ) → IsTold (Rose out0.faults out1.faults) rest line → Ends (Rose out0.faults out1.faults) status head show (state_in head live file) (version_in head live file) [] (script head.dim bytes) rest []) →
+    status ≢ 0 → RunsOn Left show bytes head live file disk1 out0 out1 log log status
+unread show bytes head live file disk0 disk1 out0 out1 log line Left told left status ends other =
+    with_line show bytes head live file disk0 disk1 out0 out0 out1 log log Left [] (script head.dim bytes) line refl tt (Appends-nil out0.written) (Appends-nil log.written) (omega arith) told left status ends other
+
+-- a session that did nothing left the objects that were there
+pub nothing_left : (head : Head) (live : Live) (file : List ℕ) (disk : DiskState) (more : List Command) → ((image : List ℕ) → MayLeave disk image → HoldsState (space_in head) head (state_in head live file) image) →
+    LeavesAll head (state_in head live file) disk disk [] more
+nothing_left head live file disk more holds = (started disk _ (λ image left. inl (holds image left)), λ image left. inl (holds image left))
+
+-- ---- since the opening
+
+-- what is left is said in another way
+pub said_of : {L K : List Turn → List Command → Type 0} (show : Bool) (bytes : List ℕ) (head : Head) (live : Live) (file : List ℕ) (disk1 : DiskState) (out0 out1 log0 log1 : SinkState) (status : ℕ) →
+    ((turns : List Turn) (more : List Command) → L turns more → K turns more) → RunsOn L show bytes head live file disk1 out0 out1 log0 log1 status → RunsOn K show bytes head live file disk1 out0 out1 log0 log1 status
+said_of show bytes head live file disk1 out0 out1 log0 log1 status run ran = record {
+  turns = ran.turns;
+  more = ran.more;
+  rest = ran.rest;
+  log_rest = ran.log_rest;
+  whole = ran.whole;
+  are = ran.are;
+  ends = ran.ends;
+  written = ran.written;
+  logged = ran.logged;
+  last = ran.last;
+  leaves = run ran.turns ran.more ran.leaves;
+}
+
+pub left_since : (head : Head) (state : State) (disk0 disk1 disk2 : DiskState) → EachImage disk0 disk1 (MayLeave disk0) → (turns : List Turn) (more : List Command) → LeavesAll head state disk1 disk2 turns more →
+    Leaves head state disk0 disk2 turns more
+left_since head state disk0 disk1 disk2 opening turns more left = inr (once disk0 disk1 disk2 (HoldsFront head state turns more) opening left.0, left.1)
+
+-- ---- opening
+
+-- what was there before the opening
+pub opening : (disk0 disk1 disk2 : DiskState) → IsUnchanged disk0 disk1 → EachImage disk1 disk2 (MayLeave disk1) → EachImage disk0 disk2 (MayLeave disk0)
+opening disk0 disk1 disk2 same time = joined disk0 disk1 disk2 (MayLeave disk0) same.time (weakened disk1 disk2 (MayLeave disk1) (MayLeave disk0) time (λ image left. (same.same_images image).0 left))
+
+-- the index is not opened at all
+pub refused_runs : FaultIsNotOpen → OneLiveSlot → (show : Bool) (bytes : List ℕ) (disk0 disk1 : DiskState) (out0 out1 log : SinkState) (status : ℕ) → IsUnchanged disk0 disk1 → Refuses disk0 disk1 out0 out1 status →
+    RunsScript show bytes disk0 disk1 out0 out1 log log status
+refused_runs faults one show bytes disk0 disk1 out0 out1 log status same refuses tells head live sound = elim refuses.statuses [
+  | inl five ↦
+      unread show bytes head live disk0.bytes disk0 disk1 out0 out1 log (codes "fault disk\n") (Leaves head (state_in head live disk0.bytes) disk0 disk1) (refuses.disk five).1 (inl (refl, same.time)) status
+      (λ rest line. disk_ends (Rose out0.faults out1.faults) head show (state_in head live disk0.bytes) (version_in head live disk0.bytes) (script head.dim bytes) rest [] status five line) (λ e. absurd (omega arith))
+  | inr six ↦ let named = refuses.not_index six in absurd (no_index_unsound faults one disk0.bytes named.0 (named.2 tells) head live sound)
+]
+
+-- a line is all that a session puts that is refused while it opens the index
+pub memory_runs : (show : Bool) (bytes : List ℕ) (disk0 disk1 disk2 : DiskState) (out0 out1 log : SinkState) (status : ℕ) → IsUnchanged disk0 disk1 → EachImage disk1 disk2 (MayLeave disk1) → status ≡ 8 →
+    Tells out0 out1 (codes "fault memory\n") → RunsScript show bytes disk0 disk2 out0 out1 log log status
+memory_runs show bytes disk0 disk1 disk2 out0 out1 log status same time eight told tells head live sound =
+    unread show bytes head live disk0.bytes disk0 disk2 out0 out1 log (codes "fault memory\n") (Leaves head (state_in head live disk0.bytes) disk0 disk2) told (inl (refl, opening disk0 disk1 disk2 same time)) status
+    (λ rest line. memory_ends (Rose out0.faults out1.faults) head show (state_in head live disk0.bytes) (version_in head live disk0.bytes) (script head.dim bytes) rest [] status eight line) (λ e. absurd (omega arith))
+
+module _ (faults : FaultIsNotOpen) (one : OneLiveSlot) (show : Bool) (bytes : List ℕ) (disk0 disk1 disk2 : DiskState) (out0 out1 log : SinkState) (words status : ℕ) (why : OpenFault) (opened : Head × Live)
+    (same : IsUnchanged disk0 disk1) (later : disk0.faults ≤ disk1.faults) (opens : IsTrue disk0.tells → OpensTo disk0.bytes opened.0 opened.1) (version : opened.0.version ≡ 2) (dim : words ≡ opened.0.dim)
+    (cause : HasReaderCause words disk1 disk2 why) (five : status ≡ 5 → why ≡ fault.Disk) (six : status ≡ 6 → why ≢ fault.Disk) (line : Tells out0 out1 (unopened_text why)) (statuses : (status ≡ 5) ⊎ (status ≡ 6)) where
+  told : IsTrue disk0.tells → IsTrue disk1.tells
+  told tells = rw same.same_tells tells
+
+  still : (P : List ℕ → Type 0) → P disk1.bytes → P disk0.bytes
+  still P p = subst P same.same_bytes p
+
+  -- bytes that open to an index of version 2 with such points are opened but for the disk
+  never : IsTrue disk0.tells → why ≢ fault.Disk → ⊥
+  never tells other = elim cause [
+    | inl first ↦
+        let named = (no_index disk1 disk2 why other first).2 (told tells) in
+        no_version (opens tells) version (still (λ (b : List ℕ). IsNoIndex b (no_index disk1 disk2 why other first).0) named)
+    | inr rest ↦ elim rest [
+      | inl old ↦ let (h, l, is, v) = old.1 (told tells) in
+          let e = one disk0.bytes opened.0 h opened.1 l (opens tells) (still (λ (b : List ℕ). OpensTo b h l) is) in
+          absurd (omega (arith, ap (λ (x : Head). x.version) e.0, version, v))
+      | inr wide ↦ let (h, l, is, v) = wide.1 (told tells) in
+          let e = one disk0.bytes opened.0 h opened.1 l (opens tells) (still (λ (b : List ℕ). OpensTo b h l) is) in
+          v.1 (ap (λ (x : Head). x.dim) (sym e.0) ∙ sym dim)
+    ]
+  ]
+    where
+      no_version : {name : List ℕ} → OpensTo disk0.bytes opened.0 opened.1 → opened.0.version ≡ 2 → IsNoIndex disk0.bytes name → ⊥
+      no_version is v (inl (w, e, named)) = let none : open_fault disk0.bytes ≡ None = (faults disk0.bytes).1 (opened.0, opened.1, is) in cc
+      no_version is v (inr (h, l, other, old, named)) = let e = one disk0.bytes opened.0 h opened.1 l is other in omega (arith, ap (λ (x : Head). x.version) e.0, v, old)
+
+  pub unopened_runs : EachImage disk1 disk2 (MayLeave disk1) → RunsScript show bytes disk0 disk2 out0 out1 log log status
+  unopened_runs time tells head live sound = elim statuses [
+    | inl is ↦
+        unread show bytes head live disk0.bytes disk0 disk2 out0 out1 log (codes "fault disk\n") (Leaves head (state_in head live disk0.bytes) disk0 disk2)
+        (subst (λ (w : OpenFault). Tells out0 out1 (unopened_text w)) (five is) line) (inl (refl, opening disk0 disk1 disk2 same time)) status
+        (λ rest line. disk_ends (Rose out0.faults out1.faults) head show (state_in head live disk0.bytes) (version_in head live disk0.bytes) (script head.dim bytes) rest [] status is line) (λ e. absurd (omega arith))
+    | inr is ↦ absurd (never tells (six is))
+  ]
+
+  pub unopened_ends : HasRefused disk0 disk2 out0 out1 log log status
+  unopened_ends = record {
+    output = λ e. elim statuses [ inl is ↦ absurd (omega arith) | inr is ↦ absurd (omega arith) ];
+    disk = λ is. rose_of (five is) cause;
+    not_index = λ is. (named why (six is), subst (Tells out0 out1) (text_of why (six is)) line, λ tells. absurd (never tells (six is)));
+    damaged = λ e. elim statuses [ inl is ↦ absurd (omega arith) | inr is ↦ absurd (omega arith) ];
+    statuses = elim statuses [ inl is ↦ inr (inr (inl is)) | inr is ↦ inr (inr (inr (inl is))) ];
+  }
+    where
+      rose_of : why ≡ fault.Disk → HasReaderCause words disk1 disk2 why → Rose disk0.faults disk2.faults
+      rose_of is (inl first) = rose_late _ _ _ _ later (omega arith) (rose_by_disk disk1 disk2 why is first)
+      rose_of is (inr (inl old)) = absurd (let e = sym is ∙ old.0 in cc)
+      rose_of is (inr (inr wide)) = absurd (let e = sym is ∙ wide.0 in cc)
+
+      named : (w : OpenFault) → w ≢ fault.Disk → List ℕ
+      named fault.Disk other = []
+      named fault.Short other = unopened_name Short
+      named (fault.Head f) other = unopened_name (NoHead f)
+      named fault.Unfinished other = unopened_name Unfinished
+      named fault.TwoRoots other = unopened_name TwoRoots
+      named fault.Slot other = unopened_name BadSlot
+
+      text_of : (w : OpenFault) (other : w ≢ fault.Disk) → unopened_text w ≡ not_index_text (named w other)
+      text_of fault.Disk other = absurd (other refl)
+      text_of fault.Short other = refl
+      text_of (fault.Head f) other = refl
+      text_of fault.Unfinished other = refl
+      text_of fault.TwoRoots other = refl
+      text_of fault.Slot other = refl
+
+-- a session on the opened index, said of the file as it was before
+pub since_opening : {M : Type 0} (kind_of dim_of : M → ℕ) (one : OneLiveSlot) (show : Bool) (bytes : List ℕ) (index : OpenIndex M) (opened : Head × Live) (disk0 disk1 disk2 disk3 : DiskState) (out0 out1 log0 log1 : SinkState) (status : ℕ) →
+    IsUnchanged disk0 disk1 → EachImage disk1 disk2 (MayLeave disk1) → disk2.bytes ≡ disk1.bytes → disk2.tells ≡ disk1.tells → (IsTrue disk2.tells → OpensTo disk2.bytes index.file.head index.file.live) →
+    (IsTrue disk0.tells → OpensTo disk0.bytes opened.0 opened.1) → kind_of index.file.metric ≡ opened.0.kind → dim_of index.file.metric ≡ opened.0.dim →
+    (IsTrue disk2.tells → kind_of index.file.metric ≡ index.file.head.kind → dim_of index.file.metric ≡ index.file.head.dim → IsSoundTree (space_in index.file.head) (nodes_on index.file disk2) index.file.live →
+    RunsOn (LeavesAll index.file.head (state_in index.file.head index.file.live disk2.bytes) disk2 disk3) show bytes index.file.head index.file.live disk2.bytes disk3 out0 out1 log0 log1 status) →
+    RunsScript show bytes disk0 disk3 out0 out1 log0 log1 status
+since_opening {M} kind_of dim_of one show bytes index opened disk0 disk1 disk2 disk3 out0 out1 log0 log1 status same time bytes_same tells_same reopens opens kind dim run tells head live sound =
+    said_of show bytes head live disk0.bytes disk3 out0 out1 log0 log1 status (λ turns more left. left_since head (state_in head live disk0.bytes) disk0 disk2 disk3 (opening disk0 disk1 disk2 same time) turns more left)
+    (moved index.file.head index.file.live disk2.bytes head_is live_is bytes_are (run told (kind ∙ ap (λ (h : Head). h.kind) opened_is) (dim ∙ ap (λ (h : Head). h.dim) opened_is)))
+  where
+    bytes_are : disk2.bytes ≡ disk0.bytes
+    bytes_are = bytes_same ∙ same.same_bytes
+
+    told : IsTrue disk2.tells
+    told = rw (tells_same, same.same_tells) tells
+
+    opens_here : OpensTo disk0.bytes index.file.head index.file.live
+    opens_here = subst (λ (b : List ℕ). OpensTo b index.file.head index.file.live) bytes_are (reopens told)
+
+    head_is : index.file.head ≡ head
+    head_is = (one disk0.bytes index.file.head head index.file.live live opens_here sound.opens).0
+
+    live_is : index.file.live ≡ live
+    live_is = (one disk0.bytes index.file.head head index.file.live live opens_here sound.opens).1
+
+    opened_is : opened.0 ≡ index.file.head
+    opened_is = (one disk0.bytes opened.0 index.file.head opened.1 index.file.live (opens tells) opens_here).0
+
+    moved : (h : Head) (l : Live) (f : List ℕ) → h ≡ head → l ≡ live → f ≡ disk0.bytes →
+        (IsSoundTree (space_in h) (nodes_in h.dim l f) l → RunsOn (LeavesAll h (state_in h l f) disk2 disk3) show bytes h l f disk3 out0 out1 log0 log1 status) →
+        RunsOn (LeavesAll head (state_in head live disk0.bytes) disk2 disk3) show bytes head live disk0.bytes disk3 out0 out1 log0 log1 status
+    moved h l f hs ls fs go =
+        (subst (λ (x : Head). IsSoundTree (space_in x) (nodes_in x.dim live disk0.bytes) live → RunsOn (LeavesAll x (state_in x live disk0.bytes) disk2 disk3) show bytes x live disk0.bytes disk3 out0 out1 log0 log1 status) hs
+        (subst (λ (x : Live). IsSoundTree (space_in h) (nodes_in h.dim x disk0.bytes) x → RunsOn (LeavesAll h (state_in h x disk0.bytes) disk2 disk3) show bytes h x disk0.bytes disk3 out0 out1 log0 log1 status) ls
+        (subst (λ (x : List ℕ). IsSoundTree (space_in h) (nodes_in h.dim l x) l → RunsOn (LeavesAll h (state_in h l x) disk2 disk3) show bytes h l x disk3 out0 out1 log0 log1 status) fs go))) sound.tree
+
+-- what ended it
+pub refused_of : (disk0 disk1 disk2 : DiskState) (out0 out1 log0 log1 : SinkState) (status : ℕ) → disk0.faults ≤ disk1.faults → HasFinished disk1 disk2 out0 out1 log0 log1 status → HasRefused disk0 disk2 out0 out1 log0 log1 status
+refused_of disk0 disk1 disk2 out0 out1 log0 log1 status later ended = record {
+  output = ended.output;
+  disk = λ is. rose_late _ _ _ _ later (omega arith) (ended.disk is);
+  not_index = λ is. absurd (six is ended.statuses);
+  damaged = ended.damaged;
+  statuses = wider ended.statuses;
+}
+  where
+    six : status ≡ 6 → (status ≡ 0) ⊎ ((status ≡ 4) ⊎ ((status ≡ 5) ⊎ ((status ≡ 8) ⊎ (status ≡ 9)))) → ⊥
+    six is (inl e) = omega arith
+    six is (inr (inl e)) = omega arith
+    six is (inr (inr (inl e))) = omega arith
+    six is (inr (inr (inr (inl e)))) = omega arith
+    six is (inr (inr (inr (inr e)))) = omega arith
+
+    wider : (status ≡ 0) ⊎ ((status ≡ 4) ⊎ ((status ≡ 5) ⊎ ((status ≡ 8) ⊎ (status ≡ 9)))) → (status ≡ 0) ⊎ ((status ≡ 4) ⊎ ((status ≡ 5) ⊎ ((status ≡ 6) ⊎ ((status ≡ 8) ⊎ (status ≡ 9)))))
+    wider (inl e) = inl e
+    wider (inr (inl e)) = inr (inl e)
+    wider (inr (inr (inl e))) = inr (inr (inl e))
+    wider (inr (inr (inr (inl e)))) = inr (inr (inr (inr (inl e))))
+    wider (inr (inr (inr (inr e)))) = inr (inr (inr (inr (inr e))))
+
+-- ---- reading the script
+
+-- the script was not read: the line of a fault is all that was put
+pub unread_session : (show : Bool) (input : Option (List ℕ)) (disk : DiskState) (out0 out1 log : SinkState) (status : ℕ) (line : List ℕ) → Tells out0 out1 line → status ≢ 0 → status ≢ 5 → status ≢ 6 → status ≢ 9 →
+    ((bytes : List ℕ) (head : Head) (live : Live) (rest : List ℕ) → IsTold (Rose out0.faults out1.faults) rest line →
+    Ends (Rose out0.faults out1.faults) status head show (state_in head live disk.bytes) (version_in head live disk.bytes) [] (script head.dim bytes) rest []) →
+    RunsSession show input disk disk out0 out1 log log status
+unread_session show input disk out0 out1 log status line told zero five six nine ends = record {
+  runs = always input _ (λ bytes tells head live sound.
+      unread show bytes head live disk.bytes disk disk out0 out1 log line (Leaves head (state_in head live disk.bytes) disk disk) told (inl (refl, started disk (MayLeave disk) (λ image left. left))) status
+      (λ rest l. ends bytes head live rest l) zero);
+  disk = λ is. absurd (five is);
+  not_index = λ is. absurd (six is);
+  damaged = λ is. absurd (nine is);
+}
+
+pub input_session : (show : Bool) (input : Option (List ℕ)) (disk : DiskState) (out0 out1 log : SinkState) (status : ℕ) → status ≡ 3 → Tells out0 out1 (codes "fault input\n") → RunsSession show input disk disk out0 out1 log log status
+input_session show input disk out0 out1 log status is told =
+    unread_session show input disk out0 out1 log status (codes "fault input\n") told (λ e. absurd (omega arith)) (λ e. absurd (omega arith)) (λ e. absurd (omega arith)) (λ e. absurd (omega arith))
+    (λ bytes head live rest line. input_ends (Rose out0.faults out1.faults) head show (state_in head live disk.bytes) (version_in head live disk.bytes) (script head.dim bytes) rest status is line)
+
+pub long_session : (show : Bool) (input : Option (List ℕ)) (disk : DiskState) (out0 out1 log : SinkState) (status : ℕ) → status ≡ 7 → Tells out0 out1 (codes "fault long\n") → RunsSession show input disk disk out0 out1 log log status
+long_session show input disk out0 out1 log status is told =
+    unread_session show input disk out0 out1 log status (codes "fault long\n") told (λ e. absurd (omega arith)) (λ e. absurd (omega arith)) (λ e. absurd (omega arith)) (λ e. absurd (omega arith))
+    (λ bytes head live rest line. long_ends (Rose out0.faults out1.faults) head show (state_in head live disk.bytes) (version_in head live disk.bytes) (script head.dim bytes) rest status is line)
+
+pub memory_session : (show : Bool) (input : Option (List ℕ)) (disk : DiskState) (out0 out1 log : SinkState) (status : ℕ) → status ≡ 8 → Tells out0 out1 (codes "fault memory\n") → RunsSession show input disk disk out0 out1 log log status
+memory_session show input disk out0 out1 log status is told =
+    unread_session show input disk out0 out1 log status (codes "fault memory\n") told (λ e. absurd (omega arith)) (λ e. absurd (omega arith)) (λ e. absurd (omega arith)) (λ e. absurd (omega arith))
+    (λ bytes head live rest line. memory_ends (Rose out0.faults out1.faults) head show (state_in head live disk.bytes) (version_in head live disk.bytes) (script head.dim bytes) rest [] status is line)

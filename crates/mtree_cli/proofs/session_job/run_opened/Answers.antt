@@ -1,0 +1,42 @@
+use Rattle.std.proofs.Common.{◌≡◌, refl, sym, ap, ◌∙◌, subst, List, ℕ, arith}
+use Rattle.std.specs.Prelude.{MatchOption}
+use Rattle.metric_mix.specs.MixKinds.{mix_dim, mix_kind}
+use Rattle.metric_mix.specs.MixSpaces.{mix_space}
+use Rattle.rows_text.specs.Script.{script}
+use Rattle.index_core.specs.Answers.{IsSoundOn}
+use Rattle.session_run.specs.Session.{HasStopCause}
+use Rattle.mtree_cli.specs.Session.{LeavesAll, state_in}
+use Rattle.mtree_cli.proofs.Sessions.{finished, held, is_done, is_stopped, memory_ends, nothing_left, unread}
+use Rattle.mtree_cli.proofs.session_job.run_opened.Goals as goal
+
+pub returns-in-None-clause-runs : goal.returns-in-None-clause-runs
+returns-in-None-clause-runs g c = λ tells kind dim sound.
+    is_done (mix_space (mix_kind c.args.opened.now.file.metric) (mix_dim c.args.opened.now.file.metric)) c.args.show_tags c.args.bytes.now c.args.opened.now c.session-ended.new.index
+    (g.D.Disk.state c.args.index.now) (g.D.Disk.state c.session-ended.new.disk) (g.K.Sink.state c.args.out.now) (g.K.Sink.state c.session-ended.new.out) (g.T.Sink.state c.args.log_out.now)
+    (g.T.Sink.state c.session-ended.new.log_out) c.deref.result.now c.session-ended.result.acknowledged c.session-ended.result.stopped (λ i. mix_space (kind i) (dim i))
+    (c.deref.ensures.value ∙ c.in-Ok.ensures.script ∙ ap (λ (w : ℕ). script w c.args.bytes.now) (c.words.ensures ∙ ap mix_dim c.metric.ensures ∙ dim)) c.session-ended.ensures.out_later
+    c.session-ended.ensures.tells c.session-ended.ensures.run c.in-None.is (c.session-ended.ensures.head c.in-None.is) (c.session-ended.ensures.stands (c.session-ended.ensures.going c.in-None.is)) tells sound
+
+pub returns-clause-runs : goal.returns-clause-runs
+returns-clause-runs g c = λ tells kind dim sound.
+    is_stopped (mix_space (mix_kind c.args.opened.now.file.metric) (mix_dim c.args.opened.now.file.metric)) c.args.show_tags c.args.bytes.now c.args.opened.now c.session-ended.new.index
+    (g.D.Disk.state c.args.index.now) (g.D.Disk.state c.session-ended.new.disk) (g.K.Sink.state c.args.out.now) (g.K.Sink.state c.session-ended.new.out) (g.T.Sink.state c.args.log_out.now)
+    (g.T.Sink.state c.session-ended.new.log_out) c.deref.result.now c.session-ended.result.acknowledged c.session-ended.result.stopped (λ i. mix_space (kind i) (dim i))
+    (c.deref.ensures.value ∙ c.in-Ok.ensures.script ∙ ap (λ (w : ℕ). script w c.args.bytes.now) (c.words.ensures ∙ ap mix_dim c.metric.ensures ∙ dim)) c.session-ended.ensures.out_later
+    c.session-ended.ensures.tells c.session-ended.ensures.run (g.K.Sink.state c.end_stopped.new.out) c.in-Some.why c.end_stopped.result.0 c.in-Some.is c.end_stopped.ensures.ended c.session-ended.ensures.cause tells sound
+
+pub returns-in_default-clause-runs : goal.returns-in_default-clause-runs
+returns-in_default-clause-runs g c = λ tells kind dim sound.
+    let head = c.args.opened.now.file.head in
+    let live = c.args.opened.now.file.live in
+    let disk = g.D.Disk.state c.args.index.now in
+    unread c.args.show_tags c.args.bytes.now head live disk.bytes disk disk (g.K.Sink.state c.args.out.now) (g.K.Sink.state c.end_with.new.out) (g.T.Sink.state c.args.log_out.now) _
+    (LeavesAll head (state_in head live disk.bytes) disk disk) c.end_with.ensures.line
+    (nothing_left head live disk.bytes disk (script head.dim c.args.bytes.now) (held c.args.opened.now disk (mix_dim c.args.opened.now.file.metric) dim c.is_lawful.ensures (c.requires.stands c.requires.going) tells sound))
+    c.end_with.result.0 (λ rest line. memory_ends _ head c.args.show_tags _ _ _ rest _ c.end_with.result.0 c.end_with.ensures.status line) (λ e. absurd (omega (arith, c.end_with.ensures.status)))
+
+pub returns-clause-finished : goal.returns-clause-finished
+returns-clause-finished g c =
+    finished (IsSoundOn (mix_space (mix_kind c.args.opened.now.file.metric) (mix_dim c.args.opened.now.file.metric)) c.args.opened.now.file (g.D.Disk.state c.args.index.now)) (g.D.Disk.state c.args.index.now)
+    (g.D.Disk.state c.session-ended.new.disk) (g.K.Sink.state c.args.out.now) (g.K.Sink.state c.session-ended.new.out) (g.K.Sink.state c.end_stopped.new.out) (g.T.Sink.state c.args.log_out.now)
+    (g.T.Sink.state c.session-ended.new.log_out) c.in-Some.why c.end_stopped.result.0 c.end_stopped.ensures.later c.end_stopped.ensures.ended (rw c.in-Some.is at c.session-ended.ensures.cause)

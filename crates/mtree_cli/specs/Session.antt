@@ -1,0 +1,133 @@
+-- What a session on an index does and writes, by the status with which it ends.
+use Rattle.std.specs.Prelude.{◌≡◌, ◌≢◌, ◌⊎◌, ℕ, Bool, List, [], ◌∷◌, ◌++◌, Option, codes, IsTrue, IfSome}
+use Rattle.std.specs.List.{concat}
+use Rattle.std.specs.Io.KnownBytes.{Appends}
+use Rattle.outside_io.specs.Causes.{Rose}
+use Rattle.outside_io.specs.Sinks.{SinkState, Tells}
+use Rattle.disk_model.specs.Disk.{DiskState, EachImage, EachImageOnce, LeavesOnly, MayLeave}
+use Rattle.metric_laws.specs.Space.{Space}
+use Rattle.metric_mix.specs.MixSpaces.{mix_space}
+use Rattle.node_page.specs.declared.head.Head.{Head}
+use Rattle.node_page.specs.Opening.{OpensTo}
+use Rattle.tree_shape.specs.declared.live.Live.{Live}
+use Rattle.page_store.specs.declared.pages.PageFault.{PageFault}
+use Rattle.page_store.specs.Files.{IsSoundFile, nodes_in, points_in, tags_in}
+use Rattle.file_jobs.specs.Jobs.{IsNoIndex}
+use Rattle.file_jobs.specs.Lines.{not_index_text, damaged_text}
+use Rattle.rows_text.specs.declared.command.Command.{Command}
+use Rattle.rows_text.specs.Meaning.{Setting, State}
+use Rattle.rows_text.specs.Script.{script}
+use Rattle.session_run.specs.declared.stop.Stop.{Stop}
+use Rattle.session_run.specs.declared.stop.Stop.TheVariants as stop
+use Rattle.session_run.specs.Session.{HoldsNext, HoldsSome, HoldsState, IsCutShort, IsDamage}
+use Rattle.session_run.specs.Turns.{AreTurns, Turn, Version, commands_of, file_after, framed, logs_of, state_after, texts_of}
+use Rattle.mtree_cli.specs.Told.{IsTold}
+
+-- the space of a head, and how many objects a file of it may have
+abbrev pub space_in : Head → Space
+space_in head = mix_space head.kind head.dim
+
+abbrev pub setting_in : Head → Setting
+setting_in head = record { space = space_in head; limit = head.limit }
+
+-- what a file holds, and its objects, with no cursor open
+abbrev pub version_in : Head → Live → List ℕ → Version
+version_in head live file = record { nodes = nodes_in head.dim live file; live = live }
+
+abbrev pub state_in : Head → Live → List ℕ → State
+state_in head live file = record { objects = record { points = points_in head.dim live file; tags = tags_in head.dim live file }; cursors = []; next = 0 }
+
+-- What stands on the outputs when a session ends with a status: the acknowledged replies and the frames of their logs, and then `rest`
+-- and `log_rest`, where `more` are the other commands.
+pub record Ends (Failed : Type 0) (status : ℕ) (head : Head) (show : Bool) (state : State) (file : Version) (turns : List Turn) (more : List Command) (rest log_rest : List ℕ) : Type 0 where
+  pub done : status ≡ 0 → (more ≡ []) × (rest ≡ []) × (log_rest ≡ [])
+  pub input : status ≡ 3 → (turns ≡ []) × IsTold Failed rest (codes "fault input\n")
+  pub output : status ≡ 4 → IsCutShort (setting_in head) head show (state_after state turns) (file_after file turns) more rest log_rest
+  pub disk : status ≡ 5 → IsTold Failed rest (codes "fault disk\n")
+  pub long : status ≡ 7 → (turns ≡ []) × IsTold Failed rest (codes "fault long\n")
+  pub memory : status ≡ 8 → IsTold Failed rest (codes "fault memory\n")
+  pub unlogged : status ≢ 4 → log_rest ≡ []
+  -- a sound file is an index, and no page of it is damaged
+  pub index : status ≢ 6
+  pub undamaged : status ≢ 9
+
+-- After the last command the file has the last version, which is all that a crash may leave.
+pub record IsLeft (head : Head) (last : Version) (disk : DiskState) : Type 0 where
+  pub opens : OpensTo disk.bytes head last.live
+  pub nodes : nodes_in head.dim last.live disk.bytes ≡ last.nodes
+  pub only : LeavesOnly disk disk.bytes
+
+-- the objects after some first turns, or after the next command
+abbrev pub HoldsFront : Head → State → List Turn → List Command → List ℕ → Type 0
+HoldsFront head state turns more image = HoldsSome (setting_in head) head state turns image ⊎ HoldsNext (setting_in head) head (state_after state turns) more image
+
+-- the objects after all turns, or after the next command
+abbrev pub HoldsLast : Head → State → List Turn → List Command → List ℕ → Type 0
+HoldsLast head state turns more image = HoldsState (space_in head) head (state_after state turns) image ⊎ HoldsNext (setting_in head) head (state_after state turns) more image
+
+-- A session of this script on a sound file with these bytes, where `Left` says what it leaves.
+pub record RunsOn (Left : List Turn → List Command → Type 0) (show : Bool) (bytes : List ℕ) (head : Head) (live : Live) (file : List ℕ) (disk1 : DiskState) (out0 out1 log0 log1 : SinkState) (status : ℕ) : Type 0 where
+  pub turns : List Turn
+  pub more : List Command
+  pub rest : List ℕ
+  pub log_rest : List ℕ
+  pub whole : script head.dim bytes ≡ commands_of turns ++ more
+  pub are : AreTurns (setting_in head) head (state_in head live file) (version_in head live file) turns
+  pub ends : Ends (Rose out0.faults out1.faults) status head show (state_in head live file) (version_in head live file) turns more rest log_rest
+  pub written : Appends out0.written out1.written (concat (texts_of show turns) ++ rest)
+  pub logged : Appends log0.written log1.written (framed (logs_of turns) ++ log_rest)
+  pub last : status ≡ 0 → IsLeft head (file_after (version_in head live file) turns) disk1
+  pub leaves : Left turns more
+
+-- at every moment, and at the end
+abbrev pub LeavesAll : Head → State → DiskState → DiskState → List Turn → List Command → Type 0
+LeavesAll head state disk0 disk1 turns more =
+    EachImage disk0 disk1 (HoldsFront head state turns more) × ((image : List ℕ) → MayLeave disk1 image → HoldsLast head state turns more image)
+
+-- the same from the opening sync on, if the session came to it
+abbrev pub Leaves : Head → State → DiskState → DiskState → List Turn → List Command → Type 0
+Leaves head state disk0 disk1 turns more =
+    ((turns ≡ []) × EachImage disk0 disk1 (MayLeave disk0))
+    ⊎ (EachImageOnce disk0 disk1 (HoldsFront head state turns more) × ((image : List ℕ) → MayLeave disk1 image → HoldsLast head state turns more image))
+
+-- what a session does whose script has these bytes
+abbrev pub RunsScript : Bool → List ℕ → DiskState → DiskState → SinkState → SinkState → SinkState → SinkState → ℕ → Type 0
+RunsScript show bytes disk0 disk1 out0 out1 log0 log1 status =
+    IsTrue disk0.tells → (head : Head) (live : Live) → IsSoundFile (space_in head) head live disk0.bytes →
+    RunsOn (Leaves head (state_in head live disk0.bytes) disk0 disk1) show bytes head live disk0.bytes disk1 out0 out1 log0 log1 status
+
+-- What a session does with a file and a script: on a sound file this, and on any file its refusals have their causes.
+pub record RunsSession (show : Bool) (input : Option (List ℕ)) (disk0 disk1 : DiskState) (out0 out1 log0 log1 : SinkState) (status : ℕ) : Type 0 where
+  pub runs : IfSome input (λ bytes. RunsScript show bytes disk0 disk1 out0 out1 log0 log1 status)
+  pub disk : status ≡ 5 → Rose disk0.faults disk1.faults
+  pub not_index : status ≡ 6 → (name : List ℕ) × Tells out0 out1 (not_index_text name) × (IsTrue disk0.tells → IsNoIndex disk0.bytes name)
+  -- the last line is that of a damaged page
+  pub damaged : status ≡ 9 → (fault : PageFault) × (mid : SinkState) × IsDamage fault × Tells mid out1 (damaged_text fault)
+
+-- a session ends so and in no other way
+abbrev pub IsSessionStatus : ℕ → Type 0
+IsSessionStatus n = (n ≡ 0) ⊎ ((n ≡ 3) ⊎ ((n ≡ 4) ⊎ ((n ≡ 5) ⊎ ((n ≡ 6) ⊎ ((n ≡ 7) ⊎ ((n ≡ 8) ⊎ (n ≡ 9)))))))
+
+-- ---- one session on an opened index
+
+-- how a session ends that stopped for this reason
+abbrev pub HasEnded : Stop → SinkState → SinkState → ℕ → Type 0
+HasEnded stop.Sink out0 out1 status = (status ≡ 4) × (out1 ≡ out0)
+HasEnded stop.Disk out0 out1 status = (status ≡ 5) × Tells out0 out1 (codes "fault disk\n")
+HasEnded stop.Memory out0 out1 status = (status ≡ 8) × Tells out0 out1 (codes "fault memory\n")
+HasEnded (stop.Damaged fault) out0 out1 status = ((status ≡ 9) × Tells out0 out1 (damaged_text fault)) ⊎ ((status ≡ 8) × Tells out0 out1 (codes "fault memory\n"))
+
+-- What ends a session on an opened index, on any file: an output or the disk failed, a page is damaged, or memory ran out.
+pub record HasFinished (disk0 disk1 : DiskState) (out0 out1 log0 log1 : SinkState) (status : ℕ) : Type 0 where
+  pub output : status ≡ 4 → Rose out0.faults out1.faults ⊎ Rose log0.faults log1.faults
+  pub disk : status ≡ 5 → Rose disk0.faults disk1.faults
+  pub damaged : status ≡ 9 → (fault : PageFault) × (mid : SinkState) × IsDamage fault × Tells mid out1 (damaged_text fault)
+  pub statuses : (status ≡ 0) ⊎ ((status ≡ 4) ⊎ ((status ≡ 5) ⊎ ((status ≡ 8) ⊎ (status ≡ 9))))
+
+-- the same of a session that opens its index, which may be none
+pub record HasRefused (disk0 disk1 : DiskState) (out0 out1 log0 log1 : SinkState) (status : ℕ) : Type 0 where
+  pub output : status ≡ 4 → Rose out0.faults out1.faults ⊎ Rose log0.faults log1.faults
+  pub disk : status ≡ 5 → Rose disk0.faults disk1.faults
+  pub not_index : status ≡ 6 → (name : List ℕ) × Tells out0 out1 (not_index_text name) × (IsTrue disk0.tells → IsNoIndex disk0.bytes name)
+  pub damaged : status ≡ 9 → (fault : PageFault) × (mid : SinkState) × IsDamage fault × Tells mid out1 (damaged_text fault)
+  pub statuses : (status ≡ 0) ⊎ ((status ≡ 4) ⊎ ((status ≡ 5) ⊎ ((status ≡ 6) ⊎ ((status ≡ 8) ⊎ (status ≡ 9)))))

@@ -1,0 +1,158 @@
+// The job `session`: a script on an index.
+ghost use Rattle.std.specs.Prelude.{◌≡◌, ◌≢◌, ◌⊎◌, ◌≤◌, ◌^◌, false, length, IsTrue, IfOk, IfErr, OnOk};
+ghost use Rattle.std.specs.Io.KnownBytes.{IsAtEnd};
+ghost use Rattle.outside_io.specs.Bytes.{TakesUpTo};
+ghost use Rattle.outside_io.specs.Causes.{Rose};
+ghost use Rattle.metric_mix.specs.MixKinds.{mix_kind, mix_dim};
+ghost use Rattle.tree_shape.specs.Tree.{IsSoundTree};
+ghost use Rattle.index_core.specs.Files.{nodes_on};
+ghost use Rattle.index_core.specs.Index.{MayGoOn};
+ghost use Rattle.mtree_cli.specs.Session.{HasEnded, HasFinished, HasRefused, IsSessionStatus, LeavesAll, RunsOn, RunsScript, RunsSession, space_in, state_in};
+
+use crate::scan_job::MOST_INPUT;
+use disk_model::Disk;
+use file_jobs::{
+    FAULT_DISK, FAULT_MEMORY, damaged_text, end_unopened, end_with, open_index, space_of,
+};
+use index_core::Index;
+use metric_laws::Metric;
+use metric_mix::MixSpace;
+use node_page::laws::{fault_is_not_open, one_live_slot};
+use outside_io::{ReadAll, Sink, Source, Status, read_all};
+use rows_text::read_script;
+use session_run::{Stop, session};
+use std::alloc::Global;
+use std::thread::Threads;
+
+/// How many nodes a session keeps.
+const KEPT_NODES: usize = 256;
+
+// Ends a session that stopped for this reason.
+fn end_stopped<K: Sink>(alloc: Global, why: Stop, out: &mut K) -> Status
+    ensures ended { HasEnded why (K.state out.old) (K.state out.new) result.0 }
+    ensures later { (K.state out.old).faults ≤ (K.state out.new).faults }
+{
+    match why {
+        Stop::Sink => Status(4),
+        Stop::Disk => end_with(out, FAULT_DISK, 5),
+        Stop::Memory => end_with(out, FAULT_MEMORY, 8),
+        Stop::Damaged(fault) => match damaged_text(alloc, fault) {
+            Ok(text) => end_with(out, &text, 9),
+            Err(_) => end_with(out, FAULT_MEMORY, 8),
+        },
+    }
+}
+
+// Runs a script that was read whole on an opened index.
+fn run_opened<R: Threads + Sync, D: Disk, K: Sink, T: Sink>(
+    rt: &R,
+    alloc: Global,
+    opened: &mut Index<MixSpace>,
+    index: &mut D,
+    show_tags: bool,
+    bytes: &[u8],
+    out: &mut K,
+    log_out: &mut T,
+) -> Status
+    requires going { opened.old.stopped ≡ false }
+    requires stands { MayGoOn opened.old (D.state index.old) }
+    requires few { length bytes.now ≤ 2 ^ 26 }
+    ensures runs { IsTrue (D.state index.old).tells → mix_kind opened.old.file.metric ≡ opened.old.file.head.kind → mix_dim opened.old.file.metric ≡ opened.old.file.head.dim → IsSoundTree (space_in opened.old.file.head) (nodes_on opened.old.file (D.state index.old)) opened.old.file.live →
+        RunsOn (LeavesAll opened.old.file.head (state_in opened.old.file.head opened.old.file.live (D.state index.old).bytes) (D.state index.old) (D.state index.new))
+        show_tags bytes.now opened.old.file.head opened.old.file.live (D.state index.old).bytes (D.state index.new)
+        (K.state out.old) (K.state out.new) (T.state log_out.old) (T.state log_out.new) result.0 }
+    ensures finished { HasFinished (D.state index.old) (D.state index.new) (K.state out.old) (K.state out.new) (T.state log_out.old) (T.state log_out.new) result.0 }
+    ensures later { (D.state index.old).faults ≤ (D.state index.new).faults }
+    ensures out_later { (K.state out.old).faults ≤ (K.state out.new).faults }
+    ensures log_later { (T.state log_out.old).faults ≤ (T.state log_out.new).faults }
+{
+    opened.is_lawful();
+    let Ok(commands) = read_script(alloc, bytes, opened.metric().words()) else {
+        return end_with(out, FAULT_MEMORY, 8);
+    };
+    let ended = session(rt, alloc, opened, index, &commands, show_tags, out, log_out);
+    match ended.stopped {
+        None => Status(0),
+        Some(why) => end_stopped(alloc, why, out),
+    }
+}
+
+// Opens the index, and runs a script that was read whole on it.
+fn run_on_index<R: Threads + Sync, D: Disk, K: Sink, T: Sink>(
+    rt: &R,
+    alloc: Global,
+    index: &mut D,
+    workers: usize,
+    show_tags: bool,
+    bytes: &[u8],
+    out: &mut K,
+    log_out: &mut T,
+) -> Status
+    requires some { 1 ≤ workers }
+    requires many { workers ≤ 64 }
+    requires few { length bytes.now ≤ 2 ^ 26 }
+    ensures runs { RunsScript show_tags bytes.now (D.state index.old) (D.state index.new) (K.state out.old) (K.state out.new) (T.state log_out.old) (T.state log_out.new) result.0 }
+    ensures ends { HasRefused (D.state index.old) (D.state index.new) (K.state out.old) (K.state out.new) (T.state log_out.old) (T.state log_out.new) result.0 }
+    ensures out_later { (K.state out.old).faults ≤ (K.state out.new).faults }
+    ensures log_later { (T.state log_out.old).faults ≤ (T.state log_out.new).faults }
+{
+    fault_is_not_open();
+    one_live_slot();
+    let (head, _) = match open_index(index, out) {
+        Ok(opened) => opened,
+        Err(status) => return status,
+    };
+    let mut opened = match Index::open_write(index, space_of(&head)) {
+        Ok(opened) => opened,
+        Err(fault) => return end_unopened(fault, out),
+    };
+    opened.set_workers(workers);
+    let Ok(()) = opened.use_cache(alloc, KEPT_NODES) else {
+        return end_with(out, FAULT_MEMORY, 8);
+    };
+    run_opened(
+        rt,
+        alloc,
+        &mut opened,
+        index,
+        show_tags,
+        bytes,
+        out,
+        log_out,
+    )
+}
+
+/// Runs the script of `input` on the index, and writes each reply to `out` and the log of each query to `log_out`. Loads share
+/// their work among `workers` threads, 1 to 64. Status 3: the input could not be read; 4: a reply or a log could not be written;
+/// 5: the disk failed; 6: the file is no index of version 2; 7: the input is longer than 2 ^ 26 bytes; 8: want of memory; 9: a
+/// page of a file that is not sound is damaged.
+pub fn run_session<R: Threads + Sync, D: Disk, S: Source, K: Sink, T: Sink>(
+    rt: &R,
+    alloc: Global,
+    index: &mut D,
+    workers: usize,
+    show_tags: bool,
+    input: &mut S,
+    out: &mut K,
+    log_out: &mut T,
+) -> Status
+    requires some { 1 ≤ workers }
+    requires many { workers ≤ 64 }
+    ensures runs { RunsSession show_tags (S.left input.old) (D.state index.old) (D.state index.new) (K.state out.old) (K.state out.new) (T.state log_out.old) (T.state log_out.new) result.0 }
+    ensures statuses { IsSessionStatus result.0 }
+    // A failed read or write is told only where the object's count of faults rose.
+    ensures input { result.0 ≡ 3 → Rose (S.faults input.old) (S.faults input.new) }
+    ensures output { result.0 ≡ 4 → Rose (K.state out.old).faults (K.state out.new).faults ⊎ Rose (T.state log_out.old).faults (T.state log_out.new).faults }
+    // Too long an input is told exactly where more than 2 ^ 26 bytes were taken.
+    ensures long { TakesUpTo (2 ^ 26) (S.left input.old) (S.left input.new) (result.0 ≡ 7) }
+    // A session that is done has taken all input.
+    ensures end { result.0 ≡ 0 → IsAtEnd (S.left input.new) }
+    ensures counts { (S.faults input.old ≤ S.faults input.new) × ((K.state out.old).faults ≤ (K.state out.new).faults) × ((T.state log_out.old).faults ≤ (T.state log_out.new).faults) }
+{
+    match read_all(alloc, input, MOST_INPUT) {
+        Ok(bytes) => run_on_index(rt, alloc, index, workers, show_tags, &bytes, out, log_out),
+        Err(ReadAll::Fault) => end_with(out, b"fault input\n", 3),
+        Err(ReadAll::TooLong) => end_with(out, b"fault long\n", 7),
+        Err(ReadAll::Memory) => end_with(out, FAULT_MEMORY, 8),
+    }
+}
