@@ -9,6 +9,7 @@ use index_core::Index;
 use metric_laws::{Memory, Metric};
 use node_page::Head;
 use outside_io::{MemorySink, Sink};
+use page_store::PageFault;
 use prune_log::decode_frames;
 use rows_text::read_script;
 use shadow_root::{OpenFault, create};
@@ -301,4 +302,40 @@ fn a_session_is_stopped_at_each_call_of_its_disk(rt: HostRuntime) -> Result<(), 
     }
     assert_eq!(&rt; acknowledged, 5);
     Ok(())
+}
+
+// The bytes of an index of one object, of whose root's page one byte is changed.
+fn damaged_file<R: AllocGlobal + Abort + Threads + Sync>(rt: &R) -> Result<Vec<u8>, Fail> {
+    let alloc = rt.alloc();
+    let mut disk = empty_disk(alloc, None)?;
+    check_whole(rt, &mut disk, b"insert,7\n", false, "id 0\n", (1, 0))?;
+    let mut bytes = disk.file().to_vec(alloc)?;
+    if let Some(byte) = bytes.get_mut(4 * 4096 + 1) {
+        *byte = 1;
+    }
+    Ok(bytes)
+}
+
+// A session ends at the first command that comes to the page.
+fn check_damaged<R: AllocGlobal + Abort + Threads + Sync, D: Disk>(
+    rt: &R,
+    disk: &mut D,
+) -> Result<(), Fail> {
+    let alloc = rt.alloc();
+    let mut out = sink_of(alloc, &[])?;
+    let mut log_out = sink_of(alloc, &[])?;
+    let script = b"count\nhello\nrange,0,7\ncount\n";
+    let ended = run(rt, disk, script, false, &mut out, &mut log_out)?;
+    assert!(rt; matches!(ended.stopped, Some(Stop::Damaged(PageFault::Bad(4, _)))));
+    assert_eq!(rt; ended.acknowledged, 2);
+    assert_eq!(rt; out.written(), b"count 1\nrefused command\n".as_slice());
+    assert!(rt; log_out.written().is_empty());
+    Ok(())
+}
+
+#[test]
+fn a_session_ends_at_a_damaged_page(rt: HostRuntime) -> Result<(), Fail> {
+    let alloc = rt.alloc();
+    let mut disk = disk_of(alloc, damaged_file(&rt)?, None)?;
+    check_damaged(&rt, &mut disk)
 }
