@@ -123,69 +123,77 @@ fn count_logs(alloc: Global, frames: &[u8]) -> Result<usize, Fail> {
     Ok(decode_frames(alloc, frames)?.len())
 }
 
-// All of a script of so many commands is done, with these replies and so many logs.
+// A script that is done whole: whether its replies show tags, the replies, and how many commands and logs there are.
+#[derive(Clone, Copy)]
+struct Whole<'a> {
+    script: &'a [u8],
+    show: bool,
+    replies: &'a str,
+    commands: u64,
+    logs: usize,
+}
+
+// All commands of a script are done, with these replies and so many logs.
 fn check_whole<R: AllocGlobal + Abort + Threads + Sync, D: Disk>(
     rt: &R,
     disk: &mut D,
-    script: &[u8],
-    show: bool,
-    replies: &str,
-    counts: (u64, usize),
+    case: &Whole<'_>,
 ) -> Result<(), Fail> {
     let alloc = rt.alloc();
     let mut out = sink_of(alloc, &[])?;
     let mut log_out = sink_of(alloc, &[])?;
-    let ended = run(rt, disk, script, show, &mut out, &mut log_out)?;
-    assert_eq!(rt; ended.stopped, None);
-    assert_eq!(rt; out.written(), replies.as_bytes());
-    let logs = count_logs(alloc, log_out.written())?;
-    assert_eq!(rt; (ended.acknowledged, logs), counts);
+    let ended = run(rt, disk, case.script, case.show, &mut out, &mut log_out)?;
+    assert_eq!(rt; (ended.acknowledged, ended.stopped), (case.commands, None));
+    assert_eq!(rt; out.written(), case.replies.as_bytes());
+    assert_eq!(rt; count_logs(alloc, log_out.written())?, case.logs);
     Ok(())
 }
 
-// A script, whether its replies show tags, the replies, and how many commands and logs there are.
-type Whole = (&'static [u8], bool, &'static str, (u64, usize));
-
-const WHOLE: [Whole; 5] = [
-    (
-        b"insert,7\ninsert,3\ninsert,12\nrange,4,5\nnearest,2,6\ncount\ninsert,x\nload,1\n5\n",
-        false,
-        "id 0\nid 1\nid 2\nhits 2\n0 2\n1 2\nhits 2\n0 1\n1 3\ncount 3\nrefused number\nrefused notempty\n",
-        (8, 2),
-    ),
-    (
-        b"tload,3\n700,7\n701,3\n702,12\ncursor,5\nnext,0,2\nnext,0,5\nnext,0,1\nclose,0\nnext,0,1\ncursor,0\n",
-        true,
-        "loaded 3\ncursor 0\nnext 2\n0 700 2\n1 701 2\nnext 1\n2 702 7\nnext 0\nclosed 0\nrefused nocursor\ncursor 1\n",
-        (8, 0),
-    ),
-    (
-        b"tinsert,900,5\ninsert,7\nrange,10,5\n",
-        true,
-        "id 0\nid 1\nhits 2\n0 900 0\n1 1 2\n",
-        (3, 1),
-    ),
-    (
-        b"tinsert,900,5\ninsert,7\nrange,10,5\n",
-        false,
-        "id 0\nid 1\nhits 2\n0 0\n1 2\n",
-        (3, 1),
-    ),
-    (
-        b"nearest,1,5\nload,2\n1\n4\n",
-        false,
-        "hits 0\nloaded 2\n",
-        (2, 1),
-    ),
+const WHOLE: [Whole<'static>; 5] = [
+    Whole {
+        script: b"insert,7\ninsert,3\ninsert,12\nrange,4,5\nnearest,2,6\ncount\ninsert,x\nload,1\n5\n",
+        show: false,
+        replies: "id 0\nid 1\nid 2\nhits 2\n0 2\n1 2\nhits 2\n0 1\n1 3\ncount 3\nrefused number\nrefused notempty\n",
+        commands: 8,
+        logs: 2,
+    },
+    Whole {
+        script: b"tload,3\n700,7\n701,3\n702,12\ncursor,5\nnext,0,2\nnext,0,5\nnext,0,1\nclose,0\nnext,0,1\ncursor,0\n",
+        show: true,
+        replies: "loaded 3\ncursor 0\nnext 2\n0 700 2\n1 701 2\nnext 1\n2 702 7\nnext 0\nclosed 0\nrefused nocursor\ncursor 1\n",
+        commands: 8,
+        logs: 0,
+    },
+    Whole {
+        script: b"tinsert,900,5\ninsert,7\nrange,10,5\n",
+        show: true,
+        replies: "id 0\nid 1\nhits 2\n0 900 0\n1 1 2\n",
+        commands: 3,
+        logs: 1,
+    },
+    Whole {
+        script: b"tinsert,900,5\ninsert,7\nrange,10,5\n",
+        show: false,
+        replies: "id 0\nid 1\nhits 2\n0 0\n1 2\n",
+        commands: 3,
+        logs: 1,
+    },
+    Whole {
+        script: b"nearest,1,5\nload,2\n1\n4\n",
+        show: false,
+        replies: "hits 0\nloaded 2\n",
+        commands: 2,
+        logs: 1,
+    },
 ];
 
 #[test]
 fn sessions_are_answered(rt: HostRuntime) -> Result<(), Fail> {
     turns_are_their_meaning();
     let alloc = rt.alloc();
-    for (script, show, replies, counts) in WHOLE {
+    for case in WHOLE {
         let mut disk = empty_disk(alloc, None)?;
-        check_whole(&rt, &mut disk, script, show, replies, counts)?;
+        check_whole(&rt, &mut disk, &case)?;
     }
     Ok(())
 }
@@ -193,24 +201,67 @@ fn sessions_are_answered(rt: HostRuntime) -> Result<(), Fail> {
 // Each command reads or writes, and each second one has a log.
 const MIXED: &[u8] = b"insert,7\nrange,2,6\ninsert,9\nnearest,1,0\n";
 
-// Which puts of the replies and of the logs fail, how many commands are acknowledged, what is replied, how many logs are
-// written, and how many objects there are then.
-type Broken = (
-    &'static [u64],
-    &'static [u64],
-    u64,
-    &'static str,
-    usize,
-    u32,
-);
+// Which puts of the replies and of the logs fail in a session of the mixed commands, how many of these are acknowledged,
+// what is replied, how many logs are written, and how many objects there are then.
+#[derive(Clone, Copy)]
+struct Broken {
+    fails: &'static [u64],
+    log_fails: &'static [u64],
+    acknowledged: u64,
+    replies: &'static str,
+    logs: usize,
+    count: u32,
+}
 
 const BROKEN: [Broken; 6] = [
-    (&[0], &[], 0, "", 0, 1),
-    (&[1], &[], 1, "id 0\n", 1, 1),
-    (&[2], &[], 2, "id 0\nhits 1\n0 1\n", 1, 2),
-    (&[3], &[], 3, "id 0\nhits 1\n0 1\nid 1\n", 2, 2),
-    (&[], &[0], 1, "id 0\n", 0, 1),
-    (&[], &[1], 3, "id 0\nhits 1\n0 1\nid 1\n", 1, 2),
+    Broken {
+        fails: &[0],
+        log_fails: &[],
+        acknowledged: 0,
+        replies: "",
+        logs: 0,
+        count: 1,
+    },
+    Broken {
+        fails: &[1],
+        log_fails: &[],
+        acknowledged: 1,
+        replies: "id 0\n",
+        logs: 1,
+        count: 1,
+    },
+    Broken {
+        fails: &[2],
+        log_fails: &[],
+        acknowledged: 2,
+        replies: "id 0\nhits 1\n0 1\n",
+        logs: 1,
+        count: 2,
+    },
+    Broken {
+        fails: &[3],
+        log_fails: &[],
+        acknowledged: 3,
+        replies: "id 0\nhits 1\n0 1\nid 1\n",
+        logs: 2,
+        count: 2,
+    },
+    Broken {
+        fails: &[],
+        log_fails: &[0],
+        acknowledged: 1,
+        replies: "id 0\n",
+        logs: 0,
+        count: 1,
+    },
+    Broken {
+        fails: &[],
+        log_fails: &[1],
+        acknowledged: 3,
+        replies: "id 0\nhits 1\n0 1\nid 1\n",
+        logs: 1,
+        count: 2,
+    },
 ];
 
 // A session of the mixed commands ends where a put fails.
@@ -219,18 +270,17 @@ fn check_broken<R: AllocGlobal + Abort + Threads + Sync, D: Disk>(
     disk: &mut D,
     case: Broken,
 ) -> Result<(), Fail> {
-    let (fails, log_fails, acknowledged, replies, logs, count) = case;
     let alloc = rt.alloc();
-    let mut out = sink_of(alloc, fails)?;
-    let mut log_out = sink_of(alloc, log_fails)?;
+    let mut out = sink_of(alloc, case.fails)?;
+    let mut log_out = sink_of(alloc, case.log_fails)?;
     let ended = run(rt, disk, MIXED, false, &mut out, &mut log_out)?;
     assert_eq!(rt;
         (ended.acknowledged, ended.stopped),
-        (acknowledged, Some(Stop::Sink))
+        (case.acknowledged, Some(Stop::Sink))
     );
-    assert_eq!(rt; out.written(), replies.as_bytes());
-    assert_eq!(rt; count_logs(alloc, log_out.written())?, logs);
-    assert_eq!(rt; open_on(disk)?.count(), count);
+    assert_eq!(rt; out.written(), case.replies.as_bytes());
+    assert_eq!(rt; count_logs(alloc, log_out.written())?, case.logs);
+    assert_eq!(rt; open_on(disk)?.count(), case.count);
     Ok(())
 }
 
@@ -278,14 +328,14 @@ fn goes_on<R: AllocGlobal + Abort + Threads + Sync, D: Disk>(
     assert!(rt; count == acknowledged || count == acknowledged.saturating_add(1));
     let more = count.saturating_add(1);
     let replies = format!(in rt.alloc(); "id {count}\ncount {more}\n")?;
-    check_whole(
-        rt,
-        disk,
-        b"insert,5\ncount\n",
-        false,
-        replies.as_str(),
-        (2, 0),
-    )
+    let case = Whole {
+        script: b"insert,5\ncount\n",
+        show: false,
+        replies: replies.as_str(),
+        commands: 2,
+        logs: 0,
+    };
+    check_whole(rt, disk, &case)
 }
 
 #[test]
@@ -304,11 +354,19 @@ fn a_session_is_stopped_at_each_call_of_its_disk(rt: HostRuntime) -> Result<(), 
     Ok(())
 }
 
+const ONE: Whole<'static> = Whole {
+    script: b"insert,7\n",
+    show: false,
+    replies: "id 0\n",
+    commands: 1,
+    logs: 0,
+};
+
 // The bytes of an index of one object, of whose root's page one byte is changed.
 fn damaged_file<R: AllocGlobal + Abort + Threads + Sync>(rt: &R) -> Result<Vec<u8>, Fail> {
     let alloc = rt.alloc();
     let mut disk = empty_disk(alloc, None)?;
-    check_whole(rt, &mut disk, b"insert,7\n", false, "id 0\n", (1, 0))?;
+    check_whole(rt, &mut disk, &ONE)?;
     let mut bytes = disk.file().to_vec(alloc)?;
     if let Some(byte) = bytes.get_mut(4 * 4096 + 1) {
         *byte = 1;
