@@ -1,34 +1,32 @@
 -- What a query of a session answers, and what the opening of a cursor does.
-use Rattle.std.proofs.Common.{◌≡◌, ◌⊎◌, ℕ, ◌+◌, ◌≤◌, Bool, true, false, List, [], ◌∷◌, ◌++◌, length, map, min, inl, inr, refl, sym, ap, subst, ◌∙◌, arith, Option, Some, None, Result, Ok, Err}
-use Rattle.std.specs.Prelude.{IsTrue, MatchOption, OnOk, IfOk, IfErr, codes, flat_map, slice_index_or}
+use Rattle.std.proofs.Common.{◌≡◌, ℕ, ◌≤◌, Bool, true, false, List, [], ◌∷◌, ◌++◌, length, map, min, refl, sym, ap, subst, ◌∙◌, arith, Option, Some, None, Result, Ok, Err}
+use Rattle.std.specs.Prelude.{MatchOption, IfOk, IfErr, codes, flat_map, slice_index_or}
 use Rattle.metric_laws.specs.Space.{Space, bound}
 use Rattle.outside_io.specs.Causes.{Rose}
 use Rattle.disk_model.specs.Disk.{DiskState}
 use Rattle.scan_model.specs.declared.hit.Hit.{Hit}
 use Rattle.scan_model.specs.declared.query.Query.{Query}
 use Rattle.rows_text.specs.declared.command.Command.{Command}
-use Rattle.rows_text.specs.declared.reply.Reply.{Reply}
 use Rattle.rows_text.specs.declared.reply.Reply.TheVariants as reply
-use Rattle.rows_text.specs.Meaning.{Holdings, State, Step, hits_reply, step, tags_of, TagsAre}
-use Rattle.rows_text.specs.Texts.{counted, hit_line, tagged_lines, text}
+use Rattle.rows_text.specs.Meaning.{Holdings, hits_reply, step, tags_of, TagsAre}
+use Rattle.rows_text.specs.Texts.{counted, hit_line, text}
 use Rattle.plain_scan.specs.OpenCursors.{OpenCursors}
 use Rattle.page_store.specs.declared.pages.PageFault.{PageFault}
 use Rattle.page_store.specs.declared.pages.PageFault.TheVariants as page
 use Rattle.log_model.specs.declared.logs.Found.{Found}
-use Rattle.log_model.specs.declared.logs.Log.{Log}
 use Rattle.log_model.specs.Grammar.{IsLawfulLog}
 use Rattle.log_model.specs.Laws.{scan_answers}
-use Rattle.log_model.specs.Sound.{IsLogOf, IsSoundLog}
+use Rattle.log_model.specs.Sound.{IsSoundLog}
 use Rattle.tree_shape.specs.Tree.{tags_by_id}
 use Rattle.log_model.proofs.LeastLog.{least_sound}
 use Rattle.range_search.specs.Searched.{HasWalkCause}
 use Rattle.nearest_search.specs.Searched.{HasNearestCause}
 use Rattle.log_model.specs.Counts.{count_up}
 use Rattle.log_model.specs.Walk.{search_at}
-use Rattle.hit_tags.specs.Tags.{HasTagsCause, IsShown, object_tags}
+use Rattle.hit_tags.specs.Tags.{HasTagsCause}
 use Rattle.index_core.specs.declared.faults.IndexFault.{IndexFault}
 use Rattle.index_core.specs.declared.faults.IndexFault.TheVariants as fault
-use Rattle.index_core.specs.Answers.{HasRangeCause, HasReachCause, HasSearched, HasTagCause, IsAnswerOn, IsSoundOn, points_on, tags_on}
+use Rattle.index_core.specs.Answers.{HasRangeCause, HasReachCause, HasSearched, HasTagCause, IsSoundOn, points_on, tags_on}
 use Rattle.index_core.specs.Causes.{HasReadCause, MayComeAnytime, IsDamage as IsWalkDamage}
 use Rattle.index_core.specs.Files.{OpenFile, IsLawfulFile, OnlyReads, nodes_on, pages_on}
 use Rattle.index_core.specs.Index.{OpenIndex, StandsAlone}

@@ -1,35 +1,31 @@
 -- Inserts and loads of a session, by what the index says of them.
-use Rattle.std.proofs.Common.{◌≡◌, ◌≢◌, ◌⊎◌, ◌↔◌, ℕ, zero, suc, ◌+◌, ◌-◌, ◌^◌, ◌≤◌, ◌<◌, Bool, true, false, List, [], ◌∷◌, ◌++◌, length, take, inl, inr, refl, sym, ap, subst, ◌∙◌, arith, Option, Some, None, Result, Ok, Err}
-use Rattle.std.specs.Prelude.{IsTrue, MatchOption, OnOk, IfOk, IfErr, nat_lt, ◌==◌, if◌then◌else◌}
+use Rattle.std.proofs.Common.{◌≡◌, ◌≢◌, ◌↔◌, ℕ, zero, suc, ◌+◌, ◌-◌, ◌^◌, ◌≤◌, ◌<◌, Bool, true, false, List, [], ◌∷◌, ◌++◌, length, take, inl, inr, refl, sym, ap, ◌∙◌, arith, Some, None, Result, Ok, Err}
+use Rattle.std.specs.Prelude.{IsTrue, IfErr, nat_lt}
 use Rattle.std.specs.List.{range_with_len}
 use Rattle.metric_laws.specs.Space.{Space}
-use Rattle.outside_io.specs.Causes.{Rose}
 use Rattle.disk_model.specs.Disk.{DiskState}
 use Rattle.rows_text.specs.declared.command.Command.{Command}
 use Rattle.rows_text.specs.declared.command.Command.TheVariants as command
 use Rattle.rows_text.specs.declared.refusal.Refusal.TheVariants as refusal
-use Rattle.rows_text.specs.declared.reply.Reply.{Reply}
 use Rattle.rows_text.specs.declared.reply.Reply.TheVariants as reply
-use Rattle.rows_text.specs.Meaning.{Holdings, State, Step, execute, has_points_of, insert_step, load_step, numbers_from, step, TagsAre}
+use Rattle.rows_text.specs.Meaning.{Step, execute, has_points_of, insert_step, numbers_from, step}
 use Rattle.plain_scan.specs.OpenCursors.{OpenCursors, with_cursors}
 use Rattle.tree_shape.specs.Plain.{Object}
 use Rattle.tree_shape.specs.Tree.{objects}
 use Rattle.page_store.specs.declared.pages.PageFault.{PageFault}
 use Rattle.page_store.specs.declared.pages.PageFault.TheVariants as page
 use Rattle.log_model.proofs.ByScan.{length-points}
-use Rattle.free_pages.specs.Keeping.{FreePages}
 use Rattle.index_core.specs.declared.faults.IndexFault.{IndexFault}
 use Rattle.index_core.specs.declared.faults.IndexFault.TheVariants as fault
 use Rattle.index_core.specs.Answers.{IsSoundOn, points_on, tags_on}
-use Rattle.index_core.specs.Causes.{BlamesNoPage, HasInsertCause, HasListCause, IsPathDamage, IsDamage as IsWalkDamage}
-use Rattle.index_core.specs.Files.{OpenFile, IsLawfulFile, nodes_on}
+use Rattle.index_core.specs.Causes.{BlamesNoPage, HasInsertCause, IsPathDamage, IsDamage as IsWalkDamage}
+use Rattle.index_core.specs.Files.{IsLawfulFile, nodes_on}
 use Rattle.index_core.specs.Index.{OpenIndex, StandsAlone}
-use Rattle.index_core.specs.Loading.{HasLoadingCause, ids, load_fault}
-use Rattle.index_core.specs.Writing.{Write, Inserts, Loads, HasWritten}
+use Rattle.index_core.specs.Writing.{Inserts, HasWritten}
 use Rattle.session_run.specs.Session.{IsDamage, setting_of, state_on}
 use Rattle.session_run.specs.Steps.{HasStepCause, HasStepped, answer_of_fault, written_answer}
 use Rattle.session_run.specs.Turns.{Hinders, answered_query, query_of, version_on, write_of}
-use Rattle.session_run.proofs.Writes.{IsWriteOf, write_stepped}
+use Rattle.session_run.proofs.Writes.{write_stepped}
 
 -- ids from 0 on
 pub ids_are : (first n : ℕ) → numbers_from first n ≡ range_with_len first n

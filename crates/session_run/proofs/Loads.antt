@@ -1,21 +1,20 @@
 -- Loads of a session, by what the index says of them.
-use Rattle.std.proofs.Common.{◌≡◌, ◌≢◌, ◌⊎◌, ◌↔◌, ℕ, zero, suc, ◌+◌, ◌-◌, ◌^◌, ◌≤◌, ◌<◌, Bool, true, false, List, [], ◌∷◌, ◌++◌, length, inl, inr, refl, sym, ap, subst, ◌∙◌, arith, Option, Some, None, Result, Ok, Err}
-use Rattle.std.specs.Prelude.{IsTrue, MatchOption, OnOk, IfOk, IfErr, nat_lt, ◌==◌, if◌then◌else◌}
+use Rattle.std.proofs.Common.{◌≡◌, ◌≢◌, ℕ, ◌-◌, ◌^◌, ◌≤◌, Bool, true, false, List, length, refl, sym, ap, ◌∙◌, arith, Option, Some, None, Result, Ok, Err}
+use Rattle.std.specs.Prelude.{IsTrue, MatchOption, IfErr, nat_lt, ◌==◌}
 use Rattle.metric_laws.specs.Space.{Space}
 use Rattle.disk_model.specs.Disk.{DiskState}
 use Rattle.metric_laws.specs.Rows.{Table}
 use Rattle.rows_text.specs.declared.command.Command.{Command}
 use Rattle.rows_text.specs.declared.command.Command.TheVariants as command
 use Rattle.rows_text.specs.declared.refusal.Refusal.TheVariants as refusal
-use Rattle.rows_text.specs.declared.reply.Reply.{Reply}
 use Rattle.rows_text.specs.declared.reply.Reply.TheVariants as reply
 use Rattle.rows_text.specs.Meaning.{State, Step, execute, has_points_of, load_step, step}
 use Rattle.plain_scan.specs.OpenCursors.{OpenCursors, with_cursors}
 use Rattle.free_pages.specs.Keeping.{FreePages}
 use Rattle.index_core.specs.declared.faults.IndexFault.{IndexFault}
 use Rattle.index_core.specs.declared.faults.IndexFault.TheVariants as fault
-use Rattle.index_core.specs.Answers.{IsSoundOn, points_on, tags_on}
-use Rattle.index_core.specs.Causes.{BlamesNoPage, HasListCause}
+use Rattle.index_core.specs.Answers.{IsSoundOn, points_on}
+use Rattle.index_core.specs.Causes.{BlamesNoPage}
 use Rattle.index_core.specs.Files.{IsLawfulFile}
 use Rattle.index_core.specs.Index.{OpenIndex, StandsAlone}
 use Rattle.index_core.specs.Loading.{HasLoadCause, HasLoadingCause, ids, load_fault}
@@ -24,7 +23,7 @@ use Rattle.session_run.specs.Session.{setting_of, state_on}
 use Rattle.session_run.specs.Steps.{HasStepCause, HasStepped, answer_of_fault, written_answer}
 use Rattle.session_run.specs.Turns.{Hinders, answered_query, query_of, version_on, write_of}
 use Rattle.session_run.proofs.Inserts.{count_is, ids_are, walk_damage}
-use Rattle.session_run.proofs.Writes.{IsWriteOf, write_stepped}
+use Rattle.session_run.proofs.Writes.{write_stepped}
 
 some_of : (n count : ℕ) → n ≡ count → (count == 0) ≡ false → nat_lt 0 n ≡ true
 some_of n count is some = grind arith

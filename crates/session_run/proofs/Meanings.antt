@@ -1,12 +1,9 @@
 -- The turns of a session are their meaning.
-use Rattle.std.proofs.Common.{◌≡◌, List, [], ◌∷◌, refl, sym, ap, subst, ◌∙◌, None, map}
-use Rattle.std.specs.List.{AllByRecursion}
-use Rattle.node_page.specs.declared.head.Head.{Head}
-use Rattle.rows_text.specs.declared.refusal.Refusal.{Refusal}
+use Rattle.std.proofs.Common.{◌≡◌, List, [], ◌∷◌, refl, sym, ap, ◌∙◌}
 use Rattle.rows_text.specs.declared.reply.Reply.{Reply}
-use Rattle.rows_text.specs.Meaning.{Setting, State, Step, after, hindered, replies, step}
+use Rattle.rows_text.specs.Meaning.{Step, after, replies, step}
 use Rattle.session_run.specs.Laws.{TurnsAreTheirMeaning}
-use Rattle.session_run.specs.Turns.{AreTurns, Turn, Version, commands_of, state_after}
+use Rattle.session_run.specs.Turns.{commands_of}
 
 pub turns_are_their_meaning : TurnsAreTheirMeaning
 turns_are_their_meaning setting head state file [] are none = (refl, refl)

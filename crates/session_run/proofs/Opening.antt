@@ -1,35 +1,31 @@
 -- The opening of a cursor, and the commands that touch no disk.
-use Rattle.std.proofs.Common.{◌≡◌, ◌⊎◌, ℕ, zero, suc, ◌+◌, ◌≤◌, Bool, true, false, List, [], ◌∷◌, ◌++◌, length, map, take, max, inl, inr, refl, sym, ap, subst, ◌∙◌, arith, Option, Some, None, Result, Ok, Err}
-use Rattle.std.specs.Prelude.{IsTrue, MatchOption, nat_lt, not, slice_index_or}
-use Rattle.metric_laws.specs.Space.{Space, bound}
-use Rattle.outside_io.specs.Causes.{Rose}
+use Rattle.std.proofs.Common.{◌≡◌, ℕ, zero, suc, ◌+◌, ◌≤◌, Bool, true, false, List, [], ◌∷◌, length, map, max, refl, sym, ap, subst, ◌∙◌, arith, Option, Some, None, Ok, Err}
+use Rattle.std.specs.Prelude.{IsTrue, nat_lt, not, slice_index_or}
+use Rattle.metric_laws.specs.Space.{Space}
 use Rattle.disk_model.specs.Disk.{DiskState}
-use Rattle.scan_model.specs.declared.hit.Hit.{Hit}
 use Rattle.scan_model.specs.declared.query.Query.{Query}
 use Rattle.scan_model.specs.declared.query.Query.TheVariants.{Nearest}
-use Rattle.scan_model.specs.Scan.{nearest_hits, range_hits}
+use Rattle.scan_model.specs.Scan.{nearest_hits}
 use Rattle.rows_text.specs.declared.command.Command.{Command}
 use Rattle.rows_text.specs.declared.command.Command.TheVariants as command
 use Rattle.rows_text.specs.declared.refusal.Refusal.{Refusal}
 use Rattle.rows_text.specs.declared.refusal.Refusal.TheVariants as refusal
 use Rattle.rows_text.specs.declared.reply.Reply.{Reply}
 use Rattle.rows_text.specs.declared.reply.Reply.TheVariants as reply
-use Rattle.rows_text.specs.Meaning.{Cursor, Holdings, State, Step, accepts, close_from, cursor_named, execute, has_points_of, next_from, cursor_over, cursor_step, most_cursors, step, tags_of, TagsAre}
+use Rattle.rows_text.specs.Meaning.{Cursor, Holdings, State, Step, accepts, close_from, cursor_named, execute, has_points_of, next_from, most_cursors, step, tags_of, TagsAre}
 use Rattle.plain_scan.specs.OpenCursors.{OpenCursors, opened, with_cursors}
 use Rattle.tree_shape.specs.Tree.{objects, tags_by_id}
 use Rattle.page_store.specs.Kept.{unchanged_by_none}
 use Rattle.log_model.specs.declared.logs.Found.{Found}
-use Rattle.log_model.specs.Laws.{scan_answers}
 use Rattle.log_model.specs.Sound.{IsSoundLog}
 use Rattle.log_model.proofs.ByScan.{length-points}
 use Rattle.log_model.proofs.LeastLog.{least_sound}
 use Rattle.hit_tags.specs.Tags.{IsShown, object_tags}
-use Rattle.index_core.specs.Answers.{HasSearched, HasTagged, IsSoundOn, points_on, tags_on}
+use Rattle.index_core.specs.Answers.{HasSearched, IsSoundOn, tags_on}
 use Rattle.index_core.specs.Files.{OpenFile, IsLawfulFile, OnlyReads, nodes_on}
 use Rattle.index_core.specs.Index.{OpenIndex, StandsAlone}
 use Rattle.index_core.specs.Lending.{same_room_by_none}
 use Rattle.index_core.proofs.Written.{reads_both}
-use Rattle.session_run.specs.declared.answer.Answer.{Answer}
 use Rattle.session_run.specs.declared.stop.Stop.TheVariants as stop
 use Rattle.session_run.specs.Session.{setting_of, state_on}
 use Rattle.session_run.specs.Steps.{HasStepped, plain_answer}

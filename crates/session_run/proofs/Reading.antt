@@ -1,21 +1,20 @@
 -- What a command does that leaves the objects of a file as they are.
-use Rattle.std.proofs.Common.{◌≡◌, ◌⊎◌, ℕ, ◌+◌, ◌≤◌, Bool, true, false, List, inl, inr, refl, sym, ap, subst, ◌∙◌, Option, Some, None, Result, Ok, Err}
-use Rattle.std.specs.Prelude.{IsTrue, MatchOption, OnOk, IfOk, IfErr}
+use Rattle.std.proofs.Common.{◌≡◌, ℕ, ◌+◌, ◌≤◌, Bool, true, false, List, inl, refl, sym, ap, subst, ◌∙◌, Option, Ok, Err}
+use Rattle.std.specs.Prelude.{MatchOption}
 use Rattle.metric_laws.specs.Space.{Space}
 use Rattle.disk_model.specs.Disk.{DiskState, MayLeave, EachImage}
 use Rattle.disk_model.specs.Moments.{weakened}
 use Rattle.rows_text.specs.declared.command.Command.{Command}
 use Rattle.rows_text.specs.declared.refusal.Refusal.{Refusal}
 use Rattle.rows_text.specs.declared.reply.Reply.{Reply}
-use Rattle.rows_text.specs.declared.reply.Reply.TheVariants as reply
-use Rattle.rows_text.specs.Meaning.{Holdings, State, Step, accepts, hindered, refused, step, TagsAre}
+use Rattle.rows_text.specs.Meaning.{State, Step, accepts, hindered, step, TagsAre}
 use Rattle.rows_text.specs.Texts.{text}
 use Rattle.plain_scan.specs.OpenCursors.{OpenCursors, with_cursors}
-use Rattle.tree_shape.specs.Tree.{IsSoundTree, points_by_id, tags_by_id}
+use Rattle.tree_shape.specs.Tree.{points_by_id, tags_by_id}
 use Rattle.page_store.specs.Reading.{reading, nodes_of}
 use Rattle.log_model.specs.Grammar.{IsLawfulLog}
 use Rattle.index_core.specs.Answers.{IsSoundOn, points_on, tags_on}
-use Rattle.index_core.specs.Files.{OpenFile, IsLawfulFile, OnlyReads, StandsOn, nodes_on}
+use Rattle.index_core.specs.Files.{OpenFile, IsLawfulFile, OnlyReads}
 use Rattle.index_core.specs.Index.{OpenIndex, StandsAlone}
 use Rattle.index_core.specs.Writing.{HasObjects}
 use Rattle.index_core.proofs.Written.{holds, has_still}

@@ -1,16 +1,15 @@
 -- A session, turn by turn.
-use Rattle.std.proofs.Common.{◌≡◌, ◌⊎◌, ℕ, zero, suc, ◌+◌, ◌≤◌, ◌<◌, Bool, true, false, List, [], ◌∷◌, ◌++◌, length, map, drop, get_or, inl, inr, refl, sym, ap, subst, ◌∙◌, arith, append_assoc, length-append, Option, Some, None, Result, Ok, Err}
-use Rattle.std.specs.Prelude.{IsTrue, MatchOption, OnOk, IfOk, IfErr, flat_map}
+use Rattle.std.proofs.Common.{◌≡◌, ◌⊎◌, ℕ, suc, ◌+◌, ◌≤◌, ◌<◌, Bool, List, [], ◌∷◌, ◌++◌, length, drop, get_or, inl, inr, refl, sym, ap, subst, ◌∙◌, arith, append_assoc, length-append, Some, None, Result}
+use Rattle.std.specs.Prelude.{IsTrue}
 use Rattle.std.specs.List.{concat}
 use Rattle.std.specs.Io.KnownBytes.{Appends}
 use Rattle.std.proofs.KnownBytes.{Appends-nil, Appends-trans}
 use Rattle.std.proofs.lemmas.List.{append-nil}
 use Rattle.std.proofs.Math.Seq.{drop-cons}
 use Rattle.metric_laws.specs.Space.{Space}
-use Rattle.outside_io.specs.Bytes.{AppendsPrefix}
 use Rattle.outside_io.specs.Causes.{Rose}
 use Rattle.outside_io.specs.Sinks.{SinkState}
-use Rattle.disk_model.specs.Disk.{DiskState, EachImage, MayLeave}
+use Rattle.disk_model.specs.Disk.{DiskState, EachImage}
 use Rattle.disk_model.specs.Moments.{joined, started, weakened}
 use Rattle.tree_shape.specs.Tree.{IsSoundTree}
 use Rattle.node_page.specs.declared.head.Head.{Head}
@@ -23,8 +22,8 @@ use Rattle.plain_scan.proofs.WrittenLemmas.{front_appended}
 use Rattle.log_model.specs.declared.logs.Log.{Log}
 use Rattle.prune_log.specs.Spelling.{frame_bytes, log_bytes}
 use Rattle.index_core.specs.Answers.{IsSoundOn}
-use Rattle.index_core.specs.Files.{OpenFile, IsLawfulFile}
-use Rattle.index_core.specs.Index.{OpenIndex, MayGoOn, StandsAlone}
+use Rattle.index_core.specs.Files.{IsLawfulFile}
+use Rattle.index_core.specs.Index.{OpenIndex, StandsAlone}
 use Rattle.index_core.proofs.Written.{holds}
 use Rattle.session_run.specs.declared.stop.Stop.{Stop}
 use Rattle.session_run.specs.declared.stop.Stop.TheVariants as stop

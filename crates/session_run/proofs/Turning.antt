@@ -1,9 +1,8 @@
 -- A command whose log and reply are written.
-use Rattle.std.proofs.Common.{◌≡◌, ◌⊎◌, ℕ, ◌+◌, ◌≤◌, Bool, true, false, List, [], ◌∷◌, inl, inr, refl, sym, ap, subst, ◌∙◌, arith, Option, Some, None, Result, Ok, Err}
-use Rattle.std.specs.Prelude.{IsTrue, MatchOption, OnOk, OnErr, IfOk, IfErr}
+use Rattle.std.proofs.Common.{◌≡◌, ◌⊎◌, ℕ, ◌≤◌, Bool, true, false, List, inl, inr, refl, sym, ap, subst, ◌∙◌, arith, Option, Some, None, Result, Ok, Err}
+use Rattle.std.specs.Prelude.{OnOk, OnErr, IfErr}
 use Rattle.std.specs.Io.KnownBytes.{Appends}
 use Rattle.metric_laws.specs.Space.{Space}
-use Rattle.outside_io.specs.Bytes.{AppendsPrefix}
 use Rattle.outside_io.specs.Causes.{Rose}
 use Rattle.outside_io.specs.Sinks.{SinkState}
 use Rattle.disk_model.specs.Disk.{DiskState, EachImage}
@@ -20,8 +19,8 @@ use Rattle.session_run.specs.declared.answer.Answer.{Answer}
 use Rattle.session_run.specs.declared.stop.Stop.{Stop}
 use Rattle.session_run.specs.declared.stop.Stop.TheVariants as stop
 use Rattle.session_run.specs.Session.{HasStopCause, HoldsState, setting_of, state_on}
-use Rattle.session_run.specs.Steps.{HasStepCause, HasStepped, HasTurned, HoldsEither, HoldsOne, IsCut, IsPartlyPut, IsPut, IsStoppedAt, IsTaken}
-use Rattle.session_run.specs.Turns.{Turn, framed, if_any}
+use Rattle.session_run.specs.Steps.{HasStepCause, HasStepped, HasTurned, HoldsEither, HoldsOne, IsCut, IsStoppedAt, IsTaken}
+use Rattle.session_run.specs.Turns.{framed, if_any}
 
 -- a step has the state that is meant, or the one before
 either_state : (why : Option Refusal) (state : State) (done meant : Step) → hindered why state done ≡ meant → (meant.state ≡ done.state) ⊎ (meant.state ≡ state)

@@ -1,6 +1,6 @@
 -- What an insert or a load of a session does.
-use Rattle.std.proofs.Common.{◌≡◌, ◌≢◌, ◌⊎◌, ◌↔◌, ℕ, ◌+◌, ◌-◌, ◌^◌, ◌≤◌, ◌<◌, Bool, true, false, List, [], ◌∷◌, ◌++◌, length, inl, inr, refl, sym, ap, subst, ◌∙◌, arith, Option, Some, None, Result, Ok, Err}
-use Rattle.std.specs.Prelude.{IsTrue, MatchOption, OnOk, IfOk, IfErr}
+use Rattle.std.proofs.Common.{◌≡◌, ◌≢◌, ℕ, ◌-◌, ◌^◌, ◌≤◌, Bool, true, false, inl, inr, refl, sym, ap, subst, ◌∙◌, arith, Option, Some, None, Result, Ok, Err}
+use Rattle.std.specs.Prelude.{MatchOption, IfErr}
 use Rattle.metric_laws.specs.Space.{Space}
 use Rattle.disk_model.specs.Disk.{DiskState, EachImage}
 use Rattle.disk_model.specs.Moments.{weakened}
@@ -10,20 +10,17 @@ use Rattle.rows_text.specs.declared.refusal.Refusal.{Refusal}
 use Rattle.rows_text.specs.declared.refusal.Refusal.TheVariants as refusal
 use Rattle.rows_text.specs.declared.reply.Reply.{Reply}
 use Rattle.rows_text.specs.declared.reply.Reply.TheVariants as reply
-use Rattle.rows_text.specs.Meaning.{Holdings, State, Step, accepts, hindered, step, TagsAre}
+use Rattle.rows_text.specs.Meaning.{State, Step, accepts, hindered, step, TagsAre}
 use Rattle.plain_scan.specs.OpenCursors.{OpenCursors, with_cursors}
-use Rattle.tree_shape.specs.Plain.{tree_of}
-use Rattle.log_model.specs.declared.logs.Log.{Log}
 use Rattle.index_core.specs.declared.faults.IndexFault.{IndexFault}
 use Rattle.index_core.specs.declared.faults.IndexFault.TheVariants as fault
 use Rattle.index_core.specs.Answers.{IsSoundOn, points_on, tags_on}
-use Rattle.index_core.specs.Files.{OpenFile, IsLawfulFile, OnlyReads, nodes_on}
+use Rattle.index_core.specs.Files.{IsLawfulFile, OnlyReads}
 use Rattle.index_core.specs.Index.{OpenIndex, StandsAlone}
-use Rattle.index_core.specs.Writing.{Write, HasObjects, HoldsObjects, HasWritten, IsRefused, answer_to, points_after, tags_after}
-use Rattle.session_run.specs.declared.answer.Answer.{Answer}
+use Rattle.index_core.specs.Writing.{Write, HasObjects, HasWritten, IsRefused, answer_to, points_after, tags_after}
 use Rattle.session_run.specs.declared.stop.Stop.{Stop}
 use Rattle.session_run.specs.declared.stop.Stop.TheVariants as stop
-use Rattle.session_run.specs.Session.{HoldsState, setting_of, state_on}
+use Rattle.session_run.specs.Session.{setting_of, state_on}
 use Rattle.session_run.specs.Steps.{HasStepCause, HasStepped, HoldsOne, IsTaken, answer_of_fault, plain_answer, written_answer}
 use Rattle.session_run.specs.Turns.{HasLog, Hinders, IsHindrance, IsNextVersion, IsVersionAfter, answered_query, version_on, write_of}
 use Rattle.session_run.proofs.Reading.{objects_on, read_stepped, read_stopped, read_taken}

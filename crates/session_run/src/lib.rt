@@ -13,3 +13,6 @@ pub use stop::Stop;
 
 /// Want of memory.
 pub type Memory = std::alloc::AllocError;
+
+#[cfg(test)]
+mod tests;

@@ -1,4 +1,4 @@
-use Rattle.std.proofs.Common.{rules, ◌≡◌, refl, sym, ap, ◌∙◌, subst, List, ℕ}
+use Rattle.std.proofs.Common.{sym, ap, ◌∙◌, List, ℕ}
 use Rattle.rows_text.specs.declared.command.Command.TheVariants as command
 use Rattle.session_run.proofs.Inserts.{inserted_stepped, tag_inserted_stepped}
 use Rattle.session_run.proofs.Loads.{loaded_stepped, tag_loaded_stepped}

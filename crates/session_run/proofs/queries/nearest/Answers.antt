@@ -1,4 +1,4 @@
-use Rattle.std.proofs.Common.{rules, ◌≡◌, refl, sym, ap, ◌∙◌, subst, List, ℕ, Ok}
+use Rattle.std.proofs.Common.{refl, ap, ◌∙◌, subst, List, ℕ, Ok}
 use Rattle.rows_text.specs.declared.command.Command.TheVariants as command
 use Rattle.scan_model.specs.declared.query.Query.TheVariants as query
 use Rattle.index_core.specs.Answers.{HasSearched}

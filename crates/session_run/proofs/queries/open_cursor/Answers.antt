@@ -1,4 +1,4 @@
-use Rattle.std.proofs.Common.{rules, ◌≡◌, refl, sym, ap, ◌∙◌, subst, List, ℕ, max, Ok, arith}
+use Rattle.std.proofs.Common.{◌≡◌, refl, sym, ap, ◌∙◌, subst, List, ℕ, max, Ok, arith}
 use Rattle.rows_text.specs.declared.command.Command.TheVariants as command
 use Rattle.scan_model.specs.declared.query.Query.TheVariants as query
 use Rattle.hit_tags.specs.Tags.{IsShown}
@@ -7,7 +7,7 @@ use Rattle.index_core.specs.Files.{OpenFile, nodes_on}
 use Rattle.index_core.specs.Index.{OpenIndex}
 use Rattle.index_core.proofs.Written.{reads_both}
 use Rattle.session_run.specs.declared.stop.Stop.TheVariants as stop
-use Rattle.session_run.proofs.Asking.{reach_fault, tag_fault}
+use Rattle.session_run.proofs.Asking.{tag_fault}
 use Rattle.session_run.proofs.Opening.{cursor_stepped, full_stepped, not_full, not_less}
 use Rattle.session_run.proofs.Reading.{read_stopped}
 use Rattle.session_run.proofs.queries.open_cursor.Goals as goal

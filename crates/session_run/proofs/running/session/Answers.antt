@@ -1,7 +1,7 @@
-use Rattle.std.proofs.Common.{rules, ◌≡◌, refl, sym, ap, ◌∙◌, subst, List, ℕ, [], length, arith, drop, ◌+◌}
+use Rattle.std.proofs.Common.{◌≡◌, refl, ap, ◌∙◌, subst, ℕ, [], arith, drop, ◌+◌}
 use Rattle.std.proofs.lemmas.List.{drop_all}
 use Rattle.index_core.specs.Files.{IsLawfulFile}
-use Rattle.session_run.proofs.Runs.{HasDone, begun, cause_since, finished, next_item, one_more, stopped, turned_on}
+use Rattle.session_run.proofs.Runs.{begun, finished, next_item, one_more, stopped, turned_on}
 use Rattle.session_run.proofs.running.session.Goals as goal
 
 pub loop-command-init : goal.loop-command-init
