@@ -6,6 +6,7 @@ use outside_io::{MemorySink, MemorySource, Status};
 use std::alloc::{AllocError, Global};
 use std::process::Abort;
 use std::test::Fail;
+use std::thread::Threads;
 
 // The head and the live slot of an index over points of one coordinate: its root, its height, and its numbers of objects and
 // of pages.
@@ -77,7 +78,7 @@ struct Files<'a> {
 }
 
 // Runs a command on two files and on logs, and answers what it put to the log's output.
-fn check<R: AllocGlobal + Abort>(
+fn check<R: AllocGlobal + Abort + Threads + Sync>(
     rt: &R,
     command: &str,
     files: &Files<'_>,
@@ -92,6 +93,7 @@ fn check<R: AllocGlobal + Abort>(
     let mut out = MemorySink::new(alloc, 1000, Vec::new(alloc))?;
     let mut log_out = MemorySink::new(alloc, 1000, Vec::new(alloc))?;
     let ended = run(
+        rt,
         alloc,
         &words,
         &mut index,

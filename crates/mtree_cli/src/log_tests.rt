@@ -5,6 +5,7 @@ use outside_io::{MemorySink, MemorySource, Status};
 use std::alloc::{AllocError, Global};
 use std::process::Abort;
 use std::test::Fail;
+use std::thread::Threads;
 
 // The fields of the pages of a small index: an insert of (3, 4) into an empty one under L1.
 pub const HEAD: [u8; 20] = *b"MTREEIDX\0\x02\x02\x02\x02\x01\0\0\x01\0\0\0";
@@ -130,7 +131,7 @@ fn logs_of(alloc: Global, case: &Case<'_>) -> Result<Vec<u8>, AllocError> {
 }
 
 // Runs a command on an index and on logs.
-pub fn check_run<R: AllocGlobal + Abort>(
+pub fn check_run<R: AllocGlobal + Abort + Threads + Sync>(
     rt: &R,
     command: &str,
     mut index: MemoryDisk,
@@ -144,6 +145,7 @@ pub fn check_run<R: AllocGlobal + Abort>(
     let mut input = MemorySource::new(Vec::new(alloc), 1, Vec::new(alloc));
     let mut log_out = MemorySink::new(alloc, 0, Vec::new(alloc))?;
     let ended = run(
+        rt,
         alloc,
         &words,
         &mut index,
@@ -159,7 +161,7 @@ pub fn check_run<R: AllocGlobal + Abort>(
 }
 
 // Runs a case.
-fn check<R: AllocGlobal + Abort>(rt: &R, case: &Case<'_>) -> Result<(), Fail> {
+fn check<R: AllocGlobal + Abort + Threads + Sync>(rt: &R, case: &Case<'_>) -> Result<(), Fail> {
     let alloc = rt.alloc();
     let index = index_of(alloc, case)?;
     let log_in = MemorySource::new(logs_of(alloc, case)?, 50, fails(alloc, case.log_fails)?);

@@ -12,6 +12,8 @@ mod program;
 mod scan_job;
 mod session_job;
 #[cfg(test)]
+mod session_tests;
+#[cfg(test)]
 mod tests;
 
 use file_jobs::{FAULT_MEMORY, end_with, put_line};

@@ -4,6 +4,7 @@ use outside_io::{MemorySink, MemorySource};
 use std::alloc::{AllocError, Global};
 use std::process::Abort;
 use std::test::Fail;
+use std::thread::Threads;
 
 const SKIP: u8 = 0;
 
@@ -93,7 +94,7 @@ fn frame_of(
 }
 
 // Runs a command on the index of numbers and on a frame.
-fn check<R: AllocGlobal + Abort>(
+fn check<R: AllocGlobal + Abort + Threads + Sync>(
     rt: &R,
     command: &str,
     file: Vec<u8>,

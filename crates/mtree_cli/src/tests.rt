@@ -9,6 +9,7 @@ use std::alloc::{AllocError, Global};
 use std::fs;
 use std::process::Abort;
 use std::test::Fail;
+use std::thread::Threads;
 
 const USAGE: &str = "usage: mtree COMMAND INDEX [options]\n";
 
@@ -43,7 +44,8 @@ pub fn fails(alloc: Global, call: Option<u64>) -> Result<Vec<u64>, AllocError> {
 }
 
 // Runs words on these objects, and on empty ones in the place of the others.
-fn run_on<D: Disk>(
+fn run_on<R: Threads + Sync, D: Disk>(
+    rt: &R,
     alloc: Global,
     words: &[String],
     index: &mut D,
@@ -54,6 +56,7 @@ fn run_on<D: Disk>(
     let mut log_in = MemorySource::new(Vec::new(alloc), 1, Vec::new(alloc));
     let mut log_out = MemorySink::new(alloc, 0, Vec::new(alloc))?;
     Ok(run(
+        rt,
         alloc,
         words,
         index,
@@ -77,7 +80,11 @@ struct Case<'a> {
 }
 
 // Runs a case with an input that gives at most `piece` bytes at once.
-fn check<R: AllocGlobal + Abort>(rt: &R, case: &Case<'_>, piece: usize) -> Result<(), Fail>
+fn check<R: AllocGlobal + Abort + Threads + Sync>(
+    rt: &R,
+    case: &Case<'_>,
+    piece: usize,
+) -> Result<(), Fail>
     requires { 1 ≤ piece }
 {
     let alloc = rt.alloc();
@@ -86,14 +93,17 @@ fn check<R: AllocGlobal + Abort>(rt: &R, case: &Case<'_>, piece: usize) -> Resul
     let mut input = MemorySource::new(bytes, piece, fails(alloc, case.input_fails)?);
     let mut out = MemorySink::new(alloc, 1000, fails(alloc, case.output_fails)?)?;
     let mut index = empty_disk(alloc, 0)?;
-    let status = run_on(alloc, &words, &mut index, &mut input, &mut out)?;
+    let status = run_on(rt, alloc, &words, &mut index, &mut input, &mut out)?;
     assert_eq!(rt; status, Status(case.status));
     assert_eq!(rt; out.written(), case.output.as_bytes());
     Ok(())
 }
 
 // Checks scans that end well: their words, their script and their replies.
-fn check_scans<R: AllocGlobal + Abort>(rt: &R, cases: &[(&str, &str, &str)]) -> Result<(), Fail> {
+fn check_scans<R: AllocGlobal + Abort + Threads + Sync>(
+    rt: &R,
+    cases: &[(&str, &str, &str)],
+) -> Result<(), Fail> {
     for (words, input, output) in cases {
         let case = Case {
             words,
@@ -110,7 +120,10 @@ fn check_scans<R: AllocGlobal + Abort>(rt: &R, cases: &[(&str, &str, &str)]) -> 
 }
 
 // Checks words that ask for no scan.
-fn check_refused<R: AllocGlobal + Abort>(rt: &R, cases: &[&str]) -> Result<(), Fail> {
+fn check_refused<R: AllocGlobal + Abort + Threads + Sync>(
+    rt: &R,
+    cases: &[&str],
+) -> Result<(), Fail> {
     for words in cases {
         let case = Case {
             words,
@@ -126,7 +139,7 @@ fn check_refused<R: AllocGlobal + Abort>(rt: &R, cases: &[&str]) -> Result<(), F
 }
 
 // Checks one run whose input or output fails at a call.
-fn check_fault<R: AllocGlobal + Abort>(
+fn check_fault<R: AllocGlobal + Abort + Threads + Sync>(
     rt: &R,
     input_fails: Option<u64>,
     output_fails: Option<u64>,
@@ -267,7 +280,7 @@ fn words_without_a_scan(rt: HostRuntime) -> Result<(), Fail> {
 }
 
 // Runs the words on this index, with no input.
-fn check_index<R: AllocGlobal + Abort, D: Disk>(
+fn check_index<R: AllocGlobal + Abort + Threads + Sync, D: Disk>(
     rt: &R,
     index: &mut D,
     line: &str,
@@ -278,7 +291,7 @@ fn check_index<R: AllocGlobal + Abort, D: Disk>(
     let words = words(alloc, line)?;
     let mut input = MemorySource::new(Vec::new(alloc), 1, Vec::new(alloc));
     let mut out = MemorySink::new(alloc, 1000, Vec::new(alloc))?;
-    let found = run_on(alloc, &words, index, &mut input, &mut out)?;
+    let found = run_on(rt, alloc, &words, index, &mut input, &mut out)?;
     assert_eq!(rt; found, Status(status));
     assert_eq!(rt; out.written(), output.as_bytes());
     Ok(())
@@ -321,7 +334,7 @@ fn named_files(rt: HostRuntime) -> Result<(), Fail> {
         let mut input = MemorySource::new(Vec::new(alloc), 1, Vec::new(alloc));
         let mut out = MemorySink::new(alloc, 1000, Vec::new(alloc))?;
         let folder = HostFolder::new(&rt);
-        let found = run_on_files(alloc, &words, &folder, &mut input, &mut out);
+        let found = run_on_files(&rt, alloc, &words, &folder, &mut input, &mut out);
         assert_eq!(rt; found, Status(*status), "{}", line);
     }
     fs::remove_file(&rt, "a.mt")?;
@@ -345,7 +358,7 @@ fn an_input_of_one_byte_too_many(rt: HostRuntime) -> Result<(), Fail> {
     let mut input = MemorySource::new(bytes, 1 << 20, Vec::new(alloc));
     let mut out = MemorySink::new(alloc, 1000, Vec::new(alloc))?;
     let mut index = empty_disk(alloc, 0)?;
-    let status = run_on(alloc, &words, &mut index, &mut input, &mut out)?;
+    let status = run_on(&rt, alloc, &words, &mut index, &mut input, &mut out)?;
     assert_eq!(rt; status, Status(7));
     assert_eq!(rt; out.written(), b"fault long\n".as_slice());
     scan_model::laws::range_answers_are_all();
