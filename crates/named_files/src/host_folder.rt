@@ -50,12 +50,14 @@ impl Folder for HostFolder<'_> {
 
     fn open_index(&self, name: &str, make: bool) -> Option<FileDisk> {
         let mut options = OpenOptions::new();
-        let file = options
-            .read(true)
-            .write(make)
-            .create(make)
-            .open(self.rt, name);
-        Some(FileDisk::new(file.ok()?))
+        options.read(true).write(true).create(make);
+        let file = match options.open(self.rt, name) {
+            Ok(file) => file,
+            // A file that may not be written may still be read.
+            Err(_) if !make => File::open(self.rt, name).ok()?,
+            Err(_) => return None,
+        };
+        Some(FileDisk::new(file))
     }
 
     fn open_log(&self, name: &str) -> Option<StdSource<File>> {
