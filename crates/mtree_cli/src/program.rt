@@ -51,10 +51,11 @@ fn new_head(space: SpaceName, policies: PolicyNames, limit: u32) -> Head
 
 /// Does what the words after the program's name ask for, and answers the status.
 ///
-/// The program does seven jobs so far: `scan` runs the script of `input` on a plain list, `create` makes an empty index of
-/// `index`, `shape` writes the shape of its tree, `audit` tells whether it is sound, `verify` judges the logs of `log_in` by
-/// it, `check` does both, and `join` joins `index` with `other` and puts its log to `log_out`. With `--other`, `verify` and
-/// `check` take join logs and both indexes. Every other job of the words is answered as no job.
+/// The program does eight jobs so far: `scan` runs the script of `input` on a plain list, `create` makes an empty index of
+/// `index`, `session` runs the script of `input` on it and puts the log of each query to `log_out`, `shape` writes the shape
+/// of its tree, `audit` tells whether it is sound, `verify` judges the logs of `log_in` by it, `check` does both, and `join`
+/// joins `index` with `other` and puts its log to `log_out`. With `--other`, `verify` and `check` take join logs and both
+/// indexes. Every other job of the words is answered as no job.
 pub fn run<R: Threads + Sync, D: Disk, E: Disk, S: Source, L: Source, K: Sink, T: Sink>(
     rt: &R,
     alloc: Global,
@@ -84,8 +85,8 @@ pub fn run<R: Threads + Sync, D: Disk, E: Disk, S: Source, L: Source, K: Sink, T
     // There are no other answers.
     ensures statuses { IsStatusOf (task_of (job_of (texts_of words.now))) result.0 }
 
-    // Want of memory leaves the index as it is, no run changes the other index, and words without a scan, without an index,
-    // without logs, without another index or without a join take none.
+    // Want of memory leaves the index as it is, but for a session's, no run changes the other index, and words without a script,
+    // without an index, without logs, without another index or without a log to put take none.
     ensures memory { IsNoSession (task_of (job_of (texts_of words.now))) → result.0 ≡ 8 → IsUnchanged (D.state index.old) (D.state index.new) }
     ensures other_same { IsUnchanged (E.state other.old) (E.state other.new) }
     ensures index { TakesNoIndex (task_of (job_of (texts_of words.now))) → index.new ≡ index.old }
