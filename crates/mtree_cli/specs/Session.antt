@@ -101,7 +101,7 @@ pub record RunsSession (show : Bool) (input : Option (List ℕ)) (disk0 disk1 : 
   pub runs : IfSome input (λ bytes. RunsScript show bytes disk0 disk1 out0 out1 log0 log1 status)
   pub disk : status ≡ 5 → Rose disk0.faults disk1.faults
   pub not_index : status ≡ 6 → (name : List ℕ) × Tells out0 out1 (not_index_text name) × (IsTrue disk0.tells → IsNoIndex disk0.bytes name)
-  -- the last line is that of a damaged page
+  -- a page is damaged; where out told its bytes before the last line, that line says so
   pub damaged : status ≡ 9 → (fault : PageFault) × (mid : SinkState) × IsDamage fault × Tells mid out1 (damaged_text fault)
 
 -- a session ends so and in no other way

@@ -25,11 +25,11 @@ use Rattle.session_run.specs.Turns.{Turn, Version, AreTurns, IsTurn, commands_of
 abbrev pub setting_of : {M : Type 0} → Space → OpenFile M → Setting
 setting_of s file = record { space = s; limit = file.head.limit }
 
--- the objects of the index with these cursors cursors
+-- the objects of the index with these open cursors
 abbrev pub state_on : {M : Type 0} → OpenFile M → DiskState → OpenCursors → State
 state_on file disk cursors = with_cursors (record { points = points_on file disk; tags = tags_on file disk }) cursors
 
--- no cursor is cursors
+-- no cursor is open
 abbrev pub no_cursors : OpenCursors
 no_cursors = record { cursors = []; next = 0 }
 
