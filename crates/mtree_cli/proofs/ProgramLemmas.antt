@@ -46,7 +46,7 @@ read_whole old new bs took end = Consumes-all old new bs [] bs took end refl
 -- faults
 
 -- a line behind what was put
-told_appended : (w0 w1 w2 : Option (List ℕ)) (Failed : Type 0) (bs line : List ℕ) → Appends w0 w1 bs → Appends w1 w2 line ⊎ (AppendsPrefix w1 w2 line × Failed)
+pub told_appended : (w0 w1 w2 : Option (List ℕ)) (Failed : Type 0) (bs line : List ℕ) → Appends w0 w1 bs → Appends w1 w2 line ⊎ (AppendsPrefix w1 w2 line × Failed)
     → (rest : List ℕ) × IsTold Failed rest line × Appends w0 w2 (bs ++ rest)
 told_appended w0 w1 w2 Failed bs line is (inl whole) = (line, inl refl, Appends-trans w0 w1 w2 bs line is whole)
 told_appended w0 w1 w2 Failed bs line is (inr cut) = let part = front_appended w0 w1 w2 bs line is cut.0 in (part.0, inr (part.1, cut.1), part.2)

@@ -35,23 +35,16 @@ use Rattle.rows_text.specs.declared.command.Command.{Command}
 use Rattle.rows_text.specs.Meaning.{State}
 use Rattle.rows_text.specs.Script.{script}
 use Rattle.plain_scan.specs.Written.{IsFrontOf}
-use Rattle.plain_scan.proofs.WrittenLemmas.{front_appended}
 use Rattle.session_run.specs.declared.stop.Stop.{Stop}
 use Rattle.session_run.specs.declared.stop.Stop.TheVariants as stop
 use Rattle.session_run.specs.Session.{HasRun, HasStopCause, HoldsNext, HoldsSome, HoldsState, IsDamage, no_cursors, setting_of, state_on}
 use Rattle.session_run.specs.Turns.{AreTurns, Turn, Version, commands_of, file_after, framed, logs_of, state_after, texts_of, version_on}
 use Rattle.mtree_cli.specs.Told.{IsTold}
-use Rattle.mtree_cli.proofs.ProgramLemmas.{always}
+use Rattle.mtree_cli.proofs.ProgramLemmas.{always, told_appended}
 use Rattle.mtree_cli.specs.Session.{Ends, HasEnded, HasFinished, HasRefused, HoldsFront, HoldsLast, IsLeft, Leaves, LeavesAll, RunsOn, RunsScript, RunsSession, setting_in, space_in, state_in, version_in}
 
 rose_late : (a b c d : ℕ) → a ≤ b → c ≤ d → Rose b c → Rose a d
 rose_late a b c d more late rose = grind arith
-
--- a line behind what was put
-line_appended : (w0 w1 w2 : Option (List ℕ)) (Failed : Type 0) (bs line : List ℕ) → Appends w0 w1 bs → Appends w1 w2 line ⊎ (AppendsPrefix w1 w2 line × Failed)
-    → (rest : List ℕ) × IsTold Failed rest line × Appends w0 w2 (bs ++ rest)
-line_appended w0 w1 w2 Failed bs line is (inl whole) = (line, inl refl, Appends-trans w0 w1 w2 bs line is whole)
-line_appended w0 w1 w2 Failed bs line is (inr cut) = let part = front_appended w0 w1 w2 bs line is cut.0 in (part.0, inr (part.1, cut.1), part.2)
 
 module _ (show : Bool) (bytes : List ℕ) (head : Head) (live : Live) (file : List ℕ) (disk0 disk1 : DiskState) (out0 out1 out2 log0 log1 : SinkState) where
   abbrev pub state0 : State
@@ -74,7 +67,7 @@ module _ (show : Bool) (bytes : List ℕ) (head : Head) (live : Live) (file : Li
         ((rest : List ℕ) → IsTold (Rose out0.faults out2.faults) rest line → Ends (Rose out0.faults out2.faults) status head show state0 file0 turns more rest []) → status ≢ 0 →
         RunsOn Left show bytes head live file disk1 out0 out2 log0 log1 status
     with_line status ends other =
-        let part = line_appended out0.written out1.written out2.written (Rose out0.faults out2.faults) (concat (texts_of show turns)) line written told_since in
+        let part = told_appended out0.written out1.written out2.written (Rose out0.faults out2.faults) (concat (texts_of show turns)) line written told_since in
         record {
           turns = turns;
           more = more;
