@@ -28,13 +28,13 @@ use Rattle.metric_laws.specs.Space.{Space}
 use Rattle.index_core.specs.Files.{IsLawfulFile, nodes_on}
 use Rattle.index_core.specs.Index.{OpenIndex, StandsAlone}
 use Rattle.index_core.proofs.Written.{holds}
+use Rattle.session_run.proofs.Asking.{rose_more}
 use Rattle.session_run.proofs.Reading.{objects_on}
 use Rattle.page_store.specs.declared.pages.PageFault.{PageFault}
 use Rattle.file_jobs.specs.Lines.{damaged_text, not_index_text, unopened_name, unopened_text}
 use Rattle.rows_text.specs.declared.command.Command.{Command}
 use Rattle.rows_text.specs.Meaning.{State}
 use Rattle.rows_text.specs.Script.{script}
-use Rattle.plain_scan.specs.Written.{IsFrontOf}
 use Rattle.session_run.specs.declared.stop.Stop.{Stop}
 use Rattle.session_run.specs.declared.stop.Stop.TheVariants as stop
 use Rattle.session_run.specs.Session.{HasRun, HasStopCause, HoldsNext, HoldsSome, HoldsState, IsDamage, no_cursors, setting_of, state_on}
@@ -42,9 +42,6 @@ use Rattle.session_run.specs.Turns.{AreTurns, Turn, Version, commands_of, file_a
 use Rattle.mtree_cli.specs.Told.{IsTold}
 use Rattle.mtree_cli.proofs.ProgramLemmas.{always, told_appended}
 use Rattle.mtree_cli.specs.Session.{Ends, HasEnded, HasFinished, HasRefused, HoldsFront, HoldsLast, IsLeft, Leaves, LeavesAll, RunsOn, RunsScript, RunsSession, setting_in, space_in, state_in, version_in}
-
-rose_late : (a b c d : ℕ) → a ≤ b → c ≤ d → Rose b c → Rose a d
-rose_late a b c d more late rose = grind arith
 
 module _ (show : Bool) (bytes : List ℕ) (head : Head) (live : Live) (file : List ℕ) (disk0 disk1 : DiskState) (out0 out1 out2 log0 log1 : SinkState) where
   abbrev pub state0 : State
@@ -60,7 +57,7 @@ module _ (show : Bool) (bytes : List ℕ) (head : Head) (live : Live) (file : Li
     told_since : Appends out1.written out2.written line ⊎ (AppendsPrefix out1.written out2.written line × Rose out0.faults out2.faults)
     told_since = elim told [
       | inl all ↦ inl all
-      | inr cut ↦ inr (cut.0, rose_late _ _ _ _ later (omega arith) cut.1)
+      | inr cut ↦ inr (cut.0, rose_more _ _ _ later cut.1)
     ]
 
     pub with_line : (status : ℕ) →
@@ -414,7 +411,7 @@ module _ (faults : FaultIsNotOpen) (one : OneLiveSlot) (show : Bool) (bytes : Li
   }
     where
       rose_of : why ≡ fault.Disk → HasReaderCause words disk1 disk2 why → Rose disk0.faults disk2.faults
-      rose_of is (inl first) = rose_late _ _ _ _ later (omega arith) (rose_by_disk disk1 disk2 why is first)
+      rose_of is (inl first) = rose_more _ _ _ later (rose_by_disk disk1 disk2 why is first)
       rose_of is (inr (inl old)) = absurd (let e = sym is ∙ old.0 in cc)
       rose_of is (inr (inr wide)) = absurd (let e = sym is ∙ wide.0 in cc)
 
@@ -475,7 +472,7 @@ since_opening {M} kind_of dim_of one show bytes index opened disk0 disk1 disk2 d
 pub refused_of : (disk0 disk1 disk2 : DiskState) (out0 out1 log0 log1 : SinkState) (status : ℕ) → disk0.faults ≤ disk1.faults → HasFinished disk1 disk2 out0 out1 log0 log1 status → HasRefused disk0 disk2 out0 out1 log0 log1 status
 refused_of disk0 disk1 disk2 out0 out1 log0 log1 status later ended = record {
   output = ended.output;
-  disk = λ is. rose_late _ _ _ _ later (omega arith) (ended.disk is);
+  disk = λ is. rose_more _ _ _ later (ended.disk is);
   not_index = λ is. absurd (six is ended.statuses);
   damaged = ended.damaged;
   statuses = wider ended.statuses;

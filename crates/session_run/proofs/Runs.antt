@@ -30,6 +30,7 @@ use Rattle.session_run.specs.declared.stop.Stop.TheVariants as stop
 use Rattle.session_run.specs.Session.{Ends, HasRun, HasStopCause, HoldsNext, HoldsSome, HoldsState, IsCutShort, no_cursors, setting_of, state_on}
 use Rattle.session_run.specs.Steps.{HasTurned, HoldsEither, HoldsOne, IsPartlyPut, IsPut, IsStoppedAt}
 use Rattle.session_run.specs.Turns.{AreTurns, IsTurn, Turn, Version, commands_of, file_after, framed, if_any, logs_of, state_after, texts_of, version_on}
+use Rattle.session_run.proofs.Asking.{rose_more}
 use Rattle.session_run.proofs.Reading.{objects_on}
 
 -- ---- one turn more at the end
@@ -70,9 +71,6 @@ holds_more setting head state (u ∷ turns) t image (inr holds) = inr (holds_mor
 holds_last : (setting : Setting) (head : Head) (state : State) (turns : List Turn) (image : List ℕ) → HoldsState setting.space head (state_after state turns) image → HoldsSome setting head state turns image
 holds_last setting head state [] image holds = holds
 holds_last setting head state (u ∷ turns) image holds = inr (holds_last setting head u.state turns image holds)
-
-rose_more : (a b c d : ℕ) → a ≤ b → c ≤ d → Rose b c → Rose a d
-rose_more a b c d more late rose = grind arith
 
 -- ---- a session that goes on
 module _ {M : Type 0} (s : Space) (show : Bool) (old : OpenIndex M) (disk0 : DiskState) (commands : List Command) (out0 log0 : SinkState) where
@@ -253,10 +251,10 @@ module _ {M : Type 0} (s : Space) (show : Bool) (old : OpenIndex M) (disk0 : Dis
 pub cause_since : {Sound Then : Type 0} (disk0 disk1 disk2 : DiskState) (out0 out1 out2 log0 log1 log2 : SinkState) (why : Stop) → disk0.faults ≤ disk1.faults → out0.faults ≤ out1.faults → log0.faults ≤ log1.faults →
     (Sound → Then) → HasStopCause Then disk1 disk2 out1 out2 log1 log2 why → HasStopCause Sound disk0 disk2 out0 out2 log0 log2 why
 cause_since disk0 disk1 disk2 out0 out1 out2 log0 log1 log2 stop.Sink later out_later log_later kept cause = elim cause [
-  | inl rose ↦ inl (rose_more _ _ _ _ out_later (omega arith) rose)
-  | inr rose ↦ inr (rose_more _ _ _ _ log_later (omega arith) rose)
+  | inl rose ↦ inl (rose_more _ _ _ out_later rose)
+  | inr rose ↦ inr (rose_more _ _ _ log_later rose)
 ]
-cause_since disk0 disk1 disk2 out0 out1 out2 log0 log1 log2 stop.Disk later out_later log_later kept cause = rose_more _ _ _ _ later (omega arith) cause
+cause_since disk0 disk1 disk2 out0 out1 out2 log0 log1 log2 stop.Disk later out_later log_later kept cause = rose_more _ _ _ later cause
 cause_since disk0 disk1 disk2 out0 out1 out2 log0 log1 log2 (stop.Damaged page) later out_later log_later kept cause = (cause.0, λ sound. cause.1 (kept sound))
 cause_since disk0 disk1 disk2 out0 out1 out2 log0 log1 log2 stop.Memory later out_later log_later kept cause = tt
 
