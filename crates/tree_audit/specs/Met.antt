@@ -19,3 +19,8 @@ pub record IsFlagged (flags : List Bool) (met : List ℕ) : Type 0 where
 pub record AreFewer (numbers : Numbers) : Type 0 where
   pub none : times 0 numbers.met ≡ 0
   pub fewer : length numbers.met + 1 ≤ max 1 numbers.limit
+
+-- more numbers can be met: they are below the limit, and neither among them nor among those that were met one stands twice
+pub record AreNew (numbers : Numbers) (more : List ℕ) : Type 0 where
+  pub within : AllByRecursion (λ n. n < numbers.limit) more
+  pub once : (n : ℕ) → times n (numbers.met ++ more) ≤ 1

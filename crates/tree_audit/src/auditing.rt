@@ -30,8 +30,8 @@ fn root_least(height: u32) -> usize
     if height == 0 { 0 } else { 2 }
 }
 
-// Nothing met yet, with room for the pages and objects of a file.
-fn visits_for(alloc: Global, live: &Live) -> Result<Visits, Memory>
+/// Nothing met yet, with room for the pages and objects of a file.
+pub fn visits_for(alloc: Global, live: &Live) -> Result<Visits, Memory>
     ensures { IfOk result (λ v. v ≡ record { pages = record { limit = live.now.pages; met = [] }; ids = record { limit = live.now.count; met = [] } }) }
 {
     Ok(Visits {

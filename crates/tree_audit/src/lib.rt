@@ -5,10 +5,12 @@ mod auditing;
 mod faults;
 pub mod laws;
 mod met;
+mod parts;
 mod walking;
 
 pub use auditing::{Audited, audit};
 pub use faults::AuditFault;
+pub use parts::{Part, audit_part, join_parts};
 
 #[cfg(test)]
 mod tests;

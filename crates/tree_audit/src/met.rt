@@ -1,4 +1,5 @@
-ghost use Rattle.std.specs.Prelude.{◌≡◌, ◌<◌, ◌++◌, ◌==◌, not, [], ◌∷◌, length, IfOk, OnOk, OnErr};
+ghost use Rattle.std.specs.Prelude.{◌≡◌, ℕ, ◌≤◌, ◌<◌, ◌++◌, ◌==◌, ◌&&◌, nat_lt, not, [], ◌∷◌, length, IfOk, OnOk, OnErr};
+ghost use Rattle.std.specs.List.{AllByRecursion};
 ghost use Rattle.tree_shape.specs.Tree.{times};
 ghost use Rattle.tree_audit.specs.Met.{AreFewer};
 
@@ -61,6 +62,28 @@ impl Met {
         self.numbers.push(number)?;
         self.flags[number as usize] = true;
         Ok(())
+    }
+
+    /// The numbers that were met, in the order of meeting.
+    pub fn into_numbers(self) -> Vec<u32>
+        ensures { result.items ≡ self.met }
+    {
+        self.numbers
+    }
+
+    /// Whether the number is below the limit and was not met.
+    pub fn is_new(&self, number: u32) -> bool
+        ensures { result ≡ (nat_lt number self.now.limit && (times number self.now.met == 0)) }
+    {
+        number < self.limit() && !self.has(number)
+    }
+
+    /// No number was met twice, and each that was is below the limit.
+    pub fn is_lawful(&self)
+        ensures once { (number : ℕ) → times number self.now.met ≤ 1 }
+        ensures small { AllByRecursion (λ number. number < self.now.limit) self.now.met }
+    {
+        let _numbers = &self.numbers;
     }
 
     /// How many numbers were met.

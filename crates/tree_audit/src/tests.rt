@@ -1,13 +1,13 @@
 ghost use Rattle.std.specs.Prelude.{◌≡◌, ◌^◌, ◌≤◌, length, IfOk};
 
-use crate::{AuditFault, Audited, audit, laws};
-use metric_laws::Meter;
+use crate::{AuditFault, Audited, Part, audit, audit_part, join_parts, laws};
+use metric_laws::{Meter, Point};
 use node_page::NodeFault;
 use page_store::{ImagePages, PageFault};
 use std::alloc::{AllocError, Global};
 use std::process::Abort;
 use std::test::Fail;
-use tree_shape::Live;
+use tree_shape::{InnerEntry, Live};
 use vector_kinds::L1;
 
 // The live tree of a small index.
@@ -156,5 +156,53 @@ fn a_page_that_is_reached_twice(rt: HostRuntime) -> Result<(), Fail> {
             Err(AuditFault::Twice(pages - 1))
         );
     }
+    Ok(())
+}
+
+// Audits an entry of the root of the file of six, whose child is this page.
+fn part_of(alloc: Global, bytes: &[u8], live: &Live, child: u32) -> Result<Part, AuditFault>
+    requires height { 1 ≤ live.now.height }
+    requires pages { live.now.pages ≤ 2 ^ 24 }
+{
+    let Ok(point) = Point::new(alloc, &[0, 0]) else {
+        return Err(AuditFault::Memory);
+    };
+    let entry = InnerEntry {
+        child,
+        radius: 0,
+        parent: 0,
+        point,
+    };
+    let mut pages = ImagePages::new(bytes, 2, live.pages);
+    let mut ruler = Meter::new(L1::new(2));
+    audit_part(alloc, &mut pages, &mut ruler, 2, live, 0, &entry)
+}
+
+#[test]
+fn parts_of_a_tree(rt: HostRuntime) -> Result<(), Fail> {
+    laws::parts_make_the_whole();
+    let alloc = rt.alloc();
+    let bytes = file_of_six(alloc, 5)?;
+    let live = Live {
+        root: 3,
+        height: 1,
+        count: 6,
+        pages: 5,
+        ..LIVE
+    };
+    let part = part_of(alloc, &bytes, &live, 4)?;
+    assert_eq!(rt; part.pages.as_slice(), [4].as_slice());
+    assert_eq!(rt; part.ids.as_slice(), [0, 1, 2, 3, 4, 5].as_slice());
+    let root = part_of(alloc, &bytes, &live, 3);
+    assert_eq!(rt; root.err(), Some(AuditFault::Fill(3)));
+    let mut parts = Vec::new(alloc);
+    parts.push(part)?;
+    let whole = Audited {
+        objects: 6,
+        nodes: 2,
+    };
+    assert_eq!(rt; join_parts(alloc, &live, &parts)?, Some(whole));
+    parts.push(part_of(alloc, &bytes, &live, 4)?)?;
+    assert_eq!(rt; join_parts(alloc, &live, &parts)?, None);
     Ok(())
 }

@@ -140,8 +140,8 @@ fn audit_objects<R: Ruler>(
     Ok(())
 }
 
-// An entry of an inner node, before its child.
-fn audit_entry<R: Ruler>(
+/// An entry of an inner node, before its child.
+pub fn audit_entry<R: Ruler>(
     ruler: &mut R,
     path: &[Step],
     page: u32,
@@ -246,8 +246,8 @@ fn arrive<P: Pages>(
     Ok(node)
 }
 
-// The step to a child.
-fn step_to(alloc: Global, page: u32, place: u32, entry: &InnerEntry) -> Result<Step, Memory>
+/// The step to a child.
+pub fn step_to(alloc: Global, page: u32, place: u32, entry: &InnerEntry) -> Result<Step, Memory>
     ensures { IfOk result (λ t. t ≡ step page place entry.now) }
 {
     Ok(Step {
