@@ -4,32 +4,13 @@ use Rattle.std.specs.List.{join_with_byte}
 use Rattle.shadow_root.specs.declared.faults.OpenFault.{OpenFault}
 use Rattle.shadow_root.specs.declared.faults.OpenFault.TheVariants as open_fault
 use Rattle.rows_text.specs.Texts.{line_end, space, counted}
-use Rattle.node_page.specs.declared.head.HeadFault.{HeadFault}
-use Rattle.node_page.specs.declared.head.HeadFault.TheVariants as head
-use Rattle.node_page.specs.declared.node.NodeFault.{NodeFault}
-use Rattle.node_page.specs.declared.node.NodeFault.TheVariants as node
+use Rattle.fault_lines.specs.Lines.{head_fault_name, numbered, page_fault_text}
 use Rattle.page_store.specs.declared.pages.PageFault.{PageFault}
-use Rattle.page_store.specs.declared.pages.PageFault.TheVariants as page
 use Rattle.tree_audit.specs.declared.faults.AuditFault.{AuditFault}
 use Rattle.tree_audit.specs.declared.faults.AuditFault.TheVariants as audit
 use Rattle.tree_outline.specs.declared.outline.ShapeLine.{ShapeLine}
 use Rattle.node_page.specs.Opening.{Unopened}
 use Rattle.node_page.specs.Opening.Unopened.{Short, NoHead, Unfinished, TwoRoots, BadSlot}
-
-abbrev pub node_fault_name : NodeFault → List ℕ
-node_fault_name node.Kind = codes "kind"
-node_fault_name node.Count = codes "count"
-node_fault_name node.Distance = codes "distance"
-node_fault_name node.Tail = codes "tail"
-node_fault_name node.Memory = codes "memory"
-
-abbrev pub head_fault_name : HeadFault → List ℕ
-head_fault_name head.Magic = codes "magic"
-head_fault_name head.Version = codes "version"
-head_fault_name head.Space = codes "space"
-head_fault_name head.Policy = codes "policy"
-head_fault_name head.Limit = codes "limit"
-head_fault_name head.Tail = codes "tail"
 
 -- why a file does not open, in a word
 abbrev pub unopened_name : Unopened → List ℕ
@@ -38,18 +19,6 @@ unopened_name (NoHead fault) = head_fault_name fault
 unopened_name Unfinished = codes "unfinished"
 unopened_name TwoRoots = codes "tworoots"
 unopened_name BadSlot = codes "slot"
-
--- a word and a number
-abbrev pub numbered : List ℕ → ℕ → List ℕ
-numbered word n = word ++ decimal n
-
-abbrev pub page_fault_text : PageFault → List ℕ
-page_fault_text (page.Bad p fault) = numbered (codes "bad ") p ++ space ++ node_fault_name fault
-page_fault_text (page.Outside p) = numbered (codes "outside ") p
-page_fault_text (page.Repeats p) = numbered (codes "repeats ") p
-page_fault_text (page.Level p) = numbered (codes "level ") p
-page_fault_text page.Disk = codes "disk"
-page_fault_text page.Memory = codes "memory"
 
 abbrev pub audit_fault_text : AuditFault → List ℕ
 audit_fault_text (audit.Page fault) = codes "page " ++ page_fault_text fault

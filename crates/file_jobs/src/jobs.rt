@@ -1,5 +1,5 @@
 // The jobs on files.
-ghost use Rattle.std.specs.Prelude.{◌≡◌, ◌≢◌, ◌⊎◌, ◌≤◌, ◌^◌, ℕ, List, None, length, IsTrue, IfOk, IfErr, OnOk, codes};
+ghost use Rattle.std.specs.Prelude.{◌≡◌, ◌≢◌, ◌⊎◌, ◌+◌, ◌≤◌, ◌^◌, ℕ, List, None, length, IsTrue, IfOk, IfErr, OnOk, codes};
 ghost use Rattle.disk_model.specs.Disk.{IsUnchanged};
 ghost use Rattle.metric_mix.specs.MixSpaces.{mix_space};
 ghost use Rattle.tree_shape.specs.Tree.{pages_at};
@@ -105,8 +105,8 @@ pub fn audit_opened<D: Disk>(
     audit(alloc, &mut pages, &mut ruler, head.dim, live)
 }
 
-// Ends an audit whose index is rejected, or that could not go on.
-fn end_rejected<K: Sink>(alloc: Global, fault: AuditFault, out: &mut K) -> Status
+/// Ends an audit whose index is rejected, with status 1, or that could not go on, with status 5 or 8.
+pub fn end_rejected<K: Sink>(alloc: Global, fault: AuditFault, out: &mut K) -> Status
     ensures rejected { result.0 ≡ 1 → Appends (K.state out.old).written (K.state out.new).written (rejected_text fault) }
     ensures part { result.0 ≡ 4 → AppendsPrefix (K.state out.old).written (K.state out.new).written (rejected_text fault) }
     ensures kind { (result.0 ≡ 1) ⊎ (result.0 ≡ 4) → IsPassing fault → ⊥ }
@@ -141,8 +141,8 @@ pub fn end_unopened<K: Sink>(fault: OpenFault, out: &mut K) -> Status
     end_with(out, line, 6)
 }
 
-// Ends an audit of a sound index.
-fn end_sound<K: Sink>(alloc: Global, audited: &Audited, out: &mut K) -> Status
+/// Ends an audit of a sound index.
+pub fn end_sound<K: Sink>(alloc: Global, audited: &Audited, out: &mut K) -> Status
     ensures sound { result.0 ≡ 0 → Appends (K.state out.old).written (K.state out.new).written (sound_text audited.now.objects audited.now.nodes) }
     ensures part { result.0 ≡ 4 → AppendsPrefix (K.state out.old).written (K.state out.new).written (sound_text audited.now.objects audited.now.nodes) }
     ensures memory { result.0 ≡ 8 → Tells (K.state out.old) (K.state out.new) (codes "fault memory\n") }
@@ -168,6 +168,7 @@ pub fn open_index<D: Disk, K: Sink>(disk: &mut D, out: &mut K) -> Result<(Head, 
     ensures height { IfOk result (λ opened. opened.1.height ≤ 14) }
     ensures silent { OnOk result (out.new ≡ out.old) }
     ensures refuses { IfErr result (λ status. Refuses (D.state disk.old) (D.state disk.new) (K.state out.old) (K.state out.new) status.0) }
+    ensures reads { (D.state disk.new).reads ≤ (D.state disk.old).reads + 3 }
     ensures later { (D.state disk.old).faults ≤ (D.state disk.new).faults }
     ensures written_later { (K.state out.old).faults ≤ (K.state out.new).faults }
 {

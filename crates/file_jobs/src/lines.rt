@@ -1,13 +1,11 @@
-ghost use Rattle.std.specs.Prelude.{◌≡◌, ◌≢◌, ◌⊎◌, ◌++◌, ◌≤◌, codes, decimal, OnOk, IfOk};
+ghost use Rattle.std.specs.Prelude.{◌≡◌, ◌≢◌, ◌⊎◌, ◌++◌, ◌≤◌, OnOk, IfOk};
 ghost use Rattle.std.specs.Io.KnownBytes.{Appends};
 ghost use Rattle.outside_io.specs.Bytes.{AppendsPrefix};
 ghost use Rattle.outside_io.specs.Causes.{Rose};
 ghost use Rattle.outside_io.specs.Sinks.{Tells};
-ghost use Rattle.rows_text.specs.Texts.{counted, space, line_end};
-ghost use Rattle.file_jobs.specs.Lines.{node_fault_name, head_fault_name, page_fault_text, audit_fault_text, damaged_text, sound_text, rejected_text, not_index_text, numbered};
+ghost use Rattle.file_jobs.specs.Lines.{audit_fault_text, damaged_text, sound_text, rejected_text};
 
-use itoa::Buffer;
-use node_page::{HeadFault, NodeFault};
+use fault_lines::{push_numbered, push_page_fault};
 use outside_io::{Memory, Sink, Status};
 use page_store::PageFault;
 use std::alloc::Global;
@@ -35,45 +33,6 @@ pub fn put_line<K: Sink>(out: &mut K, line: &[u8], status: u8) -> Status
     match out.put(line) {
         Ok(()) => Status(status),
         Err(_) => Status(4),
-    }
-}
-
-/// Appends a word and a number.
-pub fn push_numbered(word: &[u8], n: u64, out: &mut Vec<u8>) -> Result<(), Memory>
-    ensures { OnOk result (out.new.items ≡ out.old.items ++ numbered word.now n) }
-{
-    out.extend_from_slice(word)?;
-    let mut buffer = Buffer::new();
-    out.extend_from_slice(buffer.format(n).as_bytes())
-}
-
-fn node_fault_name(fault: NodeFault) -> &'static [u8]
-    ensures { result.now ≡ node_fault_name fault }
-{
-    match fault {
-        NodeFault::Kind => b"kind",
-        NodeFault::Count => b"count",
-        NodeFault::Distance => b"distance",
-        NodeFault::Tail => b"tail",
-        NodeFault::Memory => b"memory",
-    }
-}
-
-/// Appends why a page gave no node.
-pub fn push_page_fault(fault: PageFault, out: &mut Vec<u8>) -> Result<(), Memory>
-    ensures { OnOk result (out.new.items ≡ out.old.items ++ page_fault_text fault) }
-{
-    match fault {
-        PageFault::Bad(page, fault) => {
-            push_numbered(b"bad ", u64::from(page), out)?;
-            out.extend_from_slice(b" ")?;
-            out.extend_from_slice(node_fault_name(fault))
-        }
-        PageFault::Outside(page) => push_numbered(b"outside ", u64::from(page), out),
-        PageFault::Repeats(page) => push_numbered(b"repeats ", u64::from(page), out),
-        PageFault::Level(page) => push_numbered(b"level ", u64::from(page), out),
-        PageFault::Disk => out.extend_from_slice(b"disk"),
-        PageFault::Memory => out.extend_from_slice(b"memory"),
     }
 }
 

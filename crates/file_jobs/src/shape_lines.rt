@@ -4,7 +4,7 @@ ghost use Rattle.std.specs.Option.{option_copied};
 ghost use Rattle.rows_text.specs.Texts.{coordinates_text};
 ghost use Rattle.file_jobs.specs.Lines.{node_text, or_dash, point_text, shape_text};
 
-use crate::lines::push_numbered;
+use fault_lines::push_numbered;
 use metric_laws::Point;
 use outside_io::Memory;
 use std::alloc::Global;

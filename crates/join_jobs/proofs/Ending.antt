@@ -1,5 +1,5 @@
 -- How a job ends, by what its parts told.
-use Rattle.std.proofs.Common.{◌≡◌, ◌≢◌, ◌⊎◌, inl, inr, ⊎_elim, ℕ, Bool, true, false, List, Option, refl, sym, subst, ◌∙◌, ap, arith}
+use Rattle.std.proofs.Common.{◌≡◌, ◌≢◌, ◌⊎◌, inl, inr, ⊎_elim, ℕ, Bool, true, false, List, refl, sym, subst, ◌∙◌, ap, arith}
 use Rattle.std.specs.Prelude.{codes, ◌≤◌, IsTrue}
 use Rattle.std.specs.Io.KnownBytes.{Appends}
 use Rattle.outside_io.specs.Bytes.{AppendsPrefix}

@@ -3,15 +3,16 @@ use Rattle.std.specs.Prelude.{ℕ, ◌+◌, Bool, true, false, List, [], ◌∷�
 use Rattle.std.specs.List.{list_all}
 use Rattle.std.specs.Option.{is_none}
 use Rattle.scan_model.specs.declared.hit.Pair.{Pair}
-use Rattle.rows_text.specs.Texts.{line_end, space, counted, text}
+use Rattle.rows_text.specs.Texts.{space, counted, text}
 use Rattle.rows_text.specs.declared.reply.Reply.TheVariants as reply
 use Rattle.log_model.specs.declared.logs.JoinLog.{JoinLog}
 use Rattle.log_verify.specs.declared.faults.JoinVerdict.{JoinVerdict}
 use Rattle.log_verify.specs.declared.faults.JoinVerdict.TheVariants as verdict
 use Rattle.prune_log.specs.declared.fault.LogFault.{LogFault}
-use Rattle.prune_log.specs.declared.fault.LogFault.TheVariants as fault
 use Rattle.tree_audit.specs.declared.faults.AuditFault.{AuditFault}
-use Rattle.file_jobs.specs.Lines.{numbered, page_fault_text, rejected_text}
+use Rattle.fault_lines.specs.Lines.{numbered, page_fault_text}
+use Rattle.file_jobs.specs.Lines.{rejected_text}
+use Rattle.log_lines.specs.Lines.{frame, rejected_line, state_text, undecoded_text}
 use Rattle.join_jobs.specs.declared.report.Report.{Report}
 use Rattle.join_jobs.specs.declared.report.Report.TheVariants as report
 
@@ -35,12 +36,8 @@ abbrev pub side_name : Bool → List ℕ
 side_name false = codes "left"
 side_name true = codes "right"
 
--- a generation and a root
-abbrev pub state_text : ℕ × ℕ → List ℕ
-state_text state = numbered space state.0 ++ numbered space state.1
-
 abbrev pub verdict_text : JoinVerdict → List ℕ
-verdict_text (verdict.OtherState right named live) = codes "otherstate " ++ side_name right ++ state_text named ++ state_text live
+verdict_text (verdict.OtherState right named live) = codes "otherstate " ++ side_name right ++ state_text space named ++ state_text space live
 verdict_text (verdict.Page right fault) = codes "page " ++ side_name right ++ space ++ page_fault_text fault
 verdict_text (verdict.WrongPage n) = numbered (codes "wrongpage ") n
 verdict_text (verdict.WrongCount n) = numbered (codes "wrongcount ") n
@@ -49,12 +46,8 @@ verdict_text (verdict.WrongAnswer n) = numbered (codes "wronganswer ") n
 verdict_text (verdict.LeftOver n) = numbered (codes "leftover ") n
 verdict_text verdict.Memory = codes "memory"
 
--- the number of a frame
-abbrev pub frame : ℕ → List ℕ
-frame i = numbered (codes "frame ") i
-
 abbrev pub rejected_frame : ℕ → JoinVerdict → List ℕ
-rejected_frame i why = frame i ++ codes " rejected " ++ verdict_text why ++ line_end
+rejected_frame i why = rejected_line i (verdict_text why)
 
 abbrev pub accepted_frame : ℕ → List ℕ
 accepted_frame i = frame i ++ codes " accepted\n"
@@ -87,20 +80,6 @@ abbrev pub end_text : Report → Bool → List ℕ
 end_text what false = codes "log rejected\n"
 end_text report.Verdicts true = codes "log accepted, file not audited\n"
 end_text report.Answers true = codes "log complete\n"
-
-abbrev pub log_fault_name : LogFault → List ℕ
-log_fault_name fault.Magic = codes "magic"
-log_fault_name fault.Version = codes "version"
-log_fault_name fault.Kind = codes "kind"
-log_fault_name fault.Cut = codes "cut"
-log_fault_name fault.Mark = codes "mark"
-log_fault_name fault.Order = codes "order"
-log_fault_name fault.Tail = codes "tail"
-log_fault_name fault.Memory = codes "memory"
-
--- the line of bytes that are no logs
-abbrev pub undecoded_text : LogFault → List ℕ
-undecoded_text why = codes "log rejected " ++ log_fault_name why ++ line_end
 
 -- ---- what a job says
 

@@ -9,8 +9,9 @@ ghost use Rattle.join_jobs.specs.Lines.{opening_text, frame_texts, are_sound, on
 ghost use Rattle.join_jobs.specs.Trees.{judge_by};
 
 use crate::Report;
-use crate::lines::{end_text, opening_text, push_frame, undecoded_text};
+use crate::lines::{end_text, opening_text, push_frame};
 use crate::stop::Stop;
+use log_lines::undecoded_text;
 use log_model::JoinLog;
 use log_verify::{JoinVerdict, verify_join};
 use metric_laws::{Meter, Metric};

@@ -1,14 +1,15 @@
 // The lines on two files and the logs of their join.
 ghost use Rattle.std.specs.Prelude.{◌≡◌, ◌++◌, OnOk, IfOk};
-ghost use Rattle.join_jobs.specs.Lines.{pairs_text, side_name, state_text, verdict_text, frame_text, end_text, undecoded_text, opening_text, unsound_text};
+ghost use Rattle.join_jobs.specs.Lines.{pairs_text, side_name, verdict_text, frame_text, end_text, opening_text, unsound_text};
 
 use crate::Report;
-use file_jobs::{push_numbered, push_page_fault, rejected_text};
+use fault_lines::{push_numbered, push_page_fault};
+use file_jobs::rejected_text;
+use log_lines::{push_frame as push_number, push_state};
 use log_model::JoinLog;
 use log_verify::JoinVerdict;
 use metric_laws::Listed;
 use outside_io::Memory;
-use prune_log::LogFault;
 use rows_text::{Reply, reply_text};
 use scan_model::Pair;
 use std::alloc::Global;
@@ -27,14 +28,6 @@ fn side_name(right: bool) -> &'static [u8]
     if right { b"right" } else { b"left" }
 }
 
-// A generation and a root.
-fn push_state(state: (u64, u32), out: &mut Vec<u8>) -> Result<(), Memory>
-    ensures { OnOk result (out.new.items ≡ out.old.items ++ state_text state) }
-{
-    push_numbered(b" ", state.0, out)?;
-    push_numbered(b" ", u64::from(state.1), out)
-}
-
 fn push_verdict(why: JoinVerdict, out: &mut Vec<u8>) -> Result<(), Memory>
     ensures { OnOk result (out.new.items ≡ out.old.items ++ verdict_text why) }
 {
@@ -42,8 +35,8 @@ fn push_verdict(why: JoinVerdict, out: &mut Vec<u8>) -> Result<(), Memory>
         JoinVerdict::OtherState { right, named, live } => {
             out.extend_from_slice(b"otherstate ")?;
             out.extend_from_slice(side_name(right))?;
-            push_state(named, out)?;
-            push_state(live, out)
+            push_state(b" ", named, out)?;
+            push_state(b" ", live, out)
         }
         JoinVerdict::Page { right, fault } => {
             out.extend_from_slice(b"page ")?;
@@ -73,7 +66,7 @@ pub fn push_frame(
 ) -> Result<(), Memory>
     ensures { OnOk result (out.new.items ≡ out.old.items ++ frame_text report frame log fault) }
 {
-    push_numbered(b"frame ", frame, out)?;
+    push_number(frame, out)?;
     match (fault, report) {
         (Some(why), _) => {
             out.extend_from_slice(b" rejected ")?;
@@ -97,22 +90,6 @@ pub fn end_text(report: Report, sound: bool) -> &'static [u8]
         (false, _) => b"log rejected\n",
         (true, Report::Verdicts) => b"log accepted, file not audited\n",
         (true, Report::Answers) => b"log complete\n",
-    }
-}
-
-/// The line of bytes that are no logs.
-pub fn undecoded_text(fault: LogFault) -> &'static [u8]
-    ensures { result.now ≡ undecoded_text fault }
-{
-    match fault {
-        LogFault::Magic => b"log rejected magic\n",
-        LogFault::Version => b"log rejected version\n",
-        LogFault::Kind => b"log rejected kind\n",
-        LogFault::Cut => b"log rejected cut\n",
-        LogFault::Mark => b"log rejected mark\n",
-        LogFault::Order => b"log rejected order\n",
-        LogFault::Tail => b"log rejected tail\n",
-        LogFault::Memory => b"log rejected memory\n",
     }
 }
 

@@ -1,6 +1,6 @@
 -- One frame more, by pages that hold what they held.
-use Rattle.std.proofs.Common.{◌≡◌, ℕ, ◌+◌, ◌&&◌, Bool, true, false, List, [], ◌∷◌, ◌++◌, Option, Some, None, Result, Ok, Err, refl, sym, subst, ◌∙◌, ap, append_assoc, arith}
-use Rattle.std.specs.Prelude.{IsTrue, OnOk}
+use Rattle.std.proofs.Common.{◌≡◌, ℕ, ◌+◌, ◌&&◌, Bool, true, false, List, [], ◌∷◌, Option, Some, None, refl, sym, subst, ◌∙◌, ap, arith}
+use Rattle.std.specs.Prelude.{IsTrue}
 use Rattle.std.specs.Option.{is_none}
 use Rattle.metric_laws.specs.Space.{Space}
 use Rattle.tree_shape.specs.declared.live.Live.{Live}
@@ -56,8 +56,3 @@ frame_sound a b s live log logs total sound found same before next tells =
     subst (λ (read : Read). found ≡ is_none (log_fault s read live log)) same.read (next (subst IsTrue (sym same.tells) tells)) in
     before tells ∙ and_assoc sound (is_none (log_fault s a.read live log)) (are_sound (log_fault s a.read live) logs)
     ∙ ap (λ (x : Bool). (sound && x) && are_sound (log_fault s a.read live) logs) (sym here)
-
--- two texts in a row
-pub appended : {A E : Type 0} (r : Result A E) (old mid new a b : List ℕ) → mid ≡ old ++ a → OnOk r (new ≡ mid ++ b) → OnOk r (new ≡ old ++ (a ++ b))
-appended (Ok x) old mid new a b first second = second ∙ ap (λ (l : List ℕ). l ++ b) first ∙ append_assoc old a b
-appended (Err e) old mid new a b first second = tt

@@ -2,15 +2,12 @@
 use Rattle.std.specs.Prelude.{ℕ, ◌+◌, Bool, true, false, List, [], ◌∷◌, ◌++◌, codes, Option, Some, None, Result, Ok, Err, if◌then◌else◌}
 use Rattle.std.specs.List.{list_all}
 use Rattle.std.specs.Option.{is_none}
-use Rattle.rows_text.specs.Texts.{line_end, space, query_line, text}
-use Rattle.rows_text.specs.declared.reply.Reply.TheVariants as reply
 use Rattle.log_model.specs.declared.logs.Log.{Log}
 use Rattle.log_verify.specs.declared.faults.Verdict.{Verdict}
-use Rattle.log_verify.specs.declared.faults.Verdict.TheVariants as verdict
 use Rattle.prune_log.specs.declared.fault.LogFault.{LogFault}
-use Rattle.prune_log.specs.declared.fault.LogFault.TheVariants as fault
 use Rattle.tree_audit.specs.declared.faults.AuditFault.{AuditFault}
-use Rattle.file_jobs.specs.Lines.{numbered, page_fault_text, rejected_text}
+use Rattle.file_jobs.specs.Lines.{rejected_text}
+use Rattle.log_lines.specs.Lines.{answers_text, frame, rejected_line, undecoded_text, verdict_text}
 use Rattle.log_jobs.specs.declared.report.Report.{Report}
 use Rattle.log_jobs.specs.declared.report.Report.TheVariants as report
 
@@ -20,34 +17,15 @@ Judge = Log → Option Verdict
 
 -- ---- a log
 
--- a generation and a root
-abbrev pub state_text : List ℕ → ℕ × ℕ → List ℕ
-state_text word state = numbered word state.0 ++ numbered space state.1
-
-abbrev pub verdict_text : Verdict → List ℕ
-verdict_text (verdict.OtherState named live) = state_text (codes "otherstate ") named ++ state_text space live
-verdict_text verdict.Point = codes "point"
-verdict_text (verdict.Page fault) = codes "page " ++ page_fault_text fault
-verdict_text (verdict.WrongPage n) = numbered (codes "wrongpage ") n
-verdict_text (verdict.WrongCount n) = numbered (codes "wrongcount ") n
-verdict_text (verdict.WrongMark n entry) = numbered (codes "wrongmark ") n ++ numbered space entry
-verdict_text (verdict.WrongAnswer n) = numbered (codes "wronganswer ") n
-verdict_text (verdict.LeftOver n) = numbered (codes "leftover ") n
-verdict_text verdict.Memory = codes "memory"
-
--- the number of a frame
-abbrev pub frame : ℕ → List ℕ
-frame i = numbered (codes "frame ") i
-
 abbrev pub rejected_frame : ℕ → Verdict → List ℕ
-rejected_frame i why = frame i ++ codes " rejected " ++ verdict_text why ++ line_end
+rejected_frame i why = rejected_line i (verdict_text why)
 
 abbrev pub accepted_frame : ℕ → List ℕ
 accepted_frame i = frame i ++ codes " accepted\n"
 
 -- a complete log: its query, and its answers as those of a search
 abbrev pub complete_frame : ℕ → Log → List ℕ
-complete_frame i log = frame i ++ codes " complete\n" ++ query_line log.query ++ text false (reply.Hits log.answers [])
+complete_frame i log = frame i ++ codes " complete\n" ++ answers_text log.query log.answers
 
 abbrev pub sound_frame : Report → ℕ → Log → List ℕ
 sound_frame report.Verdicts i log = accepted_frame i
@@ -73,20 +51,6 @@ abbrev pub end_text : Report → Bool → List ℕ
 end_text what false = codes "log rejected\n"
 end_text report.Verdicts true = codes "log accepted, file not audited\n"
 end_text report.Answers true = codes "log complete\n"
-
-abbrev pub log_fault_name : LogFault → List ℕ
-log_fault_name fault.Magic = codes "magic"
-log_fault_name fault.Version = codes "version"
-log_fault_name fault.Kind = codes "kind"
-log_fault_name fault.Cut = codes "cut"
-log_fault_name fault.Mark = codes "mark"
-log_fault_name fault.Order = codes "order"
-log_fault_name fault.Tail = codes "tail"
-log_fault_name fault.Memory = codes "memory"
-
--- the line of bytes that are no logs
-abbrev pub undecoded_text : LogFault → List ℕ
-undecoded_text why = codes "log rejected " ++ log_fault_name why ++ line_end
 
 -- ---- what a job says
 

@@ -12,8 +12,9 @@ ghost use Rattle.log_jobs.specs.Lines.{frame_text, frame_texts, are_sound, on_lo
 ghost use Rattle.log_jobs.specs.Jobs.{Puts, stop_of};
 
 use crate::Report;
-use crate::lines::{end_text, frame_text, undecoded_text};
+use crate::lines::{end_text, frame_text};
 use crate::stop::Stop;
+use log_lines::undecoded_text;
 use log_model::Log;
 use log_verify::{Verdict, verify};
 use metric_laws::{Meter, Metric};

@@ -1,5 +1,5 @@
-use Rattle.log_jobs.proofs.Judged.{appended}
-use Rattle.log_jobs.proofs.lines.push_verdict.Goals as goal
+use Rattle.log_lines.proofs.Texts.{appended}
+use Rattle.log_lines.proofs.push_verdict.Goals as goal
 
 pub returns-in_ok-push_state-in-OtherState : goal.returns-in_ok-push_state-in-OtherState
 returns-in_ok-push_state-in-OtherState c =
