@@ -1,5 +1,5 @@
 -- Inserts and loads of a session, by what the index says of them.
-use Rattle.std.proofs.Common.{◌≡◌, ◌≢◌, ◌↔◌, ℕ, zero, suc, ◌+◌, ◌-◌, ◌^◌, ◌≤◌, ◌<◌, Bool, true, false, List, [], ◌∷◌, ◌++◌, length, take, inl, inr, refl, sym, ap, ◌∙◌, arith, Some, None, Result, Ok, Err}
+use Rattle.std.proofs.Common.{◌≡◌, ◌≢◌, ◌↔◌, ℕ, zero, suc, ◌+◌, ◌-◌, ◌^◌, ◌≤◌, ◌<◌, Bool, true, false, List, [], ◌∷◌, ◌++◌, length, take, inl, inr, refl, sym, ap, subst, ◌∙◌, arith, Some, None, Result, Ok, Err}
 use Rattle.std.specs.Prelude.{IsTrue, IfErr, nat_lt}
 use Rattle.std.specs.List.{range_with_len}
 use Rattle.metric_laws.specs.Space.{Space}
@@ -18,13 +18,14 @@ use Rattle.log_model.proofs.ByScan.{length-points}
 use Rattle.index_core.specs.declared.faults.IndexFault.{IndexFault}
 use Rattle.index_core.specs.declared.faults.IndexFault.TheVariants as fault
 use Rattle.index_core.specs.Answers.{IsSoundOn, points_on, tags_on}
-use Rattle.index_core.specs.Causes.{BlamesNoPage, HasInsertCause, IsPathDamage, IsDamage as IsWalkDamage}
+use Rattle.index_core.specs.Causes.{BlamesNoPage, HasInsertCause, IsPathDamage, IsDamage as IsWalkDamage, rules_of}
 use Rattle.index_core.specs.Files.{IsLawfulFile, nodes_on}
 use Rattle.index_core.specs.Index.{OpenIndex, StandsAlone}
 use Rattle.index_core.specs.Writing.{Inserts, HasWritten}
-use Rattle.session_run.specs.Session.{IsDamage, setting_of, state_on}
+use Rattle.session_run.specs.Session.{IsDamage, StandsBy, StandsIn, setting_of, state_on}
 use Rattle.session_run.specs.Steps.{HasStepCause, HasStepped, answer_of_fault, written_answer}
 use Rattle.session_run.specs.Turns.{Hinders, answered_query, query_of, version_on, write_of}
+use Rattle.session_run.proofs.Faults.{list_stands, path_stands}
 use Rattle.session_run.proofs.Writes.{write_stepped}
 
 -- ids from 0 on
@@ -99,6 +100,7 @@ module _ {M : Type 0} (s : Space) (show : Bool) (old new : OpenIndex M) (cursors
         worn = λ is. (worn.0 is).1;
         room = λ pages needed is sound. hinders pages needed (rw is at cause) sound;
         cause = causes result cause undamaged;
+        stands = stands result written cause;
         accepts_says = λ n. refl;
         tags_says = λ n. tt;
         tells = told;
@@ -128,6 +130,24 @@ module _ {M : Type 0} (s : Space) (show : Bool) (old new : OpenIndex M) (cursors
           Hinders s old.file.head (version_on old.file before) refusal.NoRoom (Inserts point tag)
       hinders pages needed (f, is, asked, cause) sound =
           let exact = (cause.2 sound.0).1 in (length (take asked f.free), room_of pages needed _ (length (take asked f.free)) cause.0 exact cause.1)
+
+      stands : (result : Result ℕ IndexFault) → HasWritten s (Inserts point tag) old new before after result → IfErr result (HasInsertCause s old (record { id = old.file.live.count; tag = tag; point = point }) before after) →
+          IfErr result (λ why. IfErr (answer_of_fault why) (StandsBy old.file.head.dim after))
+      stands (Ok n) written cause = tt
+      stands (Err (fault.Damaged f)) written cause = λ tells.
+          let now : IsTrue before.tells = rw (sym told) tells in
+          subst (λ (bytes : List ℕ). StandsIn old.file.head.dim bytes f) (sym (written.refused (λ e. absurd (cc))).same.same_bytes) (elim cause [
+            | inl listed ↦ list_stands old.file.head.dim old.file.live.pages before.bytes old.file.live f (listed.1.1 now)
+            | inr walked ↦ path_stands s (rules_of s old.file) old.file.head.dim old.file.live.pages before.bytes old.file.live (record { id = old.file.live.count; tag = tag; point = point }) f (walked.1 now)
+          ])
+      stands (Err fault.Disk) written cause = tt
+      stands (Err fault.Memory) written cause = tt
+      stands (Err fault.Full) written cause = tt
+      stands (Err fault.NotEmpty) written cause = tt
+      stands (Err (fault.NoRoom pages needed)) written cause = tt
+      stands (Err fault.Worn) written cause = tt
+      stands (Err fault.Stopped) written cause = tt
+      stands (Err fault.Commit) written cause = tt
 
       causes : (result : Result ℕ IndexFault) → IfErr result (HasInsertCause s old (record { id = old.file.live.count; tag = tag; point = point }) before after) →
           IfErr result (λ why. IsSoundOn s old.file before → BlamesNoPage why) → IfErr result (λ why. IfErr (answer_of_fault why) (HasStepCause (IsSoundOn s old.file before) before after))

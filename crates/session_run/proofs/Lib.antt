@@ -1,9 +1,14 @@
+pub mod Faults
 pub mod Reading
 pub mod Asking
 pub mod Opening
 pub mod Writes
 pub mod Inserts
 pub mod Loads
+pub mod Carrying
+pub mod Standing
+pub mod Pins
+pub mod Stepped
 pub mod Turning
 pub mod Runs
 pub mod Meanings

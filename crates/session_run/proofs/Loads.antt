@@ -1,5 +1,5 @@
 -- Loads of a session, by what the index says of them.
-use Rattle.std.proofs.Common.{◌≡◌, ◌≢◌, ℕ, ◌-◌, ◌^◌, ◌≤◌, Bool, true, false, List, length, refl, sym, ap, ◌∙◌, arith, Option, Some, None, Result, Ok, Err}
+use Rattle.std.proofs.Common.{◌≡◌, ◌≢◌, ℕ, ◌-◌, ◌^◌, ◌≤◌, Bool, true, false, List, length, refl, sym, ap, subst, ◌∙◌, arith, Option, Some, None, Result, Ok, Err}
 use Rattle.std.specs.Prelude.{IsTrue, MatchOption, IfErr, nat_lt, ◌==◌}
 use Rattle.metric_laws.specs.Space.{Space}
 use Rattle.disk_model.specs.Disk.{DiskState}
@@ -10,6 +10,7 @@ use Rattle.rows_text.specs.declared.refusal.Refusal.TheVariants as refusal
 use Rattle.rows_text.specs.declared.reply.Reply.TheVariants as reply
 use Rattle.rows_text.specs.Meaning.{State, Step, execute, has_points_of, load_step, step}
 use Rattle.plain_scan.specs.OpenCursors.{OpenCursors, with_cursors}
+use Rattle.page_store.specs.declared.pages.PageFault.{PageFault}
 use Rattle.free_pages.specs.Keeping.{FreePages}
 use Rattle.index_core.specs.declared.faults.IndexFault.{IndexFault}
 use Rattle.index_core.specs.declared.faults.IndexFault.TheVariants as fault
@@ -19,9 +20,10 @@ use Rattle.index_core.specs.Files.{IsLawfulFile}
 use Rattle.index_core.specs.Index.{OpenIndex, StandsAlone}
 use Rattle.index_core.specs.Loading.{HasLoadCause, HasLoadingCause, ids, load_fault}
 use Rattle.index_core.specs.Writing.{Loads, HasWritten}
-use Rattle.session_run.specs.Session.{setting_of, state_on}
+use Rattle.session_run.specs.Session.{StandsBy, StandsIn, setting_of, state_on}
 use Rattle.session_run.specs.Steps.{HasStepCause, HasStepped, answer_of_fault, written_answer}
 use Rattle.session_run.specs.Turns.{Hinders, answered_query, query_of, version_on, write_of}
+use Rattle.session_run.proofs.Faults.{list_stands}
 use Rattle.session_run.proofs.Inserts.{count_is, ids_are, walk_damage}
 use Rattle.session_run.proofs.Writes.{write_stepped}
 
@@ -104,6 +106,7 @@ module _ {M : Type 0} (s : Space) (show : Bool) (old new : OpenIndex M) (cursors
         worn = λ is. worn is (old.file.live.count == 0) refl (nat_lt old.file.head.limit (length rows)) refl (old.file.live.generation == 2 ^ 48 - 1) refl;
         room = λ pages needed is sound. room pages needed is (load_fault old (length rows)) refl;
         cause = causes result refl (load_fault old (length rows)) refl;
+        stands = stands result refl (load_fault old (length rows)) refl;
         accepts_says = λ n. refl;
         tags_says = λ n. tt;
         tells = told;
@@ -150,6 +153,34 @@ module _ {M : Type 0} (s : Space) (show : Bool) (old new : OpenIndex M) (cursors
               by_cases true n true m last e = let x = sym is ∙ refused fault.Full (full_fault n m) in cc
               by_cases true n false m true e = let x = sym is ∙ refused fault.Worn (worn_fault n m e) in cc
               by_cases true n false m false e = let x = sym l ∙ no_fault n m e in cc
+
+      unchanged : (f : PageFault) → result ≡ Err (fault.Damaged f) → after.bytes ≡ before.bytes
+      unchanged f is = let done : HasWritten s (Loads rows labels) old new before after (Err (fault.Damaged f)) = subst (HasWritten s (Loads rows labels) old new before after) is written in
+          (done.refused (λ e. absurd (cc))).same.same_bytes
+
+      never : (f : PageFault) (g : IndexFault) → result ≡ Err (fault.Damaged f) → load_fault old (length rows) ≡ Some g → (none : Bool) → (old.file.live.count == 0) ≡ none → (many : Bool) →
+          nat_lt old.file.head.limit (length rows) ≡ many → (last : Bool) → (old.file.live.generation == 2 ^ 48 - 1) ≡ last → ⊥
+      never f g is l false n many m last e = let x = sym is ∙ refused fault.NotEmpty (filled_fault n) in cc
+      never f g is l true n true m last e = let x = sym is ∙ refused fault.Full (full_fault n m) in cc
+      never f g is l true n false m true e = let x = sym is ∙ refused fault.Worn (worn_fault n m e) in cc
+      never f g is l true n false m false e = let x = sym l ∙ no_fault n m e in cc
+
+      stands : (r : Result ℕ IndexFault) → result ≡ r → (f : Option IndexFault) → load_fault old (length rows) ≡ f → IfErr r (λ why. IfErr (answer_of_fault why) (StandsBy old.file.head.dim after))
+      stands (Ok n) is f l = tt
+      stands (Err (fault.Damaged f)) is None l = λ tells.
+          let now : IsTrue before.tells = rw (sym told) tells in
+          let why = rw is at cause l in
+          subst (λ (bytes : List ℕ). StandsIn old.file.head.dim bytes f) (sym (unchanged f is)) (list_stands old.file.head.dim old.file.live.pages before.bytes old.file.live f (why.1.1 now))
+      stands (Err (fault.Damaged f)) is (Some g) l =
+          λ tells. absurd (never f g is l (old.file.live.count == 0) refl (nat_lt old.file.head.limit (length rows)) refl (old.file.live.generation == 2 ^ 48 - 1) refl)
+      stands (Err fault.Disk) is f l = tt
+      stands (Err fault.Memory) is f l = tt
+      stands (Err fault.Full) is f l = tt
+      stands (Err fault.NotEmpty) is f l = tt
+      stands (Err (fault.NoRoom pages needed)) is f l = tt
+      stands (Err fault.Worn) is f l = tt
+      stands (Err fault.Stopped) is f l = tt
+      stands (Err fault.Commit) is f l = tt
 
       causes : (r : Result ℕ IndexFault) → result ≡ r → (f : Option IndexFault) → load_fault old (length rows) ≡ f → IfErr r (λ why. IfErr (answer_of_fault why) (HasStepCause (IsSoundOn s old.file before) before after))
       causes (Ok n) is f l = tt

@@ -20,9 +20,9 @@ use Rattle.index_core.specs.Writing.{HasObjects}
 use Rattle.index_core.proofs.Written.{holds, has_still}
 use Rattle.session_run.specs.declared.answer.Answer.{Answer}
 use Rattle.session_run.specs.declared.stop.Stop.{Stop}
-use Rattle.session_run.specs.Session.{HoldsState, setting_of, state_on}
+use Rattle.session_run.specs.Session.{HoldsState, IsAsking, StandsBy, most_read, setting_of, state_on}
 use Rattle.session_run.specs.Steps.{HasStepCause, HasStepped, HoldsOne, IsTaken}
-use Rattle.session_run.specs.Turns.{HasLog, IsHindrance, IsVersionAfter, Version, answered_query, version_on}
+use Rattle.session_run.specs.Turns.{HasLog, IsHindrance, IsVersionAfter, Version, answered_query, if_any, version_on}
 
 -- the objects of a sound file
 pub objects_on : {M : Type 0} (s : Space) (file : OpenFile M) (disk : DiskState) → IsSoundOn s file disk → HasObjects s file disk (points_on file disk) (tags_on file disk)
@@ -56,8 +56,8 @@ pub read_taken : {M : Type 0} (s : Space) (show : Bool) (index : OpenIndex M) (n
     IsLawfulFile s.words index.file → StandsAlone index before → OnlyReads index.file new before after → IsSoundOn s index.file before →
     hindered why (state_on index.file before opened) (step (setting_of s index.file) (state_on index.file before opened) c) ≡ record { reply = meant; state = state_on index.file before cursors } →
     accepts meant ≡ false → IsHindrance s index.file.head (version_on index.file before) c why → HasLog s (version_on index.file before) (answered_query s c) a.log → text show a.reply ≡ text show meant →
-    IsTaken s show index.file new opened cursors before after c a
-read_taken s show index new opened cursors before after c a why meant lawful alone reads sound meaning none hindrance logged same = let old = index.file in record {
+    (IsAsking c → after.reads ≤ before.reads + most_read show (if_any a.log)) → IsTaken s show index.file new opened cursors before after c a
+read_taken s show index new opened cursors before after c a why meant lawful alone reads sound meaning none hindrance logged same few = let old = index.file in record {
   turn = record { command = c; why = why; reply = meant; log = a.log; state = state_on new after cursors; file = version_on new after };
   is = record {
     meaning = meaning ∙ ap (λ (state : State). (let done : Step = record { reply = meant; state = state } in done)) (sym (state_still old new before after cursors reads));
@@ -72,42 +72,43 @@ read_taken s show index new opened cursors before after c a why meant lawful alo
   log = refl;
   same_text = same;
   moments = either_reading s index new opened before after (state_on new after cursors) lawful alone reads sound;
+  reads = few;
 }
 
 -- a command that only reads and is answered
 pub read_stepped : {M : Type 0} (s : Space) (show : Bool) (old new : OpenIndex M) (opened cursors : OpenCursors) (before after : DiskState) (c : Command) (a : Answer) →
-    IsLawfulFile s.words old.file → StandsAlone old before → new.stopped ≡ false → OnlyReads old.file new.file before after → cursors.next ≤ opened.next + 1 →
+    IsLawfulFile s.words old.file → StandsAlone old before → new.stopped ≡ false → OnlyReads old.file new.file before after →
     MatchOption a.log (Unit {0}) IsLawfulLog → (show ≡ true → TagsAre a.reply) →
     (IsSoundOn s old.file before → IsTaken s show old.file new.file opened cursors before after c a) →
     HasStepped s show old new opened cursors before after c (Ok a)
-read_stepped {M} s show old new opened cursors before after c a lawful alone going reads numbers spelled tagged taken = record {
+read_stepped {M} s show old new opened cursors before after c a lawful alone going reads spelled tagged taken = record {
   going = going;
   head = ap (λ (file : OpenFile M). file.head) reads.rest;
   metric = ap (λ (file : OpenFile M). file.metric) reads.rest;
   tells = reads.same.same_tells;
   later = reads.later;
-  numbers = numbers;
   spelled = spelled;
   tagged = tagged;
   cause = tt;
+  stands = tt;
   taken = taken;
   moments = λ sound. tt;
 }
 
 -- a command that only reads and ends the session
 pub read_stopped : {M : Type 0} (s : Space) (show : Bool) (old new : OpenIndex M) (opened cursors : OpenCursors) (before after : DiskState) (c : Command) (why : Stop) →
-    IsLawfulFile s.words old.file → StandsAlone old before → OnlyReads old.file new.file before after → cursors.next ≤ opened.next + 1 → HasStepCause (IsSoundOn s old.file before) before after why →
+    IsLawfulFile s.words old.file → StandsAlone old before → OnlyReads old.file new.file before after → HasStepCause (IsSoundOn s old.file before) before after why → StandsBy old.file.head.dim after why →
     HasStepped s show old new opened cursors before after c (Err why)
-read_stopped {M} s show old new opened cursors before after c why lawful alone reads numbers cause = record {
+read_stopped {M} s show old new opened cursors before after c why lawful alone reads cause stands = record {
   going = tt;
   head = tt;
   metric = tt;
   tells = reads.same.same_tells;
   later = reads.later;
-  numbers = numbers;
   spelled = tt;
   tagged = tt;
   cause = cause;
+  stands = stands;
   taken = λ sound. tt;
   moments = λ sound. either_reading s old new.file opened before after (step (setting_of s old.file) (state_on old.file before opened) c).state lawful alone reads sound;
 }

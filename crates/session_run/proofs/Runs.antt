@@ -1,17 +1,14 @@
 -- A session, turn by turn.
-use Rattle.std.proofs.Common.{◌≡◌, ◌⊎◌, ℕ, suc, ◌+◌, ◌≤◌, ◌<◌, Bool, List, [], ◌∷◌, ◌++◌, length, drop, get_or, inl, inr, refl, sym, ap, subst, ◌∙◌, arith, append_assoc, length-append, Some, None, Result}
-use Rattle.std.specs.Prelude.{IsTrue}
-use Rattle.std.specs.List.{concat}
+use Rattle.std.proofs.Common.{◌≡◌, ◌⊎◌, ℕ, suc, ◌+◌, ◌≤◌, ◌<◌, Bool, true, false, List, [], ◌∷◌, ◌++◌, length, drop, get_or, inl, inr, refl, sym, ap, subst, ◌∙◌, arith, append_assoc, length-append, Some, None, Result}
+use Rattle.std.specs.List.{AllByRecursion, AllZip, concat}
 use Rattle.std.specs.Io.KnownBytes.{Appends}
 use Rattle.std.proofs.KnownBytes.{Appends-nil, Appends-trans}
 use Rattle.std.proofs.lemmas.List.{append-nil}
 use Rattle.std.proofs.Math.Seq.{drop-cons}
 use Rattle.metric_laws.specs.Space.{Space}
-use Rattle.outside_io.specs.Causes.{Rose}
 use Rattle.outside_io.specs.Sinks.{SinkState}
 use Rattle.disk_model.specs.Disk.{DiskState, EachImage}
 use Rattle.disk_model.specs.Moments.{joined, started, weakened}
-use Rattle.tree_shape.specs.Tree.{IsSoundTree}
 use Rattle.node_page.specs.declared.head.Head.{Head}
 use Rattle.rows_text.specs.declared.command.Command.{Command}
 use Rattle.rows_text.specs.Meaning.{Setting, State, step}
@@ -22,12 +19,15 @@ use Rattle.plain_scan.proofs.WrittenLemmas.{front_appended}
 use Rattle.log_model.specs.declared.logs.Log.{Log}
 use Rattle.prune_log.specs.Spelling.{frame_bytes, log_bytes}
 use Rattle.index_core.specs.Answers.{IsSoundOn}
-use Rattle.index_core.specs.Files.{IsLawfulFile}
+use Rattle.index_core.specs.Files.{OpenFile, IsLawfulFile}
 use Rattle.index_core.specs.Index.{OpenIndex, StandsAlone}
 use Rattle.index_core.proofs.Written.{holds}
+use Rattle.session_run.specs.declared.pinned.PinnedCursor.{PinnedCursor}
+use Rattle.session_run.specs.declared.pinned.PinnedCursors.{PinnedCursors}
 use Rattle.session_run.specs.declared.stop.Stop.{Stop}
 use Rattle.session_run.specs.declared.stop.Stop.TheVariants as stop
-use Rattle.session_run.specs.Session.{Ends, HasRun, HasStopCause, HoldsNext, HoldsSome, HoldsState, IsCutShort, no_cursors, setting_of, state_on}
+use Rattle.session_run.specs.Pinned.{GoesOn, StandsFor}
+use Rattle.session_run.specs.Session.{Ends, Grew, HasRun, HasStopCause, HoldsNext, HoldsSome, HoldsState, IsAsking, IsCutShort, most_read, no_cursors, records_in, setting_of, state_on}
 use Rattle.session_run.specs.Steps.{HasTurned, HoldsEither, HoldsOne, IsPartlyPut, IsPut, IsStoppedAt}
 use Rattle.session_run.specs.Turns.{AreTurns, IsTurn, Turn, Version, commands_of, file_after, framed, if_any, logs_of, state_after, texts_of, version_on}
 use Rattle.session_run.proofs.Asking.{rose_more}
@@ -72,6 +72,23 @@ holds_last : (setting : Setting) (head : Head) (state : State) (turns : List Tur
 holds_last setting head state [] image holds = holds
 holds_last setting head state (u ∷ turns) image holds = inr (holds_last setting head u.state turns image holds)
 
+-- ---- what is read
+none_read : (show : Bool) (reads : ℕ) → reads ≤ reads + most_read show []
+none_read true reads = omega arith
+none_read false reads = omega arith
+
+records_both : (first second : List Log) → records_in (first ++ second) ≡ records_in first + records_in second
+records_both [] second = omega arith
+records_both (log ∷ first) second = let more = records_both first second in omega (arith, more)
+
+read_more : (show : Bool) (first second : List Log) (before mid after : ℕ) → mid ≤ before + most_read show first → after ≤ mid + most_read show second → after ≤ before + most_read show (first ++ second)
+read_more true first second before mid after one two = let both = records_both first second in omega (arith, both, one, two)
+read_more false first second before mid after one two = let both = records_both first second in omega (arith, both, one, two)
+
+asks_both : (turns : List Turn) (t : Turn) → AllByRecursion IsAsking (commands_of (turns ++ t ∷ [])) → AllByRecursion IsAsking (commands_of turns) × IsAsking t.command
+asks_both [] t asks = (tt, asks.0)
+asks_both (u ∷ turns) t asks = let more = asks_both turns t asks.1 in ((asks.0, more.0), more.1)
+
 -- ---- a session that goes on
 module _ {M : Type 0} (s : Space) (show : Bool) (old : OpenIndex M) (disk0 : DiskState) (commands : List Command) (out0 log0 : SinkState) where
   abbrev pub setting : Setting
@@ -84,8 +101,9 @@ module _ {M : Type 0} (s : Space) (show : Bool) (old : OpenIndex M) (disk0 : Dis
   file0 = version_on old.file disk0
 
   -- the first commands are done, each of them a turn, and these are the others
-  pub record HasDone (new : OpenIndex M) (cursors : OpenCursors) (disk1 : DiskState) (rest : List Command) (out1 log1 : SinkState) (acknowledged : ℕ) : Type 0 where
+  pub record HasDone (new : OpenIndex M) (pinned : PinnedCursors) (disk1 : DiskState) (rest : List Command) (out1 log1 : SinkState) (acknowledged : ℕ) : Type 0 where
     pub turns : List Turn
+    pub cursors : OpenCursors
     pub whole : commands ≡ commands_of turns ++ rest
     pub are : AreTurns setting old.file.head state0 file0 turns
     pub state : state_after state0 turns ≡ state_on new.file disk1 cursors
@@ -93,12 +111,15 @@ module _ {M : Type 0} (s : Space) (show : Bool) (old : OpenIndex M) (disk0 : Dis
     pub count : acknowledged ≡ length turns
     pub written : Appends out0.written out1.written (concat (texts_of show turns))
     pub logged : Appends log0.written log1.written (framed (logs_of turns))
-    pub sound : IsSoundOn s new.file disk1
+    pub goes : GoesOn s new disk1 pinned cursors
+    pub reads : AllByRecursion IsAsking (commands_of turns) → disk1.reads ≤ disk0.reads + most_read show (logs_of turns)
     pub moments : EachImage disk0 disk1 (HoldsSome setting old.file.head state0 turns)
 
-  pub begun : IsLawfulFile s.words old.file → StandsAlone old disk0 → IsSoundOn s old.file disk0 → HasDone old no_cursors disk0 commands out0 log0 0
-  begun lawful alone sound = record {
+  pub begun : (pinned : PinnedCursors) → pinned.cursors.items ≡ [] → pinned.next ≡ 0 → IsLawfulFile s.words old.file → StandsAlone old disk0 → IsSoundOn s old.file disk0 →
+      HasDone old pinned disk0 commands out0 log0 0
+  begun pinned none first lawful alone sound = record {
     turns = [];
+    cursors = no_cursors;
     whole = refl;
     are = tt;
     state = refl;
@@ -106,13 +127,20 @@ module _ {M : Type 0} (s : Space) (show : Bool) (old : OpenIndex M) (disk0 : Dis
     count = refl;
     written = Appends-nil out0.written;
     logged = Appends-nil log0.written;
-    sound = sound;
+    goes = record {
+      sound = sound;
+      cursors = record { each = subst (λ (l : List PinnedCursor). AllZip (StandsFor s old disk0.bytes) l []) (sym none) tt; next = sym first };
+    };
+    reads = λ asks. none_read show disk0.reads;
     moments = started disk0 (HoldsSome setting old.file.head state0 []) (λ image left.
         subst (λ (file : List ℕ). HoldsState s old.file.head state0 file) (sym (alone.only sound.0 image left)) (holds s old.file disk0 _ _ lawful alone.stands (objects_on s old.file disk0 sound)));
   }
 
-  module _ (mid : OpenIndex M) (cursors : OpenCursors) (disk1 : DiskState) (c : Command) (rest : List Command) (out1 log1 : SinkState) (acknowledged : ℕ)
-      (same_head : mid.file.head ≡ old.file.head) (so_far : HasDone mid cursors disk1 (c ∷ rest) out1 log1 acknowledged) where
+  module _ (mid : OpenIndex M) (pinned : PinnedCursors) (disk1 : DiskState) (c : Command) (rest : List Command) (out1 log1 : SinkState) (acknowledged : ℕ)
+      (same_head : mid.file.head ≡ old.file.head) (so_far : HasDone mid pinned disk1 (c ∷ rest) out1 log1 acknowledged) where
+    abbrev cursors : OpenCursors
+    cursors = so_far.cursors
+
     -- a turn is one of the session's
     turn_is : (t : Turn) → IsTurn (setting_of s mid.file) mid.file.head (state_on mid.file disk1 cursors) (version_on mid.file disk1) t →
         IsTurn setting old.file.head (state_after state0 so_far.turns) (file_after file0 so_far.turns) t
@@ -121,13 +149,11 @@ module _ {M : Type 0} (s : Space) (show : Bool) (old : OpenIndex M) (disk0 : Dis
     first_is : (image : List ℕ) → HoldsState s mid.file.head (state_on mid.file disk1 cursors) image → HoldsState s old.file.head (state_after state0 so_far.turns) image
     first_is image holds = subst (λ (state : State). HoldsState s old.file.head state image) (sym so_far.state) (subst (λ (h : Head). HoldsState s h (state_on mid.file disk1 cursors) image) same_head holds)
 
-    sound_after : (new : OpenIndex M) (opens : OpenCursors) (disk2 : DiskState) (out2 log2 : SinkState) → IsPut s show mid.file new.file cursors opens disk1 disk2 c out1 out2 log1 log2 → IsTrue disk2.tells → IsSoundOn s new.file disk2
-    sound_after new opens disk2 out2 log2 put told = (told, subst (λ (v : Version). IsSoundTree s v.nodes v.live) put.file put.is.objects.sound)
-
-    pub one_more : (new : OpenIndex M) (opens : OpenCursors) (disk2 : DiskState) (out2 log2 : SinkState) → disk2.tells ≡ disk1.tells → IsPut s show mid.file new.file cursors opens disk1 disk2 c out1 out2 log1 log2 →
-        HasDone new opens disk2 rest out2 log2 (acknowledged + 1)
-    one_more new opens disk2 out2 log2 same_tells put = record {
+    pub one_more : (new : OpenIndex M) (after : PinnedCursors) (opens : OpenCursors) (disk2 : DiskState) (out2 log2 : SinkState) → IsPut s show mid.file new.file cursors opens disk1 disk2 c out1 out2 log1 log2 →
+        GoesOn s new disk2 after opens → HasDone new after disk2 rest out2 log2 (acknowledged + 1)
+    one_more new after opens disk2 out2 log2 put goes = record {
       turns = so_far.turns ++ put.turn ∷ [];
+      cursors = opens;
       whole = so_far.whole ∙ ap (λ (d : Command). commands_of so_far.turns ++ d ∷ rest) (sym put.command) ∙ sym (commands_more so_far.turns put.turn rest);
       are = are_more setting old.file.head state0 file0 so_far.turns put.turn so_far.are (turn_is put.turn put.is);
       state = state_more state0 so_far.turns put.turn ∙ put.state;
@@ -135,7 +161,11 @@ module _ {M : Type 0} (s : Space) (show : Bool) (old : OpenIndex M) (disk0 : Dis
       count = let n = length-append so_far.turns (put.turn ∷ []) in omega (arith, so_far.count, n);
       written = rw (texts_more show so_far.turns put.turn) (Appends-trans out0.written out1.written out2.written _ _ so_far.written put.written);
       logged = rw (logs_more so_far.turns put.turn, framed_both (logs_of so_far.turns) (if_any put.turn.log)) (Appends-trans log0.written log1.written log2.written _ _ so_far.logged put.logged);
-      sound = sound_after new opens disk2 out2 log2 put (rw same_tells so_far.sound.0);
+      goes = goes;
+      reads = λ asks.
+          let both = asks_both so_far.turns put.turn asks in
+          rw (logs_more so_far.turns put.turn)
+          (read_more show (logs_of so_far.turns) (if_any put.turn.log) disk0.reads disk1.reads disk2.reads (so_far.reads both.0) (put.reads (subst IsAsking put.command both.1)));
       moments = joined disk0 disk1 disk2 (HoldsSome setting old.file.head state0 (so_far.turns ++ put.turn ∷ []))
           (weakened disk0 disk1 (HoldsSome setting old.file.head state0 so_far.turns) (HoldsSome setting old.file.head state0 (so_far.turns ++ put.turn ∷ [])) so_far.moments
           (λ image holds. holds_more setting old.file.head state0 so_far.turns put.turn image holds))
@@ -168,6 +198,7 @@ module _ {M : Type 0} (s : Space) (show : Bool) (old : OpenIndex M) (disk0 : Dis
       written = (puts why refl at).3;
       logged = (puts why refl at).4;
       last = λ e. absurd (cc);
+      reads = λ e. absurd (cc);
       moments = joined disk0 disk1 disk2 _
           (weakened disk0 disk1 (HoldsSome setting old.file.head state0 so_far.turns) _ so_far.moments (λ image holds. inl holds))
           (weakened disk1 disk2 (HoldsEither s mid.file disk1 cursors c) _ moments (λ image holds. elim (second_is image holds) [
@@ -225,10 +256,10 @@ module _ {M : Type 0} (s : Space) (show : Bool) (old : OpenIndex M) (disk0 : Dis
             }
 
   -- no command is left
-  pub finished : (new : OpenIndex M) (cursors : OpenCursors) (disk1 : DiskState) (out1 log1 : SinkState) (acknowledged : ℕ) → new.file.head ≡ old.file.head → IsLawfulFile s.words new.file →
-      StandsAlone new disk1 → HasDone new cursors disk1 [] out1 log1 acknowledged →
-      HasRun setting old.file.head show commands state0 file0 disk0 disk1 out0 out1 log0 log1 acknowledged None (version_on new.file disk1)
-  finished new cursors disk1 out1 log1 acknowledged same_head lawful alone done = record {
+  pub finished : (new closed : OpenIndex M) (pinned : PinnedCursors) (disk1 : DiskState) (out1 log1 : SinkState) (acknowledged : ℕ) → new.file.head ≡ old.file.head → closed.file ≡ new.file → IsLawfulFile s.words new.file →
+      StandsAlone new disk1 → HasDone new pinned disk1 [] out1 log1 acknowledged →
+      HasRun setting old.file.head show commands state0 file0 disk0 disk1 out0 out1 log0 log1 acknowledged None (version_on closed.file disk1)
+  finished new closed pinned disk1 out1 log1 acknowledged same_head same_file lawful alone done = record {
     turns = done.turns;
     more = [];
     rest = [];
@@ -239,12 +270,13 @@ module _ {M : Type 0} (s : Space) (show : Bool) (old : OpenIndex M) (disk0 : Dis
     ends = (refl, refl, refl);
     written = rw (append-nil (concat (texts_of show done.turns))) done.written;
     logged = rw (append-nil (framed (logs_of done.turns))) done.logged;
-    last = λ none. sym done.file;
+    last = λ none. ap (λ (f : OpenFile M). version_on f disk1) same_file ∙ sym done.file;
+    reads = λ none asks. done.reads (subst (AllByRecursion IsAsking) (done.whole ∙ append-nil (commands_of done.turns)) asks);
     moments = weakened disk0 disk1 (HoldsSome setting old.file.head state0 done.turns) _ done.moments (λ image holds. inl holds);
     remains = λ image left. inl (subst (λ (state : State). HoldsState s old.file.head state image) (sym done.state)
-        (subst (λ (h : Head). HoldsState s h (state_on new.file disk1 cursors) image) same_head
-        (subst (λ (file : List ℕ). HoldsState s new.file.head (state_on new.file disk1 cursors) file) (sym (alone.only done.sound.0 image left))
-        (holds s new.file disk1 _ _ lawful alone.stands (objects_on s new.file disk1 done.sound)))));
+        (subst (λ (h : Head). HoldsState s h (state_on new.file disk1 done.cursors) image) same_head
+        (subst (λ (file : List ℕ). HoldsState s new.file.head (state_on new.file disk1 done.cursors) file) (sym (alone.only done.goes.sound.0 image left))
+        (holds s new.file disk1 _ _ lawful alone.stands (objects_on s new.file disk1 done.goes.sound)))));
   }
 
 -- a fault that ends a session has its cause in the session
@@ -261,12 +293,16 @@ cause_since disk0 disk1 disk2 out0 out1 out2 log0 log1 log2 stop.Memory later ou
 -- ---- for the loop
 
 -- a turn of an index with the same metric
-pub turned_on : {M : Type 0} (space : M → Space) (show : Bool) (old mid new : OpenIndex M) (opened cursors : OpenCursors) (before after : DiskState) (c : Command) (out0 out1 log0 log1 : SinkState) (result : Result (Unit {0}) Stop) →
-    mid.file.metric ≡ old.file.metric → HasTurned (space mid.file.metric) show mid new opened cursors before after c out0 out1 log0 log1 result →
-    HasTurned (space old.file.metric) show mid new opened cursors before after c out0 out1 log0 log1 result
-turned_on {M} space show old mid new opened cursors before after c out0 out1 log0 log1 result same turned =
-    subst (λ (m : M). HasTurned (space m) show mid new opened cursors before after c out0 out1 log0 log1 result) same turned
+pub turned_on : {M : Type 0} (space : M → Space) (show : Bool) (old mid new : OpenIndex M) (pinned0 pinned1 : PinnedCursors) (before after : DiskState) (c : Command) (out0 out1 log0 log1 : SinkState) (result : Result (Unit {0}) Stop) →
+    mid.file.metric ≡ old.file.metric → HasTurned (space mid.file.metric) show mid new pinned0 pinned1 before after c out0 out1 log0 log1 result →
+    HasTurned (space old.file.metric) show mid new pinned0 pinned1 before after c out0 out1 log0 log1 result
+turned_on {M} space show old mid new pinned0 pinned1 before after c out0 out1 log0 log1 result same turned =
+    subst (λ (m : M). HasTurned (space m) show mid new pinned0 pinned1 before after c out0 out1 log0 log1 result) same turned
 
 -- the next command
 pub next_item : (commands : List Command) (i : ℕ) (c : Command) → i < length commands → c ≡ get_or commands i c → drop i commands ≡ c ∷ drop (i + 1) commands
 next_item commands i c low is = let n : i + 1 ≡ suc i = omega arith in rw n (drop-cons commands i c low ∙ ap (λ (d : Command). d ∷ drop (suc i) commands) (sym is))
+
+-- outputs that grew, and grew again
+pub grew_more : (first mid last : SinkState) → Grew first mid → Grew mid last → Grew first last
+grew_more first mid last one two = (one.0 ++ two.0, Appends-trans first.written mid.written last.written one.0 two.0 one.1 two.1)

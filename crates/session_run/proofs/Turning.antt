@@ -1,7 +1,9 @@
 -- A command whose log and reply are written.
-use Rattle.std.proofs.Common.{◌≡◌, ◌⊎◌, ℕ, ◌≤◌, Bool, true, false, List, inl, inr, refl, sym, ap, subst, ◌∙◌, arith, Option, Some, None, Result, Ok, Err}
+use Rattle.std.proofs.Common.{◌≡◌, ◌⊎◌, ℕ, ◌≤◌, Bool, true, false, List, [], inl, inr, refl, sym, ap, subst, ◌∙◌, arith, Option, Some, None, Result, Ok, Err}
 use Rattle.std.specs.Prelude.{OnOk, OnErr, IfErr}
 use Rattle.std.specs.Io.KnownBytes.{Appends}
+use Rattle.std.proofs.KnownBytes.{Appends-nil}
+use Rattle.outside_io.specs.Bytes.{AppendsPrefix}
 use Rattle.metric_laws.specs.Space.{Space}
 use Rattle.outside_io.specs.Causes.{Rose}
 use Rattle.outside_io.specs.Sinks.{SinkState}
@@ -13,13 +15,14 @@ use Rattle.rows_text.specs.Meaning.{State, Step, accepts, hindered, refused, ste
 use Rattle.rows_text.specs.Texts.{text}
 use Rattle.plain_scan.specs.OpenCursors.{OpenCursors}
 use Rattle.log_model.specs.declared.logs.Log.{Log}
-use Rattle.index_core.specs.Answers.{IsSoundOn}
 use Rattle.index_core.specs.Index.{OpenIndex}
 use Rattle.session_run.specs.declared.answer.Answer.{Answer}
+use Rattle.session_run.specs.declared.pinned.PinnedCursors.{PinnedCursors}
 use Rattle.session_run.specs.declared.stop.Stop.{Stop}
 use Rattle.session_run.specs.declared.stop.Stop.TheVariants as stop
-use Rattle.session_run.specs.Session.{HasStopCause, HoldsState, setting_of, state_on}
-use Rattle.session_run.specs.Steps.{HasStepCause, HasStepped, HasTurned, HoldsEither, HoldsOne, IsCut, IsStoppedAt, IsTaken}
+use Rattle.session_run.specs.Pinned.{CanGoOn}
+use Rattle.session_run.specs.Session.{Grew, HasStopCause, HoldsState, setting_of, state_on}
+use Rattle.session_run.specs.Steps.{HasCarriedOut, HasStepCause, HasTurned, HoldsEither, HoldsOne, IsCut, IsStoppedAt, IsTaken}
 use Rattle.session_run.specs.Turns.{framed, if_any}
 
 -- a step has the state that is meant, or the one before
@@ -31,9 +34,23 @@ either_state (Some why) state done meant is = by_reply (accepts done.reply) refl
     by_reply true e = let same : refused state why ≡ meant = rw e at is in inr (ap (λ (d : Step). d.state) (sym same))
     by_reply false e = let same : done ≡ meant = rw e at is in inl (ap (λ (d : Step). d.state) (sym same))
 
-module _ {M : Type 0} (s : Space) (show : Bool) (old new : OpenIndex M) (opened cursors : OpenCursors) (before after : DiskState) (c : Command) where
-  taken_moments : (a : Answer) → IsTaken s show old.file new.file opened cursors before after c a → EachImage before after (HoldsEither s old.file before opened c)
-  taken_moments a taken =
+-- ---- what is put
+
+grew_none : (out : SinkState) → Grew out out
+grew_none out = ([], Appends-nil out.written)
+
+front_grew : (old new : Option (List ℕ)) (bytes : List ℕ) → AppendsPrefix old new bytes → (front : List ℕ) × Appends old new front
+front_grew None new bytes is = ([], tt)
+front_grew (Some xs) None bytes is = absurd is
+front_grew (Some xs) (Some ys) bytes is = (is.0, is.3)
+
+cut_grew : (out0 out1 log0 log1 : SinkState) (reply frame : List ℕ) → IsCut out0 out1 log0 log1 reply frame → Grew out0 out1 × Grew log0 log1
+cut_grew out0 out1 log0 log1 reply frame (inl cut) = (subst (λ (o : SinkState). Grew out0 o) (sym cut.0) (grew_none out0), front_grew log0.written log1.written frame cut.1)
+cut_grew out0 out1 log0 log1 reply frame (inr cut) = (front_grew out0.written out1.written reply cut.0, (frame, cut.1))
+
+module _ {M : Type 0} (s : Space) (show : Bool) (old new : OpenIndex M) (pinned0 pinned1 : PinnedCursors) (before after : DiskState) (c : Command) where
+  taken_moments : (opened cursors : OpenCursors) (a : Answer) → IsTaken s show old.file new.file opened cursors before after c a → EachImage before after (HoldsEither s old.file before opened c)
+  taken_moments opened cursors a taken =
       weakened before after (HoldsOne s old.file.head (state_on old.file before opened) taken.turn.state) (HoldsEither s old.file before opened c) taken.moments (λ image holds. elim holds [
         | inl was ↦ inl was
         | inr now ↦ elim (either_state taken.turn.why (state_on old.file before opened) (step (setting_of s old.file) (state_on old.file before opened) taken.turn.command) _ taken.is.meaning) [
@@ -44,7 +61,7 @@ module _ {M : Type 0} (s : Space) (show : Bool) (old new : OpenIndex M) (opened 
       ])
 
   -- the step itself ended the session
-  pub turned_stopped : (why : Stop) (out log : SinkState) → HasStepped s show old new opened cursors before after c (Err why) → HasTurned s show old new opened cursors before after c out out log log (Err why)
+  pub turned_stopped : (why : Stop) (out log : SinkState) → HasCarriedOut s show old new pinned0 pinned1 before after c (Err why) → HasTurned s show old new pinned0 pinned1 before after c out out log log (Err why)
   turned_stopped why out log did = record {
     going = tt;
     head = tt;
@@ -53,27 +70,31 @@ module _ {M : Type 0} (s : Space) (show : Bool) (old new : OpenIndex M) (opened 
     later = did.later;
     out_later = omega arith;
     log_later = omega arith;
-    numbers = did.numbers;
+    grew = grew_none out;
+    log_grew = grew_none log;
+    numbers = tt;
+    kept = tt;
     cause = cause why did.cause;
-    put = λ sound. tt;
-    stopped = λ sound. stopped why did.cause;
+    stands = did.stands;
+    put = λ opened goes. tt;
+    stopped = λ opened goes. stopped opened why did.cause;
     moments = did.moments;
   }
     where
-      cause : (why : Stop) → HasStepCause (IsSoundOn s old.file before) before after why → HasStopCause (IsSoundOn s old.file before) before after out out log log why
+      cause : (why : Stop) → HasStepCause (CanGoOn s old before pinned0) before after why → HasStopCause (CanGoOn s old before pinned0) before after out out log log why
       cause stop.Disk is = is
       cause (stop.Damaged page) is = is
       cause stop.Memory is = tt
       cause stop.Sink is = absurd is
 
-      stopped : (why : Stop) → HasStepCause (IsSoundOn s old.file before) before after why → IsStoppedAt s show old.file opened before c out out log log why
-      stopped stop.Disk is = (refl, refl)
-      stopped (stop.Damaged page) is = (refl, refl)
-      stopped stop.Memory is = (refl, refl)
-      stopped stop.Sink is = absurd is
+      stopped : (opened : OpenCursors) (why : Stop) → HasStepCause (CanGoOn s old before pinned0) before after why → IsStoppedAt s show old.file opened before c out out log log why
+      stopped opened stop.Disk is = (refl, refl)
+      stopped opened (stop.Damaged page) is = (refl, refl)
+      stopped opened stop.Memory is = (refl, refl)
+      stopped opened stop.Sink is = absurd is
 
   -- there was no memory for what is written
-  pub turned_memory : (a : Answer) (out log : SinkState) → HasStepped s show old new opened cursors before after c (Ok a) → HasTurned s show old new opened cursors before after c out out log log (Err stop.Memory)
+  pub turned_memory : (a : Answer) (out log : SinkState) → HasCarriedOut s show old new pinned0 pinned1 before after c (Ok a) → HasTurned s show old new pinned0 pinned1 before after c out out log log (Err stop.Memory)
   turned_memory a out log did = record {
     going = tt;
     head = tt;
@@ -82,17 +103,21 @@ module _ {M : Type 0} (s : Space) (show : Bool) (old new : OpenIndex M) (opened 
     later = did.later;
     out_later = omega arith;
     log_later = omega arith;
-    numbers = did.numbers;
+    grew = grew_none out;
+    log_grew = grew_none log;
+    numbers = tt;
+    kept = tt;
     cause = tt;
-    put = λ sound. tt;
-    stopped = λ sound. (refl, refl);
-    moments = λ sound. taken_moments a (did.taken sound);
+    stands = tt;
+    put = λ opened goes. tt;
+    stopped = λ opened goes. (refl, refl);
+    moments = λ opened goes. let taken = did.taken opened goes in taken_moments opened taken.0 a taken.1;
   }
 
   -- all is written
-  pub turned : (a : Answer) (reply frame : List ℕ) (out0 out1 log0 log1 : SinkState) → HasStepped s show old new opened cursors before after c (Ok a) → reply ≡ text show a.reply → frame ≡ framed (if_any a.log) →
+  pub turned : (a : Answer) (reply frame : List ℕ) (out0 out1 log0 log1 : SinkState) → HasCarriedOut s show old new pinned0 pinned1 before after c (Ok a) → reply ≡ text show a.reply → frame ≡ framed (if_any a.log) →
       Appends out0.written out1.written reply → Appends log0.written log1.written frame → out0.faults ≤ out1.faults → log0.faults ≤ log1.faults →
-      HasTurned s show old new opened cursors before after c out0 out1 log0 log1 (Ok tt)
+      HasTurned s show old new pinned0 pinned1 before after c out0 out1 log0 log1 (Ok tt)
   turned a reply frame out0 out1 log0 log1 did is_reply is_frame put framed_put out_later log_later = record {
     going = did.going;
     head = did.head;
@@ -101,26 +126,35 @@ module _ {M : Type 0} (s : Space) (show : Bool) (old new : OpenIndex M) (opened 
     later = did.later;
     out_later = out_later;
     log_later = log_later;
+    grew = (reply, put);
+    log_grew = (frame, framed_put);
     numbers = did.numbers;
+    kept = did.kept;
     cause = tt;
-    put = λ sound. let taken = did.taken sound in record {
-      turn = taken.turn;
-      is = taken.is;
-      command = taken.command;
-      state = taken.state;
-      file = taken.file;
-      written = subst (λ (bytes : List ℕ). Appends out0.written out1.written bytes) (is_reply ∙ taken.same_text) put;
-      logged = subst (λ (bytes : List ℕ). Appends log0.written log1.written bytes) (is_frame ∙ ap (λ (log : Option Log). framed (if_any log)) (sym taken.log)) framed_put;
-      moments = taken.moments;
-    };
-    stopped = λ sound. tt;
-    moments = λ sound. tt;
+    stands = tt;
+    put = λ opened goes. let done = did.taken opened goes in (
+      done.0,
+      record {
+        turn = done.1.turn;
+        is = done.1.is;
+        command = done.1.command;
+        state = done.1.state;
+        file = done.1.file;
+        written = subst (λ (bytes : List ℕ). Appends out0.written out1.written bytes) (is_reply ∙ done.1.same_text) put;
+        logged = subst (λ (bytes : List ℕ). Appends log0.written log1.written bytes) (is_frame ∙ ap (λ (log : Option Log). framed (if_any log)) (sym done.1.log)) framed_put;
+        moments = done.1.moments;
+        reads = done.1.reads;
+      },
+      done.2,
+    );
+    stopped = λ opened goes. tt;
+    moments = λ opened goes. tt;
   }
 
   -- an output failed
-  pub turned_cut : (a : Answer) (reply frame : List ℕ) (out0 out1 log0 log1 : SinkState) → HasStepped s show old new opened cursors before after c (Ok a) → reply ≡ text show a.reply → frame ≡ framed (if_any a.log) →
+  pub turned_cut : (a : Answer) (reply frame : List ℕ) (out0 out1 log0 log1 : SinkState) → HasCarriedOut s show old new pinned0 pinned1 before after c (Ok a) → reply ≡ text show a.reply → frame ≡ framed (if_any a.log) →
       IsCut out0 out1 log0 log1 reply frame → out0.faults ≤ out1.faults → log0.faults ≤ log1.faults →
-      Rose out0.faults out1.faults ⊎ Rose log0.faults log1.faults → HasTurned s show old new opened cursors before after c out0 out1 log0 log1 (Err stop.Sink)
+      Rose out0.faults out1.faults ⊎ Rose log0.faults log1.faults → HasTurned s show old new pinned0 pinned1 before after c out0 out1 log0 log1 (Err stop.Sink)
   turned_cut a reply frame out0 out1 log0 log1 did is_reply is_frame cut out_later log_later rose = record {
     going = tt;
     head = tt;
@@ -129,24 +163,28 @@ module _ {M : Type 0} (s : Space) (show : Bool) (old new : OpenIndex M) (opened 
     later = did.later;
     out_later = out_later;
     log_later = log_later;
-    numbers = did.numbers;
+    grew = (cut_grew out0 out1 log0 log1 reply frame cut).0;
+    log_grew = (cut_grew out0 out1 log0 log1 reply frame cut).1;
+    numbers = tt;
+    kept = tt;
     cause = rose;
-    put = λ sound. tt;
-    stopped = λ sound. let taken = did.taken sound in record {
+    stands = tt;
+    put = λ opened goes. tt;
+    stopped = λ opened goes. let taken = (did.taken opened goes).1 in record {
       turn = taken.turn;
       is = taken.is;
       command = taken.command;
       cut = subst (λ (bytes : List ℕ). IsCut out0 out1 log0 log1 bytes (framed (if_any taken.turn.log))) (is_reply ∙ taken.same_text)
           (subst (λ (bytes : List ℕ). IsCut out0 out1 log0 log1 reply bytes) (is_frame ∙ ap (λ (log : Option Log). framed (if_any log)) (sym taken.log)) cut);
     };
-    moments = λ sound. taken_moments a (did.taken sound);
+    moments = λ opened goes. let taken = did.taken opened goes in taken_moments opened taken.0 a taken.1;
   }
 
   -- what was put
-  pub turned_by : (a : Answer) (reply frame : List ℕ) (out0 out1 log0 log1 : SinkState) (result : Result (Unit {0}) Stop) → HasStepped s show old new opened cursors before after c (Ok a) → reply ≡ text show a.reply →
+  pub turned_by : (a : Answer) (reply frame : List ℕ) (out0 out1 log0 log1 : SinkState) (result : Result (Unit {0}) Stop) → HasCarriedOut s show old new pinned0 pinned1 before after c (Ok a) → reply ≡ text show a.reply →
       frame ≡ framed (if_any a.log) → OnOk result (Appends out0.written out1.written reply) → OnOk result (Appends log0.written log1.written frame) → OnErr result (IsCut out0 out1 log0 log1 reply frame) →
       IfErr result (λ why. why ≡ stop.Sink) → OnErr result (Rose out0.faults out1.faults ⊎ Rose log0.faults log1.faults) → out0.faults ≤ out1.faults → log0.faults ≤ log1.faults →
-      HasTurned s show old new opened cursors before after c out0 out1 log0 log1 result
+      HasTurned s show old new pinned0 pinned1 before after c out0 out1 log0 log1 result
   turned_by a reply frame out0 out1 log0 log1 (Ok done) did is_reply is_frame put framed_put cut sink rose out_later log_later =
       turned a reply frame out0 out1 log0 log1 did is_reply is_frame put framed_put out_later log_later
   turned_by a reply frame out0 out1 log0 log1 (Err why) did is_reply is_frame put framed_put cut sink rose out_later log_later =

@@ -1,11 +1,12 @@
 -- What an insert or a load of a session does.
-use Rattle.std.proofs.Common.{◌≡◌, ◌≢◌, ℕ, ◌-◌, ◌^◌, ◌≤◌, Bool, true, false, inl, inr, refl, sym, ap, subst, ◌∙◌, arith, Option, Some, None, Result, Ok, Err}
+use Rattle.std.proofs.Common.{◌≡◌, ◌≢◌, ℕ, ◌-◌, ◌^◌, ◌≤◌, Bool, true, false, inl, inr, refl, sym, ap, subst, ◌∙◌, Option, Some, None, Result, Ok, Err}
 use Rattle.std.specs.Prelude.{MatchOption, IfErr}
 use Rattle.metric_laws.specs.Space.{Space}
 use Rattle.disk_model.specs.Disk.{DiskState, EachImage}
 use Rattle.disk_model.specs.Moments.{weakened}
 use Rattle.scan_model.specs.declared.query.Query.{Query}
 use Rattle.rows_text.specs.declared.command.Command.{Command}
+use Rattle.rows_text.specs.declared.command.Command.TheVariants as command
 use Rattle.rows_text.specs.declared.refusal.Refusal.{Refusal}
 use Rattle.rows_text.specs.declared.refusal.Refusal.TheVariants as refusal
 use Rattle.rows_text.specs.declared.reply.Reply.{Reply}
@@ -20,7 +21,7 @@ use Rattle.index_core.specs.Index.{OpenIndex, StandsAlone}
 use Rattle.index_core.specs.Writing.{Write, HasObjects, HasWritten, IsRefused, answer_to, points_after, tags_after}
 use Rattle.session_run.specs.declared.stop.Stop.{Stop}
 use Rattle.session_run.specs.declared.stop.Stop.TheVariants as stop
-use Rattle.session_run.specs.Session.{setting_of, state_on}
+use Rattle.session_run.specs.Session.{IsAsking, StandsBy, setting_of, state_on}
 use Rattle.session_run.specs.Steps.{HasStepCause, HasStepped, HoldsOne, IsTaken, answer_of_fault, plain_answer, written_answer}
 use Rattle.session_run.specs.Turns.{HasLog, Hinders, IsHindrance, IsNextVersion, IsVersionAfter, answered_query, version_on, write_of}
 use Rattle.session_run.proofs.Reading.{objects_on, read_stepped, read_stopped, read_taken}
@@ -33,6 +34,20 @@ refused_reads {M} old new before after refused later = record {
   same = refused.same;
   later = later;
 }
+
+-- what writes doesn't only ask
+asks_none : (count : ℕ) (c : Command) (write : Write) → write_of count c ≡ Some write → IsAsking c → ⊥
+asks_none count (command.Range r q) write is asks = let e : None ≡ Some write = is in cc
+asks_none count (command.Nearest k q) write is asks = let e : None ≡ Some write = is in cc
+asks_none count command.Count write is asks = let e : None ≡ Some write = is in cc
+asks_none count (command.Bad why) write is asks = let e : None ≡ Some write = is in cc
+asks_none count (command.Insert p) write is asks = asks
+asks_none count (command.TagInsert tag p) write is asks = asks
+asks_none count (command.Load rows) write is asks = asks
+asks_none count (command.TagLoad tags rows) write is asks = asks
+asks_none count (command.Cursor q) write is asks = asks
+asks_none count (command.Next cursor n) write is asks = asks
+asks_none count (command.Close cursor) write is asks = asks
 
 -- What is known of a write by its command: it means to add the objects, unless it is refused as full or for the objects that are
 -- there; and why it is refused.
@@ -49,6 +64,7 @@ pub record IsWriteOf {M : Type 0} (s : Space) (old : OpenIndex M) (cursors : Ope
   pub worn : result ≡ Err fault.Worn → old.file.live.generation ≡ 2 ^ 48 - 1
   pub room : (pages needed : ℕ) → result ≡ Err (fault.NoRoom pages needed) → IsSoundOn s old.file before → Hinders s old.file.head (version_on old.file before) refusal.NoRoom write
   pub cause : IfErr result (λ why. IfErr (answer_of_fault why) (HasStepCause (IsSoundOn s old.file before) before after))
+  pub stands : IfErr result (λ why. IfErr (answer_of_fault why) (StandsBy old.file.head.dim after))
   pub accepts_says : (n : ℕ) → accepts (says n) ≡ true
   pub tags_says : (n : ℕ) → TagsAre (says n)
   pub tells : after.tells ≡ before.tells
@@ -82,10 +98,10 @@ module _ {M : Type 0} (s : Space) (show : Bool) (old new : OpenIndex M) (cursors
     metric = ap (λ (i : OpenIndex M). i.file.metric) written.next.is;
     tells = of.tells;
     later = of.later;
-    numbers = omega arith;
     spelled = tt;
     tagged = λ taking. of.tags_says n;
     cause = tt;
+    stands = tt;
     taken = taken;
     moments = λ sound. tt;
   }
@@ -116,6 +132,7 @@ module _ {M : Type 0} (s : Space) (show : Bool) (old new : OpenIndex M) (cursors
         log = refl;
         same_text = refl;
         moments = either (Ok n) written (state_on new.file after cursors) (has.points_are, has.tags_are) sound;
+        reads = λ asks. absurd (asks_none old.file.live.count c write of.writes asks);
       }
         where
           has : HasObjects s new.file after (points_after write (points_on old.file before)) (tags_after write (tags_on old.file before))
@@ -131,8 +148,9 @@ module _ {M : Type 0} (s : Space) (show : Bool) (old new : OpenIndex M) (cursors
       HasStepped s show old new cursors cursors before after c (Ok (plain_answer (reply.Refused r)))
   refused why r hindrance other written of meaning hinders =
       read_stepped s show old new cursors cursors before after c (plain_answer (reply.Refused r)) lawful alone (ap (λ (i : OpenIndex M). i.stopped) (written.refused other).is ∙ going) reads
-      (omega arith) tt (λ taking. tt)
-      (λ sound. read_taken s show old new.file cursors cursors before after c (plain_answer (reply.Refused r)) hindrance (reply.Refused r) lawful alone reads sound meaning refl (hinders sound) (unlogged of.unasked) refl)
+      tt (λ taking. tt)
+      (λ sound. read_taken s show old new.file cursors cursors before after c (plain_answer (reply.Refused r)) hindrance (reply.Refused r) lawful alone reads sound meaning refl (hinders sound) (unlogged of.unasked) refl
+      (λ asks. absurd (asks_none old.file.live.count c write of.writes asks)))
     where
       reads : OnlyReads old.file new.file before after
       reads = refused_reads old new before after (written.refused other) of.later
@@ -144,9 +162,9 @@ module _ {M : Type 0} (s : Space) (show : Bool) (old new : OpenIndex M) (cursors
 
   -- it ends the session
   ended : (why : IndexFault) (end : Stop) → why ≢ fault.Commit → HasWritten s write old new before after (Err why) → before.faults ≤ after.faults →
-      HasStepCause (IsSoundOn s old.file before) before after end → HasStepped s show old new cursors cursors before after c (Err end)
-  ended why end other written later cause =
-      read_stopped s show old new cursors cursors before after c end lawful alone (refused_reads old new before after (written.refused other) later) (omega arith) cause
+      HasStepCause (IsSoundOn s old.file before) before after end → StandsBy old.file.head.dim after end → HasStepped s show old new cursors cursors before after c (Err end)
+  ended why end other written later cause stands =
+      read_stopped s show old new cursors cursors before after c end lawful alone (refused_reads old new before after (written.refused other) later) cause stands
 
   meant_written : Meant → Written (step (setting_of s old.file) (state_on old.file before cursors) c).state
   meant_written meant = (ap (λ (done : Step). done.state.objects.points) meant, ap (λ (done : Step). done.state.objects.tags) meant)
@@ -159,10 +177,10 @@ module _ {M : Type 0} (s : Space) (show : Bool) (old new : OpenIndex M) (cursors
     metric = tt;
     tells = of.tells;
     later = of.later;
-    numbers = omega arith;
     spelled = tt;
     tagged = tt;
     cause = (written.stops refl).1;
+    stands = tt;
     taken = λ sound. tt;
     moments = λ sound. either (Err fault.Commit) written (step (setting_of s old.file) (state_on old.file before cursors) c).state (meant_written (of.accepting (λ e. absurd (cc)) (λ e. absurd (cc)))) sound;
   }
@@ -185,8 +203,8 @@ module _ {M : Type 0} (s : Space) (show : Bool) (old new : OpenIndex M) (cursors
       refused (fault.NoRoom pages needed) refusal.NoRoom (Some refusal.NoRoom) (λ e. absurd (cc)) written of
       (hinders refusal.NoRoom (of.accepting (λ e. absurd (cc)) (λ e. absurd (cc))) of.accepts_says)
       (λ sound. hindrance_is refusal.NoRoom of.writes (of.room pages needed refl sound))
-  write_stepped (Err fault.Disk) written of = ended fault.Disk stop.Disk (λ e. absurd (cc)) written of.later of.cause
-  write_stepped (Err (fault.Damaged f)) written of = ended (fault.Damaged f) (stop.Damaged f) (λ e. absurd (cc)) written of.later of.cause
-  write_stepped (Err fault.Memory) written of = ended fault.Memory stop.Memory (λ e. absurd (cc)) written of.later of.cause
-  write_stepped (Err fault.Stopped) written of = ended fault.Stopped stop.Disk (λ e. absurd (cc)) written of.later of.cause
+  write_stepped (Err fault.Disk) written of = ended fault.Disk stop.Disk (λ e. absurd (cc)) written of.later of.cause of.stands
+  write_stepped (Err (fault.Damaged f)) written of = ended (fault.Damaged f) (stop.Damaged f) (λ e. absurd (cc)) written of.later of.cause of.stands
+  write_stepped (Err fault.Memory) written of = ended fault.Memory stop.Memory (λ e. absurd (cc)) written of.later of.cause of.stands
+  write_stepped (Err fault.Stopped) written of = ended fault.Stopped stop.Disk (λ e. absurd (cc)) written of.later of.cause of.stands
   write_stepped (Err fault.Commit) written of = failed written of

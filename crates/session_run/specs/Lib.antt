@@ -1,4 +1,5 @@
 pub mod Turns
 pub mod Session
+pub mod Pinned
 pub mod Steps
 pub mod Laws

@@ -1,19 +1,24 @@
 -- What a session of commands on an index does and writes, and what a crash in it may leave.
-use Rattle.std.specs.Prelude.{◌≡◌, ◌⊎◌, ℕ, Bool, List, [], ◌∷◌, ◌++◌, length, Option, Some, None, MatchOption}
-use Rattle.std.specs.List.{concat}
+use Rattle.std.specs.Prelude.{◌≡◌, ◌⊎◌, ℕ, ◌+◌, ◌*◌, ◌≤◌, Bool, List, [], ◌∷◌, ◌++◌, length, Option, Some, None, IsTrue, if◌then◌else◌}
+use Rattle.std.specs.List.{AllByRecursion, concat}
 use Rattle.std.specs.Io.KnownBytes.{Appends}
 use Rattle.metric_laws.specs.Space.{Space}
 use Rattle.outside_io.specs.Causes.{Rose}
 use Rattle.outside_io.specs.Sinks.{SinkState}
 use Rattle.disk_model.specs.Disk.{DiskState, MayLeave, EachImage}
 use Rattle.node_page.specs.declared.head.Head.{Head}
+use Rattle.node_page.specs.declared.node.Version.TheVariants.{Second}
+use Rattle.node_page.specs.Nodes.{fault_in}
+use Rattle.node_page.specs.Opening.{page_of}
 use Rattle.page_store.specs.declared.pages.PageFault.{PageFault}
 use Rattle.page_store.specs.declared.pages.PageFault.TheVariants as page
 use Rattle.rows_text.specs.declared.command.Command.{Command}
+use Rattle.rows_text.specs.declared.command.Command.TheVariants as command
 use Rattle.rows_text.specs.Meaning.{Setting, State, step}
 use Rattle.rows_text.specs.Texts.{text}
 use Rattle.plain_scan.specs.OpenCursors.{OpenCursors, with_cursors}
 use Rattle.plain_scan.specs.Written.{IsFrontOf}
+use Rattle.log_model.specs.declared.logs.Log.{Log}
 use Rattle.index_core.specs.Answers.{points_on, tags_on}
 use Rattle.index_core.specs.Files.{OpenFile}
 use Rattle.index_core.specs.Writing.{HoldsObjects}
@@ -67,9 +72,32 @@ Ends setting head show state file more None rest log_rest = (more ≡ []) × (re
 Ends setting head show state file more (Some stop.Sink) rest log_rest = IsCutShort setting head show state file more rest log_rest
 Ends setting head show state file more (Some why) rest log_rest = (rest ≡ []) × (log_rest ≡ [])
 
+-- some bytes were put
+abbrev pub Grew : SinkState → SinkState → Type 0
+Grew old new = (bytes : List ℕ) × Appends old.written new.written bytes
+
+-- ---- what is read
+
+-- a command that only asks: a query, a count, or what can't be read as a command
+abbrev pub IsAsking : Command → Type 0
+IsAsking (command.Range r q) = Unit {0}
+IsAsking (command.Nearest k q) = Unit {0}
+IsAsking command.Count = Unit {0}
+IsAsking (command.Bad why) = Unit {0}
+IsAsking other = ⊥
+
+-- how many pages these logs show that were opened
+abbrev pub records_in : List Log → ℕ
+records_in [] = 0
+records_in (log ∷ logs) = length log.records + records_in logs
+
+-- how many pages are read at the most for these logs: each once for the hits, and once more for their tags where they are shown
+abbrev pub most_read : Bool → List Log → ℕ
+most_read show logs = if show then 2 * records_in logs else records_in logs
+
 -- What a session of these commands does on a sound file. The first commands are acknowledged: each is a turn, whose reply is put
 -- whole, and before it the frame of its log. At every moment a crash leaves the objects after some of them, or after one command
--- more; at the end those after all acknowledged ones, or after one command more.
+-- more; at the end those after all acknowledged ones, or after one command more. Where all only ask, few pages were read.
 pub record HasRun (setting : Setting) (head : Head) (show : Bool) (commands : List Command) (state : State) (file : Version)
     (disk0 disk1 : DiskState) (out0 out1 log0 log1 : SinkState) (acknowledged : ℕ) (stopped : Option Stop) (left : Version) : Type 0 where
   pub turns : List Turn
@@ -83,6 +111,7 @@ pub record HasRun (setting : Setting) (head : Head) (show : Bool) (commands : Li
   pub written : Appends out0.written out1.written (concat (texts_of show turns) ++ rest)
   pub logged : Appends log0.written log1.written (framed (logs_of turns) ++ log_rest)
   pub last : stopped ≡ None → left ≡ file_after file turns
+  pub reads : stopped ≡ None → AllByRecursion IsAsking commands → disk1.reads ≤ disk0.reads + most_read show (logs_of turns)
   pub moments : EachImage disk0 disk1 (λ image. HoldsSome setting head state turns image ⊎ HoldsNext setting head (state_after state turns) more image)
   pub remains : (image : List ℕ) → MayLeave disk1 image →
       HoldsState setting.space head (state_after state turns) image ⊎ HoldsNext setting head (state_after state turns) more image
@@ -96,6 +125,16 @@ IsDamage (page.Outside p) = Unit {0}
 IsDamage (page.Repeats p) = Unit {0}
 IsDamage (page.Level p) = Unit {0}
 IsDamage _ = ⊥
+
+-- where a page is said to hold no node, it holds none in this file of points of so many coordinates, and for this reason
+abbrev pub StandsIn : ℕ → List ℕ → PageFault → Type 0
+StandsIn dim bytes (page.Bad p fault) = fault_in Second dim (page_of bytes p) ≡ Some fault
+StandsIn dim bytes _ = Unit {0}
+
+-- the same of a session that stopped, where the disk tells its bytes
+abbrev pub StandsBy : ℕ → DiskState → Stop → Type 0
+StandsBy dim disk (stop.Damaged fault) = IsTrue disk.tells → StandsIn dim disk.bytes fault
+StandsBy dim disk _ = Unit {0}
 
 -- Why a session stops: an output failed; the disk failed; a page is damaged, of a file that was not sound; or memory ran out.
 abbrev pub HasStopCause : Type 0 → DiskState → DiskState → SinkState → SinkState → SinkState → SinkState → Stop → Type 0

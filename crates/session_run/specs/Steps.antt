@@ -1,5 +1,5 @@
 -- What one command of a session does.
-use Rattle.std.specs.Prelude.{◌≡◌, ◌⊎◌, ℕ, ◌+◌, ◌≤◌, List, length, Bool, true, false, IsTrue, Option, Some, None, MatchOption, Result, Ok, Err, IfOk, IfErr, OnOk, OnErr}
+use Rattle.std.specs.Prelude.{◌≡◌, ◌⊎◌, ℕ, ◌+◌, ◌≤◌, List, length, Bool, true, false, IsTrue, Some, None, MatchOption, Result, Ok, Err, IfOk, IfErr, OnOk, OnErr}
 use Rattle.metric_laws.specs.Space.{Space}
 use Rattle.std.specs.Io.KnownBytes.{Appends}
 use Rattle.outside_io.specs.Bytes.{AppendsPrefix}
@@ -11,9 +11,11 @@ use Rattle.rows_text.specs.declared.refusal.Refusal.TheVariants as refusal
 use Rattle.rows_text.specs.declared.reply.Reply.{Reply}
 use Rattle.rows_text.specs.declared.reply.Reply.TheVariants as reply
 use Rattle.node_page.specs.declared.head.Head.{Head}
-use Rattle.rows_text.specs.Meaning.{State, TagsAre, step}
+use Rattle.rows_text.specs.Meaning.{Holdings, State, TagsAre, close_from, cursor_named, next_from, step}
 use Rattle.rows_text.specs.Texts.{text}
-use Rattle.plain_scan.specs.OpenCursors.{OpenCursors}
+use Rattle.plain_scan.specs.OpenCursors.{OpenCursors, with_cursors}
+use Rattle.page_store.specs.declared.pages.PageFault.{PageFault}
+use Rattle.page_store.specs.declared.pages.PageFault.TheVariants as page
 use Rattle.log_model.specs.declared.logs.Found.{Found}
 use Rattle.log_model.specs.Grammar.{IsLawfulLog}
 use Rattle.hit_tags.specs.Tags.{IsShown, object_tags}
@@ -23,10 +25,12 @@ use Rattle.index_core.specs.Index.{OpenIndex}
 use Rattle.index_core.specs.declared.faults.IndexFault.{IndexFault}
 use Rattle.index_core.specs.declared.faults.IndexFault.TheVariants as fault
 use Rattle.session_run.specs.declared.answer.Answer.{Answer}
+use Rattle.session_run.specs.declared.pinned.PinnedCursors.{PinnedCursors}
 use Rattle.session_run.specs.declared.stop.Stop.{Stop}
 use Rattle.session_run.specs.declared.stop.Stop.TheVariants as stop
 use Rattle.session_run.specs.Turns.{Turn, IsTurn, framed, if_any, version_on}
-use Rattle.session_run.specs.Session.{HasStopCause, HoldsState, IsDamage, setting_of, state_on}
+use Rattle.session_run.specs.Pinned.{AreKeptBy, CanGoOn, GoesOn, StandFor}
+use Rattle.session_run.specs.Session.{Grew, HasStopCause, HoldsState, IsAsking, IsDamage, StandsBy, most_read, setting_of, state_on}
 
 -- an answer without a log
 abbrev pub plain_answer : Reply → Answer
@@ -48,6 +52,12 @@ answer_of_fault fault.Memory = Err stop.Memory
 abbrev pub written_answer : (ℕ → Reply) → Result ℕ IndexFault → Result Answer Stop
 written_answer says (Ok n) = Ok (plain_answer (says n))
 written_answer says (Err why) = answer_of_fault why
+
+-- why the step of a cursor ends the session
+abbrev pub stop_of_page : PageFault → Stop
+stop_of_page page.Disk = stop.Disk
+stop_of_page page.Memory = stop.Memory
+stop_of_page fault = stop.Damaged fault
 
 -- why a command ends the session
 abbrev pub HasStepCause : Type 0 → DiskState → DiskState → Stop → Type 0
@@ -75,20 +85,53 @@ pub record IsTaken {M : Type 0} (s : Space) (show : Bool) (old new : OpenFile M)
   pub log : turn.log ≡ answer.log
   pub same_text : text show answer.reply ≡ text show turn.reply
   pub moments : EachImage before after (HoldsOne s old.head (state_on old before opened) turn.state)
+  pub reads : IsAsking c → after.reads ≤ before.reads + most_read show (if_any turn.log)
 
--- What one command does. On a sound file it is a turn; where it ends the session, a crash leaves the objects before or after.
+-- What one command does, where these are the cursors. On a sound file it is a turn; where it ends the session, a crash leaves the
+-- objects before or after.
 pub record HasStepped {M : Type 0} (s : Space) (show : Bool) (old new : OpenIndex M) (opened cursors : OpenCursors) (before after : DiskState) (c : Command) (result : Result Answer Stop) : Type 0 where
   pub going : OnOk result (new.stopped ≡ false)
   pub head : OnOk result (new.file.head ≡ old.file.head)
   pub metric : OnOk result (new.file.metric ≡ old.file.metric)
   pub tells : after.tells ≡ before.tells
   pub later : before.faults ≤ after.faults
-  pub numbers : cursors.next ≤ opened.next + 1
   pub spelled : IfOk result (λ a. MatchOption a.log (Unit {0}) IsLawfulLog)
   pub tagged : IfOk result (λ a. show ≡ true → TagsAre a.reply)
   pub cause : IfErr result (HasStepCause (IsSoundOn s old.file before) before after)
+  pub stands : IfErr result (StandsBy old.file.head.dim after)
   pub taken : IsSoundOn s old.file before → IfOk result (IsTaken s show old.file new.file opened cursors before after c)
   pub moments : IsSoundOn s old.file before → OnErr result (EachImage before after (HoldsEither s old.file before opened c))
+
+-- What one command does. On a sound file, where the open cursors stand for some, it is a turn of these, and afterwards the open
+-- cursors stand for those after it; where it ends the session, a crash leaves the objects before or after.
+pub record HasCarriedOut {M : Type 0} (s : Space) (show : Bool) (old new : OpenIndex M) (pinned0 pinned1 : PinnedCursors) (before after : DiskState) (c : Command) (result : Result Answer Stop) : Type 0 where
+  pub going : OnOk result (new.stopped ≡ false)
+  pub head : OnOk result (new.file.head ≡ old.file.head)
+  pub metric : OnOk result (new.file.metric ≡ old.file.metric)
+  pub tells : after.tells ≡ before.tells
+  pub later : before.faults ≤ after.faults
+  pub numbers : OnOk result (pinned1.next ≤ pinned0.next + 1)
+  pub kept : OnOk result (AreKeptBy s new pinned1)
+  pub spelled : IfOk result (λ a. MatchOption a.log (Unit {0}) IsLawfulLog)
+  pub tagged : IfOk result (λ a. show ≡ true → TagsAre a.reply)
+  pub cause : IfErr result (HasStepCause (CanGoOn s old before pinned0) before after)
+  pub stands : IfErr result (StandsBy old.file.head.dim after)
+  pub taken : (opened : OpenCursors) → GoesOn s old before pinned0 opened →
+      IfOk result (λ a. (cursors : OpenCursors) × IsTaken s show old.file new.file opened cursors before after c a × GoesOn s new after pinned1 cursors)
+  pub moments : (opened : OpenCursors) → GoesOn s old before pinned0 opened → OnErr result (EachImage before after (HoldsEither s old.file before opened c))
+
+-- the reply has the next n hits of the cursor of this number, and the open cursors stand for those after it
+pub record HasAdvanced {M : Type 0} (s : Space) (index : OpenIndex M) (bytes : List ℕ) (pinned : PinnedCursors) (opened : OpenCursors) (number n : ℕ) (r : Reply) : Type 0 where
+  pub cursors : OpenCursors
+  pub stand : StandFor s index bytes pinned cursors
+  pub meaning : (objects : Holdings) →
+      next_from (with_cursors objects opened) number n (cursor_named number (with_cursors objects opened)) ≡ record { reply = r; state = with_cursors objects cursors }
+
+-- the cursor of this number is closed, if there is one, and the open cursors stand for the others
+pub record HasClosed {M : Type 0} (s : Space) (index : OpenIndex M) (bytes : List ℕ) (pinned : PinnedCursors) (opened : OpenCursors) (number : ℕ) (r : Reply) : Type 0 where
+  pub cursors : OpenCursors
+  pub stand : StandFor s index bytes pinned cursors
+  pub meaning : (objects : Holdings) → close_from (with_cursors objects opened) number (cursor_named number (with_cursors objects opened)) ≡ record { reply = r; state = with_cursors objects cursors }
 
 -- what was found is answered with its tags, where they are shown, and with its log
 pub record IsShownAs {M : Type 0} (s : Space) (show : Bool) (file : OpenFile M) (found : Found) (disk : DiskState) (answer : Answer) : Type 0 where
@@ -108,6 +151,7 @@ pub record IsPut {M : Type 0} (s : Space) (show : Bool) (old new : OpenFile M) (
   pub written : Appends out0.written out1.written (text show turn.reply)
   pub logged : Appends log0.written log1.written (framed (if_any turn.log))
   pub moments : EachImage before after (HoldsOne s old.head (state_on old before opened) turn.state)
+  pub reads : IsAsking c → after.reads ≤ before.reads + most_read show (if_any turn.log)
 
 -- what was put of a reply with this text and of a log with this frame: a front of the frame, or the frame and a front of the text
 abbrev pub IsCut : SinkState → SinkState → SinkState → SinkState → List ℕ → List ℕ → Type 0
@@ -128,7 +172,7 @@ IsStoppedAt s show old opened before c out0 out1 log0 log1 stop.Sink = IsPartlyP
 IsStoppedAt s show old opened before c out0 out1 log0 log1 why = (out1 ≡ out0) × (log1 ≡ log0)
 
 -- What one command does and writes.
-pub record HasTurned {M : Type 0} (s : Space) (show : Bool) (old new : OpenIndex M) (opened cursors : OpenCursors) (before after : DiskState) (c : Command)
+pub record HasTurned {M : Type 0} (s : Space) (show : Bool) (old new : OpenIndex M) (pinned0 pinned1 : PinnedCursors) (before after : DiskState) (c : Command)
     (out0 out1 log0 log1 : SinkState) (result : Result (Unit {0}) Stop) : Type 0 where
   pub going : OnOk result (new.stopped ≡ false)
   pub head : OnOk result (new.file.head ≡ old.file.head)
@@ -137,8 +181,13 @@ pub record HasTurned {M : Type 0} (s : Space) (show : Bool) (old new : OpenIndex
   pub later : before.faults ≤ after.faults
   pub out_later : out0.faults ≤ out1.faults
   pub log_later : log0.faults ≤ log1.faults
-  pub numbers : cursors.next ≤ opened.next + 1
-  pub cause : IfErr result (HasStopCause (IsSoundOn s old.file before) before after out0 out1 log0 log1)
-  pub put : IsSoundOn s old.file before → OnOk result (IsPut s show old.file new.file opened cursors before after c out0 out1 log0 log1)
-  pub stopped : IsSoundOn s old.file before → IfErr result (IsStoppedAt s show old.file opened before c out0 out1 log0 log1)
-  pub moments : IsSoundOn s old.file before → OnErr result (EachImage before after (HoldsEither s old.file before opened c))
+  pub grew : Grew out0 out1
+  pub log_grew : Grew log0 log1
+  pub numbers : OnOk result (pinned1.next ≤ pinned0.next + 1)
+  pub kept : OnOk result (AreKeptBy s new pinned1)
+  pub cause : IfErr result (HasStopCause (CanGoOn s old before pinned0) before after out0 out1 log0 log1)
+  pub stands : IfErr result (StandsBy old.file.head.dim after)
+  pub put : (opened : OpenCursors) → GoesOn s old before pinned0 opened →
+      OnOk result ((cursors : OpenCursors) × IsPut s show old.file new.file opened cursors before after c out0 out1 log0 log1 × GoesOn s new after pinned1 cursors)
+  pub stopped : (opened : OpenCursors) → GoesOn s old before pinned0 opened → IfErr result (IsStoppedAt s show old.file opened before c out0 out1 log0 log1)
+  pub moments : (opened : OpenCursors) → GoesOn s old before pinned0 opened → OnErr result (EachImage before after (HoldsEither s old.file before opened c))

@@ -3,15 +3,17 @@ ghost use Rattle.std.specs.Prelude.{◌≡◌, ◌≤◌, ◌<◌, ◌+◌, ◌^
 ghost use Rattle.rows_text.specs.Meaning.{has_points_of};
 ghost use Rattle.rows_text.specs.Readable.{IsReadable};
 ghost use Rattle.index_core.specs.Index.{MayGoOn};
-ghost use Rattle.session_run.specs.Steps.{HasStepped};
+ghost use Rattle.session_run.specs.Pinned.{AreKeptBy};
+ghost use Rattle.session_run.specs.Steps.{HasCarriedOut};
 
 use crate::answer::{Answer, inserted, loaded};
-use crate::queries::{nearest, open_cursor, range};
+use crate::pinned::PinnedCursors;
+use crate::queries::{nearest, range};
 use crate::stop::Stop;
 use disk_model::Disk;
 use index_core::Index;
 use metric_laws::Metric;
-use plain_scan::{Cursors, has_points_of};
+use plain_scan::has_points_of;
 use rows_text::{Command, Refusal, Reply};
 use std::alloc::Global;
 use std::thread::Threads;
@@ -21,7 +23,7 @@ fn execute<R: Threads + Sync, M: Metric, D: Disk>(
     rt: &R,
     alloc: Global,
     index: &mut Index<M>,
-    cursors: &mut Cursors,
+    cursors: &mut PinnedCursors,
     disk: &mut D,
     show: bool,
     command: &Command,
@@ -29,10 +31,11 @@ fn execute<R: Threads + Sync, M: Metric, D: Disk>(
     requires going { index.old.stopped ≡ false }
     requires stands { MayGoOn index.old (D.state disk.old) }
     requires numbers { cursors.old.next + 1 < 2 ^ 32 }
+    requires kept { AreKeptBy (M.space index.old.file.metric) index.old cursors.old }
     requires readable { IsReadable (M.space index.old.file.metric).words command.now }
     requires points { IsTrue (has_points_of (M.space index.old.file.metric) command.now) }
     ensures stands { MayGoOn index.new (D.state disk.new) }
-    ensures stepped { HasStepped (M.space index.old.file.metric) show index.old index.new cursors.old cursors.new (D.state disk.old) (D.state disk.new) command.now result }
+    ensures done { HasCarriedOut (M.space index.old.file.metric) show index.old index.new cursors.old cursors.new (D.state disk.old) (D.state disk.new) command.now result }
 {
     index.is_lawful();
     match command {
@@ -48,12 +51,12 @@ fn execute<R: Threads + Sync, M: Metric, D: Disk>(
         Command::Nearest { k, q } => nearest(alloc, index, disk, show, q, *k),
         Command::Count => Ok(Answer::plain(Reply::Count(index.count()))),
         Command::Bad(why) => Ok(Answer::plain(Reply::Refused(*why))),
-        Command::Cursor(q) => open_cursor(alloc, index, cursors, disk, show, q),
-        Command::Next { cursor, n } => match cursors.advance(alloc, *cursor, *n) {
+        Command::Cursor(q) => cursors.open(alloc, index, disk, show, q),
+        Command::Next { cursor, n } => match cursors.advance(alloc, index, disk, *cursor, *n) {
             Ok(reply) => Ok(Answer::plain(reply)),
-            Err(_) => Err(Stop::Memory),
+            Err(why) => Err(why),
         },
-        Command::Close(cursor) => Ok(Answer::plain(cursors.close(*cursor))),
+        Command::Close(cursor) => Ok(Answer::plain(cursors.close(index, *cursor))),
     }
 }
 
@@ -62,7 +65,7 @@ pub fn step<R: Threads + Sync, M: Metric, D: Disk>(
     rt: &R,
     alloc: Global,
     index: &mut Index<M>,
-    cursors: &mut Cursors,
+    cursors: &mut PinnedCursors,
     disk: &mut D,
     show: bool,
     command: &Command,
@@ -70,9 +73,10 @@ pub fn step<R: Threads + Sync, M: Metric, D: Disk>(
     requires going { index.old.stopped ≡ false }
     requires stands { MayGoOn index.old (D.state disk.old) }
     requires numbers { cursors.old.next + 1 < 2 ^ 32 }
+    requires kept { AreKeptBy (M.space index.old.file.metric) index.old cursors.old }
     requires readable { IsReadable (M.space index.old.file.metric).words command.now }
     ensures stands { MayGoOn index.new (D.state disk.new) }
-    ensures stepped { HasStepped (M.space index.old.file.metric) show index.old index.new cursors.old cursors.new (D.state disk.old) (D.state disk.new) command.now result }
+    ensures done { HasCarriedOut (M.space index.old.file.metric) show index.old index.new cursors.old cursors.new (D.state disk.old) (D.state disk.new) command.now result }
 {
     index.is_lawful();
     if !has_points_of(&index.metric(), command) {

@@ -4,6 +4,7 @@
 mod answer;
 mod commands;
 pub mod laws;
+mod pinned;
 mod queries;
 mod running;
 mod stop;

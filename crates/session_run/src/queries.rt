@@ -1,10 +1,11 @@
-// The commands of a session that read: queries, and the opening of a cursor.
-ghost use Rattle.std.specs.Prelude.{◌≡◌, ◌≤◌, ◌<◌, ◌+◌, ◌^◌, true, false, IsTrue, IfOk, IfErr};
+// The queries of a session.
+ghost use Rattle.std.specs.Prelude.{◌≡◌, ◌≤◌, ◌+◌, ◌*◌, false, length, if◌then◌else◌, IsTrue, IfOk, IfErr};
 ghost use Rattle.rows_text.specs.declared.command.Command.TheVariants as command;
 ghost use Rattle.plain_scan.specs.OpenCursors.{OpenCursors};
 ghost use Rattle.index_core.specs.Answers.{IsSoundOn};
 ghost use Rattle.index_core.specs.Files.{OnlyReads};
 ghost use Rattle.index_core.specs.Index.{MayGoOn};
+ghost use Rattle.session_run.specs.Session.{StandsBy};
 ghost use Rattle.session_run.specs.Steps.{HasStepCause, HasStepped, IsShownAs};
 
 use crate::answer::{Answer, answer_of_fault};
@@ -13,8 +14,7 @@ use disk_model::Disk;
 use index_core::{Index, IndexFault};
 use log_model::Found;
 use metric_laws::{Listed, Metric, Point};
-use plain_scan::Cursors;
-use rows_text::{Refusal, Reply};
+use rows_text::Reply;
 use std::alloc::Global;
 
 // The hits that were found, with their tags where they are shown, and their log.
@@ -32,6 +32,8 @@ fn found_answer<M: Metric, D: Disk>(
     ensures rest { index.new ≡ record index.old { file = index.new.file } }
     ensures answer { IfOk result (IsShownAs (M.space index.old.file.metric) show index.old.file found (D.state disk.old)) }
     ensures cause { IfErr result (HasStepCause (IsSoundOn (M.space index.old.file.metric) index.old.file (D.state disk.old)) (D.state disk.old) (D.state disk.new)) }
+    ensures damage { IfErr result (StandsBy index.old.file.head.dim (D.state disk.new)) }
+    ensures few { (D.state disk.new).reads ≤ (D.state disk.old).reads + (if show then length found.log.records else 0) }
 {
     let mut tags = Vec::new(alloc);
     if show {
@@ -62,6 +64,8 @@ pub fn range<M: Metric, D: Disk>(
     requires stands { MayGoOn index.old (D.state disk.old) }
     requires point { IsTrue ((M.space index.old.file.metric).fits q.now) }
     ensures stands { MayGoOn index.new (D.state disk.new) }
+    ensures reads { OnlyReads index.old.file index.new.file (D.state disk.old) (D.state disk.new) }
+    ensures rest { index.new ≡ record index.old { file = index.new.file } }
     ensures stepped { (cursors : OpenCursors) →
         HasStepped (M.space index.old.file.metric) show index.old index.new cursors cursors (D.state disk.old) (D.state disk.new) (command.Range r q.now) result }
 {
@@ -86,6 +90,8 @@ pub fn nearest<M: Metric, D: Disk>(
     requires point { IsTrue ((M.space index.old.file.metric).fits q.now) }
     requires some { 1 ≤ k }
     ensures stands { MayGoOn index.new (D.state disk.new) }
+    ensures reads { OnlyReads index.old.file index.new.file (D.state disk.old) (D.state disk.new) }
+    ensures rest { index.new ≡ record index.old { file = index.new.file } }
     ensures stepped { (cursors : OpenCursors) →
         HasStepped (M.space index.old.file.metric) show index.old index.new cursors cursors (D.state disk.old) (D.state disk.new) (command.Nearest k q.now) result }
 {
@@ -93,40 +99,5 @@ pub fn nearest<M: Metric, D: Disk>(
     match index.nearest(alloc, disk, q.as_slice(), k) {
         Ok(found) => found_answer(alloc, index, disk, show, found),
         Err(fault) => answer_of_fault(fault),
-    }
-}
-
-/// Opens a cursor over all objects, from the one nearest to `q` on.
-pub fn open_cursor<M: Metric, D: Disk>(
-    alloc: Global,
-    index: &mut Index<M>,
-    cursors: &mut Cursors,
-    disk: &mut D,
-    show: bool,
-    q: &Point,
-) -> Result<Answer, Stop>
-    requires going { index.old.stopped ≡ false }
-    requires stands { MayGoOn index.old (D.state disk.old) }
-    requires point { IsTrue ((M.space index.old.file.metric).fits q.now) }
-    requires numbers { cursors.old.next + 1 < 2 ^ 32 }
-    ensures stands { MayGoOn index.new (D.state disk.new) }
-    ensures stepped { HasStepped (M.space index.old.file.metric) show index.old index.new cursors.old cursors.new (D.state disk.old) (D.state disk.new) (command.Cursor q.now) result }
-{
-    index.is_lawful();
-    if cursors.is_full() {
-        return Ok(Answer::plain(Reply::Refused(Refusal::Cursors)));
-    }
-    let all = u64::from(index.count().max(1));
-    let found = match index.nearest(alloc, disk, q.as_slice(), all) {
-        Ok(found) => found,
-        Err(fault) => return answer_of_fault(fault),
-    };
-    let tags = match index.tags(alloc, disk, &found) {
-        Ok(tags) => tags,
-        Err(fault) => return answer_of_fault(fault),
-    };
-    match cursors.open(found.hits.into_vec(), tags) {
-        Ok(number) => Ok(Answer::plain(Reply::Cursor(number))),
-        Err(_) => Err(Stop::Memory),
     }
 }

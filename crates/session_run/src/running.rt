@@ -7,19 +7,20 @@ ghost use Rattle.rows_text.specs.Texts.{text};
 ghost use Rattle.log_model.specs.Grammar.{IsLawfulLog};
 ghost use Rattle.index_core.specs.Answers.{IsSoundOn};
 ghost use Rattle.index_core.specs.Index.{MayGoOn};
-ghost use Rattle.session_run.specs.Session.{HasRun, HasStopCause, no_cursors, setting_of, state_on};
+ghost use Rattle.session_run.specs.Pinned.{AreKeptBy};
+ghost use Rattle.session_run.specs.Session.{Grew, HasRun, HasStopCause, StandsBy, no_cursors, setting_of, state_on};
 ghost use Rattle.session_run.specs.Steps.{HasTurned, IsCut};
 ghost use Rattle.session_run.specs.Turns.{framed, if_any, version_on};
 
 use crate::Memory;
 use crate::answer::Answer;
 use crate::commands::step;
+use crate::pinned::PinnedCursors;
 use crate::stop::Stop;
 use disk_model::Disk;
 use index_core::Index;
 use metric_laws::Metric;
 use outside_io::Sink;
-use plain_scan::Cursors;
 use prune_log::{encode_log, frame};
 use rows_text::{Command, reply_text};
 use std::alloc::Global;
@@ -85,7 +86,7 @@ fn turn<R: Threads + Sync, M: Metric, D: Disk, K: Sink, T: Sink>(
     rt: &R,
     alloc: Global,
     index: &mut Index<M>,
-    cursors: &mut Cursors,
+    cursors: &mut PinnedCursors,
     disk: &mut D,
     show: bool,
     command: &Command,
@@ -95,6 +96,7 @@ fn turn<R: Threads + Sync, M: Metric, D: Disk, K: Sink, T: Sink>(
     requires going { index.old.stopped ≡ false }
     requires stands { MayGoOn index.old (D.state disk.old) }
     requires numbers { cursors.old.next + 1 < 2 ^ 32 }
+    requires kept { AreKeptBy (M.space index.old.file.metric) index.old cursors.old }
     requires readable { IsReadable (M.space index.old.file.metric).words command.now }
     ensures stands { MayGoOn index.new (D.state disk.new) }
     ensures turned { HasTurned (M.space index.old.file.metric) show index.old index.new cursors.old cursors.new (D.state disk.old) (D.state disk.new) command.now
@@ -115,6 +117,9 @@ fn turn<R: Threads + Sync, M: Metric, D: Disk, K: Sink, T: Sink>(
 /// Does each command of a script in turn on an index, and writes its reply to `out`, in one put and after its commit. A query
 /// that is answered has its log put to `log_out` before its reply, as one frame. A refusal doesn't end the session; the first
 /// fault does.
+///
+/// A cursor goes through the tree of its opening, which it pins; those that are open when the script is done are closed. After
+/// a fault their pins stay with the index.
 ///
 /// On a sound index each reply is that of a plain list, unless the file has no room or no further generation, each log is the
 /// least one, and a crash at any moment leaves the objects after some first commands, at the end at least those of the
@@ -143,13 +148,18 @@ pub fn session<R: Threads + Sync, M: Metric, D: Disk, K: Sink, T: Sink>(
     ensures head { result.stopped ≡ None → index.new.file.head ≡ index.old.file.head }
     ensures cause { MatchOption result.stopped (Unit {0}) (HasStopCause (IsSoundOn (M.space index.old.file.metric) index.old.file (D.state disk.old))
         (D.state disk.old) (D.state disk.new) (K.state out.old) (K.state out.new) (T.state log_out.old) (T.state log_out.new)) }
+    // A page that is said to hold no node holds none.
+    ensures damage { MatchOption result.stopped (Unit {0}) (StandsBy index.old.file.head.dim (D.state disk.new)) }
     ensures tells { (D.state disk.new).tells ≡ (D.state disk.old).tells }
     ensures later { (D.state disk.old).faults ≤ (D.state disk.new).faults }
     ensures out_later { (K.state out.old).faults ≤ (K.state out.new).faults }
     ensures log_later { (T.state log_out.old).faults ≤ (T.state log_out.new).faults }
+    // On any file the outputs only grow.
+    ensures grew { Grew (K.state out.old) (K.state out.new) }
+    ensures log_grew { Grew (T.state log_out.old) (T.state log_out.new) }
 {
     index.is_lawful();
-    let mut cursors = Cursors::new(alloc);
+    let mut cursors = PinnedCursors::new(alloc);
     let mut acknowledged = 0u64;
     for command in commands {
         if let Err(why) = turn(
@@ -171,6 +181,7 @@ pub fn session<R: Threads + Sync, M: Metric, D: Disk, K: Sink, T: Sink>(
         acknowledged += 1;
     }
     index.is_lawful();
+    cursors.close_all(index);
     Ended {
         acknowledged,
         stopped: None,

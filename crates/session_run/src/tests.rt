@@ -1,4 +1,4 @@
-ghost use Rattle.std.specs.Prelude.{◌≡◌, ◌≤◌, ◌^◌, false, IfOk};
+ghost use Rattle.std.specs.Prelude.{◌≡◌, ◌≤◌, ◌^◌, false, None, IfOk};
 ghost use Rattle.node_page.specs.Heads.{IsLawfulHead};
 ghost use Rattle.index_core.specs.Index.{MayGoOn};
 
@@ -97,6 +97,8 @@ fn run_on<R: AllocGlobal + Abort + Threads + Sync, M: Metric, D: Disk, K: Sink, 
 ) -> Result<Ended, Fail>
     requires going { index.old.stopped ≡ false }
     requires stands { MayGoOn index.old (D.state disk.old) }
+    ensures stands { MayGoOn index.new (D.state disk.new) }
+    ensures going { IfOk result (λ ended. ended.stopped ≡ None → index.new.stopped ≡ false) }
 {
     let alloc = rt.alloc();
     let words = index.metric().words();
@@ -149,7 +151,22 @@ fn check_whole<R: AllocGlobal + Abort + Threads + Sync, D: Disk>(
     Ok(())
 }
 
-const WHOLE: [Whole<'static>; 5] = [
+// A cursor gives the objects that were there at its opening. Of cursors sixteen may be open, and no number is used again.
+const WHOLE: [Whole<'static>; 7] = [
+    Whole {
+        script: b"insert,0\ninsert,10\ncursor,0\nnext,0,1\ninsert,1\nnext,0,5\nnext,0,1\nclose,0\nclose,0\n",
+        show: false,
+        replies: "id 0\nid 1\ncursor 0\nnext 1\n0 0\nid 2\nnext 1\n1 10\nnext 0\nclosed 0\nrefused nocursor\n",
+        commands: 9,
+        logs: 0,
+    },
+    Whole {
+        script: b"tinsert,9,5\ncursor,0\ncursor,1\ncursor,2\ncursor,3\ncursor,4\ncursor,5\ncursor,6\ncursor,7\ncursor,8\ncursor,9\ncursor,10\ncursor,11\ncursor,12\ncursor,13\ncursor,14\ncursor,15\ncursor,16\nclose,3\ncursor,3\nnext,3,1\nnext,16,2\nnext,99,1\nclose,99\n",
+        show: true,
+        replies: "id 0\ncursor 0\ncursor 1\ncursor 2\ncursor 3\ncursor 4\ncursor 5\ncursor 6\ncursor 7\ncursor 8\ncursor 9\ncursor 10\ncursor 11\ncursor 12\ncursor 13\ncursor 14\ncursor 15\nrefused cursors\nclosed 3\ncursor 16\nrefused nocursor\nnext 1\n0 9 2\nrefused nocursor\nrefused nocursor\n",
+        commands: 24,
+        logs: 0,
+    },
     Whole {
         script: b"insert,7\ninsert,3\ninsert,12\nrange,4,5\nnearest,2,6\ncount\ninsert,x\nload,1\n5\n",
         show: false,
@@ -294,7 +311,21 @@ fn a_session_ends_at_a_put_that_fails(rt: HostRuntime) -> Result<(), Fail> {
     Ok(())
 }
 
-// Five inserts on a disk that stops: how many are acknowledged. Each reply is one line of five bytes.
+// A script with a cursor that stays open while objects are inserted.
+const STOPPED: &[u8] = b"insert,7\ninsert,3\ncursor,0\ninsert,12\nnext,0,9\ninsert,1\n";
+
+// What is written once so many of its commands are acknowledged, and how many objects there are then.
+const WRITTEN: [(&str, u64); 7] = [
+    ("", 0),
+    ("id 0\n", 1),
+    ("id 0\nid 1\n", 2),
+    ("id 0\nid 1\ncursor 0\n", 2),
+    ("id 0\nid 1\ncursor 0\nid 2\n", 3),
+    ("id 0\nid 1\ncursor 0\nid 2\nnext 2\n1 3\n0 7\n", 3),
+    ("id 0\nid 1\ncursor 0\nid 2\nnext 2\n1 3\n0 7\nid 3\n", 4),
+];
+
+// The script on a disk that stops: how many objects are acknowledged.
 fn run_stopped<R: AllocGlobal + Abort + Threads + Sync, D: Disk>(
     rt: &R,
     disk: &mut D,
@@ -302,30 +333,29 @@ fn run_stopped<R: AllocGlobal + Abort + Threads + Sync, D: Disk>(
     let alloc = rt.alloc();
     let mut out = sink_of(alloc, &[])?;
     let mut log_out = sink_of(alloc, &[])?;
-    let script = b"insert,7\ninsert,3\ninsert,12\ninsert,20\ninsert,1\n";
-    let ended = run(rt, disk, script, false, &mut out, &mut log_out)?;
-    let done = if ended.acknowledged == 5 {
+    let ended = run(rt, disk, STOPPED, false, &mut out, &mut log_out)?;
+    let done = if ended.acknowledged == 6 {
         None
     } else {
         Some(Stop::Disk)
     };
     assert_eq!(rt; ended.stopped, done);
-    assert!(rt; b"id 0\nid 1\nid 2\nid 3\nid 4\n".starts_with(out.written()));
-    assert_eq!(rt;
-        out.written().len() as u64,
-        ended.acknowledged.saturating_mul(5)
-    );
-    Ok(ended.acknowledged)
+    let (replies, objects) = WRITTEN
+        .get(ended.acknowledged as usize)
+        .copied()
+        .ok_or("more replies than commands")?;
+    assert_eq!(rt; out.written(), replies.as_bytes());
+    Ok(objects)
 }
 
 // What a crash left is opened, has the acknowledged objects or one more, and goes on.
 fn goes_on<R: AllocGlobal + Abort + Threads + Sync, D: Disk>(
     rt: &R,
     disk: &mut D,
-    acknowledged: u64,
+    objects: u64,
 ) -> Result<(), Fail> {
     let count = u64::from(open_on(disk)?.count());
-    assert!(rt; count == acknowledged || count == acknowledged.saturating_add(1));
+    assert!(rt; count == objects || count == objects.saturating_add(1));
     let more = count.saturating_add(1);
     let replies = format!(in rt.alloc(); "id {count}\ncount {more}\n")?;
     let case = Whole {
@@ -341,16 +371,67 @@ fn goes_on<R: AllocGlobal + Abort + Threads + Sync, D: Disk>(
 #[test]
 fn a_session_is_stopped_at_each_call_of_its_disk(rt: HostRuntime) -> Result<(), Fail> {
     let alloc = rt.alloc();
-    let mut acknowledged = 0;
+    let mut objects = 0;
     for stop in 5..60 {
         let mut disk = empty_disk(alloc, Some(stop))?;
-        acknowledged = run_stopped(&rt, &mut disk)?;
+        objects = run_stopped(&rt, &mut disk)?;
         for pick in [0, 1, 165] {
             let mut again = disk_of(alloc, disk.left(alloc, pick)?, None)?;
-            goes_on(&rt, &mut again, acknowledged)?;
+            goes_on(&rt, &mut again, objects)?;
         }
     }
-    assert_eq!(&rt; acknowledged, 5);
+    assert_eq!(&rt; objects, 4);
+    Ok(())
+}
+
+// The scripts of two sessions on an index, and where the root stands after them: the pages of a cursor's tree are held until it
+// is closed, or its session is done.
+const ROOTS: [(&[u8], &[u8], u32); 6] = [
+    (b"insert,0\n", b"", 4),
+    (b"insert,0\ninsert,10\n", b"", 3),
+    (b"insert,0\ninsert,10\ncursor,0\ninsert,1\n", b"", 4),
+    (
+        b"insert,0\ninsert,10\ncursor,0\ninsert,1\ninsert,2\n",
+        b"",
+        5,
+    ),
+    (
+        b"insert,0\ninsert,10\ncursor,0\ninsert,1\ninsert,2\nclose,0\ninsert,3\n",
+        b"",
+        3,
+    ),
+    (
+        b"insert,0\ninsert,10\ncursor,0\ninsert,1\ninsert,2\n",
+        b"insert,3\n",
+        3,
+    ),
+];
+
+// Where the root stands after two scripts.
+fn root_after<R: AllocGlobal + Abort + Threads + Sync, D: Disk>(
+    rt: &R,
+    disk: &mut D,
+    script: &[u8],
+    more: &[u8],
+) -> Result<u32, Fail> {
+    let alloc = rt.alloc();
+    let mut out = sink_of(alloc, &[])?;
+    let mut log_out = sink_of(alloc, &[])?;
+    let mut index = open_on(disk)?;
+    let ended = run_on(rt, &mut index, disk, script, false, &mut out, &mut log_out)?;
+    if ended.stopped.is_none() {
+        run_on(rt, &mut index, disk, more, false, &mut out, &mut log_out)?;
+    }
+    Ok(index.live().root)
+}
+
+#[test]
+fn a_cursor_holds_the_pages_of_its_tree(rt: HostRuntime) -> Result<(), Fail> {
+    let alloc = rt.alloc();
+    for (script, more, root) in ROOTS {
+        let mut disk = empty_disk(alloc, None)?;
+        assert_eq!(rt; root_after(&rt, &mut disk, script, more)?, root);
+    }
     Ok(())
 }
 

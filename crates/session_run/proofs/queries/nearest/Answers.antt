@@ -15,7 +15,7 @@ returns-in-Ok-clause-stepped g c = λ cursors.
     c.nearest.ensures.reads c.found_answer.ensures.reads
     (subst (λ (q : List ℕ). HasSearched (g.M.Metric.space c.args.index.now.file.metric) c.args.index.now.file (query.Nearest q c.args.k) (g.D.Disk.state c.args.disk.now) (g.D.Disk.state c.nearest.new.disk) (Ok c.in-Ok.found))
     c.as_slice.ensures (c.in-Ok.ensures.searched c.requires.going))
-    c.found_answer.ensures.answer c.found_answer.ensures.cause (rw c.requires.point refl) (rw c.requires.point refl)
+    c.found_answer.ensures.answer c.found_answer.ensures.cause c.found_answer.ensures.few c.found_answer.ensures.damage (rw c.requires.point refl) (rw c.requires.point refl)
 
 pub returns-in-Err-clause-stepped : goal.returns-in-Err-clause-stepped
 returns-in-Err-clause-stepped g c = λ cursors. rw c.answer_of_fault.ensures

@@ -1,0 +1,6 @@
+use Rattle.std.proofs.Common.{sym, ◌∙◌}
+use Rattle.session_run.proofs.Pins.{each_released}
+use Rattle.session_run.proofs.pinned.PinnedCursors.release.Goals as goal
+
+pub returns-clause-kept : goal.returns-clause-kept
+returns-clause-kept g c = each_released (g.M.Metric.space c.args.index.now.file.metric) c.args.index.now c.unpin.new.self c.args.generation c.args.self.now.cursors.items c.unpin.ensures.list (sym c.has_tree.ensures ∙ c.if-has_tree.false) c.requires.kept
