@@ -1,0 +1,5 @@
+pub mod Holding
+pub mod Seats
+pub mod Asking
+pub mod Counting
+pub mod Parts

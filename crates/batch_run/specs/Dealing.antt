@@ -1,0 +1,29 @@
+-- How the places of a piece of work are dealt out among workers.
+use Rattle.std.specs.Prelude.{◌≡◌, ◌≢◌, ℕ, ◌+◌, ◌-◌, ◌*◌, ◌/◌, ◌%◌, ◌<◌, List, length, Option, Some, None, Result, Ok, slice_get, if◌then◌else◌, nat_lt}
+use Rattle.std.specs.declared.alloc.AllocError.{AllocError}
+
+-- so many rounds, each of which gives each of so many workers one place
+pub record Rounds : Type 0 where
+  pub rounds : ℕ
+  pub workers : ℕ
+
+-- by how much the turns of a round are shifted: the next round by one more, and after as many rounds as there are workers by one more still
+abbrev pub shift_of : Rounds → ℕ → ℕ
+shift_of d round = (round + round / d.workers) % d.workers
+
+-- the sum of two numbers below the number of workers, wound round
+abbrev pub wound : ℕ → ℕ → ℕ
+wound workers n = if nat_lt n workers then n else n - workers
+
+-- the place that is dealt to a seat: the first worker has the first seats, one for each round, then comes the second
+abbrev pub place_of : Rounds → ℕ → ℕ
+place_of d seat = seat % d.rounds * d.workers + wound d.workers (seat / d.rounds + shift_of d (seat % d.rounds))
+
+-- each seat whose place is below the count holds something
+abbrev pub AreSeated : {X : Type 0} → Rounds → ℕ → List (Option (Result X AllocError)) → Type 0
+AreSeated {X} d count seats = (length seats ≡ d.rounds * d.workers) × ((seat : ℕ) → seat < length seats → place_of d seat < count → slice_get seats seat ≢ Some None)
+
+-- in the order of the places: at each place below the count what its seat holds
+abbrev pub AreInOrder : {X : Type 0} → Rounds → ℕ → List (Option (Result X AllocError)) → List X → Type 0
+AreInOrder {X} d count seats xs =
+    (length xs ≡ count) × ((place : ℕ) (x : X) → slice_get xs place ≡ Some x → (seat : ℕ) × (place_of d seat ≡ place) × (slice_get seats seat ≡ Some (Some (Ok x))))

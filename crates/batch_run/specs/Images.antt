@@ -1,0 +1,32 @@
+-- Files in memory.
+use Rattle.std.specs.Prelude.{◌≡◌, ℕ, ◌*◌, ◌<◌, List, length, slice_index, Result, Ok, Err, alloc_error}
+use Rattle.std.specs.declared.alloc.AllocError.{AllocError}
+use Rattle.outside_io.specs.Causes.{Rose}
+use Rattle.node_page.specs.declared.node.Version.{Version}
+use Rattle.page_store.specs.declared.pages.PageFault.{PageFault}
+use Rattle.page_store.specs.declared.pages.PageFault.TheVariants as page
+use Rattle.page_store.specs.Reading.{reading}
+use Rattle.batch_run.specs.declared.images.ImageFault.{ImageFault}
+use Rattle.batch_run.specs.declared.images.ImageFault.TheVariants as fault
+use Rattle.batch_run.specs.declared.outcome.Outcome.{Outcome}
+use Rattle.batch_run.specs.declared.outcome.Outcome.TheVariants as outcome
+
+-- the first bytes of a file, as many as so many pages have; past its end they are 0
+pub record IsImageOf (pages : ℕ) (file image : List ℕ) : Type 0 where
+  pub size : length image ≡ pages * 4096
+  pub bytes : (i : ℕ) → i < pages * 4096 → slice_index image i ≡ slice_index file i
+
+-- why a file was not read into memory: there are more than 2^18 pages; the disk failed; or memory ran out
+abbrev pub HasImageCause : ℕ → ℕ → ℕ → ImageFault → Type 0
+HasImageCause pages before now fault.TooLong = 262144 < pages
+HasImageCause pages before now fault.Disk = Rose before now
+HasImageCause pages before now fault.Memory = Unit {0}
+
+-- the image of so many pages holds in each of them what the file holds
+abbrev pub ImagesHoldTheFile : Type 0
+ImagesHoldTheFile = (dim pages : ℕ) (file image : List ℕ) → IsImageOf pages file image → reading dim pages image ≡ reading dim pages file
+
+-- what a page that gave no node is to a batch: want of memory ends it, and anything else is told
+abbrev pub outcome_of_fault : PageFault → Result Outcome AllocError
+outcome_of_fault page.Memory = Err alloc_error
+outcome_of_fault fault = Ok (outcome.Damaged fault)

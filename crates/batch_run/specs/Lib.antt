@@ -1,0 +1,4 @@
+pub mod Images
+pub mod Outcomes
+pub mod Dealing
+pub mod Audits

@@ -1,0 +1,168 @@
+//! The audit of a file in memory.
+
+ghost use Rattle.std.specs.Prelude.{◌≡◌, ◌≤◌, ◌<◌, ◌+◌, ◌^◌, length, map, Ok, slice_index_or, IsTrue, IfOk, IfErr, IfSome};
+ghost use Rattle.tree_shape.specs.Fill.{IsFilled, root_least};
+ghost use Rattle.tree_audit.specs.Audited.{audit_fault};
+ghost use Rattle.batch_run.specs.Audits.{AreNumbersOf, AreTried, IsFaultOf, IsPartOf};
+
+use crate::Memory;
+use crate::images::pages_of;
+use metric_laws::{Meter, Metric};
+use page_store::Pages;
+use par_work::share;
+use std::alloc::Global;
+use std::thread::Threads;
+use tree_audit::laws::parts_make_the_whole;
+use tree_audit::{AuditFault, Audited, Part, audit, audit_part, join_parts};
+use tree_shape::{InnerEntry, Live, Node, fill};
+
+// The entry of the root at this place and the subtree below it, audited as if nothing was met before.
+fn part_of<M: Metric>(
+    alloc: Global,
+    image: &[u8],
+    metric: M,
+    live: &Live,
+    place: usize,
+    entry: &InnerEntry,
+) -> Result<Part, AuditFault>
+    requires pages { live.now.pages ≤ 2 ^ 24 }
+    requires above { 1 ≤ live.now.height }
+    requires place { place < 2 ^ 32 }
+    ensures { IfOk result (IsPartOf (M.space metric) live.now image.now place entry.now) }
+{
+    let mut pages = pages_of(image, metric, live);
+    let mut ruler = Meter::new(metric);
+    let dim = metric.words() as u8;
+    audit_part(
+        alloc,
+        &mut pages,
+        &mut ruler,
+        dim,
+        live,
+        place as u32,
+        entry,
+    )
+}
+
+// Each entry of the root, audited by itself. The entries are cut in order into pieces of `ceil(e / workers)`.
+fn try_parts<R: Threads + Sync, M: Metric>(
+    rt: &R,
+    alloc: Global,
+    image: &[u8],
+    metric: M,
+    live: &Live,
+    entries: &[InnerEntry],
+    workers: usize,
+) -> Result<Vec<Result<Part, AuditFault>>, Memory>
+    requires pages { live.now.pages ≤ 2 ^ 24 }
+    requires above { 1 ≤ live.now.height }
+    requires entries { length entries.now < 2 ^ 32 }
+    requires some_workers { 1 ≤ workers }
+    requires few_workers { workers ≤ 64 }
+    ensures { IfOk result (λ parts. AreTried (M.space metric) live.now image.now 0 entries.now parts.items) }
+{
+    let work = |i: usize| -> Result<Part, AuditFault>
+        requires { (live.now.pages ≤ 2 ^ 24) × (1 ≤ live.now.height) × (length entries.now < 2 ^ 32) × (i < length entries.now) }
+        ensures { (e : InnerEntry) → IfOk result (IsPartOf (M.space metric) live.entry.now image.entry.now i (slice_index_or entries.entry.now i e)) }
+    { part_of(alloc, image, metric, live, i, &entries[i]) };
+    share(rt, alloc, entries.len(), workers, &work)
+}
+
+// The parts, where none of them has a fault.
+fn all_parts(
+    alloc: Global,
+    parts: Vec<Result<Part, AuditFault>>,
+) -> Result<Option<Vec<Part>>, Memory>
+    ensures { IfOk result (λ all. IfSome all (λ v. parts.items ≡ map (λ part. Ok part) v.items)) }
+{
+    let mut all = Vec::with_capacity(alloc, parts.len())?;
+    for part in parts {
+        match part {
+            Ok(part) => all.push(part)?,
+            Err(_) => return Ok(None),
+        }
+    }
+    Ok(Some(all))
+}
+
+// Whether an inner node of this level with so many entries may be the root.
+fn is_root(live: &Live, dim: u8, level: u8, count: usize) -> bool
+    requires some { 1 ≤ dim }
+    requires few { dim ≤ 64 }
+    ensures above { IsTrue result → 1 ≤ live.now.height }
+    ensures level { IsTrue result → level ≡ live.now.height }
+    ensures filled { IsTrue result → IsFilled dim (root_least live.now.height) count }
+{
+    live.height >= 1 && u32::from(level) == live.height && count >= 2 && count <= fill(dim).most
+}
+
+// The numbers of a tree that its parts, audited apart from one another, show to be sound. There are none where a part has a
+// fault, two parts have something in common, or the root is no inner node.
+fn sound_by_parts<R: Threads + Sync, M: Metric>(
+    rt: &R,
+    alloc: Global,
+    image: &[u8],
+    metric: M,
+    live: &Live,
+    workers: usize,
+) -> Result<Option<Audited>, Memory>
+    requires pages { live.now.pages ≤ 2 ^ 24 }
+    requires some_workers { 1 ≤ workers }
+    requires few_workers { workers ≤ 64 }
+    ensures { IfOk result (λ shown. IfSome shown (AreNumbersOf (M.space metric) live.now image.now)) }
+{
+    parts_make_the_whole();
+    let mut pages = pages_of(image, metric, live);
+    let node = match pages.node(alloc, live.root) {
+        Ok(node) => node,
+        Err(_) => return Ok(None),
+    };
+    let (level, entries) = match node {
+        Node::Leaf(_) => return Ok(None),
+        Node::Inner { level, entries } => (level, entries),
+    };
+    let entries = entries.as_slice();
+    let dim = metric.words() as u8;
+    if !is_root(live, dim, level, entries.len()) {
+        return Ok(None);
+    }
+    let tried = try_parts(rt, alloc, image, metric, live, entries, workers)?;
+    match all_parts(alloc, tried)? {
+        Some(parts) => join_parts(alloc, live, &parts),
+        None => Ok(None),
+    }
+}
+
+/// Audits the live tree in the file with these bytes, whose points have `dim` coordinates: its numbers, or its first fault in
+/// the order of `audit`. It is the same for every number of workers, 1 to 64.
+///
+/// Several workers audit the subtrees of the root's entries apart from one another, each worker some entries that stand side
+/// by side, and then one compares what they met. Where that does not show the tree to be sound, one worker audits it whole,
+/// which names the fault.
+pub fn audit_image<R: Threads + Sync, M: Metric>(
+    rt: &R,
+    alloc: Global,
+    image: &[u8],
+    metric: M,
+    dim: u8,
+    live: &Live,
+    workers: usize,
+) -> Result<Audited, AuditFault>
+    requires dim { (M.space metric).words ≡ dim }
+    requires pages { live.now.pages ≤ 2 ^ 24 }
+    requires some_workers { 1 ≤ workers }
+    requires few_workers { workers ≤ 64 }
+    ensures ok { IfOk result (AreNumbersOf (M.space metric) live.now image.now) }
+    ensures err { IfErr result (IsFaultOf (M.space metric) live.now image.now) }
+{
+    if workers > 1 {
+        match sound_by_parts(rt, alloc, image, metric, live, workers) {
+            Ok(Some(audited)) => return Ok(audited),
+            Ok(None) => {}
+            Err(_) => return Err(AuditFault::Memory),
+        }
+    }
+    let mut pages = pages_of(image, metric, live);
+    let mut ruler = Meter::new(metric);
+    audit(alloc, &mut pages, &mut ruler, dim, live)
+}
