@@ -1,0 +1,4 @@
+pub mod Generator
+pub mod Filling
+pub mod Asking
+pub mod Jobs

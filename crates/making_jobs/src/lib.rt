@@ -1,0 +1,17 @@
+//! The jobs that make an index and fill it at once: generated rows, and the objects of a file of version 1.
+#![tactic(auto)]
+
+mod asking;
+mod filling;
+mod generating;
+mod generator;
+
+pub use filling::{FillFault, Objects, fill};
+pub use generating::{Generation, generate_index};
+pub use generator::generated_rows;
+
+/// Want of memory.
+pub type Memory = std::alloc::AllocError;
+
+#[cfg(test)]
+mod tests;
