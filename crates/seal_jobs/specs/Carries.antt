@@ -1,0 +1,127 @@
+-- What the job `proof` on an index does and writes.
+use Rattle.std.specs.Prelude.{◌≡◌, ◌⊎◌, ℕ, ◌+◌, ◌^◌, ◌<◌, ◌≤◌, Bool, true, false, List, [], ◌∷◌, ◌++◌, length, map, codes, Option, Some, None, Ok, Err, IsTrue, if◌then◌else◌}
+use Rattle.std.specs.List.{flat_map, list_all}
+use Rattle.std.specs.Io.KnownBytes.{Appends, Consumes}
+use Rattle.outside_io.specs.Sinks.{SinkState, Tells}
+use Rattle.disk_model.specs.Disk.{DiskState, IsUnchanged}
+use Rattle.tree_shape.specs.declared.live.Live.{Live}
+use Rattle.node_page.specs.declared.head.Head.{Head}
+use Rattle.node_page.specs.Opening.{OpensTo}
+use Rattle.page_store.specs.Reading.{reading}
+use Rattle.log_model.specs.declared.logs.Log.{Log}
+use Rattle.log_verify.specs.declared.faults.Verdict.{Verdict}
+use Rattle.log_verify.specs.Judged.{log_fault}
+use Rattle.log_lines.specs.Lines.{frame, rejected_line, undecoded_text, verdict_text}
+use Rattle.prune_log.specs.declared.fault.LogFault.{LogFault}
+use Rattle.prune_log.specs.Spelling.{frame_bytes}
+use Rattle.prune_log.specs.Reading.{frames_at, log_at}
+use Rattle.seal_log.specs.Digests.{leaf_digests}
+use Rattle.seal_log.specs.Carrying.{Carries}
+use Rattle.file_jobs.specs.Lines.{not_index_text}
+use Rattle.file_jobs.specs.Jobs.{IsNoIndex}
+use Rattle.seal_jobs.specs.Proofs.{space_of}
+use Rattle.seal_jobs.specs.Seals.{IsLarge}
+
+-- the first fault of a log over an opened file
+abbrev pub judged : List ℕ → Head → Live → Log → Option Verdict
+judged file head live log = log_fault (space_of head) (reading head.dim live.pages file) live log
+
+abbrev pub carried_line : ℕ → List ℕ
+carried_line i = frame i ++ codes " carried\n"
+
+abbrev pub carried_end : Bool → List ℕ
+carried_end true = codes "log carried\n"
+carried_end false = codes "log rejected\n"
+
+-- the frame and the line of a log: its carried log where it has no fault, else nothing and its first fault
+abbrev pub TellsLog : List ℕ → Head → Live → ℕ → Log → List ℕ → List ℕ → Bool → Type 0
+TellsLog file head live i log put line true =
+    (judged file head live log ≡ None) × ((bytes : List ℕ) × Carries file (leaf_digests file live.pages) log bytes × (put ≡ frame_bytes bytes) × (line ≡ carried_line i))
+TellsLog file head live i log put line false = (why : Verdict) × (judged file head live log ≡ Some why) × (put ≡ []) × (line ≡ rejected_line i (verdict_text why))
+
+-- a log, its frame and its line, and whether it has no fault
+pub record Told : Type 0 where
+  pub log : Log
+  pub put : List ℕ
+  pub line : List ℕ
+  pub accepted : Bool
+
+abbrev pub IsTold : List ℕ → Head → Live → ℕ → Told → Type 0
+IsTold file head live i t = TellsLog file head live i t.log t.put t.line t.accepted
+
+-- each of these is so, where the first stands in frame i
+abbrev pub AreTold : List ℕ → Head → Live → ℕ → List Told → Type 0
+AreTold file head live i [] = Unit {0}
+AreTold file head live i (t ∷ ts) = IsTold file head live i t × AreTold file head live (i + 1) ts
+
+-- the frame and the line of a log were put
+abbrev pub PutsLog : List ℕ → Head → Live → ℕ → Log → Bool → Option (List ℕ) → Option (List ℕ) → Option (List ℕ) → Option (List ℕ) → Type 0
+PutsLog file head live i log accepted l0 l1 o0 o1 = (put : List ℕ) × (line : List ℕ) × TellsLog file head live i log put line accepted × Appends l0 l1 put × Appends o0 o1 line
+
+-- the frames and the lines of the first logs were put
+pub record HasCarried (file : List ℕ) (head : Head) (live : Live) (logs rest : List Log) (i : ℕ) (accepted : Bool) (l0 l1 o0 o1 : Option (List ℕ)) : Type 0 where
+  pub told : List Told
+  pub logs_are : logs ≡ map (λ (t : Told). t.log) told ++ rest
+  pub are_told : AreTold file head live 0 told
+  pub count : i ≡ length told
+  pub all : accepted ≡ list_all (λ (t : Told). t.accepted) told
+  pub put : Appends l0 l1 (flat_map (λ (t : Told). t.put) told)
+  pub lines : Appends o0 o1 (flat_map (λ (t : Told). t.line) told)
+
+-- the bytes are no logs: nothing but this line is put
+pub record IsUndecoded (bytes : List ℕ) (l0 l1 o0 o1 : Option (List ℕ)) (status : ℕ) : Type 0 where
+  pub why : LogFault
+  pub fault : frames_at log_at bytes ≡ Err why
+  pub rejected : status ≡ 1
+  pub no_frame : l1 ≡ l0
+  pub line : Appends o0 o1 (undecoded_text why)
+
+-- the frames and the lines of all logs were put, and the last line
+pub record HasCarriedAll (file : List ℕ) (head : Head) (live : Live) (bytes : List ℕ) (l0 l1 o0 o1 : Option (List ℕ)) (status : ℕ) : Type 0 where
+  pub logs : List Log
+  pub decoded : frames_at log_at bytes ≡ Ok logs
+  pub accepted : Bool
+  pub middle : Option (List ℕ)
+  pub carried : HasCarried file head live logs [] (length logs) accepted l0 l1 o0 middle
+  pub line : Appends middle o1 (carried_end accepted)
+  pub status_is : status ≡ (if accepted then 0 else 1)
+
+abbrev pub EndsCarried : List ℕ → Head → Live → List ℕ → Option (List ℕ) → Option (List ℕ) → Option (List ℕ) → Option (List ℕ) → ℕ → Type 0
+EndsCarried file head live bytes l0 l1 o0 o1 status = IsUndecoded bytes l0 l1 o0 o1 status ⊎ HasCarriedAll file head live bytes l0 l1 o0 o1 status
+
+-- the file opens, and what is put is this
+pub record CarriesOn (file bytes : List ℕ) (l0 l1 o0 o1 : Option (List ℕ)) (status : ℕ) : Type 0 where
+  pub head : Head
+  pub live : Live
+  pub opens : OpensTo file head live
+  pub version : head.version ≡ 2
+  pub few : live.pages ≤ 262144
+  pub ends : EndsCarried file head live bytes l0 l1 o0 o1 status
+
+abbrev pub IsDone : ℕ → Type 0
+IsDone status = (status ≡ 0) ⊎ (status ≡ 1)
+
+-- what the job does that takes bytes of logs from `left0`
+pub record CarriesLogs (disk0 disk1 : DiskState) (left0 left1 l0 l1 : Option (List ℕ)) (out0 out1 : SinkState) (status : ℕ) : Type 0 where
+  pub bytes : List ℕ
+  pub taken : Consumes left0 left1 bytes
+  -- at most 2 ^ 30 and a buffer more were taken, and more than 2 ^ 30 are told
+  pub few : length bytes ≤ 2 ^ 30 + 4096
+  pub too_many : 2 ^ 30 < length bytes → status ≡ 7
+  pub unchanged : IsUnchanged disk0 disk1
+  pub done : IsDone status → IsTrue disk0.tells → CarriesOn disk0.bytes bytes l0 l1 out0.written out1.written status
+  pub input_line : status ≡ 3 → Tells out0 out1 (codes "fault input\n")
+  pub not_index : status ≡ 6 → (name : List ℕ) × Tells out0 out1 (not_index_text name) × (IsTrue disk0.tells → IsNoIndex disk0.bytes name)
+  -- there are too many bytes, or the file has too many pages
+  pub long : status ≡ 7 → Tells out0 out1 (codes "fault long\n") × ((2 ^ 30 < length bytes) ⊎ (IsTrue disk0.tells → IsLarge disk0.bytes))
+
+-- ---- statuses
+
+abbrev pub IsHaltStatus : ℕ → Type 0
+IsHaltStatus n = (n ≡ 4) ⊎ ((n ≡ 5) ⊎ (n ≡ 8))
+
+abbrev pub IsCarryStatus : ℕ → Type 0
+IsCarryStatus n = (n ≡ 0) ⊎ ((n ≡ 1) ⊎ ((n ≡ 4) ⊎ ((n ≡ 5) ⊎ ((n ≡ 6) ⊎ ((n ≡ 7) ⊎ (n ≡ 8))))))
+
+abbrev pub IsCarriedLogsStatus : ℕ → Type 0
+IsCarriedLogsStatus n = (n ≡ 3) ⊎ IsCarryStatus n

@@ -1,0 +1,4 @@
+pub mod Carries
+pub mod Seals
+pub mod Proofs
+pub mod Laws

@@ -1,0 +1,398 @@
+// The job `proof` on an index.
+ghost use Rattle.std.specs.Prelude.{◌≡◌, ◌⊎◌, ◌++◌, ◌≤◌, ◌<◌, ◌^◌, List, ℕ, [], length, All, nat_lt, IsTrue, IfOk, IsErrOf, OnOk, codes};
+ghost use Rattle.std.specs.List.{list_all};
+ghost use Rattle.std.specs.Io.KnownBytes.{Appends};
+ghost use Rattle.outside_io.specs.Causes.{Rose};
+ghost use Rattle.outside_io.specs.Sinks.{Tells};
+ghost use Rattle.disk_model.specs.Disk.{IsUnchanged};
+ghost use Rattle.node_page.specs.Heads.{IsLawfulHead};
+ghost use Rattle.page_store.specs.Shelf.{HoldsSame};
+ghost use Rattle.log_model.specs.Grammar.{IsLawfulLog};
+ghost use Rattle.log_verify.specs.Judged.{log_fault};
+ghost use Rattle.prune_log.specs.Spelling.{frame_bytes};
+ghost use Rattle.seal_log.specs.Carrying.{Carries};
+ghost use Rattle.seal_log.specs.Digests.{leaf_digests};
+ghost use Rattle.seal_log.specs.Laws.{CarriedLogsAreAccepted};
+ghost use Rattle.file_jobs.specs.Lines.{not_index_text};
+ghost use Rattle.file_jobs.specs.Jobs.{IsNoIndex};
+ghost use Rattle.seal_jobs.specs.Seals.{IsLarge};
+ghost use Rattle.seal_jobs.specs.Carries.{CarriesLogs, CarriesOn, EndsCarried, HasCarried, IsCarriedLogsStatus, IsCarryStatus, IsDone, IsHaltStatus, PutsLog, TellsLog, carried_end, carried_line, judged};
+
+use crate::opening::open_small;
+use crate::proof_lines::rejected_text;
+use crate::stop::Halt;
+use disk_model::Disk;
+use file_jobs::{FAULT_DISK, FAULT_MEMORY, end_with, space_of};
+use log_lines::{push_frame, undecoded_text};
+use log_model::{Log, Record};
+use log_verify::{Verdict, verify};
+use metric_laws::{Meter, Metric};
+use node_page::Head;
+use outside_io::{Memory, ReadAll, Sink, Source, Status, read_all};
+use page_store::{DiskPages, PageFault, Pages};
+use prune_log::{LogFault, decode_frames, frame};
+use seal_log::laws::carried_logs_are_accepted;
+use seal_log::{ProofFault, SealFault, Tree, carry, seal};
+use std::alloc::Global;
+use tree_shape::Live;
+
+/// The most bytes of logs that are read.
+const MOST_LOGS: u64 = 1 << 30;
+
+// The first fault of a log, where it has one.
+fn judge_by<M: Metric, P: Pages>(
+    alloc: Global,
+    metric: M,
+    pages: &mut P,
+    live: &Live,
+    log: &Log,
+) -> Result<Option<Verdict>, Halt>
+    requires { IsLawfulLog log.now }
+    ensures same { HoldsSame (P.shelf pages.old) (P.shelf pages.new) }
+    ensures keeps { P.keeps pages.old pages.new }
+    ensures told { IfOk result (λ found. IsTrue (P.shelf pages.old).tells → log_fault (M.space metric) (P.shelf pages.old).read live.now log.now ≡ found) }
+    ensures disk { IsErrOf result Halt.Disk → Rose (P.shelf pages.old).faults (P.shelf pages.new).faults }
+    ensures not_sink { IsErrOf result Halt.Sink → ⊥ }
+{
+    let mut ruler = Meter::new(metric);
+    match verify(alloc, pages, &mut ruler, live, log) {
+        Ok(_) => Ok(None),
+        Err(Verdict::Memory) => Err(Halt::Memory),
+        Err(Verdict::Page(PageFault::Disk)) => Err(Halt::Disk),
+        Err(why) => Ok(Some(why)),
+    }
+}
+
+// The first fault of a log over an opened index.
+fn judge_log<D: Disk>(
+    alloc: Global,
+    index: &mut D,
+    opened: &(Head, Live),
+    log: &Log,
+) -> Result<Option<Verdict>, Halt>
+    requires head { IsLawfulHead opened.now.0 }
+    requires few { opened.now.1.pages ≤ 262144 }
+    requires lawful { IsLawfulLog log.now }
+    ensures same { IsUnchanged (D.state index.old) (D.state index.new) }
+    ensures told { IfOk result (λ found. IsTrue (D.state index.old).tells → judged (D.state index.old).bytes opened.now.0 opened.now.1 log.now ≡ found) }
+    ensures disk { IsErrOf result Halt.Disk → Rose (D.state index.old).faults (D.state index.new).faults }
+    ensures not_sink { IsErrOf result Halt.Sink → ⊥ }
+    ensures later { (D.state index.old).faults ≤ (D.state index.new).faults }
+{
+    let (head, live) = opened;
+    let mut pages = DiskPages::new(index, head.dim, live.pages);
+    judge_by(alloc, space_of(head), &mut pages, live, log)
+}
+
+// Whether all records name pages of a file.
+fn are_within(records: &[Record], pages: u32) -> bool
+    ensures { result ≡ list_all (λ r. nat_lt r.page pages) records.now }
+{
+    records.iter().all(|record| record.page < pages)
+}
+
+// The line of a log that is carried.
+fn carried_text(alloc: Global, frame: u64) -> Result<Vec<u8>, Memory>
+    ensures { IfOk result (λ text. text.items ≡ carried_line frame) }
+{
+    let mut text = Vec::new(alloc);
+    push_frame(frame, &mut text)?;
+    text.extend_from_slice(b" carried\n")?;
+    Ok(text)
+}
+
+// The carried log of a log without a fault, as a frame. A log that is accepted names no page outside.
+fn carried_frame<D: Disk>(
+    alloc: Global,
+    index: &mut D,
+    tree: &Tree,
+    log: &Log,
+) -> Result<Vec<u8>, Halt>
+    requires some { 4 ≤ length tree.now }
+    requires few { length tree.now ≤ 262144 }
+    requires lawful { IsLawfulLog log.now }
+    ensures same { IsUnchanged (D.state index.old) (D.state index.new) }
+    ensures carries { IfOk result (λ put. IsTrue (D.state index.old).tells → (bytes : List ℕ) × Carries (D.state index.old).bytes tree.now log.now bytes × (put.items ≡ frame_bytes bytes)) }
+    ensures disk { IsErrOf result Halt.Disk → Rose (D.state index.old).faults (D.state index.new).faults }
+    ensures not_sink { IsErrOf result Halt.Sink → ⊥ }
+    ensures later { (D.state index.old).faults ≤ (D.state index.new).faults }
+{
+    if !are_within(log.records.as_slice(), tree.pages()) {
+        return Err(Halt::Memory);
+    }
+    match carry(alloc, index, tree, log) {
+        Ok(bytes) => {
+            let mut put = Vec::new(alloc);
+            frame(&bytes, &mut put)?;
+            Ok(put)
+        }
+        Err(SealFault::Disk) => Err(Halt::Disk),
+        Err(SealFault::Memory) => Err(Halt::Memory),
+    }
+}
+
+// The frame and the line of a log, and whether it has no fault.
+fn log_texts<D: Disk>(
+    alloc: Global,
+    index: &mut D,
+    opened: &(Head, Live),
+    tree: &Tree,
+    number: u64,
+    log: &Log,
+) -> Result<(Vec<u8>, Vec<u8>, bool), Halt>
+    requires head { IsLawfulHead opened.now.0 }
+    requires some { 4 ≤ opened.now.1.pages }
+    requires few { opened.now.1.pages ≤ 262144 }
+    requires size { length tree.now ≡ opened.now.1.pages }
+    requires sealed { IsTrue (D.state index.old).tells → tree.now ≡ leaf_digests (D.state index.old).bytes opened.now.1.pages }
+    requires lawful { IsLawfulLog log.now }
+    ensures same { IsUnchanged (D.state index.old) (D.state index.new) }
+    ensures tells { IfOk result (λ x. IsTrue (D.state index.old).tells → TellsLog (D.state index.old).bytes opened.now.0 opened.now.1 number log.now x.0.items x.1.items x.2) }
+    ensures disk { IsErrOf result Halt.Disk → Rose (D.state index.old).faults (D.state index.new).faults }
+    ensures not_sink { IsErrOf result Halt.Sink → ⊥ }
+    ensures later { (D.state index.old).faults ≤ (D.state index.new).faults }
+{
+    if let Some(why) = judge_log(alloc, index, opened, log)? {
+        let line = rejected_text(alloc, number, ProofFault::Verdict(why))?;
+        return Ok((Vec::new(alloc), line, false));
+    }
+    let put = carried_frame(alloc, index, tree, log)?;
+    Ok((put, carried_text(alloc, number)?, true))
+}
+
+// Puts the frame and then the line of a log. The answer is whether it has no fault.
+fn carry_log<D: Disk, K: Sink, L: Sink>(
+    alloc: Global,
+    index: &mut D,
+    opened: &(Head, Live),
+    tree: &Tree,
+    number: u64,
+    log: &Log,
+    out: &mut K,
+    log_out: &mut L,
+) -> Result<bool, Halt>
+    requires head { IsLawfulHead opened.now.0 }
+    requires some { 4 ≤ opened.now.1.pages }
+    requires few { opened.now.1.pages ≤ 262144 }
+    requires size { length tree.now ≡ opened.now.1.pages }
+    requires sealed { IsTrue (D.state index.old).tells → tree.now ≡ leaf_digests (D.state index.old).bytes opened.now.1.pages }
+    requires lawful { IsLawfulLog log.now }
+    ensures same { IsUnchanged (D.state index.old) (D.state index.new) }
+    ensures puts { IfOk result (λ accepted. IsTrue (D.state index.old).tells → PutsLog (D.state index.old).bytes opened.now.0 opened.now.1 number log.now accepted
+        (L.state log_out.old).written (L.state log_out.new).written (K.state out.old).written (K.state out.new).written) }
+    ensures disk { IsErrOf result Halt.Disk → Rose (D.state index.old).faults (D.state index.new).faults }
+    ensures output { IsErrOf result Halt.Sink → Rose (K.state out.old).faults (K.state out.new).faults ⊎ Rose (L.state log_out.old).faults (L.state log_out.new).faults }
+    ensures later { (D.state index.old).faults ≤ (D.state index.new).faults }
+    ensures out_later { (K.state out.old).faults ≤ (K.state out.new).faults }
+    ensures log_later { (L.state log_out.old).faults ≤ (L.state log_out.new).faults }
+{
+    let (put, line, accepted) = log_texts(alloc, index, opened, tree, number, log)?;
+    if log_out.put(&put).is_err() {
+        return Err(Halt::Sink);
+    }
+    match out.put(&line) {
+        Ok(()) => Ok(accepted),
+        Err(_) => Err(Halt::Sink),
+    }
+}
+
+// Puts the frames and the lines of logs. The answer is whether none has a fault.
+fn carry_all<D: Disk, K: Sink, L: Sink>(
+    alloc: Global,
+    index: &mut D,
+    opened: &(Head, Live),
+    tree: &Tree,
+    logs: Vec<Log>,
+    out: &mut K,
+    log_out: &mut L,
+) -> Result<bool, Halt>
+    requires head { IsLawfulHead opened.now.0 }
+    requires some { 4 ≤ opened.now.1.pages }
+    requires few { opened.now.1.pages ≤ 262144 }
+    requires size { length tree.now ≡ opened.now.1.pages }
+    requires sealed { IsTrue (D.state index.old).tells → tree.now ≡ leaf_digests (D.state index.old).bytes opened.now.1.pages }
+    requires lawful { All IsLawfulLog logs.items }
+    ensures same { IsUnchanged (D.state index.old) (D.state index.new) }
+    ensures puts { IfOk result (λ accepted. IsTrue (D.state index.old).tells → HasCarried (D.state index.old).bytes opened.now.0 opened.now.1 logs.items [] (length logs.items) accepted
+        (L.state log_out.old).written (L.state log_out.new).written (K.state out.old).written (K.state out.new).written) }
+    ensures disk { IsErrOf result Halt.Disk → Rose (D.state index.old).faults (D.state index.new).faults }
+    ensures output { IsErrOf result Halt.Sink → Rose (K.state out.old).faults (K.state out.new).faults ⊎ Rose (L.state log_out.old).faults (L.state log_out.new).faults }
+    ensures later { (D.state index.old).faults ≤ (D.state index.new).faults }
+    ensures out_later { (K.state out.old).faults ≤ (K.state out.new).faults }
+    ensures log_later { (L.state log_out.old).faults ≤ (L.state log_out.new).faults }
+{
+    let mut number = 0;
+    let mut accepted = true;
+    for log in logs {
+        let is_accepted = carry_log(alloc, index, opened, tree, number, &log, out, log_out)?;
+        accepted &= is_accepted;
+        number += 1;
+    }
+    Ok(accepted)
+}
+
+// The last line where bytes are logs.
+fn carried_end(accepted: bool) -> &'static [u8]
+    ensures { result.now ≡ carried_end accepted }
+{
+    if accepted {
+        b"log carried\n"
+    } else {
+        b"log rejected\n"
+    }
+}
+
+// Puts a line.
+fn put<K: Sink>(out: &mut K, line: &[u8]) -> Result<(), Halt>
+    ensures puts { OnOk result (Appends (K.state out.old).written (K.state out.new).written line.now) }
+    ensures later { (K.state out.old).faults ≤ (K.state out.new).faults }
+    ensures output { IsErrOf result Halt.Sink → Rose (K.state out.old).faults (K.state out.new).faults }
+    ensures not_disk { IsErrOf result Halt.Disk → ⊥ }
+{
+    match out.put(line) {
+        Ok(()) => Ok(()),
+        Err(_) => Err(Halt::Sink),
+    }
+}
+
+// Puts the frames and the lines of the logs that bytes spell, and the last line. The answer is the status.
+fn carry_bytes<D: Disk, K: Sink, L: Sink>(
+    alloc: Global,
+    index: &mut D,
+    opened: &(Head, Live),
+    tree: &Tree,
+    bytes: &[u8],
+    out: &mut K,
+    log_out: &mut L,
+) -> Result<Status, Halt>
+    requires head { IsLawfulHead opened.now.0 }
+    requires some { 4 ≤ opened.now.1.pages }
+    requires few { opened.now.1.pages ≤ 262144 }
+    requires size { length tree.now ≡ opened.now.1.pages }
+    requires sealed { IsTrue (D.state index.old).tells → tree.now ≡ leaf_digests (D.state index.old).bytes opened.now.1.pages }
+    ensures same { IsUnchanged (D.state index.old) (D.state index.new) }
+    ensures ends { IfOk result (λ status. IsTrue (D.state index.old).tells → EndsCarried (D.state index.old).bytes opened.now.0 opened.now.1 bytes.now
+        (L.state log_out.old).written (L.state log_out.new).written (K.state out.old).written (K.state out.new).written status.0) }
+    ensures statuses { IfOk result (λ status. IsDone status.0) }
+    ensures disk { IsErrOf result Halt.Disk → Rose (D.state index.old).faults (D.state index.new).faults }
+    ensures output { IsErrOf result Halt.Sink → Rose (K.state out.old).faults (K.state out.new).faults ⊎ Rose (L.state log_out.old).faults (L.state log_out.new).faults }
+    ensures later { (D.state index.old).faults ≤ (D.state index.new).faults }
+    ensures out_later { (K.state out.old).faults ≤ (K.state out.new).faults }
+    ensures log_later { (L.state log_out.old).faults ≤ (L.state log_out.new).faults }
+{
+    let logs = match decode_frames(alloc, bytes) {
+        Ok(logs) => logs,
+        Err(LogFault::Memory) => return Err(Halt::Memory),
+        Err(fault) => {
+            put(out, undecoded_text(fault))?;
+            return Ok(Status(1));
+        }
+    };
+    let accepted = carry_all(alloc, index, opened, tree, logs, out, log_out)?;
+    put(out, carried_end(accepted))?;
+    Ok(Status(u8::from(!accepted)))
+}
+
+// Seals an opened index once, and puts the frames and the lines of the logs that bytes spell. The answer is the status.
+fn carry_opened<D: Disk, K: Sink, L: Sink>(
+    alloc: Global,
+    index: &mut D,
+    opened: &(Head, Live),
+    bytes: &[u8],
+    out: &mut K,
+    log_out: &mut L,
+) -> Result<Status, Halt>
+    requires head { IsLawfulHead opened.now.0 }
+    requires some { 4 ≤ opened.now.1.pages }
+    requires few { opened.now.1.pages ≤ 262144 }
+    ensures same { IsUnchanged (D.state index.old) (D.state index.new) }
+    ensures ends { IfOk result (λ status. IsTrue (D.state index.old).tells → EndsCarried (D.state index.old).bytes opened.now.0 opened.now.1 bytes.now
+        (L.state log_out.old).written (L.state log_out.new).written (K.state out.old).written (K.state out.new).written status.0) }
+    ensures statuses { IfOk result (λ status. IsDone status.0) }
+    ensures disk { IsErrOf result Halt.Disk → Rose (D.state index.old).faults (D.state index.new).faults }
+    ensures output { IsErrOf result Halt.Sink → Rose (K.state out.old).faults (K.state out.new).faults ⊎ Rose (L.state log_out.old).faults (L.state log_out.new).faults }
+    ensures later { (D.state index.old).faults ≤ (D.state index.new).faults }
+    ensures out_later { (K.state out.old).faults ≤ (K.state out.new).faults }
+    ensures log_later { (L.state log_out.old).faults ≤ (L.state log_out.new).faults }
+{
+    match seal(alloc, index, opened.1.pages) {
+        Ok(tree) => carry_bytes(alloc, index, opened, &tree, bytes, out, log_out),
+        Err(SealFault::Disk) => Err(Halt::Disk),
+        Err(SealFault::Memory) => Err(Halt::Memory),
+    }
+}
+
+// Ends a job that stopped.
+fn end_halted<K: Sink>(why: Halt, out: &mut K) -> Status
+    ensures statuses { IsHaltStatus result.0 }
+    ensures disk { result.0 ≡ 5 → why ≡ Halt.Disk }
+    ensures output { result.0 ≡ 4 → why ≡ Halt.Sink }
+    ensures later { (K.state out.old).faults ≤ (K.state out.new).faults }
+{
+    match why {
+        Halt::Sink => Status(4),
+        Halt::Disk => end_with(out, FAULT_DISK, 5),
+        Halt::Memory => end_with(out, FAULT_MEMORY, 8),
+    }
+}
+
+// Puts the frames and the lines of the logs that bytes spell, by an index.
+fn carry_index<D: Disk, K: Sink, L: Sink>(
+    alloc: Global,
+    index: &mut D,
+    bytes: &[u8],
+    out: &mut K,
+    log_out: &mut L,
+) -> Status
+    ensures same { IsUnchanged (D.state index.old) (D.state index.new) }
+    ensures done { IsDone result.0 → IsTrue (D.state index.old).tells → CarriesOn (D.state index.old).bytes bytes.now
+        (L.state log_out.old).written (L.state log_out.new).written (K.state out.old).written (K.state out.new).written result.0 }
+    ensures not_index { result.0 ≡ 6 → (name : List ℕ) × Tells (K.state out.old) (K.state out.new) (not_index_text name) × (IsTrue (D.state index.old).tells → IsNoIndex (D.state index.old).bytes name) }
+    ensures long { result.0 ≡ 7 → Tells (K.state out.old) (K.state out.new) (codes "fault long\n") × (IsTrue (D.state index.old).tells → IsLarge (D.state index.old).bytes) }
+    ensures statuses { IsCarryStatus result.0 }
+    ensures disk { result.0 ≡ 5 → Rose (D.state index.old).faults (D.state index.new).faults }
+    ensures output { result.0 ≡ 4 → Rose (K.state out.old).faults (K.state out.new).faults ⊎ Rose (L.state log_out.old).faults (L.state log_out.new).faults }
+    ensures later { (D.state index.old).faults ≤ (D.state index.new).faults }
+    ensures out_later { (K.state out.old).faults ≤ (K.state out.new).faults }
+    ensures log_later { (L.state log_out.old).faults ≤ (L.state log_out.new).faults }
+{
+    let opened = match open_small(index, out) {
+        Ok(opened) => opened,
+        Err(status) => return status,
+    };
+    match carry_opened(alloc, index, &opened, bytes, out, log_out) {
+        Ok(status) => status,
+        Err(why) => end_halted(why, out),
+    }
+}
+
+/// Reads logs, and writes to `log_out` for each that has no fault on the index its carried log, as a frame, and then its line
+/// to `out`; for another its first fault. The index is sealed once. Status 1: a log is rejected, or the bytes are no logs; 3:
+/// they could not be read; 4: a frame or a line could not be written; 5: the disk failed; 6: the file is no index of version
+/// 2; 7: there are more than 2^30 bytes of logs, or the index has more than 262144 pages; 8: want of memory. The index is not
+/// changed.
+pub fn carry_logs<D: Disk, S: Source, K: Sink, L: Sink>(
+    alloc: Global,
+    index: &mut D,
+    log_in: &mut S,
+    out: &mut K,
+    log_out: &mut L,
+) -> Status
+    ensures carries { CarriesLogs (D.state index.old) (D.state index.new) (S.left log_in.old) (S.left log_in.new)
+        (L.state log_out.old).written (L.state log_out.new).written (K.state out.old) (K.state out.new) result.0 }
+    // A frame that is written for a sound log of a sound file is accepted under the file's root digest.
+    ensures accepted { CarriedLogsAreAccepted }
+    ensures statuses { IsCarriedLogsStatus result.0 }
+    ensures input { result.0 ≡ 3 → Rose (S.faults log_in.old) (S.faults log_in.new) }
+    ensures disk { result.0 ≡ 5 → Rose (D.state index.old).faults (D.state index.new).faults }
+    ensures output { result.0 ≡ 4 → Rose (K.state out.old).faults (K.state out.new).faults ⊎ Rose (L.state log_out.old).faults (L.state log_out.new).faults }
+    ensures counts { (S.faults log_in.old ≤ S.faults log_in.new) × ((K.state out.old).faults ≤ (K.state out.new).faults) × ((L.state log_out.old).faults ≤ (L.state log_out.new).faults) }
+{
+    carried_logs_are_accepted();
+    match read_all(alloc, log_in, MOST_LOGS) {
+        Ok(bytes) => carry_index(alloc, index, &bytes, out, log_out),
+        Err(ReadAll::Fault) => end_with(out, b"fault input\n", 3),
+        Err(ReadAll::TooLong) => end_with(out, b"fault long\n", 7),
+        Err(ReadAll::Memory) => end_with(out, FAULT_MEMORY, 8),
+    }
+}

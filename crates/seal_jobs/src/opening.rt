@@ -1,0 +1,44 @@
+// Opening an index that is not too large to be sealed.
+ghost use Rattle.std.specs.Prelude.{◌≡◌, ◌≤◌, IsTrue, IfOk, IfErr, OnOk};
+ghost use Rattle.disk_model.specs.Disk.{IsUnchanged};
+ghost use Rattle.node_page.specs.Heads.{IsLawfulHead};
+ghost use Rattle.node_page.specs.Opening.{OpensTo};
+ghost use Rattle.seal_jobs.specs.Seals.{Refuses};
+
+use disk_model::Disk;
+use file_jobs::{end_unopened, end_with};
+use node_page::Head;
+use outside_io::{Sink, Status};
+use shadow_root::open;
+use tree_shape::Live;
+
+/// The most pages of an index that is sealed: 1 GiB.
+pub const MOST_PAGES: u32 = 262_144;
+
+/// Opens an index of version 2 with up to 262144 pages. Else it writes why it is none, and answers the status: 5 where the
+/// disk failed, 6 where the file is no index of version 2, and 7 where it has more pages. Nothing is changed.
+pub fn open_small<D: Disk, K: Sink>(disk: &mut D, out: &mut K) -> Result<(Head, Live), Status>
+    ensures same { IsUnchanged (D.state disk.old) (D.state disk.new) }
+    ensures opens { IfOk result (λ opened. IsTrue (D.state disk.old).tells → OpensTo (D.state disk.old).bytes opened.0 opened.1) }
+    ensures version { IfOk result (λ opened. opened.0.version ≡ 2) }
+    ensures head { IfOk result (λ opened. IsLawfulHead opened.0) }
+    ensures some { IfOk result (λ opened. 4 ≤ opened.1.pages) }
+    ensures few { IfOk result (λ opened. opened.1.pages ≤ 262144) }
+    ensures silent { OnOk result (out.new ≡ out.old) }
+    ensures refuses { IfErr result (λ status. Refuses (D.state disk.old) (D.state disk.new) (K.state out.old) (K.state out.new) status.0) }
+    ensures later { (D.state disk.old).faults ≤ (D.state disk.new).faults }
+    ensures written_later { (K.state out.old).faults ≤ (K.state out.new).faults }
+{
+    match open(disk) {
+        Ok((head, live)) => {
+            if head.version != 2 {
+                return Err(end_with(out, b"fault notindex version\n", 6));
+            }
+            if live.pages > MOST_PAGES {
+                return Err(end_with(out, b"fault long\n", 7));
+            }
+            Ok((head, live))
+        }
+        Err(fault) => Err(end_unopened(fault, out)),
+    }
+}

@@ -1,0 +1,16 @@
+use Rattle.std.proofs.Common.{None}
+use Rattle.seal_log.proofs.CarriedFiles.{pages-ascend, pages-sized}
+use Rattle.seal_log.proofs.OpenedFiles.{lawful-dim}
+use Rattle.seal_log.proofs.carried.Carried.node_on.Goals as goal
+
+pub page_bytes-bytes-requires-clause-ascend : goal.page_bytes-bytes-requires-clause-ascend
+page_bytes-bytes-requires-clause-ascend c = rw c.as_slice.ensures (pages-ascend c.self.inside.live.pages None c.self.inside.pages c.self.invariant.parts.in_place)
+
+pub page_bytes-bytes-requires-clause-size : goal.page_bytes-bytes-requires-clause-size
+page_bytes-bytes-requires-clause-size c = rw c.as_slice.ensures (pages-sized c.self.inside.pages c.self.invariant.parts.each)
+
+pub decode_node-requires-clause-some : goal.decode_node-requires-clause-some
+decode_node-requires-clause-some c = (lawful-dim c.self.inside.head c.self.invariant.opens.spells_head.lawful).0
+
+pub decode_node-requires-clause-few : goal.decode_node-requires-clause-few
+decode_node-requires-clause-few c = (lawful-dim c.self.inside.head c.self.invariant.opens.spells_head.lawful).1

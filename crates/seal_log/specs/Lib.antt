@@ -1,0 +1,9 @@
+pub mod Digests
+pub mod Paths
+pub mod Collisions
+pub mod Spelling
+pub mod Reading
+pub mod Carrying
+pub mod Judged
+pub mod Opened
+pub mod Laws

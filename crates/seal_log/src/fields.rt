@@ -1,0 +1,58 @@
+// Fields, read from the front of bytes.
+ghost use Rattle.std.specs.Prelude.{◌≡◌, ◌++◌, length, OnOk, IfOk};
+ghost use Rattle.byteorder.specs.Endian.{big_bytes};
+ghost use Rattle.prune_log.specs.Reading.{Gives, byte_at, number_at, front_at};
+
+use crate::Memory;
+use byteorder::{BigEndian, ByteOrder};
+use prune_log::LogFault;
+
+// The byte in front, and the bytes behind it.
+pub fn byte_at(bytes: &[u8]) -> Result<(u8, &[u8]), LogFault>
+    ensures { Gives (λ x. (x.0, x.1.now)) result (byte_at bytes.now) }
+{
+    match bytes {
+        [] => Err(LogFault::Cut),
+        [byte, rest @ ..] => Ok((*byte, rest)),
+    }
+}
+
+// The number in the first four bytes, and the bytes behind it.
+pub fn u32_at(bytes: &[u8]) -> Result<(u32, &[u8]), LogFault>
+    ensures { Gives (λ x. (x.0, x.1.now)) result (number_at 4 bytes.now) }
+{
+    if bytes.len() < 4 {
+        return Err(LogFault::Cut);
+    }
+    Ok((BigEndian::read_u32(bytes), &bytes[4..]))
+}
+
+// The number in the first eight bytes, and the bytes behind it.
+pub fn u64_at(bytes: &[u8]) -> Result<(u64, &[u8]), LogFault>
+    ensures { Gives (λ x. (x.0, x.1.now)) result (number_at 8 bytes.now) }
+{
+    if bytes.len() < 8 {
+        return Err(LogFault::Cut);
+    }
+    Ok((BigEndian::read_u64(bytes), &bytes[8..]))
+}
+
+// So many bytes, and the bytes behind them.
+pub fn front_at(bytes: &[u8], count: u64) -> Result<(&[u8], &[u8]), LogFault>
+    ensures gives { Gives (λ x. (x.0.now, x.1.now)) result (front_at count bytes.now) }
+    ensures size { IfOk result (λ x. length x.0.now ≡ count) }
+{
+    if count > bytes.len() as u64 {
+        return Err(LogFault::Cut);
+    }
+    Ok(bytes.split_at(count as usize))
+}
+
+// Writes a number of four bytes at the end.
+pub fn put_u32(out: &mut Vec<u8>, n: u32) -> Result<(), Memory>
+    ensures { OnOk result (out.new.items ≡ out.old.items ++ big_bytes 4 n) }
+{
+    let mut bytes = [0u8; 4];
+    BigEndian::write_u32(&mut bytes, n);
+    out.extend_from_slice(&bytes)
+}

@@ -1,0 +1,31 @@
+//! Logs that are checked without the file: a file is sealed by 32 bytes, and a carried log has the pages that its log needs,
+//! each with the path that shows it to be a page of a file of that seal.
+#![tactic(auto)]
+
+mod carried;
+mod carrying;
+mod digests;
+mod faults;
+mod fields;
+pub mod laws;
+mod opening;
+mod pages;
+mod parts;
+mod paths;
+mod sealing;
+mod tree;
+mod verifying;
+
+pub use carried::{Carried, read_proof};
+pub use carrying::carry;
+pub use faults::{ProofFault, SealFault};
+pub use parts::{CarriedPage, Parts};
+pub use sealing::seal;
+pub use tree::Tree;
+pub use verifying::{Proved, verify_carried};
+
+/// Want of memory.
+pub type Memory = std::alloc::AllocError;
+
+#[cfg(test)]
+mod tests;

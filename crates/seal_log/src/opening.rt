@@ -1,0 +1,79 @@
+// The head and the live slot of a carried file.
+ghost use Rattle.std.specs.Prelude.{◌≡◌, ◌↔◌, ◌*◌, Some, IfSome, IfOk, IfErr, IsNone, IsTrue};
+ghost use Rattle.tree_shape.specs.declared.live.Live.{Live};
+ghost use Rattle.node_page.specs.Heads.{SpellsHead, head_fault, head_of};
+ghost use Rattle.node_page.specs.Opening.{IsLawfulLive};
+ghost use Rattle.seal_log.specs.Judged.{after_head};
+ghost use Rattle.seal_log.specs.Opened.{IsLiveIn, IsLiveOf};
+
+use crate::ProofFault;
+use node_page::{Head, HeadFault, decode_head, decode_slot, read_gate};
+use tree_shape::{LAST_GENERATION, Live, MOST_PAGES};
+
+// The head on page 0, of version 2.
+pub fn read_head(page: &[u8; 4096]) -> Result<Head, ProofFault>
+    ensures spells { IfOk result (SpellsHead page.now) }
+    ensures version { IfOk result (λ head. head.version ≡ 2) }
+    ensures fault { IfErr result (λ fault. after_head (head_fault page.now) (head_of page.now) ≡ Some fault) }
+{
+    let head = match decode_head(page) {
+        Ok(head) => head,
+        Err(fault) => return Err(ProofFault::Head(fault)),
+    };
+    if head.version != 2 {
+        return Err(ProofFault::Head(HeadFault::Version));
+    }
+    Ok(head)
+}
+
+// Whether a live slot keeps the bounds of a file of so many pages whose head has this limit.
+fn is_lawful(limit: u32, pages: u32, live: &Live) -> bool
+    ensures { IsTrue result ↔ (IsLawfulLive limit (4096 * pages) live.now × (live.now.pages ≡ pages)) }
+{
+    live.generation >= 1
+        && live.generation <= LAST_GENERATION
+        && live.root >= 3
+        && live.root < pages
+        && live.height <= 14
+        && live.count <= limit
+        && pages >= 4
+        && pages <= MOST_PAGES
+        && live.pages == pages
+}
+
+// The live slot on this page, where the other slot is on that one: its gate is open, and the other's is closed or of a lesser
+// generation.
+fn live_in(side: u8, page: &[u8; 4096], other: &[u8; 4096], limit: u32, pages: u32) -> Option<Live>
+    ensures some { IfSome result (IsLiveIn side page.now other.now limit pages) }
+    ensures none { IsNone result → (live : Live) → IsLiveIn side page.now other.now limit pages live → ⊥ }
+{
+    let gate = read_gate(page);
+    let rival = read_gate(other);
+    if !gate.open || (rival.open && rival.generation >= gate.generation) {
+        return None;
+    }
+    let slot = decode_slot(page)?;
+    let live = Live {
+        side,
+        generation: slot.generation,
+        root: slot.root,
+        height: slot.height,
+        count: slot.count,
+        pages: slot.pages,
+    };
+    if !is_lawful(limit, pages, &live) {
+        return None;
+    }
+    Some(live)
+}
+
+// The live slot of a file of so many pages with these two slots, whose head has this limit.
+pub fn live_of(first: &[u8; 4096], second: &[u8; 4096], limit: u32, pages: u32) -> Option<Live>
+    ensures some { IfSome result (IsLiveOf first.now second.now limit pages) }
+    ensures none { IsNone result → (live : Live) → IsLiveOf first.now second.now limit pages live → ⊥ }
+{
+    match live_in(0, first, second, limit, pages) {
+        Some(live) => Some(live),
+        None => live_in(1, second, first, limit, pages),
+    }
+}
