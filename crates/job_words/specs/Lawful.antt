@@ -1,6 +1,6 @@
 -- The values of a job are within their ranges.
 use Rattle.std.specs.Prelude.{◌≡◌, ℕ, ◌≤◌, ◌%◌, true}
-use Rattle.job_words.specs.Names.{is_halved}
+use Rattle.job_words.specs.Names.{is_generated, is_halved}
 use Rattle.job_words.specs.declared.job.Job.{Job}
 use Rattle.job_words.specs.declared.job.Job.TheVariants.{Scan, Create, Session, Shape, Audit, Verify, Check, Join, Gen, Migrate, Batch, Seal, Carry, Prove}
 use Rattle.job_words.specs.declared.names.SpaceName.{SpaceName}
@@ -10,6 +10,10 @@ pub record IsLawfulSpace (space : SpaceName) : Type 0 where
   pub some : 1 ≤ space.dim
   pub few : space.dim ≤ 64
   pub halves : is_halved space.metric ≡ true → space.dim % 2 ≡ 0
+
+-- such a space whose points the generator makes
+abbrev pub IsGeneratedSpace : SpaceName → Type 0
+IsGeneratedSpace space = IsLawfulSpace space × (is_generated space.metric ≡ true)
 
 abbrev pub IsLimit : ℕ → Type 0
 IsLimit n = (1 ≤ n) × (n ≤ 16777216)
@@ -29,7 +33,7 @@ IsLawful (Audit index workers) = AreWorkers workers
 IsLawful (Verify index log other) = Unit {0}
 IsLawful (Check index log other) = Unit {0}
 IsLawful (Join index other radius log) = Unit {0}
-IsLawful (Gen index space count seed policies workers) = IsLawfulSpace space × IsCount count × AreWorkers workers
+IsLawful (Gen index space count seed policies workers) = IsGeneratedSpace space × IsCount count × AreWorkers workers
 IsLawful (Migrate index other) = Unit {0}
 IsLawful (Batch index workers log show) = AreWorkers workers
 IsLawful (Seal index) = Unit {0}

@@ -3,7 +3,7 @@ ghost use Rattle.std.specs.List.{list_any};
 ghost use Rattle.std.specs.Str.{bytes_eq};
 ghost use Rattle.job_words.specs.Found.{given_in};
 ghost use Rattle.job_words.specs.Given.{is_other, has_other, number_given, limit_given, workers_given, count_given, seed_given, radius_given, show_given, space_given, generated_space_given, policies_given, digest_of, root_given, promote_or, split_or, is_lower_digit};
-ghost use Rattle.job_words.specs.Lawful.{AreWorkers, IsCount, IsLawfulSpace, IsLimit};
+ghost use Rattle.job_words.specs.Lawful.{AreWorkers, IsCount, IsGeneratedSpace, IsLawfulSpace, IsLimit};
 ghost use Rattle.job_words.specs.Names.{is_halved, is_generated};
 
 use crate::command_line::OPTIONS;
@@ -165,7 +165,7 @@ fn is_generated(metric: MetricName) -> bool
 /// The space of `--metric` and `--dim`, where the generator makes its points.
 pub fn generated_space_in(matches: &ArgMatches<'_>) -> Option<SpaceName>
     ensures value { result ≡ generated_space_given (given_in matches.now) }
-    ensures lawful { IfSome result IsLawfulSpace }
+    ensures lawful { IfSome result IsGeneratedSpace }
 {
     let space = space_in(matches)?;
     if !is_generated(space.metric) {

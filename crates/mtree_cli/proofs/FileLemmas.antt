@@ -1,5 +1,5 @@
 -- The files that are opened for a job.
-use Rattle.std.proofs.Common.{inl, inr, subst, ◌≡◌, ℕ, Bool, true, false, List, Option, Some, None, refl, sym, ◌∙◌, ap, if◌then◌else◌}
+use Rattle.std.proofs.Common.{inl, inr, subst, ◌≡◌, ℕ, Bool, true, false, List, Option, Some, refl, sym, ◌∙◌, ap, if◌then◌else◌}
 use Rattle.std.specs.Borrow.{Bor}
 use Rattle.job_words.specs.declared.files.FileNames.{FileNames}
 use Rattle.job_words.specs.declared.job.Job.{Job}

@@ -13,7 +13,7 @@ use Rattle.job_words.specs.declared.job.Job.{Job}
 use Rattle.job_words.specs.declared.job.Job.TheVariants as job
 use Rattle.metric_mix.specs.MixSpaces.{mix_space}
 use Rattle.plain_scan.specs.declared.session.Stop.TheVariants as stop
-use Rattle.plain_scan.specs.Written.{IsFrontOf, Writes, reply_texts}
+use Rattle.plain_scan.specs.Written.{Writes, reply_texts}
 use Rattle.plain_scan.proofs.WrittenLemmas.{front_appended}
 use Rattle.rows_text.specs.Script.{script}
 use Rattle.mtree_cli.specs.Told.{IsTold}

@@ -1,8 +1,8 @@
 -- What a session on an index leaves and writes, by its status.
 use Rattle.std.proofs.Common.{◌≡◌, ◌≢◌, ◌⊎◌, inl, inr, ℕ, ◌+◌, ◌≤◌, ◌<◌, ◌^◌, Bool, true, false, List, [], ◌∷◌, ◌++◌, Option, Some, None, refl, sym, ◌∙◌, ap, subst, arith}
 use Rattle.std.specs.Prelude.{codes, IsTrue, MatchOption}
-use Rattle.std.specs.List.{concat}
-use Rattle.std.specs.Io.KnownBytes.{Appends}
+use Rattle.std.specs.List.{AllByRecursion, concat}
+use Rattle.std.specs.Io.KnownBytes.{Appends, Consumes, IsAtEnd}
 use Rattle.std.proofs.KnownBytes.{Appends-nil, Appends-trans}
 use Rattle.std.proofs.lemmas.List.{append-nil}
 use Rattle.outside_io.specs.Bytes.{AppendsPrefix}
@@ -16,7 +16,7 @@ use Rattle.node_page.specs.Opening.{OpensTo, open_fault}
 use Rattle.node_page.specs.Opening.Unopened.{Short, NoHead, Unfinished, TwoRoots, BadSlot}
 use Rattle.shadow_root.specs.declared.faults.OpenFault.{OpenFault}
 use Rattle.shadow_root.specs.declared.faults.OpenFault.TheVariants as fault
-use Rattle.page_store.specs.Files.{nodes_in}
+use Rattle.page_store.specs.Files.{IsSoundFile, nodes_in}
 use Rattle.index_core.specs.Causes.{HasReaderCause}
 use Rattle.file_jobs.specs.Jobs.{IsNoIndex, Refuses}
 use Rattle.file_jobs.proofs.Ends.{no_index, rose_by_disk}
@@ -37,11 +37,11 @@ use Rattle.rows_text.specs.Meaning.{State}
 use Rattle.rows_text.specs.Script.{script}
 use Rattle.session_run.specs.declared.stop.Stop.{Stop}
 use Rattle.session_run.specs.declared.stop.Stop.TheVariants as stop
-use Rattle.session_run.specs.Session.{HasRun, HasStopCause, HoldsNext, HoldsSome, HoldsState, IsDamage, no_cursors, setting_of, state_on}
+use Rattle.session_run.specs.Session.{Grew, HasRun, HasStopCause, HoldsNext, HoldsSome, HoldsState, IsAsking, IsDamage, StandsBy, StandsIn, no_cursors, setting_of, state_on}
 use Rattle.session_run.specs.Turns.{AreTurns, Turn, Version, commands_of, file_after, framed, logs_of, state_after, texts_of, version_on}
 use Rattle.mtree_cli.specs.Told.{IsTold}
-use Rattle.mtree_cli.proofs.ProgramLemmas.{always, told_appended}
-use Rattle.mtree_cli.specs.Session.{Ends, HasEnded, HasFinished, HasRefused, HoldsFront, HoldsLast, IsLeft, Leaves, LeavesAll, RunsOn, RunsScript, RunsSession, setting_in, space_in, state_in, version_in}
+use Rattle.mtree_cli.proofs.ProgramLemmas.{always, read_whole, told_appended, weaker}
+use Rattle.mtree_cli.specs.Session.{Ends, HasEnded, HasFinished, HasRefused, HoldsFront, HoldsLast, IsComplete, IsLeft, Leaves, LeavesAll, ReadsFew, ReadsScript, RunsOn, RunsScript, RunsSession, setting_in, space_in, state_in, version_in}
 
 module _ (show : Bool) (bytes : List ℕ) (head : Head) (live : Live) (file : List ℕ) (disk0 disk1 : DiskState) (out0 out1 out2 log0 log1 : SinkState) where
   abbrev pub state0 : State
@@ -216,33 +216,38 @@ module _ (show : Bool) (bytes : List ℕ) (head : Head) (live : Live) (file : Li
     stopped_runs (stop.Damaged fault) status ran ended cause sound = absurd (cause.1 sound)
 
 -- why it ended, on any file
-pub finished : (Sound : Type 0) (disk0 disk1 : DiskState) (out0 out1 out2 log0 log1 : SinkState) (why : Stop) (status : ℕ) → out1.faults ≤ out2.faults → HasEnded why out1 out2 status →
-    HasStopCause Sound disk0 disk1 out0 out1 log0 log1 why → HasFinished disk0 disk1 out0 out2 log0 log1 status
-finished Sound disk0 disk1 out0 out1 out2 log0 log1 stop.Sink status later ended cause = record {
+pub finished : (Sound : Type 0) (dim : ℕ) (disk0 disk1 : DiskState) (out0 out1 out2 log0 log1 : SinkState) (why : Stop) (status : ℕ) → out1.faults ≤ out2.faults → HasEnded why out1 out2 status →
+    HasStopCause Sound disk0 disk1 out0 out1 log0 log1 why → StandsBy dim disk1 why → disk1.tells ≡ disk0.tells → Grew out0 out1 → HasFinished dim disk0 disk1 out0 out2 log0 log1 status
+finished Sound dim disk0 disk1 out0 out1 out2 log0 log1 stop.Sink status later ended cause stands told grew = record {
+  tells = told;
   output = λ e. rw ended.1 cause;
   disk = λ e. absurd (omega (arith, ended.0));
   damaged = λ e. absurd (omega (arith, ended.0));
   statuses = inr (inl ended.0);
 }
-finished Sound disk0 disk1 out0 out1 out2 log0 log1 stop.Disk status later ended cause = record {
+finished Sound dim disk0 disk1 out0 out1 out2 log0 log1 stop.Disk status later ended cause stands told grew = record {
+  tells = told;
   output = λ e. absurd (omega (arith, ended.0));
   disk = λ e. cause;
   damaged = λ e. absurd (omega (arith, ended.0));
   statuses = inr (inr (inl ended.0));
 }
-finished Sound disk0 disk1 out0 out1 out2 log0 log1 stop.Memory status later ended cause = record {
+finished Sound dim disk0 disk1 out0 out1 out2 log0 log1 stop.Memory status later ended cause stands told grew = record {
+  tells = told;
   output = λ e. absurd (omega (arith, ended.0));
   disk = λ e. absurd (omega (arith, ended.0));
   damaged = λ e. absurd (omega (arith, ended.0));
   statuses = inr (inr (inr (inl ended.0)));
 }
-finished Sound disk0 disk1 out0 out1 out2 log0 log1 (stop.Damaged fault) status later (inl ended) cause = record {
+finished Sound dim disk0 disk1 out0 out1 out2 log0 log1 (stop.Damaged fault) status later (inl ended) cause stands told grew = record {
+  tells = told;
   output = λ e. absurd (omega (arith, ended.0));
   disk = λ e. absurd (omega (arith, ended.0));
-  damaged = λ e. (fault, out1, cause.0, ended.1);
+  damaged = λ e. record { fault = fault; mid = out1; is = cause.0; stands = stands; grew = grew; told = ended.1 };
   statuses = inr (inr (inr (inr ended.0)));
 }
-finished Sound disk0 disk1 out0 out1 out2 log0 log1 (stop.Damaged fault) status later (inr ended) cause = record {
+finished Sound dim disk0 disk1 out0 out1 out2 log0 log1 (stop.Damaged fault) status later (inr ended) cause stands told grew = record {
+  tells = told;
   output = λ e. absurd (omega (arith, ended.0));
   disk = λ e. absurd (omega (arith, ended.0));
   damaged = λ e. absurd (omega (arith, ended.0));
@@ -295,6 +300,26 @@ module _ {M : Type 0} (s : Space) (show : Bool) (bytes : List ℕ) (old new : Op
   is_stopped out2 why status is end cause tells sound =
       opened_stopped show bytes old new disk0 disk1 out0 out1 log0 log1 commands ack script_is later told out2 why status (run_in (Some why) is) end
       (subst (λ (x : Space). HasStopCause (IsSoundOn x old.file disk0) disk0 disk1 out0 out1 log0 log1 why) same (rw is at cause)) tells sound
+
+  -- few pages were read
+  pub few_read : ended ≡ None → IsTrue disk0.tells → IsSoundTree (space_in old.file.head) (nodes_on old.file disk0) old.file.live → AllByRecursion IsAsking (script old.file.head.dim bytes) → ReadsFew 0 show disk0 disk1 log0 log1
+  few_read is tells sound asks = record {
+    logs = logs_of ran.turns;
+    logged = subst (λ (l : List ℕ). Appends log0.written log1.written l) (append-nil (framed (logs_of ran.turns)))
+        (subst (λ (rest : List ℕ). Appends log0.written log1.written (framed (logs_of ran.turns) ++ rest)) ran.ends.2 ran.logged);
+    reads = let few = ran.reads refl (subst (AllByRecursion IsAsking) (sym script_is) asks) in omega (arith, few);
+  }
+    where
+      ran : HasRun (setting_of (space_in old.file.head) old.file) old.file.head show commands (state_on old.file disk0 no_cursors) (version_on old.file disk0) disk0 disk1 out0 out1 log0 log1 ack None (version_on new.file disk1)
+      ran = run_in None is (tells, sound)
+
+-- a session that was stopped is not done
+pub not_done : (why : Stop) (out0 out1 : SinkState) (status : ℕ) → HasEnded why out0 out1 status → status ≢ 0
+not_done stop.Sink out0 out1 status ended is = omega (arith, ended.0, is)
+not_done stop.Disk out0 out1 status ended is = omega (arith, ended.0, is)
+not_done stop.Memory out0 out1 status ended is = omega (arith, ended.0, is)
+not_done (stop.Damaged fault) out0 out1 status (inl ended) is = omega (arith, ended.0, is)
+not_done (stop.Damaged fault) out0 out1 status (inr ended) is = omega (arith, ended.0, is)
 
 -- what a crash leaves that comes before the first command
 pub held : {M : Type 0} (index : OpenIndex M) (disk : DiskState) (words : ℕ) → words ≡ index.file.head.dim → IsLawfulFile words index.file → StandsAlone index disk → IsTrue disk.tells →
@@ -431,50 +456,87 @@ module _ (faults : FaultIsNotOpen) (one : OneLiveSlot) (show : Bool) (bytes : Li
       text_of fault.TwoRoots other = refl
       text_of fault.Slot other = refl
 
+-- the index that was opened is that of the file as it was before
+module _ {M : Type 0} (one : OneLiveSlot) (index : OpenIndex M) (opened : Head × Live) (disk0 disk1 disk2 : DiskState) (same : IsUnchanged disk0 disk1) (bytes_same : disk2.bytes ≡ disk1.bytes) (tells_same : disk2.tells ≡ disk1.tells)
+    (reopens : IsTrue disk2.tells → OpensTo disk2.bytes index.file.head index.file.live) (opens : IsTrue disk0.tells → OpensTo disk0.bytes opened.0 opened.1) (tells : IsTrue disk0.tells)
+    (head : Head) (live : Live) (is : OpensTo disk0.bytes head live) where
+  bytes_are : disk2.bytes ≡ disk0.bytes
+  bytes_are = bytes_same ∙ same.same_bytes
+
+  told_on : IsTrue disk2.tells
+  told_on = rw (tells_same, same.same_tells) tells
+
+  opens_here : OpensTo disk0.bytes index.file.head index.file.live
+  opens_here = subst (λ (b : List ℕ). OpensTo b index.file.head index.file.live) bytes_are (reopens told_on)
+
+  pub head_is : index.file.head ≡ head
+  head_is = (one disk0.bytes index.file.head head index.file.live live opens_here is).0
+
+  live_is : index.file.live ≡ live
+  live_is = (one disk0.bytes index.file.head head index.file.live live opens_here is).1
+
+  opened_is : opened.0 ≡ index.file.head
+  opened_is = (one disk0.bytes opened.0 index.file.head opened.1 index.file.live (opens tells) opens_here).0
+
 -- a session on the opened index, said of the file as it was before
-pub since_opening : {M : Type 0} (kind_of dim_of : M → ℕ) (one : OneLiveSlot) (show : Bool) (bytes : List ℕ) (index : OpenIndex M) (opened : Head × Live) (disk0 disk1 disk2 disk3 : DiskState) (out0 out1 log0 log1 : SinkState) (status : ℕ) →
-    IsUnchanged disk0 disk1 → EachImage disk1 disk2 (MayLeave disk1) → disk2.bytes ≡ disk1.bytes → disk2.tells ≡ disk1.tells → (IsTrue disk2.tells → OpensTo disk2.bytes index.file.head index.file.live) →
-    (IsTrue disk0.tells → OpensTo disk0.bytes opened.0 opened.1) → kind_of index.file.metric ≡ opened.0.kind → dim_of index.file.metric ≡ opened.0.dim →
-    (IsTrue disk2.tells → kind_of index.file.metric ≡ index.file.head.kind → dim_of index.file.metric ≡ index.file.head.dim → IsSoundTree (space_in index.file.head) (nodes_on index.file disk2) index.file.live →
-    RunsOn (LeavesAll index.file.head (state_in index.file.head index.file.live disk2.bytes) disk2 disk3) show bytes index.file.head index.file.live disk2.bytes disk3 out0 out1 log0 log1 status) →
-    RunsScript show bytes disk0 disk3 out0 out1 log0 log1 status
-since_opening {M} kind_of dim_of one show bytes index opened disk0 disk1 disk2 disk3 out0 out1 log0 log1 status same time bytes_same tells_same reopens opens kind dim run tells head live sound =
-    said_of show bytes head live disk0.bytes disk3 out0 out1 log0 log1 status (λ turns more left. left_since head (state_in head live disk0.bytes) disk0 disk2 disk3 (opening disk0 disk1 disk2 same time) turns more left)
-    (moved index.file.head index.file.live disk2.bytes head_is live_is bytes_are (run told (kind ∙ ap (λ (h : Head). h.kind) opened_is) (dim ∙ ap (λ (h : Head). h.dim) opened_is)))
-  where
-    bytes_are : disk2.bytes ≡ disk0.bytes
-    bytes_are = bytes_same ∙ same.same_bytes
+module _ {M : Type 0} (kind_of dim_of : M → ℕ) (one : OneLiveSlot) (show : Bool) (bytes : List ℕ) (index : OpenIndex M) (opened : Head × Live) (disk0 disk1 disk2 disk3 : DiskState) (out0 out1 log0 log1 : SinkState) (status : ℕ)
+    (same : IsUnchanged disk0 disk1) (time : EachImage disk1 disk2 (MayLeave disk1)) (bytes_same : disk2.bytes ≡ disk1.bytes) (tells_same : disk2.tells ≡ disk1.tells)
+    (reopens : IsTrue disk2.tells → OpensTo disk2.bytes index.file.head index.file.live) (opens : IsTrue disk0.tells → OpensTo disk0.bytes opened.0 opened.1)
+    (kind : kind_of index.file.metric ≡ opened.0.kind) (dim : dim_of index.file.metric ≡ opened.0.dim) where
+  -- what is said of the opened index is said of the file
+  said_before : (Asks : ℕ → Type 0) (Said : Head → Live → List ℕ → Type 0) (head : Head) (live : Live) → IsTrue disk0.tells → IsSoundFile (space_in head) head live disk0.bytes → Asks head.dim →
+      (IsTrue disk2.tells → kind_of index.file.metric ≡ index.file.head.kind → dim_of index.file.metric ≡ index.file.head.dim → IsSoundTree (space_in index.file.head) (nodes_on index.file disk2) index.file.live →
+      Asks index.file.head.dim → Said index.file.head index.file.live disk2.bytes) → Said head live disk0.bytes
+  said_before Asks Said head live tells sound asks run =
+      moved index.file.head index.file.live disk2.bytes head_here live_here (bytes_are one index opened disk0 disk1 disk2 same bytes_same tells_same reopens opens tells head live sound.opens)
+      (run (told_on one index opened disk0 disk1 disk2 same bytes_same tells_same reopens opens tells head live sound.opens) (kind ∙ ap (λ (h : Head). h.kind) opened_here) (dim ∙ ap (λ (h : Head). h.dim) opened_here))
+    where
+      head_here : index.file.head ≡ head
+      head_here = head_is one index opened disk0 disk1 disk2 same bytes_same tells_same reopens opens tells head live sound.opens
 
-    told : IsTrue disk2.tells
-    told = rw (tells_same, same.same_tells) tells
+      live_here : index.file.live ≡ live
+      live_here = live_is one index opened disk0 disk1 disk2 same bytes_same tells_same reopens opens tells head live sound.opens
 
-    opens_here : OpensTo disk0.bytes index.file.head index.file.live
-    opens_here = subst (λ (b : List ℕ). OpensTo b index.file.head index.file.live) bytes_are (reopens told)
+      opened_here : opened.0 ≡ index.file.head
+      opened_here = opened_is one index opened disk0 disk1 disk2 same bytes_same tells_same reopens opens tells head live sound.opens
 
-    head_is : index.file.head ≡ head
-    head_is = (one disk0.bytes index.file.head head index.file.live live opens_here sound.opens).0
+      moved : (h : Head) (l : Live) (f : List ℕ) → h ≡ head → l ≡ live → f ≡ disk0.bytes → (IsSoundTree (space_in h) (nodes_in h.dim l f) l → Asks h.dim → Said h l f) → Said head live disk0.bytes
+      moved h l f hs ls fs go =
+          (subst (λ (x : Head). IsSoundTree (space_in x) (nodes_in x.dim live disk0.bytes) live → Asks x.dim → Said x live disk0.bytes) hs
+          (subst (λ (x : Live). IsSoundTree (space_in h) (nodes_in h.dim x disk0.bytes) x → Asks h.dim → Said h x disk0.bytes) ls
+          (subst (λ (x : List ℕ). IsSoundTree (space_in h) (nodes_in h.dim l x) l → Asks h.dim → Said h l x) fs go))) sound.tree asks
 
-    live_is : index.file.live ≡ live
-    live_is = (one disk0.bytes index.file.head head index.file.live live opens_here sound.opens).1
+  pub since_opening :
+      (IsTrue disk2.tells → kind_of index.file.metric ≡ index.file.head.kind → dim_of index.file.metric ≡ index.file.head.dim → IsSoundTree (space_in index.file.head) (nodes_on index.file disk2) index.file.live →
+      RunsOn (LeavesAll index.file.head (state_in index.file.head index.file.live disk2.bytes) disk2 disk3) show bytes index.file.head index.file.live disk2.bytes disk3 out0 out1 log0 log1 status) →
+      RunsScript show bytes disk0 disk3 out0 out1 log0 log1 status
+  since_opening run tells head live sound =
+      said_of show bytes head live disk0.bytes disk3 out0 out1 log0 log1 status (λ turns more left. left_since head (state_in head live disk0.bytes) disk0 disk2 disk3 (opening disk0 disk1 disk2 same time) turns more left)
+      (said_before (λ dim. Unit {0}) (λ h l f. RunsOn (LeavesAll h (state_in h l f) disk2 disk3) show bytes h l f disk3 out0 out1 log0 log1 status) head live tells sound tt
+      (λ told is_kind is_dim tree asks. run told is_kind is_dim tree))
 
-    opened_is : opened.0 ≡ index.file.head
-    opened_is = (one disk0.bytes opened.0 index.file.head opened.1 index.file.live (opens tells) opens_here).0
-
-    moved : (h : Head) (l : Live) (f : List ℕ) → h ≡ head → l ≡ live → f ≡ disk0.bytes →
-        (IsSoundTree (space_in h) (nodes_in h.dim l f) l → RunsOn (LeavesAll h (state_in h l f) disk2 disk3) show bytes h l f disk3 out0 out1 log0 log1 status) →
-        RunsOn (LeavesAll head (state_in head live disk0.bytes) disk2 disk3) show bytes head live disk0.bytes disk3 out0 out1 log0 log1 status
-    moved h l f hs ls fs go =
-        (subst (λ (x : Head). IsSoundTree (space_in x) (nodes_in x.dim live disk0.bytes) live → RunsOn (LeavesAll x (state_in x live disk0.bytes) disk2 disk3) show bytes x live disk0.bytes disk3 out0 out1 log0 log1 status) hs
-        (subst (λ (x : Live). IsSoundTree (space_in h) (nodes_in h.dim x disk0.bytes) x → RunsOn (LeavesAll h (state_in h x disk0.bytes) disk2 disk3) show bytes h x disk0.bytes disk3 out0 out1 log0 log1 status) ls
-        (subst (λ (x : List ℕ). IsSoundTree (space_in h) (nodes_in h.dim l x) l → RunsOn (LeavesAll h (state_in h l x) disk2 disk3) show bytes h l x disk3 out0 out1 log0 log1 status) fs go))) sound.tree
+  pub reads_since : disk1.reads ≤ disk0.reads + 3 → disk2.reads ≤ disk1.reads + 3 →
+      (status ≡ 0 → IsTrue disk2.tells → kind_of index.file.metric ≡ index.file.head.kind → dim_of index.file.metric ≡ index.file.head.dim → IsSoundTree (space_in index.file.head) (nodes_on index.file disk2) index.file.live →
+      AllByRecursion IsAsking (script index.file.head.dim bytes) → ReadsFew 0 show disk2 disk3 log0 log1) → ReadsScript show bytes disk0 disk3 log0 log1 status
+  reads_since first second run zero tells head live sound asks =
+      let few = said_before (λ dim. AllByRecursion IsAsking (script dim bytes)) (λ h l f. ReadsFew 0 show disk2 disk3 log0 log1) head live tells sound asks (run zero) in
+      record { logs = few.logs; logged = few.logged; reads = let r = few.reads in omega (arith, first, second, r) }
 
 -- what ended it
-pub refused_of : (disk0 disk1 disk2 : DiskState) (out0 out1 log0 log1 : SinkState) (status : ℕ) → disk0.faults ≤ disk1.faults → HasFinished disk1 disk2 out0 out1 log0 log1 status → HasRefused disk0 disk2 out0 out1 log0 log1 status
-refused_of disk0 disk1 disk2 out0 out1 log0 log1 status later ended = record {
+pub refused_of : (dim : ℕ) (disk0 disk1 disk2 : DiskState) (out0 out1 log0 log1 : SinkState) (status : ℕ) → disk0.faults ≤ disk1.faults → disk1.tells ≡ disk0.tells →
+    (IsTrue disk0.tells → (head : Head) (live : Live) → OpensTo disk0.bytes head live → dim ≡ head.dim) → HasFinished dim disk1 disk2 out0 out1 log0 log1 status → HasRefused disk0 disk2 out0 out1 log0 log1 status
+refused_of dim disk0 disk1 disk2 out0 out1 log0 log1 status later same_tells same_dim ended = record {
   output = ended.output;
   disk = λ is. rose_more _ _ _ later (ended.disk is);
   not_index = λ is. absurd (six is ended.statuses);
-  damaged = ended.damaged;
+  damaged = λ is. let damage = ended.damaged is in record {
+    fault = damage.fault;
+    mid = damage.mid;
+    is = damage.is;
+    stands = λ tells head live opens. subst (λ (d : ℕ). StandsIn d disk2.bytes damage.fault) (same_dim tells head live opens) (damage.stands (rw (ended.tells, same_tells) tells));
+    grew = damage.grew;
+    told = damage.told;
+  };
   statuses = wider ended.statuses;
 }
   where
@@ -503,6 +565,7 @@ unread_session show input disk out0 out1 log status line told zero five six nine
   runs = always input _ (λ bytes tells head live sound.
       unread show bytes head live disk.bytes disk disk out0 out1 log line (Leaves head (state_in head live disk.bytes) disk disk) told (inl (refl, started disk (MayLeave disk) (λ image left. left))) status
       (λ rest l. ends bytes head live rest l) zero);
+  reads = always input _ (λ bytes is. absurd (zero is));
   disk = λ is. absurd (five is);
   not_index = λ is. absurd (six is);
   damaged = λ is. absurd (nine is);
@@ -522,3 +585,40 @@ pub memory_session : (show : Bool) (input : Option (List ℕ)) (disk : DiskState
 memory_session show input disk out0 out1 log status is told =
     unread_session show input disk out0 out1 log status (codes "fault memory\n") told (λ e. absurd (omega arith)) (λ e. absurd (omega arith)) (λ e. absurd (omega arith)) (λ e. absurd (omega arith))
     (λ bytes head live rest line. memory_ends (Rose out0.faults out1.faults) head show (state_in head live disk.bytes) (version_in head live disk.bytes) (script head.dim bytes) rest [] status is line)
+
+-- ---- a script that was read whole
+
+pub ran_session : (show : Bool) (input rest : Option (List ℕ)) (bytes read : List ℕ) (disk0 disk1 : DiskState) (out0 out1 log0 log1 : SinkState) (status : ℕ) → Consumes input rest bytes → IsAtEnd rest → read ≡ bytes →
+    RunsScript show read disk0 disk1 out0 out1 log0 log1 status → ReadsScript show read disk0 disk1 log0 log1 status → HasRefused disk0 disk1 out0 out1 log0 log1 status →
+    RunsSession show input disk0 disk1 out0 out1 log0 log1 status
+ran_session show input rest bytes read disk0 disk1 out0 out1 log0 log1 status taken end same runs reads refused = record {
+  runs = weaker input (λ xs. bytes ≡ xs) (λ xs. RunsScript show xs disk0 disk1 out0 out1 log0 log1 status)
+      (λ xs is. subst (λ (b : List ℕ). RunsScript show b disk0 disk1 out0 out1 log0 log1 status) (same ∙ is) runs) (read_whole input rest bytes taken end);
+  reads = weaker input (λ xs. bytes ≡ xs) (λ xs. ReadsScript show xs disk0 disk1 log0 log1 status)
+      (λ xs is. subst (λ (b : List ℕ). ReadsScript show b disk0 disk1 log0 log1 status) (same ∙ is) reads) (read_whole input rest bytes taken end);
+  disk = refused.disk;
+  not_index = refused.not_index;
+  damaged = refused.damaged;
+}
+
+-- it is done, but for want of memory
+pub ran_complete : (show : Bool) (input : Option (List ℕ)) (disk0 disk1 : DiskState) (out0 out1 log0 log1 : SinkState) (status : ℕ) (Input : Type 0) → RunsSession show input disk0 disk1 out0 out1 log0 log1 status →
+    HasRefused disk0 disk1 out0 out1 log0 log1 status →
+    IsComplete input disk0 (Input ⊎ (Rose disk0.faults disk1.faults ⊎ (Rose out0.faults out1.faults ⊎ Rose log0.faults log1.faults))) status
+ran_complete show None disk0 disk1 out0 out1 log0 log1 status Input runs refused = tt
+ran_complete show (Some bytes) disk0 disk1 out0 out1 log0 log1 status Input runs refused = λ few tells head live sound no. elim refused.statuses [
+  | inl zero ↦ inl zero
+  | inr more ↦ elim more [
+    | inl is ↦ absurd (no (inr (inr (refused.output is))))
+    | inr more ↦ elim more [
+      | inl is ↦ absurd (no (inr (inl (refused.disk is))))
+      | inr more ↦ elim more [
+        | inl is ↦ absurd ((runs.runs tells head live sound).ends.index is)
+        | inr more ↦ elim more [
+          | inl is ↦ inr is
+          | inr is ↦ absurd ((runs.runs tells head live sound).ends.undamaged is)
+        ]
+      ]
+    ]
+  ]
+]

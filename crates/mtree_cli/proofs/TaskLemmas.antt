@@ -1,5 +1,5 @@
 -- What stands of each task where a run met want of memory before it began.
-use Rattle.std.proofs.Common.{◌≡◌, ◌≢◌, ◌⊎◌, inl, inr, ⊎_elim, ℕ, ◌≤◌, ◌%◌, ◌<◌, ◌+◌, ◌^◌, length, List, [], Option, Some, Bool, true, IsTrue, refl, sym, ◌∙◌, ap, subst, arith}
+use Rattle.std.proofs.Common.{◌≡◌, ◌≢◌, ◌⊎◌, inl, inr, ⊎_elim, ℕ, ◌≤◌, ◌%◌, ◌<◌, ◌+◌, ◌^◌, length, List, [], Option, Some, true, IsTrue, refl, sym, ◌∙◌, ap, subst, arith}
 use Rattle.std.specs.Prelude.{codes, ◌↔◌}
 use Rattle.std.specs.Io.KnownBytes.{Consumes}
 use Rattle.std.proofs.KnownBytes.{Consumes-nil}
@@ -9,7 +9,7 @@ use Rattle.outside_io.specs.Causes.{Rose}
 use Rattle.disk_model.specs.Disk.{DiskState, IsUnchanged, MayLeave}
 use Rattle.disk_model.specs.Moments.{started}
 use Rattle.node_page.specs.Heads.{is_version, is_space, is_policy, is_limit}
-use Rattle.job_words.specs.Names.{kind_of, is_halved, promote_number, split_number}
+use Rattle.job_words.specs.Names.{kind_of, is_generated, is_halved, promote_number, split_number}
 use Rattle.job_words.specs.declared.names.MetricName.{MetricName}
 use Rattle.job_words.specs.declared.names.MetricName.TheVariants.{Hamming, L1, Max, Kendall, Hausdorff, MixSum, MixMax, L1Cap}
 use Rattle.job_words.specs.declared.names.Promote.{Promote}
@@ -19,29 +19,26 @@ use Rattle.job_words.specs.declared.names.Split.TheVariants.{Hyperplane, Balance
 use Rattle.std.specs.Borrow.{Bor}
 use Rattle.job_words.specs.Jobs.{job_of, texts_in}
 use Rattle.job_words.specs.declared.job.Job.{Job}
-use Rattle.job_words.specs.declared.job.Job.TheVariants as job
-use Rattle.job_words.specs.declared.names.SpaceName.{SpaceName}
 use Rattle.log_jobs.specs.declared.report.Report.{Report}
 use Rattle.log_jobs.specs.Jobs.{JudgesLogs}
 use Rattle.join_jobs.specs.declared.report.Report.{Report as JoinReport}
 use Rattle.join_jobs.specs.Jobs.{Joins, JudgesLogs as JudgesJoinLogs}
 use Rattle.mtree_cli.proofs.Sessions.{memory_session}
 use Rattle.mtree_cli.specs.Run.{Task, Scene, Does, IsStatusOf, TakesWithin, scan_texts, task_of}
-use Rattle.mtree_cli.specs.Run.Task.{Scans, Makes, Draws, Sessions, Judges, Reports, JoinsWithin, ReportsJoins, Nothing}
+use Rattle.std.proofs.lemmas.Bool.{true≢false}
+use Rattle.batch_jobs.specs.Batches.{IsLarge, IsTooLong}
+use Rattle.batch_jobs.proofs.Whole.{out_of_memory}
+use Rattle.making_jobs.specs.Jobs.{IsSummary, ids_of, points_of}
+use Rattle.making_jobs.proofs.Generated.{no_memory}
+use Rattle.mtree_cli.specs.Run.Task.{Scans, Makes, Draws, Sessions, Generates, Batches, Judges, Seals, Carries, Reports, JoinsWithin, ReportsJoins, Proves, Nothing}
+use Rattle.seal_jobs.specs.Seals.{Seals as SealsIndex, IsLarge as IsTooLargeToSeal}
+use Rattle.seal_jobs.specs.Carries.{CarriesLogs, IsDone}
+use Rattle.seal_jobs.specs.Proofs.{ProvesLogs}
 use Rattle.mtree_cli.proofs.ProgramLemmas.{always, fault_writes, memory_ends}
 
--- the words of a scan
-pub scan_named : (words : List (List ℕ)) (found : Job (Bor (List ℕ))) (space : SpaceName) (limit : ℕ) (show : Bool) → job_of words ≡ Some (texts_in found) → found ≡ job.Scan space limit show → job_of words ≡ Some (job.Scan space limit show)
-scan_named words found space limit show is named = is ∙ ap (λ (f : Job (Bor (List ℕ))). Some (texts_in f)) named
-
--- the words of a session
-pub session_named : (words : List (List ℕ)) (found : Job (Bor (List ℕ))) (index : Bor (List ℕ)) (log : Option (Bor (List ℕ))) (workers : ℕ) (show : Bool) → job_of words ≡ Some (texts_in found) →
-    found ≡ job.Session index log workers show → job_of words ≡ Some (texts_in (job.Session index log workers show))
-session_named words found index log workers show is named = is ∙ ap (λ (f : Job (Bor (List ℕ))). Some (texts_in f)) named
-
-pub session_task : (words : List (List ℕ)) (found : Job (Bor (List ℕ))) (index : Bor (List ℕ)) (log : Option (Bor (List ℕ))) (workers : ℕ) (show : Bool) → job_of words ≡ Some (texts_in found) →
-    found ≡ job.Session index log workers show → task_of (job_of words) ≡ Sessions show
-session_task words found index log workers show is named = ap task_of (session_named words found index log workers show is named)
+-- the task of a job of the words
+pub task_is : (words : List (List ℕ)) (found named : Job (Bor (List ℕ))) → job_of words ≡ Some (texts_in found) → found ≡ named → task_of (job_of words) ≡ task_of (Some (texts_in named))
+task_is words found named is same = ap task_of (is ∙ ap (λ (f : Job (Bor (List ℕ))). Some (texts_in f)) same)
 
 -- no call was made
 pub unchanged : (disk : DiskState) → IsUnchanged disk disk
@@ -108,6 +105,8 @@ does_at_memory (Makes head) disk other input left v o0 o1 line = record {
   memory = λ is. (unchanged disk, line);
 }
 does_at_memory (Sessions show) disk other input left v o0 o1 line = memory_session show input disk o0 o1 v 8 refl line
+does_at_memory (Generates asked) disk other input left v o0 o1 line = no_memory asked.head (points_of asked) (ids_of asked) (IsSummary asked) disk o0 o1 8 refl line
+does_at_memory (Batches show) disk other input left v o0 o1 line = out_of_memory show input disk o0 o1 v 8 refl line
 does_at_memory Draws disk other input left v o0 o1 line = record {
   unchanged = unchanged disk;
   done = λ is. absurd (omega arith);
@@ -139,6 +138,39 @@ does_at_memory (JoinsWithin radius) disk other input left v o0 o1 line = record 
   damaged = λ is. absurd (omega arith);
 }
 does_at_memory (ReportsJoins what) disk other input left v o0 o1 line = no_join_logs_judged what disk other left o0 o1 line
+does_at_memory Seals disk other input left v o0 o1 line = record {
+  unchanged = unchanged disk;
+  sealed = λ is. absurd (omega arith);
+  rejected = λ is. absurd (omega arith);
+  part = λ is. absurd (omega arith);
+  disk = λ is. absurd (omega arith);
+  not_index = λ is. absurd (omega arith);
+  long = λ is. absurd (omega arith);
+  memory = λ is. line;
+  large = λ is. ⊎_elim (λ e. absurd (omega arith)) (λ rest. ⊎_elim (λ e. absurd (omega arith)) (λ e. absurd (omega arith)) rest) is;
+}
+does_at_memory Carries disk other input left v o0 o1 line = record {
+  bytes = [];
+  taken = Consumes-nil left;
+  few = omega arith;
+  too_many = λ many. absurd (omega arith);
+  unchanged = unchanged disk;
+  done = λ is. ⊎_elim (λ e. absurd (omega arith)) (λ e. absurd (omega arith)) is;
+  input_line = λ is. absurd (omega arith);
+  not_index = λ is. absurd (omega arith);
+  long = λ is. absurd (omega arith);
+}
+does_at_memory (Proves root) disk other input left v o0 o1 line = record {
+  bytes = [];
+  taken = Consumes-nil left;
+  few = omega arith;
+  long = (λ is. absurd (omega arith), λ many. absurd (omega arith));
+  all = λ a b c. absurd (c refl);
+  proves = λ a b c. absurd (c refl);
+  memory_line = λ is. inl line;
+  input_line = λ is. absurd (omega arith);
+  long_line = λ is. absurd (omega arith);
+}
 does_at_memory Nothing disk other input left v o0 o1 line = inr (inr (refl, line))
 
 pub memory_does : (task : Task) (disk other : DiskState) (input left : Option (List ℕ)) (v o0 o1 : SinkState) (status : ℕ) → status ≡ 8 → Tells o0 o1 (codes "fault memory\n") → Does task (scene disk other left v o0) (scene disk other left v o1) input status
@@ -148,58 +180,106 @@ status_eight : (task : Task) → IsStatusOf task 8
 status_eight (Scans asked) = inr (inr (inr (inr refl)))
 status_eight (Makes head) = inr (inr (inr (inr refl)))
 status_eight (Sessions show) = inr (inr (inr (inr (inr (inr (inl refl))))))
+status_eight (Generates asked) = inr (inr (inr (inr (inl refl))))
+status_eight (Batches show) = inr (inr (inr (inr (inr (inr (inl refl))))))
 status_eight Draws = inr (inr (inr (inr (inl refl))))
 status_eight Judges = inr (inr (inr (inr (inr refl))))
 status_eight (Reports what) = inr (inr (inr (inr (inr (inr (inr refl))))))
 status_eight (JoinsWithin radius) = inr (inr (inr (inr (inr (inl refl)))))
 status_eight (ReportsJoins what) = inr (inr (inr (inr (inr (inr (inr refl))))))
+status_eight Seals = inr (inr (inr (inr (inr (inr refl)))))
+status_eight Carries = inr (inr (inr (inr (inr (inr (inr refl))))))
+status_eight (Proves root) = inr (inr (inr (inr (inr refl))))
 status_eight Nothing = inr (inr refl)
 
 pub memory_status : (task : Task) (status : ℕ) → status ≡ 8 → IsStatusOf task status
 memory_status task status is = subst (IsStatusOf task) (sym is) (status_eight task)
 
 -- nothing was taken, and the status is not that of too much
-pub nothing_taken : (input left : Option (List ℕ)) (status : ℕ) → status ≢ 7 → TakesWithin input input left left status
-nothing_taken input left status other = record {
+pub nothing_taken : (Large : Type 0) (input left : Option (List ℕ)) (status : ℕ) → status ≢ 7 → TakesWithin Large input input left left status
+nothing_taken Large input left status other = record {
   script_bytes = [];
   log_bytes = [];
   script_taken = Consumes-nil input;
   logs_taken = Consumes-nil left;
   few = omega arith;
   few_logs = omega arith;
-  long = (λ is. absurd (other is), λ long. ⊎_elim (λ l. absurd (omega arith)) (λ l. absurd (omega arith)) long);
+  long = λ long. ⊎_elim (λ l. absurd (omega arith)) (λ l. absurd (omega arith)) long;
+  only = λ is. absurd (other is);
 }
 
 -- input alone was taken
-pub input_taken : (input0 input1 left : Option (List ℕ)) (status : ℕ) → TakesUpTo (2 ^ 26) input0 input1 (status ≡ 7) → TakesWithin input0 input1 left left status
-input_taken input0 input1 left status took = record {
+pub input_taken : (Large : Type 0) (input0 input1 left : Option (List ℕ)) (status : ℕ) → TakesUpTo (2 ^ 26) input0 input1 (status ≡ 7) → TakesWithin Large input0 input1 left left status
+input_taken Large input0 input1 left status took = record {
   script_bytes = took.bytes;
   log_bytes = [];
   script_taken = took.taken;
   logs_taken = Consumes-nil left;
   few = took.few;
   few_logs = omega arith;
-  long = (λ is. inl (took.long.0 is), λ long. ⊎_elim (λ l. took.long.1 l) (λ l. absurd (omega arith)) long);
+  long = λ long. ⊎_elim (λ l. took.long.1 l) (λ l. absurd (omega arith)) long;
+  only = λ is. inl (took.long.0 is);
+}
+
+pub batch_taken : (input0 input1 left : Option (List ℕ)) (disk : DiskState) (status : ℕ) → IsTooLong input0 input1 disk status → TakesWithin (IsTrue disk.tells → IsLarge disk.bytes) input0 input1 left left status
+batch_taken input0 input1 left disk status took = record {
+  script_bytes = took.bytes;
+  log_bytes = [];
+  script_taken = took.taken;
+  logs_taken = Consumes-nil left;
+  few = took.few;
+  few_logs = omega arith;
+  long = λ long. ⊎_elim (λ l. took.long l) (λ l. absurd (omega arith)) long;
+  only = λ is. ⊎_elim (λ l. inl l) (λ l. inr (inr l)) (took.only is);
 }
 
 -- logs alone were taken
-within_logs : (input left0 left1 : Option (List ℕ)) (status : ℕ) (bytes : List ℕ) → Consumes left0 left1 bytes → length bytes ≤ 2 ^ 30 + 4096 → (status ≡ 7) ↔ (2 ^ 30 < length bytes) → TakesWithin input input left0 left1 status
-within_logs input left0 left1 status bytes taken few long = record {
+within_logs : (Large : Type 0) (input left0 left1 : Option (List ℕ)) (status : ℕ) (bytes : List ℕ) → Consumes left0 left1 bytes → length bytes ≤ 2 ^ 30 + 4096 → (status ≡ 7) ↔ (2 ^ 30 < length bytes) → TakesWithin Large input input left0 left1 status
+within_logs Large input left0 left1 status bytes taken few long = record {
   script_bytes = [];
   log_bytes = bytes;
   script_taken = Consumes-nil input;
   logs_taken = taken;
   few = omega arith;
   few_logs = few;
-  long = (λ is. inr (long.0 is), λ either. ⊎_elim (λ l. absurd (omega arith)) (λ l. long.1 l) either);
+  long = λ either. ⊎_elim (λ l. absurd (omega arith)) (λ l. long.1 l) either;
+  only = λ is. inr (inl (long.0 is));
 }
 
-pub logs_taken : (input left0 left1 : Option (List ℕ)) (what : Report) (d0 d1 : DiskState) (o0 o1 : SinkState) (status : ℕ) → JudgesLogs what d0 d1 left0 left1 o0 o1 status → TakesWithin input input left0 left1 status
-logs_taken input left0 left1 what d0 d1 o0 o1 status told = within_logs input left0 left1 status told.bytes told.taken told.few told.long
+pub logs_taken : (Large : Type 0) (input left0 left1 : Option (List ℕ)) (what : Report) (d0 d1 : DiskState) (o0 o1 : SinkState) (status : ℕ) → JudgesLogs what d0 d1 left0 left1 o0 o1 status → TakesWithin Large input input left0 left1 status
+logs_taken Large input left0 left1 what d0 d1 o0 o1 status told = within_logs Large input left0 left1 status told.bytes told.taken told.few told.long
 
-pub join_logs_taken : (input left0 left1 : Option (List ℕ)) (what : JoinReport) (d0 d1 e0 e1 : DiskState) (o0 o1 : SinkState) (status : ℕ) → JudgesJoinLogs what d0 d1 e0 e1 left0 left1 o0 o1 status
-    → TakesWithin input input left0 left1 status
-join_logs_taken input left0 left1 what d0 d1 e0 e1 o0 o1 status told = within_logs input left0 left1 status told.bytes told.taken told.few told.long
+pub join_logs_taken : (Large : Type 0) (input left0 left1 : Option (List ℕ)) (what : JoinReport) (d0 d1 e0 e1 : DiskState) (o0 o1 : SinkState) (status : ℕ) → JudgesJoinLogs what d0 d1 e0 e1 left0 left1 o0 o1 status
+    → TakesWithin Large input input left0 left1 status
+join_logs_taken Large input left0 left1 what d0 d1 e0 e1 o0 o1 status told = within_logs Large input left0 left1 status told.bytes told.taken told.few told.long
+
+pub seal_taken : (input left : Option (List ℕ)) (d0 d1 : DiskState) (o0 o1 : SinkState) (status : ℕ) → SealsIndex d0 d1 o0 o1 status → TakesWithin (IsTrue d0.tells → IsTooLargeToSeal d0.bytes) input input left left status
+seal_taken input left d0 d1 o0 o1 status told = record {
+  script_bytes = [];
+  log_bytes = [];
+  script_taken = Consumes-nil input;
+  logs_taken = Consumes-nil left;
+  few = omega arith;
+  few_logs = omega arith;
+  long = λ long. ⊎_elim (λ l. absurd (omega arith)) (λ l. absurd (omega arith)) long;
+  only = λ is. inr (inr ((told.long is).1));
+}
+
+pub carried_taken : (input left0 left1 l0 l1 : Option (List ℕ)) (d0 d1 : DiskState) (o0 o1 : SinkState) (status : ℕ) → CarriesLogs d0 d1 left0 left1 l0 l1 o0 o1 status
+    → TakesWithin (IsTrue d0.tells → IsTooLargeToSeal d0.bytes) input input left0 left1 status
+carried_taken input left0 left1 l0 l1 d0 d1 o0 o1 status told = record {
+  script_bytes = [];
+  log_bytes = told.bytes;
+  script_taken = Consumes-nil input;
+  logs_taken = told.taken;
+  few = omega arith;
+  few_logs = told.few;
+  long = λ either. ⊎_elim (λ l. absurd (omega arith)) (λ l. told.too_many l) either;
+  only = λ is. inr ((told.long is).1);
+}
+
+pub proofs_taken : (Large : Type 0) (input left0 left1 : Option (List ℕ)) (root : List ℕ) (o0 o1 : SinkState) (status : ℕ) → ProvesLogs root left0 left1 o0 o1 status → TakesWithin Large input input left0 left1 status
+proofs_taken Large input left0 left1 root o0 o1 status told = within_logs Large input left0 left1 status told.bytes told.taken told.few told.long
 
 -- the disk's failure is told only where it failed
 pub logs_rose : (left0 left1 : Option (List ℕ)) (what : Report) (d0 d1 : DiskState) (o0 o1 : SinkState) (status : ℕ) → JudgesLogs what d0 d1 left0 left1 o0 o1 status → status ≡ 5 → Rose d0.faults d1.faults
@@ -237,6 +317,17 @@ lawful_policy Mmrad Balanced = refl
 pub lawful_limit : (limit : ℕ) → 1 ≤ limit → limit ≤ 16777216 → IsTrue (is_limit limit)
 unfolding is_limit
 lawful_limit limit some few = grind (arith)
+
+-- a generated point is a vector
+pub generated_kind : (metric : MetricName) → is_generated metric ≡ true → (kind_of metric ≢ 4) × (kind_of metric ≢ 5)
+generated_kind Hamming is = ((λ e. (omega (arith, e))), (λ e. (omega (arith, e))))
+generated_kind L1 is = ((λ e. (omega (arith, e))), (λ e. (omega (arith, e))))
+generated_kind Max is = ((λ e. (omega (arith, e))), (λ e. (omega (arith, e))))
+generated_kind Kendall is = absurd (true≢false (sym is))
+generated_kind Hausdorff is = absurd (true≢false (sym is))
+generated_kind MixSum is = ((λ e. (omega (arith, e))), (λ e. (omega (arith, e))))
+generated_kind MixMax is = ((λ e. (omega (arith, e))), (λ e. (omega (arith, e))))
+generated_kind L1Cap is = ((λ e. (omega (arith, e))), (λ e. (omega (arith, e))))
 
 -- the numbers of names
 pub named_space : (kind : ℕ) (metric : MetricName) (dim : ℕ) → kind ≡ kind_of metric → 1 ≤ dim → dim ≤ 64 → (is_halved metric ≡ true → dim % 2 ≡ 0) → IsTrue (is_space kind dim)

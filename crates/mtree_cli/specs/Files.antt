@@ -20,6 +20,11 @@ is_done (job.Audit index workers) = true
 is_done (job.Verify index log other) = true
 is_done (job.Check index log other) = true
 is_done (job.Join index other radius log) = true
+is_done (job.Gen index space count seed policies workers) = true
+is_done (job.Batch index workers log show) = true
+is_done (job.Seal index) = true
+is_done (job.Carry index log proof) = true
+is_done (job.Prove log root) = true
 is_done other = false
 
 -- the files that are opened: those of a job that the program does

@@ -1,5 +1,5 @@
 -- What a run does for the words that it is given.
-use Rattle.std.specs.Prelude.{◌≡◌, ◌⊎◌, ◌↔◌, ◌<◌, ◌≤◌, ◌+◌, ◌^◌, ℕ, Bool, Option, Some, None, List, [], ◌++◌, length, codes, IfSome}
+use Rattle.std.specs.Prelude.{◌≡◌, ◌⊎◌, ◌<◌, ◌≤◌, ◌+◌, ◌^◌, ℕ, Bool, Option, Some, None, List, [], ◌++◌, length, codes, IfSome, IsTrue}
 use Rattle.std.specs.List.{concat}
 use Rattle.std.specs.Io.KnownBytes.{Appends, Consumes}
 use Rattle.outside_io.specs.Bytes.{AppendsPrefix}
@@ -27,6 +27,12 @@ use Rattle.mtree_cli.specs.Told.{IsTold}
 use Rattle.mtree_cli.specs.Session.{RunsSession, IsSessionStatus}
 use Rattle.rows_text.specs.Meaning.{Setting}
 use Rattle.rows_text.specs.Script.{script}
+use Rattle.making_jobs.specs.declared.generating.Generation.{Generation}
+use Rattle.making_jobs.specs.Jobs.{Generates as GeneratesIndex, IsFillStatus}
+use Rattle.batch_jobs.specs.Batches.{IsBatchStatus, IsLarge, RunsBatch}
+use Rattle.seal_jobs.specs.Seals.{Seals as SealsIndex, IsLarge as IsTooLargeToSeal, IsSealStatus}
+use Rattle.seal_jobs.specs.Carries.{CarriesLogs, IsCarriedLogsStatus}
+use Rattle.seal_jobs.specs.Proofs.{ProvesLogs, IsProofStatus}
 
 -- a scan: its space, the greatest number of objects, and whether tags are shown
 pub record Asked : Type 0 where
@@ -41,14 +47,6 @@ IsScan words asked = job_of words ≡ Some (job.Scan asked.space asked.limit ask
 -- the words ask for a session
 abbrev pub IsSession : List (List ℕ) → Type 0
 IsSession words = (index : List ℕ) × (log : Option (List ℕ)) × (workers : ℕ) × (show : Bool) × (job_of words ≡ Some (job.Session index log workers show))
-
--- the words ask for no session
-abbrev pub HasNoSession : List (List ℕ) → Type 0
-HasNoSession words = ¬ IsSession words
-
--- the words ask for no scan
-abbrev pub HasNoScan : List (List ℕ) → Type 0
-HasNoScan words = (asked : Asked) → ¬ IsScan words asked
 
 -- the space and the limit of a scan
 abbrev pub setting_of : Asked → Setting
@@ -100,16 +98,25 @@ new_head space policies limit = record {
   limit = limit;
 }
 
+-- the greatest limit of objects
+abbrev pub most_objects : ℕ
+most_objects = 16777216
+
 -- what the program does so far; other jobs are answered as words without a job
 pub data Task : Type 0 where
   Scans : Asked → Task
   Makes : Head → Task
   Draws : Task
   Sessions : Bool → Task
+  Generates : Generation → Task
+  Batches : Bool → Task
   Judges : Task
+  Seals : Task
+  Carries : Task
   Reports : Report → Task
   JoinsWithin : ℕ → Task
   ReportsJoins : JoinReport → Task
+  Proves : List ℕ → Task
   Nothing : Task
 
 abbrev pub task_of : Option (Job (List ℕ)) → Task
@@ -117,7 +124,12 @@ task_of (Some (job.Scan space limit show)) = Scans (record { space = space; limi
 task_of (Some (job.Create index space policies limit)) = Makes (new_head space policies limit)
 task_of (Some (job.Shape index)) = Draws
 task_of (Some (job.Session index log workers show)) = Sessions show
+task_of (Some (job.Gen index space count seed policies workers)) = Generates (record { head = new_head space policies most_objects; count = count; seed = seed; workers = workers })
+task_of (Some (job.Batch index workers log show)) = Batches show
 task_of (Some (job.Audit index workers)) = Judges
+task_of (Some (job.Seal index)) = Seals
+task_of (Some (job.Carry index log proof)) = Carries
+task_of (Some (job.Prove log root)) = Proves root
 task_of (Some (job.Verify index log None)) = Reports report.Verdicts
 task_of (Some (job.Check index log None)) = Reports report.Answers
 task_of (Some (job.Join index other radius log)) = JoinsWithin radius
@@ -139,11 +151,16 @@ abbrev pub Does : Task → Scene → Scene → Option (List ℕ) → ℕ → Typ
 Does (Scans asked) a b input status = IfSome input (λ bytes. WritesScan a.out b.out (scan_texts asked bytes) status)
 Does (Makes head) a b input status = Creates head a.index b.index a.out b.out status
 Does (Sessions show) a b input status = RunsSession show input a.index b.index a.out b.out a.log_out b.log_out status
+Does (Generates asked) a b input status = GeneratesIndex asked a.index b.index a.out b.out status
+Does (Batches show) a b input status = RunsBatch show input a.index b.index a.out b.out a.log_out b.log_out status
 Does Draws a b input status = Shapes a.index b.index a.out b.out status
 Does Judges a b input status = Audits a.index b.index a.out b.out status
 Does (Reports what) a b input status = JudgesLogs what a.index b.index a.left b.left a.out b.out status
 Does (JoinsWithin radius) a b input status = Joins radius a.index b.index a.other b.other a.out b.out a.log_out b.log_out status
 Does (ReportsJoins what) a b input status = JudgesJoinLogs what a.index b.index a.other b.other a.left b.left a.out b.out status
+Does Seals a b input status = SealsIndex a.index b.index a.out b.out status
+Does Carries a b input status = CarriesLogs a.index b.index a.left b.left a.log_out.written b.log_out.written a.out b.out status
+Does (Proves root) a b input status = ProvesLogs root a.left b.left a.out b.out status
 Does Nothing a b input status = WritesUsage a.out b.out status
 
 -- the task takes no index
@@ -151,11 +168,16 @@ abbrev pub TakesNoIndex : Task → Type 0
 TakesNoIndex (Scans asked) = Unit {0}
 TakesNoIndex (Makes head) = ⊥
 TakesNoIndex (Sessions show) = ⊥
+TakesNoIndex (Generates asked) = ⊥
+TakesNoIndex (Batches show) = ⊥
 TakesNoIndex Draws = ⊥
 TakesNoIndex Judges = ⊥
 TakesNoIndex (Reports what) = ⊥
 TakesNoIndex (JoinsWithin radius) = ⊥
 TakesNoIndex (ReportsJoins what) = ⊥
+TakesNoIndex Seals = ⊥
+TakesNoIndex Carries = ⊥
+TakesNoIndex (Proves root) = Unit {0}
 TakesNoIndex Nothing = Unit {0}
 
 -- the task takes no logs
@@ -163,11 +185,16 @@ abbrev pub TakesNoLog : Task → Type 0
 TakesNoLog (Scans asked) = Unit {0}
 TakesNoLog (Makes head) = Unit {0}
 TakesNoLog (Sessions show) = Unit {0}
+TakesNoLog (Generates asked) = Unit {0}
+TakesNoLog (Batches show) = Unit {0}
 TakesNoLog Draws = Unit {0}
 TakesNoLog Judges = Unit {0}
 TakesNoLog (Reports what) = ⊥
 TakesNoLog (JoinsWithin radius) = Unit {0}
 TakesNoLog (ReportsJoins what) = ⊥
+TakesNoLog Seals = Unit {0}
+TakesNoLog Carries = ⊥
+TakesNoLog (Proves root) = ⊥
 TakesNoLog Nothing = Unit {0}
 
 -- the task takes no other index
@@ -175,11 +202,16 @@ abbrev pub TakesNoOther : Task → Type 0
 TakesNoOther (Scans asked) = Unit {0}
 TakesNoOther (Makes head) = Unit {0}
 TakesNoOther (Sessions show) = Unit {0}
+TakesNoOther (Generates asked) = Unit {0}
+TakesNoOther (Batches show) = Unit {0}
 TakesNoOther Draws = Unit {0}
 TakesNoOther Judges = Unit {0}
 TakesNoOther (Reports what) = Unit {0}
 TakesNoOther (JoinsWithin radius) = ⊥
 TakesNoOther (ReportsJoins what) = ⊥
+TakesNoOther Seals = Unit {0}
+TakesNoOther Carries = Unit {0}
+TakesNoOther (Proves root) = Unit {0}
 TakesNoOther Nothing = Unit {0}
 
 -- the task puts no log
@@ -187,28 +219,56 @@ abbrev pub PutsNoLog : Task → Type 0
 PutsNoLog (Scans asked) = Unit {0}
 PutsNoLog (Makes head) = Unit {0}
 PutsNoLog (Sessions show) = ⊥
+PutsNoLog (Generates asked) = Unit {0}
+PutsNoLog (Batches show) = ⊥
 PutsNoLog Draws = Unit {0}
 PutsNoLog Judges = Unit {0}
 PutsNoLog (Reports what) = Unit {0}
 PutsNoLog (JoinsWithin radius) = ⊥
 PutsNoLog (ReportsJoins what) = Unit {0}
+PutsNoLog Seals = Unit {0}
+PutsNoLog Carries = ⊥
+PutsNoLog (Proves root) = Unit {0}
 PutsNoLog Nothing = Unit {0}
 
--- the task is no session
-abbrev pub IsNoSession : Task → Type 0
-IsNoSession (Sessions show) = ⊥
-IsNoSession other = Unit {0}
+-- the task takes no input
+abbrev pub TakesNoInput : Task → Type 0
+TakesNoInput (Scans asked) = ⊥
+TakesNoInput (Sessions show) = ⊥
+TakesNoInput (Batches show) = ⊥
+TakesNoInput other = Unit {0}
 
--- Some bytes of input and of logs were taken, at most 2 ^ 26 and 2 ^ 30 and a buffer more. The status tells exactly whether
--- more than that many were.
-pub record TakesWithin (input0 input1 left0 left1 : Option (List ℕ)) (status : ℕ) : Type 0 where
+-- the task leaves the index as it is where memory runs out
+abbrev pub LeavesAtMemory : Task → Type 0
+LeavesAtMemory (Sessions show) = ⊥
+LeavesAtMemory (Generates asked) = ⊥
+LeavesAtMemory other = Unit {0}
+
+-- the task puts its log last, if it puts one
+abbrev pub PutsLogLast : Task → Type 0
+PutsLogLast (Sessions show) = ⊥
+PutsLogLast (Batches show) = ⊥
+PutsLogLast Carries = ⊥
+PutsLogLast other = Unit {0}
+
+-- the index has more pages than the task reads into memory
+abbrev pub HasTooManyPages : Task → DiskState → Type 0
+HasTooManyPages (Batches show) disk = IsTrue disk.tells → IsLarge disk.bytes
+HasTooManyPages Seals disk = IsTrue disk.tells → IsTooLargeToSeal disk.bytes
+HasTooManyPages Carries disk = IsTrue disk.tells → IsTooLargeToSeal disk.bytes
+HasTooManyPages other disk = ⊥
+
+-- Some bytes of input and of logs were taken, at most 2 ^ 26 and 2 ^ 30 and a buffer more. Where more than that many were, the status
+-- tells it; and it tells it only there, or where the index has too many pages.
+pub record TakesWithin (Large : Type 0) (input0 input1 left0 left1 : Option (List ℕ)) (status : ℕ) : Type 0 where
   pub script_bytes : List ℕ
   pub log_bytes : List ℕ
   pub script_taken : Consumes input0 input1 script_bytes
   pub logs_taken : Consumes left0 left1 log_bytes
   pub few : length script_bytes ≤ 2 ^ 26 + 4096
   pub few_logs : length log_bytes ≤ 2 ^ 30 + 4096
-  pub long : (status ≡ 7) ↔ ((2 ^ 26 < length script_bytes) ⊎ (2 ^ 30 < length log_bytes))
+  pub long : (2 ^ 26 < length script_bytes) ⊎ (2 ^ 30 < length log_bytes) → status ≡ 7
+  pub only : status ≡ 7 → (2 ^ 26 < length script_bytes) ⊎ ((2 ^ 30 < length log_bytes) ⊎ Large)
 
 -- the statuses of a scan
 abbrev pub IsScanStatus : ℕ → Type 0
@@ -219,9 +279,14 @@ abbrev pub IsStatusOf : Task → ℕ → Type 0
 IsStatusOf (Scans asked) n = IsScanStatus n
 IsStatusOf (Makes head) n = (n ≡ 0) ⊎ ((n ≡ 4) ⊎ ((n ≡ 5) ⊎ ((n ≡ 6) ⊎ (n ≡ 8))))
 IsStatusOf (Sessions show) n = IsSessionStatus n
+IsStatusOf (Generates asked) n = IsFillStatus n
+IsStatusOf (Batches show) n = IsBatchStatus n
 IsStatusOf Draws n = IsShapeStatus n
 IsStatusOf Judges n = IsAuditStatus n
 IsStatusOf (Reports what) n = IsLogStatus n
 IsStatusOf (JoinsWithin radius) n = IsJoinStatus n
 IsStatusOf (ReportsJoins what) n = IsJoinLogStatus n
+IsStatusOf Seals n = IsSealStatus n
+IsStatusOf Carries n = IsCarriedLogsStatus n
+IsStatusOf (Proves root) n = IsProofStatus n
 IsStatusOf Nothing n = (n ≡ 2) ⊎ ((n ≡ 4) ⊎ (n ≡ 8))

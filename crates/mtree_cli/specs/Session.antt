@@ -1,6 +1,6 @@
 -- What a session on an index does and writes, by the status with which it ends.
-use Rattle.std.specs.Prelude.{◌≡◌, ◌≢◌, ◌⊎◌, ℕ, Bool, List, [], ◌∷◌, ◌++◌, Option, codes, IsTrue, IfSome}
-use Rattle.std.specs.List.{concat}
+use Rattle.std.specs.Prelude.{◌≡◌, ◌≢◌, ◌⊎◌, ℕ, ◌+◌, ◌^◌, ◌≤◌, Bool, List, [], ◌++◌, length, Option, codes, IsTrue, IfSome}
+use Rattle.std.specs.List.{AllByRecursion, concat}
 use Rattle.std.specs.Io.KnownBytes.{Appends}
 use Rattle.outside_io.specs.Causes.{Rose}
 use Rattle.outside_io.specs.Sinks.{SinkState, Tells}
@@ -19,7 +19,8 @@ use Rattle.rows_text.specs.Meaning.{Setting, State}
 use Rattle.rows_text.specs.Script.{script}
 use Rattle.session_run.specs.declared.stop.Stop.{Stop}
 use Rattle.session_run.specs.declared.stop.Stop.TheVariants as stop
-use Rattle.session_run.specs.Session.{HoldsNext, HoldsSome, HoldsState, IsCutShort, IsDamage}
+use Rattle.log_model.specs.declared.logs.Log.{Log}
+use Rattle.session_run.specs.Session.{Grew, HoldsNext, HoldsSome, HoldsState, IsAsking, IsCutShort, IsDamage, StandsIn, most_read}
 use Rattle.session_run.specs.Turns.{AreTurns, Turn, Version, commands_of, file_after, framed, logs_of, state_after, texts_of}
 use Rattle.mtree_cli.specs.Told.{IsTold}
 
@@ -96,13 +97,45 @@ RunsScript show bytes disk0 disk1 out0 out1 log0 log1 status =
     IsTrue disk0.tells → (head : Head) (live : Live) → IsSoundFile (space_in head) head live disk0.bytes →
     RunsOn (Leaves head (state_in head live disk0.bytes) disk0 disk1) show bytes head live disk0.bytes disk1 out0 out1 log0 log1 status
 
+-- The frames of these logs were put, and the index was read once for each of their records at the most, twice where tags are shown,
+-- and so often besides.
+pub record ReadsFew (more : ℕ) (show : Bool) (disk0 disk1 : DiskState) (log0 log1 : SinkState) : Type 0 where
+  pub logs : List Log
+  pub logged : Appends log0.written log1.written (framed logs)
+  pub reads : disk1.reads ≤ disk0.reads + (most_read show logs + more)
+
+-- that is so where a script that only asks is done on a sound file; the index is opened with six reads
+abbrev pub ReadsScript : Bool → List ℕ → DiskState → DiskState → SinkState → SinkState → ℕ → Type 0
+ReadsScript show bytes disk0 disk1 log0 log1 status =
+    status ≡ 0 → IsTrue disk0.tells → (head : Head) (live : Live) → IsSoundFile (space_in head) head live disk0.bytes →
+    AllByRecursion IsAsking (script head.dim bytes) → ReadsFew 6 show disk0 disk1 log0 log1
+
+-- the last line says which page is damaged, as it is; before it only replies were put
+pub record TellsDamage (Stands : PageFault → Type 0) (out0 out1 : SinkState) : Type 0 where
+  pub fault : PageFault
+  pub mid : SinkState
+  pub is : IsDamage fault
+  pub stands : Stands fault
+  pub grew : Grew out0 mid
+  pub told : Tells mid out1 (damaged_text fault)
+
+-- where a page is said to hold no node, it holds none in the file that is left, and for this reason
+abbrev pub StandsAfter : DiskState → DiskState → PageFault → Type 0
+StandsAfter disk0 disk1 fault = IsTrue disk0.tells → (head : Head) (live : Live) → OpensTo disk0.bytes head live → StandsIn head.dim disk1.bytes fault
+
 -- What a session does with a file and a script: on a sound file this, and on any file its refusals have their causes.
 pub record RunsSession (show : Bool) (input : Option (List ℕ)) (disk0 disk1 : DiskState) (out0 out1 log0 log1 : SinkState) (status : ℕ) : Type 0 where
   pub runs : IfSome input (λ bytes. RunsScript show bytes disk0 disk1 out0 out1 log0 log1 status)
+  pub reads : IfSome input (λ bytes. ReadsScript show bytes disk0 disk1 log0 log1 status)
   pub disk : status ≡ 5 → Rose disk0.faults disk1.faults
   pub not_index : status ≡ 6 → (name : List ℕ) × Tells out0 out1 (not_index_text name) × (IsTrue disk0.tells → IsNoIndex disk0.bytes name)
-  -- a page is damaged; where out told its bytes before the last line, that line says so
-  pub damaged : status ≡ 9 → (fault : PageFault) × (mid : SinkState) × IsDamage fault × Tells mid out1 (damaged_text fault)
+  pub damaged : status ≡ 9 → TellsDamage (StandsAfter disk0 disk1) out0 out1
+
+-- With no fault a session of a script within its limit on a sound file is done, but for want of memory.
+abbrev pub IsComplete : Option (List ℕ) → DiskState → Type 0 → ℕ → Type 0
+IsComplete input disk Fault status =
+    IfSome input (λ bytes. length bytes ≤ 2 ^ 26 → IsTrue disk.tells → (head : Head) (live : Live) →
+    IsSoundFile (space_in head) head live disk.bytes → ¬ Fault → (status ≡ 0) ⊎ (status ≡ 8))
 
 -- a session ends so and in no other way
 abbrev pub IsSessionStatus : ℕ → Type 0
@@ -118,10 +151,11 @@ HasEnded stop.Memory out0 out1 status = (status ≡ 8) × Tells out0 out1 (codes
 HasEnded (stop.Damaged fault) out0 out1 status = ((status ≡ 9) × Tells out0 out1 (damaged_text fault)) ⊎ ((status ≡ 8) × Tells out0 out1 (codes "fault memory\n"))
 
 -- What ends a session on an opened index, on any file: an output or the disk failed, a page is damaged, or memory ran out.
-pub record HasFinished (disk0 disk1 : DiskState) (out0 out1 log0 log1 : SinkState) (status : ℕ) : Type 0 where
+pub record HasFinished (dim : ℕ) (disk0 disk1 : DiskState) (out0 out1 log0 log1 : SinkState) (status : ℕ) : Type 0 where
   pub output : status ≡ 4 → Rose out0.faults out1.faults ⊎ Rose log0.faults log1.faults
   pub disk : status ≡ 5 → Rose disk0.faults disk1.faults
-  pub damaged : status ≡ 9 → (fault : PageFault) × (mid : SinkState) × IsDamage fault × Tells mid out1 (damaged_text fault)
+  pub damaged : status ≡ 9 → TellsDamage (λ fault. IsTrue disk1.tells → StandsIn dim disk1.bytes fault) out0 out1
+  pub tells : disk1.tells ≡ disk0.tells
   pub statuses : (status ≡ 0) ⊎ ((status ≡ 4) ⊎ ((status ≡ 5) ⊎ ((status ≡ 8) ⊎ (status ≡ 9))))
 
 -- the same of a session that opens its index, which may be none
@@ -129,5 +163,5 @@ pub record HasRefused (disk0 disk1 : DiskState) (out0 out1 log0 log1 : SinkState
   pub output : status ≡ 4 → Rose out0.faults out1.faults ⊎ Rose log0.faults log1.faults
   pub disk : status ≡ 5 → Rose disk0.faults disk1.faults
   pub not_index : status ≡ 6 → (name : List ℕ) × Tells out0 out1 (not_index_text name) × (IsTrue disk0.tells → IsNoIndex disk0.bytes name)
-  pub damaged : status ≡ 9 → (fault : PageFault) × (mid : SinkState) × IsDamage fault × Tells mid out1 (damaged_text fault)
+  pub damaged : status ≡ 9 → TellsDamage (StandsAfter disk0 disk1) out0 out1
   pub statuses : (status ≡ 0) ⊎ ((status ≡ 4) ⊎ ((status ≡ 5) ⊎ ((status ≡ 6) ⊎ ((status ≡ 8) ⊎ (status ≡ 9)))))

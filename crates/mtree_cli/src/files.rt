@@ -28,6 +28,11 @@ fn is_done<Name>(job: &Job<Name>) -> bool
             | Job::Verify { .. }
             | Job::Check { .. }
             | Job::Join { .. }
+            | Job::Gen { .. }
+            | Job::Batch { .. }
+            | Job::Seal { .. }
+            | Job::Carry { .. }
+            | Job::Prove { .. }
     )
 }
 

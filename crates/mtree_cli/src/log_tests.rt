@@ -42,7 +42,7 @@ pub fn place(file: &mut [u8], at: usize, bytes: &[u8]) {
 }
 
 // The small index.
-fn small_index(alloc: Global) -> Result<Vec<u8>, AllocError> {
+pub fn small_index(alloc: Global) -> Result<Vec<u8>, AllocError> {
     let mut file = vec![in alloc; 0u8; 20480]?;
     place(&mut file, 0, &HEAD);
     place(&mut file, 4096, &FIRST);

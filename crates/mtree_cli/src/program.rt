@@ -11,26 +11,37 @@ ghost use Rattle.join_jobs.specs.Trees.{Tree, IsOpened};
 ghost use Rattle.join_jobs.specs.Laws.{FaultlessIsComplete as JoinFaultlessIsComplete};
 ghost use Rattle.log_model.specs.Laws.{LeastLogsAreSound};
 ghost use Rattle.session_run.specs.Laws.{TurnsAreTheirMeaning};
-ghost use Rattle.mtree_cli.specs.Run.{Asked, Does, HasNoScan, HasNoSession, IsNoSession, IsScan, IsStatusOf, PutsNoLog, TakesNoIndex, TakesNoLog, TakesNoOther, TakesWithin, new_head, task_of};
+ghost use Rattle.seal_jobs.specs.Laws.{AcceptedShow};
+ghost use Rattle.seal_log.specs.Laws.{CarriedLogsAreAccepted};
+ghost use Rattle.mtree_cli.specs.Session.{IsComplete};
+ghost use Rattle.mtree_cli.specs.Run.{Asked, Does, HasTooManyPages, IsScan, IsSession, IsStatusOf, LeavesAtMemory, PutsLogLast, PutsNoLog, TakesNoIndex, TakesNoInput, TakesNoLog, TakesNoOther, TakesWithin, new_head, task_of};
 
 use crate::scan_job::run_scan;
 use crate::session_job::run_session;
+use batch_jobs::{audit_index_by, run_batch};
 use disk_model::Disk;
-use file_jobs::{FAULT_MEMORY, audit_index, create_index, end_with, put_line, shape_index};
+use file_jobs::{FAULT_MEMORY, create_index, end_with, put_line, shape_index};
 use job_words::{Job, JobFault, PolicyNames, SpaceName, read_job};
 use join_jobs::laws::faultless_is_complete as joins_are_complete;
 use join_jobs::{check_join_logs, join_indexes, verify_join_logs};
 use log_jobs::laws::faultless_is_complete;
 use log_jobs::{check_logs, verify_logs};
 use log_model::laws::least_logs_are_sound;
+use making_jobs::{Generation, generate_index};
 use node_page::Head;
 use outside_io::{Sink, Source, Status};
+use seal_jobs::laws::accepted_show;
+use seal_jobs::{carry_logs, prove_logs, seal_index};
+use seal_log::laws::carried_logs_are_accepted;
 use session_run::laws::turns_are_their_meaning;
 use std::alloc::Global;
 use std::thread::Threads;
 
 /// The line of words without a job.
 pub const USAGE: &[u8] = b"usage: mtree COMMAND INDEX [options]\n";
+
+/// The greatest limit of an index.
+const MOST_OBJECTS: u32 = 16_777_216;
 
 // The head of a new file.
 fn new_head(space: SpaceName, policies: PolicyNames, limit: u32) -> Head
@@ -51,11 +62,13 @@ fn new_head(space: SpaceName, policies: PolicyNames, limit: u32) -> Head
 
 /// Does what the words after the program's name ask for, and answers the status.
 ///
-/// The program does eight jobs so far: `scan` runs the script of `input` on a plain list, `create` makes an empty index of
+/// The program does thirteen jobs so far: `scan` runs the script of `input` on a plain list, `create` makes an empty index of
 /// `index`, `session` runs the script of `input` on it and puts the log of each query to `log_out`, `shape` writes the shape
 /// of its tree, `audit` tells whether it is sound, `verify` judges the logs of `log_in` by it, `check` does both, and `join`
 /// joins `index` with `other` and puts its log to `log_out`. With `--other`, `verify` and `check` take join logs and both
-/// indexes. Every other job of the words is answered as no job.
+/// indexes. `gen` makes an index of generated rows in `index`, and `batch` runs the queries of the script of `input` on it by several
+/// threads. `seal` writes the digest of the whole file of `index`; `proof` with an index puts to `log_out` each log of `log_in` with the
+/// pages that it names, and with a digest judges such carried logs of `log_in` by it alone. `migrate` is answered as no job.
 pub fn run<R: Threads + Sync, D: Disk, E: Disk, S: Source, L: Source, K: Sink, T: Sink>(
     rt: &R,
     alloc: Global,
@@ -77,6 +90,11 @@ pub fn run<R: Threads + Sync, D: Disk, E: Disk, S: Source, L: Source, K: Sink, T
     ensures check_is_true { (file : List ℕ) → FaultlessIsComplete file }
     ensures join_check_is_true { (left right : Tree) → IsOpened left → IsOpened right → JoinFaultlessIsComplete left right }
 
+    // A frame that is written proved has an accepted carried log, and this is what such a log shows; and a sound file's carried log of
+    // a sound log is accepted.
+    ensures carried_is_true { AcceptedShow }
+    ensures carried_is_accepted { CarriedLogsAreAccepted }
+
     // What the turns of a session are: where the file stands in no command's way, its replies and its objects are the plain
     // list's; and the least log of a query is sound.
     ensures session_is_plain { TurnsAreTheirMeaning }
@@ -85,16 +103,16 @@ pub fn run<R: Threads + Sync, D: Disk, E: Disk, S: Source, L: Source, K: Sink, T
     // There are no other answers.
     ensures statuses { IsStatusOf (task_of (job_of (texts_of words.now))) result.0 }
 
-    // Want of memory leaves the index as it is, but for a session's, no run changes the other index, and words without a script,
-    // without an index, without logs, without another index or without a log to put take none.
-    ensures memory { IsNoSession (task_of (job_of (texts_of words.now))) → result.0 ≡ 8 → IsUnchanged (D.state index.old) (D.state index.new) }
+    // Want of memory leaves the index as it is, but for one that a session or a load has changed, no run changes the other index, and
+    // words without a script, without an index, without logs, without another index or without a log to put take none.
+    ensures memory { LeavesAtMemory (task_of (job_of (texts_of words.now))) → result.0 ≡ 8 → IsUnchanged (D.state index.old) (D.state index.new) }
     ensures other_same { IsUnchanged (E.state other.old) (E.state other.new) }
     ensures index { TakesNoIndex (task_of (job_of (texts_of words.now))) → index.new ≡ index.old }
-    ensures untouched { HasNoScan (texts_of words.now) → HasNoSession (texts_of words.now) → input.new ≡ input.old }
+    ensures untouched { TakesNoInput (task_of (job_of (texts_of words.now))) → input.new ≡ input.old }
     ensures log_untouched { TakesNoLog (task_of (job_of (texts_of words.now))) → log_in.new ≡ log_in.old }
     ensures other { TakesNoOther (task_of (job_of (texts_of words.now))) → other.new ≡ other.old }
     ensures log_out { PutsNoLog (task_of (job_of (texts_of words.now))) → log_out.new ≡ log_out.old }
-    ensures kept { IsNoSession (task_of (job_of (texts_of words.now))) → result.0 ≢ 0 → result.0 ≢ 4 → log_out.new ≡ log_out.old }
+    ensures kept { PutsLogLast (task_of (job_of (texts_of words.now))) → result.0 ≢ 0 → result.0 ≢ 4 → log_out.new ≡ log_out.old }
 
     // A failed read or write is told only where the object's count of faults rose.
     ensures input { result.0 ≡ 3 → Rose (S.faults input.old) (S.faults input.new) ⊎ Rose (L.faults log_in.old) (L.faults log_in.new) }
@@ -103,8 +121,9 @@ pub fn run<R: Threads + Sync, D: Disk, E: Disk, S: Source, L: Source, K: Sink, T
     ensures disk { TakesNoOther (task_of (job_of (texts_of words.now))) → result.0 ≡ 5 → Rose (D.state index.old).faults (D.state index.new).faults }
     ensures either_disk { result.0 ≡ 5 → Rose (D.state index.old).faults (D.state index.new).faults ⊎ Rose (E.state other.old).faults (E.state other.new).faults }
 
-    // At most 2 ^ 26 bytes of input, 2 ^ 30 of logs and a buffer are taken; too much is told exactly where it was more than those.
-    ensures long { TakesWithin (S.left input.old) (S.left input.new) (L.left log_in.old) (L.left log_in.new) result.0 }
+    // At most 2 ^ 26 bytes of input, 2 ^ 30 of logs and a buffer are taken; too much is told where it was more than those, and else only
+    // where the index has too many pages.
+    ensures long { TakesWithin (HasTooManyPages (task_of (job_of (texts_of words.now))) (D.state index.old)) (S.left input.old) (S.left input.new) (L.left log_in.old) (L.left log_in.new) result.0 }
 
     // A scan that is done has taken all input.
     ensures end { (asked : Asked) → IsScan (texts_of words.now) asked → result.0 ≡ 0 → IsAtEnd (S.left input.new) }
@@ -112,12 +131,18 @@ pub fn run<R: Threads + Sync, D: Disk, E: Disk, S: Source, L: Source, K: Sink, T
     // With no fault and an input within its limit a scan is done, but for want of memory.
     ensures complete { (asked : Asked) → IsScan (texts_of words.now) asked → IfSome (S.left input.old) (λ bytes. length bytes ≤ 2 ^ 26 →
         ¬ Rose (S.faults input.old) (S.faults input.new) → ¬ Rose (K.state out.old).faults (K.state out.new).faults → (result.0 ≡ 0) ⊎ (result.0 ≡ 8)) }
+    // So is a session on a sound file, where also its index and the log's output did not fail.
+    ensures complete_session { IsSession (texts_of words.now) → IsComplete (S.left input.old) (D.state index.old)
+        (Rose (S.faults input.old) (S.faults input.new) ⊎ (Rose (D.state index.old).faults (D.state index.new).faults
+        ⊎ (Rose (K.state out.old).faults (K.state out.new).faults ⊎ Rose (T.state log_out.old).faults (T.state log_out.new).faults))) result.0 }
     ensures counts { (S.faults input.old ≤ S.faults input.new) × (L.faults log_in.old ≤ L.faults log_in.new) × ((K.state out.old).faults ≤ (K.state out.new).faults) × ((T.state log_out.old).faults ≤ (T.state log_out.new).faults) }
 {
     faultless_is_complete();
     joins_are_complete();
     turns_are_their_meaning();
     least_logs_are_sound();
+    accepted_show();
+    carried_logs_are_accepted();
     match read_job(alloc, words) {
         Ok(
             Job::Scan {
@@ -142,7 +167,7 @@ pub fn run<R: Threads + Sync, D: Disk, E: Disk, S: Source, L: Source, K: Sink, T
             },
         ) => run_session(rt, alloc, index, workers, show_tags, input, out, log_out),
         Ok(Job::Shape { .. }) => shape_index(alloc, index, out),
-        Ok(Job::Audit { .. }) => audit_index(alloc, index, out),
+        Ok(Job::Audit { workers, .. }) => audit_index_by(rt, alloc, index, workers, out),
         Ok(Job::Verify { other: None, .. }) => verify_logs(alloc, index, log_in, out),
         Ok(Job::Check { other: None, .. }) => check_logs(alloc, index, log_in, out),
         Ok(Job::Verify { other: Some(_), .. }) => verify_join_logs(
@@ -150,6 +175,34 @@ pub fn run<R: Threads + Sync, D: Disk, E: Disk, S: Source, L: Source, K: Sink, T
         ),
         Ok(Job::Check { other: Some(_), .. }) => check_join_logs(alloc, index, other, log_in, out),
         Ok(Job::Join { radius, .. }) => join_indexes(alloc, index, other, radius, out, log_out),
+        Ok(
+            Job::Gen {
+                space,
+                count,
+                seed,
+                policies,
+                workers,
+                ..
+            },
+        ) => {
+            let asked = Generation {
+                head: new_head(space, policies, MOST_OBJECTS),
+                count,
+                seed,
+                workers,
+            };
+            generate_index(rt, alloc, index, &asked, out)
+        }
+        Ok(
+            Job::Batch {
+                workers,
+                show_tags,
+                ..
+            },
+        ) => run_batch(rt, alloc, index, workers, show_tags, input, out, log_out),
+        Ok(Job::Seal { .. }) => seal_index(alloc, index, out),
+        Ok(Job::Carry { .. }) => carry_logs(alloc, index, log_in, out, log_out),
+        Ok(Job::Prove { root, .. }) => prove_logs(alloc, log_in, &root, out),
         Ok(_) | Err(JobFault::Usage) => put_line(out, USAGE, 2),
         Err(JobFault::Memory) => end_with(out, FAULT_MEMORY, 8),
     }

@@ -7,7 +7,10 @@ ghost use Rattle.metric_mix.specs.MixKinds.{mix_kind, mix_dim};
 ghost use Rattle.tree_shape.specs.Tree.{IsSoundTree};
 ghost use Rattle.index_core.specs.Files.{nodes_on};
 ghost use Rattle.index_core.specs.Index.{MayGoOn};
-ghost use Rattle.mtree_cli.specs.Session.{HasEnded, HasFinished, HasRefused, IsSessionStatus, LeavesAll, RunsOn, RunsScript, RunsSession, space_in, state_in};
+ghost use Rattle.std.specs.List.{AllByRecursion};
+ghost use Rattle.rows_text.specs.Script.{script};
+ghost use Rattle.session_run.specs.Session.{IsAsking};
+ghost use Rattle.mtree_cli.specs.Session.{HasEnded, HasFinished, HasRefused, IsComplete, IsSessionStatus, LeavesAll, ReadsFew, ReadsScript, RunsOn, RunsScript, RunsSession, space_in, state_in};
 
 use crate::scan_job::MOST_INPUT;
 use disk_model::Disk;
@@ -61,7 +64,11 @@ fn run_opened<R: Threads + Sync, D: Disk, K: Sink, T: Sink>(
         RunsOn (LeavesAll opened.old.file.head (state_in opened.old.file.head opened.old.file.live (D.state index.old).bytes) (D.state index.old) (D.state index.new))
         show_tags bytes.now opened.old.file.head opened.old.file.live (D.state index.old).bytes (D.state index.new)
         (K.state out.old) (K.state out.new) (T.state log_out.old) (T.state log_out.new) result.0 }
-    ensures finished { HasFinished (D.state index.old) (D.state index.new) (K.state out.old) (K.state out.new) (T.state log_out.old) (T.state log_out.new) result.0 }
+    ensures reads { result.0 ≡ 0 → IsTrue (D.state index.old).tells →
+        mix_kind opened.old.file.metric ≡ opened.old.file.head.kind → mix_dim opened.old.file.metric ≡ opened.old.file.head.dim →
+        IsSoundTree (space_in opened.old.file.head) (nodes_on opened.old.file (D.state index.old)) opened.old.file.live → AllByRecursion IsAsking (script opened.old.file.head.dim bytes.now) →
+        ReadsFew 0 show_tags (D.state index.old) (D.state index.new) (T.state log_out.old) (T.state log_out.new) }
+    ensures finished { HasFinished opened.old.file.head.dim (D.state index.old) (D.state index.new) (K.state out.old) (K.state out.new) (T.state log_out.old) (T.state log_out.new) result.0 }
     ensures later { (D.state index.old).faults ≤ (D.state index.new).faults }
     ensures out_later { (K.state out.old).faults ≤ (K.state out.new).faults }
     ensures log_later { (T.state log_out.old).faults ≤ (T.state log_out.new).faults }
@@ -92,6 +99,7 @@ fn run_on_index<R: Threads + Sync, D: Disk, K: Sink, T: Sink>(
     requires many { workers ≤ 64 }
     requires few { length bytes.now ≤ 2 ^ 26 }
     ensures runs { RunsScript show_tags bytes.now (D.state index.old) (D.state index.new) (K.state out.old) (K.state out.new) (T.state log_out.old) (T.state log_out.new) result.0 }
+    ensures reads { ReadsScript show_tags bytes.now (D.state index.old) (D.state index.new) (T.state log_out.old) (T.state log_out.new) result.0 }
     ensures ends { HasRefused (D.state index.old) (D.state index.new) (K.state out.old) (K.state out.new) (T.state log_out.old) (T.state log_out.new) result.0 }
     ensures out_later { (K.state out.old).faults ≤ (K.state out.new).faults }
     ensures log_later { (T.state log_out.old).faults ≤ (T.state log_out.new).faults }
@@ -145,6 +153,10 @@ pub fn run_session<R: Threads + Sync, D: Disk, S: Source, K: Sink, T: Sink>(
     ensures output { result.0 ≡ 4 → Rose (K.state out.old).faults (K.state out.new).faults ⊎ Rose (T.state log_out.old).faults (T.state log_out.new).faults }
     // Too long an input is told exactly where more than 2 ^ 26 bytes were taken.
     ensures long { TakesUpTo (2 ^ 26) (S.left input.old) (S.left input.new) (result.0 ≡ 7) }
+    // With no fault and an input within its limit a session on a sound file is done, but for want of memory.
+    ensures complete { IsComplete (S.left input.old) (D.state index.old)
+        (Rose (S.faults input.old) (S.faults input.new) ⊎ (Rose (D.state index.old).faults (D.state index.new).faults
+        ⊎ (Rose (K.state out.old).faults (K.state out.new).faults ⊎ Rose (T.state log_out.old).faults (T.state log_out.new).faults))) result.0 }
     // A session that is done has taken all input.
     ensures end { result.0 ≡ 0 → IsAtEnd (S.left input.new) }
     ensures counts { (S.faults input.old ≤ S.faults input.new) × ((K.state out.old).faults ≤ (K.state out.new).faults) × ((T.state log_out.old).faults ≤ (T.state log_out.new).faults) }

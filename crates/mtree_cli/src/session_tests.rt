@@ -1,24 +1,31 @@
+use crate::log_tests::{HEAD, place, small_index};
 use crate::program::run;
 use crate::tests::{empty_disk, fails, words};
-use disk_model::Disk;
+use disk_model::{Disk, MemoryDisk};
 use outside_io::{MemorySink, MemorySource, Status};
+use std::alloc::{AllocError, Global};
 use std::process::Abort;
 use std::test::Fail;
 use std::thread::Threads;
 
-// Runs a command on an index, and gives what it put to the log's output.
-fn check_command<R: AllocGlobal + Abort + Threads + Sync, D: Disk>(
+// Which call of input and which of out fails.
+type Fails = (Option<u64>, Option<u64>);
+
+// Runs a command on an index and devices of which calls fail, and gives what it put to the log's output.
+fn check_failing<R: AllocGlobal + Abort + Threads + Sync, D: Disk>(
     rt: &R,
     index: &mut D,
     (command, input, logs): (&str, &str, &[u8]),
+    (input_fails, out_fails): Fails,
     (status, output): (u8, &str),
 ) -> Result<Vec<u8>, Fail> {
     let alloc = rt.alloc();
     let words = words(alloc, command)?;
     let mut other = empty_disk(alloc, 0)?;
-    let mut input = MemorySource::new(input.as_bytes().to_vec(alloc)?, 100, fails(alloc, None)?);
+    let input = input.as_bytes().to_vec(alloc)?;
+    let mut input = MemorySource::new(input, 100, fails(alloc, input_fails)?);
     let mut log_in = MemorySource::new(logs.to_vec(alloc)?, 100, fails(alloc, None)?);
-    let mut out = MemorySink::new(alloc, 1000, fails(alloc, None)?)?;
+    let mut out = MemorySink::new(alloc, 1000, fails(alloc, out_fails)?)?;
     let mut log_out = MemorySink::new(alloc, 10000, fails(alloc, None)?)?;
     let ended = run(
         rt,
@@ -34,6 +41,16 @@ fn check_command<R: AllocGlobal + Abort + Threads + Sync, D: Disk>(
     assert_eq!(rt; out.written(), output.as_bytes(), "{}", output);
     assert_eq!(rt; ended, Status(status), "{}", output);
     Ok(log_out.written().to_vec(alloc)?)
+}
+
+// Runs a command on an index, and gives what it put to the log's output.
+fn check_command<R: AllocGlobal + Abort + Threads + Sync, D: Disk>(
+    rt: &R,
+    index: &mut D,
+    asked: (&str, &str, &[u8]),
+    answered: (u8, &str),
+) -> Result<Vec<u8>, Fail> {
+    check_failing(rt, index, asked, (None, None), answered)
 }
 
 // A session on a new index: the words that make it, those of the session, its script and its replies.
@@ -139,5 +156,354 @@ fn a_log_of_a_session(rt: HostRuntime) -> Result<(), Fail> {
         ("shape a.mt", "", b""),
         (0, "height 0\nobjects 3\nnodes 1\n0 3 - -\n"),
     )?;
+    Ok(())
+}
+
+// The inserts of the numbers from 0 on, and their replies.
+fn inserts(alloc: Global, count: u32) -> Result<(String, String), Fail> {
+    let mut script = String::new(alloc);
+    let mut replies = String::new(alloc);
+    for i in 0..count {
+        script.push_str(format!(in alloc; "insert,{i}\n")?.as_str())?;
+        replies.push_str(format!(in alloc; "id {i}\n")?.as_str())?;
+    }
+    Ok((script, replies))
+}
+
+// The hits of the numbers from 0 on, from the point 0.
+fn hits(alloc: Global, count: u32) -> Result<String, Fail> {
+    let mut lines = format!(in alloc; "hits {count}\n")?;
+    for i in 0..count {
+        lines.push_str(format!(in alloc; "{i} {i}\n")?.as_str())?;
+    }
+    Ok(lines)
+}
+
+// Inserts the numbers from 0 on into a new index.
+fn insert_all<R: AllocGlobal + Abort + Threads + Sync, D: Disk>(
+    rt: &R,
+    index: &mut D,
+    count: u32,
+) -> Result<(), Fail> {
+    let create = "create a.mt --metric l1 --dim 1";
+    check_command(rt, index, (create, "", b""), (0, "created\n"))?;
+    let (script, replies) = inserts(rt.alloc(), count)?;
+    let asked = ("session a.mt", script.as_str(), b"".as_slice());
+    check_command(rt, index, asked, (0, replies.as_str()))?;
+    Ok(())
+}
+
+// All objects of the index of 33 numbers by their distance.
+fn check_nearest<R: AllocGlobal + Abort + Threads + Sync, D: Disk>(
+    rt: &R,
+    index: &mut D,
+) -> Result<(), Fail> {
+    let alloc = rt.alloc();
+    let all = hits(alloc, 33)?;
+    let replies = format!(in alloc; "{all}refused count\n")?;
+    let asked = (
+        "session a.mt",
+        "nearest,50,0\nnearest,0,0\n",
+        b"".as_slice(),
+    );
+    check_command(rt, index, asked, (0, replies.as_str()))?;
+    Ok(())
+}
+
+// The first three of them, and the log that shows them.
+fn check_range<R: AllocGlobal + Abort + Threads + Sync, D: Disk>(
+    rt: &R,
+    index: &mut D,
+) -> Result<Vec<u8>, Fail> {
+    let alloc = rt.alloc();
+    let three = hits(alloc, 3)?;
+    let checked = format!(in alloc;
+        "file sound\nframe 0 complete\nrange,2,0\n{three}log complete\n"
+    )?;
+    let asked = ("session a.mt --log a.log", "range,2,0\n", b"".as_slice());
+    let logs = check_command(rt, index, asked, (0, three.as_str()))?;
+    let asked = ("check a.mt --log a.log", "", logs.as_slice());
+    check_command(rt, index, asked, (0, checked.as_str()))?;
+    Ok(logs)
+}
+
+// The 33rd insert splits the leaf. Its tree is searched, and a log is refused after a later insert, which uses free pages again.
+#[test]
+fn a_leaf_is_split(rt: HostRuntime) -> Result<(), Fail> {
+    let mut index = empty_disk(rt.alloc(), 65536)?;
+    insert_all(&rt, &mut index, 33)?;
+    let shape = "height 1\nobjects 33\nnodes 3\n1 2 - -\n0 16 7 8\n0 17 24 8\n";
+    check_command(&rt, &mut index, ("shape a.mt", "", b""), (0, shape))?;
+    let sound = "sound\nobjects 33\nnodes 3\n";
+    check_command(&rt, &mut index, ("audit a.mt", "", b""), (0, sound))?;
+    check_nearest(&rt, &mut index)?;
+    let logs = check_range(&rt, &mut index)?;
+    let more = ("session a.mt", "insert,33\n", b"".as_slice());
+    check_command(&rt, &mut index, more, (0, "id 33\n"))?;
+    let verify = ("verify a.mt --log a.log", "", logs.as_slice());
+    let refused = "frame 0 rejected otherstate 34 6 35 7\nlog rejected\n";
+    check_command(&rt, &mut index, verify, (1, refused))?;
+    Ok(())
+}
+
+// All objects are loaded at once, or are all the same.
+#[test]
+fn a_load_and_equal_points(rt: HostRuntime) -> Result<(), Fail> {
+    let alloc = rt.alloc();
+    let create = "create a.mt --metric l1 --dim 1";
+    let mut rows = String::from_str(alloc, "load,33\n")?;
+    for i in 0..33u32 {
+        rows.push_str(format!(in alloc; "{i}\n")?.as_str())?;
+    }
+    let mut same = String::new(alloc);
+    let mut ids = String::new(alloc);
+    let mut found = String::from_str(alloc, "hits 40\n")?;
+    for i in 0..40u32 {
+        same.push_str("insert,5\n")?;
+        ids.push_str(format!(in alloc; "id {i}\n")?.as_str())?;
+        found.push_str(format!(in alloc; "{i} 0\n")?.as_str())?;
+    }
+    same.push_str("nearest,40,5\n")?;
+    ids.push_str(found.as_str())?;
+    let cases = [
+        (
+            rows.as_str(),
+            "loaded 33\n",
+            "height 1\nobjects 33\nnodes 5\n1 4 - -\n0 6 0 5\n0 7 8 4\n0 8 16 4\n0 12 24 8\n",
+        ),
+        (
+            same.as_str(),
+            ids.as_str(),
+            "height 1\nobjects 40\nnodes 4\n1 3 - -\n0 28 5 0\n0 6 5 0\n0 6 5 0\n",
+        ),
+    ];
+    for (script, replies, shape) in cases {
+        let mut index = empty_disk(alloc, 65536)?;
+        check_command(&rt, &mut index, (create, "", b""), (0, "created\n"))?;
+        check_command(&rt, &mut index, ("session a.mt", script, b""), (0, replies))?;
+        check_command(&rt, &mut index, ("shape a.mt", "", b""), (0, shape))?;
+    }
+    Ok(())
+}
+
+// A disk that holds these bytes, and from one call on fails.
+fn disk_of(alloc: Global, bytes: Vec<u8>, stop: Option<u64>) -> Result<MemoryDisk, AllocError> {
+    let room = (bytes.len() as u64).max(65536);
+    MemoryDisk::new(alloc, bytes, room, 1_000_000, Vec::new(alloc), stop)
+}
+
+// A file of which a byte is changed: its place, the byte; the script of the session on it, its status and what is written.
+type Hostile = (usize, u8, &'static str, u8, &'static str);
+
+const HOSTILE: [Hostile; 11] = [
+    (16384, 15, "range,7,0,0\n", 9, "fault damaged bad 4 kind\n"),
+    (16387, 33, "range,7,0,0\n", 9, "fault damaged bad 4 count\n"),
+    (
+        16412,
+        1,
+        "range,7,0,0\n",
+        9,
+        "fault damaged bad 4 distance\n",
+    ),
+    (20479, 1, "range,7,0,0\n", 9, "fault damaged bad 4 tail\n"),
+    (16419, 1, "range,7,0,0\n", 0, "hits 1\n0 7\n"),
+    (16403, 5, "range,7,0,0\n", 0, "hits 1\n5 7\n"),
+    (8215, 1, "range,7,0,0\n", 0, "hits 1\n0 7\n"),
+    (
+        8215,
+        1,
+        "count\ninsert,0,0\n",
+        9,
+        "count 1\nfault damaged level 4\n",
+    ),
+    (8211, 5, "range,7,0,0\n", 6, "fault notindex slot\n"),
+    (8192, 0, "range,7,0,0\n", 0, "hits 0\n"),
+    (9, 3, "range,7,0,0\n", 6, "fault notindex version\n"),
+];
+
+// A session on files that are not sound.
+#[test]
+fn hostile_files(rt: HostRuntime) -> Result<(), Fail> {
+    let alloc = rt.alloc();
+    for (at, byte, script, status, output) in HOSTILE {
+        let mut file = small_index(alloc)?;
+        place(&mut file, at, &[byte]);
+        let mut index = disk_of(alloc, file, None)?;
+        check_command(
+            &rt,
+            &mut index,
+            ("session a.mt", script, b""),
+            (status, output),
+        )?;
+    }
+    let mut cut = small_index(alloc)?;
+    cut.truncate(16384);
+    let mut index = disk_of(alloc, cut, None)?;
+    let slot = (6, "fault notindex slot\n");
+    check_command(
+        &rt,
+        &mut index,
+        ("session a.mt", "range,7,0,0\n", b""),
+        slot,
+    )?;
+    Ok(())
+}
+
+// An index of numbers whose root on page 3 has six entries, each at 0 and with the same child, and page 4 a leaf of six zeros.
+fn repeating(alloc: Global, child: u8) -> Result<Vec<u8>, AllocError> {
+    let mut file = vec![in alloc; 0u8; 20480]?;
+    place(&mut file, 0, &HEAD);
+    place(&mut file, 11, &[1]);
+    place(&mut file, 8192, &[0xa5]);
+    place(
+        &mut file,
+        8207,
+        &[2, 0, 0, 0, 3, 0, 0, 0, 1, 0, 0, 0, 36, 0, 0, 0, 5],
+    );
+    place(&mut file, 12288, &[1, 0, 0, 6]);
+    place(&mut file, 16384, &[0, 0, 0, 6]);
+    for i in 0..6u8 {
+        let entry = 24 * usize::from(i);
+        place(&mut file, 12288 + 19 + entry, &[child]);
+        place(&mut file, 16384 + 19 + entry, &[i]);
+    }
+    Ok(file)
+}
+
+// A page that is reached more than once.
+#[test]
+fn pages_that_repeat(rt: HostRuntime) -> Result<(), Fail> {
+    let alloc = rt.alloc();
+    let cases: [(u8, &str, &str); 3] = [
+        (4, "range,0,0\n", "fault damaged repeats 4\n"),
+        (
+            4,
+            "count\ninsert,0\n",
+            "count 36\nfault damaged repeats 4\n",
+        ),
+        (3, "range,0,0\n", "fault damaged repeats 3\n"),
+    ];
+    for (child, script, output) in cases {
+        let mut index = disk_of(alloc, repeating(alloc, child)?, None)?;
+        check_command(&rt, &mut index, ("session a.mt", script, b""), (9, output))?;
+    }
+    Ok(())
+}
+
+// Input and out that fail: no object is there, or the object whose reply could not be put.
+#[test]
+fn devices_of_a_session_fail(rt: HostRuntime) -> Result<(), Fail> {
+    let alloc = rt.alloc();
+    let create = "create a.mt --metric l1 --dim 1";
+    let cases: [(Fails, u8, &str, &str); 2] = [
+        ((Some(0), None), 3, "fault input\n", "count 0\n"),
+        ((None, Some(0)), 4, "", "count 1\n"),
+    ];
+    for (calls, status, output, count) in cases {
+        let mut index = empty_disk(alloc, 65536)?;
+        check_command(&rt, &mut index, (create, "", b""), (0, "created\n"))?;
+        check_failing(
+            &rt,
+            &mut index,
+            ("session a.mt", "insert,7\n", b""),
+            calls,
+            (status, output),
+        )?;
+        check_command(
+            &rt,
+            &mut index,
+            ("session a.mt", "count\n", b""),
+            (0, count),
+        )?;
+    }
+    Ok(())
+}
+
+// The file of the numbers from 0 on, so many of them.
+fn numbers(rt: &(impl AllocGlobal + Abort + Threads + Sync), count: u32) -> Result<Vec<u8>, Fail> {
+    let alloc = rt.alloc();
+    let mut index = empty_disk(alloc, 65536)?;
+    insert_all(rt, &mut index, count)?;
+    Ok(index.bytes().to_vec(alloc)?)
+}
+
+// Runs a session, and gives its status and what it wrote.
+fn run_session<R: AllocGlobal + Abort + Threads + Sync, D: Disk>(
+    rt: &R,
+    index: &mut D,
+    script: &str,
+) -> Result<(Status, Vec<u8>), Fail> {
+    let alloc = rt.alloc();
+    let words = words(alloc, "session a.mt")?;
+    let mut other = empty_disk(alloc, 0)?;
+    let input = script.as_bytes().to_vec(alloc)?;
+    let mut input = MemorySource::new(input, 100, Vec::new(alloc));
+    let mut log_in = MemorySource::new(Vec::new(alloc), 100, Vec::new(alloc));
+    let mut out = MemorySink::new(alloc, 1000, Vec::new(alloc))?;
+    let mut log_out = MemorySink::new(alloc, 0, Vec::new(alloc))?;
+    let ended = run(
+        rt,
+        alloc,
+        &words,
+        index,
+        &mut other,
+        &mut input,
+        &mut log_in,
+        &mut out,
+        &mut log_out,
+    );
+    Ok((ended, out.written().to_vec(alloc)?))
+}
+
+// Two more inserts, the second of which splits the leaf, on a disk that stops: how many are acknowledged.
+fn insert_two<R: AllocGlobal + Abort + Threads + Sync, D: Disk>(
+    rt: &R,
+    index: &mut D,
+) -> Result<u32, Fail> {
+    let (ended, written) = run_session(rt, index, "insert,31\ninsert,32\n")?;
+    if ended == Status(0) {
+        assert_eq!(rt; written.as_slice(), b"id 31\nid 32\n".as_slice());
+        return Ok(2);
+    }
+    assert_eq!(rt; ended, Status(5));
+    if written.as_slice() == b"fault disk\n".as_slice() {
+        return Ok(0);
+    }
+    assert_eq!(rt; written.as_slice(), b"id 31\nfault disk\n".as_slice());
+    Ok(1)
+}
+
+// A file is sound and has so many objects, or one more.
+fn check_left<R: AllocGlobal + Abort + Threads + Sync, D: Disk>(
+    rt: &R,
+    index: &mut D,
+    count: u32,
+) -> Result<(), Fail> {
+    let alloc = rt.alloc();
+    let (ended, written) = run_session(rt, index, "count\n")?;
+    let more = count.saturating_add(1);
+    let here = format!(in alloc; "count {count}\n")?;
+    let next = format!(in alloc; "count {more}\n")?;
+    assert_eq!(rt; ended, Status(0));
+    assert!(rt; written.as_slice() == here.as_bytes() || written.as_slice() == next.as_bytes());
+    Ok(())
+}
+
+// A disk that stops at any of its calls leaves the objects that were acknowledged, or one more.
+#[test]
+fn a_session_is_stopped(rt: HostRuntime) -> Result<(), Fail> {
+    let alloc = rt.alloc();
+    let file = numbers(&rt, 31)?;
+    let mut acknowledged = 0;
+    for stop in 0..40 {
+        let mut index = disk_of(alloc, file.clone()?, Some(stop))?;
+        acknowledged = insert_two(&rt, &mut index)?;
+        let count = acknowledged.saturating_add(31);
+        for pick in [0, 1, 165, 255] {
+            let image = index.image(alloc, index.moments(), pick)?;
+            check_left(&rt, &mut disk_of(alloc, image, None)?, count)?;
+        }
+    }
+    assert_eq!(&rt; acknowledged, 2);
     Ok(())
 }

@@ -1,8 +1,9 @@
-use Rattle.std.proofs.Common.{◌≡◌, refl, sym, ap, ◌∙◌, subst, List, ℕ, arith}
+use Rattle.std.proofs.Common.{inl, inr, ap, ◌∙◌, arith}
 use Rattle.metric_mix.specs.MixKinds.{mix_dim, mix_kind}
 use Rattle.metric_mix.specs.declared.mix_space.MixSpace.{MixSpace}
+use Rattle.node_page.specs.declared.head.Head.{Head}
 use Rattle.index_core.specs.Index.{OpenIndex}
-use Rattle.mtree_cli.proofs.Sessions.{memory_runs, refused_of, refused_runs, since_opening, unopened_ends, unopened_runs}
+use Rattle.mtree_cli.proofs.Sessions.{head_is, memory_runs, reads_since, refused_of, refused_runs, since_opening, unopened_ends, unopened_runs}
 use Rattle.mtree_cli.proofs.session_job.run_on_index.Goals as goal
 
 pub returns-in-Err-clause-runs : goal.returns-in-Err-clause-runs
@@ -41,8 +42,35 @@ returns-clause-runs g c =
     (λ tells. rw (head_is, live_is) (c.in-Ok-open_write.ensures.stands.stands.opens tells)) c.in-Ok.ensures.opens (ap mix_kind metric_is ∙ c.space_of.ensures.kind) (ap mix_dim metric_is ∙ c.space_of.ensures.dim)
     (rw c.in-Ok.ensures.silent at c.run_opened.ensures.runs)
 
+pub returns-clause-reads : goal.returns-clause-reads
+returns-clause-reads g c =
+    let head_is = ap (λ (i : OpenIndex MixSpace). i.file.head) c.in-Ok-use_cache.ensures.ok ∙ ap (λ (i : OpenIndex MixSpace). i.file.head) c.set_workers.ensures in
+    let live_is = ap (λ (i : OpenIndex MixSpace). i.file.live) c.in-Ok-use_cache.ensures.ok ∙ ap (λ (i : OpenIndex MixSpace). i.file.live) c.set_workers.ensures in
+    let metric_is = ap (λ (i : OpenIndex MixSpace). i.file.metric) c.in-Ok-use_cache.ensures.ok ∙ ap (λ (i : OpenIndex MixSpace). i.file.metric) c.set_workers.ensures
+    ∙ ap (λ (i : OpenIndex MixSpace). i.file.metric) c.in-Ok-open_write.ensures.opened in
+    reads_since mix_kind mix_dim c.one_live_slot.ensures c.args.show_tags c.args.bytes.now c.use_cache.new.self c.in-Ok.opened (g.D.Disk.state c.args.index.now) (g.D.Disk.state c.open_index.new.disk)
+    (g.D.Disk.state c.open_write.new.disk) (g.D.Disk.state c.run_opened.new.index) (g.K.Sink.state c.args.out.now) (g.K.Sink.state c.run_opened.new.out) (g.T.Sink.state c.args.log_out.now)
+    (g.T.Sink.state c.run_opened.new.log_out) c.run_opened.result.0 c.in-Ok.ensures.same c.open_write.ensures.time c.open_write.ensures.bytes c.open_write.ensures.tells
+    (λ tells. rw (head_is, live_is) (c.in-Ok-open_write.ensures.stands.stands.opens tells)) c.in-Ok.ensures.opens (ap mix_kind metric_is ∙ c.space_of.ensures.kind) (ap mix_dim metric_is ∙ c.space_of.ensures.dim)
+    c.open_index.ensures.reads c.open_write.ensures.reads c.run_opened.ensures.reads
+
 pub returns-clause-ends : goal.returns-clause-ends
 returns-clause-ends g c =
-    refused_of (g.D.Disk.state c.args.index.now) (g.D.Disk.state c.open_write.new.disk) (g.D.Disk.state c.run_opened.new.index) (g.K.Sink.state c.args.out.now) (g.K.Sink.state c.run_opened.new.out)
-    (g.T.Sink.state c.args.log_out.now) (g.T.Sink.state c.run_opened.new.log_out) c.run_opened.result.0 (omega (arith, c.in-Ok.ensures.later, c.open_write.ensures.later))
+    let head_here = ap (λ (i : OpenIndex MixSpace). i.file.head) c.in-Ok-use_cache.ensures.ok ∙ ap (λ (i : OpenIndex MixSpace). i.file.head) c.set_workers.ensures in
+    let live_here = ap (λ (i : OpenIndex MixSpace). i.file.live) c.in-Ok-use_cache.ensures.ok ∙ ap (λ (i : OpenIndex MixSpace). i.file.live) c.set_workers.ensures in
+    refused_of c.use_cache.new.self.file.head.dim (g.D.Disk.state c.args.index.now) (g.D.Disk.state c.open_write.new.disk) (g.D.Disk.state c.run_opened.new.index) (g.K.Sink.state c.args.out.now)
+    (g.K.Sink.state c.run_opened.new.out) (g.T.Sink.state c.args.log_out.now) (g.T.Sink.state c.run_opened.new.log_out) c.run_opened.result.0 (omega (arith, c.in-Ok.ensures.later, c.open_write.ensures.later))
+    (c.open_write.ensures.tells ∙ c.in-Ok.ensures.same.same_tells)
+    (λ tells head live is. ap (λ (h : Head). h.dim)
+    (head_is c.one_live_slot.ensures c.use_cache.new.self c.in-Ok.opened (g.D.Disk.state c.args.index.now) (g.D.Disk.state c.open_index.new.disk) (g.D.Disk.state c.open_write.new.disk) c.in-Ok.ensures.same
+    c.open_write.ensures.bytes c.open_write.ensures.tells (λ told. rw (head_here, live_here) (c.in-Ok-open_write.ensures.stands.stands.opens told)) c.in-Ok.ensures.opens tells head live is))
     (rw c.in-Ok.ensures.silent at c.run_opened.ensures.finished)
+
+pub returns-in-Err-clause-reads : goal.returns-in-Err-clause-reads
+returns-in-Err-clause-reads g c = λ zero. elim c.in-Err.ensures.refuses.statuses [ inl five ↦ absurd (omega (arith, zero, five)) | inr six ↦ absurd (omega (arith, zero, six)) ]
+
+pub returns-in-Err-open_write-clause-reads : goal.returns-in-Err-open_write-clause-reads
+returns-in-Err-open_write-clause-reads g c = λ zero. elim c.end_unopened.ensures.statuses [ inl five ↦ absurd (omega (arith, zero, five)) | inr six ↦ absurd (omega (arith, zero, six)) ]
+
+pub returns-in_default-clause-reads : goal.returns-in_default-clause-reads
+returns-in_default-clause-reads g c = λ zero. absurd (omega (arith, zero, c.end_with.ensures.status))

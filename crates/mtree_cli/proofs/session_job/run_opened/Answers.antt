@@ -1,12 +1,10 @@
-use Rattle.std.proofs.Common.{◌≡◌, refl, sym, ap, ◌∙◌, subst, List, ℕ, arith}
-use Rattle.std.specs.Prelude.{MatchOption}
+use Rattle.std.proofs.Common.{ap, ◌∙◌, ℕ, arith}
 use Rattle.metric_mix.specs.MixKinds.{mix_dim, mix_kind}
 use Rattle.metric_mix.specs.MixSpaces.{mix_space}
 use Rattle.rows_text.specs.Script.{script}
 use Rattle.index_core.specs.Answers.{IsSoundOn}
-use Rattle.session_run.specs.Session.{HasStopCause}
 use Rattle.mtree_cli.specs.Session.{LeavesAll, state_in}
-use Rattle.mtree_cli.proofs.Sessions.{finished, held, is_done, is_stopped, memory_ends, nothing_left, unread}
+use Rattle.mtree_cli.proofs.Sessions.{few_read, finished, held, is_done, is_stopped, memory_ends, not_done, nothing_left, unread}
 use Rattle.mtree_cli.proofs.session_job.run_opened.Goals as goal
 
 pub returns-in-None-clause-runs : goal.returns-in-None-clause-runs
@@ -37,6 +35,22 @@ returns-in_default-clause-runs g c = λ tells kind dim sound.
 
 pub returns-clause-finished : goal.returns-clause-finished
 returns-clause-finished g c =
-    finished (IsSoundOn (mix_space (mix_kind c.args.opened.now.file.metric) (mix_dim c.args.opened.now.file.metric)) c.args.opened.now.file (g.D.Disk.state c.args.index.now)) (g.D.Disk.state c.args.index.now)
+    finished (IsSoundOn (mix_space (mix_kind c.args.opened.now.file.metric) (mix_dim c.args.opened.now.file.metric)) c.args.opened.now.file (g.D.Disk.state c.args.index.now)) c.args.opened.now.file.head.dim
+    (g.D.Disk.state c.args.index.now)
     (g.D.Disk.state c.session-ended.new.disk) (g.K.Sink.state c.args.out.now) (g.K.Sink.state c.session-ended.new.out) (g.K.Sink.state c.end_stopped.new.out) (g.T.Sink.state c.args.log_out.now)
     (g.T.Sink.state c.session-ended.new.log_out) c.in-Some.why c.end_stopped.result.0 c.end_stopped.ensures.later c.end_stopped.ensures.ended (rw c.in-Some.is at c.session-ended.ensures.cause)
+    (rw c.in-Some.is at c.session-ended.ensures.damage) c.session-ended.ensures.tells c.session-ended.ensures.grew
+
+pub returns-in-None-clause-reads : goal.returns-in-None-clause-reads
+returns-in-None-clause-reads g c = λ zero tells kind dim sound asks.
+    few_read (mix_space (mix_kind c.args.opened.now.file.metric) (mix_dim c.args.opened.now.file.metric)) c.args.show_tags c.args.bytes.now c.args.opened.now c.session-ended.new.index
+    (g.D.Disk.state c.args.index.now) (g.D.Disk.state c.session-ended.new.disk) (g.K.Sink.state c.args.out.now) (g.K.Sink.state c.session-ended.new.out) (g.T.Sink.state c.args.log_out.now)
+    (g.T.Sink.state c.session-ended.new.log_out) c.deref.result.now c.session-ended.result.acknowledged c.session-ended.result.stopped (λ i. mix_space (kind i) (dim i))
+    (c.deref.ensures.value ∙ c.in-Ok.ensures.script ∙ ap (λ (w : ℕ). script w c.args.bytes.now) (c.words.ensures ∙ ap mix_dim c.metric.ensures ∙ dim)) c.session-ended.ensures.out_later
+    c.session-ended.ensures.tells c.session-ended.ensures.run c.in-None.is tells sound asks
+
+pub returns-clause-reads : goal.returns-clause-reads
+returns-clause-reads g c = λ zero. absurd (not_done c.in-Some.why (g.K.Sink.state c.session-ended.new.out) (g.K.Sink.state c.end_stopped.new.out) c.end_stopped.result.0 c.end_stopped.ensures.ended zero)
+
+pub returns-in_default-clause-reads : goal.returns-in_default-clause-reads
+returns-in_default-clause-reads g c = λ zero. absurd (omega (arith, zero, c.end_with.ensures.status))
