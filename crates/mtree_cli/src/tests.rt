@@ -318,9 +318,10 @@ fn named_files(rt: HostRuntime) -> Result<(), Fail> {
     let alloc = rt.alloc();
     let cases = [
         ("audit a.mt", 10),
-        ("gen a.mt --metric l1 --dim 2 --count 5 --seed 1", 2),
+        ("gen a.mt --metric kendall --dim 2 --count 5", 2),
         ("audit a.mt", 10),
-        ("create a.mt --metric l1 --dim 2", 0),
+        ("gen a.mt --metric l1 --dim 2 --count 5 --seed 1", 0),
+        ("gen a.mt --metric l1 --dim 2 --count 5 --seed 1", 6),
         ("create a.mt --metric l1 --dim 2", 6),
         ("audit a.mt", 0),
         ("check a.mt --log missing.log", 10),
