@@ -1,36 +1,18 @@
 -- What a run on named files does.
-use Rattle.std.specs.Prelude.{◌≡◌, ◌⊎◌, ℕ, Bool, true, false, List, Option, Some, None, codes, if◌then◌else◌}
+use Rattle.std.specs.Prelude.{◌≡◌, ◌⊎◌, ℕ, List, Option, Some, None, codes}
 use Rattle.outside_io.specs.Sinks.{SinkState, Tells}
 use Rattle.disk_model.specs.Disk.{DiskState}
 use Rattle.job_words.specs.declared.files.FileNames.{FileNames}
 use Rattle.job_words.specs.declared.job.Job.{Job}
-use Rattle.job_words.specs.declared.job.Job.TheVariants as job
 use Rattle.job_words.specs.Files.{files_of, no_files}
 use Rattle.named_files.specs.declared.opening.Opened.{Opened}
 use Rattle.named_files.specs.Named.{named_disk, named_left, named_sink}
 use Rattle.mtree_cli.specs.Run.{Scene, Does, IsStatusOf, task_of}
 
--- whether the program does the job so far
-abbrev pub is_done : {Name : Type 0} → Job Name → Bool
-is_done (job.Scan space limit show) = true
-is_done (job.Create index space policies limit) = true
-is_done (job.Shape index) = true
-is_done (job.Session index log workers show) = true
-is_done (job.Audit index workers) = true
-is_done (job.Verify index log other) = true
-is_done (job.Check index log other) = true
-is_done (job.Join index other radius log) = true
-is_done (job.Gen index space count seed policies workers) = true
-is_done (job.Batch index workers log show) = true
-is_done (job.Seal index) = true
-is_done (job.Carry index log proof) = true
-is_done (job.Prove log root) = true
-is_done other = false
-
--- the files that are opened: those of a job that the program does
+-- the files that are opened: those that the job names
 abbrev pub opened_names : Option (Job (List ℕ)) → FileNames (List ℕ)
 opened_names None = no_files
-opened_names (Some job) = if is_done job then files_of job else no_files
+opened_names (Some job) = files_of job
 
 -- what a run finds or leaves in these files and on out
 abbrev pub scene_of : {I L T : Type 0} → (I → DiskState) → (L → Option (List ℕ)) → (T → SinkState) → Opened I L T → SinkState → Scene

@@ -29,6 +29,7 @@ use Rattle.rows_text.specs.Meaning.{Setting}
 use Rattle.rows_text.specs.Script.{script}
 use Rattle.making_jobs.specs.declared.generating.Generation.{Generation}
 use Rattle.making_jobs.specs.Jobs.{Generates as GeneratesIndex, IsFillStatus}
+use Rattle.making_jobs.specs.Migrating.{Migrates as MigratesIndex, IsMigrateStatus, RefusesNothing}
 use Rattle.batch_jobs.specs.Batches.{IsBatchStatus, IsLarge, RunsBatch}
 use Rattle.seal_jobs.specs.Seals.{Seals as SealsIndex, IsLarge as IsTooLargeToSeal, IsSealStatus}
 use Rattle.seal_jobs.specs.Carries.{CarriesLogs, IsCarriedLogsStatus}
@@ -102,13 +103,14 @@ new_head space policies limit = record {
 abbrev pub most_objects : ℕ
 most_objects = 16777216
 
--- what the program does so far; other jobs are answered as words without a job
+-- what a run is to do; nothing where the words have no job
 pub data Task : Type 0 where
   Scans : Asked → Task
   Makes : Head → Task
   Draws : Task
   Sessions : Bool → Task
   Generates : Generation → Task
+  Migrates : Task
   Batches : Bool → Task
   Judges : Task
   Seals : Task
@@ -125,6 +127,7 @@ task_of (Some (job.Create index space policies limit)) = Makes (new_head space p
 task_of (Some (job.Shape index)) = Draws
 task_of (Some (job.Session index log workers show)) = Sessions show
 task_of (Some (job.Gen index space count seed policies workers)) = Generates (record { head = new_head space policies most_objects; count = count; seed = seed; workers = workers })
+task_of (Some (job.Migrate index other)) = Migrates
 task_of (Some (job.Batch index workers log show)) = Batches show
 task_of (Some (job.Audit index workers)) = Judges
 task_of (Some (job.Seal index)) = Seals
@@ -135,7 +138,7 @@ task_of (Some (job.Check index log None)) = Reports report.Answers
 task_of (Some (job.Join index other radius log)) = JoinsWithin radius
 task_of (Some (job.Verify index log (Some other))) = ReportsJoins join_report.Verdicts
 task_of (Some (job.Check index log (Some other))) = ReportsJoins join_report.Answers
-task_of other = Nothing
+task_of None = Nothing
 
 -- what a run finds or leaves: the index and the other index, what is left of the logs, and what was put to out and to the log's
 -- output
@@ -152,6 +155,7 @@ Does (Scans asked) a b input status = IfSome input (λ bytes. WritesScan a.out b
 Does (Makes head) a b input status = Creates head a.index b.index a.out b.out status
 Does (Sessions show) a b input status = RunsSession show input a.index b.index a.out b.out a.log_out b.log_out status
 Does (Generates asked) a b input status = GeneratesIndex asked a.index b.index a.out b.out status
+Does Migrates a b input status = MigratesIndex a.index b.index a.other b.other a.out b.out status × RefusesNothing a.index a.other status
 Does (Batches show) a b input status = RunsBatch show input a.index b.index a.out b.out a.log_out b.log_out status
 Does Draws a b input status = Shapes a.index b.index a.out b.out status
 Does Judges a b input status = Audits a.index b.index a.out b.out status
@@ -169,6 +173,7 @@ TakesNoIndex (Scans asked) = Unit {0}
 TakesNoIndex (Makes head) = ⊥
 TakesNoIndex (Sessions show) = ⊥
 TakesNoIndex (Generates asked) = ⊥
+TakesNoIndex Migrates = ⊥
 TakesNoIndex (Batches show) = ⊥
 TakesNoIndex Draws = ⊥
 TakesNoIndex Judges = ⊥
@@ -186,6 +191,7 @@ TakesNoLog (Scans asked) = Unit {0}
 TakesNoLog (Makes head) = Unit {0}
 TakesNoLog (Sessions show) = Unit {0}
 TakesNoLog (Generates asked) = Unit {0}
+TakesNoLog Migrates = Unit {0}
 TakesNoLog (Batches show) = Unit {0}
 TakesNoLog Draws = Unit {0}
 TakesNoLog Judges = Unit {0}
@@ -203,6 +209,7 @@ TakesNoOther (Scans asked) = Unit {0}
 TakesNoOther (Makes head) = Unit {0}
 TakesNoOther (Sessions show) = Unit {0}
 TakesNoOther (Generates asked) = Unit {0}
+TakesNoOther Migrates = ⊥
 TakesNoOther (Batches show) = Unit {0}
 TakesNoOther Draws = Unit {0}
 TakesNoOther Judges = Unit {0}
@@ -220,6 +227,7 @@ PutsNoLog (Scans asked) = Unit {0}
 PutsNoLog (Makes head) = Unit {0}
 PutsNoLog (Sessions show) = ⊥
 PutsNoLog (Generates asked) = Unit {0}
+PutsNoLog Migrates = Unit {0}
 PutsNoLog (Batches show) = ⊥
 PutsNoLog Draws = Unit {0}
 PutsNoLog Judges = Unit {0}
@@ -242,6 +250,7 @@ TakesNoInput other = Unit {0}
 abbrev pub LeavesAtMemory : Task → Type 0
 LeavesAtMemory (Sessions show) = ⊥
 LeavesAtMemory (Generates asked) = ⊥
+LeavesAtMemory Migrates = ⊥
 LeavesAtMemory other = Unit {0}
 
 -- the task puts its log last, if it puts one
@@ -280,6 +289,7 @@ IsStatusOf (Scans asked) n = IsScanStatus n
 IsStatusOf (Makes head) n = (n ≡ 0) ⊎ ((n ≡ 4) ⊎ ((n ≡ 5) ⊎ ((n ≡ 6) ⊎ (n ≡ 8))))
 IsStatusOf (Sessions show) n = IsSessionStatus n
 IsStatusOf (Generates asked) n = IsFillStatus n
+IsStatusOf Migrates n = IsMigrateStatus n
 IsStatusOf (Batches show) n = IsBatchStatus n
 IsStatusOf Draws n = IsShapeStatus n
 IsStatusOf Judges n = IsAuditStatus n

@@ -4,50 +4,29 @@ ghost use Rattle.job_words.specs.Files.{file_texts};
 ghost use Rattle.job_words.specs.Words.{texts_of};
 ghost use Rattle.job_words.specs.Jobs.{job_of};
 ghost use Rattle.named_files.specs.Folders.{AreApart, AreFilesOf, AreRefused};
-ghost use Rattle.mtree_cli.specs.Files.{AnswersOnFiles, is_done, opened_names};
+ghost use Rattle.mtree_cli.specs.Files.{AnswersOnFiles, opened_names};
 
 use crate::program::run;
 use file_jobs::{FAULT_MEMORY, end_with};
-use job_words::{FileNames, Job, JobFault, files_of, no_files, read_job};
+use job_words::{FileNames, JobFault, files_of, no_files, read_job};
 use named_files::{Folder, open_files};
 use outside_io::{Sink, Source, Status};
 use std::alloc::Global;
 use std::thread::Threads;
 
-// Whether the program does this job so far. For a job that it doesn't do no file is opened or made.
-fn is_done<Name>(job: &Job<Name>) -> bool
-    ensures { result ≡ is_done job.now }
-{
-    matches!(
-        job,
-        Job::Scan { .. }
-            | Job::Create { .. }
-            | Job::Session { .. }
-            | Job::Shape { .. }
-            | Job::Audit { .. }
-            | Job::Verify { .. }
-            | Job::Check { .. }
-            | Job::Join { .. }
-            | Job::Gen { .. }
-            | Job::Batch { .. }
-            | Job::Seal { .. }
-            | Job::Carry { .. }
-            | Job::Prove { .. }
-    )
-}
-
-// The files that are opened for words: those of a job that the program does.
+// The files that are opened for words.
 fn opened_names(alloc: Global, words: &[String]) -> Result<FileNames<&str>, JobFault>
     ensures { IfOk result (λ names. file_texts names ≡ opened_names (job_of (texts_of words.now))) }
 {
     match read_job(alloc, words) {
-        Ok(job) if is_done(&job) => Ok(files_of(job)),
-        Ok(_) | Err(JobFault::Usage) => Ok(no_files()),
-        Err(fault) => Err(fault),
+        Ok(job) => Ok(files_of(job)),
+        Err(JobFault::Usage) => Ok(no_files()),
+        Err(JobFault::Memory) => Err(JobFault::Memory),
     }
 }
 
-/// Runs the job of the words on the files that they name, of which `create` makes the index where it is not there. Status 10:
+/// Runs the job of the words on the files that they name, of which `create`, `gen` and `migrate` make the index where it is
+/// not there. Status 10:
 /// a file could not be opened, or one that would be written is one that would be read; then none was opened.
 pub fn run_on_files<R: Threads + Sync, F: Folder, S: Source, K: Sink>(
     rt: &R,

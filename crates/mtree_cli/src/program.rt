@@ -27,7 +27,7 @@ use join_jobs::{check_join_logs, join_indexes, verify_join_logs};
 use log_jobs::laws::faultless_is_complete;
 use log_jobs::{check_logs, verify_logs};
 use log_model::laws::least_logs_are_sound;
-use making_jobs::{Generation, generate_index};
+use making_jobs::{Generation, generate_index, migrate_index};
 use node_page::Head;
 use outside_io::{Sink, Source, Status};
 use seal_jobs::laws::accepted_show;
@@ -62,13 +62,13 @@ fn new_head(space: SpaceName, policies: PolicyNames, limit: u32) -> Head
 
 /// Does what the words after the program's name ask for, and answers the status.
 ///
-/// The program does thirteen jobs so far: `scan` runs the script of `input` on a plain list, `create` makes an empty index of
-/// `index`, `session` runs the script of `input` on it and puts the log of each query to `log_out`, `shape` writes the shape
-/// of its tree, `audit` tells whether it is sound, `verify` judges the logs of `log_in` by it, `check` does both, and `join`
-/// joins `index` with `other` and puts its log to `log_out`. With `--other`, `verify` and `check` take join logs and both
-/// indexes. `gen` makes an index of generated rows in `index`, and `batch` runs the queries of the script of `input` on it by several
-/// threads. `seal` writes the digest of the whole file of `index`; `proof` with an index puts to `log_out` each log of `log_in` with the
-/// pages that it names, and with a digest judges such carried logs of `log_in` by it alone. `migrate` is answered as no job.
+/// `scan` runs the script of `input` on a plain list. `create` makes an empty index of `index`, `gen` one of generated rows, and `migrate`
+/// one of the objects of `other`, a file of version 1. `session` runs the script of `input` on `index` and puts the log of each query to
+/// `log_out`, and `batch` runs its queries by several threads. `shape` writes the shape of the tree, and `audit` tells whether it is sound;
+/// `verify` judges the logs of `log_in` by it, and `check` does both. `join` joins `index` with `other` and puts its log to `log_out`; with
+/// `--other`, `verify` and `check` take join logs and both indexes. `seal` writes the digest of the whole file of `index`; `proof` with an
+/// index puts to `log_out` each log of `log_in` with the pages that it names, and with a digest judges such carried logs of `log_in` by it
+/// alone.
 pub fn run<R: Threads + Sync, D: Disk, E: Disk, S: Source, L: Source, K: Sink, T: Sink>(
     rt: &R,
     alloc: Global,
@@ -103,7 +103,7 @@ pub fn run<R: Threads + Sync, D: Disk, E: Disk, S: Source, L: Source, K: Sink, T
     // There are no other answers.
     ensures statuses { IsStatusOf (task_of (job_of (texts_of words.now))) result.0 }
 
-    // Want of memory leaves the index as it is, but for one that a session or a load has changed, no run changes the other index, and
+    // Want of memory leaves the index as it is, but for one that a session or a load has changed; no run changes the other index; and
     // words without a script, without an index, without logs, without another index or without a log to put take none.
     ensures memory { LeavesAtMemory (task_of (job_of (texts_of words.now))) → result.0 ≡ 8 → IsUnchanged (D.state index.old) (D.state index.new) }
     ensures other_same { IsUnchanged (E.state other.old) (E.state other.new) }
@@ -193,6 +193,7 @@ pub fn run<R: Threads + Sync, D: Disk, E: Disk, S: Source, L: Source, K: Sink, T
             };
             generate_index(rt, alloc, index, &asked, out)
         }
+        Ok(Job::Migrate { .. }) => migrate_index(rt, alloc, index, other, out),
         Ok(
             Job::Batch {
                 workers,
@@ -203,7 +204,7 @@ pub fn run<R: Threads + Sync, D: Disk, E: Disk, S: Source, L: Source, K: Sink, T
         Ok(Job::Seal { .. }) => seal_index(alloc, index, out),
         Ok(Job::Carry { .. }) => carry_logs(alloc, index, log_in, out, log_out),
         Ok(Job::Prove { root, .. }) => prove_logs(alloc, log_in, &root, out),
-        Ok(_) | Err(JobFault::Usage) => put_line(out, USAGE, 2),
+        Err(JobFault::Usage) => put_line(out, USAGE, 2),
         Err(JobFault::Memory) => end_with(out, FAULT_MEMORY, 8),
     }
 }

@@ -324,6 +324,8 @@ fn named_files(rt: HostRuntime) -> Result<(), Fail> {
         ("gen a.mt --metric l1 --dim 2 --count 5 --seed 1", 6),
         ("create a.mt --metric l1 --dim 2", 6),
         ("audit a.mt", 0),
+        ("migrate a.mt --other a.mt", 10),
+        ("migrate b.mt --other missing.mt", 10),
         ("check a.mt --log missing.log", 10),
         ("join a.mt --other a.mt --radius 0 --log a.mt", 10),
         ("join a.mt --other a.mt --radius 0 --log a.log", 0),

@@ -181,6 +181,21 @@ returns-in-Ok-Gen-clause-other_same g c = unchanged (g.E.Disk.state c.args.other
 pub returns-in-Ok-Gen-clause-either_disk : goal.returns-in-Ok-Gen-clause-either_disk
 returns-in-Ok-Gen-clause-either_disk g c = λ is. inl ((c.generate_index.ensures.generates.unfilled.disk is).0)
 
+pub returns-in-Ok-Migrate-clause-does : goal.returns-in-Ok-Migrate-clause-does
+returns-in-Ok-Migrate-clause-does g c =
+    let P : Task → Type 0 = λ t. Does t (scene (g.D.Disk.state c.args.index.now) (g.E.Disk.state c.args.other.now) (g.L.Source.left c.args.log_in.now) (g.T.Sink.state c.args.log_out.now) (g.K.Sink.state c.args.out.now))
+    (scene (g.D.Disk.state c.migrate_index.new.index) (g.E.Disk.state c.migrate_index.new.other) (g.L.Source.left c.args.log_in.now) (g.T.Sink.state c.args.log_out.now) (g.K.Sink.state c.migrate_index.new.out)) (g.S.Source.left c.args.input.now) c.migrate_index.result.0 in
+    subst P (sym (task_is (texts_of c.args.words.now) c.in-Ok-Migrate.field-0 (job.Migrate c.in-Ok-Migrate.field-0-0 c.in-Ok-Migrate.field-0-1) c.in-Ok-Migrate.ensures.job c.in-Ok-Migrate.field-0-is)) (c.migrate_index.ensures.migrates, c.migrate_index.ensures.complete)
+
+pub returns-in-Ok-Migrate-clause-memory : goal.returns-in-Ok-Migrate-clause-memory
+returns-in-Ok-Migrate-clause-memory g c = λ no is. absurd (subst LeavesAtMemory (task_is (texts_of c.args.words.now) c.in-Ok-Migrate.field-0 (job.Migrate c.in-Ok-Migrate.field-0-0 c.in-Ok-Migrate.field-0-1) c.in-Ok-Migrate.ensures.job c.in-Ok-Migrate.field-0-is) no)
+
+pub returns-in-Ok-Migrate-clause-long : goal.returns-in-Ok-Migrate-clause-long
+returns-in-Ok-Migrate-clause-long g c = nothing_taken _ (g.S.Source.left c.args.input.now) (g.L.Source.left c.args.log_in.now) c.migrate_index.result.0 (grind (arith))
+
+pub returns-in-Ok-Migrate-clause-other_same : goal.returns-in-Ok-Migrate-clause-other_same
+returns-in-Ok-Migrate-clause-other_same g c = c.migrate_index.ensures.migrates.old_same
+
 pub returns-in-Ok-Batch-clause-does : goal.returns-in-Ok-Batch-clause-does
 returns-in-Ok-Batch-clause-does g c =
     let P : Task → Type 0 = λ t. Does t (scene (g.D.Disk.state c.args.index.now) (g.E.Disk.state c.args.other.now) (g.L.Source.left c.args.log_in.now) (g.T.Sink.state c.args.log_out.now) (g.K.Sink.state c.args.out.now))
