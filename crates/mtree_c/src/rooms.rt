@@ -1,5 +1,5 @@
 // What is put into the caller's buffers.
-ghost use Rattle.std.specs.Prelude.{◌≡◌, ◌≢◌, ◌≤◌, ◌<◌, length, MatchOption};
+ghost use Rattle.std.specs.Prelude.{◌≡◌, ◌≢◌, ◌≤◌, ◌<◌, length};
 ghost use Rattle.scan_model.specs.declared.hit.Hit.{Hit};
 ghost use Rattle.mtree_c.specs.Rooms.{StandAtFront};
 ghost use Rattle.mtree_c.specs.Answers.{tagged};
