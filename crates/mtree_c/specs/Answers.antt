@@ -15,9 +15,9 @@ use Rattle.rows_text.specs.declared.command.Command.TheVariants as command
 use Rattle.rows_text.specs.declared.reply.Reply.TheVariants as reply
 use Rattle.rows_text.specs.Meaning.{has_points_of}
 use Rattle.file_jobs.specs.Jobs.{IsNoIndex}
-use Rattle.batch_run.specs.declared.outcome.Outcome.{Outcome}
-use Rattle.batch_run.specs.declared.outcome.Outcome.TheVariants as outcome
-use Rattle.batch_run.specs.Outcomes.{IsOutcomeOf}
+use Rattle.image_answers.specs.declared.outcome.Outcome.{Outcome}
+use Rattle.image_answers.specs.declared.outcome.Outcome.TheVariants as outcome
+use Rattle.image_answers.specs.Outcomes.{IsOutcomeOf}
 use Rattle.mtree_c.specs.declared.answering.TaggedHit.{TaggedHit}
 use Rattle.mtree_c.specs.declared.answering.Sizes.{Sizes}
 use Rattle.mtree_c.specs.Rooms.{StandAtFront}

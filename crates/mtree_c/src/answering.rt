@@ -7,14 +7,14 @@ ghost use Rattle.rows_text.specs.declared.command.Command.{Command};
 ghost use Rattle.rows_text.specs.declared.command.Command.TheVariants as command;
 ghost use Rattle.rows_text.specs.declared.reply.Reply.TheVariants as reply;
 ghost use Rattle.file_jobs.specs.Jobs.{IsNoIndex};
-ghost use Rattle.batch_run.specs.declared.outcome.Outcome.TheVariants as outcome;
-ghost use Rattle.batch_run.specs.Outcomes.{IsLawful};
+ghost use Rattle.image_answers.specs.declared.outcome.Outcome.TheVariants as outcome;
+ghost use Rattle.image_answers.specs.Outcomes.{IsLawful};
 ghost use Rattle.mtree_c.specs.Answers.{ComesTo, HandsAnswer, HasNoAnswer, IsUnanswered, frame_for, status_of};
 
 use crate::ends::Gathered;
 use crate::rooms::{put_bytes, put_hits};
 use crate::{DAMAGED, MEMORY, NO_QUERY, SHORT};
-use batch_run::{Memory, Outcome, nearest_outcome, range_outcome};
+use image_answers::{Memory, Outcome, nearest_outcome, range_outcome};
 use file_jobs::{open_index, space_of};
 use log_model::Log;
 use metric_laws::{Listed, Point};
@@ -86,11 +86,10 @@ fn answer_of(came: Result<Outcome, Memory>) -> Result<Answer, u8>
     match came {
         Err(_) => Err(MEMORY),
         Ok(Outcome::Damaged(_)) => Err(DAMAGED),
-        Ok(Outcome::Done {
-            reply: Reply::Hits { hits, tags },
-            log: Some(log),
-        }) => Ok(Answer { hits, tags, log }),
-        Ok(Outcome::Done { .. }) => Err(NO_QUERY),
+        Ok(Outcome::Done { reply, log }) => match (reply, log) {
+            (Reply::Hits { hits, tags }, Some(log)) => Ok(Answer { hits, tags, log }),
+            _ => Err(NO_QUERY),
+        },
     }
 }
 

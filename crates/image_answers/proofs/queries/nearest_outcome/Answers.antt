@@ -1,9 +1,9 @@
 use Rattle.std.proofs.Common.{◌≡◌, ◌∙◌, refl, sym}
 use Rattle.page_store.specs.Shelf.{Shelf}
 use Rattle.page_store.specs.Shelves.{image_shelf}
-use Rattle.batch_run.specs.Outcomes.{pages_asked}
-use Rattle.batch_run.proofs.Asking.{nearest_found, nearest_fault}
-use Rattle.batch_run.proofs.queries.nearest_outcome.Goals as goal
+use Rattle.image_answers.specs.Outcomes.{pages_asked}
+use Rattle.image_answers.proofs.Asking.{nearest_found, nearest_fault}
+use Rattle.image_answers.proofs.queries.nearest_outcome.Goals as goal
 
 pub returns-in-Ok : goal.returns-in-Ok
 returns-in-Ok g c =

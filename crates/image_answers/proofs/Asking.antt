@@ -35,10 +35,10 @@ use Rattle.log_model.proofs.LeastLog.{least_sound}
 use Rattle.hit_tags.specs.Met.{ComesTo, near_pages}
 use Rattle.hit_tags.specs.Tags.{HasTagsCause, met_tags}
 use Rattle.hit_tags.proofs.Showing.{marked_is}
-use Rattle.batch_run.specs.declared.outcome.Outcome.{Outcome}
-use Rattle.batch_run.specs.declared.outcome.Outcome.TheVariants as outcome
-use Rattle.batch_run.specs.Images.{outcome_of_fault}
-use Rattle.batch_run.specs.Outcomes.{AreTagsOf, FollowsWalk, HasLog, HasSearchCause, IsAnswer, IsDamage, IsLogged, IsMeant, IsOutcomeOf, IsTagged, IsTold, answered_query, pages_asked, reply_in, state_in}
+use Rattle.image_answers.specs.declared.outcome.Outcome.{Outcome}
+use Rattle.image_answers.specs.declared.outcome.Outcome.TheVariants as outcome
+use Rattle.image_answers.specs.Outcomes.{outcome_of_fault}
+use Rattle.image_answers.specs.Outcomes.{AreTagsOf, FollowsWalk, HasLog, HasSearchCause, IsAnswer, IsDamage, IsLogged, IsMeant, IsOutcomeOf, IsTagged, IsTold, answered_query, pages_asked, reply_in, state_in}
 
 -- ---- the pages to which the walk of a log comes
 

@@ -1,5 +1,6 @@
--- What a batch of commands on an image answers: for each command an outcome, which the image and the command alone decide.
-use Rattle.std.specs.Prelude.{◌≡◌, ◌≢◌, ◌⊎◌, ℕ, min, Bool, true, List, [], ◌∷◌, length, Option, Some, None, MatchOption, IsTrue, if◌then◌else◌}
+-- What commands on an image, a file in memory, come to: for each an outcome, which the image and the command alone decide.
+use Rattle.std.specs.Prelude.{◌≡◌, ◌≢◌, ◌⊎◌, ℕ, min, Bool, true, List, [], ◌∷◌, length, Option, Some, None, MatchOption, IsTrue, if◌then◌else◌, Result, Ok, Err, alloc_error}
+use Rattle.std.specs.declared.alloc.AllocError.{AllocError}
 use Rattle.metric_laws.specs.Space.{Space, bound}
 use Rattle.scan_model.specs.declared.hit.Hit.{Hit}
 use Rattle.scan_model.specs.declared.query.Query.{Query}
@@ -26,12 +27,12 @@ use Rattle.log_model.specs.Walk.{search_at}
 use Rattle.hit_tags.specs.Tags.{HasTagsCause, IsShown, met_tags, object_tags}
 use Rattle.range_search.specs.Searched.{HasWalkCause}
 use Rattle.nearest_search.specs.Searched.{HasNearestCause, IsFront}
-use Rattle.batch_run.specs.declared.outcome.Outcome.{Outcome}
-use Rattle.batch_run.specs.declared.outcome.Outcome.TheVariants as outcome
+use Rattle.image_answers.specs.declared.outcome.Outcome.{Outcome}
+use Rattle.image_answers.specs.declared.outcome.Outcome.TheVariants as outcome
 
 -- ---- commands
 
--- a command as a batch takes it: one that would change the objects or use a cursor is refused
+-- a command as a reader takes it: one that would change the objects or use a cursor is refused
 abbrev pub as_reader : Command → Command
 as_reader (command.Insert p) = command.Bad refusal.ReadOnly
 as_reader (command.TagInsert tag p) = command.Bad refusal.ReadOnly
@@ -154,3 +155,8 @@ abbrev pub IsTagged : Shelf → Shelf → Live → Found → Outcome → Type 0
 IsTagged old new live found o =
     ((tags : List ℕ) × (o ≡ outcome.Done (reply.Hits found.hits tags) (Some found.log)) × AreTagsOf old live found tags)
     ⊎ ((fault : PageFault) × (o ≡ outcome.Damaged fault) × (fault ≢ page.Memory) × HasTagsCause old new (live.root ∷ []) found.log.records fault)
+
+-- what a page that gave no node is to a query: want of memory ends it, and anything else is told
+abbrev pub outcome_of_fault : PageFault → Result Outcome AllocError
+outcome_of_fault page.Memory = Err alloc_error
+outcome_of_fault fault = Ok (outcome.Damaged fault)

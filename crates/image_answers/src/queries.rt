@@ -1,25 +1,34 @@
-//! The queries of a batch.
+//! Queries on a file in memory.
 
 ghost use Rattle.std.specs.Prelude.{◌≡◌, ◌≢◌, ◌≤◌, ◌^◌, IfOk, Ok, Err, alloc_error};
 ghost use Rattle.rows_text.specs.declared.command.Command.TheVariants as command;
 ghost use Rattle.page_store.specs.Shelf.{HoldsSame};
-ghost use Rattle.batch_run.specs.Outcomes.{IsOutcomeOf, IsTagged};
-ghost use Rattle.batch_run.specs.Images.{outcome_of_fault};
+ghost use Rattle.image_answers.specs.Outcomes.{IsOutcomeOf, IsTagged, outcome_of_fault};
 
 use crate::Memory;
-use crate::images::pages_of;
 use crate::outcome::Outcome;
 use hit_tags::tags_of;
 use log_model::Found;
 use metric_laws::{Listed, Meter, Metric, Point};
 use nearest_search::nearest;
-use page_store::{PageFault, Pages};
+use page_store::{ImagePages, PageFault, Pages};
 use range_search::range;
 use rows_text::{Refusal, Reply};
 use std::alloc::{AllocError, Global};
 use tree_shape::Live;
 
-// What a page that gave no node is to a batch.
+/// The pages of an image, of which none has been asked for.
+pub fn pages_of<'a, M: Metric>(image: &'a [u8], metric: M, live: &Live) -> ImagePages<'a>
+    requires { live.now.pages ≤ 2 ^ 24 }
+    ensures bytes { result.bytes.now ≡ image.now }
+    ensures dim { result.dim ≡ (M.space metric).words }
+    ensures pages { result.pages ≡ live.now.pages }
+    ensures asked { result.asked ≡ 0 }
+{
+    ImagePages::new(image, metric.words() as u8, live.pages)
+}
+
+// What a page that gave no node is to a query.
 fn outcome_of_fault(fault: PageFault) -> Result<Outcome, Memory>
     ensures { result ≡ outcome_of_fault fault }
 {

@@ -4,7 +4,7 @@ use log_model::Log;
 use page_store::PageFault;
 use rows_text::{Refusal, Reply};
 
-/// What becomes of one command of a batch.
+/// What becomes of one command on a file in memory.
 #[derive(Debug, Drop)]
 pub enum Outcome {
     /// It was answered.
@@ -21,14 +21,14 @@ pub enum Outcome {
 
 impl Outcome {
     /// An answer without a log.
-    pub(crate) fn plain(reply: Reply) -> Self
+    pub fn plain(reply: Reply) -> Self
         ensures { result ≡ Outcome.Done reply None }
     {
         Outcome::Done { reply, log: None }
     }
 
     /// A refusal.
-    pub(crate) fn refused(why: Refusal) -> Self
+    pub fn refused(why: Refusal) -> Self
         ensures { result ≡ Outcome.Done (Reply.Refused why) None }
     {
         Outcome::plain(Reply::Refused(why))

@@ -1,5 +1,5 @@
 use Rattle.std.proofs.Common.{◌∙◌, ap, length, sym, inl, refl, arith}
-use Rattle.batch_run.proofs.queries.tagged.Goals as goal
+use Rattle.image_answers.proofs.queries.tagged.Goals as goal
 
 pub returns-in-Ok : goal.returns-in-Ok
 returns-in-Ok g c = inl (
