@@ -8,7 +8,7 @@ use Rattle.rows_text.specs.declared.command.Command.TheVariants as command
 use Rattle.rows_text.specs.declared.refusal.Refusal.TheVariants as refusal
 use Rattle.rows_text.specs.declared.reply.Reply.{Reply}
 use Rattle.rows_text.specs.Meaning.{Setting, State, Step, refused, replies, step}
-use Rattle.batch_run.specs.Outcomes.{as_reader}
+use Rattle.image_answers.specs.Outcomes.{as_reader}
 use Rattle.batch_jobs.specs.Turns.{Held, IsTurn, Turn, commands_of, replies_of, state_of}
 
 either_way : (b : Bool) (r : Reply) (state : State) → (let s : Step = if b then record { reply = r; state = state } else refused state refusal.Unfit in s.state) ≡ state

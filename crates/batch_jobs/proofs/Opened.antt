@@ -20,7 +20,7 @@ use Rattle.file_jobs.proofs.Unsound.{no_index_unsound}
 use Rattle.batch_run.specs.declared.images.ImageFault.{ImageFault}
 use Rattle.batch_run.specs.declared.images.ImageFault.TheVariants as fault
 use Rattle.batch_run.specs.Images.{HasImageCause, ImagesHoldTheFile, IsImageOf}
-use Rattle.batch_run.specs.Outcomes.{HasDamage}
+use Rattle.image_answers.specs.Outcomes.{HasDamage}
 use Rattle.batch_jobs.specs.Turns.{Held, held_in, space_in}
 use Rattle.batch_jobs.specs.Batches.{Ends, HasDamagedPage, HasFinished, HasOpened, IsLarge, IsTold, RunsOn, RunsScript, TellsDamage}
 use Rattle.batch_jobs.proofs.Puts.{rose_more}

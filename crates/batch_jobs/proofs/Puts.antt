@@ -9,8 +9,8 @@ use Rattle.outside_io.specs.Causes.{Rose}
 use Rattle.outside_io.specs.Sinks.{SinkState}
 use Rattle.metric_laws.proofs.Lists.{all_append}
 use Rattle.plain_scan.proofs.WrittenLemmas.{front_appended}
-use Rattle.batch_run.specs.declared.outcome.Outcome.{Outcome}
-use Rattle.batch_run.specs.declared.outcome.Outcome.TheVariants as outcome
+use Rattle.image_answers.specs.declared.outcome.Outcome.{Outcome}
+use Rattle.image_answers.specs.declared.outcome.Outcome.TheVariants as outcome
 use Rattle.batch_jobs.specs.declared.stop.Stop.{Stop}
 use Rattle.batch_jobs.specs.declared.stop.Stop.TheVariants as stop
 use Rattle.batch_jobs.specs.Putting.{ArePut, Follows, IsCut, IsDone, IsPut, all_logged, all_said, logged, said}

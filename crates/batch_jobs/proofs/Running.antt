@@ -24,9 +24,9 @@ use Rattle.page_store.specs.Reading.{reading}
 use Rattle.log_model.specs.declared.logs.Log.{Log}
 use Rattle.prune_log.specs.Spelling.{frame_bytes, log_bytes}
 use Rattle.file_jobs.specs.Lines.{damaged_text}
-use Rattle.batch_run.specs.declared.outcome.Outcome.{Outcome}
-use Rattle.batch_run.specs.declared.outcome.Outcome.TheVariants as outcome
-use Rattle.batch_run.specs.Outcomes.{HasDamage, IsLawful, IsOutcomeOf, IsTold as IsAnswered, answered_query}
+use Rattle.image_answers.specs.declared.outcome.Outcome.{Outcome}
+use Rattle.image_answers.specs.declared.outcome.Outcome.TheVariants as outcome
+use Rattle.image_answers.specs.Outcomes.{HasDamage, IsLawful, IsOutcomeOf, IsTold as IsAnswered, answered_query}
 use Rattle.batch_jobs.specs.declared.stop.Stop.{Stop}
 use Rattle.batch_jobs.specs.declared.stop.Stop.TheVariants as stop
 use Rattle.batch_jobs.specs.Putting.{ArePut, HasEnded, IsDone, all_logged, all_said, logged, said}

@@ -19,7 +19,7 @@ use Rattle.page_store.specs.Files.{IsSoundFile}
 use Rattle.page_store.specs.Reading.{reading}
 use Rattle.file_jobs.specs.Jobs.{IsNoIndex}
 use Rattle.file_jobs.specs.Lines.{not_index_text, damaged_text}
-use Rattle.batch_run.specs.Outcomes.{HasDamage}
+use Rattle.image_answers.specs.Outcomes.{HasDamage}
 use Rattle.batch_jobs.specs.Turns.{Held, IsTurn, Turn, commands_of, framed, held_in, if_any, logs_of, space_in, texts_of}
 
 -- a line stands there, or where out failed a front of it

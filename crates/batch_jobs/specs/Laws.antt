@@ -3,7 +3,7 @@ use Rattle.std.specs.Prelude.{◌≡◌, ℕ, List, map}
 use Rattle.std.specs.List.{AllByRecursion}
 use Rattle.metric_laws.specs.Space.{Space}
 use Rattle.rows_text.specs.Meaning.{replies}
-use Rattle.batch_run.specs.Outcomes.{as_reader}
+use Rattle.image_answers.specs.Outcomes.{as_reader}
 use Rattle.batch_jobs.specs.Turns.{Held, IsTurn, Turn, commands_of, replies_of, state_of}
 
 -- the replies of turns are those of one run of their commands, each that would change something refused, on a plain list of the objects

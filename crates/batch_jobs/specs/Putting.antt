@@ -7,9 +7,9 @@ use Rattle.outside_io.specs.Sinks.{SinkState, Tells}
 use Rattle.rows_text.specs.Texts.{text}
 use Rattle.plain_scan.specs.Written.{IsFrontOf}
 use Rattle.file_jobs.specs.Lines.{damaged_text}
-use Rattle.batch_run.specs.declared.outcome.Outcome.{Outcome}
-use Rattle.batch_run.specs.declared.outcome.Outcome.TheVariants as outcome
-use Rattle.batch_run.specs.Outcomes.{IsDamage}
+use Rattle.image_answers.specs.declared.outcome.Outcome.{Outcome}
+use Rattle.image_answers.specs.declared.outcome.Outcome.TheVariants as outcome
+use Rattle.image_answers.specs.Outcomes.{IsDamage}
 use Rattle.batch_jobs.specs.declared.stop.Stop.{Stop}
 use Rattle.batch_jobs.specs.declared.stop.Stop.TheVariants as stop
 use Rattle.batch_jobs.specs.Turns.{framed, if_any}

@@ -14,7 +14,7 @@ use Rattle.page_store.specs.Files.{nodes_in}
 use Rattle.log_model.specs.declared.logs.Log.{Log}
 use Rattle.log_model.specs.Sound.{IsLeastLog}
 use Rattle.prune_log.specs.Spelling.{frames_bytes, log_bytes}
-use Rattle.batch_run.specs.Outcomes.{answered_query, as_reader}
+use Rattle.image_answers.specs.Outcomes.{answered_query, as_reader}
 
 -- the space of a head
 abbrev pub space_in : Head → Space

@@ -6,12 +6,13 @@ ghost use Rattle.outside_io.specs.Causes.{Rose};
 ghost use Rattle.rows_text.specs.Meaning.{TagsAre};
 ghost use Rattle.rows_text.specs.Texts.{text};
 ghost use Rattle.log_model.specs.Grammar.{IsLawfulLog};
-ghost use Rattle.batch_run.specs.Outcomes.{IsLawful};
+ghost use Rattle.image_answers.specs.Outcomes.{IsLawful};
 ghost use Rattle.batch_jobs.specs.Turns.{framed, if_any};
 ghost use Rattle.batch_jobs.specs.Putting.{ArePut, IsCut, IsPut};
 
 use crate::stop::Stop;
-use batch_run::{Memory, Outcome};
+use batch_run::Memory;
+use image_answers::Outcome;
 use log_model::Log;
 use outside_io::Sink;
 use prune_log::{encode_log, frame};

@@ -7,8 +7,8 @@ use Rattle.tree_shape.specs.declared.live.Live.{Live}
 use Rattle.tree_shape.specs.Tree.{objects}
 use Rattle.page_store.specs.Files.{nodes_in, points_in}
 use Rattle.log_model.proofs.ByScan.{length-points}
-use Rattle.batch_run.specs.declared.outcome.Outcome.TheVariants as outcome
-use Rattle.batch_run.specs.Outcomes.{IsOutcomeOf}
+use Rattle.image_answers.specs.declared.outcome.Outcome.TheVariants as outcome
+use Rattle.image_answers.specs.Outcomes.{IsOutcomeOf}
 
 -- there are as many objects as the slot tells
 counted : (s : Space) (live : Live) (image : List ℕ) → length (points_in s.words live image) ≡ live.count

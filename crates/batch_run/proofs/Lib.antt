@@ -1,5 +1,4 @@
 pub mod Holding
 pub mod Seats
-pub mod Asking
 pub mod Counting
 pub mod Parts

@@ -19,7 +19,7 @@ use Rattle.tree_audit.specs.declared.parts.Part.{Part}
 use Rattle.tree_audit.specs.Audited.{HasAuditCause}
 use Rattle.tree_audit.specs.Parts.{AreApart, AreWalked, PartsMakeTheWhole, pages_met}
 use Rattle.batch_run.specs.Audits.{AreNumbersOf, AreTried, IsFaultOf, IsPartOf, audit_of}
-use Rattle.batch_run.specs.Outcomes.{pages_asked}
+use Rattle.image_answers.specs.Outcomes.{pages_asked}
 
 -- what holds from a place on holds from the next one on
 later : (s : Space) (live : Live) (image : List ℕ) (first : ℕ) (e : InnerEntry) (es : List InnerEntry) (p : Result Part AuditFault) (parts : List (Result Part AuditFault)) →

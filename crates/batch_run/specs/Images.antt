@@ -1,15 +1,10 @@
 -- Files in memory.
-use Rattle.std.specs.Prelude.{◌≡◌, ℕ, ◌*◌, ◌<◌, List, length, slice_index, Result, Ok, Err, alloc_error}
-use Rattle.std.specs.declared.alloc.AllocError.{AllocError}
+use Rattle.std.specs.Prelude.{◌≡◌, ℕ, ◌*◌, ◌<◌, List, length, slice_index}
 use Rattle.outside_io.specs.Causes.{Rose}
 use Rattle.node_page.specs.declared.node.Version.{Version}
-use Rattle.page_store.specs.declared.pages.PageFault.{PageFault}
-use Rattle.page_store.specs.declared.pages.PageFault.TheVariants as page
 use Rattle.page_store.specs.Reading.{reading}
 use Rattle.batch_run.specs.declared.images.ImageFault.{ImageFault}
 use Rattle.batch_run.specs.declared.images.ImageFault.TheVariants as fault
-use Rattle.batch_run.specs.declared.outcome.Outcome.{Outcome}
-use Rattle.batch_run.specs.declared.outcome.Outcome.TheVariants as outcome
 
 -- the first bytes of a file, as many as so many pages have; past its end they are 0
 pub record IsImageOf (pages : ℕ) (file image : List ℕ) : Type 0 where
@@ -25,8 +20,3 @@ HasImageCause pages before now fault.Memory = Unit {0}
 -- the image of so many pages holds in each of them what the file holds
 abbrev pub ImagesHoldTheFile : Type 0
 ImagesHoldTheFile = (dim pages : ℕ) (file image : List ℕ) → IsImageOf pages file image → reading dim pages image ≡ reading dim pages file
-
--- what a page that gave no node is to a batch: want of memory ends it, and anything else is told
-abbrev pub outcome_of_fault : PageFault → Result Outcome AllocError
-outcome_of_fault page.Memory = Err alloc_error
-outcome_of_fault fault = Ok (outcome.Damaged fault)

@@ -1,4 +1,3 @@
 pub mod Images
-pub mod Outcomes
 pub mod Dealing
 pub mod Audits

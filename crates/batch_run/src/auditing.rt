@@ -6,7 +6,7 @@ ghost use Rattle.tree_audit.specs.Audited.{audit_fault};
 ghost use Rattle.batch_run.specs.Audits.{AreNumbersOf, AreTried, IsFaultOf, IsPartOf};
 
 use crate::Memory;
-use crate::images::pages_of;
+use image_answers::pages_of;
 use metric_laws::{Meter, Metric};
 use page_store::Pages;
 use par_work::share;

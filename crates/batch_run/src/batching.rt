@@ -4,12 +4,11 @@ ghost use Rattle.std.specs.Prelude.{◌≡◌, ◌≤◌, ◌<◌, ◌^◌, All,
 ghost use Rattle.std.specs.List.{AllZip};
 ghost use Rattle.rows_text.specs.declared.command.Command.{Command};
 ghost use Rattle.rows_text.specs.Readable.{IsReadable};
-ghost use Rattle.batch_run.specs.Outcomes.{IsOutcomeOf};
+ghost use Rattle.image_answers.specs.Outcomes.{IsOutcomeOf};
 
 use crate::Memory;
 use crate::dealing::share_evenly;
-use crate::outcome::Outcome;
-use crate::queries::{nearest_outcome, range_outcome};
+use image_answers::{Outcome, nearest_outcome, range_outcome};
 use metric_laws::Metric;
 use rows_text::{Command, Refusal, Reply};
 use std::alloc::Global;

@@ -1,15 +1,12 @@
 //! Files in memory.
 
-ghost use Rattle.std.specs.Prelude.{◌≡◌, ◌≤◌, ◌+◌, ◌*◌, ◌<◌, ◌^◌, Err, length, IsTrue, IfOk, IfErr, OnOk};
+ghost use Rattle.std.specs.Prelude.{◌≡◌, ◌≤◌, ◌+◌, ◌*◌, Err, length, IsTrue, IfOk, IfErr, OnOk};
 ghost use Rattle.disk_model.specs.Disk.{IsUnchanged};
 ghost use Rattle.batch_run.specs.Images.{IsImageOf, HasImageCause};
 
 use disk_model::Disk;
-use metric_laws::Metric;
-use page_store::ImagePages;
 use std::alloc::Global;
 use thiserror::Error;
-use tree_shape::Live;
 
 /// The most pages that are read into memory: 2^30 bytes.
 pub const MOST_PAGES: u32 = 262_144;
@@ -52,15 +49,4 @@ pub fn read_image<D: Disk>(alloc: Global, disk: &mut D, pages: u32) -> Result<Ve
         Ok(()) => Ok(image),
         Err(_) => Err(ImageFault::Disk),
     }
-}
-
-/// The pages of an image, of which none has been asked for.
-pub fn pages_of<'a, M: Metric>(image: &'a [u8], metric: M, live: &Live) -> ImagePages<'a>
-    requires { live.now.pages ≤ 2 ^ 24 }
-    ensures bytes { result.bytes.now ≡ image.now }
-    ensures dim { result.dim ≡ (M.space metric).words }
-    ensures pages { result.pages ≡ live.now.pages }
-    ensures asked { result.asked ≡ 0 }
-{
-    ImagePages::new(image, metric.words() as u8, live.pages)
 }

@@ -6,13 +6,10 @@ mod batching;
 mod dealing;
 mod images;
 pub mod laws;
-mod outcome;
-mod queries;
 
 pub use auditing::audit_image;
 pub use batching::batch;
 pub use images::{ImageFault, MOST_PAGES, read_image};
-pub use outcome::Outcome;
 
 /// Want of memory.
 pub type Memory = std::alloc::AllocError;

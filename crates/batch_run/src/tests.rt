@@ -1,8 +1,9 @@
 ghost use Rattle.std.specs.Prelude.{◌≡◌, ◌≤◌, ◌<◌, ◌^◌, length};
 
 use crate::laws::images_hold_the_file;
-use crate::{ImageFault, Outcome, audit_image, batch, read_image};
+use crate::{ImageFault, audit_image, batch, read_image};
 use disk_model::{Disk, MemoryDisk};
+use image_answers::Outcome;
 use meeting::{Meeting, Seen};
 use metric_laws::{Memory, Metric};
 use node_page::NodeFault;

@@ -6,8 +6,8 @@ use Rattle.metric_laws.specs.Space.{Space}
 use Rattle.metric_mix.specs.MixKinds.{mix_dim, mix_kind}
 use Rattle.metric_mix.specs.MixSpaces.{mix_space}
 use Rattle.rows_text.specs.Script.{script}
-use Rattle.batch_run.specs.declared.outcome.Outcome.{Outcome}
-use Rattle.batch_run.specs.Outcomes.{IsLawful, IsOutcomeOf}
+use Rattle.image_answers.specs.declared.outcome.Outcome.{Outcome}
+use Rattle.image_answers.specs.Outcomes.{IsLawful, IsOutcomeOf}
 use Rattle.batch_jobs.specs.declared.stop.Stop.{Stop}
 use Rattle.batch_jobs.specs.Turns.{held_in, space_in}
 use Rattle.batch_jobs.proofs.Running.{all_lawful, all_put, finished, memory_ends, stopped, unread}

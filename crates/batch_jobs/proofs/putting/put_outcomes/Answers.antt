@@ -1,5 +1,5 @@
 use Rattle.std.proofs.Common.{◌≡◌, List, take, take_all, refl, sym, subst, arith}
-use Rattle.batch_run.specs.declared.outcome.Outcome.{Outcome}
+use Rattle.image_answers.specs.declared.outcome.Outcome.{Outcome}
 use Rattle.batch_jobs.proofs.Puts.{SoFar, begun, either_more, finished, next_left, next_taken, one_more, stopped}
 use Rattle.batch_jobs.proofs.putting.put_outcomes.Goals as goal
 

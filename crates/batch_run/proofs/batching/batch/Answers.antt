@@ -1,4 +1,4 @@
-use Rattle.batch_run.specs.Outcomes.{IsOutcomeOf}
+use Rattle.image_answers.specs.Outcomes.{IsOutcomeOf}
 use Rattle.batch_run.proofs.Seats.{zipped_if_ok}
 use Rattle.batch_run.proofs.batching.batch.Goals as goal
 

@@ -1,0 +1,179 @@
+"""Compares what the library answers, from Python and from C, with what the program writes, and with a plain scan.
+
+Use: compare.py PROGRAM EXAMPLE, in an empty folder, where EXAMPLE is bindings/c/example.c, built."""
+
+import array
+import ctypes
+import os
+import subprocess
+import sys
+
+import mtree
+
+PROGRAM, EXAMPLE = sys.argv[1], sys.argv[2]
+compared = failed = 0
+
+
+def same(found, wanted, about):
+    global compared, failed
+    compared += 1
+    if found != wanted:
+        failed += 1
+        print(f"{about}: {found!r}, and not {wanted!r}")
+
+
+def run(*words, given=""):
+    """The status of the program, and what it writes."""
+    done = subprocess.run([PROGRAM, *words], input=given.encode(), stdout=subprocess.PIPE)
+    return done.returncode, done.stdout.decode()
+
+
+def reply(hits):
+    return f"hits {len(hits)}\n" + "".join(f"{hit.id} {hit.tag} {hit.distance}\n" for hit in hits)
+
+
+def told(report):
+    return (0 if report.accepted else 1), report.text
+
+
+def queries(dim, most, count):
+    """So many queries of points below `most`, as lines and as calls."""
+    seed = 12345
+    for number in range(count):
+        point = []
+        for _ in range(dim):
+            seed = (seed * 1103515245 + 12345) % (1 << 31)
+            point.append(seed // 8 % most)
+        if number % 2 == 0:
+            yield "range", most // 4 * dim, point
+        else:
+            yield "nearest", number % 23 + 1, point
+
+
+def ask(index, kind, bound, point):
+    return index.range(point, bound) if kind == "range" else index.nearest(point, bound)
+
+
+def lines(asked):
+    return "".join(f"{kind},{bound},{','.join(map(str, point))}\n" for kind, bound, point in asked)
+
+
+def compare_file(name, dim, most):
+    """Every call on a sound file."""
+    asked = list(queries(dim, most, 60))
+    status, text = run("batch", name, "--tags", "show", "--log", "program.log", given=lines(asked))
+    same(status, 0, f"batch {name}")
+    logs = open("program.log", "rb").read()
+    with mtree.Index(name) as index:
+        same("".join(reply(ask(index, *one)) for one in asked), text, f"answers of {name}")
+        frames = [(index.range_with_log if kind == "range" else index.nearest_with_log)(point, bound)[1] for kind, bound, point in asked]
+        same(b"".join(frames), logs, f"logs of {name}")
+        points = [point for kind, bound, point in asked]
+        same(index.nearest_of_each(points, 5, threads=4), [index.nearest(point, 5) for point in points], f"threads on {name}")
+        arrays = [array.array("I", point) for point in points]
+        same(index.nearest_of_each(arrays, 5), index.nearest_of_each(points, 5), f"arrays on {name}")
+        wrong = bytearray(logs)
+        wrong[-1] ^= 1
+        for given in (logs, bytes(wrong), logs[:-1], b""):
+            open("given.log", "wb").write(given)
+            same(told(index.verify(given)), run("verify", name, "--log", "given.log"), f"verify {name}")
+            same(told(index.check(given)), run("check", name, "--log", "given.log"), f"check {name}")
+        same(told(index.audit()), run("audit", name), f"audit {name}")
+        for unfit in ([0] * (dim + 1), [], [-1] * dim, [1 << 32] * dim):
+            try:
+                same(index.nearest(unfit, 1), "no answer", f"a point that is none, on {name}")
+            except mtree.NoQuery:
+                same(0, 0, "")
+        try:
+            same(index.nearest([0] * dim, 0), "no answer", f"none of the nearest, on {name}")
+        except mtree.NoQuery:
+            same(0, 0, "")
+    hidden = run("batch", name, given=lines(asked))[1]
+    found = subprocess.run([EXAMPLE, name], input=lines(asked).encode(), stdout=subprocess.PIPE)
+    same((found.returncode, found.stdout.decode()), (0, hidden), f"the example in C on {name}")
+
+
+def compare_scan(name, dim, count):
+    """A thousand queries beside a plain scan of the generated rows, under L1."""
+    rows = [[((i + 1) * (2 * j + 3) * 40503) % 65536 for j in range(dim)] for i in range(count)]
+    with mtree.Index(name) as index:
+        for kind, bound, point in queries(dim, 65536, 1000):
+            near = sorted((sum(abs(a - b) for a, b in zip(row, point)), id) for id, row in enumerate(rows))
+            wanted = [mtree.Hit(id, d, id) for d, id in near if d <= bound] if kind == "range" else [mtree.Hit(id, d, id) for d, id in near[:bound]]
+            same(ask(index, kind, bound, point), wanted, f"{kind} {bound} {point} on {name}")
+
+
+def compare_rooms(name, dim):
+    """Buffers of every size around the needed one: what is told, and that nothing else is written."""
+    file = open(name, "rb").read()
+    point = (ctypes.c_uint32 * dim)(*[7] * dim)
+    library = mtree._library
+    for log_wanted in (0, 1):
+        needed = mtree._Sizes()
+        status = library.mtree_nearest(file, len(file), point, dim, 3, None, 0, bytes(log_wanted), log_wanted, ctypes.byref(needed))
+        same((status, needed.hits), (4, 3), f"no room at all, on {name}")
+        for hits_room in range(needed.hits + 2):
+            for log_room in {0, 1, needed.log - 1, needed.log, needed.log + 1} if log_wanted else {0}:
+                if log_wanted and log_room <= 0:
+                    continue
+                hits, log, sizes = (mtree._Hit * (hits_room + 1))(), (ctypes.c_uint8 * (log_room + 1))(), mtree._Sizes()
+                ctypes.memset(hits, 0x55, ctypes.sizeof(hits))
+                ctypes.memset(log, 0x55, ctypes.sizeof(log))
+                status = library.mtree_nearest(file, len(file), point, dim, 3, hits, hits_room, log, log_room, ctypes.byref(sizes))
+                fits = hits_room >= needed.hits and log_room >= needed.log
+                same((status, sizes.hits, sizes.log), (0 if fits else 4, needed.hits, needed.log), f"rooms {hits_room} {log_room}")
+                first = needed.hits if fits else 0
+                same(set(bytes(hits)[first * ctypes.sizeof(mtree._Hit):]), {0x55}, f"behind the hits {hits_room} {log_room}")
+                same(set(bytes(log)[needed.log if fits else 0:]), {0x55}, f"behind the log {hits_room} {log_room}")
+    wanted = run("audit", name)[1].encode()
+    for room in range(len(wanted) + 3):
+        text, size = (ctypes.c_uint8 * (room + 1))(), ctypes.c_size_t()
+        ctypes.memset(text, 0x55, room + 1)
+        status = library.mtree_audit(file, len(file), text, room, ctypes.byref(size))
+        whole = wanted if room >= len(wanted) else b""
+        same((status, size.value, bytes(text)), (0 if whole else 4, len(wanted), whole.ljust(room + 1, b"\x55")), f"text room {room}")
+
+
+def compare_damage(name, dim):
+    """A file that is cut short at each page, an empty one, and one with a page that holds no node."""
+    file = open(name, "rb").read()
+    cases = [file[:size] for size in range(0, len(file), 4096)]
+    cases += [file[:page] + b"\x0f" + file[page + 1:] for page in range(3 * 4096, len(file), 4096)]
+    for case in cases:
+        open("damaged.mt", "wb").write(case)
+        status, text = run("audit", "damaged.mt")
+        with mtree.Index("damaged.mt") as index:
+            try:
+                same(told(index.audit()), (status, text), "audit of a damaged file")
+            except mtree.NoIndex as error:
+                same((6, f"{error}\n"), (status, text), "audit of what is no index")
+            line = f"range,{1 << 63},{','.join(['7'] * dim)}\n"
+            asked, answer = run("batch", "damaged.mt", "--tags", "show", given=line)
+            try:
+                same((0, reply(index.range([7] * dim, 1 << 63))), (asked, answer), "a query on a damaged file")
+            except mtree.NoIndex as error:
+                same((6, f"{error}\n"), (asked, answer), "a query on what is no index")
+            except mtree.Damaged:
+                same(9, asked, "a query that comes to a damaged page")
+
+
+def main():
+    files = [("line.mt", "l1", 1, 4, 65536), ("wide.mt", "max", 5, 300, 65536), ("many.mt", "l1", 3, 3000, 65536), ("words.mt", "hamming", 8, 50, 4)]
+    for name, metric, dim, count, most in files:
+        same(run("gen", name, "--metric", metric, "--dim", str(dim), "--count", str(count))[0], 0, f"gen {name}")
+        compare_file(name, dim, most)
+    run("create", "tags.mt", "--metric", "l1", "--dim", "2")
+    run("session", "tags.mt", given="".join(f"tinsert,{900 - i},{i * i % 17},{i}\n" for i in range(40)))
+    compare_file("tags.mt", 2, 20)
+    run("create", "empty.mt", "--metric", "mixsum", "--dim", "4")
+    compare_file("empty.mt", 4, 20)
+    compare_scan("many.mt", 3, 3000)
+    compare_rooms("wide.mt", 5)
+    compare_damage("tags.mt", 2)
+    print(f"bindings: {compared} comparisons, {failed} failed")
+    return 1 if failed else 0
+
+
+if __name__ == "__main__":
+    os.environ.setdefault("PYTHONHASHSEED", "0")
+    sys.exit(main())

@@ -1,0 +1,162 @@
+-- What commands on an image, a file in memory, come to: for each an outcome, which the image and the command alone decide.
+use Rattle.std.specs.Prelude.{◌≡◌, ◌≢◌, ◌⊎◌, ℕ, min, Bool, true, List, [], ◌∷◌, length, Option, Some, None, MatchOption, IsTrue, if◌then◌else◌, Result, Ok, Err, alloc_error}
+use Rattle.std.specs.declared.alloc.AllocError.{AllocError}
+use Rattle.metric_laws.specs.Space.{Space, bound}
+use Rattle.scan_model.specs.declared.hit.Hit.{Hit}
+use Rattle.scan_model.specs.declared.query.Query.{Query}
+use Rattle.scan_model.specs.declared.query.Query.TheVariants as query
+use Rattle.rows_text.specs.declared.command.Command.{Command}
+use Rattle.rows_text.specs.declared.command.Command.TheVariants as command
+use Rattle.rows_text.specs.declared.refusal.Refusal.TheVariants as refusal
+use Rattle.rows_text.specs.declared.reply.Reply.{Reply}
+use Rattle.rows_text.specs.declared.reply.Reply.TheVariants as reply
+use Rattle.rows_text.specs.Meaning.{Setting, State, TagsAre, has_points_of, step}
+use Rattle.tree_shape.specs.declared.live.Live.{Live}
+use Rattle.tree_shape.specs.Tree.{Nodes, IsSoundTree}
+use Rattle.page_store.specs.declared.pages.PageFault.{PageFault}
+use Rattle.page_store.specs.declared.pages.PageFault.TheVariants as page
+use Rattle.page_store.specs.Files.{nodes_in, points_in, tags_in}
+use Rattle.page_store.specs.Reading.{Read, nodes_of, reading}
+use Rattle.page_store.specs.Shelf.{Shelf}
+use Rattle.page_store.specs.Shelves.{image_shelf}
+use Rattle.log_model.specs.declared.logs.Log.{Log}
+use Rattle.log_model.specs.declared.logs.Found.{Found}
+use Rattle.log_model.specs.Grammar.{IsLawfulLog}
+use Rattle.log_model.specs.Sound.{IsLeastLog, IsLogOf}
+use Rattle.log_model.specs.Walk.{search_at}
+use Rattle.hit_tags.specs.Tags.{HasTagsCause, IsShown, met_tags, object_tags}
+use Rattle.range_search.specs.Searched.{HasWalkCause}
+use Rattle.nearest_search.specs.Searched.{HasNearestCause, IsFront}
+use Rattle.image_answers.specs.declared.outcome.Outcome.{Outcome}
+use Rattle.image_answers.specs.declared.outcome.Outcome.TheVariants as outcome
+
+-- ---- commands
+
+-- a command as a reader takes it: one that would change the objects or use a cursor is refused
+abbrev pub as_reader : Command → Command
+as_reader (command.Insert p) = command.Bad refusal.ReadOnly
+as_reader (command.TagInsert tag p) = command.Bad refusal.ReadOnly
+as_reader (command.Load rows) = command.Bad refusal.ReadOnly
+as_reader (command.TagLoad tags rows) = command.Bad refusal.ReadOnly
+as_reader (command.Cursor q) = command.Bad refusal.ReadOnly
+as_reader (command.Next cursor n) = command.Bad refusal.ReadOnly
+as_reader (command.Close cursor) = command.Bad refusal.ReadOnly
+as_reader (command.Range r q) = command.Range r q
+as_reader (command.Nearest k q) = command.Nearest k q
+as_reader command.Count = command.Count
+as_reader (command.Bad why) = command.Bad why
+
+-- the query that a command asks
+abbrev pub query_of : Command → Option Query
+query_of (command.Range r q) = Some (query.Range q r)
+query_of (command.Nearest k q) = Some (query.Nearest q k)
+query_of other = None
+
+-- the query that is answered: one whose point is a point of the space
+abbrev pub answered_query : Space → Command → Option Query
+answered_query s c = if has_points_of s c then query_of c else None
+
+-- ---- what a command means on an image
+
+-- the objects of an image, with no cursor open
+abbrev pub state_in : Space → Live → List ℕ → State
+state_in s live image = record { objects = record { points = points_in s.words live image; tags = tags_in s.words live image }; cursors = []; next = 0 }
+
+-- the reply that a command's meaning gives, whatever the limit of objects is, since none is added
+abbrev pub reply_in : Space → Live → List ℕ → ℕ → Command → Reply
+reply_in s live image limit c = (step (record { space = s; limit = limit }) (state_in s live image) (as_reader c)).reply
+
+-- a query that is answered has the least log of the image, and nothing else has a log
+abbrev pub HasLog : Space → Live → List ℕ → Option Query → Option Log → Type 0
+HasLog s live image None log = log ≡ None
+HasLog s live image (Some asked) log = MatchOption log ⊥ (IsLeastLog s (nodes_in s.words live image) live asked)
+
+-- the outcome is what the command means
+abbrev pub IsMeant : Space → Live → List ℕ → Command → Outcome → Type 0
+IsMeant s live image c (outcome.Done r log) = ((limit : ℕ) → r ≡ reply_in s live image limit c) × HasLog s live image (answered_query s c) log
+IsMeant s live image c (outcome.Damaged fault) = ⊥
+
+-- ---- what is told on any image, sound or not
+
+-- the log of a range is the least one; that of a search for the nearest is a front of a walk with the least marks
+abbrev pub FollowsWalk : Space → Nodes → Live → Query → Log → Type 0
+FollowsWalk s nodes live (query.Range q r) log = IsLeastLog s nodes live (query.Range q r) log
+FollowsWalk s nodes live (query.Nearest q k) log = IsFront s nodes live q k (record { hits = log.answers; log = log })
+
+-- the answer to a query: its log, the hits that the log answers, and the tags of those that the walk of the log meets
+pub record IsAnswer (s : Space) (live : Live) (image : List ℕ) (asked : Query) (hits : List Hit) (tags : List ℕ) (log : Log) : Type 0 where
+  pub named : IsLogOf live asked (record { hits = hits; log = log })
+  pub walk : FollowsWalk s (nodes_in s.words live image) live asked log
+  pub tags_are : tags ≡ met_tags (nodes_in s.words live image) live (record { hits = hits; log = log })
+
+-- pages that hold this, of which so many were asked for; and those of an image
+abbrev pub pages_holding : Space → Live → Read → ℕ → Shelf
+pages_holding s live read asked = record { dim = s.words; pages = live.pages; tells = true; read = read; asked = asked; reads = 0; faults = 0 }
+
+abbrev pub pages_asked : Space → Live → List ℕ → ℕ → Shelf
+pages_asked s live image asked = image_shelf s.words live.pages image asked
+
+-- why a search on pages that hold this refuses, when it has asked for so many pages
+abbrev pub HasSearchCause : Space → Live → Read → Query → ℕ → PageFault → Type 0
+HasSearchCause s live read (query.Range q r) asked = HasWalkCause (search_at s q (min r bound)) live (pages_holding s live read 0) (pages_holding s live read asked)
+HasSearchCause s live read (query.Nearest q k) asked = HasNearestCause live (pages_holding s live read 0) (pages_holding s live read asked)
+
+-- a damaged page: it holds no node, is none of the file's, or is needed after as many as there are
+abbrev pub IsDamage : PageFault → Type 0
+IsDamage (page.Bad p fault) = Unit {0}
+IsDamage (page.Outside p) = Unit {0}
+IsDamage (page.Repeats p) = Unit {0}
+IsDamage _ = ⊥
+
+-- the search of a query on pages that hold this came to a damaged one, so the tree on them is not sound
+pub record HasDamage (s : Space) (live : Live) (read : Read) (asked : Query) (fault : PageFault) : Type 0 where
+  pub damage : IsDamage fault
+  pub count : ℕ
+  pub cause : HasSearchCause s live read asked count fault
+  pub unsound : ¬ IsSoundTree s (nodes_of read) live
+
+-- what is told of a command that asks this query, or none
+abbrev pub IsTold : Space → Live → List ℕ → Command → Option Query → Outcome → Type 0
+IsTold s live image c None (outcome.Done r log) = ((limit : ℕ) → r ≡ reply_in s live image limit c) × (log ≡ None)
+IsTold s live image c None (outcome.Damaged fault) = ⊥
+IsTold s live image c (Some asked) (outcome.Done (reply.Hits hits tags) (Some log)) = IsAnswer s live image asked hits tags log
+IsTold s live image c (Some asked) (outcome.Damaged fault) = HasDamage s live (reading s.words live.pages image) asked fault
+IsTold s live image c (Some asked) _ = ⊥
+
+-- ---- outcomes
+
+-- hits have a log that can be spelled, and nothing else has a log
+abbrev pub IsLogged : Reply → Option Log → Type 0
+IsLogged (reply.Hits hits tags) log = MatchOption log ⊥ IsLawfulLog
+IsLogged other log = log ≡ None
+
+-- an outcome that can be written: its log is there exactly where its reply is hits, of which each has a tag
+abbrev pub IsLawful : Outcome → Type 0
+IsLawful (outcome.Done r log) = TagsAre r × IsLogged r log
+IsLawful (outcome.Damaged fault) = IsDamage fault
+
+-- The outcome of a command on an image: on a sound one what the command means; on any one the answer of its query's walk, or the
+-- damaged page to which that comes, or the reply to what is no query.
+pub record IsOutcomeOf (s : Space) (live : Live) (image : List ℕ) (c : Command) (o : Outcome) : Type 0 where
+  pub meant : IsSoundTree s (nodes_in s.words live image) live → IsMeant s live image c o
+  pub told : IsTold s live image c (answered_query s c) o
+  pub lawful : IsLawful o
+
+-- ---- what a search found, and its tags
+
+-- the tags of what was found are those that the walk of its log meets; where the log shows the hits, those of the hits' objects
+pub record AreTagsOf (shelf : Shelf) (live : Live) (found : Found) (tags : List ℕ) : Type 0 where
+  pub each : length tags ≡ length found.hits
+  pub met : IsTrue shelf.tells → tags ≡ met_tags (nodes_of shelf.read) live found
+  pub objects : IsTrue shelf.tells → (s : Space) → IsShown s (nodes_of shelf.read) live found → tags ≡ object_tags (nodes_of shelf.read) live found
+
+-- what was found is answered with its tags, or the walk of its log came to a page without a node
+abbrev pub IsTagged : Shelf → Shelf → Live → Found → Outcome → Type 0
+IsTagged old new live found o =
+    ((tags : List ℕ) × (o ≡ outcome.Done (reply.Hits found.hits tags) (Some found.log)) × AreTagsOf old live found tags)
+    ⊎ ((fault : PageFault) × (o ≡ outcome.Damaged fault) × (fault ≢ page.Memory) × HasTagsCause old new (live.root ∷ []) found.log.records fault)
+
+-- what a page that gave no node is to a query: want of memory ends it, and anything else is told
+abbrev pub outcome_of_fault : PageFault → Result Outcome AllocError
+outcome_of_fault page.Memory = Err alloc_error
+outcome_of_fault fault = Ok (outcome.Damaged fault)

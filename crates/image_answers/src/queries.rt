@@ -1,0 +1,107 @@
+//! Queries on a file in memory.
+
+ghost use Rattle.std.specs.Prelude.{◌≡◌, ◌≢◌, ◌≤◌, ◌^◌, IfOk, Ok, Err, alloc_error};
+ghost use Rattle.rows_text.specs.declared.command.Command.TheVariants as command;
+ghost use Rattle.page_store.specs.Shelf.{HoldsSame};
+ghost use Rattle.image_answers.specs.Outcomes.{IsOutcomeOf, IsTagged, outcome_of_fault};
+
+use crate::Memory;
+use crate::outcome::Outcome;
+use hit_tags::tags_of;
+use log_model::Found;
+use metric_laws::{Listed, Meter, Metric, Point};
+use nearest_search::nearest;
+use page_store::{ImagePages, PageFault, Pages};
+use range_search::range;
+use rows_text::{Refusal, Reply};
+use std::alloc::{AllocError, Global};
+use tree_shape::Live;
+
+/// The pages of an image, of which none has been asked for.
+pub fn pages_of<'a, M: Metric>(image: &'a [u8], metric: M, live: &Live) -> ImagePages<'a>
+    requires { live.now.pages ≤ 2 ^ 24 }
+    ensures bytes { result.bytes.now ≡ image.now }
+    ensures dim { result.dim ≡ (M.space metric).words }
+    ensures pages { result.pages ≡ live.now.pages }
+    ensures asked { result.asked ≡ 0 }
+{
+    ImagePages::new(image, metric.words() as u8, live.pages)
+}
+
+// What a page that gave no node is to a query.
+fn outcome_of_fault(fault: PageFault) -> Result<Outcome, Memory>
+    ensures { result ≡ outcome_of_fault fault }
+{
+    match fault {
+        PageFault::Memory => Err(AllocError),
+        fault => Ok(Outcome::Damaged(fault)),
+    }
+}
+
+// What was found, with the tags of its hits.
+fn tagged<P: Pages>(
+    alloc: Global,
+    pages: &mut P,
+    live: &Live,
+    found: Found,
+) -> Result<Outcome, Memory>
+    ensures { IfOk result (IsTagged (P.shelf pages.old) (P.shelf pages.new) live.now found) }
+{
+    match tags_of(alloc, pages, live, &found) {
+        Ok(tags) => Ok(Outcome::Done {
+            reply: Reply::Hits {
+                hits: found.hits,
+                tags: Listed::new(tags),
+            },
+            log: Some(found.log),
+        }),
+        Err(fault) => outcome_of_fault(fault),
+    }
+}
+
+/// Every object within `r` of `q`.
+pub fn range_outcome<M: Metric>(
+    alloc: Global,
+    image: &[u8],
+    metric: M,
+    live: &Live,
+    q: &Point,
+    r: u64,
+) -> Result<Outcome, Memory>
+    requires { live.now.pages ≤ 2 ^ 24 }
+    ensures { IfOk result (IsOutcomeOf (M.space metric) live.now image.now (command.Range r q.now)) }
+{
+    if !metric.fits(q.as_slice()) {
+        return Ok(Outcome::refused(Refusal::Unfit));
+    }
+    let mut pages = pages_of(image, metric, live);
+    let mut ruler = Meter::new(metric);
+    match range(alloc, &mut pages, &mut ruler, live, q.as_slice(), r) {
+        Ok(found) => tagged(alloc, &mut pages, live, found),
+        Err(fault) => outcome_of_fault(fault),
+    }
+}
+
+/// The `k` objects nearest to `q`.
+pub fn nearest_outcome<M: Metric>(
+    alloc: Global,
+    image: &[u8],
+    metric: M,
+    live: &Live,
+    q: &Point,
+    k: u64,
+) -> Result<Outcome, Memory>
+    requires pages { live.now.pages ≤ 2 ^ 24 }
+    requires some { 1 ≤ k }
+    ensures { IfOk result (IsOutcomeOf (M.space metric) live.now image.now (command.Nearest k q.now)) }
+{
+    if !metric.fits(q.as_slice()) {
+        return Ok(Outcome::refused(Refusal::Unfit));
+    }
+    let mut pages = pages_of(image, metric, live);
+    let mut ruler = Meter::new(metric);
+    match nearest(alloc, &mut pages, &mut ruler, live, q.as_slice(), k) {
+        Ok(found) => tagged(alloc, &mut pages, live, found),
+        Err(fault) => outcome_of_fault(fault),
+    }
+}

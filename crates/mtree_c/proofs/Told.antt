@@ -1,0 +1,104 @@
+-- What a job says of a disk, a source and a sink is said of their bytes.
+use Rattle.std.proofs.Common.{◌≡◌, ◌≢◌, ◌⊎◌, inl, inr, ⊎_elim, ℕ, ◌+◌, ◌<◌, ◌^◌, List, [], ◌∷◌, ◌++◌, length, Option, Some, refl, sym, subst, ◌∙◌, ap, arith}
+use Rattle.std.specs.Prelude.{codes, IsTrue, ◌≤◌}
+use Rattle.std.proofs.lemmas.List.{append-nil}
+use Rattle.std.specs.List.{concat}
+use Rattle.std.specs.Io.KnownBytes.{Appends, Consumes, IsAtEnd}
+use Rattle.outside_io.specs.Causes.{Rose}
+use Rattle.outside_io.specs.Sinks.{SinkState, Tells}
+use Rattle.disk_model.specs.Disk.{DiskState}
+use Rattle.file_jobs.specs.Jobs.{Audits, IsAuditStatus, IsAudited, IsNoIndex, IsSoundWith}
+use Rattle.file_jobs.specs.Lines.{not_index_text, rejected_text, sound_text}
+use Rattle.log_jobs.specs.declared.report.Report.{Report}
+use Rattle.log_jobs.specs.Jobs.{JudgesLogs, IsLogStatus, Judges, Says, WritesOn}
+use Rattle.mtree_c.specs.Rooms.{HandsText, StandAtFront}
+use Rattle.mtree_c.specs.Texts.{IsAuditText, IsLogText, IsUnopenedText}
+
+pub unmoved : Rose 0 0 → ⊥
+unmoved rose = omega (arith, rose)
+
+-- a sink that held nothing and never failed holds what was put
+appended : (a b : Option (List ℕ)) (text bytes : List ℕ) → a ≡ Some [] → b ≡ Some text → Appends a b bytes → text ≡ bytes
+appended a b text bytes empty holds put = subst (λ (y : Option (List ℕ)). Appends (Some []) y bytes) holds (subst (λ (x : Option (List ℕ)). Appends x b bytes) empty put)
+
+told : (o0 o1 : SinkState) (text line : List ℕ) → o0.written ≡ Some [] → o1.written ≡ Some text → o0.faults ≡ 0 → o1.faults ≡ 0 → Tells o0 o1 line → text ≡ line
+told o0 o1 text line empty holds none never (inl put) = appended o0.written o1.written text line empty holds put
+told o0 o1 text line empty holds none never (inr part) = absurd (unmoved (subst (λ (x : ℕ). Rose x 0) none (subst (λ (x : ℕ). Rose o0.faults x) never part.1)))
+
+-- a text is handed over, where memory sufficed for it
+pub hands_text : (IsText : List ℕ → ℕ → Type 0) (before after written : List ℕ) (faults size status of : ℕ)
+    → (status ≢ 4 → status ≢ 8 → (status ≡ of) × (faults ≡ 0) × StandAtFront written before after × (size ≡ length written))
+    → (status ≡ 4 → (of ≢ 4) × (of ≢ 8) × (faults ≡ 0) × (after ≡ before) × (size ≡ length written) × (length before < size))
+    → (status ≡ 8 → (after ≡ before) × (size ≡ 0)) → (faults ≡ 0 → of ≢ 4 → of ≢ 8 → IsText written of) → HandsText IsText before after size status
+hands_text IsText before after written faults size status of done short memory says = record {
+  done = λ a b. let d = done a b in (written, subst (IsText written) (sym d.0) (says d.1 (λ e. a (d.0 ∙ e)) (λ e. b (d.0 ∙ e))), d.2, d.3);
+  short = λ e. let s = short e in (written, of, says s.2 s.0 s.1, s.3, s.4, s.5);
+  memory = memory;
+}
+
+-- what was taken to the end is all that there was
+taken_all : (a b : Option (List ℕ)) (logs left bytes : List ℕ) → a ≡ Some logs → b ≡ Some left → Consumes a b bytes → IsAtEnd b → bytes ≡ logs
+taken_all a b logs left bytes had has taken end =
+    let took : logs ≡ bytes ++ left = subst (λ (y : Option (List ℕ)). Consumes (Some logs) y bytes) has (subst (λ (x : Option (List ℕ)). Consumes x b bytes) had taken) in
+    let empty : left ≡ [] = subst IsAtEnd has end in
+    sym (append-nil bytes) ∙ ap (λ (x : List ℕ). bytes ++ x) (sym empty) ∙ sym took
+
+taken_front : (a b : Option (List ℕ)) (logs left bytes : List ℕ) → a ≡ Some logs → b ≡ Some left → Consumes a b bytes → length bytes ≤ length logs
+taken_front a b logs left bytes had has taken =
+    let took : logs ≡ bytes ++ left = subst (λ (y : Option (List ℕ)). Consumes (Some logs) y bytes) has (subst (λ (x : Option (List ℕ)). Consumes x b bytes) had taken) in
+    omega (arith, ap length took, Rattle.std.proofs.Common.length-append bytes left)
+
+module _ (d0 d1 : DiskState) (o0 o1 : SinkState) (file text : List ℕ) (tells : IsTrue d0.tells) (bytes_are : d0.bytes ≡ file)
+    (empty : o0.written ≡ Some []) (holds : o1.written ≡ Some text) (none : o0.faults ≡ 0) (never : o1.faults ≡ 0) where
+  unopened : (name : List ℕ) → Tells o0 o1 (not_index_text name) → (IsTrue d0.tells → IsNoIndex d0.bytes name) → IsUnopenedText file text
+  unopened name line why = (name, subst (λ (x : List ℕ). IsNoIndex x name) bytes_are (why tells), told o0 o1 text (not_index_text name) empty holds none never line)
+
+  audit_ends : (status : ℕ) → IsAuditStatus status → status ≢ 4 → status ≢ 8 → (status ≡ 0) ⊎ ((status ≡ 1) ⊎ ((status ≡ 5) ⊎ (status ≡ 6)))
+  audit_ends status (inl is) a b = inl is
+  audit_ends status (inr (inl is)) a b = inr (inl is)
+  audit_ends status (inr (inr (inl is))) a b = absurd (a is)
+  audit_ends status (inr (inr (inr (inl is)))) a b = inr (inr (inl is))
+  audit_ends status (inr (inr (inr (inr (inl is))))) a b = inr (inr (inr is))
+  audit_ends status (inr (inr (inr (inr (inr is))))) a b = absurd (b is)
+
+  pub audit_text : (status : ℕ) → Audits d0 d1 o0 o1 status → IsAuditStatus status → status ≢ 4 → status ≢ 8 → IsAuditText file text status
+  audit_text status audits statuses not_short not_memory = record {
+    sound = λ is. let s = audits.sound is in (s.0, s.1, subst (λ (x : List ℕ). IsSoundWith x s.0 s.1) bytes_are (s.3 tells), appended o0.written o1.written text (sound_text s.0 s.1) empty holds s.2);
+    rejected = λ is. let r = audits.rejected is in (r.0, subst (λ (x : List ℕ). IsAudited x (Some r.0)) bytes_are (r.2 tells), appended o0.written o1.written text (rejected_text r.0) empty holds r.1);
+    no_index = λ is. let n = audits.not_index is in unopened n.0 n.1 n.2;
+    statuses = audit_ends status statuses not_short not_memory;
+  }
+
+  -- ---- logs
+
+  module _ (what : Report) (l0 l1 : Option (List ℕ)) (logs left : List ℕ) (had : l0 ≡ Some logs) (has : l1 ≡ Some left) (status : ℕ) (judged : JudgesLogs what d0 d1 l0 l1 o0 o1 status)
+      (not_input : status ≢ 3) (not_short : status ≢ 4) (not_memory : status ≢ 8) where
+    all_taken : status ≢ 7 → judged.bytes ≡ logs
+    all_taken other = taken_all l0 l1 logs left judged.bytes had has judged.taken (judged.all not_input other not_memory)
+
+    said : (status ≡ 0) ⊎ (status ≡ 1) → status ≢ 7 →
+        (s : Rattle.log_jobs.specs.Lines.Saying) × Says what file logs s × (text ≡ concat s.texts) × (status ≡ s.status)
+    said is other =
+        let w = (judged.judges not_input other).done is tells in
+        let e = w.2.ends.done is in
+        let whole : w.0.texts ≡ w.2.put = w.2.whole ∙ ap (λ (x : List (List ℕ)). w.2.put ++ x) e.1 ∙ append-nil w.2.put in
+        let put : text ≡ concat w.2.put = appended o0.written o1.written text (concat w.2.put) empty holds (subst (λ (m : Option (List ℕ)). Appends o0.written m (concat w.2.put)) (sym e.2) w.2.written) in
+        (w.0, subst (λ (x : List ℕ). Says what x logs w.0) bytes_are (subst (λ (x : List ℕ). Says what d0.bytes x w.0) (all_taken other) w.1), put ∙ ap concat (sym whole), e.0)
+
+    log_ends : IsLogStatus status → (status ≡ 0) ⊎ ((status ≡ 1) ⊎ ((status ≡ 5) ⊎ ((status ≡ 6) ⊎ (status ≡ 7))))
+    log_ends (inl is) = absurd (not_input is)
+    log_ends (inr (inl is)) = inr (inr (inr (inr is)))
+    log_ends (inr (inr (inl is))) = inl is
+    log_ends (inr (inr (inr (inl is)))) = inr (inl is)
+    log_ends (inr (inr (inr (inr (inl is))))) = absurd (not_short is)
+    log_ends (inr (inr (inr (inr (inr (inl is)))))) = inr (inr (inl is))
+    log_ends (inr (inr (inr (inr (inr (inr (inl is))))))) = inr (inr (inr (inl is)))
+    log_ends (inr (inr (inr (inr (inr (inr (inr is))))))) = absurd (not_memory is)
+
+    pub log_text : IsLogStatus status → IsLogText what file logs text status
+    log_text statuses = record {
+      judged = λ is. said is (⊎_elim (λ z. λ s. absurd (omega (arith, z, s))) (λ one. λ s. absurd (omega (arith, one, s))) is);
+      no_index = λ is. let n = (judged.judges not_input (λ s. omega (arith, is, s))).not_index is in unopened n.0 n.1 n.2;
+      long = λ is. (omega (arith, judged.long.0 is, taken_front l0 l1 logs left judged.bytes had has judged.taken), told o0 o1 text (codes "fault long\n") empty holds none never (judged.long_line is));
+      statuses = log_ends statuses;
+    }

@@ -1,0 +1,97 @@
+-- What a query is answered on the bytes of a file.
+use Rattle.std.specs.Prelude.{◌≡◌, ◌≢◌, ◌⊎◌, ◌<◌, ℕ, List, [], ◌∷◌, length, false, Some, Result, Ok, Err}
+use Rattle.std.specs.declared.alloc.AllocError.{AllocError}
+use Rattle.metric_laws.specs.Space.{Space}
+use Rattle.metric_mix.specs.MixSpaces.{mix_space}
+use Rattle.scan_model.specs.declared.hit.Hit.{Hit}
+use Rattle.tree_shape.specs.declared.live.Live.{Live}
+use Rattle.node_page.specs.declared.head.Head.{Head}
+use Rattle.node_page.specs.Opening.{OpensTo}
+use Rattle.page_store.specs.declared.pages.PageFault.{PageFault}
+use Rattle.log_model.specs.declared.logs.Log.{Log}
+use Rattle.prune_log.specs.Spelling.{frame_bytes, log_bytes}
+use Rattle.rows_text.specs.declared.command.Command.{Command}
+use Rattle.rows_text.specs.declared.command.Command.TheVariants as command
+use Rattle.rows_text.specs.declared.reply.Reply.TheVariants as reply
+use Rattle.rows_text.specs.Meaning.{has_points_of}
+use Rattle.file_jobs.specs.Jobs.{IsNoIndex}
+use Rattle.image_answers.specs.declared.outcome.Outcome.{Outcome}
+use Rattle.image_answers.specs.declared.outcome.Outcome.TheVariants as outcome
+use Rattle.image_answers.specs.Outcomes.{IsOutcomeOf}
+use Rattle.mtree_c.specs.declared.answering.TaggedHit.{TaggedHit}
+use Rattle.mtree_c.specs.declared.answering.Sizes.{Sizes}
+use Rattle.mtree_c.specs.Rooms.{StandAtFront}
+
+-- each hit with its tag
+abbrev pub tagged : List Hit → List ℕ → List TaggedHit
+tagged [] tags = []
+tagged (h ∷ hits) [] = []
+tagged (h ∷ hits) (tag ∷ tags) = record { id = h.id; distance = h.dist; tag = tag } ∷ tagged hits tags
+
+-- ---- on the bytes of a file
+
+-- the space of a head
+abbrev pub space_of : Head → Space
+space_of head = mix_space head.kind head.dim
+
+-- the bytes are a file of version 2, and a command on it comes to this
+pub record ComesTo (file : List ℕ) (c : Command) (o : Outcome) : Type 0 where
+  pub head : Head
+  pub live : Live
+  pub opens : OpensTo file head live
+  pub version : head.version ≡ 2
+  pub outcome : IsOutcomeOf (space_of head) live file c o
+
+-- it asks for none of the nearest, or about what is no point of the file's space
+abbrev pub IsNoQuery : List ℕ → Command → Type 0
+IsNoQuery file c =
+    ((q : List ℕ) × (c ≡ command.Nearest 0 q)) ⊎ ((head : Head) × (live : Live) × OpensTo file head live × (head.version ≡ 2) × (has_points_of (space_of head) c ≡ false))
+
+-- why a query has no answer, by its status: 2 it was no query; 6 the bytes are no file of version 2; 9 its search came to a damaged page
+pub record HasNoAnswer (file : List ℕ) (c : Command) (status : ℕ) : Type 0 where
+  pub no_query : status ≡ 2 → IsNoQuery file c
+  pub no_index : status ≡ 6 → (name : List ℕ) × IsNoIndex file name
+  pub damaged : status ≡ 9 → (fault : PageFault) × ComesTo file c (outcome.Damaged fault)
+  pub statuses : (status ≡ 2) ⊎ ((status ≡ 5) ⊎ ((status ≡ 6) ⊎ ((status ≡ 8) ⊎ (status ≡ 9))))
+
+-- the status of an outcome that is no answer to a query
+abbrev pub status_of : Result Outcome AllocError → ℕ
+status_of (Err memory) = 8
+status_of (Ok (outcome.Damaged fault)) = 9
+status_of (Ok (outcome.Done r log)) = 2
+
+abbrev pub IsUnanswered : Result Outcome AllocError → Type 0
+IsUnanswered (Ok (outcome.Done (reply.Hits hits tags) (Some log))) = ⊥
+IsUnanswered other = Unit {0}
+
+-- ---- what is handed over
+
+-- hits with their tags, and the log's frame
+pub record Answer : Type 0 where
+  pub hits : List TaggedHit
+  pub frame : List ℕ
+
+-- the frame of a log, where the caller has a buffer for it
+abbrev pub frame_for : List ℕ → Log → List ℕ
+frame_for [] log = []
+frame_for room log = frame_bytes (log_bytes log)
+
+-- these hits, tags and log, as they are handed over to a caller with this buffer for the log
+abbrev pub answer_for : List ℕ → List Hit → List ℕ → Log → Answer
+answer_for room hits tags log = record { hits = tagged hits tags; frame = frame_for room log }
+
+-- what the query of a command is answered on the file
+abbrev pub IsAnswer : List ℕ → Command → List ℕ → Answer → Type 0
+IsAnswer file c room a =
+    (hits : List Hit) × (tags : List ℕ) × (log : Log) × ComesTo file c (outcome.Done (reply.Hits hits tags) (Some log)) × (a ≡ answer_for room hits tags log)
+
+abbrev pub sizes_of : Answer → Sizes
+sizes_of a = record { hits = length a.hits; log = length a.frame }
+
+-- What a query's call hands over. Status 0: the answer stands in the buffers; 4: one of them has no room for its part. Where it isn't 0
+-- the buffers are as they were, and where it is neither 0 nor 4 the sizes are 0.
+pub record HandsAnswer (file : List ℕ) (c : Command) (hits0 hits1 : List TaggedHit) (log0 log1 : List ℕ) (sizes : Sizes) (status : ℕ) : Type 0 where
+  pub done : status ≡ 0 → (a : Answer) × IsAnswer file c log0 a × (sizes ≡ sizes_of a) × StandAtFront a.hits hits0 hits1 × StandAtFront a.frame log0 log1
+  pub short : status ≡ 4 → (a : Answer) × IsAnswer file c log0 a × (sizes ≡ sizes_of a) × ((length hits0 < length a.hits) ⊎ (length log0 < length a.frame))
+  pub unanswered : status ≢ 0 → status ≢ 4 → HasNoAnswer file c status × (sizes ≡ record { hits = 0; log = 0 })
+  pub same : status ≢ 0 → (hits1 ≡ hits0) × (log1 ≡ log0)

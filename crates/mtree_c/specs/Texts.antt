@@ -1,0 +1,28 @@
+-- The texts on the bytes of a file and of logs, with the statuses of the program's jobs.
+use Rattle.std.specs.Prelude.{◌≡◌, ◌⊎◌, ◌<◌, ◌^◌, ℕ, List, length, codes, Some, None}
+use Rattle.std.specs.List.{concat}
+use Rattle.tree_audit.specs.declared.faults.AuditFault.{AuditFault}
+use Rattle.file_jobs.specs.Jobs.{IsAudited, IsNoIndex, IsSoundWith}
+use Rattle.file_jobs.specs.Lines.{not_index_text, rejected_text, sound_text}
+use Rattle.log_jobs.specs.declared.report.Report.{Report}
+use Rattle.log_jobs.specs.Jobs.{Says}
+use Rattle.log_jobs.specs.Lines.{Saying}
+
+-- why the bytes are no file of version 2, in a line
+abbrev pub IsUnopenedText : List ℕ → List ℕ → Type 0
+IsUnopenedText file text = (name : List ℕ) × IsNoIndex file name × (text ≡ not_index_text name)
+
+-- The text of an audit. Status 0: the file is sound; 1: it has a fault; 6: it is no file of version 2.
+pub record IsAuditText (file text : List ℕ) (status : ℕ) : Type 0 where
+  pub sound : status ≡ 0 → (objects : ℕ) × (nodes : ℕ) × IsSoundWith file objects nodes × (text ≡ sound_text objects nodes)
+  pub rejected : status ≡ 1 → (fault : AuditFault) × IsAudited file (Some fault) × (text ≡ rejected_text fault)
+  pub no_index : status ≡ 6 → IsUnopenedText file text
+  pub statuses : (status ≡ 0) ⊎ ((status ≡ 1) ⊎ ((status ≡ 5) ⊎ (status ≡ 6)))
+
+-- The text on logs. Status 0 and 1: what is to be said of the file and of them; 6: it is no file of version 2; 7: there are more than
+-- 2^30 bytes of logs.
+pub record IsLogText (what : Report) (file logs text : List ℕ) (status : ℕ) : Type 0 where
+  pub judged : (status ≡ 0) ⊎ (status ≡ 1) → (said : Saying) × Says what file logs said × (text ≡ concat said.texts) × (status ≡ said.status)
+  pub no_index : status ≡ 6 → IsUnopenedText file text
+  pub long : status ≡ 7 → (2 ^ 30 < length logs) × (text ≡ codes "fault long\n")
+  pub statuses : (status ≡ 0) ⊎ ((status ≡ 1) ⊎ ((status ≡ 5) ⊎ ((status ≡ 6) ⊎ (status ≡ 7))))

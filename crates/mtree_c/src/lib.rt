@@ -1,0 +1,29 @@
+//! The index for programs in other languages. Each call takes the bytes of an index file, which the caller holds in memory or
+//! maps, and answers into the caller's own buffers. Nothing is kept between calls, and no call writes a file. A status is one
+//! of the program's own table: 0 done, 1 rejected, 2 no query, 4 a buffer is too small, 6 no index of version 2, 7 too long,
+//! 8 want of memory, 9 a damaged page. 5, the status of a disk that failed, would be that of a write to the bytes, which none
+//! of the calls tries.
+#![tactic(auto)]
+
+mod answering;
+mod ends;
+mod judging;
+mod rooms;
+
+pub use answering::{Sizes, TaggedHit, mtree_nearest, mtree_range};
+pub use judging::{mtree_audit, mtree_check, mtree_verify};
+
+/// No call can do what was asked for: the point is none of the file's space, or none of the nearest are asked for.
+pub(crate) const NO_QUERY: u8 = 2;
+
+/// A buffer is too small.
+pub(crate) const SHORT: u8 = 4;
+
+/// Want of memory.
+pub(crate) const MEMORY: u8 = 8;
+
+/// A search came to a damaged page.
+pub(crate) const DAMAGED: u8 = 9;
+
+#[cfg(test)]
+mod tests;

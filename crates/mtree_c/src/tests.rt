@@ -1,0 +1,117 @@
+use crate::{Sizes, TaggedHit, mtree_audit, mtree_check, mtree_nearest, mtree_range, mtree_verify};
+use std::alloc::{AllocError, Global};
+use std::test::Fail;
+
+// The first words of the pages of a file, of 4 bytes each: an index of the numbers 4 and 9 under L1, with the tags 7 and 8.
+const PAGES: [&[u32]; 4] = [
+    &[0x4d54_5245, 0x4549_4458, 0x0002_0201, 0x0201_0000, 7],
+    &[0xa500_0000, 0, 0, 1, 3, 0, 2, 4],
+    &[],
+    &[2, 0, 0, 0, 0, 0, 7, 0, 0, 4, 1, 0, 8, 0, 0, 9],
+];
+
+fn file(alloc: Global) -> Result<Vec<u8>, AllocError> {
+    let mut bytes = Vec::new(alloc);
+    for page in &PAGES {
+        for word in page.iter() {
+            bytes.extend_from_slice(&word.to_be_bytes())?;
+        }
+        for _ in page.len()..1024 {
+            bytes.extend_from_slice(&[0; 4])?;
+        }
+    }
+    Ok(bytes)
+}
+
+const NO_HIT: TaggedHit = TaggedHit {
+    id: 99,
+    distance: 99,
+    tag: 99,
+};
+
+const FOUR: TaggedHit = TaggedHit {
+    id: 0,
+    distance: 1,
+    tag: 7,
+};
+
+const NINE: TaggedHit = TaggedHit {
+    id: 1,
+    distance: 4,
+    tag: 8,
+};
+
+const NOTHING: Sizes = Sizes { hits: 0, log: 0 };
+
+// Ranges: the point, the radius, the room for hits, and the status, the hits and their number that come of it.
+#[test]
+fn ranges(rt: HostRuntime) -> Result<(), Fail> {
+    let alloc = rt.alloc();
+    let file = file(alloc)?;
+    let cases: [(&[u32], u64, usize, u8, [TaggedHit; 2], usize); 6] = [
+        (&[5], 4, 2, 0, [FOUR, NINE], 2),
+        (&[5], 1, 2, 0, [FOUR, NO_HIT], 1),
+        (&[5], 0, 0, 0, [NO_HIT, NO_HIT], 0),
+        (&[5], 4, 1, 4, [NO_HIT, NO_HIT], 2),
+        (&[5, 5], 4, 2, 2, [NO_HIT, NO_HIT], 0),
+        (&[], 4, 2, 2, [NO_HIT, NO_HIT], 0),
+    ];
+    for (point, radius, room, status, wanted, count) in &cases {
+        let mut hits = [NO_HIT; 2];
+        let mut sizes = NOTHING;
+        let room = (*room).min(2);
+        let found = mtree_range(alloc, &file, point, *radius, &mut hits[..room], &mut [], &mut sizes);
+        assert_eq!(rt; found, *status);
+        assert_eq!(rt; hits, *wanted);
+        assert_eq!(rt; sizes, Sizes { hits: *count, log: 0 });
+    }
+    Ok(())
+}
+
+// Where there is a buffer for it the log's frame is handed over, and the file verifies it.
+#[test]
+fn logs(rt: HostRuntime) -> Result<(), Fail> {
+    let alloc = rt.alloc();
+    let file = file(alloc)?;
+    let mut hits = [NO_HIT; 2];
+    let mut sizes = NOTHING;
+    let mut log = [9u8; 100];
+    let short = mtree_nearest(alloc, &file, &[5], 2, hits.as_mut_slice(), &mut log[..1], &mut sizes);
+    assert_eq!(rt; (short, sizes.hits, log[0]), (4, 2, 9));
+    let found = mtree_nearest(alloc, &file, &[5], 2, hits.as_mut_slice(), log.as_mut_slice(), &mut sizes);
+    assert_eq!(rt; (found, hits), (0, [FOUR, NINE]));
+    let frame = &log[..sizes.log.min(100)];
+    let mut text = [0u8; 100];
+    let mut size = 0;
+    let verified = mtree_verify(alloc, &file, frame, text.as_mut_slice(), &mut size);
+    assert_eq!(rt; (verified, &text[..size.min(100)]), (0, b"frame 0 accepted\nlog accepted, file not audited\n".as_slice()));
+    let checked = mtree_check(alloc, &file, frame, text.as_mut_slice(), &mut size);
+    assert_eq!(rt; (checked, &text[..size.min(100)]), (0, b"file sound\nframe 0 complete\nnearest,2,5\nhits 2\n0 1\n1 4\nlog complete\n".as_slice()));
+    let none = mtree_nearest(alloc, &file, &[5], 0, hits.as_mut_slice(), &mut [], &mut sizes);
+    assert_eq!(rt; (none, sizes), (2, NOTHING));
+    Ok(())
+}
+
+#[test]
+fn texts(rt: HostRuntime) -> Result<(), Fail> {
+    let alloc = rt.alloc();
+    let mut file = file(alloc)?;
+    let sound = b"sound\nobjects 2\nnodes 1\n";
+    let mut text = [7u8; 40];
+    let mut size = 0;
+    let status = mtree_audit(alloc, &file, &mut text[..23], &mut size);
+    assert_eq!(rt; (status, size, text), (4, 24, [7; 40]));
+    let status = mtree_audit(alloc, &file, text.as_mut_slice(), &mut size);
+    assert_eq!(rt; (status, &text[..size.min(40)]), (0, sound.as_slice()));
+    let status = mtree_audit(alloc, &[], text.as_mut_slice(), &mut size);
+    assert_eq!(rt; (status, &text[..size.min(40)]), (6, b"fault notindex short\n".as_slice()));
+    if file.len() > 12288 {
+        file[12288] = 15;
+    }
+    let status = mtree_audit(alloc, &file, text.as_mut_slice(), &mut size);
+    assert_eq!(rt; (status, &text[..size.min(40)]), (1, b"rejected page bad 3 kind\n".as_slice()));
+    let mut sizes = NOTHING;
+    let status = mtree_range(alloc, &file, &[5], 4, &mut [], &mut [], &mut sizes);
+    assert_eq!(rt; (status, sizes), (9, NOTHING));
+    Ok(())
+}

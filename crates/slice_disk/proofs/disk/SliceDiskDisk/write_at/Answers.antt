@@ -1,0 +1,14 @@
+use Rattle.std.proofs.Common.{refl, arith, length}
+use Rattle.slice_disk.proofs.disk.SliceDiskDisk.write_at.Goals as goal
+
+pub returns-clause-torn : goal.returns-clause-torn
+returns-clause-torn c image left = (
+  image,
+  left,
+  record {
+    no_shorter = omega arith;
+    no_longer = omega arith;
+    below = λ i inside lt. refl;
+    above = λ i inside le. refl;
+  },
+)
