@@ -1,3 +1,4 @@
 pub mod Opened
+pub mod Taken
 pub mod Frames
 pub mod Telling

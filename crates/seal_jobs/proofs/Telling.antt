@@ -1,5 +1,5 @@
 -- What the frames and lines of logs come to that are put one after another.
-use Rattle.std.proofs.Common.{◌≡◌, ℕ, ◌+◌, ◌&&◌, Bool, true, List, [], ◌∷◌, ◌++◌, length, map, Option, refl, sym, subst, ◌∙◌, ap, append_assoc, arith}
+use Rattle.std.proofs.Common.{◌≡◌, ◌≢◌, ◌⊎◌, inl, inr, ⊎_elim, ℕ, ◌+◌, ◌≤◌, ◌&&◌, Bool, true, List, [], ◌∷◌, ◌++◌, length, map, Option, Ok, refl, sym, subst, ◌∙◌, ap, append_assoc, arith}
 use Rattle.std.specs.List.{flat_map, list_all}
 use Rattle.std.specs.Io.KnownBytes.{Appends}
 use Rattle.std.proofs.lemmas.List.{append-nil, length-append, map-append}
@@ -8,13 +8,19 @@ use Rattle.std.proofs.lemmas.Grind.{flat_map-append}
 use Rattle.std.proofs.Math.Bool.{and-true}
 use Rattle.std.proofs.Math.Nat.{add-zero, zero-add}
 use Rattle.std.proofs.KnownBytes.{Appends-nil, Appends-trans}
-use Rattle.std.specs.Prelude.{IsTrue}
+use Rattle.std.specs.Prelude.{IsTrue, codes}
+use Rattle.outside_io.specs.Bytes.{AppendsPrefix}
+use Rattle.outside_io.specs.Sinks.{SinkState, Tells}
 use Rattle.disk_model.specs.Disk.{DiskState, IsUnchanged, MayLeave}
 use Rattle.disk_model.specs.Moments.{started}
 use Rattle.tree_shape.specs.declared.live.Live.{Live}
 use Rattle.node_page.specs.declared.head.Head.{Head}
 use Rattle.log_model.specs.declared.logs.Log.{Log}
-use Rattle.seal_jobs.specs.Carries.{Told, IsTold, AreTold, PutsLog, HasCarried}
+use Rattle.node_page.specs.Opening.{OpensTo}
+use Rattle.prune_log.specs.Reading.{frames_at, log_at}
+use Rattle.seal_jobs.specs.declared.stop.Halt.{Halt}
+use Rattle.seal_jobs.specs.declared.stop.Halt.TheVariants as halt
+use Rattle.seal_jobs.specs.Carries.{Told, IsTold, AreTold, PutsLog, HasCarried, carried_end, StopsLog, StopsCarrying, Stops, HasHalted}
 
 pub begun : (file : List ℕ) (head : Head) (live : Live) (logs : List Log) (l o : Option (List ℕ)) → HasCarried file head live logs logs 0 true l l o o
 begun file head live logs l o = record { told = []; logs_are = refl; are_told = tt; count = refl; all = refl; put = Appends-nil l; lines = Appends-nil o }
@@ -63,3 +69,69 @@ pub one_more_by : (d0 d1 : DiskState) (head : Head) (live : Live) (logs : List L
 one_more_by d0 d1 head live logs log rest i accepted b l0 l1 l2 o0 o1 o2 same old puts tells =
     one_more d0.bytes head live logs log rest i accepted b l0 l1 l2 o0 o1 o2 (old tells)
     (subst (λ (file : List ℕ). PutsLog file head live i log b l1 l2 o1 o2) same.same_bytes (puts (subst IsTrue (sym same.same_tells) tells)))
+
+-- ---- when the job stops
+
+-- nothing of a log was put
+pub nothing_of : (file : List ℕ) (head : Head) (live : Live) (i : ℕ) (log : Log) (why : Halt) (l o : Option (List ℕ)) → why ≢ halt.Sink → StopsLog file head live i log why l l o o
+nothing_of file head live i log halt.Sink l o not_sink = absurd (not_sink refl)
+nothing_of file head live i log halt.Disk l o not_sink = (refl, refl)
+nothing_of file head live i log halt.Memory l o not_sink = (refl, refl)
+
+-- it stopped within a log, behind those in front
+pub log_stops : (d0 d1 : DiskState) (head : Head) (live : Live) (logs : List Log) (log : Log) (rest : List Log) (i : ℕ) (accepted : Bool) (why : Halt) (l0 l1 l2 o0 o1 o2 : Option (List ℕ)) → IsUnchanged d0 d1
+    → (IsTrue d0.tells → HasCarried d0.bytes head live logs (log ∷ rest) i accepted l0 l1 o0 o1) → (IsTrue d1.tells → StopsLog d1.bytes head live i log why l1 l2 o1 o2)
+    → IsTrue d0.tells → StopsCarrying d0.bytes head live logs why l0 l2 o0 o2
+log_stops d0 d1 head live logs log rest i accepted why l0 l1 l2 o0 o1 o2 same old stops tells = record {
+  rest = log ∷ rest;
+  i = i;
+  accepted = accepted;
+  frames = l1;
+  lines = o1;
+  carried = old tells;
+  after = inl (log, rest, refl, subst (λ (file : List ℕ). StopsLog file head live i log why l1 l2 o1 o2) same.same_bytes (stops (subst IsTrue (sym same.same_tells) tells)));
+}
+
+-- the last line was cut
+pub end_stops : (file : List ℕ) (head : Head) (live : Live) (bytes : List ℕ) (logs : List Log) (i : ℕ) (accepted : Bool) (why : Halt) (l0 l1 o0 o1 o2 : Option (List ℕ)) → frames_at log_at bytes ≡ Ok logs → HasCarried file head live logs [] i accepted l0 l1 o0 o1
+    → why ≡ halt.Sink → AppendsPrefix o1 o2 (carried_end accepted) → Stops file head live bytes why l0 l1 o0 o2
+end_stops file head live bytes logs i accepted why l0 l1 o0 o1 o2 decoded carried is cut = inr (inr (
+  logs,
+  decoded,
+  record {
+    rest = [];
+    i = i;
+    accepted = accepted;
+    frames = l1;
+    lines = o1;
+    carried = carried;
+    after = inr (refl, (is, refl, cut));
+  },
+))
+
+tells_behind : (s0 s1 s2 : SinkState) (line : List ℕ) → s0.faults ≤ s1.faults → Tells s1 s2 line → Tells (record s0 { written = s1.written }) s2 line
+tells_behind s0 s1 s2 line later told = ⊎_elim (λ whole. inl whole) (λ cut. inr (cut.0, (let rose = cut.1 in omega arith))) told
+
+-- by status
+pub halted : (file bytes : List ℕ) (head : Head) (live : Live) (why : Halt) (l0 l1 : Option (List ℕ)) (s0 s1 s2 : SinkState) (status : ℕ) → OpensTo file head live → Stops file head live bytes why l0 l1 s0.written s1.written → s0.faults ≤ s1.faults
+    → (status ≡ 4 → why ≡ halt.Sink) → (status ≡ 5 → why ≡ halt.Disk) → (status ≡ 8 → why ≡ halt.Memory) → (status ≡ 4 → s2.written ≡ s1.written)
+    → (status ≡ 5 → Tells s1 s2 (codes "fault disk\n")) → (status ≡ 8 → Tells s1 s2 (codes "fault memory\n")) → HasHalted file bytes l0 l1 s0 s2 status
+halted file bytes head live why l0 l1 s0 s1 s2 status opens stops later sink disk memory silent disk_line memory_line = record {
+  output = λ is. inr (head, live, opens, subst (λ (w : Halt). Stops file head live bytes w l0 l1 s0.written s2.written) (sink is) (subst (λ (o : Option (List ℕ)). Stops file head live bytes why l0 l1 s0.written o) (sym (silent is)) stops));
+  disk = λ is. (s1.written, inr (head, live, opens, subst (λ (w : Halt). Stops file head live bytes w l0 l1 s0.written s1.written) (disk is) stops), tells_behind s0 s1 s2 (codes "fault disk\n") later (disk_line is));
+  memory = λ is. (s1.written, inr (head, live, opens, subst (λ (w : Halt). Stops file head live bytes w l0 l1 s0.written s1.written) (memory is) stops), tells_behind s0 s1 s2 (codes "fault memory\n") later (memory_line is));
+}
+
+-- nothing was put but the line of the status
+pub halted_before : (file bytes : List ℕ) (l : Option (List ℕ)) (s0 s2 : SinkState) (status : ℕ) → status ≢ 4 → (status ≡ 5 → Tells s0 s2 (codes "fault disk\n")) → (status ≡ 8 → Tells s0 s2 (codes "fault memory\n")) → HasHalted file bytes l l s0 s2 status
+halted_before file bytes l s0 s2 status not_four disk_line memory_line = record {
+  output = λ is. absurd (not_four is);
+  disk = λ is. (s0.written, inl ((λ e. cc e), refl, refl), disk_line is);
+  memory = λ is. (s0.written, inl ((λ e. cc e), refl, refl), memory_line is);
+}
+
+-- the job did not stop
+pub not_halted : (file bytes : List ℕ) (l0 l1 : Option (List ℕ)) (s0 s1 : SinkState) (status : ℕ) → (status ≡ 0) ⊎ (status ≡ 1) → HasHalted file bytes l0 l1 s0 s1 status
+not_halted file bytes l0 l1 s0 s1 status either =
+    let no : (n : ℕ) → 2 ≤ n → status ≡ n → ⊥ = λ n high is. ⊎_elim (λ e. (let no : ⊥ = omega (arith, e, is, high) in no)) (λ e. (let no : ⊥ = omega (arith, e, is, high) in no)) either in
+    record { output = λ is. absurd (no 4 (omega arith) is); disk = λ is. absurd (no 5 (omega arith) is); memory = λ is. absurd (no 8 (omega arith) is) }

@@ -1,7 +1,8 @@
 -- What the job `proof` on an index does and writes.
-use Rattle.std.specs.Prelude.{◌≡◌, ◌⊎◌, ℕ, ◌+◌, ◌^◌, ◌<◌, ◌≤◌, Bool, true, false, List, [], ◌∷◌, ◌++◌, length, map, codes, Option, Some, None, Ok, Err, IsTrue, if◌then◌else◌}
+use Rattle.std.specs.Prelude.{◌≡◌, ◌≢◌, ◌⊎◌, ℕ, ◌+◌, ◌^◌, ◌<◌, ◌≤◌, Bool, true, false, List, [], ◌∷◌, ◌++◌, length, map, codes, Option, Some, None, Ok, Err, IsTrue, if◌then◌else◌}
 use Rattle.std.specs.List.{flat_map, list_all}
 use Rattle.std.specs.Io.KnownBytes.{Appends, Consumes}
+use Rattle.outside_io.specs.Bytes.{AppendsPrefix}
 use Rattle.outside_io.specs.Sinks.{SinkState, Tells}
 use Rattle.disk_model.specs.Disk.{DiskState, IsUnchanged}
 use Rattle.tree_shape.specs.declared.live.Live.{Live}
@@ -19,6 +20,8 @@ use Rattle.seal_log.specs.Digests.{leaf_digests}
 use Rattle.seal_log.specs.Carrying.{Carries}
 use Rattle.file_jobs.specs.Lines.{not_index_text}
 use Rattle.file_jobs.specs.Jobs.{IsNoIndex}
+use Rattle.seal_jobs.specs.declared.stop.Halt.{Halt}
+use Rattle.seal_jobs.specs.declared.stop.Halt.TheVariants as halt
 use Rattle.seal_jobs.specs.Proofs.{space_of}
 use Rattle.seal_jobs.specs.Seals.{IsLarge}
 
@@ -98,6 +101,61 @@ pub record CarriesOn (file bytes : List ℕ) (l0 l1 o0 o1 : Option (List ℕ)) (
   pub few : live.pages ≤ 262144
   pub ends : EndsCarried file head live bytes l0 l1 o0 o1 status
 
+-- ---- when it stops
+
+-- Within a log: nothing of it was put; or, where an output failed, a front of its frame and no line, or its whole frame and a front
+-- of its line.
+abbrev pub StopsLog : List ℕ → Head → Live → ℕ → Log → Halt → Option (List ℕ) → Option (List ℕ) → Option (List ℕ) → Option (List ℕ) → Type 0
+StopsLog file head live i log halt.Sink l0 l1 o0 o1 =
+    (put : List ℕ) × (line : List ℕ) × (b : Bool) × TellsLog file head live i log put line b × ((AppendsPrefix l0 l1 put × (o1 ≡ o0)) ⊎ (Appends l0 l1 put × AppendsPrefix o0 o1 line))
+StopsLog file head live i log halt.Disk l0 l1 o0 o1 = (l1 ≡ l0) × (o1 ≡ o0)
+StopsLog file head live i log halt.Memory l0 l1 o0 o1 = (l1 ≡ l0) × (o1 ≡ o0)
+
+-- the last line was cut
+abbrev pub StopsEnd : Bool → Halt → Option (List ℕ) → Option (List ℕ) → Option (List ℕ) → Option (List ℕ) → Type 0
+StopsEnd accepted why l0 l1 o0 o1 = (why ≡ halt.Sink) × (l1 ≡ l0) × AppendsPrefix o0 o1 (carried_end accepted)
+
+-- The frames and the lines of the first logs were put, each whole, and then what was put of the next log, or of the last line. So a
+-- line, or a front of one, stands only where its frame stands.
+pub record StopsCarrying (file : List ℕ) (head : Head) (live : Live) (logs : List Log) (why : Halt) (l0 l1 o0 o1 : Option (List ℕ)) : Type 0 where
+  pub rest : List Log
+  pub i : ℕ
+  pub accepted : Bool
+  pub frames : Option (List ℕ)
+  pub lines : Option (List ℕ)
+  pub carried : HasCarried file head live logs rest i accepted l0 frames o0 lines
+  pub after : ((log : Log) × (more : List Log) × (rest ≡ log ∷ more) × StopsLog file head live i log why frames l1 lines o1) ⊎ ((rest ≡ []) × StopsEnd accepted why frames l1 lines o1)
+
+-- no output had failed and nothing was put
+abbrev pub StopsBefore : Halt → Option (List ℕ) → Option (List ℕ) → Option (List ℕ) → Option (List ℕ) → Type 0
+StopsBefore why l0 l1 o0 o1 = (why ≢ halt.Sink) × (l1 ≡ l0) × (o1 ≡ o0)
+
+-- the bytes are no logs, and that line was cut
+pub record StopsUndecoded (bytes : List ℕ) (why : Halt) (l0 l1 o0 o1 : Option (List ℕ)) : Type 0 where
+  pub fault : LogFault
+  pub undecoded : frames_at log_at bytes ≡ Err fault
+  pub output : why ≡ halt.Sink
+  pub no_frame : l1 ≡ l0
+  pub line : AppendsPrefix o0 o1 (undecoded_text fault)
+
+abbrev pub Stops : List ℕ → Head → Live → List ℕ → Halt → Option (List ℕ) → Option (List ℕ) → Option (List ℕ) → Option (List ℕ) → Type 0
+Stops file head live bytes why l0 l1 o0 o1 =
+    StopsBefore why l0 l1 o0 o1
+    ⊎ (StopsUndecoded bytes why l0 l1 o0 o1 ⊎ ((logs : List Log) × (frames_at log_at bytes ≡ Ok logs) × StopsCarrying file head live logs why l0 l1 o0 o1))
+
+-- before the file was opened, or on the file that opens
+abbrev pub StopsOn : List ℕ → List ℕ → Halt → Option (List ℕ) → Option (List ℕ) → Option (List ℕ) → Option (List ℕ) → Type 0
+StopsOn file bytes why l0 l1 o0 o1 =
+    StopsBefore why l0 l1 o0 o1 ⊎ ((head : Head) × (live : Live) × OpensTo file head live × Stops file head live bytes why l0 l1 o0 o1)
+
+-- what stands on both outputs where the job stopped: behind that, on out, the line of its status
+pub record HasHalted (file bytes : List ℕ) (l0 l1 : Option (List ℕ)) (out0 out1 : SinkState) (status : ℕ) : Type 0 where
+  pub output : status ≡ 4 → StopsOn file bytes halt.Sink l0 l1 out0.written out1.written
+  pub disk : status ≡ 5 → (lines : Option (List ℕ)) × StopsOn file bytes halt.Disk l0 l1 out0.written lines × Tells (record out0 { written = lines }) out1 (codes "fault disk\n")
+  pub memory : status ≡ 8 → (lines : Option (List ℕ)) × StopsOn file bytes halt.Memory l0 l1 out0.written lines × Tells (record out0 { written = lines }) out1 (codes "fault memory\n")
+
+-- ---- by status
+
 abbrev pub IsDone : ℕ → Type 0
 IsDone status = (status ≡ 0) ⊎ (status ≡ 1)
 
@@ -110,6 +168,7 @@ pub record CarriesLogs (disk0 disk1 : DiskState) (left0 left1 l0 l1 : Option (Li
   pub too_many : 2 ^ 30 < length bytes → status ≡ 7
   pub unchanged : IsUnchanged disk0 disk1
   pub done : IsDone status → IsTrue disk0.tells → CarriesOn disk0.bytes bytes l0 l1 out0.written out1.written status
+  pub halted : IsTrue disk0.tells → HasHalted disk0.bytes bytes l0 l1 out0 out1 status
   pub input_line : status ≡ 3 → Tells out0 out1 (codes "fault input\n")
   pub not_index : status ≡ 6 → (name : List ℕ) × Tells out0 out1 (not_index_text name) × (IsTrue disk0.tells → IsNoIndex disk0.bytes name)
   -- there are too many bytes, or the file has too many pages

@@ -1,5 +1,5 @@
 -- What the job `proof` on carried logs does and writes, by the status with which it ends.
-use Rattle.std.specs.Prelude.{◌≡◌, ◌≢◌, ◌⊎◌, ◌↔◌, ℕ, ◌+◌, ◌^◌, ◌<◌, ◌≤◌, Bool, true, false, List, [], ◌∷◌, ◌++◌, length, codes, Option, Some, None, if◌then◌else◌}
+use Rattle.std.specs.Prelude.{◌≡◌, ◌≢◌, ◌⊎◌, ◌↔◌, ℕ, ◌+◌, ◌-◌, ◌^◌, ◌<◌, ◌≤◌, Bool, true, false, List, [], ◌∷◌, ◌++◌, length, take, codes, Option, Some, None, if◌then◌else◌}
 use Rattle.std.specs.List.{flat_map, list_all}
 use Rattle.std.specs.Io.KnownBytes.{Appends, Consumes, IsAtEnd}
 use Rattle.outside_io.specs.Bytes.{AppendsPrefix}
@@ -12,6 +12,8 @@ use Rattle.metric_laws.specs.Space.{Space}
 use Rattle.metric_mix.specs.MixSpaces.{mix_space}
 use Rattle.node_page.specs.declared.head.Head.{Head}
 use Rattle.prune_log.specs.Spelling.{frame_bytes}
+use Rattle.seal_jobs.specs.declared.taking.Next.{Next}
+use Rattle.seal_jobs.specs.declared.taking.Next.TheVariants as next
 use Rattle.seal_jobs.specs.declared.stop.Stop.{Stop}
 use Rattle.seal_jobs.specs.declared.stop.Stop.TheVariants as stop
 use Rattle.seal_log.specs.declared.faults.ProofFault.{ProofFault}
@@ -102,11 +104,11 @@ IsEnd rest accepted line status =
     ((rest ≡ []) × (line ≡ end_text accepted) × (status ≡ (if accepted then 0 else 1)))
     ⊎ (IsCutFrame rest × (line ≡ codes "log rejected cut\n") × (status ≡ 1))
 
--- the next text: that of the next frame, or the last line
-abbrev pub IsNext : List ℕ → ℕ → List ℕ → Bool → List ℕ → Type 0
-IsNext root i rest accepted text =
-    ((body : List ℕ) × (after : List ℕ) × (b : Bool) × (rest ≡ frame_bytes body ++ after) × TellsFrame root i body text b)
-    ⊎ ((status : ℕ) × IsEnd rest accepted text status)
+-- the next text: that of the frame at hand, behind which nothing was taken, or, where no byte is left to take, the last line
+abbrev pub IsNext : List ℕ → ℕ → List ℕ → Bool → Option (List ℕ) → List ℕ → Type 0
+IsNext root i rest accepted left text =
+    ((body : List ℕ) × (b : Bool) × (rest ≡ frame_bytes body) × TellsFrame root i body text b)
+    ⊎ (IsAtEnd left × ((status : ℕ) × IsEnd rest accepted text status))
 
 -- the first frames of the bytes were shown, each whole
 pub record HasShown (root bytes : List ℕ) (old middle : Option (List ℕ)) : Type 0 where
@@ -118,6 +120,26 @@ pub record HasShown (root bytes : List ℕ) (old middle : Option (List ℕ)) : T
 
 -- ---- the steps
 
+-- What is read next where `room` more bytes may be taken: a whole frame, or the end of the bytes, which may lie within a frame.
+abbrev pub ReadsNext : ℕ → Option (List ℕ) → Option (List ℕ) → Next → Type 0
+ReadsNext room old new (next.Frame body) = Consumes old new (frame_bytes body.items) × (length (frame_bytes body.items) ≤ room)
+ReadsNext room old new next.End = Consumes old new [] × IsAtEnd new
+ReadsNext room old new next.Cut = (bytes : List ℕ) × Consumes old new bytes × (length bytes ≤ room) × IsCutFrame bytes × IsAtEnd new
+
+-- Up to `most` bytes could not be read.
+abbrev pub StopsTaking : ℕ → ℕ → Option (List ℕ) → Option (List ℕ) → Stop → Type 0
+StopsTaking most room old new stop.Input = (bytes : List ℕ) × Consumes old new bytes × (length bytes ≤ room) × (length bytes < most)
+StopsTaking most room old new stop.Long = (bytes : List ℕ) × Consumes old new bytes × (room < length bytes) × (length bytes ≤ room + 4096) × (length bytes ≤ most)
+StopsTaking most room old new stop.Memory = (bytes : List ℕ) × Consumes old new bytes × (length bytes ≤ room)
+StopsTaking most room old new stop.Sink = ⊥
+
+-- No frame could be read. Where the source failed, no whole one was taken; where too many bytes were, none stands within the room.
+abbrev pub StopsReading : ℕ → Option (List ℕ) → Option (List ℕ) → Stop → Type 0
+StopsReading room old new stop.Input = (bytes : List ℕ) × Consumes old new bytes × (length bytes ≤ room) × BeginsNoFrame bytes
+StopsReading room old new stop.Long = (bytes : List ℕ) × Consumes old new bytes × (room < length bytes) × (length bytes ≤ room + 4096) × BeginsNoFrame (take room bytes)
+StopsReading room old new stop.Memory = (bytes : List ℕ) × Consumes old new bytes × (length bytes ≤ room)
+StopsReading room old new stop.Sink = ⊥
+
 -- the text of a frame was put
 abbrev pub PutsFrame : List ℕ → ℕ → List ℕ → Bool → Option (List ℕ) → Option (List ℕ) → Type 0
 PutsFrame root i body accepted old new = (text : List ℕ) × TellsFrame root i body text accepted × Appends old new text
@@ -126,54 +148,61 @@ PutsFrame root i body accepted old new = (text : List ℕ) × TellsFrame root i 
 abbrev pub StopsFrame : List ℕ → ℕ → List ℕ → Stop → Option (List ℕ) → Option (List ℕ) → Type 0
 StopsFrame root i body stop.Sink old new = (text : List ℕ) × (b : Bool) × TellsFrame root i body text b × AppendsPrefix old new text
 StopsFrame root i body stop.Memory old new = new ≡ old
-
--- the last line was not put whole
-abbrev pub StopsEnd : List ℕ → Bool → Stop → Option (List ℕ) → Option (List ℕ) → Type 0
-StopsEnd rest accepted stop.Sink old new = (line : List ℕ) × (status : ℕ) × IsEnd rest accepted line status × AppendsPrefix old new line
-StopsEnd rest accepted stop.Memory old new = new ≡ old
+StopsFrame root i body stop.Input old new = ⊥
+StopsFrame root i body stop.Long old new = ⊥
 
 -- all frames were shown, and the last line put
-pub record HasEnded (root bytes : List ℕ) (old new : Option (List ℕ)) (status : ℕ) : Type 0 where
+pub record HasEnded (root : List ℕ) (left0 left1 old new : Option (List ℕ)) (status : ℕ) : Type 0 where
+  pub bytes : List ℕ
+  pub taken : Consumes left0 left1 bytes
+  pub few : length bytes ≤ 2 ^ 30
+  pub all : IsAtEnd left1
   pub middle : Option (List ℕ)
   pub before : HasShown root bytes old middle
   pub line : List ℕ
   pub is_end : IsEnd before.rest (all_accepted before.shown) line status
   pub written : Appends middle new line
 
--- what was put behind whole texts when the job stopped
-abbrev pub StopsAfter : List ℕ → ℕ → List ℕ → Bool → Stop → Option (List ℕ) → Option (List ℕ) → Type 0
-StopsAfter root i rest accepted stop.Sink middle new = (text : List ℕ) × IsNext root i rest accepted text × AppendsPrefix middle new text
-StopsAfter root i rest accepted stop.Memory middle new = new ≡ middle
+-- what was put behind whole texts when the job stopped, `room` being how many more bytes it might have taken than were shown
+abbrev pub StopsAfter : List ℕ → ℕ → List ℕ → Bool → Option (List ℕ) → ℕ → Stop → Option (List ℕ) → Option (List ℕ) → Type 0
+StopsAfter root i rest accepted left room stop.Sink middle new = (text : List ℕ) × IsNext root i rest accepted left text × AppendsPrefix middle new text
+StopsAfter root i rest accepted left room stop.Input middle new = BeginsNoFrame rest × (new ≡ middle)
+StopsAfter root i rest accepted left room stop.Long middle new = BeginsNoFrame (take room rest) × (new ≡ middle)
+StopsAfter root i rest accepted left room stop.Memory middle new = new ≡ middle
 
-pub record HasStopped (root bytes : List ℕ) (old new : Option (List ℕ)) (why : Stop) : Type 0 where
+-- how many bytes more than the shown frames fit into 2 ^ 30
+abbrev pub room_behind : List ℕ → List ℕ → ℕ
+room_behind bytes rest = 2 ^ 30 + length rest - length bytes
+
+pub record HasStopped (root : List ℕ) (left0 left1 old new : Option (List ℕ)) (why : Stop) : Type 0 where
+  pub bytes : List ℕ
+  pub taken : Consumes left0 left1 bytes
+  pub few : length bytes ≤ 2 ^ 30 + 4096
+  pub long : (why ≡ stop.Long) ↔ (2 ^ 30 < length bytes)
   pub middle : Option (List ℕ)
   pub before : HasShown root bytes old middle
-  pub after : StopsAfter root (length before.shown) before.rest (all_accepted before.shown) why middle new
+  pub after : StopsAfter root (length before.shown) before.rest (all_accepted before.shown) left1 (room_behind bytes before.rest) why middle new
 
 -- ---- by status
 
--- what was put of the frames of these bytes, by the status
-pub record Proves (root bytes : List ℕ) (out0 out1 : SinkState) (status : ℕ) : Type 0 where
-  pub middle : Option (List ℕ)
-  pub before : HasShown root bytes out0.written middle
-  -- all, and the last line
-  pub done : (status ≡ 0) ⊎ (status ≡ 1) → (line : List ℕ) × IsEnd before.rest (all_accepted before.shown) line status × Appends middle out1.written line
-  -- a front of the next text
-  pub output : status ≡ 4 → (text : List ℕ) × IsNext root (length before.shown) before.rest (all_accepted before.shown) text × AppendsPrefix middle out1.written text
-  pub memory : status ≡ 8 → Tells (record out0 { written = middle }) out1 (codes "fault memory\n")
-
--- what the job does that takes bytes of carried logs from `left0`
+-- What the job does that takes bytes of carried logs from `left0`: it shows each frame once that is whole, and takes the next one
+-- only then.
 pub record ProvesLogs (root : List ℕ) (left0 left1 : Option (List ℕ)) (out0 out1 : SinkState) (status : ℕ) : Type 0 where
   pub bytes : List ℕ
   pub taken : Consumes left0 left1 bytes
   -- at most 2 ^ 30 and a buffer more were taken, and too many are told exactly where more than 2 ^ 30 were
   pub few : length bytes ≤ 2 ^ 30 + 4096
   pub long : (status ≡ 7) ↔ (2 ^ 30 < length bytes)
-  pub all : status ≢ 3 → status ≢ 7 → status ≢ 8 → IsAtEnd left1
-  pub proves : status ≢ 3 → status ≢ 7 → status ≢ 8 → Proves root bytes out0 out1 status
-  pub memory_line : status ≡ 8 → Tells out0 out1 (codes "fault memory\n") ⊎ Proves root bytes out0 out1 status
-  pub input_line : status ≡ 3 → Tells out0 out1 (codes "fault input\n")
-  pub long_line : status ≡ 7 → Tells out0 out1 (codes "fault long\n")
+  pub middle : Option (List ℕ)
+  pub before : HasShown root bytes out0.written middle
+  -- all of them, and the last line
+  pub done : (status ≡ 0) ⊎ (status ≡ 1) → IsAtEnd left1 × ((line : List ℕ) × IsEnd before.rest (all_accepted before.shown) line status × Appends middle out1.written line)
+  -- a front of the next text
+  pub output : status ≡ 4 → (text : List ℕ) × IsNext root (length before.shown) before.rest (all_accepted before.shown) left1 text × AppendsPrefix middle out1.written text
+  -- all whole frames of what was taken were shown, or where that is too much, all within the first 2 ^ 30 bytes
+  pub input_line : status ≡ 3 → BeginsNoFrame before.rest × Tells (record out0 { written = middle }) out1 (codes "fault input\n")
+  pub long_line : status ≡ 7 → BeginsNoFrame (take (room_behind bytes before.rest) before.rest) × Tells (record out0 { written = middle }) out1 (codes "fault long\n")
+  pub memory_line : status ≡ 8 → Tells (record out0 { written = middle }) out1 (codes "fault memory\n")
 
 abbrev pub IsProofStatus : ℕ → Type 0
 IsProofStatus n = (n ≡ 0) ⊎ ((n ≡ 1) ⊎ ((n ≡ 3) ⊎ ((n ≡ 4) ⊎ ((n ≡ 7) ⊎ (n ≡ 8)))))

@@ -1,7 +1,8 @@
 // The job `proof` on an index.
-ghost use Rattle.std.specs.Prelude.{◌≡◌, ◌⊎◌, ◌++◌, ◌≤◌, ◌<◌, ◌^◌, List, ℕ, [], length, All, nat_lt, IsTrue, IfOk, IsErrOf, OnOk, codes};
+ghost use Rattle.std.specs.Prelude.{◌≡◌, ◌⊎◌, ◌++◌, ◌≤◌, ◌<◌, ◌^◌, List, ℕ, [], length, All, nat_lt, IsTrue, IfOk, IfErr, IsErrOf, OnOk, codes};
 ghost use Rattle.std.specs.List.{list_all};
 ghost use Rattle.std.specs.Io.KnownBytes.{Appends};
+ghost use Rattle.outside_io.specs.Bytes.{AppendsPrefix};
 ghost use Rattle.outside_io.specs.Causes.{Rose};
 ghost use Rattle.outside_io.specs.Sinks.{Tells};
 ghost use Rattle.disk_model.specs.Disk.{IsUnchanged};
@@ -16,7 +17,7 @@ ghost use Rattle.seal_log.specs.Laws.{CarriedLogsAreAccepted};
 ghost use Rattle.file_jobs.specs.Lines.{not_index_text};
 ghost use Rattle.file_jobs.specs.Jobs.{IsNoIndex};
 ghost use Rattle.seal_jobs.specs.Seals.{IsLarge};
-ghost use Rattle.seal_jobs.specs.Carries.{CarriesLogs, CarriesOn, EndsCarried, HasCarried, IsCarriedLogsStatus, IsCarryStatus, IsDone, IsHaltStatus, PutsLog, TellsLog, carried_end, carried_line, judged};
+ghost use Rattle.seal_jobs.specs.Carries.{CarriesLogs, CarriesOn, EndsCarried, HasCarried, HasHalted, IsCarriedLogsStatus, IsCarryStatus, IsDone, IsHaltStatus, PutsLog, Stops, StopsCarrying, StopsLog, TellsLog, carried_end, carried_line, judged};
 
 use crate::opening::open_small;
 use crate::proof_lines::rejected_text;
@@ -180,6 +181,8 @@ fn carry_log<D: Disk, K: Sink, L: Sink>(
     ensures same { IsUnchanged (D.state index.old) (D.state index.new) }
     ensures puts { IfOk result (λ accepted. IsTrue (D.state index.old).tells → PutsLog (D.state index.old).bytes opened.now.0 opened.now.1 number log.now accepted
         (L.state log_out.old).written (L.state log_out.new).written (K.state out.old).written (K.state out.new).written) }
+    ensures stops { IfErr result (λ why. IsTrue (D.state index.old).tells → StopsLog (D.state index.old).bytes opened.now.0 opened.now.1 number log.now why
+        (L.state log_out.old).written (L.state log_out.new).written (K.state out.old).written (K.state out.new).written) }
     ensures disk { IsErrOf result Halt.Disk → Rose (D.state index.old).faults (D.state index.new).faults }
     ensures output { IsErrOf result Halt.Sink → Rose (K.state out.old).faults (K.state out.new).faults ⊎ Rose (L.state log_out.old).faults (L.state log_out.new).faults }
     ensures later { (D.state index.old).faults ≤ (D.state index.new).faults }
@@ -215,6 +218,8 @@ fn carry_all<D: Disk, K: Sink, L: Sink>(
     ensures same { IsUnchanged (D.state index.old) (D.state index.new) }
     ensures puts { IfOk result (λ accepted. IsTrue (D.state index.old).tells → HasCarried (D.state index.old).bytes opened.now.0 opened.now.1 logs.items [] (length logs.items) accepted
         (L.state log_out.old).written (L.state log_out.new).written (K.state out.old).written (K.state out.new).written) }
+    ensures stops { IfErr result (λ why. IsTrue (D.state index.old).tells → StopsCarrying (D.state index.old).bytes opened.now.0 opened.now.1 logs.items why
+        (L.state log_out.old).written (L.state log_out.new).written (K.state out.old).written (K.state out.new).written) }
     ensures disk { IsErrOf result Halt.Disk → Rose (D.state index.old).faults (D.state index.new).faults }
     ensures output { IsErrOf result Halt.Sink → Rose (K.state out.old).faults (K.state out.new).faults ⊎ Rose (L.state log_out.old).faults (L.state log_out.new).faults }
     ensures later { (D.state index.old).faults ≤ (D.state index.new).faults }
@@ -247,6 +252,7 @@ fn put<K: Sink>(out: &mut K, line: &[u8]) -> Result<(), Halt>
     ensures puts { OnOk result (Appends (K.state out.old).written (K.state out.new).written line.now) }
     ensures later { (K.state out.old).faults ≤ (K.state out.new).faults }
     ensures output { IsErrOf result Halt.Sink → Rose (K.state out.old).faults (K.state out.new).faults }
+    ensures cut { IfErr result (λ why. (why ≡ Halt.Sink) × AppendsPrefix (K.state out.old).written (K.state out.new).written line.now) }
     ensures not_disk { IsErrOf result Halt.Disk → ⊥ }
 {
     match out.put(line) {
@@ -273,6 +279,8 @@ fn carry_bytes<D: Disk, K: Sink, L: Sink>(
     ensures same { IsUnchanged (D.state index.old) (D.state index.new) }
     ensures ends { IfOk result (λ status. IsTrue (D.state index.old).tells → EndsCarried (D.state index.old).bytes opened.now.0 opened.now.1 bytes.now
         (L.state log_out.old).written (L.state log_out.new).written (K.state out.old).written (K.state out.new).written status.0) }
+    ensures stops { IfErr result (λ why. IsTrue (D.state index.old).tells → Stops (D.state index.old).bytes opened.now.0 opened.now.1 bytes.now why
+        (L.state log_out.old).written (L.state log_out.new).written (K.state out.old).written (K.state out.new).written) }
     ensures statuses { IfOk result (λ status. IsDone status.0) }
     ensures disk { IsErrOf result Halt.Disk → Rose (D.state index.old).faults (D.state index.new).faults }
     ensures output { IsErrOf result Halt.Sink → Rose (K.state out.old).faults (K.state out.new).faults ⊎ Rose (L.state log_out.old).faults (L.state log_out.new).faults }
@@ -308,6 +316,8 @@ fn carry_opened<D: Disk, K: Sink, L: Sink>(
     ensures same { IsUnchanged (D.state index.old) (D.state index.new) }
     ensures ends { IfOk result (λ status. IsTrue (D.state index.old).tells → EndsCarried (D.state index.old).bytes opened.now.0 opened.now.1 bytes.now
         (L.state log_out.old).written (L.state log_out.new).written (K.state out.old).written (K.state out.new).written status.0) }
+    ensures stops { IfErr result (λ why. IsTrue (D.state index.old).tells → Stops (D.state index.old).bytes opened.now.0 opened.now.1 bytes.now why
+        (L.state log_out.old).written (L.state log_out.new).written (K.state out.old).written (K.state out.new).written) }
     ensures statuses { IfOk result (λ status. IsDone status.0) }
     ensures disk { IsErrOf result Halt.Disk → Rose (D.state index.old).faults (D.state index.new).faults }
     ensures output { IsErrOf result Halt.Sink → Rose (K.state out.old).faults (K.state out.new).faults ⊎ Rose (L.state log_out.old).faults (L.state log_out.new).faults }
@@ -322,11 +332,15 @@ fn carry_opened<D: Disk, K: Sink, L: Sink>(
     }
 }
 
-// Ends a job that stopped.
+// Ends a job that stopped, where no output failed with a line.
 fn end_halted<K: Sink>(why: Halt, out: &mut K) -> Status
     ensures statuses { IsHaltStatus result.0 }
     ensures disk { result.0 ≡ 5 → why ≡ Halt.Disk }
     ensures output { result.0 ≡ 4 → why ≡ Halt.Sink }
+    ensures memory { result.0 ≡ 8 → why ≡ Halt.Memory }
+    ensures silent { result.0 ≡ 4 → (K.state out.new).written ≡ (K.state out.old).written }
+    ensures disk_line { result.0 ≡ 5 → Tells (K.state out.old) (K.state out.new) (codes "fault disk\n") }
+    ensures memory_line { result.0 ≡ 8 → Tells (K.state out.old) (K.state out.new) (codes "fault memory\n") }
     ensures later { (K.state out.old).faults ≤ (K.state out.new).faults }
 {
     match why {
@@ -347,6 +361,7 @@ fn carry_index<D: Disk, K: Sink, L: Sink>(
     ensures same { IsUnchanged (D.state index.old) (D.state index.new) }
     ensures done { IsDone result.0 → IsTrue (D.state index.old).tells → CarriesOn (D.state index.old).bytes bytes.now
         (L.state log_out.old).written (L.state log_out.new).written (K.state out.old).written (K.state out.new).written result.0 }
+    ensures halted { IsTrue (D.state index.old).tells → HasHalted (D.state index.old).bytes bytes.now (L.state log_out.old).written (L.state log_out.new).written (K.state out.old) (K.state out.new) result.0 }
     ensures not_index { result.0 ≡ 6 → (name : List ℕ) × Tells (K.state out.old) (K.state out.new) (not_index_text name) × (IsTrue (D.state index.old).tells → IsNoIndex (D.state index.old).bytes name) }
     ensures long { result.0 ≡ 7 → Tells (K.state out.old) (K.state out.new) (codes "fault long\n") × (IsTrue (D.state index.old).tells → IsLarge (D.state index.old).bytes) }
     ensures statuses { IsCarryStatus result.0 }
@@ -367,7 +382,8 @@ fn carry_index<D: Disk, K: Sink, L: Sink>(
 }
 
 /// Reads logs, and writes to `log_out` for each that has no fault on the index its carried log, as a frame, and then its line
-/// to `out`; for another its first fault. The index is sealed once. Status 1: a log is rejected, or the bytes are no logs; 3:
+/// to `out`; for another its first fault. The index is sealed once. Wherever it stops, each line on `out` has its whole frame
+/// on `log_out`. Status 1: a log is rejected, or the bytes are no logs; 3:
 /// they could not be read; 4: a frame or a line could not be written; 5: the disk failed; 6: the file is no index of version
 /// 2; 7: there are more than 2^30 bytes of logs, or the index has more than 262144 pages; 8: want of memory. The index is not
 /// changed.

@@ -8,6 +8,7 @@ mod proof_lines;
 mod proving;
 mod sealing;
 mod stop;
+mod taking;
 
 pub use carrying::carry_logs;
 pub use opening::MOST_PAGES;

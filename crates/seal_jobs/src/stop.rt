@@ -15,6 +15,12 @@ pub enum Stop {
     /// There was no memory.
     #[error("out of memory")]
     Memory,
+    /// The source failed.
+    #[error("the input failed")]
+    Input,
+    /// The source has more bytes than are read.
+    #[error("too much input")]
+    Long,
 }
 
 impl From<AllocError> for Stop {

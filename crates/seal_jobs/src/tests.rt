@@ -230,3 +230,128 @@ fn changed_carried_logs_are_rejected(rt: HostRuntime) -> Result<(), Fail> {
     }
     Ok(())
 }
+
+// Whether bytes are rejected under the small file's root digest, or proved with the answers of the small log.
+fn shows_no_other_answers(alloc: Global, bytes: &[u8]) -> Result<bool, AllocError> {
+    let mut log_in = source_of(alloc, bytes.to_vec(alloc)?);
+    let mut out = sink_of(alloc, 1000, false)?;
+    let ended = prove_logs(alloc, &mut log_in, &ROOT, &mut out);
+    Ok(match ended {
+        Status(0) => out.written().ends_with(b"\nhits 1\n0 7\nlog proved\n"),
+        Status(status) => status == 1,
+    })
+}
+
+#[test]
+fn no_carried_log_with_a_changed_byte_shows_other_answers(rt: HostRuntime) -> Result<(), Fail> {
+    let mut bytes = carried(rt.alloc())?;
+    for at in 0..bytes.len() {
+        bytes[at] ^= 1;
+        let holds = shows_no_other_answers(rt.alloc(), &bytes)?;
+        assert!(rt; holds, "at {at}");
+        bytes[at] ^= 1;
+    }
+    Ok(())
+}
+
+#[test]
+fn no_carried_log_that_is_cut_is_accepted(rt: HostRuntime) -> Result<(), Fail> {
+    let alloc = rt.alloc();
+    let bytes = carried(alloc)?;
+    let body = match bytes.get(8..) {
+        Some(body) => body,
+        None => &[],
+    };
+    for size in 0..body.len() {
+        let mut cut = Vec::new(alloc);
+        frame(&body[..size], &mut cut)?;
+        let mut log_in = source_of(alloc, cut);
+        let mut out = sink_of(alloc, 1000, false)?;
+        let ended = prove_logs(alloc, &mut log_in, &ROOT, &mut out);
+        assert_eq!(rt; ended, Status(1), "a frame of {size} bytes");
+    }
+    for size in 1..bytes.len() {
+        let mut log_in = source_of(alloc, bytes[..size].to_vec(alloc)?);
+        let mut out = sink_of(alloc, 1000, false)?;
+        prove_logs(alloc, &mut log_in, &ROOT, &mut out);
+        assert_eq!(rt;
+            out.written(),
+            b"log rejected cut\n".as_slice(),
+            "{size} bytes"
+        );
+    }
+    Ok(())
+}
+
+// Proves two frames of which the second announces more bytes than follow, where the calls of a list fail.
+fn check_two<R: AllocGlobal + Abort>(
+    rt: &R,
+    fails: &[u64],
+    status: u8,
+    lines: &str,
+) -> Result<(), Fail> {
+    let alloc = rt.alloc();
+    let mut bytes = carried(alloc)?;
+    bytes.extend_from_slice(&[0xff; 20])?;
+    let mut log_in = MemorySource::new(bytes, 1000, fails.to_vec(alloc)?);
+    let mut out = sink_of(alloc, 1000, false)?;
+    let ended = prove_logs(alloc, &mut log_in, &ROOT, &mut out);
+    assert_eq!(rt; out.written(), lines.as_bytes());
+    assert_eq!(rt; ended, Status(status));
+    Ok(())
+}
+
+#[test]
+fn frames_are_shown_as_they_come(rt: HostRuntime) -> Result<(), Fail> {
+    // The length of the second frame is greater than any memory.
+    check_two(
+        &rt,
+        &[],
+        1,
+        "frame 0 proved\nrange,7,0,0\nhits 1\n0 7\nlog rejected cut\n",
+    )?;
+    // The first frame takes a call for its length and 17 for its bytes.
+    check_two(&rt, &[17], 3, "fault input\n")?;
+    check_two(
+        &rt,
+        &[18],
+        3,
+        "frame 0 proved\nrange,7,0,0\nhits 1\n0 7\nfault input\n",
+    )?;
+    check_two(
+        &rt,
+        &[19],
+        3,
+        "frame 0 proved\nrange,7,0,0\nhits 1\n0 7\nfault input\n",
+    )
+}
+
+#[test]
+fn a_line_stands_behind_its_frame(rt: HostRuntime) -> Result<(), Fail> {
+    let alloc = rt.alloc();
+    let mut bytes = small_frame(alloc)?;
+    let again = small_frame(alloc)?;
+    bytes.extend_from_slice(&again)?;
+    // The frames have 16814 bytes each, and the lines 16. There is room for one frame, or for both and one line, or for all.
+    for (frames, lines, framed, text, status) in [
+        (33627, 1000, 16814, "frame 0 carried\n", 4),
+        (33628, 31, 33628, "frame 0 carried\n", 4),
+        (
+            33628,
+            44,
+            33628,
+            "frame 0 carried\nframe 1 carried\nlog carried\n",
+            0,
+        ),
+    ] {
+        let mut disk = disk_of(alloc, small_file(alloc)?)?;
+        let mut log_in = source_of(alloc, bytes.to_vec(alloc)?);
+        let mut out = sink_of(alloc, lines, false)?;
+        let mut log_out = sink_of(alloc, frames, false)?;
+        let ended = carry_logs(alloc, &mut disk, &mut log_in, &mut out, &mut log_out);
+        assert_eq!(rt; out.written(), text.as_bytes());
+        assert_eq!(rt; log_out.written().len(), framed);
+        assert_eq!(rt; ended, Status(status));
+    }
+    Ok(())
+}

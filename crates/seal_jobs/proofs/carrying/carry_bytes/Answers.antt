@@ -12,6 +12,7 @@ returns-in-Err g c = record {
     no_frame = refl;
     line = rw c.undecoded_text.ensures at c.in_ok-put-in-Err.ensures.puts;
   });
+  stops = tt;
   statuses = inr refl;
   disk = search rules;
   output = search rules;
