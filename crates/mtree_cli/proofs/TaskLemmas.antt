@@ -2,7 +2,7 @@
 use Rattle.std.proofs.Common.{◌≡◌, ◌≢◌, ◌⊎◌, inl, inr, ⊎_elim, ℕ, ◌≤◌, ◌%◌, ◌<◌, ◌+◌, ◌^◌, length, List, [], Option, Some, true, IsTrue, refl, sym, ◌∙◌, ap, subst, arith}
 use Rattle.std.specs.Prelude.{codes, ◌↔◌}
 use Rattle.std.specs.Io.KnownBytes.{Consumes}
-use Rattle.std.proofs.KnownBytes.{Consumes-nil}
+use Rattle.std.proofs.KnownBytes.{Appends-nil, Consumes-nil}
 use Rattle.outside_io.specs.Bytes.{TakesUpTo}
 use Rattle.outside_io.specs.Sinks.{SinkState, Tells}
 use Rattle.outside_io.specs.Causes.{Rose}
@@ -35,6 +35,8 @@ use Rattle.mtree_cli.specs.Run.Task.{Scans, Makes, Draws, Sessions, Generates, M
 use Rattle.seal_jobs.specs.Seals.{Seals as SealsIndex, IsLarge as IsTooLargeToSeal}
 use Rattle.seal_jobs.specs.Carries.{CarriesLogs, IsDone}
 use Rattle.seal_jobs.specs.Proofs.{ProvesLogs}
+use Rattle.seal_jobs.specs.declared.stop.Halt.{Halt}
+use Rattle.seal_jobs.specs.declared.stop.Halt.TheVariants as halt
 use Rattle.mtree_cli.proofs.ProgramLemmas.{always, fault_writes, memory_ends}
 
 -- the task of a job of the words
@@ -107,6 +109,15 @@ no_index_moved disk other o0 o1 line = record {
 no_file_refused : (disk other : DiskState) → RefusesNothing disk other 8
 no_file_refused disk other tells told empty head points tags is = (λ e. absurd (omega (arith, e)), λ e. absurd (omega (arith, e)), λ e. absurd (omega (arith, e)))
 
+-- want of memory is no failed output
+is_no_sink : Halt → Type 0
+is_no_sink halt.Sink = ⊥
+is_no_sink other = Unit {0}
+
+no_output : halt.Memory ≢ halt.Sink
+unfolding is_no_sink
+no_output e = subst is_no_sink e tt
+
 -- a scene in which this was put to out
 abbrev pub scene : DiskState → DiskState → Option (List ℕ) → SinkState → SinkState → Scene
 scene disk other left log_out out = record { index = disk; other = other; left = left; out = out; log_out = log_out }
@@ -174,6 +185,11 @@ does_at_memory Carries disk other input left v o0 o1 line = record {
   too_many = λ many. absurd (omega arith);
   unchanged = unchanged disk;
   done = λ is. ⊎_elim (λ e. absurd (omega arith)) (λ e. absurd (omega arith)) is;
+  halted = λ tells. record {
+    output = λ is. absurd (omega arith);
+    disk = λ is. absurd (omega arith);
+    memory = λ is. (o0.written, inl (no_output, refl, refl), line);
+  };
   input_line = λ is. absurd (omega arith);
   not_index = λ is. absurd (omega arith);
   long = λ is. absurd (omega arith);
@@ -183,11 +199,13 @@ does_at_memory (Proves root) disk other input left v o0 o1 line = record {
   taken = Consumes-nil left;
   few = omega arith;
   long = (λ is. absurd (omega arith), λ many. absurd (omega arith));
-  all = λ a b c. absurd (c refl);
-  proves = λ a b c. absurd (c refl);
-  memory_line = λ is. inl line;
+  middle = o0.written;
+  before = record { shown = []; rest = []; framed = refl; told = tt; written = Appends-nil o0.written };
+  done = λ is. ⊎_elim (λ e. absurd (omega arith)) (λ e. absurd (omega arith)) is;
+  output = λ is. absurd (omega arith);
   input_line = λ is. absurd (omega arith);
   long_line = λ is. absurd (omega arith);
+  memory_line = λ is. line;
 }
 does_at_memory Nothing disk other input left v o0 o1 line = inr (inr (refl, line))
 
