@@ -1,6 +1,6 @@
 -- Objects that were put in order of id.
 use Rattle.std.proofs.Common.{◌≡◌, ◌≢◌, ℕ, suc, ◌+◌, ◌<◌, ◌≤◌, Bool, true, false, List, [], ◌∷◌, refl, sym, ap, ◌∙◌, subst, arith, length, inl, inr}
-use Rattle.std.specs.Prelude.{All, IsTrue, map, sum_by, ◌==◌, nat_lt, if◌then◌else◌}
+use Rattle.std.specs.Prelude.{All, IfErr, IfOk, IsTrue, OnOk, Result, Ok, Err, ◌⊎◌, map, sum_by, ◌==◌, nat_lt, if◌then◌else◌}
 use Rattle.std.specs.List.{AllByRecursion}
 use Rattle.std.specs.List.Sorted.{IsNonDecreasingBy, IsPermutation}
 use Rattle.std.proofs.lemmas.Bool.{cases_eq}
@@ -10,14 +10,16 @@ use Rattle.std.proofs.lemmas.List.Sorted.{All-permutation, IsPermutation-map, su
 use Rattle.std.proofs.lemmas.List.Sums.{sum_by-cons}
 use Rattle.metric_laws.specs.Lists.{IsIn}
 use Rattle.metric_laws.specs.Space.{Space}
-use Rattle.metric_laws.proofs.Lists.{all_in}
+use Rattle.metric_laws.proofs.Lists.{all_in, length_map}
 use Rattle.tree_shape.specs.declared.entry.LeafEntry.{LeafEntry}
 use Rattle.tree_shape.specs.declared.live.Live.{Live}
 use Rattle.tree_shape.specs.Tree.{Nodes, IsSoundTree, objects, point_of, points_by_id, points_from, tag_of, tags_by_id, tags_from, times}
 use Rattle.tree_shape.proofs.ById.{ids_of, object_of, point_of-in, times-in}
 use Rattle.tree_shape.proofs.Counting.{counted, each_once_back, times-cons_le}
 use Rattle.page_store.proofs.Ids.{tag_of-in}
-use Rattle.making_jobs.specs.Ordering.{AreInSpace, AreNumbered}
+use Rattle.tree_audit.specs.declared.faults.AuditFault.{AuditFault}
+use Rattle.tree_audit.specs.declared.faults.AuditFault.TheVariants as audit
+use Rattle.making_jobs.specs.Ordering.{AreInSpace, AreNumbered, HasTakingCause}
 
 -- ---- a permutation has each id as often
 
@@ -53,7 +55,7 @@ numbered high (e ∷ es) low up from below once each =
         let is = there.2 in
         omega (arith, f, le, is)
 
-    one : (if e.id == low then 1 else 0) ≡ 1
+    one : ◌≡◌ {A = ℕ} (if e.id == low then 1 else 0) 1
     one = let f = first in grind (arith, nat_tests)
 
     -- none of the others has this id
@@ -128,3 +130,27 @@ module _ (s : Space) (nodes : Nodes) (t : Live) (sound : IsSoundTree s nodes t) 
   sorted_fits fit =
       recursion_from_All (λ (e : LeafEntry). IsTrue (s.fits e.point)) sorted (All-permutation (λ (e : LeafEntry). IsTrue (s.fits e.point)) found sorted moved
       (All-from_recursion (λ (e : LeafEntry). IsTrue (s.fits e.point)) found (subst (λ (es : List LeafEntry). AllByRecursion (λ o. IsTrue (s.fits o.point)) es) (sym are) fit)))
+
+-- a sound tree has as many objects as its slot says
+pub found_count : (s : Space) (nodes : Nodes) (t : Live) (found : List LeafEntry) → IsSoundTree s nodes t → found ≡ objects nodes t → length found ≡ t.count
+found_count s nodes t found sound are = ap (λ (es : List LeafEntry). length es) are ∙ sym (length_map (λ (e : LeafEntry). e.id) (objects nodes t)) ∙ (each_once_back t.count (ids_of (objects nodes t)) sound.ids).2
+
+-- ---- what was taken of them
+
+pub if_taken : {T E : Type 0} (P R : T → Type 0) (Q : Type 0) (r : Result T E) → IfOk r P → OnOk r Q → ((x : T) → P x → Q → R x) → IfOk r R
+if_taken P R Q (Ok x) p q f = f x p q
+if_taken P R Q (Err e) p q f = tt
+
+pub all_fit : (s : Space) (es : List LeafEntry) (points : List (List ℕ)) → points ≡ map (λ e. e.point) es → AreInSpace s es → All (λ p. IsTrue (s.fits p)) points
+all_fit s es points are fit = subst (λ (ps : List (List ℕ)). All (λ p. IsTrue (s.fits p)) ps) (sym are) (All-from_recursion (λ (p : List ℕ). IsTrue (s.fits p)) (map (λ e. e.point) es) (each es fit))
+  where
+    each : (es : List LeafEntry) → AreInSpace s es → AllByRecursion (λ p. IsTrue (s.fits p)) (map (λ e. e.point) es)
+    each [] fit = tt
+    each (e ∷ es) fit = (fit.0, each es fit.1)
+
+pub taking_cause : {T : Type 0} (Sound : Type 0) (s : Space) (es : List LeafEntry) (before now : ℕ) (r : Result T AuditFault) → (Sound → AreNumbered 0 es × AreInSpace s es) → IfErr r (λ fault. (fault ≡ audit.Memory) ⊎ ((id : ℕ) × (fault ≡ audit.Id id))) →
+    IfErr r (λ fault. AreNumbered 0 es → AreInSpace s es → fault ≡ audit.Memory) → IfErr r (HasTakingCause Sound before now)
+taking_cause Sound s es before now (Ok x) sound kind cause = tt
+taking_cause Sound s es before now (Err fault) sound (inl is) cause = subst (HasTakingCause Sound before now) (sym is) tt
+taking_cause Sound s es before now (Err fault) sound (inr (id, is)) cause =
+    subst (HasTakingCause Sound before now) (sym is) (λ so. let both = sound so in let memory = cause both.0 both.1 in cc (sym is ∙ memory))

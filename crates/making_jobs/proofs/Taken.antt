@@ -1,6 +1,7 @@
 -- Objects that are taken one after another.
-use Rattle.std.proofs.Common.{◌≡◌, ◌≢◌, ◌⊎◌, ⊎_elim, ℕ, ◌+◌, ◌<◌, true, false, List, [], ◌∷◌, ◌++◌, refl, sym, ap, ◌∙◌, subst, arith, drop, drop-cons, add-one, get_or, length, append_assoc}
+use Rattle.std.proofs.Common.{◌≡◌, ◌≢◌, ◌⊎◌, ⊎_elim, ℕ, ◌+◌, ◌<◌, ◌≤◌, true, false, List, [], ◌∷◌, ◌++◌, refl, sym, ap, ◌∙◌, subst, arith, drop, drop-cons, add-one, get_or, length, append_assoc}
 use Rattle.std.specs.Prelude.{IsTrue, map}
+use Rattle.std.proofs.lemmas.List.{append-nil, drop_all}
 use Rattle.metric_laws.specs.Space.{Space}
 use Rattle.tree_shape.specs.declared.entry.LeafEntry.{LeafEntry}
 use Rattle.making_jobs.specs.Ordering.{AreInSpace, AreNumbered}
@@ -45,3 +46,15 @@ module _ (s : Space) (all : List LeafEntry) where
     -- an object with another id or without a point of the space is not there where all are in order
     pub is_next : AreNumbered 0 all → AreInSpace s all → (e.id ≡ id) × IsTrue (s.fits e.point)
     is_next n f = ((subst (λ (l : List LeafEntry). AreNumbered id l) next (before.numbers_left n)).0, (subst (λ (l : List LeafEntry). AreInSpace s l) next (before.fits_left f)).0)
+
+  -- all were taken
+  pub ends : (id : ℕ) (points : List (List ℕ)) (tags : List ℕ) → IsTaking s all id points tags → length all ≤ id → (points ≡ points_of all) × (tags ≡ tags_of all) × AreNumbered 0 all × AreInSpace s all
+  ends id points tags done whole = (
+    sym (append-nil points) ∙ ap (λ (l : List LeafEntry). points ++ points_of l) (sym none) ∙ done.points_are,
+    sym (append-nil tags) ∙ ap (λ (l : List LeafEntry). tags ++ tags_of l) (sym none) ∙ done.tags_are,
+    done.numbers (subst (λ (l : List LeafEntry). AreNumbered id l) (sym none) tt),
+    done.fits (subst (λ (l : List LeafEntry). AreInSpace s l) (sym none) tt),
+  )
+    where
+      none : drop id all ≡ []
+      none = drop_all id all whole

@@ -41,7 +41,8 @@ fn put_last(objects: &mut Objects, entry: &LeafEntry) -> Result<(), Memory>
     ensures tags { OnOk result (objects.new.tags.items ≡ objects.old.tags.items ++ entry.now.tag ∷ []) }
 {
     objects.rows.push(entry.point.as_slice())?;
-    objects.tags.push(entry.tag)
+    objects.tags.push(entry.tag)?;
+    Ok(())
 }
 
 // Takes objects in order, each of which has the next id, from 0 on, and a point of the space. `Id` names the first that has not.
@@ -65,8 +66,9 @@ fn take_in_order<M: Metric>(
         if !is_next(&metric, entry, id) {
             return Err(AuditFault::Id(entry.id));
         }
-        if put_last(&mut objects, entry).is_err() {
-            return Err(AuditFault::Memory);
+        match put_last(&mut objects, entry) {
+            Ok(()) => {}
+            Err(_) => return Err(AuditFault::Memory),
         }
     }
     Ok(objects)
