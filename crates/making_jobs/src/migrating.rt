@@ -94,10 +94,10 @@ fn audited_objects<D: Disk>(
     let space = space_of(head);
     let mut pages = DiskPages::old(disk, head.dim, live.pages);
     let mut ruler = Meter::new(space);
-    if let Err(fault) = audit(alloc, &mut pages, &mut ruler, head.dim, live) {
-        return Err(fault);
+    match audit(alloc, &mut pages, &mut ruler, head.dim, live) {
+        Ok(_) => objects_of(alloc, &mut pages, space, live),
+        Err(fault) => Err(fault),
     }
-    objects_of(alloc, &mut pages, space, live)
 }
 
 // The head and the objects of a sound file of version 1. Else it writes why it is none, and answers the status.
