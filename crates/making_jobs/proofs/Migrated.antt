@@ -114,26 +114,32 @@ not_refusing status (inr (inr (inr (inl e)))) is = omega (arith, e, is)
 not_refusing status (inr (inr (inr (inr e)))) is = omega (arith, e, is)
 
 -- of an empty file and a sound one of the first version nothing is refused
+module _ (faults : FaultIsNotOpen) (one : OneLiveSlot) (law : AuditFaultsAreUnsoundness) (new0 new1 old0 old1 : DiskState) (out0 out1 : SinkState) (status : ℕ) (tells : IsTrue new0.tells) (old_tells : IsTrue old0.tells) (empty : length new0.bytes ≡ 0)
+    (head : Head) (points : List (List ℕ)) (tags : List ℕ) (old : IsOldFile head points tags old0.bytes) where
+  abbrev Ends : Type 0
+  Ends =
+      (IsUnchanged new0 new1 × RefusesNew new0 new1 out0 out1 status)
+      ⊎ ((IsTrue new0.tells → length new0.bytes ≡ 0) × ((IsUnchanged new0 new1 × RefusesOld old0 old1 out0 out1 status) ⊎ Moves new0 new1 old0 out0 out1 status))
+
+  one_not : Ends → status ≢ 1
+  one_not (inl r) is = of_three status 1 (λ e. omega (arith, e)) (λ e. omega (arith, e)) (λ e. omega (arith, e)) r.1.statuses is
+  one_not (inr (e, inl r)) is = let why = r.1.rejected is in not_rejected law one head points tags old0.bytes why.0 old (why.2 old_tells)
+  one_not (inr (e, inr m)) is = not_filling status m.statuses is
+
+  six_not : Ends → status ≢ 6
+  six_not (inl r) is = let some = (r.1.not_empty is).0 tells in omega (arith, some, empty)
+  six_not (inr (e, inl r)) is = let why = r.1.not_old is in not_unopened faults one head points tags old0.bytes why.0 old (why.2 old_tells)
+  six_not (inr (e, inr m)) is = let some = ((m.fills.unfilled.not_empty is).2 tells).1 in omega (arith, some, empty)
+
+  nine_not : Ends → status ≢ 9
+  nine_not (inl r) is = of_three status 9 (λ e. omega (arith, e)) (λ e. omega (arith, e)) (λ e. omega (arith, e)) r.1.statuses is
+  nine_not (inr (e, inl r)) is = not_refusing status r.1.statuses is
+  nine_not (inr (e, inr m)) is = (m.fills.unfilled.damaged is).0 tells
+
 pub refuses_nothing : FaultIsNotOpen → OneLiveSlot → AuditFaultsAreUnsoundness → (new0 new1 old0 old1 : DiskState) (out0 out1 : SinkState) (status : ℕ) → Migrates new0 new1 old0 old1 out0 out1 status →
     RefusesNothing new0 old0 status
-refuses_nothing faults one law new0 new1 old0 old1 out0 out1 status job tells old_tells empty head points tags old = (one_not job.ends, six_not job.ends, nine_not job.ends)
-  where
-    abbrev Ends : Type 0
-    Ends =
-        (IsUnchanged new0 new1 × RefusesNew new0 new1 out0 out1 status)
-        ⊎ ((IsTrue new0.tells → length new0.bytes ≡ 0) × ((IsUnchanged new0 new1 × RefusesOld old0 old1 out0 out1 status) ⊎ Moves new0 new1 old0 out0 out1 status))
-
-    one_not : Ends → status ≢ 1
-    one_not (inl r) is = of_three status 1 (λ e. omega (arith, e)) (λ e. omega (arith, e)) (λ e. omega (arith, e)) r.1.statuses is
-    one_not (inr (e, inl r)) is = let why = r.1.rejected is in not_rejected law one head points tags old0.bytes why.0 old (why.2 old_tells)
-    one_not (inr (e, inr m)) is = not_filling status m.statuses is
-
-    six_not : Ends → status ≢ 6
-    six_not (inl r) is = let some = (r.1.not_empty is).0 tells in omega (arith, some, empty)
-    six_not (inr (e, inl r)) is = let why = r.1.not_old is in not_unopened faults one head points tags old0.bytes why.0 old (why.2 old_tells)
-    six_not (inr (e, inr m)) is = let some = ((m.fills.unfilled.not_empty is).2 tells).1 in omega (arith, some, empty)
-
-    nine_not : Ends → status ≢ 9
-    nine_not (inl r) is = of_three status 9 (λ e. omega (arith, e)) (λ e. omega (arith, e)) (λ e. omega (arith, e)) r.1.statuses is
-    nine_not (inr (e, inl r)) is = not_refusing status r.1.statuses is
-    nine_not (inr (e, inr m)) is = (m.fills.unfilled.damaged is).0 tells
+refuses_nothing faults one law new0 new1 old0 old1 out0 out1 status job tells old_tells empty head points tags old = (
+  one_not faults one law new0 new1 old0 old1 out0 out1 status tells old_tells empty head points tags old job.ends,
+  six_not faults one law new0 new1 old0 old1 out0 out1 status tells old_tells empty head points tags old job.ends,
+  nine_not faults one law new0 new1 old0 old1 out0 out1 status tells old_tells empty head points tags old job.ends,
+)

@@ -1,5 +1,5 @@
 -- Files of the first version: how they are opened, audited and read.
-use Rattle.std.proofs.Common.{◌≡◌, ◌≢◌, ◌⊎◌, ⊎_elim, inl, inr, ℕ, ◌<◌, ◌≤◌, Bool, true, false, List, Option, Some, None, Ok, refl, sym, ap, ◌∙◌, subst, arith, length}
+use Rattle.std.proofs.Common.{◌≡◌, ◌≢◌, ◌⊎◌, ⊎_elim, inl, inr, ℕ, ◌<◌, ◌≤◌, Bool, true, false, List, Option, Some, None, Result, Ok, Err, IfOk, IfErr, refl, sym, ap, ◌∙◌, subst, arith, length}
 use Rattle.std.specs.Prelude.{codes, IsTrue}
 use Rattle.std.specs.Io.KnownBytes.{Appends}
 use Rattle.outside_io.specs.Bytes.{AppendsPrefix}
@@ -8,7 +8,7 @@ use Rattle.outside_io.specs.Sinks.{SinkState, Tells}
 use Rattle.disk_model.specs.Disk.{DiskState, IsUnchanged}
 use Rattle.tree_shape.specs.declared.entry.Node.{Node}
 use Rattle.tree_shape.specs.declared.live.Live.{Live}
-use Rattle.tree_shape.specs.Tree.{IsSoundTree, points_by_id, tags_by_id}
+use Rattle.tree_shape.specs.Tree.{IsSoundTree, Nodes, points_by_id, tags_by_id}
 use Rattle.node_page.specs.declared.head.Head.{Head}
 use Rattle.node_page.specs.declared.node.Version.TheVariants.{First}
 use Rattle.node_page.specs.Heads.{IsLawfulHead, is_version}
@@ -17,15 +17,16 @@ use Rattle.node_page.specs.Opening.{OpensTo, open_fault}
 use Rattle.node_page.specs.Opening.Unopened.{Short, NoHead, Unfinished, TwoRoots, BadSlot}
 use Rattle.page_store.specs.declared.pages.PageFault.TheVariants as page
 use Rattle.page_store.specs.Answers.{within_by_test, reads_outside}
-use Rattle.page_store.specs.Reading.{IsWithin, is_within, nodes_of, reading_in}
+use Rattle.page_store.specs.Reading.{IsWithin, Read, is_within, nodes_of}
 use Rattle.shadow_root.specs.declared.faults.OpenFault.{OpenFault}
 use Rattle.shadow_root.specs.declared.faults.OpenFault.TheVariants as open_fault
 use Rattle.shadow_root.specs.Opening.{HasOpenCause}
 use Rattle.tree_audit.specs.declared.faults.AuditFault.{AuditFault}
 use Rattle.tree_audit.specs.declared.faults.AuditFault.TheVariants as audit
-use Rattle.tree_audit.specs.Audited.{HasAuditCause}
+use Rattle.tree_audit.specs.Audited.{HasAuditCause, audit_fault}
 use Rattle.tree_audit.specs.Laws.{AuditFaultsAreUnsoundness, HasNodesWithin}
-use Rattle.page_store.specs.Shelf.{Shelf}
+use Rattle.page_store.specs.Shelf.{HoldsSame, Shelf}
+use Rattle.metric_laws.specs.Space.{Space}
 use Rattle.file_jobs.specs.Jobs.{IsPassing}
 use Rattle.file_jobs.specs.Lines.{not_index_text, rejected_text, unopened_name, unopened_text}
 use Rattle.making_jobs.specs.Filling.{space_of}
@@ -38,6 +39,11 @@ use Rattle.making_jobs.specs.Ordering.{HasTakingCause}
 pub is_second : (version : ℕ) → IsTrue (is_version version) → version ≢ 1 → version ≡ 2
 unfolding is_version
 is_second version is other = grind (arith)
+
+-- the head of the new file
+pub renewed_lawful : (head : Head) → IsLawfulHead head → IsLawfulHead (renewed head)
+unfolding is_version
+renewed_lawful head lawful = record { version = refl; space = lawful.space; policy = lawful.policy; limit = lawful.limit }
 
 -- a refusal to open that is not the disk's
 no_old : (old new : DiskState) (f : OpenFault) → f ≢ open_fault.Disk → HasOpenCause old new f → (name : List ℕ) × (unopened_text f ≡ not_index_text name) × (IsTrue old.tells → IsNoOldFile old.bytes name)
@@ -86,80 +92,95 @@ sound_old law head live file none = (law (space_of head) (old_reading head live 
 pub faultless : AuditFaultsAreUnsoundness → (head : Head) (live : Live) (file : List ℕ) → IsSoundTree (space_of head) (old_nodes head live file) live → old_fault head live file ≡ None
 faultless law head live file sound = (law (space_of head) (old_reading head live file) live (nodes_within head live file)).1 sound
 
--- the auditor's cause, said of the disk
-pub of_audit : (old new : Shelf) (d0 : DiskState) (n : ℕ) (told : Option AuditFault) (fault : AuditFault) → d0.tells ≡ old.tells → d0.faults ≡ old.faults → n ≡ new.faults → HasAuditCause old new told fault → HasOldFault d0 n told fault
-of_audit old new d0 n told audit.Memory tells first last cause = tt
-of_audit old new d0 n told (audit.Page page.Disk) tells first last cause = subst (λ (k : ℕ). Rose k n) (sym first) (subst (λ (k : ℕ). Rose old.faults k) (sym last) cause)
-of_audit old new d0 n told (audit.Page page.Memory) tells first last cause = cause
-of_audit old new d0 n told (audit.Page (page.Repeats p)) tells first last cause = absurd cause
-of_audit old new d0 n told (audit.Page (page.Level p)) tells first last cause = absurd cause
-of_audit old new d0 n told (audit.Page (page.Bad p f)) tells first last cause = λ t. cause (subst IsTrue tells t)
-of_audit old new d0 n told (audit.Page (page.Outside p)) tells first last cause = λ t. cause (subst IsTrue tells t)
-of_audit old new d0 n told (audit.Fill p) tells first last cause = λ t. cause (subst IsTrue tells t)
-of_audit old new d0 n told (audit.Twice p) tells first last cause = λ t. cause (subst IsTrue tells t)
-of_audit old new d0 n told (audit.Unfit p i) tells first last cause = λ t. cause (subst IsTrue tells t)
-of_audit old new d0 n told (audit.ParentDistance p i) tells first last cause = λ t. cause (subst IsTrue tells t)
-of_audit old new d0 n told (audit.Radius p i o) tells first last cause = λ t. cause (subst IsTrue tells t)
-of_audit old new d0 n told (audit.Id i) tells first last cause = λ t. cause (subst IsTrue tells t)
-of_audit old new d0 n told (audit.Count a b) tells first last cause = λ t. cause (subst IsTrue tells t)
+-- the auditor's cause
+pub of_audit : (old new : Shelf) (told : Option AuditFault) (fault : AuditFault) → HasAuditCause old new told fault → HasOldFault old.tells old.faults new.faults told fault
+of_audit old new told audit.Memory cause = tt
+of_audit old new told (audit.Page page.Disk) cause = cause
+of_audit old new told (audit.Page page.Memory) cause = cause
+of_audit old new told (audit.Page (page.Repeats p)) cause = absurd cause
+of_audit old new told (audit.Page (page.Level p)) cause = absurd cause
+of_audit old new told (audit.Page (page.Bad p f)) cause = cause
+of_audit old new told (audit.Page (page.Outside p)) cause = cause
+of_audit old new told (audit.Fill p) cause = cause
+of_audit old new told (audit.Twice p) cause = cause
+of_audit old new told (audit.Unfit p i) cause = cause
+of_audit old new told (audit.ParentDistance p i) cause = cause
+of_audit old new told (audit.Radius p i o) cause = cause
+of_audit old new told (audit.Id i) cause = cause
+of_audit old new told (audit.Count a b) cause = cause
 
 -- objects that were not taken from a tree that was audited
-pub of_taking : (Sound : Type 0) (d0 : DiskState) (k n : ℕ) (told : Option AuditFault) (fault : AuditFault) → (IsTrue d0.tells → Sound) → d0.faults ≤ k → HasTakingCause Sound k n fault → HasOldFault d0 n told fault
-of_taking Sound d0 k n told audit.Memory sound later cause = tt
-of_taking Sound d0 k n told (audit.Page page.Disk) sound later cause = (let c : Rose k n = cause in omega (arith, c, later))
-of_taking Sound d0 k n told (audit.Page page.Memory) sound later cause = cause
-of_taking Sound d0 k n told (audit.Page (page.Repeats p)) sound later cause = λ t. absurd (cause (sound t))
-of_taking Sound d0 k n told (audit.Page (page.Level p)) sound later cause = λ t. absurd (cause (sound t))
-of_taking Sound d0 k n told (audit.Page (page.Bad p f)) sound later cause = λ t. absurd (cause (sound t))
-of_taking Sound d0 k n told (audit.Page (page.Outside p)) sound later cause = λ t. absurd (cause (sound t))
-of_taking Sound d0 k n told (audit.Fill p) sound later cause = λ t. absurd (cause (sound t))
-of_taking Sound d0 k n told (audit.Twice p) sound later cause = λ t. absurd (cause (sound t))
-of_taking Sound d0 k n told (audit.Unfit p i) sound later cause = λ t. absurd (cause (sound t))
-of_taking Sound d0 k n told (audit.ParentDistance p i) sound later cause = λ t. absurd (cause (sound t))
-of_taking Sound d0 k n told (audit.Radius p i o) sound later cause = λ t. absurd (cause (sound t))
-of_taking Sound d0 k n told (audit.Id i) sound later cause = λ t. absurd (cause (sound t))
-of_taking Sound d0 k n told (audit.Count a b) sound later cause = λ t. absurd (cause (sound t))
+of_taking : (Sound : Type 0) (tells : Bool) (before between now : ℕ) (told : Option AuditFault) (fault : AuditFault) → (IsTrue tells → Sound) → before ≤ between → HasTakingCause Sound between now fault → HasOldFault tells before now told fault
+of_taking Sound tells before between now told audit.Memory sound later cause = tt
+of_taking Sound tells before between now told (audit.Page page.Disk) sound later cause = (let c : Rose between now = cause in omega (arith, c, later))
+of_taking Sound tells before between now told (audit.Page page.Memory) sound later cause = cause
+of_taking Sound tells before between now told (audit.Page (page.Repeats p)) sound later cause = λ t. absurd (cause (sound t))
+of_taking Sound tells before between now told (audit.Page (page.Level p)) sound later cause = λ t. absurd (cause (sound t))
+of_taking Sound tells before between now told (audit.Page (page.Bad p f)) sound later cause = λ t. absurd (cause (sound t))
+of_taking Sound tells before between now told (audit.Page (page.Outside p)) sound later cause = λ t. absurd (cause (sound t))
+of_taking Sound tells before between now told (audit.Fill p) sound later cause = λ t. absurd (cause (sound t))
+of_taking Sound tells before between now told (audit.Twice p) sound later cause = λ t. absurd (cause (sound t))
+of_taking Sound tells before between now told (audit.Unfit p i) sound later cause = λ t. absurd (cause (sound t))
+of_taking Sound tells before between now told (audit.ParentDistance p i) sound later cause = λ t. absurd (cause (sound t))
+of_taking Sound tells before between now told (audit.Radius p i o) sound later cause = λ t. absurd (cause (sound t))
+of_taking Sound tells before between now told (audit.Id i) sound later cause = λ t. absurd (cause (sound t))
+of_taking Sound tells before between now told (audit.Count a b) sound later cause = λ t. absurd (cause (sound t))
+
+module _ (law : AuditFaultsAreUnsoundness) (s : Space) (old mid : Shelf) (t : Live) (within : HasNodesWithin old.read t.pages) (none : IsTrue old.tells → audit_fault s old.read t ≡ None) (same : HoldsSame old mid) where
+  pub is_sound : IsTrue old.tells → IsSoundTree s (nodes_of old.read) t
+  is_sound tells = (law s old.read t within).0 (none tells)
+
+  still_sound : IsTrue old.tells → IsTrue mid.tells × IsSoundTree s (nodes_of mid.read) t
+  still_sound tells = (subst IsTrue (sym same.tells) tells, subst (λ (r : Read). IsSoundTree s (nodes_of r) t) (sym same.read) (is_sound tells))
+
+  pub if_still : {T E : Type 0} (P : T → Nodes → Type 0) (r : Result T E) → IfOk r (λ x. IsTrue mid.tells → IsSoundTree s (nodes_of mid.read) t → P x (nodes_of mid.read)) → IfOk r (λ x. IsTrue old.tells → P x (nodes_of old.read))
+  if_still P (Ok x) is = λ tells. let still = still_sound tells in subst (λ (r : Read). P x (nodes_of r)) same.read (is still.0 still.1)
+  if_still P (Err e) is = tt
+
+  pub still_taking : {T : Type 0} (now : ℕ) (told : Option AuditFault) (r : Result T AuditFault) → IfErr r (HasTakingCause (IsTrue mid.tells × IsSoundTree s (nodes_of mid.read) t) mid.faults now) → IfErr r (HasOldFault old.tells old.faults now told)
+  still_taking now told (Ok x) cause = tt
+  still_taking now told (Err fault) cause = of_taking (IsTrue mid.tells × IsSoundTree s (nodes_of mid.read) t) old.tells old.faults mid.faults now told fault still_sound same.faults cause
 
 -- ---- how reading an old file ends
 
 -- what is told besides a failure of the disk and want of memory
-told_by : (old : DiskState) (n : ℕ) (told : Option AuditFault) (fault : AuditFault) → (IsPassing fault → ⊥) → HasOldFault old n told fault → IsTrue old.tells → told ≡ Some fault
-told_by old n told audit.Memory other cause tells = absurd (other tt)
-told_by old n told (audit.Page page.Disk) other cause tells = absurd (other tt)
-told_by old n told (audit.Page page.Memory) other cause tells = absurd cause
-told_by old n told (audit.Page (page.Repeats p)) other cause tells = cause tells
-told_by old n told (audit.Page (page.Level p)) other cause tells = cause tells
-told_by old n told (audit.Page (page.Bad p f)) other cause tells = cause tells
-told_by old n told (audit.Page (page.Outside p)) other cause tells = cause tells
-told_by old n told (audit.Fill p) other cause tells = cause tells
-told_by old n told (audit.Twice p) other cause tells = cause tells
-told_by old n told (audit.Unfit p i) other cause tells = cause tells
-told_by old n told (audit.ParentDistance p i) other cause tells = cause tells
-told_by old n told (audit.Radius p i o) other cause tells = cause tells
-told_by old n told (audit.Id i) other cause tells = cause tells
-told_by old n told (audit.Count a b) other cause tells = cause tells
+told_by : (is_told : Bool) (before now : ℕ) (told : Option AuditFault) (fault : AuditFault) → (IsPassing fault → ⊥) → HasOldFault is_told before now told fault → IsTrue is_told → told ≡ Some fault
+told_by is_told before now told audit.Memory other cause tells = absurd (other tt)
+told_by is_told before now told (audit.Page page.Disk) other cause tells = absurd (other tt)
+told_by is_told before now told (audit.Page page.Memory) other cause tells = absurd cause
+told_by is_told before now told (audit.Page (page.Repeats p)) other cause tells = cause tells
+told_by is_told before now told (audit.Page (page.Level p)) other cause tells = cause tells
+told_by is_told before now told (audit.Page (page.Bad p f)) other cause tells = cause tells
+told_by is_told before now told (audit.Page (page.Outside p)) other cause tells = cause tells
+told_by is_told before now told (audit.Fill p) other cause tells = cause tells
+told_by is_told before now told (audit.Twice p) other cause tells = cause tells
+told_by is_told before now told (audit.Unfit p i) other cause tells = cause tells
+told_by is_told before now told (audit.ParentDistance p i) other cause tells = cause tells
+told_by is_told before now told (audit.Radius p i o) other cause tells = cause tells
+told_by is_told before now told (audit.Id i) other cause tells = cause tells
+told_by is_told before now told (audit.Count a b) other cause tells = cause tells
 
 module _ (d0 d1 : DiskState) (head : Head) (live : Live) (opens : IsTrue d0.tells → OpensTo d0.bytes head live) (version : head.version ≡ 1) (same : IsUnchanged d0 d1) where
   told_still : IsTrue d0.tells → IsTrue d1.tells
   told_still tells = subst IsTrue (sym same.same_tells) tells
 
-  rejected_before : (n : ℕ) (fault : AuditFault) → (IsPassing fault → ⊥) → HasOldFault d1 n (old_fault head live d1.bytes) fault → IsTrue d0.tells → IsOldRejected d0.bytes fault
+  rejected_before : (n : ℕ) (fault : AuditFault) → (IsPassing fault → ⊥) → HasOldFault d1.tells d1.faults n (old_fault head live d1.bytes) fault → IsTrue d0.tells → IsOldRejected d0.bytes fault
   rejected_before n fault other cause tells = record {
     head = head;
     live = live;
     opens = opens tells;
     version = version;
-    told = subst (λ (b : List ℕ). old_fault head live b ≡ Some fault) same.same_bytes (told_by d1 n (old_fault head live d1.bytes) fault other cause (told_still tells));
+    told = subst (λ (b : List ℕ). old_fault head live b ≡ Some fault) same.same_bytes (told_by d1.tells d1.faults n (old_fault head live d1.bytes) fault other cause (told_still tells));
   }
 
-  pub rejected : (d2 : DiskState) (out0 out1 : SinkState) (status : ℕ) (fault : AuditFault) → d0.faults ≤ d1.faults → HasOldFault d1 d2.faults (old_fault head live d1.bytes) fault →
+  pub rejected : (d2 : DiskState) (out0 out1 : SinkState) (status : ℕ) (fault : AuditFault) → d0.faults ≤ d1.faults → HasOldFault d1.tells d1.faults d2.faults (old_fault head live d1.bytes) fault →
       (status ≡ 1 → Appends out0.written out1.written (rejected_text fault)) → (status ≡ 4 → AppendsPrefix out0.written out1.written (rejected_text fault)) → ((status ≡ 1) ⊎ (status ≡ 4) → IsPassing fault → ⊥) →
       (status ≡ 5 → (fault ≡ audit.Page page.Disk) × Tells out0 out1 (codes "fault disk\n")) → (status ≡ 8 → Tells out0 out1 (codes "fault memory\n")) →
       (status ≡ 1) ⊎ ((status ≡ 4) ⊎ ((status ≡ 5) ⊎ (status ≡ 8))) → RefusesOld d0 d2 out0 out1 status
   rejected d2 out0 out1 status fault later cause one four kind five eight statuses = record {
     rejected = λ is. (fault, one is, rejected_before d2.faults fault (kind (inl is)) cause);
     part = λ is. (fault, four is, rejected_before d2.faults fault (kind (inr is)) cause);
-    disk = λ is. ((let c : Rose d1.faults d2.faults = subst (HasOldFault d1 d2.faults (old_fault head live d1.bytes)) (five is).0 cause in omega (arith, c, later)), (five is).1);
+    disk = λ is. ((let c : Rose d1.faults d2.faults = subst (HasOldFault d1.tells d1.faults d2.faults (old_fault head live d1.bytes)) (five is).0 cause in omega (arith, c, later)), (five is).1);
     not_old = λ is. absurd (elim statuses [ inl e ↦ omega (arith, e, is) | inr (inl e) ↦ omega (arith, e, is) | inr (inr (inl e)) ↦ omega (arith, e, is) | inr (inr (inr e)) ↦ omega (arith, e, is) ]);
     memory = eight;
     statuses = elim statuses [ inl e ↦ inl e | inr (inl e) ↦ inr (inl e) | inr (inr (inl e)) ↦ inr (inr (inl e)) | inr (inr (inr e)) ↦ inr (inr (inr (inr e))) ];

@@ -1,5 +1,5 @@
 -- What the job `migrate` does and writes: an index made of the objects of a file of the first version.
-use Rattle.std.specs.Prelude.{◌≡◌, ◌≢◌, ◌⊎◌, ℕ, ◌<◌, Option, Some, List, length, codes, IsTrue}
+use Rattle.std.specs.Prelude.{◌≡◌, ◌≢◌, ◌⊎◌, ℕ, ◌<◌, Bool, Option, Some, List, length, codes, IsTrue}
 use Rattle.std.specs.Io.KnownBytes.{Appends}
 use Rattle.outside_io.specs.Bytes.{AppendsPrefix}
 use Rattle.outside_io.specs.Causes.{Rose}
@@ -58,12 +58,13 @@ IsNoOldFile file name =
     ((why : Unopened) × (open_fault file ≡ Some why) × (name ≡ unopened_name why))
     ⊎ ((head : Head) × (live : Live) × OpensTo file head live × (head.version ≡ 2) × (name ≡ codes "version"))
 
--- why the objects of such a file were not taken: the disk failed, or memory ran out; and else this is the fault of its live tree
-abbrev pub HasOldFault : DiskState → ℕ → Option AuditFault → AuditFault → Type 0
-HasOldFault old faults told audit.Memory = Unit {0}
-HasOldFault old faults told (audit.Page page.Disk) = Rose old.faults faults
-HasOldFault old faults told (audit.Page page.Memory) = ⊥
-HasOldFault old faults told fault = IsTrue old.tells → told ≡ Some fault
+-- Why the objects of a tree were not taken, where the faults of its pages were counted before and now: the disk failed, or memory ran out;
+-- and else this is the fault of the tree, where its pages tell it.
+abbrev pub HasOldFault : Bool → ℕ → ℕ → Option AuditFault → AuditFault → Type 0
+HasOldFault tells before now told audit.Memory = Unit {0}
+HasOldFault tells before now told (audit.Page page.Disk) = Rose before now
+HasOldFault tells before now told (audit.Page page.Memory) = ⊥
+HasOldFault tells before now told fault = IsTrue tells → told ≡ Some fault
 
 -- ---- the job
 

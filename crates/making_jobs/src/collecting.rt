@@ -23,11 +23,7 @@ fn put_on_top(coming: &mut Vec<u32>, entries: Vec<InnerEntry>) -> Result<(), Mem
 }
 
 // Takes a node apart: its objects go behind the others, or the pages that it names come next.
-fn take_apart(
-    node: Node,
-    found: &mut Vec<LeafEntry>,
-    coming: &mut Vec<u32>,
-) -> Result<(), Memory>
+fn take_apart(node: Node, found: &mut Vec<LeafEntry>, coming: &mut Vec<u32>) -> Result<(), Memory>
     ensures found { OnOk result (found.new.items ≡ found.old.items ++ leaf_entries (Some node)) }
     ensures coming { OnOk result (reverse coming.new.items ≡ map (λ e. e.child) (inner_entries (Some node)) ++ reverse coming.old.items) }
 {

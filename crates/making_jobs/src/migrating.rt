@@ -8,6 +8,10 @@ ghost use Rattle.node_page.specs.Opening.{OpensTo};
 ghost use Rattle.std.specs.Io.KnownBytes.{Appends};
 ghost use Rattle.outside_io.specs.Bytes.{AppendsPrefix};
 ghost use Rattle.outside_io.specs.Sinks.{Tells};
+ghost use Rattle.page_store.specs.Reading.{nodes_of};
+ghost use Rattle.page_store.specs.Shelf.{HoldsSame};
+ghost use Rattle.tree_audit.specs.Audited.{audit_fault};
+ghost use Rattle.tree_audit.specs.Laws.{HasNodesWithin};
 ghost use Rattle.making_jobs.specs.Filling.{space_of};
 ghost use Rattle.making_jobs.specs.Migrating.{HasOldFault, IsMigrateStatus, IsOldFile, Migrates, RefusesNew, RefusesNothing, RefusesOld, migrated_text, old_fault, old_nodes, renewed};
 
@@ -18,11 +22,11 @@ use disk_model::Disk;
 use file_jobs::{
     FAULT_DISK, FAULT_MEMORY, end_rejected, end_unopened, end_with, put_line, space_of,
 };
-use metric_laws::Meter;
+use metric_laws::{Meter, Metric};
 use node_page::Head;
 use node_page::laws::{fault_is_not_open, one_live_slot};
 use outside_io::{Sink, Status};
-use page_store::DiskPages;
+use page_store::{DiskPages, Pages};
 use shadow_root::open;
 use std::alloc::Global;
 use std::thread::Threads;
@@ -71,6 +75,38 @@ fn open_old<D: Disk, K: Sink>(disk: &mut D, out: &mut K) -> Result<(Head, Live),
     }
 }
 
+// The objects of a live tree over points of `dim` coordinates, once it was audited.
+fn audited<P: Pages, M: Metric>(
+    alloc: Global,
+    pages: &mut P,
+    metric: M,
+    dim: u8,
+    live: &Live,
+) -> Result<Objects, AuditFault>
+    requires some { 1 ≤ dim }
+    requires few { dim ≤ 64 }
+    requires dim { (P.shelf pages.old).dim ≡ dim }
+    requires words { (M.space metric).words ≡ dim }
+    requires pages { live.now.pages ≡ (P.shelf pages.old).pages }
+    requires within { HasNodesWithin (P.shelf pages.old).read live.now.pages }
+    ensures same { HoldsSame (P.shelf pages.old) (P.shelf pages.new) }
+    ensures keeps { P.keeps pages.old pages.new }
+    ensures fits { IfOk result (λ o. All (λ p. IsTrue ((M.space metric).fits p)) o.rows.points) }
+    ensures count { IfOk result (λ o. length o.rows.points ≡ live.now.count) }
+    ensures tag_count { IfOk result (λ o. length o.tags.items ≡ length o.rows.points) }
+    ensures sound { OnOk result (IsTrue (P.shelf pages.old).tells → IsSoundTree (M.space metric) (nodes_of (P.shelf pages.old).read) live.now) }
+    ensures points { IfOk result (λ o. IsTrue (P.shelf pages.old).tells → o.rows.points ≡ points_by_id (nodes_of (P.shelf pages.old).read) live.now) }
+    ensures tags { IfOk result (λ o. IsTrue (P.shelf pages.old).tells → o.tags.items ≡ tags_by_id (nodes_of (P.shelf pages.old).read) live.now) }
+    ensures fault { IfErr result (HasOldFault (P.shelf pages.old).tells (P.shelf pages.old).faults (P.shelf pages.new).faults (audit_fault (M.space metric) (P.shelf pages.old).read live.now)) }
+{
+    audit_faults_are_unsoundness();
+    let mut ruler = Meter::new(metric);
+    match audit(alloc, pages, &mut ruler, dim, live) {
+        Ok(_) => objects_of(alloc, pages, metric, live),
+        Err(fault) => Err(fault),
+    }
+}
+
 // The objects of an opened file of version 1, once its live tree was audited.
 fn audited_objects<D: Disk>(
     alloc: Global,
@@ -84,20 +120,14 @@ fn audited_objects<D: Disk>(
     ensures fits { IfOk result (λ o. All (λ p. IsTrue ((space_of head.now).fits p)) o.rows.points) }
     ensures count { IfOk result (λ o. length o.rows.points ≡ live.now.count) }
     ensures tag_count { IfOk result (λ o. length o.tags.items ≡ length o.rows.points) }
-    ensures sound { IfOk result (λ o. IsTrue (D.state disk.old).tells → IsSoundTree (space_of head.now) (old_nodes head.now live.now (D.state disk.old).bytes) live.now) }
+    ensures sound { OnOk result (IsTrue (D.state disk.old).tells → IsSoundTree (space_of head.now) (old_nodes head.now live.now (D.state disk.old).bytes) live.now) }
     ensures points { IfOk result (λ o. IsTrue (D.state disk.old).tells → o.rows.points ≡ points_by_id (old_nodes head.now live.now (D.state disk.old).bytes) live.now) }
     ensures tags { IfOk result (λ o. IsTrue (D.state disk.old).tells → o.tags.items ≡ tags_by_id (old_nodes head.now live.now (D.state disk.old).bytes) live.now) }
-    ensures fault { IfErr result (HasOldFault (D.state disk.old) (D.state disk.new).faults (old_fault head.now live.now (D.state disk.old).bytes)) }
+    ensures fault { IfErr result (HasOldFault (D.state disk.old).tells (D.state disk.old).faults (D.state disk.new).faults (old_fault head.now live.now (D.state disk.old).bytes)) }
     ensures later { (D.state disk.old).faults ≤ (D.state disk.new).faults }
 {
-    audit_faults_are_unsoundness();
-    let space = space_of(head);
     let mut pages = DiskPages::old(disk, head.dim, live.pages);
-    let mut ruler = Meter::new(space);
-    match audit(alloc, &mut pages, &mut ruler, head.dim, live) {
-        Ok(_) => objects_of(alloc, &mut pages, space, live),
-        Err(fault) => Err(fault),
-    }
+    audited(alloc, &mut pages, space_of(head), head.dim, live)
 }
 
 // The head and the objects of a sound file of version 1. Else it writes why it is none, and answers the status.

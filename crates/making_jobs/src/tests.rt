@@ -135,9 +135,7 @@ const OLD_PAIR: Page = &[2, 0, 0, 0, 1, 0, 0, 5, 6, 0, 0, 0, 3, 4];
 // Leaves of version 2: (3, 4) with id and tag 0; the same before (5, 6) with id and tag 1.
 const NEW_LEAF: Page = &[1, 0, 0, 0, 0, 0, 0, 0, 0, 3, 4];
 
-const NEW_PAIR: Page = &[
-    2, 0, 0, 0, 0, 0, 0, 0, 0, 3, 4, 1, 0, 1, 0, 0, 5, 6,
-];
+const NEW_PAIR: Page = &[2, 0, 0, 0, 0, 0, 0, 0, 0, 3, 4, 1, 0, 1, 0, 0, 5, 6];
 
 // A run of `migrate`: the new file and the old one's pages before it, the call at which the old file's disk stops and that at which the
 // output fails, and what comes of it. Without pages of its own the new file is as it was.

@@ -55,8 +55,7 @@ returns-clause-cause g c =
     let moved : IsPermutation c.in-Ok.entries.items es = subst (λ (l : List LeafEntry). IsPermutation c.in-Ok.entries.items l) (sym c.as_slice.ensures.value) c.sort_unstable_by_key.ensures.permutation in
     taking_cause (IsTrue (g.P.Pages.shelf c.args.pages.now).tells × IsSoundTree s nodes t) s es (g.P.Pages.shelf c.args.pages.now).faults (g.P.Pages.shelf c.collect.new.pages).faults c.take_in_order.result
     (λ so.
-    let are = c.in-Ok.ensures.found so.0 s so.1 in
-    (
+    let are = c.in-Ok.ensures.found so.0 s so.1 in (
       sorted_numbered s nodes t so.1 c.in-Ok.entries.items are es moved (subst (λ (l : List LeafEntry). IsNonDecreasingBy (λ (e : LeafEntry). e.id) l) (sym c.as_slice.ensures.value) up),
       sorted_fits s nodes t so.1 c.in-Ok.entries.items are es moved (c.objects_fit.ensures s nodes t.height (root_least t.height) None t.root so.1.parts),
     ))
