@@ -1,6 +1,8 @@
 -- How `migrate` ends.
 use Rattle.std.proofs.Common.{◌≡◌, ◌≢◌, ◌⊎◌, ⊎_elim, inl, inr, ℕ, ◌<◌, ◌≤◌, List, refl, sym, ap, ◌∙◌, subst, arith, length}
-use Rattle.std.specs.Prelude.{codes, IsTrue}
+use Rattle.std.specs.Prelude.{codes, false, IsTrue}
+use Rattle.std.specs.Io.KnownBytes.{Appends}
+use Rattle.outside_io.specs.Bytes.{AppendsPrefix}
 use Rattle.outside_io.specs.Causes.{Rose}
 use Rattle.outside_io.specs.Sinks.{SinkState, Tells}
 use Rattle.disk_model.specs.Disk.{DiskState, IsUnchanged}
@@ -8,10 +10,15 @@ use Rattle.disk_model.specs.Moments.{then_unchanged}
 use Rattle.node_page.specs.declared.head.Head.{Head}
 use Rattle.node_page.specs.Laws.{FaultIsNotOpen, OneLiveSlot}
 use Rattle.tree_audit.specs.Laws.{AuditFaultsAreUnsoundness}
-use Rattle.making_jobs.specs.Jobs.{Fills, IsFillStatus}
+use Rattle.metric_mix.specs.declared.mix_space.MixSpace.{MixSpace}
+use Rattle.index_core.specs.Files.{OnlyReads}
+use Rattle.index_core.specs.Index.{MayGoOn, OpenIndex}
+use Rattle.index_core.specs.Lending.{same_room_by_none}
+use Rattle.making_jobs.specs.Filling.{IsFilled}
+use Rattle.making_jobs.specs.Jobs.{Fills, IsFillStatus, IsFilledSince, IsUnfilled}
 use Rattle.making_jobs.specs.Migrating.{IsMigrateStatus, IsOldFile, Migrates, Moves, RefusesNew, RefusesNothing, RefusesOld, migrated_text, renewed}
 use Rattle.making_jobs.proofs.Filled.{rose_more}
-use Rattle.making_jobs.proofs.Generated.{unchanged}
+use Rattle.making_jobs.proofs.Generated.{is_full, leaves_only, refused as unfilled, unchanged, written}
 use Rattle.making_jobs.proofs.OldFiles.{not_rejected, not_unopened}
 
 -- ---- before the old file was come to
@@ -91,6 +98,46 @@ module _ (new0 new1 old0 old1 : DiskState) (out0 out1 : SinkState) (status : ℕ
       }));
     }
 
+-- ---- what was written of a filled index
+
+module _ (h : Head) (points : List (List ℕ)) (tags : List ℕ) (d0 d1 : DiskState) (out0 out1 : SinkState) (status : ℕ) where
+  unwritten : status ≡ 8 → Tells out0 out1 (codes "fault memory\n") → (IsTrue d0.tells → IsFilledSince h points tags d1) → Fills h points tags (λ file text. text ≡ migrated_text (length points)) d0 d1 out0 out1 status
+  unwritten eight line since = record {
+    filled = λ tells is. absurd (⊎_elim (λ e. (let no : ⊥ = omega (arith, e, eight) in no)) (λ e. (let no : ⊥ = omega (arith, e, eight) in no)) is);
+    done = λ tells is. absurd (omega (arith, is, eight));
+    part = λ tells is. absurd (omega (arith, is, eight));
+    unfilled = record {
+      disk = λ is. absurd (omega (arith, is, eight));
+      not_empty = λ is. absurd (omega (arith, is, eight));
+      memory = λ is. line;
+      damaged = λ is. absurd (omega (arith, is, eight));
+      left = λ tells other. inr (since tells);
+    };
+  }
+
+  pub filled_fills : (head : Head) → h ≡ renewed head → (i : OpenIndex MixSpace) → i.file.head ≡ h → (IsTrue d0.tells → IsFilled h points tags d1 i) → MayGoOn i d1 → i.stopped ≡ false → (IsTrue d0.tells → length d0.bytes ≡ 0) →
+      (IsTrue d0.tells → IsFilledSince h points tags d1) → d0.faults ≤ d1.faults → d1.tells ≡ d0.tells → (n : ℕ) → n ≡ length points → (status ≡ 0) ⊎ ((status ≡ 4) ⊎ (status ≡ 8)) →
+      (status ≡ 0 → Appends out0.written out1.written (migrated_text n)) → (status ≡ 4 → AppendsPrefix out0.written out1.written (migrated_text n)) → (status ≡ 8 → Tells out0 out1 (codes "fault memory\n")) →
+      Fills (renewed head) points tags (λ file text. text ≡ migrated_text (length points)) d0 d1 out0 out1 status
+  filled_fills head is i heads filled stands going empty since later told n count statuses done part memory =
+      subst (λ (x : Head). Fills x points tags (λ file text. text ≡ migrated_text (length points)) d0 d1 out0 out1 status) is (elim statuses [ inl e ↦ full (inl e) | inr (inl e) ↦ full (inr e) | inr (inr e) ↦ unwritten e (memory e) since ])
+    where
+      version : h.version ≡ 2
+      version = ap (λ (x : Head). x.version) is
+
+      reads : OnlyReads i.file i.file d1 d1
+      reads = record { rest = refl; room = same_room_by_none i.file.kept; same = unchanged d1; later = omega arith }
+
+      full : (status ≡ 0) ⊎ (status ≡ 4) → Fills h points tags (λ file text. text ≡ migrated_text (length points)) d0 d1 out0 out1 status
+      full either =
+          written h points tags (λ file text. text ≡ migrated_text (length points)) d0 out0 out1 status d1 d1 i.file i.file reads later told since (migrated_text n) either done part
+          (λ tells. (
+            empty tells,
+            is_full h version points tags d1 d1 i i heads (filled tells) stands going reads,
+            leaves_only h version points tags d1 d1 i i heads (filled tells) stands going reads,
+          ))
+          (λ tells. ap migrated_text count)
+
 -- ---- what follows from its clauses
 
 pub of_three : (status n : ℕ) → (n ≢ 5) → (n ≢ 6) → (n ≢ 8) → (status ≡ 5) ⊎ ((status ≡ 6) ⊎ (status ≡ 8)) → status ≡ n → ⊥
@@ -143,3 +190,42 @@ refuses_nothing faults one law new0 new1 old0 old1 out0 out1 status job tells ol
   six_not faults one law new0 new1 old0 old1 out0 out1 status tells old_tells empty head points tags old job.ends,
   nine_not faults one law new0 new1 old0 old1 out0 out1 status tells old_tells empty head points tags old job.ends,
 )
+
+-- ---- its statuses and the disks' faults
+
+statuses_of_fills : (status : ℕ) → IsFillStatus status → IsMigrateStatus status
+statuses_of_fills status (inl e) = inl e
+statuses_of_fills status (inr e) = inr (inr e)
+
+statuses_of_old : (status : ℕ) → (status ≡ 1) ⊎ ((status ≡ 4) ⊎ ((status ≡ 5) ⊎ ((status ≡ 6) ⊎ (status ≡ 8)))) → IsMigrateStatus status
+statuses_of_old status (inl e) = inr (inl e)
+statuses_of_old status (inr (inl e)) = inr (inr (inl e))
+statuses_of_old status (inr (inr (inl e))) = inr (inr (inr (inl e)))
+statuses_of_old status (inr (inr (inr (inl e)))) = inr (inr (inr (inr (inl e))))
+statuses_of_old status (inr (inr (inr (inr e)))) = inr (inr (inr (inr (inr (inl e)))))
+
+statuses_of_new : (status : ℕ) → (status ≡ 5) ⊎ ((status ≡ 6) ⊎ (status ≡ 8)) → IsMigrateStatus status
+statuses_of_new status (inl e) = inr (inr (inr (inl e)))
+statuses_of_new status (inr (inl e)) = inr (inr (inr (inr (inl e))))
+statuses_of_new status (inr (inr e)) = inr (inr (inr (inr (inr (inl e)))))
+
+module _ (new0 new1 old0 old1 : DiskState) (out0 out1 : SinkState) (status : ℕ) (job : Migrates new0 new1 old0 old1 out0 out1 status) where
+  pub migrate_statuses : IsMigrateStatus status
+  migrate_statuses = elim job.ends [
+    | inl r ↦ statuses_of_new status r.1.statuses
+    | inr (e, inl r) ↦ statuses_of_old status r.1.statuses
+    | inr (e, inr m) ↦ statuses_of_fills status m.statuses
+  ]
+
+  pub migrate_rose : status ≡ 5 → Rose new0.faults new1.faults ⊎ Rose old0.faults old1.faults
+  migrate_rose is = elim job.ends [
+    | inl r ↦ inl (r.1.disk is).0
+    | inr (e, inl r) ↦ inr (r.1.disk is).0
+    | inr (e, inr m) ↦ inl (m.fills.unfilled.disk is).0
+  ]
+
+-- an index that could not be filled
+pub unfilled_fills : (h head : Head) (points : List (List ℕ)) (tags : List ℕ) (d0 d1 : DiskState) (out0 out1 : SinkState) (status : ℕ) → h ≡ renewed head → IsUnfilled h points tags d0 d1 out0 out1 status →
+    (status ≡ 5) ⊎ ((status ≡ 6) ⊎ ((status ≡ 8) ⊎ (status ≡ 9))) → Fills (renewed head) points tags (λ file text. text ≡ migrated_text (length points)) d0 d1 out0 out1 status
+unfilled_fills h head points tags d0 d1 out0 out1 status is un statuses =
+    subst (λ (x : Head). Fills x points tags (λ file text. text ≡ migrated_text (length points)) d0 d1 out0 out1 status) is (unfilled h points tags (λ file text. text ≡ migrated_text (length points)) d0 out0 out1 status d1 un statuses)

@@ -13,6 +13,7 @@ ghost use Rattle.page_store.specs.Shelf.{HoldsSame};
 ghost use Rattle.tree_audit.specs.Audited.{audit_fault};
 ghost use Rattle.tree_audit.specs.Laws.{HasNodesWithin};
 ghost use Rattle.making_jobs.specs.Filling.{space_of};
+ghost use Rattle.making_jobs.specs.Jobs.{Fills, IsFillStatus};
 ghost use Rattle.making_jobs.specs.Migrating.{HasOldFault, IsMigrateStatus, IsOldFile, Migrates, RefusesNew, RefusesNothing, RefusesOld, migrated_text, old_fault, old_nodes, renewed};
 
 use crate::filling::Objects;
@@ -186,6 +187,52 @@ fn end_migrated<K: Sink>(alloc: Global, objects: usize, out: &mut K) -> Status
     put_line(out, &text, 0)
 }
 
+// Fills a new index of the old head, but of version 2, with the old objects.
+fn move_objects<R: Threads + Sync, D: Disk, K: Sink>(
+    rt: &R,
+    alloc: Global,
+    index: &mut D,
+    head: &Head,
+    objects: &Objects,
+    out: &mut K,
+) -> Status
+    requires lawful { IsLawfulHead head.now }
+    requires fits { All (λ p. IsTrue ((space_of head.now).fits p)) objects.now.rows.points }
+    requires few { length objects.now.rows.points ≤ head.now.limit }
+    requires tags { length objects.now.tags.items ≡ length objects.now.rows.points }
+    ensures fills { Fills (renewed head.now) objects.now.rows.points objects.now.tags.items (λ file text. text ≡ migrated_text (length objects.now.rows.points))
+        (D.state index.old) (D.state index.new) (K.state out.old) (K.state out.new) result.0 }
+    ensures statuses { IsFillStatus result.0 }
+    ensures later { (K.state out.old).faults ≤ (K.state out.new).faults }
+    ensures rose { result.0 ≡ 4 → Rose (K.state out.old).faults (K.state out.new).faults }
+{
+    match make_filled(rt, alloc, index, &renewed(head), 1, objects, out) {
+        Ok(_) => end_migrated(alloc, objects.rows.len(), out),
+        Err(status) => status,
+    }
+}
+
+// Does the job.
+fn migrate<R: Threads + Sync, D: Disk, E: Disk, K: Sink>(
+    rt: &R,
+    alloc: Global,
+    index: &mut D,
+    other: &mut E,
+    out: &mut K,
+) -> Status
+    ensures migrates { Migrates (D.state index.old) (D.state index.new) (E.state other.old) (E.state other.new) (K.state out.old) (K.state out.new) result.0 }
+    ensures later { (K.state out.old).faults ≤ (K.state out.new).faults }
+    ensures rose { result.0 ≡ 4 → Rose (K.state out.old).faults (K.state out.new).faults }
+{
+    if let Err(status) = want_empty(index, out) {
+        return status;
+    }
+    match read_old(alloc, other, out) {
+        Ok((head, objects)) => move_objects(rt, alloc, index, &head, &objects, out),
+        Err(status) => status,
+    }
+}
+
 /// Makes an index in the empty file `index` of the objects of the file `other` of version 1, with its space, its policies and its
 /// limit, and writes `migrated` and their number. The objects keep their ids and tags, and the tree is that of bulk loading. `other` is
 /// only read, and `index` stays as it is unless it is empty and `other` is sound. Status 1: `other` is not sound, and its first fault is
@@ -209,15 +256,5 @@ pub fn migrate_index<R: Threads + Sync, D: Disk, E: Disk, K: Sink>(
     fault_is_not_open();
     one_live_slot();
     audit_faults_are_unsoundness();
-    if let Err(status) = want_empty(index, out) {
-        return status;
-    }
-    let (head, objects) = match read_old(alloc, other, out) {
-        Ok(old) => old,
-        Err(status) => return status,
-    };
-    match make_filled(rt, alloc, index, &renewed(&head), 1, &objects, out) {
-        Ok(_) => end_migrated(alloc, objects.rows.len(), out),
-        Err(status) => status,
-    }
+    migrate(rt, alloc, index, other, out)
 }
