@@ -2,6 +2,7 @@
 use Rattle.std.proofs.Common.{◌≡◌, ◌≢◌, ◌⊎◌, ⊎_elim, ℕ, ◌+◌, ◌<◌, ◌≤◌, true, false, List, [], ◌∷◌, ◌++◌, refl, sym, ap, ◌∙◌, subst, arith, drop, drop-cons, add-one, get_or, length, append_assoc}
 use Rattle.std.specs.Prelude.{IsTrue, map}
 use Rattle.std.proofs.lemmas.List.{append-nil, drop_all}
+use Rattle.metric_laws.specs.Rows.{Table}
 use Rattle.metric_laws.specs.Space.{Space}
 use Rattle.tree_shape.specs.declared.entry.LeafEntry.{LeafEntry}
 use Rattle.making_jobs.specs.Ordering.{AreInSpace, AreNumbered}
@@ -11,6 +12,10 @@ points_of es = map (λ e. e.point) es
 
 abbrev tags_of : List LeafEntry → List ℕ
 tags_of es = map (λ e. e.tag) es
+
+-- rows with a point more
+pub with_point : (old new : Table) (p : List ℕ) → new ≡ record old { points = old.points ++ p ∷ [] } → (new.words ≡ old.words) × (new.points ≡ old.points ++ p ∷ [])
+with_point old new p is = (ap (λ (t : Table). t.words) is, ap (λ (t : Table). t.points) is)
 
 -- The first so many objects were taken: these are their points and tags. What is still to be said of all of them is said of the rest.
 pub record IsTaking (s : Space) (all : List LeafEntry) (id : ℕ) (points : List (List ℕ)) (tags : List ℕ) : Type 0 where

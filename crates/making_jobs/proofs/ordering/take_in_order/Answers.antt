@@ -1,5 +1,5 @@
 use Rattle.std.proofs.Common.{ap, arith, ◌∙◌}
-use Rattle.making_jobs.proofs.Taken.{begins, ends, goes_on, is_next}
+use Rattle.making_jobs.proofs.Taken.{begins, ends, goes_on, is_next, with_point}
 use Rattle.making_jobs.proofs.ordering.take_in_order.Goals as goal
 
 pub loop-id-init : goal.loop-id-init
@@ -16,10 +16,11 @@ returns-then-not-is_next-clause-cause g c = λ numbered fits.
 pub loop-id-preserved : goal.loop-id-preserved
 loop-id-preserved g c =
     let next = c.is_next.ensures.yes c.if-not-is_next.false in
+    let grown = with_point c.loop-id.objects.rows c.put_last.new.objects.rows c.index-entries-id.result.point c.in-Ok.ensures.rows in
     record {
-      words = ap (λ r. r.words) c.in-Ok.ensures.rows ∙ c.loop-id.invariant.words;
+      words = grown.0 ∙ c.loop-id.invariant.words;
       taking = goes_on (g.M.Metric.space c.args.metric) c.args.entries.now c.loop-id.id c.loop-id.objects.rows.points c.loop-id.objects.tags.items c.loop-id.invariant.taking c.index-entries-id.result c.loop-id-test.true c.index-entries-id.is
-          c.put_last.new.objects.rows.points c.put_last.new.objects.tags.items next.0 next.1 (ap (λ r. r.points) c.in-Ok.ensures.rows) c.in-Ok.ensures.tags;
+          c.put_last.new.objects.rows.points c.put_last.new.objects.tags.items next.0 next.1 grown.1 c.in-Ok.ensures.tags;
     }
 
 pub returns-clause-points : goal.returns-clause-points
