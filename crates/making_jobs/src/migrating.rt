@@ -206,10 +206,12 @@ fn move_objects<R: Threads + Sync, D: Disk, K: Sink>(
     ensures later { (K.state out.old).faults ≤ (K.state out.new).faults }
     ensures rose { result.0 ≡ 4 → Rose (K.state out.old).faults (K.state out.new).faults }
 {
-    match make_filled(rt, alloc, index, &renewed(head), 1, objects, out) {
-        Ok(_) => end_migrated(alloc, objects.rows.len(), out),
-        Err(status) => status,
-    }
+    let made = make_filled(rt, alloc, index, &renewed(head), 1, objects, out);
+    let _index = match made {
+        Ok(index) => index,
+        Err(status) => return status,
+    };
+    end_migrated(alloc, objects.rows.len(), out)
 }
 
 // Does the job.
