@@ -44,12 +44,15 @@ module _ (new0 new1 : DiskState) (out0 out1 : SinkState) (status : ℕ) where
 pub migrates_no_memory : (new old : DiskState) (out0 out1 : SinkState) (status : ℕ) → status ≡ 8 → Tells out0 out1 (codes "fault memory\n") → Migrates new new old old out0 out1 status
 migrates_no_memory new old out0 out1 status eight line = record {
   old_same = unchanged old;
-  ends = inl (unchanged new, record {
-    disk = λ is. absurd (omega (arith, eight, is));
-    not_empty = λ is. absurd (omega (arith, eight, is));
-    memory = λ is. line;
-    statuses = inr (inr eight);
-  });
+  ends = inl (
+    unchanged new,
+    record {
+      disk = λ is. absurd (omega (arith, eight, is));
+      not_empty = λ is. absurd (omega (arith, eight, is));
+      memory = λ is. line;
+      statuses = inr (inr eight);
+    },
+  );
 }
 
 -- ---- an index that was only looked at before it is filled
@@ -88,14 +91,17 @@ module _ (new0 new1 old0 old1 : DiskState) (out0 out1 : SinkState) (status : ℕ
         Fills (renewed head) points tags (λ file text. text ≡ migrated_text (length points)) between new1 out0 out1 status → IsFillStatus status → Migrates new0 new1 old0 old1 out0 out1 status
     moved between head points tags old_is looked later fills statuses = record {
       old_same = same;
-      ends = inr (empty, inr (record {
-        head = head;
-        points = points;
-        tags = tags;
-        old_is = old_is;
-        fills = fills_before (renewed head) points tags (λ file text. text ≡ migrated_text (length points)) new0 between new1 out0 out1 status looked later fills;
-        statuses = statuses;
-      }));
+      ends = inr (
+        empty,
+        inr (record {
+          head = head;
+          points = points;
+          tags = tags;
+          old_is = old_is;
+          fills = fills_before (renewed head) points tags (λ file text. text ≡ migrated_text (length points)) new0 between new1 out0 out1 status looked later fills;
+          statuses = statuses;
+        }),
+      );
     }
 
 -- ---- what was written of a filled index
