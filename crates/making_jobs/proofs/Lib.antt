@@ -4,3 +4,8 @@ pub mod Filled
 pub mod Ended
 pub mod Asked
 pub mod Generated
+pub mod Walked
+pub mod Ordered
+pub mod Taken
+pub mod OldFiles
+pub mod Migrated

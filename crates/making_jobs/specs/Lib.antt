@@ -2,3 +2,6 @@ pub mod Generator
 pub mod Filling
 pub mod Asking
 pub mod Jobs
+pub mod Collecting
+pub mod Ordering
+pub mod Migrating

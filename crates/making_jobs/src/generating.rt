@@ -94,8 +94,8 @@ pub fn make_filled<R: Threads + Sync, D: Disk, K: Sink>(
     }
 }
 
-// Appends a line of a word and a number.
-fn push_counted(word: &[u8], n: u64, out: &mut Vec<u8>) -> Result<(), Memory>
+/// Appends a line of a word and a number.
+pub fn push_counted(word: &[u8], n: u64, out: &mut Vec<u8>) -> Result<(), Memory>
     ensures { OnOk result (out.new.items ≡ out.old.items ++ counted word.now n) }
 {
     push_numbered(word, n, out)?;

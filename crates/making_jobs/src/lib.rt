@@ -2,13 +2,17 @@
 #![tactic(auto)]
 
 mod asking;
+mod collecting;
 mod filling;
 mod generating;
 mod generator;
+mod migrating;
+mod ordering;
 
 pub use filling::{FillFault, Objects, fill};
 pub use generating::{Generation, generate_index};
 pub use generator::generated_rows;
+pub use migrating::migrate_index;
 
 /// Want of memory.
 pub type Memory = std::alloc::AllocError;

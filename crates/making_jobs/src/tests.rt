@@ -1,7 +1,8 @@
-use crate::{Generation, generate_index, generated_rows};
+use crate::{Generation, Memory, generate_index, generated_rows, migrate_index};
 use disk_model::MemoryDisk;
 use node_page::Head;
 use outside_io::{MemorySink, Status};
+use std::alloc::Global;
 use std::process::Abort;
 use std::test::Fail;
 use std::thread::Threads;
@@ -103,6 +104,183 @@ fn generated_indexes(rt: HostRuntime) -> Result<(), Fail> {
     ];
     for case in &cases {
         check(&rt, case)?;
+    }
+    Ok(())
+}
+
+// The first words of a page, of 4 bytes each; the others are 0.
+type Page = &'static [u32];
+
+// The heads of a file of version 1 and of one of version 2: two coordinates under L1, and a limit of 7.
+const OLD_HEAD: Page = &[0x4d54_5245, 0x4549_4458, 0x0001_0202, 0x0201_0000, 7];
+
+const NEW_HEAD: Page = &[0x4d54_5245, 0x4549_4458, 0x0002_0202, 0x0201_0000, 7];
+
+// The slot of a new file, and slots of generation 2 with one object and with two on page 4.
+const FIRST: Page = &[0xa500_0000, 0, 0, 1, 3, 0, 0, 4];
+
+const ONE: Page = &[0xa500_0000, 0, 0, 2, 4, 0, 1, 5];
+
+const TWO: Page = &[0xa500_0000, 0, 0, 2, 4, 0, 2, 5];
+
+const ZEROS: Page = &[];
+
+// Leaves of version 1: (3, 4) with id 0; the same with id 1; (5, 6) with id 1 before (3, 4) with id 0.
+const OLD_LEAF: Page = &[1, 0, 0, 0, 0, 0, 0, 3, 4];
+
+const OTHER_ID: Page = &[1, 0, 0, 0, 1, 0, 0, 3, 4];
+
+const OLD_PAIR: Page = &[2, 0, 0, 0, 1, 0, 0, 5, 6, 0, 0, 0, 3, 4];
+
+// Leaves of version 2: (3, 4) with id and tag 0; the same before (5, 6) with id and tag 1.
+const NEW_LEAF: Page = &[1, 0, 0, 0, 0, 0, 0, 0, 0, 3, 4];
+
+const NEW_PAIR: Page = &[2, 0, 0, 0, 0, 0, 0, 0, 0, 3, 4, 1, 0, 1, 0, 0, 5, 6];
+
+// A run of `migrate`: the new file and the old one's pages before it, the call at which the old file's disk stops and that at which the
+// output fails, and what comes of it. Without pages of its own the new file is as it was.
+#[derive(Clone, Copy)]
+struct Migration<'a> {
+    index: &'a [u8],
+    old: &'a [Page],
+    stop: Option<u64>,
+    fails: Option<u64>,
+    status: u8,
+    text: &'a str,
+    made: Option<&'a [Page]>,
+}
+
+// The file of these pages.
+fn file_of(alloc: Global, pages: &[Page]) -> Result<Vec<u8>, Memory> {
+    let mut bytes = Vec::new(alloc);
+    for page in pages {
+        for word in page.iter() {
+            bytes.extend_from_slice(&word.to_be_bytes())?;
+        }
+        for _ in page.len()..1024 {
+            bytes.extend_from_slice(&[0; 4])?;
+        }
+    }
+    Ok(bytes)
+}
+
+fn disk_of(alloc: Global, bytes: Vec<u8>, stop: Option<u64>) -> Result<MemoryDisk, Memory> {
+    let room = (bytes.len() as u64).max(65_536);
+    MemoryDisk::new(alloc, bytes, room, 1_000_000, Vec::new(alloc), stop)
+}
+
+fn check_migration<R: AllocGlobal + Threads + Sync + Abort>(
+    rt: &R,
+    case: &Migration,
+) -> Result<(), Fail> {
+    let alloc = rt.alloc();
+    let old = file_of(alloc, case.old)?;
+    let mut index = disk_of(alloc, case.index.to_vec(alloc)?, None)?;
+    let mut other = disk_of(alloc, old.clone()?, case.stop)?;
+    let mut fails = Vec::new(alloc);
+    if let Some(call) = case.fails {
+        fails.push(call)?;
+    }
+    let mut out = MemorySink::new(alloc, 1000, fails)?;
+    let status = migrate_index(rt, alloc, &mut index, &mut other, &mut out);
+    assert_eq!(rt; status, Status(case.status));
+    assert_eq!(rt; out.written(), case.text.as_bytes());
+    assert_eq!(rt; other.bytes(), old.as_slice());
+    let made = match case.made {
+        Some(pages) => file_of(alloc, pages)?,
+        None => case.index.to_vec(alloc)?,
+    };
+    assert_eq!(rt; index.bytes(), made.as_slice());
+    Ok(())
+}
+
+#[test]
+fn migrated_files(rt: HostRuntime) -> Result<(), Fail> {
+    let one = [OLD_HEAD, FIRST, ONE, ZEROS, OLD_LEAF];
+    let new_one = [NEW_HEAD, FIRST, ONE, ZEROS, NEW_LEAF];
+    let wrong = [OLD_HEAD, FIRST, ONE, ZEROS, OTHER_ID];
+    let plain = Migration {
+        index: b"",
+        old: &one,
+        stop: None,
+        fails: None,
+        status: 0,
+        text: "migrated 1\n",
+        made: Some(&new_one),
+    };
+    let cases = [
+        Migration { ..plain },
+        Migration {
+            old: &[OLD_HEAD, FIRST, TWO, ZEROS, OLD_PAIR],
+            text: "migrated 2\n",
+            made: Some(&[NEW_HEAD, FIRST, TWO, ZEROS, NEW_PAIR]),
+            ..plain
+        },
+        Migration {
+            old: &[OLD_HEAD, FIRST, ZEROS, ZEROS],
+            text: "migrated 0\n",
+            made: Some(&[NEW_HEAD, FIRST, ZEROS, ZEROS]),
+            ..plain
+        },
+        Migration {
+            fails: Some(0),
+            status: 4,
+            text: "",
+            ..plain
+        },
+        Migration {
+            index: b"x",
+            status: 6,
+            text: "fault notindex notempty\n",
+            made: None,
+            ..plain
+        },
+        Migration {
+            old: &new_one,
+            status: 6,
+            text: "fault notindex version\n",
+            made: None,
+            ..plain
+        },
+        Migration {
+            old: &[ZEROS],
+            status: 6,
+            text: "fault notindex short\n",
+            made: None,
+            ..plain
+        },
+        Migration {
+            old: &wrong,
+            status: 1,
+            text: "rejected id 1\n",
+            made: None,
+            ..plain
+        },
+        Migration {
+            old: &wrong,
+            fails: Some(0),
+            status: 4,
+            text: "",
+            made: None,
+            ..plain
+        },
+        Migration {
+            stop: Some(0),
+            status: 5,
+            text: "fault disk\n",
+            made: None,
+            ..plain
+        },
+        Migration {
+            stop: Some(5),
+            status: 5,
+            text: "fault disk\n",
+            made: None,
+            ..plain
+        },
+    ];
+    for case in &cases {
+        check_migration(&rt, case)?;
     }
     Ok(())
 }
