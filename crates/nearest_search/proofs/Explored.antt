@@ -154,7 +154,7 @@ module _ (s : Space) (axioms : IsSpace s) (old : Shelf) (live : Live) (q : List 
                 | inr left ↦ before.reached tells x (in-permutation_back state.queue (next ∷ rest) x first.popped (inr left))
               ];
           walk = λ tells.
-              walk_opens (nodes_of old.read) live.root opened state.queue rest next first.popped (before.walk tells) (search_at s q rho) next.above done.node after.queue
+              walk_opens (nodes_of old.read) (live.root ∷ []) opened state.queue rest next first.popped (before.walk tells) (search_at s q rho) next.above done.node after.queue
               (told_then old now next.page done.node before.same done.is tells) done.pushed;
           holds = λ tells sound. step s axioms q q_fits (nodes_of old.read) k live.root state.kept state.queue state.best opened (before.holds tells sound) rho radius next rest first.popped first.low first.first
               done.node (told_then old now next.page done.node before.same done.is tells) after.queue done.pushed after.best done.noted after.kept done.here done.others;
@@ -205,7 +205,7 @@ module _ (s : Space) (axioms : IsSpace s) (old : Shelf) (live : Live) (q : List 
     pub explore_repeats : opened ≡ live.pages → HasNearestCause live old now (Repeats next.page)
     explore_repeats all = (
       before.asked ∙ ap (count_up old.asked) all,
-      λ tells. (next_reached tells, opens_before (nodes_of old.read) live.root opened state.queue rest next first.popped (before.walk tells) live.pages all),
+      λ tells. (next_reached tells, opens_before (nodes_of old.read) (live.root ∷ []) opened state.queue rest next first.popped (before.walk tells) live.pages all),
     )
 
     no_node : (page : ℕ) (fault : PageFault) → page ≡ next.page → old.read page ≡ Err fault → IsTrue old.tells → IsSoundTree s (nodes_of old.read) live → ⊥

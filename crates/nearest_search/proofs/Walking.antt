@@ -42,13 +42,13 @@ queued_few k f above (Inner level es) =
     let same = total-map (one_at k) (pending_of f) (near_ones es (least_marks f above (Inner level es))) in
     omega arith
 
-module _ (nodes : Nodes) (root count : ℕ) (queue rest : List Pending) (next : Pending) (popped : IsPermutation queue (next ∷ rest)) (so_far : HasOpened nodes root count (pages queue)) where
+module _ (nodes : Nodes) (start : List ℕ) (count : ℕ) (queue rest : List Pending) (next : Pending) (popped : IsPermutation queue (next ∷ rest)) (so_far : HasOpened nodes start count (pages queue)) where
   next_waits : IsIn next.page (pages queue)
   next_waits = map-in (λ (x : Pending). x.page) queue next (in-permutation_back queue (next ∷ rest) next popped (inl refl))
 
   -- the next subtree was opened
   pub walk_opens : (f : Search) (above : Option ℕ) (node : Node) (after : List Pending) → nodes next.page ≡ Some node → IsPermutation (pendings_of f above node ++ rest) after →
-      HasOpened nodes root (count + 1) (pages after)
+      HasOpened nodes start (count + 1) (pages after)
   walk_opens f above node after is pushed = record {
     opened = next.page ∷ so_far.opened;
     walk = (pages queue, so_far.walk, next_waits, subst IsSome (sym is) refl, counts);
@@ -69,5 +69,5 @@ module _ (nodes : Nodes) (root count : ℕ) (queue rest : List Pending) (next : 
           omega arith
 
   -- the next subtree comes behind as many
-  pub opens_before : (most : ℕ) → count ≡ most → OpensBefore nodes root most next.page
-  opens_before most is = (pages queue, subst (λ (n : ℕ). HasOpened nodes root n (pages queue)) is so_far, next_waits)
+  pub opens_before : (most : ℕ) → count ≡ most → OpensBefore nodes start most next.page
+  opens_before most is = (pages queue, subst (λ (n : ℕ). HasOpened nodes start n (pages queue)) is so_far, next_waits)

@@ -50,7 +50,7 @@ pub record IsExploring (s : Space) (old now : Shelf) (live : Live) (q : List ℕ
   pub begun : ((1 ≤ opened) × IsKept state.kept live.root) ⊎ IsIn (pending_root live.root) state.queue
   pub agrees : IsTrue old.tells → (page : ℕ) (node : Node) → state.kept page ≡ Some node → nodes_of old.read page ≡ Some node
   pub reached : IsTrue old.tells → (x : Pending) → IsIn x state.queue → IsReached (nodes_of old.read) live.root x.page
-  pub walk : IsTrue old.tells → HasOpened (nodes_of old.read) live.root opened (map (λ x. x.page) state.queue)
+  pub walk : IsTrue old.tells → HasOpened (nodes_of old.read) (live.root ∷ []) opened (map (λ x. x.page) state.queue)
   pub holds : IsTrue old.tells → IsSoundTree s (nodes_of old.read) live → Holds s (nodes_of old.read) q k live.root state.kept state.queue state.best opened
 
 -- nothing within the radius waits
@@ -70,7 +70,7 @@ HasNearestCause live old new (Outside page) =
     (is_within old.pages page ≡ false) × (IsTrue old.tells → (old.read page ≡ Err (Outside page)) × IsReached (nodes_of old.read) live.root page)
 HasNearestCause live old new (Repeats page) =
     (new.asked ≡ count_up old.asked live.pages)
-    × (IsTrue old.tells → IsReached (nodes_of old.read) live.root page × OpensBefore (nodes_of old.read) live.root live.pages page)
+    × (IsTrue old.tells → IsReached (nodes_of old.read) live.root page × OpensBefore (nodes_of old.read) (live.root ∷ []) live.pages page)
 HasNearestCause live old new (Level page) = ⊥
 
 -- On a sound tree: the scan's first k, the least log of the query, and one page asked for per record of it.
