@@ -1,11 +1,10 @@
 -- A page that a walk blames is damaged.
 use Rattle.std.proofs.Common.{◌≡◌, ◌⊎◌, ℕ, zero, suc, ◌+◌, ◌-◌, ◌≤◌, ◌<◌, Bool, true, false, List, [], ◌∷◌, ◌++◌, inl, inr, length, ◌^◌, length-append, map, get_or, refl, sym, ap, subst, ◌∙◌, arith, Option, Some, None, IsSome, Result, Ok, Err}
 use Rattle.std.specs.Prelude.{IsTrue, ◌==◌, ◌&&◌, min, nat_le, nat_lt, if◌then◌else◌, IfErr}
-use Rattle.std.specs.List.{AllByRecursion}
 use Rattle.std.proofs.lemmas.Bool.Decides.{nat_tests}
 use Rattle.metric_laws.specs.Lists.{IsIn}
 use Rattle.metric_laws.specs.Space.{Space, bound}
-use Rattle.metric_laws.proofs.Lists.{all_append, all_in, in-append, in-map, length_map}
+use Rattle.metric_laws.proofs.Lists.{in-append, in-map, length_map}
 use Rattle.disk_model.specs.Disk.{DiskState}
 use Rattle.scan_model.specs.declared.hit.Hit.{Hit}
 use Rattle.tree_shape.specs.declared.live.Live.{Live}
@@ -29,7 +28,6 @@ use Rattle.page_store.specs.declared.pages.PageFault.TheVariants.{Disk, Bad, Out
 use Rattle.page_store.specs.Reached.{IsReached}
 use Rattle.page_store.specs.Reached.IsReached.{at_root, by_child}
 use Rattle.page_store.specs.Reading.{IsWithin, is_within, judged, node_or_none, nodes_of, reading, reading_in}
-use Rattle.page_store.specs.Shelf.{HasPageCause}
 use Rattle.page_store.proofs.Standing.{in_get, in_times, times_in}
 use Rattle.page_store.proofs.Stored.{branch_at}
 use Rattle.log_model.specs.declared.logs.Found.{Found}
@@ -53,7 +51,7 @@ use Rattle.index_core.specs.declared.faults.IndexFault.{IndexFault}
 use Rattle.index_core.specs.declared.faults.IndexFault.TheVariants as fault
 use Rattle.index_core.specs.Answers.{HasRangeCause, HasReachCause, HasTagCause}
 use Rattle.index_core.specs.Causes.{BlamesNoPage, HasListCause, HasPathCause, HasReadCause, IsDamage, rules_of}
-use Rattle.index_core.specs.Damage.{BlamesDamage, ComesAgain, HasOtherLevel, IsAtHeight, IsDamageOf, IsFullTop, LeadsTo}
+use Rattle.index_core.specs.Damage.{BlamesDamage, ComesAgain, IsAtHeight, IsDamageOf, LeadsTo}
 use Rattle.index_core.specs.Files.{OpenFile, OnlyReads, pages_on}
 use Rattle.index_core.specs.Index.{OpenIndex}
 use Rattle.index_core.specs.Loading.{load_fault}
