@@ -1,11 +1,11 @@
 -- What a commit of placed nodes needs, and what it leaves.
 use Rattle.std.proofs.Common.{◌≡◌, ◌≢◌, ◌⊎◌, ℕ, zero, suc, ◌+◌, ◌≤◌, ◌<◌, Bool, true, false, List, [], ◌∷◌, ◌++◌, inl, inr, refl, sym, ap, subst, ◌∙◌, arith, length, take, min, Option, Some, None, Result, Ok, Err}
-use Rattle.std.specs.Prelude.{IsTrue, ◌==◌}
+use Rattle.std.specs.Prelude.{IsTrue, IsSome, ◌==◌}
 use Rattle.std.specs.List.{AllByRecursion}
 use Rattle.std.proofs.lemmas.Bool.Decides.{nat_tests}
 use Rattle.std.proofs.lemmas.List.{length-take}
 use Rattle.metric_laws.specs.Lists.{IsIn}
-use Rattle.metric_laws.proofs.Lists.{all_in, in-append, in-filter}
+use Rattle.metric_laws.proofs.Lists.{all_append, all_in, in-append, in-filter}
 use Rattle.disk_model.specs.Disk.{DiskState, MayLeave, LeavesOnly}
 use Rattle.tree_shape.specs.declared.live.Live.{Live}
 use Rattle.tree_shape.specs.declared.entry.Node.{Node}
@@ -32,7 +32,7 @@ use Rattle.shadow_root.proofs.Beside.{in_place_is_written, new_is_beside, placem
 use Rattle.free_pages.specs.Keeping.{FreePages, IsFreeOrHeld, IsKept}
 use Rattle.free_pages.specs.Commits.{after_commit, AreWithin, LiesBeside, IsExchange}
 use Rattle.free_pages.proofs.Commits.{free_numbers, placements_exchange, keep_within, keep_beside}
-use Rattle.page_store.proofs.Standing.{in_times as times_from_in}
+use Rattle.page_store.proofs.Standing.{all_each, in_times as times_from_in}
 use Rattle.index_core.specs.Index.{AreSpare}
 use Rattle.index_core.specs.Writing.{Follows}
 
@@ -48,6 +48,11 @@ none_for page (s ∷ staged) never = tested (s.page == page) refl (none_for page
     tested : (b : Bool) → (s.page == page) ≡ b → staged_for staged page ≡ None → staged_for (s ∷ staged) page ≡ None
     tested true e ih = let same : s.page ≡ page = grind (arith, nat_tests) in absurd (never (inl (sym same)))
     tested false e ih = rw e ih
+
+-- the pages of staged nodes hold them
+staged_have : (new : Nodes) (staged : List StagedNode) → AllByRecursion (λ s. new s.page ≡ Some s.node) staged → AllByRecursion (λ page. IsSome (new page)) (pages_of staged)
+staged_have new [] stand = tt
+staged_have new (s ∷ staged) stand = (subst (λ (n : Option Node). IsSome n) (sym stand.0) refl, staged_have new staged stand.1)
 
 -- nodes were placed for a file, on the first of its free pages
 module _ (head : Head) (t : Live) (f : FreePages) (asked added : ℕ) (placed : Placed) (kept : IsKept f) (within : AreWithin t.pages f)
@@ -78,12 +83,15 @@ module _ (head : Head) (t : Live) (f : FreePages) (asked added : ℕ) (placed : 
   -- after the commit the next tree stands beside the free and held pages
   pub next_spare : (old new : List ℕ) (used generation : ℕ) (tree : List ℕ) → t.side ≤ 1 → 3 ≤ t.pages → AllByRecursion (IsWithin t.pages) placed.left →
       used ≡ min (length placed.staged) (length (take asked f.free)) →
-      StandsOnPages (nodes_in head.dim t old) t tree → LiesBeside tree f → Follows (nodes_in head.dim t old) t placed →
-      IsInPlace head.dim placed.staged new → KeepsBytes t placed.staged old new → AreSpare (nodes_in head.dim placed.next new) placed.next (after_commit used placed.left generation f)
-  next_spare old new used generation tree side three left_within used_is stands beside turn in_place others = elim turn [
+      StandsOnPages (nodes_in head.dim t old) t tree → AllByRecursion (λ page. IsSome (nodes_in head.dim t old page)) tree → LiesBeside tree f →
+      Follows (nodes_in head.dim t old) t placed → IsInPlace head.dim placed.staged new → KeepsBytes t placed.staged old new → AreSpare (nodes_in head.dim placed.next new) placed.next (after_commit used placed.left generation f)
+  next_spare old new used generation tree side three left_within used_is stands have beside turn in_place others = elim turn [
     | inl takes ↦ record {
       tree = without placed.left tree ++ pages_of placed.staged;
       stands = go_on (nodes_in head.dim t old) (nodes_in head.dim placed.next new) t tree placed stands ((follows side).0.low_pages) takes fresh written;
+      have = all_append (λ page. IsSome (nodes_in head.dim placed.next new page)) (without placed.left tree) (pages_of placed.staged)
+          (all_each (λ page. IsSome (nodes_in head.dim placed.next new page)) (without placed.left tree) (λ page i. still page (in-filter (λ (p : ℕ). times p placed.left == 0) tree page i).0))
+          (staged_have (nodes_in head.dim placed.next new) placed.staged written.stand);
       beside = lies (without placed.left tree ++ pages_of placed.staged)
           (λ page i. elim (in-append (without placed.left tree) (pages_of placed.staged) page i) [
             | inl o ↦ inl (in-filter (λ (p : ℕ). times p placed.left == 0) tree page o).0
@@ -102,6 +110,7 @@ module _ (head : Head) (t : Live) (f : FreePages) (asked added : ℕ) (placed : 
     | inr alone ↦ record {
       tree = pages_of placed.staged;
       stands = new_stands (nodes_in head.dim t old) (nodes_in head.dim placed.next new) tree placed alone.0 fresh written;
+      have = staged_have (nodes_in head.dim placed.next new) placed.staged written.stand;
       beside = lies (pages_of placed.staged) (λ page i. inr i)
           (λ page l i. fresh.outside page i (subst (λ (p : ℕ). IsIn p tree) (sym (root_of page (subst (λ (ps : List ℕ). IsIn page ps) alone.1 l))) stands.root));
     }
@@ -112,6 +121,12 @@ module _ (head : Head) (t : Live) (f : FreePages) (asked added : ℕ) (placed : 
 
       written : IsWritten (nodes_in head.dim t old) tree placed.staged (nodes_in head.dim placed.next new)
       written = in_place_is_written head.dim t placed.next tree placed.staged old new ((follows side).0.low_pages) stands.within ((follows side).1) in_place others
+
+      -- a page of the old tree holds the node that it held
+      still : (page : ℕ) → IsIn page tree → IsSome (nodes_in head.dim placed.next new page)
+      still page i =
+          subst (λ (n : Option Node). IsSome n) (sym (written.stay page i (none_for page placed.staged (λ n. fresh.outside page n i))))
+          (all_in (λ page. IsSome (nodes_in head.dim t old page)) tree page have i)
 
       root_of : (page : ℕ) → IsIn page (t.root ∷ []) → page ≡ t.root
       root_of page i = elim i [ inl s ↦ s | inr n ↦ absurd n ]

@@ -8,3 +8,4 @@ pub mod Outcome
 pub mod Tagged
 pub mod Loaded
 pub mod Pinned
+pub mod Damaged

@@ -1,11 +1,12 @@
 -- The free list of a file, and what is placed on its pages.
-use Rattle.std.proofs.Common.{◌≡◌, ◌⊎◌, ℕ, zero, suc, ◌+◌, ◌≤◌, ◌<◌, List, [], ◌∷◌, inl, inr, refl, sym, ap, subst, ◌∙◌, arith, take}
-use Rattle.std.specs.Prelude.{IsTrue, ◌↔◌}
+use Rattle.std.proofs.Common.{◌≡◌, ◌⊎◌, ℕ, zero, suc, ◌+◌, ◌≤◌, ◌<◌, List, [], ◌∷◌, inl, inr, refl, sym, ap, subst, ◌∙◌, arith, take, ◌++◌, Bool, true, false, Option, Result, Ok, Err}
+use Rattle.std.specs.Prelude.{IsTrue, IsSome, ◌↔◌, ◌==◌, if◌then◌else◌}
 use Rattle.std.specs.List.{AllByRecursion}
 use Rattle.metric_laws.specs.Lists.{IsIn}
 use Rattle.metric_laws.specs.Space.{Space}
-use Rattle.metric_laws.proofs.Lists.{all_in}
+use Rattle.metric_laws.proofs.Lists.{all_append, all_in}
 use Rattle.tree_shape.specs.declared.live.Live.{Live}
+use Rattle.tree_shape.specs.declared.entry.Node.{Node}
 use Rattle.tree_shape.specs.Plain.{Object}
 use Rattle.tree_shape.specs.Tree.{Nodes, IsSoundTree, times}
 use Rattle.tree_growth.specs.Insertion.{rules}
@@ -14,7 +15,7 @@ use Rattle.page_store.specs.declared.staging.Placed.{Placed}
 use Rattle.page_store.specs.Numbers.{Ascends, AreNumbers}
 use Rattle.page_store.specs.Placing.{AreOutside as AreBeside, IsOver, live_pages}
 use Rattle.page_store.specs.Staging.{pages_of}
-use Rattle.page_store.specs.Reading.{IsWithin, nodes_of}
+use Rattle.page_store.specs.Reading.{IsWithin, Read, node_or_none, nodes_of}
 use Rattle.page_store.specs.Shelf.{Shelf}
 use Rattle.page_store.proofs.Standing.{times_in}
 use Rattle.page_store.proofs.Whole.{sound_is_whole, stand_on_pages}
@@ -22,7 +23,6 @@ use Rattle.insert_path.specs.Placing.{HasInserted}
 use Rattle.free_pages.specs.Keeping.{FreePages, IsFreeOrHeld, held_pages}
 use Rattle.free_pages.specs.Commits.{AreOutside, AreWithin}
 use Rattle.free_pages.specs.Free.{AreOutsideTree, IsFresh}
-use Rattle.free_pages.specs.Walk.{outside_pages}
 use Rattle.free_pages.specs.Laws.{OutsideIsOutside}
 use Rattle.free_pages.proofs.Members.{outside_is}
 use Rattle.disk_model.specs.Disk.{DiskState}
@@ -30,7 +30,7 @@ use Rattle.outside_io.specs.Causes.{Rose}
 use Rattle.page_store.specs.declared.pages.PageFault.{PageFault}
 use Rattle.page_store.specs.declared.pages.PageFault.TheVariants.{Disk, Bad, Outside, Memory, Repeats, Level}
 use Rattle.page_store.specs.Shelf.{IsPassing}
-use Rattle.free_pages.specs.Walk.{IsWalkFault, tree_walk}
+use Rattle.free_pages.specs.Walk.{IsWalkFault, children, on_children, outside_pages, tree_walk, walked}
 use Rattle.index_core.specs.declared.faults.IndexFault.{IndexFault}
 use Rattle.index_core.specs.Causes.{BlamesNoPage, HasListCause, read_fault}
 use Rattle.index_core.specs.Files.{OpenFile, pages_on}
@@ -55,10 +55,29 @@ fresh_lawful t f numbers fresh = record {
   pins = subst (AllByRecursion (λ pin. pin ≤ t.generation)) (sym fresh.pins) tt;
 }
 
+-- each page that a walk opened holds a node
+walked_have : (read : Read) (most : ℕ) (opened coming tree : List ℕ) → AllByRecursion (λ page. IsSome (nodes_of read page)) opened → walked read most opened coming ≡ Ok tree →
+    AllByRecursion (λ page. IsSome (nodes_of read page)) tree
+walked_have read zero opened [] tree have is = let e : opened ≡ tree = (cc) in subst (AllByRecursion (λ page. IsSome (nodes_of read page))) e have
+walked_have read zero opened (page ∷ coming) tree have is = absurd (cc)
+walked_have read (suc most) opened [] tree have is = let e : opened ≡ tree = (cc) in subst (AllByRecursion (λ page. IsSome (nodes_of read page))) e have
+walked_have read (suc most) opened (page ∷ coming) tree have is =
+    tested (times page opened == 0) (read page) refl (λ node all. walked_have read most (opened ++ page ∷ []) (children node ++ coming) tree all) is
+  where
+    tested : (b : Bool) (r : Result Node PageFault) → read page ≡ r →
+        ((node : Node) → AllByRecursion (λ p. IsSome (nodes_of read p)) (opened ++ page ∷ []) → walked read most (opened ++ page ∷ []) (children node ++ coming) ≡ Ok tree →
+        AllByRecursion (λ p. IsSome (nodes_of read p)) tree) →
+        (if b then on_children r (λ named. walked read most (opened ++ page ∷ []) (named ++ coming)) else Err (Repeats page)) ≡ Ok tree → AllByRecursion (λ p. IsSome (nodes_of read p)) tree
+    tested false r there deeper is = absurd (cc)
+    tested true (Err why) there deeper is = absurd (cc)
+    tested true (Ok node) there deeper is =
+        deeper node (all_append (λ p. IsSome (nodes_of read p)) opened (page ∷ []) have (subst (λ (n : Option Node). IsSome n) (sym (ap node_or_none there)) refl, tt)) is
+
 pub fresh_spare : (old new : Shelf) (t : Live) (f : FreePages) → AreOutsideTree t old new f.free → IsFresh f → AreSpare (nodes_of old.read) t f
 fresh_spare old new t f out fresh = record {
   tree = out.tree;
   stands = stand_on_pages.whole (nodes_of old.read) t out.tree out.whole;
+  have = walked_have old.read (suc t.pages) [] (t.root ∷ []) out.tree tt out.walk;
   beside = λ page i stands. elim i [
     | inl free ↦ ((outside_is t.pages out.tree page).0 (subst (λ (ps : List ℕ). IsIn page ps) out.outside free)).1 stands
     | inr held ↦ none_held f page fresh held

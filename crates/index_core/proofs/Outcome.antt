@@ -216,7 +216,7 @@ pub unspared : (f : FreePages) (spare : ℕ) → IsKept (record f { spare = spar
 unspared f spare kept = record { free_ascend = kept.free_ascend; held_ascend = kept.held_ascend; apart = kept.apart; pinned = kept.pinned }
 
 pub spare_of : (nodes : Nodes) (t : Live) (f : FreePages) (spare : ℕ) → AreSpare nodes t f → AreSpare nodes t (record f { spare = spare })
-spare_of nodes t f spare are = record { tree = are.tree; stands = are.stands; beside = are.beside }
+spare_of nodes t f spare are = record { tree = are.tree; stands = are.stands; have = are.have; beside = are.beside }
 
 pub committed_of : {M : Type 0} (old new : OpenFile M) (f g : FreePages) (spare used : ℕ) (placed : Placed) (before after : DiskState) → IsCommitted old new (record f { spare = spare }) g used placed before after →
     IsCommitted old new f g used placed before after

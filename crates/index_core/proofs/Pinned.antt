@@ -91,7 +91,7 @@ module _ {M : Type 0} (old : OpenIndex M) (file : OpenFile M) (f : FreePages) (b
       stands_alone_still (record old { free = Some g }) file before after reads stands (record {
         stands = alone.stands;
         only = alone.only;
-        spare = λ tells. let spare = beside tells in record { tree = spare.tree; stands = spare.stands; beside = λ page i. spare.beside page (same page i) };
+        spare = λ tells. let spare = beside tells in record { tree = spare.tree; stands = spare.stands; have = spare.have; beside = λ page i. spare.beside page (same page i) };
       })
 
   pub put_back_exact : (g : FreePages) → ((page : ℕ) → IsFreeOrHeld g page ↔ IsFreeOrHeld f page) → IsExactFor old.file f before → IsExactFor file g after
@@ -108,7 +108,7 @@ module _ {M : Type 0} (old : OpenIndex M) (f : FreePages) (generation : ℕ) (is
   pub unpinned_beside : (nodes : Nodes) → LiesBesideTree nodes old → LiesBesideTree nodes (record old { free = Some (unpinned generation f) })
   unpinned_beside nodes beside =
       let spare = subst (λ (free : Option FreePages). MatchOption free (Unit {0}) (AreSpare nodes old.file.live)) is beside in
-      record { tree = spare.tree; stands = spare.stands; beside = λ page i. spare.beside page (((pins_keep f (without_pin generation f.pins) page).0).0 i) }
+      record { tree = spare.tree; stands = spare.stands; have = spare.have; beside = λ page i. spare.beside page (((pins_keep f (without_pin generation f.pins) page).0).0 i) }
 
   pub unpinned_outside : (tree : List ℕ) → LiesOutside tree old → LiesOutside tree (record old { free = Some (unpinned generation f) })
   unpinned_outside tree outside = λ page.

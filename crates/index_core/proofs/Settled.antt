@@ -91,7 +91,7 @@ module _ {M : Type 0} (words : ℕ) (file : OpenFile M) (f : FreePages) (spare u
       only = λ tells. last;
       beside = λ tells. subst (AreSpare (nodes_on (record file { live = placed.next; kept = forgotten_of (pages_of placed.staged) file.kept }) after) placed.next) (sym g_is)
           (next_spare file.head file.live (record f { spare = spare }) on.asked on.added placed kept within on.placement before.bytes after.bytes used placed.next.generation (beside (told tells)).tree lawful.side three
-          on.left_within on.used_is (beside (told tells)).stands (beside (told tells)).beside (turn (told tells)) ((done (told tells)).in_place) (others tells));
+          on.left_within on.used_is (beside (told tells)).stands (beside (told tells)).have (beside (told tells)).beside (turn (told tells)) ((done (told tells)).in_place) (others tells));
       next = done;
     })
 

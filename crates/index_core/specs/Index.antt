@@ -1,5 +1,5 @@
 -- What an index is that is opened for writing, and on which disks it stands.
-use Rattle.std.specs.Prelude.{◌≡◌, ℕ, ◌≤◌, Bool, false, IsTrue, List, Option, MatchOption}
+use Rattle.std.specs.Prelude.{◌≡◌, ℕ, ◌≤◌, Bool, false, IsTrue, IsSome, List, Option, MatchOption}
 use Rattle.std.specs.List.{AllByRecursion}
 use Rattle.disk_model.specs.Disk.{DiskState, LeavesOnly}
 use Rattle.tree_shape.specs.declared.live.Live.{Live}
@@ -29,10 +29,11 @@ pub record IsLawfulIndex {M : Type 0} (index : OpenIndex M) : Type 0 where
   pub few_workers : index.workers ≤ 64
   pub free : MatchOption index.free (Unit {0}) (IsLawfulFree index.file.live)
 
--- free and held pages lie beside the live tree: it stands on pages none of which is free or held
+-- free and held pages lie beside the live tree: it stands on pages that hold nodes, and none of them is free or held
 pub record AreSpare (nodes : Nodes) (t : Live) (f : FreePages) : Type 0 where
   pub tree : List ℕ
   pub stands : StandsOnPages nodes t tree
+  pub have : AllByRecursion (λ page. IsSome (nodes page)) tree
   pub beside : LiesBeside tree f
 
 -- The index stands on the disk alone: what the disk tells is all that a crash may leave, it opens to the index's head and live slot,

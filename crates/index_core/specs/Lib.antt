@@ -1,6 +1,7 @@
 pub mod Lending
 pub mod Files
 pub mod Index
+pub mod Damage
 pub mod Causes
 pub mod Answers
 pub mod Writing

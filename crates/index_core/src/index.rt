@@ -6,6 +6,7 @@ ghost use Rattle.page_store.specs.Shelf.{Shelf};
 ghost use Rattle.index_core.specs.Files.{IsLawfulFile, OnlyReads};
 ghost use Rattle.index_core.specs.Index.{StandsAlone, MayGoOn};
 ghost use Rattle.index_core.specs.Causes.{HasReaderCause};
+ghost use Rattle.index_core.specs.Damage.{BlamesDamage};
 ghost use Rattle.index_core.specs.Lending.{KeptAgrees};
 ghost use Rattle.index_core.specs.Answers.{HasSearched, IsFoundOn, HasRangeCause, HasReachCause, HasDrawn};
 
@@ -157,6 +158,8 @@ impl<M: Metric> Index<M> {
         ensures searched { self.old.stopped ≡ false → HasSearched (M.space self.old.file.metric) self.old.file (Range q.now r) (D.state disk.old) (D.state disk.new) result }
         ensures found { IfOk result (IsFoundOn (M.space self.old.file.metric) self.old.file (Range q.now r) (D.state disk.old) (D.state disk.new)) }
         ensures cause { self.old.stopped ≡ false → IfErr result (HasRangeCause (M.space self.old.file.metric) self.old.file q.now r (D.state disk.old) (D.state disk.new)) }
+        // A page that it blames is damaged.
+        ensures damage { IfErr result (BlamesDamage self.old.file (D.state disk.old)) }
     {
         if self.stopped {
             return Err(IndexFault::Stopped);
@@ -181,6 +184,8 @@ impl<M: Metric> Index<M> {
         ensures rest { self.new ≡ record self.old { file = self.new.file } }
         ensures searched { self.old.stopped ≡ false → HasSearched (M.space self.old.file.metric) self.old.file (Nearest q.now k) (D.state disk.old) (D.state disk.new) result }
         ensures cause { self.old.stopped ≡ false → IfErr result (HasReachCause self.old.file (D.state disk.old) (D.state disk.new)) }
+        // A page that it blames is damaged.
+        ensures damage { IfErr result (BlamesDamage self.old.file (D.state disk.old)) }
     {
         if self.stopped {
             return Err(IndexFault::Stopped);

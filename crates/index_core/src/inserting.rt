@@ -4,6 +4,7 @@ ghost use Rattle.outside_io.specs.Causes.{Rose};
 ghost use Rattle.disk_model.specs.Disk.{LeavesOnly};
 ghost use Rattle.index_core.specs.Answers.{IsSoundOn};
 ghost use Rattle.index_core.specs.Causes.{BlamesNoPage, HasInsertCause};
+ghost use Rattle.index_core.specs.Damage.{BlamesDamage};
 ghost use Rattle.index_core.specs.Files.{StandsOn, nodes_on};
 ghost use Rattle.index_core.specs.Index.{AreSpare, IsLawfulFree, MayGoOn};
 ghost use Rattle.index_core.specs.Writing.{Follows, HasWritten, Inserts, IsPlacedFor, IsPlacedOn, Write, added_by, answer_to};
@@ -82,6 +83,8 @@ impl<M: Metric> Index<M> {
             (result ≡ Err IndexFault.Worn) ↔ ((self.old.file.live.count ≢ self.old.file.head.limit) × (self.old.file.live.generation ≡ 2 ^ 48 - 1)) }
         ensures cause { IfErr result (HasInsertCause (M.space self.old.file.metric) self.old
             (record { id = self.old.file.live.count; tag = self.old.file.live.count; point = p.now }) (D.state disk.old) (D.state disk.new)) }
+        // A page that it blames is damaged.
+        ensures damage { IfErr result (BlamesDamage self.old.file (D.state disk.old)) }
         ensures undamaged { IfErr result (λ fault. IsSoundOn (M.space self.old.file.metric) self.old.file (D.state disk.old) → BlamesNoPage fault) }
         ensures tells { (D.state disk.new).tells ≡ (D.state disk.old).tells }
         ensures later { (D.state disk.old).faults ≤ (D.state disk.new).faults }
@@ -115,6 +118,8 @@ impl<M: Metric> Index<M> {
             (result ≡ Err IndexFault.Worn) ↔ ((self.old.file.live.count ≢ self.old.file.head.limit) × (self.old.file.live.generation ≡ 2 ^ 48 - 1)) }
         ensures cause { IfErr result (HasInsertCause (M.space self.old.file.metric) self.old
             (record { id = self.old.file.live.count; tag = tag; point = p.now }) (D.state disk.old) (D.state disk.new)) }
+        // A page that it blames is damaged.
+        ensures damage { IfErr result (BlamesDamage self.old.file (D.state disk.old)) }
         ensures undamaged { IfErr result (λ fault. IsSoundOn (M.space self.old.file.metric) self.old.file (D.state disk.old) → BlamesNoPage fault) }
         ensures few { IsSome self.old.free → (D.state disk.new).reads ≤ (D.state disk.old).reads + (self.old.file.live.height + 2) }
         ensures tells { (D.state disk.new).tells ≡ (D.state disk.old).tells }

@@ -6,6 +6,7 @@ ghost use Rattle.page_store.specs.Succession.{StandsByItself};
 ghost use Rattle.free_pages.specs.Commits.{AreWithin};
 ghost use Rattle.index_core.specs.Answers.{IsSoundOn};
 ghost use Rattle.index_core.specs.Causes.{BlamesNoPage};
+ghost use Rattle.index_core.specs.Damage.{BlamesDamage};
 ghost use Rattle.index_core.specs.Files.{StandsOn, nodes_on};
 ghost use Rattle.index_core.specs.Index.{AreSpare, IsLawfulFree, MayGoOn};
 ghost use Rattle.index_core.specs.Loading.{HasLoadCause, HasLoadingCause, build_fault, ids, load_fault};
@@ -181,6 +182,8 @@ impl<M: Metric> Index<M> {
             HasWritten (M.space self.old.file.metric) (Loads rows.now.points (ids (length rows.now.points))) self.old self.new (D.state disk.old) (D.state disk.new) result }
         ensures cause { load_fault self.old (length rows.now.points) ≡ None →
             IfErr result (HasLoadingCause (M.space self.old.file.metric) self.old self.new rows.now.points (ids (length rows.now.points)) (D.state disk.old) (D.state disk.new).faults) }
+        // A page that it blames is damaged.
+        ensures damage { IfErr result (BlamesDamage self.old.file (D.state disk.old)) }
         ensures undamaged { IfErr result (λ fault. IsSoundOn (M.space self.old.file.metric) self.old.file (D.state disk.old) → BlamesNoPage fault) }
         ensures few { IsSome self.old.free → (D.state disk.new).reads ≤ (D.state disk.old).reads + 1 }
         ensures tells { (D.state disk.new).tells ≡ (D.state disk.old).tells }
@@ -223,6 +226,8 @@ impl<M: Metric> Index<M> {
             HasWritten (M.space self.old.file.metric) (Loads rows.now.points tags.now) self.old self.new (D.state disk.old) (D.state disk.new) result }
         ensures cause { load_fault self.old (length rows.now.points) ≡ None →
             IfErr result (HasLoadingCause (M.space self.old.file.metric) self.old self.new rows.now.points tags.now (D.state disk.old) (D.state disk.new).faults) }
+        // A page that it blames is damaged.
+        ensures damage { IfErr result (BlamesDamage self.old.file (D.state disk.old)) }
         ensures undamaged { IfErr result (λ fault. IsSoundOn (M.space self.old.file.metric) self.old.file (D.state disk.old) → BlamesNoPage fault) }
         ensures few { IsSome self.old.free → (D.state disk.new).reads ≤ (D.state disk.old).reads + 1 }
         ensures tells { (D.state disk.new).tells ≡ (D.state disk.old).tells }

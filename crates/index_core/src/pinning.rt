@@ -3,6 +3,7 @@ ghost use Rattle.std.specs.Prelude.{◌≡◌, ◌≢◌, List, ℕ, None, Some,
 ghost use Rattle.tree_shape.specs.Tree.{Nodes};
 ghost use Rattle.index_core.specs.Answers.{IsSoundOn};
 ghost use Rattle.index_core.specs.Causes.{BlamesNoPage, HasListCause};
+ghost use Rattle.index_core.specs.Damage.{BlamesDamage};
 ghost use Rattle.index_core.specs.Files.{OnlyReads, nodes_on};
 ghost use Rattle.index_core.specs.Index.{IsLawfulFree, MayGoOn};
 ghost use Rattle.index_core.specs.Pinning.{AreReached, HasPinned, IsPinned, LiesBesideTree, LiesOutside, unpinned};
@@ -37,6 +38,8 @@ impl<M: Metric> Index<M> {
             IsExact self.new (D.state disk.new) }
         ensures refused { IfErr result (λ fault. IsRefused self.old self.new (D.state disk.old) (D.state disk.new)) }
         ensures cause { self.old.stopped ≡ false → IfErr result (HasListCause self.old.file (D.state disk.old) (D.state disk.new).faults) }
+        // A page that it blames is damaged.
+        ensures damage { IfErr result (BlamesDamage self.old.file (D.state disk.old)) }
         ensures made { self.old.stopped ≡ false → IfErr result (λ fault. fault ≢ IndexFault.Memory → self.old.free ≡ None) }
         ensures undamaged { IfErr result (λ fault. IsSoundOn (M.space self.old.file.metric) self.old.file (D.state disk.old) → BlamesNoPage fault) }
     {

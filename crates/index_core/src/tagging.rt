@@ -1,6 +1,7 @@
 // The tags of what a query of an opened index found.
-ghost use Rattle.std.specs.Prelude.{◌≡◌, true, false, Err};
+ghost use Rattle.std.specs.Prelude.{◌≡◌, true, false, Err, IfErr};
 ghost use Rattle.index_core.specs.Answers.{HasTagged};
+ghost use Rattle.index_core.specs.Damage.{BlamesDamage};
 ghost use Rattle.index_core.specs.Files.{StandsOn, OnlyReads};
 ghost use Rattle.index_core.specs.Index.{MayGoOn};
 
@@ -54,6 +55,8 @@ impl<M: Metric> Index<M> {
         ensures reads { OnlyReads self.old.file self.new.file (D.state disk.old) (D.state disk.new) }
         ensures rest { self.new ≡ record self.old { file = self.new.file } }
         ensures tagged { self.old.stopped ≡ false → HasTagged (M.space self.old.file.metric) self.old.file found.now (D.state disk.old) (D.state disk.new) result }
+        // A page that it blames is damaged.
+        ensures damage { IfErr result (BlamesDamage self.old.file (D.state disk.old)) }
     {
         if self.stopped {
             return Err(IndexFault::Stopped);

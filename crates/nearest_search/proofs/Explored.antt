@@ -46,6 +46,7 @@ use Rattle.nearest_search.proofs.Totals.{in-permutation, in-permutation_back}
 use Rattle.nearest_search.proofs.Steps.{step}
 use Rattle.nearest_search.proofs.Ends.{begins, room, ends}
 use Rattle.nearest_search.proofs.KeptWalk.{agrees_reach}
+use Rattle.nearest_search.proofs.Walking.{walk_opens, opens_before}
 
 pub same_trans : (a b c : Shelf) → HoldsSame a b → HoldsSame b c → HoldsSame a c
 same_trans a b c h k = record {
@@ -108,6 +109,7 @@ module _ (s : Space) (axioms : IsSpace s) (old : Shelf) (live : Live) (q : List 
     begun = inr (inl refl);
     agrees = λ tells page node is. absurd (cc);
     reached = λ tells x k. elim k [ inl e ↦ ([], sym (ap (λ (y : Pending). y.page) e)) | inr w ↦ absurd w ];
+    walk = λ tells. record { opened = []; walk = λ k. omega arith; count_is = refl };
     holds = λ tells sound. begins s axioms (nodes_of old.read) live q q_fits k sound;
   }
 
@@ -151,6 +153,9 @@ module _ (s : Space) (axioms : IsSpace s) (old : Shelf) (live : Live) (q : List 
                     )
                 | inr left ↦ before.reached tells x (in-permutation_back state.queue (next ∷ rest) x first.popped (inr left))
               ];
+          walk = λ tells.
+              walk_opens (nodes_of old.read) (live.root ∷ []) opened state.queue rest next first.popped (before.walk tells) (search_at s q rho) next.above done.node after.queue
+              (told_then old now next.page done.node before.same done.is tells) done.pushed;
           holds = λ tells sound. step s axioms q q_fits (nodes_of old.read) k live.root state.kept state.queue state.best opened (before.holds tells sound) rho radius next rest first.popped first.low first.first
               done.node (told_then old now next.page done.node before.same done.is tells) after.queue done.pushed after.best done.noted after.kept done.here done.others;
         }
@@ -198,7 +203,10 @@ module _ (s : Space) (axioms : IsSpace s) (old : Shelf) (live : Live) (q : List 
     explore_cause new (Level page) cause = absurd cause
 
     pub explore_repeats : opened ≡ live.pages → HasNearestCause live old now (Repeats next.page)
-    explore_repeats all = (before.asked ∙ ap (count_up old.asked) all, next_reached)
+    explore_repeats all = (
+      before.asked ∙ ap (count_up old.asked) all,
+      λ tells. (next_reached tells, opens_before (nodes_of old.read) (live.root ∷ []) opened state.queue rest next first.popped (before.walk tells) live.pages all),
+    )
 
     no_node : (page : ℕ) (fault : PageFault) → page ≡ next.page → old.read page ≡ Err fault → IsTrue old.tells → IsSoundTree s (nodes_of old.read) live → ⊥
     no_node page fault same is tells sound =

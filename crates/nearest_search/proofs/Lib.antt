@@ -8,4 +8,5 @@ pub mod Radius
 pub mod Fuel
 pub mod KeptWalk
 pub mod Ends
+pub mod Walking
 pub mod Explored

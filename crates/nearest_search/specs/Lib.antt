@@ -4,4 +4,5 @@ pub mod Keeping
 pub mod Machine
 pub mod Opened
 pub mod Relog
+pub mod Walks
 pub mod Searched

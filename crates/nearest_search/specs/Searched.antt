@@ -1,5 +1,5 @@
 -- What a search for the nearest objects explores, what it answers, and why it may refuse.
-use Rattle.std.specs.Prelude.{◌≡◌, ◌≢◌, ℕ, ◌+◌, ◌≤◌, ◌<◌, ◌⊎◌, false, List, [], ◌∷◌, length, IsTrue, Some, Err}
+use Rattle.std.specs.Prelude.{◌≡◌, ◌≢◌, ℕ, ◌+◌, ◌≤◌, ◌<◌, ◌⊎◌, false, List, [], ◌∷◌, length, map, IsTrue, Some, Err}
 use Rattle.metric_laws.specs.Space.{Space}
 use Rattle.metric_laws.specs.Lists.{IsIn}
 use Rattle.outside_io.specs.Causes.{Rose}
@@ -24,6 +24,7 @@ use Rattle.nearest_search.specs.declared.pending.Pending.{Pending}
 use Rattle.nearest_search.specs.Counts.{IsRadius}
 use Rattle.nearest_search.specs.Machine.{Holds, IsKept, pending_root}
 use Rattle.nearest_search.specs.Opened.{State}
+use Rattle.nearest_search.specs.Walks.{HasOpened, OpensBefore}
 
 -- the page is reached: it is the root, or a child of an entry in the node of a reached page; the path tells the children
 abbrev pub IsReachedBy : Nodes → ℕ → List ℕ → ℕ → Type 0
@@ -38,7 +39,8 @@ abbrev pub KeepsFew : Nodes → Type 0
 KeepsFew kept = (page : ℕ) (node : Node) → kept page ≡ Some node → entry_count node ≤ 32
 
 -- A search has opened so many pages, the root first, and asked for each of them once. Where the pages tell what they hold,
--- it keeps their nodes; where they tell a sound tree, what it knows is true of that tree.
+-- it keeps their nodes, and is a walk that may come to what it queues; where they tell a sound tree, what it knows is true of that
+-- tree.
 pub record IsExploring (s : Space) (old now : Shelf) (live : Live) (q : List ℕ) (k : ℕ) (state : State) (opened : ℕ) : Type 0 where
   pub same : HoldsSame old now
   pub asked : now.asked ≡ count_up old.asked opened
@@ -48,6 +50,7 @@ pub record IsExploring (s : Space) (old now : Shelf) (live : Live) (q : List ℕ
   pub begun : ((1 ≤ opened) × IsKept state.kept live.root) ⊎ IsIn (pending_root live.root) state.queue
   pub agrees : IsTrue old.tells → (page : ℕ) (node : Node) → state.kept page ≡ Some node → nodes_of old.read page ≡ Some node
   pub reached : IsTrue old.tells → (x : Pending) → IsIn x state.queue → IsReached (nodes_of old.read) live.root x.page
+  pub walk : IsTrue old.tells → HasOpened (nodes_of old.read) (live.root ∷ []) opened (map (λ x. x.page) state.queue)
   pub holds : IsTrue old.tells → IsSoundTree s (nodes_of old.read) live → Holds s (nodes_of old.read) q k live.root state.kept state.queue state.best opened
 
 -- nothing within the radius waits
@@ -56,8 +59,8 @@ pub record IsExplored (s : Space) (old now : Shelf) (live : Live) (q : List ℕ)
   pub beyond : (x : Pending) → IsIn x state.queue → rho < x.low
   pub exploring : IsExploring s old now live q k state opened
 
--- why a search refuses: the disk failed or memory ran out; or a reached page holds no node, or is none of the file's; or as
--- many pages as there are were opened, and this reached one was to be opened besides
+-- why a search refuses: the disk failed or memory ran out; or a reached page holds no node, or is none of the file's; or a walk
+-- opened as many pages as there are, each asked for once, and comes to this reached one besides
 abbrev pub HasNearestCause : Live → Shelf → Shelf → PageFault → Type 0
 HasNearestCause live old new Disk = Rose old.faults new.faults
 HasNearestCause live old new Memory = Unit {0}
@@ -65,7 +68,9 @@ HasNearestCause live old new (Bad page fault) =
     (fault ≢ NodeMemory) × IsWithin old.pages page × (IsTrue old.tells → (old.read page ≡ Err (Bad page fault)) × IsReached (nodes_of old.read) live.root page)
 HasNearestCause live old new (Outside page) =
     (is_within old.pages page ≡ false) × (IsTrue old.tells → (old.read page ≡ Err (Outside page)) × IsReached (nodes_of old.read) live.root page)
-HasNearestCause live old new (Repeats page) = (new.asked ≡ count_up old.asked live.pages) × (IsTrue old.tells → IsReached (nodes_of old.read) live.root page)
+HasNearestCause live old new (Repeats page) =
+    (new.asked ≡ count_up old.asked live.pages)
+    × (IsTrue old.tells → IsReached (nodes_of old.read) live.root page × OpensBefore (nodes_of old.read) (live.root ∷ []) live.pages page)
 HasNearestCause live old new (Level page) = ⊥
 
 -- On a sound tree: the scan's first k, the least log of the query, and one page asked for per record of it.

@@ -3,4 +3,5 @@ pub mod Heaps
 pub mod Opens
 pub mod Pops
 pub mod Starts
+pub mod Walking
 pub mod Ways

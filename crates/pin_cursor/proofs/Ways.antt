@@ -26,10 +26,11 @@ use Rattle.log_model.proofs.Walk.{map-append}
 use Rattle.pin_cursor.specs.declared.waiting.Subtree.{Subtree}
 use Rattle.pin_cursor.specs.declared.waiting.Candidate.{Candidate}
 use Rattle.pin_cursor.specs.Order.{IsReach, AllBeyond, IsFirst}
-use Rattle.pin_cursor.specs.Cursor.{OpenCursor, candidate_of, subtree_of, hit_of, rest_of, tags_of, waiting, IsCursorOn, HoldsTree}
+use Rattle.pin_cursor.specs.Cursor.{OpenCursor, candidate_of, subtree_of, hit_of, rest_of, tags_of, waiting, IsCursorOn, IsWalked, HoldsTree}
 use Rattle.pin_cursor.specs.Steps.{IsReachedFrom, HasStepCause, IsOpened, Gives, IsUnderWay, IsAccounted, objects_in, subtrees_in, stage, HasGiven, GivesNext}
 use Rattle.pin_cursor.proofs.Lists.{in-permutation_back, drop_add, take_more, take_rest, account_begun, account_opened, account_met}
 use Rattle.pin_cursor.proofs.Pops.{standing, given_first, given_stands, given_tag}
+use Rattle.pin_cursor.proofs.Walking.{walk_opens, opens_before}
 use Rattle.pin_cursor.proofs.Opens.{page_there, node_there, opens_room, opened_stands}
 
 pub same_itself : (a : Shelf) → HoldsSame a a
@@ -67,6 +68,7 @@ module _ (s : Space) (axioms : IsSpace s) (old : Shelf) (live : Live) (q : List 
     tagged = refl;
     room = room;
     reached = λ tells x k. (x, k, at_root);
+    walks = λ tells walked. walked;
     accounted = λ tells. record {
       opened = [];
       given = [];
@@ -164,6 +166,7 @@ module _ (s : Space) (axioms : IsSpace s) (old : Shelf) (live : Live) (q : List 
           tagged = way.tagged;
           room = room_after;
           reached = reached_after;
+          walks = λ tells walked. walk_opens (nodes_of old.read) (live.root ∷ []) o xs rest x popped (way.walks tells walked) s q done.node xs' (told tells) done.subtrees;
           accounted = accounted_after;
           gives = gives_after;
         }
@@ -194,7 +197,10 @@ module _ (s : Space) (axioms : IsSpace s) (old : Shelf) (live : Live) (q : List 
       way_cause new (Level page) cause = absurd cause
 
       pub way_repeats : o ≡ live.pages → HasStepCause start old now (Repeats x.page)
-      way_repeats all = (way.asked ∙ ap (λ (n : ℕ). count_up old.asked (n - o0)) all, reached)
+      way_repeats all = (
+        way.asked ∙ ap (λ (n : ℕ). count_up old.asked (n - o0)) all,
+        λ tells. (reached tells, λ walked. opens_before (nodes_of old.read) (live.root ∷ []) o xs rest x popped (way.walks tells walked) live.pages all),
+      )
 
       module _ (nodes : Nodes) (tells : IsTrue old.tells) (sound : IsSoundTree s nodes live) (holds : HoldsTree nodes live old) (on : IsCursorOn s nodes start) where
         so_far : IsCursorOn s nodes here
@@ -269,6 +275,7 @@ module _ (s : Space) (axioms : IsSpace s) (old : Shelf) (live : Live) (q : List 
         tagged = (let e = way.tagged in let l = long in let t = length-append tags (x.tag ∷ []) in omega arith);
         room = (let r = way.room in let f = fewer in omega arith);
         reached = way.reached;
+        walks = way.walks;
         accounted = accounted_next;
         gives = gives_next;
       }
@@ -307,6 +314,9 @@ module _ (s : Space) (axioms : IsSpace s) (old now : Shelf) (live : Live) (q : L
   pub step_reached : IsTrue old.tells → (x : Subtree) → IsIn x b.subtrees → IsReachedFrom (nodes_of old.read) a x.page
   step_reached tells x k =
       subst (λ (c : OpenCursor). IsReachedFrom (nodes_of old.read) c x.page) first (way.reached tells x (subst (λ (c : OpenCursor). IsIn x c.subtrees) (sym end_is) k))
+
+  pub step_walks : IsTrue old.tells → IsWalked (nodes_of old.read) a → IsWalked (nodes_of old.read) b
+  step_walks tells walked = subst (IsWalked (nodes_of old.read)) end_is (way.walks tells (subst (IsWalked (nodes_of old.read)) (sym first) walked))
 
   pub step_accounted : (h : List Hit) (t : List ℕ) → h ≡ hits → t ≡ tags → IsTrue old.tells → IsAccounted s (nodes_of old.read) a b h t
   step_accounted h t hits_are tags_are tells =

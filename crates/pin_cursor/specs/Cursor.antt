@@ -14,6 +14,7 @@ use Rattle.tree_shape.specs.Tree.{Nodes, IsSoundAt, objects_at, objects, pages_a
 use Rattle.page_store.specs.Placing.{live_pages}
 use Rattle.page_store.specs.Reading.{nodes_of}
 use Rattle.page_store.specs.Shelf.{Shelf}
+use Rattle.nearest_search.specs.Walks.{HasOpened}
 use Rattle.pin_cursor.specs.declared.waiting.Subtree.{Subtree}
 use Rattle.pin_cursor.specs.declared.waiting.Candidate.{Candidate}
 
@@ -34,6 +35,10 @@ root_of live = record { low = 0; page = live.root }
 -- a cursor that was just opened
 abbrev pub begun : Live → List ℕ → OpenCursor
 begun live q = record { live = live; point = q; given = 0; opened = 0; subtrees = root_of live ∷ []; candidates = [] }
+
+-- a walk by child numbers from the root has opened as many pages as the cursor, and may come to its subtrees
+abbrev pub IsWalked : Nodes → OpenCursor → Type 0
+IsWalked nodes c = HasOpened nodes (c.live.root ∷ []) c.opened (map (λ x. x.page) c.subtrees)
 
 -- an object as a candidate, a subtree as it waits, and the hit of a candidate
 abbrev pub candidate_of : Space → List ℕ → LeafEntry → Candidate

@@ -1,5 +1,5 @@
 -- What a step does, and why it may refuse.
-use Rattle.std.specs.Prelude.{◌≡◌, ◌≢◌, ◌⊎◌, ℕ, ◌+◌, ◌-◌, ◌*◌, ◌≤◌, false, List, [], ◌++◌, length, map, take, Some, Err, IsTrue, IsPermutation}
+use Rattle.std.specs.Prelude.{◌≡◌, ◌≢◌, ◌⊎◌, ℕ, ◌+◌, ◌-◌, ◌*◌, ◌≤◌, false, List, [], ◌∷◌, ◌++◌, length, map, take, Some, Err, IsTrue, IsPermutation}
 use Rattle.std.specs.List.{AllByRecursion, flat_map}
 use Rattle.metric_laws.specs.Space.{Space}
 use Rattle.metric_laws.specs.Lists.{IsIn}
@@ -15,9 +15,10 @@ use Rattle.page_store.specs.Reached.{IsReached}
 use Rattle.page_store.specs.Reading.{IsWithin, is_within, nodes_of}
 use Rattle.page_store.specs.Shelf.{Shelf, HoldsSame, IsNodeOf}
 use Rattle.log_model.specs.Counts.{count_up}
+use Rattle.nearest_search.specs.Walks.{OpensBefore}
 use Rattle.pin_cursor.specs.declared.waiting.Subtree.{Subtree}
 use Rattle.pin_cursor.specs.declared.waiting.Candidate.{Candidate}
-use Rattle.pin_cursor.specs.Cursor.{OpenCursor, IsCursorOn, HoldsTree, candidate_of, subtree_of, hit_of, rest_of, tags_of}
+use Rattle.pin_cursor.specs.Cursor.{OpenCursor, IsCursorOn, IsWalked, HoldsTree, candidate_of, subtree_of, hit_of, rest_of, tags_of}
 
 -- child numbers lead to the page from a subtree that waits
 abbrev pub IsReachedFrom : Nodes → OpenCursor → ℕ → Type 0
@@ -25,7 +26,7 @@ IsReachedFrom nodes c page = (x : Subtree) × IsIn x c.subtrees × IsReached nod
 
 -- why a step refuses: the disk failed or memory ran out; or a reached page holds no node, or is none of the file's; or
 -- this step and those that answered before it opened as many nodes as the file has pages, and this reached one was to
--- be opened besides
+-- be opened besides, to which a walk by child numbers comes behind as many, where the cursor is one
 abbrev pub HasStepCause : OpenCursor → Shelf → Shelf → PageFault → Type 0
 HasStepCause c old new Disk = Rose old.faults new.faults
 HasStepCause c old new Memory = Unit {0}
@@ -34,7 +35,9 @@ HasStepCause c old new (Bad page fault) =
 HasStepCause c old new (Outside page) =
     (is_within old.pages page ≡ false) × (IsTrue old.tells → (old.read page ≡ Err (Outside page)) × IsReachedFrom (nodes_of old.read) c page)
 HasStepCause c old new (Repeats page) =
-    (new.asked ≡ count_up old.asked (c.live.pages - c.opened)) × (IsTrue old.tells → IsReachedFrom (nodes_of old.read) c page)
+    (new.asked ≡ count_up old.asked (c.live.pages - c.opened))
+    × (IsTrue old.tells → IsReachedFrom (nodes_of old.read) c page
+    × (IsWalked (nodes_of old.read) c → OpensBefore (nodes_of old.read) (c.live.root ∷ []) c.live.pages page))
 HasStepCause c old new (Level page) = ⊥
 
 -- a page was opened: the objects of its leaf are candidates, the subtrees of its inner node wait
@@ -73,8 +76,8 @@ pub record Gives (s : Space) (nodes : Nodes) (old new : OpenCursor) (hits : List
   pub tags_are : tags ≡ tags_of nodes old.live hits
   pub stands : IsCursorOn s nodes new
 
--- A cursor has given some hits and opened some nodes, and asked for each of these once. Where the pages tell a sound
--- tree, on which it stood, these are the next hits, and it stands there.
+-- A cursor has given some hits and opened some nodes, and asked for each of these once. Where it was a walk by child numbers, it is
+-- one still; where the pages tell a sound tree, on which it stood, these are the next hits, and it stands there.
 pub record IsUnderWay (s : Space) (old now : Shelf) (start c : OpenCursor) (hits : List Hit) (tags : List ℕ) : Type 0 where
   pub same : HoldsSame old now
   pub more : start.opened ≤ c.opened
@@ -85,6 +88,7 @@ pub record IsUnderWay (s : Space) (old now : Shelf) (start c : OpenCursor) (hits
   pub tagged : length tags ≡ length hits
   pub room : c.given + length c.candidates ≤ 32 * c.opened
   pub reached : IsTrue old.tells → (x : Subtree) → IsIn x c.subtrees → IsReachedFrom (nodes_of old.read) start x.page
+  pub walks : IsTrue old.tells → IsWalked (nodes_of old.read) start → IsWalked (nodes_of old.read) c
   pub accounted : IsTrue old.tells → IsAccounted s (nodes_of old.read) start c hits tags
   pub gives : (nodes : Nodes) → IsTrue old.tells → IsSoundTree s nodes start.live → HoldsTree nodes start.live old → IsCursorOn s nodes start →
       Gives s nodes start c hits tags

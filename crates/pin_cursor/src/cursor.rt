@@ -5,7 +5,7 @@ ghost use Rattle.tree_shape.specs.Tree.{Nodes, IsSoundTree};
 ghost use Rattle.page_store.specs.Reading.{nodes_of};
 ghost use Rattle.page_store.specs.Shelf.{HoldsSame, IsPassing};
 ghost use Rattle.log_model.specs.Counts.{CountsUpTo, count_up};
-ghost use Rattle.pin_cursor.specs.Cursor.{OpenCursor, begun, IsCursorOn, HoldsTree};
+ghost use Rattle.pin_cursor.specs.Cursor.{OpenCursor, begun, IsCursorOn, IsWalked, HoldsTree};
 ghost use Rattle.pin_cursor.specs.Steps.{HasStepCause, HasGiven, IsAccounted, IsReachedFrom, GivesNext};
 
 use crate::Memory;
@@ -126,6 +126,8 @@ impl Cursor {
         ensures accounted { IfOk result (λ stepped. IsTrue (P.shelf pages.old).tells → IsAccounted (R.M.space (R.metric ruler.old)) (nodes_of (P.shelf pages.old).read) self.old self.new stepped.hits stepped.tags) }
         // What waits is reached from what waited.
         ensures reached { IfOk result (λ _. IsTrue (P.shelf pages.old).tells → (x : Subtree) → IsIn x self.new.subtrees → IsReachedFrom (nodes_of (P.shelf pages.old).read) self.old x.page) }
+        // A cursor that is a walk by child numbers stays one.
+        ensures walks { IfOk result (λ _. IsTrue (P.shelf pages.old).tells → IsWalked (nodes_of (P.shelf pages.old).read) self.old → IsWalked (nodes_of (P.shelf pages.old).read) self.new) }
         // An opened node is asked for once. Over all steps that answer Ok no more are opened than the file has pages.
         ensures opened { IfOk result (λ _. (self.old.opened ≤ self.new.opened) × (self.new.opened ≤ self.old.live.pages)) }
         ensures work { IfOk result (λ _. (P.shelf pages.new).asked ≡ count_up (P.shelf pages.old).asked (self.new.opened - self.old.opened)) }

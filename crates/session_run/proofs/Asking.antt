@@ -23,21 +23,21 @@ use Rattle.range_search.specs.Searched.{HasWalkCause}
 use Rattle.nearest_search.specs.Searched.{HasNearestCause}
 use Rattle.log_model.specs.Counts.{count_up}
 use Rattle.log_model.specs.Walk.{search_at}
-use Rattle.hit_tags.specs.Tags.{HasTagsCause}
 use Rattle.index_core.specs.declared.faults.IndexFault.{IndexFault}
 use Rattle.index_core.specs.declared.faults.IndexFault.TheVariants as fault
 use Rattle.index_core.specs.Answers.{HasRangeCause, HasReachCause, HasSearched, IsSoundOn, points_on, tags_on}
 use Rattle.index_core.specs.Causes.{HasReadCause, MayComeAnytime, IsDamage as IsWalkDamage}
+use Rattle.index_core.specs.Damage.{BlamesDamage}
 use Rattle.index_core.specs.Files.{OpenFile, IsLawfulFile, OnlyReads, nodes_on, pages_on}
 use Rattle.index_core.specs.Index.{OpenIndex, StandsAlone}
 use Rattle.index_core.proofs.Written.{reads_both}
 use Rattle.session_run.specs.declared.answer.Answer.{Answer}
 use Rattle.session_run.specs.declared.stop.Stop.{Stop}
 use Rattle.session_run.specs.declared.stop.Stop.TheVariants as stop
-use Rattle.session_run.specs.Session.{IsDamage, StandsBy, StandsIn, most_read, setting_of, state_on}
+use Rattle.session_run.specs.Session.{IsDamage, StandsBy, most_read, setting_of, state_on}
 use Rattle.session_run.specs.Steps.{HasStepCause, HasStepped, IsShownAs, answer_of_fault}
 use Rattle.session_run.specs.Turns.{HasLog, Version, answered_query, if_any, version_on}
-use Rattle.session_run.proofs.Faults.{read_stands}
+use Rattle.session_run.proofs.Faults.{blames_stands}
 use Rattle.session_run.proofs.Reading.{read_stepped, read_stopped, read_taken, sound_still, version_still}
 
 pub rose_more : (a b c : ℕ) → a ≤ b → Rose b c → Rose a c
@@ -76,36 +76,15 @@ fault_ends walk fault.Worn cause = absurd cause
 fault_ends walk fault.Stopped cause = absurd cause
 fault_ends walk fault.Commit cause = absurd cause
 
--- and the page that is named is damaged
-pub fault_stands : (dim : ℕ) (before after : DiskState) (walk : PageFault → Type 0) (why : IndexFault) (end : Stop) → after.bytes ≡ before.bytes → after.tells ≡ before.tells → HasReadCause walk why →
-    ((f : PageFault) → walk f → IsTrue before.tells → StandsIn dim before.bytes f) → answer_of_fault why ≡ Err end → StandsBy dim after end
-fault_stands dim before after walk (fault.Damaged f) end same told cause stands is =
-    let here : stop.Damaged f ≡ end = (let e : Err (stop.Damaged f) ≡ Err end = is in cc) in
-    subst (StandsBy dim after) here (λ tells. subst (λ (bytes : List ℕ). StandsIn dim bytes f) (sym same) (stands f cause.1 (rw (sym told) tells)))
-fault_stands dim before after walk fault.Disk end same told cause stands is = let here : stop.Disk ≡ end = (let e : Err stop.Disk ≡ Err end = is in cc) in subst (StandsBy dim after) here tt
-fault_stands dim before after walk fault.Memory end same told cause stands is = let here : stop.Memory ≡ end = (let e : Err stop.Memory ≡ Err end = is in cc) in subst (StandsBy dim after) here tt
-fault_stands dim before after walk fault.Full end same told cause stands is = absurd cause
-fault_stands dim before after walk fault.NotEmpty end same told cause stands is = absurd cause
-fault_stands dim before after walk (fault.NoRoom pages needed) end same told cause stands is = absurd cause
-fault_stands dim before after walk fault.Worn end same told cause stands is = absurd cause
-fault_stands dim before after walk fault.Stopped end same told cause stands is = absurd cause
-fault_stands dim before after walk fault.Commit end same told cause stands is = absurd cause
-
-pub fault_damage : (dim : ℕ) (before after : DiskState) (walk : PageFault → Type 0) (why : IndexFault) → after.bytes ≡ before.bytes → after.tells ≡ before.tells → HasReadCause walk why →
-    ((f : PageFault) → walk f → IsTrue before.tells → StandsIn dim before.bytes f) → IfErr (answer_of_fault why) (StandsBy dim after)
-fault_damage dim before after walk why same told cause stands =
-    let ends = fault_ends walk why cause in
-    subst (λ (r : Result Answer Stop). IfErr r (StandsBy dim after)) (sym ends.1) (fault_stands dim before after walk why ends.0 same told cause stands ends.1)
-
 pub fault_stepped : {M : Type 0} (s : Space) (show : Bool) (old new : OpenIndex M) (cursors : OpenCursors) (before after : DiskState) (c : Command) (walk : PageFault → Type 0) (why : IndexFault) →
     IsLawfulFile s.words old.file → StandsAlone old before → OnlyReads old.file new.file before after → HasReadCause walk why → (walk page.Disk → Rose before.faults after.faults) →
-    (IsSoundOn s old.file before → MayComeAnytime why) → ((f : PageFault) → walk f → IsTrue before.tells → StandsIn old.file.head.dim before.bytes f) → HasStepped s show old new cursors cursors before after c (answer_of_fault why)
-fault_stepped s show old new cursors before after c walk why lawful alone reads cause rose undamaged stands =
+    (IsSoundOn s old.file before → MayComeAnytime why) → BlamesDamage old.file before why → HasStepped s show old new cursors cursors before after c (answer_of_fault why)
+fault_stepped s show old new cursors before after c walk why lawful alone reads cause rose undamaged blames =
     let ends = fault_ends walk why cause in
     let is = fault_cause {Sound = IsSoundOn s old.file before} before after walk why cause rose undamaged in
+    let stands = blames_stands old.file before after alone.stands.opens reads.same.same_tells why (λ f e. reads.same.same_bytes) blames in
     subst (λ (r : Result Answer Stop). HasStepped s show old new cursors cursors before after c r) (sym ends.1)
-    (read_stopped s show old new cursors cursors before after c ends.0 lawful alone reads (rw ends.1 at is)
-    (fault_stands old.file.head.dim before after walk why ends.0 reads.same.same_bytes reads.same.same_tells cause stands ends.1))
+    (read_stopped s show old new cursors cursors before after c ends.0 lawful alone reads (rw ends.1 at is) (rw ends.1 at stands))
 
 -- hits have one text, shown with the same tags, or hidden
 same_text : (show : Bool) (hits scanned : List Hit) (tags meant : List ℕ) → hits ≡ scanned → (show ≡ true → tags ≡ meant) → text show (reply.Hits hits tags) ≡ text show (reply.Hits scanned meant)
@@ -169,7 +148,7 @@ cause_then before mid after stop.Sink later kept cause = absurd cause
 pub found_stepped : {M : Type 0} (space : M → Space) (show : Bool) (old new : OpenIndex M) (file : OpenFile M) (cursors : OpenCursors) (before mid after : DiskState) (c : Command) (asked : Query) (found : Found)
     (result : Result Answer Stop) → IsLawfulFile (space old.file.metric).words old.file → StandsAlone old before → new.stopped ≡ false → OnlyReads old.file file before mid → OnlyReads file new.file mid after →
     HasSearched (space old.file.metric) old.file asked before mid (Ok found) → IfOk result (IsShownAs (space file.metric) show file found mid) →
-    IfErr result (HasStepCause (IsSoundOn (space file.metric) file mid) mid after) → after.reads ≤ mid.reads + (if show then length found.log.records else 0) → IfErr result (StandsBy file.head.dim after) → answered_query (space old.file.metric) c ≡ Some asked →
+    IfErr result (HasStepCause (IsSoundOn (space file.metric) file mid) mid after) → after.reads ≤ mid.reads + (if show then length found.log.records else 0) → IfErr result (StandsBy file.head after) → answered_query (space old.file.metric) c ≡ Some asked →
     step (setting_of (space old.file.metric) old.file) (state_on old.file before cursors) c ≡ record {
       reply = hits_reply (state_on old.file before cursors).objects (scan_answers (space old.file.metric) asked (points_on old.file before));
       state = state_on old.file before cursors;
@@ -181,47 +160,17 @@ found_stepped {M} space show old new file cursors before mid after c asked found
     read_stopped (space old.file.metric) show old new cursors cursors before after c why lawful alone (reads_both old.file file new.file before mid after first second)
     (cause_then before mid after why first.later (λ sound. sound_still (space old.file.metric) old.file file before mid first sound)
     (subst (λ (m : M). HasStepCause (IsSoundOn (space m) file mid) mid after why) (ap (λ (f : OpenFile M). f.metric) first.rest) cause))
-    (subst (λ (f : OpenFile M). StandsBy f.head.dim after why) first.rest stands)
+    (subst (λ (f : OpenFile M). StandsBy f.head after why) first.rest stands)
 
--- a walk that came to a page without a node
-range_stands : {M : Type 0} (s : Space) (file : OpenFile M) (q : List ℕ) (r : ℕ) (before after : DiskState) (f : PageFault) →
-    HasWalkCause (search_at s q (min r bound)) file.live (pages_on file before 0) (pages_on file after (count_up 0 file.live.pages)) f → IsTrue before.tells → StandsIn file.head.dim before.bytes f
-range_stands s file q r before after (page.Bad p n) walk tells = read_stands file.head.dim file.live.pages before.bytes p (page.Bad p n) (walk.2 tells).0
-range_stands s file q r before after page.Disk walk tells = tt
-range_stands s file q r before after page.Memory walk tells = tt
-range_stands s file q r before after (page.Outside p) walk tells = tt
-range_stands s file q r before after (page.Repeats p) walk tells = tt
-range_stands s file q r before after (page.Level p) walk tells = tt
-
-reach_stands : {M : Type 0} (file : OpenFile M) (before after : DiskState) (f : PageFault) → HasNearestCause file.live (pages_on file before 0) (pages_on file after (count_up 0 file.live.pages)) f → IsTrue before.tells →
-    StandsIn file.head.dim before.bytes f
-reach_stands file before after (page.Bad p n) walk tells = read_stands file.head.dim file.live.pages before.bytes p (page.Bad p n) (walk.2 tells).0
-reach_stands file before after page.Disk walk tells = tt
-reach_stands file before after page.Memory walk tells = tt
-reach_stands file before after (page.Outside p) walk tells = tt
-reach_stands file before after (page.Repeats p) walk tells = tt
-reach_stands file before after (page.Level p) walk tells = tt
-
-pub tag_stands : {M : Type 0} (file : OpenFile M) (found : Found) (before after : DiskState) (f : PageFault) → HasTagsCause (pages_on file before 0) (pages_on file after 0) (file.live.root ∷ []) found.log.records f → IsTrue before.tells →
-    StandsIn file.head.dim before.bytes f
-tag_stands file found before after (page.Bad p n) walk tells =
-    let told = walk.1.3 tells in read_stands file.head.dim file.live.pages before.bytes walk.0 (page.Bad p n) (told ∙ ap (λ (q : ℕ). Err (page.Bad q n)) (sym walk.1.0))
-tag_stands file found before after page.Disk walk tells = tt
-tag_stands file found before after page.Memory walk tells = tt
-tag_stands file found before after (page.Outside p) walk tells = tt
-tag_stands file found before after (page.Repeats p) walk tells = tt
-tag_stands file found before after (page.Level p) walk tells = tt
-
+-- a search that was refused
 pub range_fault : {M : Type 0} (s : Space) (show : Bool) (old new : OpenIndex M) (cursors : OpenCursors) (before after : DiskState) (c : Command) (q : List ℕ) (r : ℕ) (why : IndexFault) →
-    IsLawfulFile s.words old.file → StandsAlone old before → OnlyReads old.file new.file before after → HasRangeCause s old.file q r before after why → (IsSoundOn s old.file before → MayComeAnytime why) →
+    IsLawfulFile s.words old.file → StandsAlone old before → OnlyReads old.file new.file before after → HasRangeCause s old.file q r before after why → (IsSoundOn s old.file before → MayComeAnytime why) → BlamesDamage old.file before why →
     HasStepped s show old new cursors cursors before after c (answer_of_fault why)
-range_fault s show old new cursors before after c q r why lawful alone reads cause undamaged = fault_stepped s show old new cursors before after c
-    (HasWalkCause (search_at s q (min r bound)) old.file.live (pages_on old.file before 0) (pages_on old.file after (count_up 0 old.file.live.pages))) why lawful alone reads cause (λ rose. rose) undamaged
-    (λ f walk tells. range_stands s old.file q r before after f walk tells)
+range_fault s show old new cursors before after c q r why lawful alone reads cause undamaged blames = fault_stepped s show old new cursors before after c
+    (HasWalkCause (search_at s q (min r bound)) old.file.live (pages_on old.file before 0) (pages_on old.file after (count_up 0 old.file.live.pages))) why lawful alone reads cause (λ rose. rose) undamaged blames
 
 pub reach_fault : {M : Type 0} (s : Space) (show : Bool) (old new : OpenIndex M) (cursors : OpenCursors) (before after : DiskState) (c : Command) (why : IndexFault) →
-    IsLawfulFile s.words old.file → StandsAlone old before → OnlyReads old.file new.file before after → HasReachCause old.file before after why → (IsSoundOn s old.file before → MayComeAnytime why) →
+    IsLawfulFile s.words old.file → StandsAlone old before → OnlyReads old.file new.file before after → HasReachCause old.file before after why → (IsSoundOn s old.file before → MayComeAnytime why) → BlamesDamage old.file before why →
     HasStepped s show old new cursors cursors before after c (answer_of_fault why)
-reach_fault s show old new cursors before after c why lawful alone reads cause undamaged = fault_stepped s show old new cursors before after c
-    (HasNearestCause old.file.live (pages_on old.file before 0) (pages_on old.file after (count_up 0 old.file.live.pages))) why lawful alone reads cause (λ rose. rose) undamaged
-    (λ f walk tells. reach_stands old.file before after f walk tells)
+reach_fault s show old new cursors before after c why lawful alone reads cause undamaged blames = fault_stepped s show old new cursors before after c
+    (HasNearestCause old.file.live (pages_on old.file before 0) (pages_on old.file after (count_up 0 old.file.live.pages))) why lawful alone reads cause (λ rose. rose) undamaged blames

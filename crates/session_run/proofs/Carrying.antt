@@ -32,11 +32,12 @@ use Rattle.session_run.specs.declared.pinned.PinnedCursor.{PinnedCursor}
 use Rattle.session_run.specs.declared.pinned.PinnedCursors.{PinnedCursors}
 use Rattle.session_run.specs.declared.stop.Stop.{Stop}
 use Rattle.session_run.specs.declared.stop.Stop.TheVariants as stop
-use Rattle.session_run.specs.Pinned.{AreKeptBy, CanGoOn, GoesOn, HoldSame, IsKeptBy, KeepsGuarded, StandFor, StandsFor}
+use Rattle.session_run.specs.Pinned.{AllGoThrough, GoesThrough, AreKeptBy, CanGoOn, GoesOn, HoldSame, IsKeptBy, KeepsGuarded, StandFor, StandsFor}
 use Rattle.session_run.specs.Session.{IsAsking, StandsBy, no_cursors, setting_of, state_on}
 use Rattle.session_run.specs.Steps.{HasAdvanced, HasCarriedOut, HasClosed, HasStepCause, HasStepped, IsTaken, plain_answer, written_answer}
 use Rattle.session_run.specs.Turns.{Version, answered_query, version_on}
 use Rattle.session_run.proofs.Opening.{reads_none, unlogged}
+use Rattle.session_run.proofs.Trees.{goes_still}
 use Rattle.session_run.proofs.Reading.{either_reading, read_taken, sound_still}
 
 -- ---- guarded pages
@@ -156,6 +157,17 @@ stand_still s old new before after pinned opened keeps tells head was = record {
   next = was.next;
 }
 
+-- and the trees that the cursors go through
+pub still_through : {M : Type 0} (old new : OpenIndex M) (before after : DiskState) (pinned : PinnedCursors) → KeepsGuarded old new before after → after.tells ≡ before.tells → new.file.head ≡ old.file.head →
+    AllGoThrough old before pinned → AllGoThrough new after pinned
+still_through old new before after pinned keeps told head through = λ tells.
+    let now : IsTrue before.tells = subst IsTrue told tells in
+    all_weaker (GoesThrough old before.bytes) (GoesThrough new after.bytes) pinned.cursors.items
+    (λ c goes. goes_still old new before.bytes after.bytes c
+    (λ page same. ap (λ h. nodes_of (reading h.dim c.cursor.live.pages after.bytes) page) head ∙ ap (λ read. nodes_of (λ p. read) page) (read_same old.file.head.dim c.cursor.live.pages after.bytes before.bytes page same))
+    (λ tree guards. (keeps.guarded c.cursor.live.generation tree guards, keeps.kept now c.cursor.live.generation tree guards)) goes)
+    (through now)
+
 -- the file after a turn is sound
 pub sound_after : {M : Type 0} (s : Space) (show : Bool) (old new : OpenFile M) (opened cursors : OpenCursors) (before after : DiskState) (c : Command) (a : Answer) → after.tells ≡ before.tells → IsTrue before.tells →
     IsTaken s show old new opened cursors before after c a → IsSoundOn s new after
@@ -184,7 +196,8 @@ carried s show old new pinned before after c (Ok a) did kept keeps = let any = d
   spelled = any.spelled;
   tagged = any.tagged;
   cause = tt;
-  stands = tt;
+  stands = λ through. tt;
+  through = λ through. still_through old new before after pinned keeps any.tells any.head through;
   taken = λ opened goes. let taken = (did opened).taken goes.sound in (
     opened,
     taken,
@@ -206,7 +219,8 @@ carried s show old new pinned before after c (Err why) did kept keeps = let any 
   spelled = tt;
   tagged = tt;
   cause = cause_of before after why (λ can. can.1.sound) any.cause;
-  stands = any.stands;
+  stands = λ through. any.stands;
+  through = λ through. tt;
   taken = λ opened goes. tt;
   moments = λ opened goes. (did opened).moments goes.sound;
 }
@@ -221,9 +235,9 @@ module _ {M : Type 0} (s : Space) (show : Bool) (old new : OpenIndex M) (pinned0
   -- a command of cursors
   pub carried_plain : (meant : Reply) → new.stopped ≡ false → pinned1.next ≤ pinned0.next + 1 → AreKeptBy s new pinned1 → TagsAre meant → answered_query s c ≡ None → (IsAsking c → ⊥) →
       ((opened : OpenCursors) → GoesOn s old before pinned0 opened → accepts meant ≡ false) →
-      ((opened : OpenCursors) → GoesOn s old before pinned0 opened → (cursors : OpenCursors) × Means meant opened cursors) →
+      ((opened : OpenCursors) → GoesOn s old before pinned0 opened → (cursors : OpenCursors) × Means meant opened cursors) → (AllGoThrough old before pinned0 → AllGoThrough new after pinned1) →
       HasCarriedOut s show old new pinned0 pinned1 before after c (Ok (plain_answer meant))
-  carried_plain meant going numbers kept tagged unasked other none means = record {
+  carried_plain meant going numbers kept tagged unasked other none means through = record {
     going = going;
     head = ap (λ (file : OpenFile M). file.head) reads.rest;
     metric = ap (λ (file : OpenFile M). file.metric) reads.rest;
@@ -234,7 +248,8 @@ module _ {M : Type 0} (s : Space) (show : Bool) (old new : OpenIndex M) (pinned0
     spelled = tt;
     tagged = λ shown. tagged;
     cause = tt;
-    stands = tt;
+    stands = λ all. tt;
+    through = through;
     taken = λ opened goes. let means = means opened goes in (
       means.0,
       read_taken s show old new.file opened means.0 before after c (plain_answer meant) None meant lawful alone reads goes.sound means.1.0 (none opened goes) tt (unlogged s (version_on old.file before) unasked) refl
@@ -245,7 +260,7 @@ module _ {M : Type 0} (s : Space) (show : Bool) (old new : OpenIndex M) (pinned0
   }
 
   -- a command of cursors that ends the session
-  pub carried_stopped : (why : Stop) → HasStepCause (CanGoOn s old before pinned0) before after why → StandsBy old.file.head.dim after why → HasCarriedOut s show old new pinned0 pinned1 before after c (Err why)
+  pub carried_stopped : (why : Stop) → HasStepCause (CanGoOn s old before pinned0) before after why → (AllGoThrough old before pinned0 → StandsBy old.file.head after why) → HasCarriedOut s show old new pinned0 pinned1 before after c (Err why)
   carried_stopped why cause stands = record {
     going = tt;
     head = tt;
@@ -258,6 +273,7 @@ module _ {M : Type 0} (s : Space) (show : Bool) (old new : OpenIndex M) (pinned0
     tagged = tt;
     cause = cause;
     stands = stands;
+    through = λ all. tt;
     taken = λ opened goes. tt;
     moments = λ opened goes. either_reading s old new.file opened before after (step (setting_of s old.file) (state_on old.file before opened) c).state lawful alone reads goes.sound;
   }
@@ -278,26 +294,26 @@ module _ {M : Type 0} (s : Space) (show : Bool) (old new : OpenIndex M) (pinned0
   executed opened d is = rw points (ap (λ (e : Command). execute (setting_of s old.file) (state_on old.file before opened) e) is)
 
   pub next_carried : (number n : ℕ) (meant : Reply) → OnlyReads old.file new.file before after → c ≡ command.Next number n → pinned1.next ≡ pinned0.next → AreKeptBy s new pinned1 → TagsAre meant →
-      ((opened : OpenCursors) → IsTrue before.tells → StandFor s old before.bytes pinned0 opened → HasAdvanced s new after.bytes pinned1 opened number n meant) →
+      ((opened : OpenCursors) → IsTrue before.tells → StandFor s old before.bytes pinned0 opened → HasAdvanced s new after.bytes pinned1 opened number n meant) → (AllGoThrough old before pinned0 → AllGoThrough new after pinned1) →
       HasCarriedOut s show old new pinned0 pinned1 before after c (Ok (plain_answer meant))
-  next_carried number n meant reads is next kept tagged advanced =
+  next_carried number n meant reads is next kept tagged advanced through =
       carried_plain s show old new pinned0 pinned1 before after c lawful alone reads meant going (omega (arith, next)) kept tagged (rw points (rw is refl)) (λ asks. subst IsAsking is asks)
       (λ opened goes. let done = advanced opened goes.sound.0 goes.cursors in
       ap (λ (d : Step). accepts d.reply) (sym (done.meaning (state_on old.file before opened).objects))
       ∙ next_accepts_none (state_on old.file before opened) number n (cursor_named number (state_on old.file before opened)))
       (λ opened goes. let done = advanced opened goes.sound.0 goes.cursors in
-      (done.cursors, (executed opened (command.Next number n) is ∙ done.meaning (state_on old.file before opened).objects, done.stand)))
+      (done.cursors, (executed opened (command.Next number n) is ∙ done.meaning (state_on old.file before opened).objects, done.stand))) through
 
   pub close_carried : (number : ℕ) (meant : Reply) → OnlyReads old.file new.file before after → c ≡ command.Close number → pinned1.next ≡ pinned0.next → AreKeptBy s new pinned1 → TagsAre meant →
-      ((opened : OpenCursors) → StandFor s old before.bytes pinned0 opened → HasClosed s new after.bytes pinned1 opened number meant) →
+      ((opened : OpenCursors) → StandFor s old before.bytes pinned0 opened → HasClosed s new after.bytes pinned1 opened number meant) → (AllGoThrough old before pinned0 → AllGoThrough new after pinned1) →
       HasCarriedOut s show old new pinned0 pinned1 before after c (Ok (plain_answer meant))
-  close_carried number meant reads is next kept tagged closed =
+  close_carried number meant reads is next kept tagged closed through =
       carried_plain s show old new pinned0 pinned1 before after c lawful alone reads meant going (omega (arith, next)) kept tagged (rw points (rw is refl)) (λ asks. subst IsAsking is asks)
       (λ opened goes. let done = closed opened goes.cursors in
       ap (λ (d : Step). accepts d.reply) (sym (done.meaning (state_on old.file before opened).objects))
       ∙ close_accepts_none (state_on old.file before opened) number (cursor_named number (state_on old.file before opened)))
       (λ opened goes. let done = closed opened goes.cursors in
-      (done.cursors, (executed opened (command.Close number) is ∙ done.meaning (state_on old.file before opened).objects, done.stand)))
+      (done.cursors, (executed opened (command.Close number) is ∙ done.meaning (state_on old.file before opened).objects, done.stand))) through
 
 -- what holds anyway holds of an answer
 pub any_ok : {A E B : Type 0} (result : Result A E) → B → OnOk result B

@@ -18,14 +18,15 @@ use Rattle.log_model.proofs.ByScan.{length-points}
 use Rattle.index_core.specs.declared.faults.IndexFault.{IndexFault}
 use Rattle.index_core.specs.declared.faults.IndexFault.TheVariants as fault
 use Rattle.index_core.specs.Answers.{IsSoundOn, points_on, tags_on}
-use Rattle.index_core.specs.Causes.{BlamesNoPage, HasInsertCause, IsPathDamage, IsDamage as IsWalkDamage, rules_of}
+use Rattle.index_core.specs.Causes.{BlamesNoPage, HasInsertCause, IsPathDamage, IsDamage as IsWalkDamage}
+use Rattle.index_core.specs.Damage.{BlamesDamage}
 use Rattle.index_core.specs.Files.{IsLawfulFile, nodes_on}
 use Rattle.index_core.specs.Index.{OpenIndex, StandsAlone}
 use Rattle.index_core.specs.Writing.{Inserts, HasWritten}
-use Rattle.session_run.specs.Session.{IsDamage, StandsBy, StandsIn, setting_of, state_on}
+use Rattle.session_run.specs.Session.{IsDamage, setting_of, state_on}
 use Rattle.session_run.specs.Steps.{HasStepCause, HasStepped, answer_of_fault, written_answer}
 use Rattle.session_run.specs.Turns.{Hinders, answered_query, query_of, version_on, write_of}
-use Rattle.session_run.proofs.Faults.{list_stands, path_stands}
+use Rattle.session_run.proofs.Faults.{result_stands}
 use Rattle.session_run.proofs.Writes.{write_stepped}
 
 -- ids from 0 on
@@ -86,11 +87,11 @@ module _ {M : Type 0} (s : Space) (show : Bool) (old new : OpenIndex M) (cursors
       (result ≡ Err fault.Full) ↔ (old.file.live.count ≡ old.file.head.limit) →
       (result ≡ Err fault.Worn) ↔ ((old.file.live.count ≢ old.file.head.limit) × (old.file.live.generation ≡ 2 ^ 48 - 1)) →
       IfErr result (HasInsertCause s old (record { id = old.file.live.count; tag = tag; point = point }) before after) →
-      IfErr result (λ why. IsSoundOn s old.file before → BlamesNoPage why) →
+      IfErr result (λ why. IsSoundOn s old.file before → BlamesNoPage why) → IfErr result (BlamesDamage old.file before) →
       write_of old.file.live.count c ≡ Some (Inserts point tag) → answered_query s c ≡ None →
       step (setting_of s old.file) (state_on old.file before cursors) c ≡ insert_step old.file.head.limit (state_on old.file before cursors) point tag →
       HasStepped s show old new cursors cursors before after c (written_answer (λ id. reply.Id id) result)
-  insert_stepped point tag result written full worn cause undamaged writes unasked meaning =
+  insert_stepped point tag result written full worn cause undamaged blames writes unasked meaning =
       write_stepped s show old new cursors before after c (Inserts point tag) (λ id. reply.Id id) lawful alone going result written (record {
         writes = writes;
         unasked = unasked;
@@ -100,7 +101,7 @@ module _ {M : Type 0} (s : Space) (show : Bool) (old new : OpenIndex M) (cursors
         worn = λ is. (worn.0 is).1;
         room = λ pages needed is sound. hinders pages needed (rw is at cause) sound;
         cause = causes result cause undamaged;
-        stands = stands result written cause;
+        stands = result_stands old.file before after alone.stands.opens told result same blames;
         accepts_says = λ n. refl;
         tags_says = λ n. tt;
         tells = told;
@@ -131,23 +132,10 @@ module _ {M : Type 0} (s : Space) (show : Bool) (old new : OpenIndex M) (cursors
       hinders pages needed (f, is, asked, cause) sound =
           let exact = (cause.2 sound.0).1 in (length (take asked f.free), room_of pages needed _ (length (take asked f.free)) cause.0 exact cause.1)
 
-      stands : (result : Result ℕ IndexFault) → HasWritten s (Inserts point tag) old new before after result → IfErr result (HasInsertCause s old (record { id = old.file.live.count; tag = tag; point = point }) before after) →
-          IfErr result (λ why. IfErr (answer_of_fault why) (StandsBy old.file.head.dim after))
-      stands (Ok n) written cause = tt
-      stands (Err (fault.Damaged f)) written cause = λ tells.
-          let now : IsTrue before.tells = rw (sym told) tells in
-          subst (λ (bytes : List ℕ). StandsIn old.file.head.dim bytes f) (sym (written.refused (λ e. absurd (cc))).same.same_bytes) (elim cause [
-            | inl listed ↦ list_stands old.file.head.dim old.file.live.pages before.bytes old.file.live f (listed.1.1 now)
-            | inr walked ↦ path_stands s (rules_of s old.file) old.file.head.dim old.file.live.pages before.bytes old.file.live (record { id = old.file.live.count; tag = tag; point = point }) f (walked.1 now)
-          ])
-      stands (Err fault.Disk) written cause = tt
-      stands (Err fault.Memory) written cause = tt
-      stands (Err fault.Full) written cause = tt
-      stands (Err fault.NotEmpty) written cause = tt
-      stands (Err (fault.NoRoom pages needed)) written cause = tt
-      stands (Err fault.Worn) written cause = tt
-      stands (Err fault.Stopped) written cause = tt
-      stands (Err fault.Commit) written cause = tt
+      same : (f : PageFault) → result ≡ Err (fault.Damaged f) → after.bytes ≡ before.bytes
+      same f is =
+          let done : HasWritten s (Inserts point tag) old new before after (Err (fault.Damaged f)) = subst (HasWritten s (Inserts point tag) old new before after) is written in
+          (done.refused (λ e. absurd (cc))).same.same_bytes
 
       causes : (result : Result ℕ IndexFault) → IfErr result (HasInsertCause s old (record { id = old.file.live.count; tag = tag; point = point }) before after) →
           IfErr result (λ why. IsSoundOn s old.file before → BlamesNoPage why) → IfErr result (λ why. IfErr (answer_of_fault why) (HasStepCause (IsSoundOn s old.file before) before after))
@@ -165,9 +153,9 @@ module _ {M : Type 0} (s : Space) (show : Bool) (old new : OpenIndex M) (cursors
       (result ≡ Err fault.Full) ↔ (old.file.live.count ≡ old.file.head.limit) →
       (result ≡ Err fault.Worn) ↔ ((old.file.live.count ≢ old.file.head.limit) × (old.file.live.generation ≡ 2 ^ 48 - 1)) →
       IfErr result (HasInsertCause s old (record { id = old.file.live.count; tag = old.file.live.count; point = point }) before after) →
-      IfErr result (λ why. IsSoundOn s old.file before → BlamesNoPage why) → HasStepped s show old new cursors cursors before after c (written_answer (λ id. reply.Id id) result)
-  inserted_stepped point result points is written full worn cause undamaged =
-      insert_stepped point old.file.live.count result written full worn cause undamaged (rw is refl) (unasked points (rw is refl))
+      IfErr result (λ why. IsSoundOn s old.file before → BlamesNoPage why) → IfErr result (BlamesDamage old.file before) → HasStepped s show old new cursors cursors before after c (written_answer (λ id. reply.Id id) result)
+  inserted_stepped point result points is written full worn cause undamaged blames =
+      insert_stepped point old.file.live.count result written full worn cause undamaged blames (rw is refl) (unasked points (rw is refl))
       (executed points ∙ ap (λ (d : Command). execute (setting_of s old.file) (state_on old.file before cursors) d) is
       ∙ ap (λ (n : ℕ). insert_step old.file.head.limit (state_on old.file before cursors) point n) count_is)
 
@@ -176,7 +164,7 @@ module _ {M : Type 0} (s : Space) (show : Bool) (old new : OpenIndex M) (cursors
       (result ≡ Err fault.Full) ↔ (old.file.live.count ≡ old.file.head.limit) →
       (result ≡ Err fault.Worn) ↔ ((old.file.live.count ≢ old.file.head.limit) × (old.file.live.generation ≡ 2 ^ 48 - 1)) →
       IfErr result (HasInsertCause s old (record { id = old.file.live.count; tag = tag; point = point }) before after) →
-      IfErr result (λ why. IsSoundOn s old.file before → BlamesNoPage why) → HasStepped s show old new cursors cursors before after c (written_answer (λ id. reply.Id id) result)
-  tag_inserted_stepped point tag result points is written full worn cause undamaged =
-      insert_stepped point tag result written full worn cause undamaged (rw is refl) (unasked points (rw is refl))
+      IfErr result (λ why. IsSoundOn s old.file before → BlamesNoPage why) → IfErr result (BlamesDamage old.file before) → HasStepped s show old new cursors cursors before after c (written_answer (λ id. reply.Id id) result)
+  tag_inserted_stepped point tag result points is written full worn cause undamaged blames =
+      insert_stepped point tag result written full worn cause undamaged blames (rw is refl) (unasked points (rw is refl))
       (executed points ∙ ap (λ (d : Command). execute (setting_of s old.file) (state_on old.file before cursors) d) is)

@@ -5,6 +5,7 @@ pub mod Opening
 pub mod Writes
 pub mod Inserts
 pub mod Loads
+pub mod Trees
 pub mod Carrying
 pub mod Standing
 pub mod Pins

@@ -16,14 +16,15 @@ use Rattle.index_core.specs.declared.faults.IndexFault.{IndexFault}
 use Rattle.index_core.specs.declared.faults.IndexFault.TheVariants as fault
 use Rattle.index_core.specs.Answers.{IsSoundOn, points_on}
 use Rattle.index_core.specs.Causes.{BlamesNoPage}
+use Rattle.index_core.specs.Damage.{BlamesDamage}
 use Rattle.index_core.specs.Files.{IsLawfulFile}
 use Rattle.index_core.specs.Index.{OpenIndex, StandsAlone}
 use Rattle.index_core.specs.Loading.{HasLoadCause, HasLoadingCause, ids, load_fault}
 use Rattle.index_core.specs.Writing.{Loads, HasWritten}
-use Rattle.session_run.specs.Session.{StandsBy, StandsIn, setting_of, state_on}
+use Rattle.session_run.specs.Session.{setting_of, state_on}
 use Rattle.session_run.specs.Steps.{HasStepCause, HasStepped, answer_of_fault, written_answer}
 use Rattle.session_run.specs.Turns.{Hinders, answered_query, query_of, version_on, write_of}
-use Rattle.session_run.proofs.Faults.{list_stands}
+use Rattle.session_run.proofs.Faults.{result_stands}
 use Rattle.session_run.proofs.Inserts.{count_is, ids_are, walk_damage}
 use Rattle.session_run.proofs.Writes.{write_stepped}
 
@@ -92,11 +93,11 @@ module _ {M : Type 0} (s : Space) (show : Bool) (old new : OpenIndex M) (cursors
   pub load_stepped : (result : Result ℕ IndexFault) → HasWritten s (Loads rows labels) old new before after result →
       ((why : IndexFault) → load_fault old (length rows) ≡ Some why → result ≡ Err why) →
       (load_fault old (length rows) ≡ None → IfErr result (HasLoadingCause s old new rows labels before after.faults)) →
-      IfErr result (λ why. IsSoundOn s old.file before → BlamesNoPage why) →
+      IfErr result (λ why. IsSoundOn s old.file before → BlamesNoPage why) → IfErr result (BlamesDamage old.file before) →
       write_of old.file.live.count c ≡ Some (Loads rows labels) → answered_query s c ≡ None →
       step (setting_of s old.file) state c ≡ load_step old.file.head.limit state rows labels →
       HasStepped s show old new cursors cursors before after c (written_answer (λ count. reply.Loaded count) result)
-  load_stepped result written refused cause undamaged writes unasked meaning =
+  load_stepped result written refused cause undamaged blames writes unasked meaning =
       write_stepped s show old new cursors before after c (Loads rows labels) (λ count. reply.Loaded count) lawful alone going result written (record {
         writes = writes;
         unasked = unasked;
@@ -106,7 +107,7 @@ module _ {M : Type 0} (s : Space) (show : Bool) (old new : OpenIndex M) (cursors
         worn = λ is. worn is (old.file.live.count == 0) refl (nat_lt old.file.head.limit (length rows)) refl (old.file.live.generation == 2 ^ 48 - 1) refl;
         room = λ pages needed is sound. room pages needed is (load_fault old (length rows)) refl;
         cause = causes result refl (load_fault old (length rows)) refl;
-        stands = stands result refl (load_fault old (length rows)) refl;
+        stands = result_stands old.file before after alone.stands.opens told result unchanged blames;
         accepts_says = λ n. refl;
         tags_says = λ n. tt;
         tells = told;
@@ -158,30 +159,6 @@ module _ {M : Type 0} (s : Space) (show : Bool) (old new : OpenIndex M) (cursors
       unchanged f is = let done : HasWritten s (Loads rows labels) old new before after (Err (fault.Damaged f)) = subst (HasWritten s (Loads rows labels) old new before after) is written in
           (done.refused (λ e. absurd (cc))).same.same_bytes
 
-      never : (f : PageFault) (g : IndexFault) → result ≡ Err (fault.Damaged f) → load_fault old (length rows) ≡ Some g → (none : Bool) → (old.file.live.count == 0) ≡ none → (many : Bool) →
-          nat_lt old.file.head.limit (length rows) ≡ many → (last : Bool) → (old.file.live.generation == 2 ^ 48 - 1) ≡ last → ⊥
-      never f g is l false n many m last e = let x = sym is ∙ refused fault.NotEmpty (filled_fault n) in cc
-      never f g is l true n true m last e = let x = sym is ∙ refused fault.Full (full_fault n m) in cc
-      never f g is l true n false m true e = let x = sym is ∙ refused fault.Worn (worn_fault n m e) in cc
-      never f g is l true n false m false e = let x = sym l ∙ no_fault n m e in cc
-
-      stands : (r : Result ℕ IndexFault) → result ≡ r → (f : Option IndexFault) → load_fault old (length rows) ≡ f → IfErr r (λ why. IfErr (answer_of_fault why) (StandsBy old.file.head.dim after))
-      stands (Ok n) is f l = tt
-      stands (Err (fault.Damaged f)) is None l = λ tells.
-          let now : IsTrue before.tells = rw (sym told) tells in
-          let why = rw is at cause l in
-          subst (λ (bytes : List ℕ). StandsIn old.file.head.dim bytes f) (sym (unchanged f is)) (list_stands old.file.head.dim old.file.live.pages before.bytes old.file.live f (why.1.1 now))
-      stands (Err (fault.Damaged f)) is (Some g) l =
-          λ tells. absurd (never f g is l (old.file.live.count == 0) refl (nat_lt old.file.head.limit (length rows)) refl (old.file.live.generation == 2 ^ 48 - 1) refl)
-      stands (Err fault.Disk) is f l = tt
-      stands (Err fault.Memory) is f l = tt
-      stands (Err fault.Full) is f l = tt
-      stands (Err fault.NotEmpty) is f l = tt
-      stands (Err (fault.NoRoom pages needed)) is f l = tt
-      stands (Err fault.Worn) is f l = tt
-      stands (Err fault.Stopped) is f l = tt
-      stands (Err fault.Commit) is f l = tt
-
       causes : (r : Result ℕ IndexFault) → result ≡ r → (f : Option IndexFault) → load_fault old (length rows) ≡ f → IfErr r (λ why. IfErr (answer_of_fault why) (HasStepCause (IsSoundOn s old.file before) before after))
       causes (Ok n) is f l = tt
       causes (Err why) is None l = load_cause why (λ none. rw is at cause none) l (rw is at undamaged)
@@ -209,15 +186,15 @@ module _ {M : Type 0} (s : Space) (show : Bool) (old new : OpenIndex M) (cursors
   pub loaded_stepped : (result : Result ℕ IndexFault) → c ≡ command.Load rows → HasWritten s (Loads rows.points (ids (length rows.points))) old new before after result →
       ((why : IndexFault) → load_fault old (length rows.points) ≡ Some why → result ≡ Err why) →
       (load_fault old (length rows.points) ≡ None → IfErr result (HasLoadingCause s old new rows.points (ids (length rows.points)) before after.faults)) →
-      IfErr result (λ why. IsSoundOn s old.file before → BlamesNoPage why) → HasStepped s show old new cursors cursors before after c (written_answer (λ count. reply.Loaded count) result)
-  loaded_stepped result is written refused cause undamaged =
-      load_stepped s show old new cursors before after c rows.points (ids (length rows.points)) lawful alone going told later result written refused cause undamaged
+      IfErr result (λ why. IsSoundOn s old.file before → BlamesNoPage why) → IfErr result (BlamesDamage old.file before) → HasStepped s show old new cursors cursors before after c (written_answer (λ count. reply.Loaded count) result)
+  loaded_stepped result is written refused cause undamaged blames =
+      load_stepped s show old new cursors before after c rows.points (ids (length rows.points)) lawful alone going told later result written refused cause undamaged blames
       (rw is (ap (λ (l : List ℕ). Some (Loads rows.points l)) (ids_are 0 (length rows.points)))) (unasked (rw is refl))
       (executed (command.Load rows) is ∙ ap (λ (l : List ℕ). load_step old.file.head.limit (state_on old.file before cursors) rows.points l) (ids_are 0 (length rows.points)))
 
   pub tag_loaded_stepped : (tags : List ℕ) (result : Result ℕ IndexFault) → c ≡ command.TagLoad tags rows → HasWritten s (Loads rows.points tags) old new before after result →
       ((why : IndexFault) → load_fault old (length rows.points) ≡ Some why → result ≡ Err why) →
       (load_fault old (length rows.points) ≡ None → IfErr result (HasLoadingCause s old new rows.points tags before after.faults)) →
-      IfErr result (λ why. IsSoundOn s old.file before → BlamesNoPage why) → HasStepped s show old new cursors cursors before after c (written_answer (λ count. reply.Loaded count) result)
-  tag_loaded_stepped tags result is written refused cause undamaged =
-      load_stepped s show old new cursors before after c rows.points tags lawful alone going told later result written refused cause undamaged (rw is refl) (unasked (rw is refl)) (executed (command.TagLoad tags rows) is)
+      IfErr result (λ why. IsSoundOn s old.file before → BlamesNoPage why) → IfErr result (BlamesDamage old.file before) → HasStepped s show old new cursors cursors before after c (written_answer (λ count. reply.Loaded count) result)
+  tag_loaded_stepped tags result is written refused cause undamaged blames =
+      load_stepped s show old new cursors before after c rows.points tags lawful alone going told later result written refused cause undamaged blames (rw is refl) (unasked (rw is refl)) (executed (command.TagLoad tags rows) is)

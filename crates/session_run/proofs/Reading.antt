@@ -97,7 +97,7 @@ read_stepped {M} s show old new opened cursors before after c a lawful alone goi
 
 -- a command that only reads and ends the session
 pub read_stopped : {M : Type 0} (s : Space) (show : Bool) (old new : OpenIndex M) (opened cursors : OpenCursors) (before after : DiskState) (c : Command) (why : Stop) →
-    IsLawfulFile s.words old.file → StandsAlone old before → OnlyReads old.file new.file before after → HasStepCause (IsSoundOn s old.file before) before after why → StandsBy old.file.head.dim after why →
+    IsLawfulFile s.words old.file → StandsAlone old before → OnlyReads old.file new.file before after → HasStepCause (IsSoundOn s old.file before) before after why → StandsBy old.file.head after why →
     HasStepped s show old new opened cursors before after c (Err why)
 read_stopped {M} s show old new opened cursors before after c why lawful alone reads cause stands = record {
   going = tt;

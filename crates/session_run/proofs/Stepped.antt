@@ -32,6 +32,7 @@ use Rattle.index_core.specs.declared.faults.IndexFault.{IndexFault}
 use Rattle.index_core.specs.declared.faults.IndexFault.TheVariants as fault
 use Rattle.index_core.specs.Answers.{IsSoundOn}
 use Rattle.index_core.specs.Causes.{BlamesNoPage, HasListCause}
+use Rattle.index_core.specs.Damage.{BlamesDamage}
 use Rattle.index_core.specs.Files.{OpenFile, IsLawfulFile, OnlyReads, nodes_on}
 use Rattle.index_core.specs.Index.{OpenIndex, StandsAlone}
 use Rattle.index_core.specs.Lending.{same_room_by_none}
@@ -40,13 +41,14 @@ use Rattle.index_core.specs.Writing.{GuardsPages}
 use Rattle.session_run.specs.declared.pinned.PinnedCursor.{PinnedCursor}
 use Rattle.session_run.specs.declared.pinned.PinnedCursors.{PinnedCursors}
 use Rattle.session_run.specs.declared.stop.Stop.TheVariants as stop
-use Rattle.session_run.specs.Pinned.{AreKeptBy, AreNumbered, CanGoOn, GoesOn, HoldsTree, IsKeptBy, KeepsGuarded, StandFor, StandsFor}
-use Rattle.session_run.specs.Session.{StandsBy, StandsIn, setting_of, state_on}
+use Rattle.session_run.specs.Pinned.{GoesThrough, AreKeptBy, AreNumbered, CanGoOn, GoesOn, HoldsTree, IsKeptBy, KeepsGuarded, StandFor, StandsFor}
+use Rattle.session_run.specs.Session.{StandsBy, setting_of, state_on}
 use Rattle.session_run.specs.Steps.{HasAdvanced, HasCarriedOut, HasClosed, HasStepCause, answer_of_fault, plain_answer, stop_of_page}
-use Rattle.session_run.proofs.Carrying.{carried_plain, carried_stopped, each_kept, each_still, keeps_reading, same_pages, stands_still}
-use Rattle.session_run.proofs.Faults.{list_stands, read_stands}
+use Rattle.session_run.proofs.Carrying.{carried_plain, carried_stopped, each_kept, each_still, keeps_reading, same_pages, stands_still, still_through}
+use Rattle.session_run.proofs.Faults.{blames_stands}
 use Rattle.session_run.proofs.Inserts.{walk_damage}
 use Rattle.session_run.proofs.Opening.{reads_none}
+use Rattle.session_run.proofs.Trees.{goes_from_root, never_again, no_fault}
 use Rattle.session_run.proofs.Standing.{all_at, all_set, moved_at, named_at, numbered_more, numbered_set, unnamed, zip_length, zip_more}
 
 -- ---- the next hits
@@ -174,17 +176,21 @@ module _ {M : Type 0} (s : Space) (index : OpenIndex M) (before after : DiskStat
   step_cause (page.Repeats p) refusal = (tt, λ can. sound_passes (page.Repeats p) refusal can)
   step_cause (page.Level p) refusal = absurd refusal.cause
 
--- a page that the step named is damaged
-pub step_stands : {M : Type 0} (s : Space) (file : OpenFile M) (before after : DiskState) (c : OpenCursor) (fault : PageFault) → IsUnchanged before after → IsRefusal s file.head.dim before after c fault →
-    StandsBy file.head.dim after (stop_of_page fault)
-step_stands s file before after c page.Disk same refusal = tt
-step_stands s file before after c page.Memory same refusal = tt
-step_stands s file before after c (page.Bad p f) same refusal = λ tells.
-    subst (λ (bytes : List ℕ). StandsIn file.head.dim bytes (page.Bad p f)) (sym same.same_bytes)
-    (read_stands file.head.dim c.live.pages before.bytes p (page.Bad p f) (refusal.cause.2 (rw (sym same.same_tells) tells)).0)
-step_stands s file before after c (page.Outside p) same refusal = λ tells. tt
-step_stands s file before after c (page.Repeats p) same refusal = λ tells. tt
-step_stands s file before after c (page.Level p) same refusal = λ tells. tt
+-- where the disk tells its bytes, no page that the step came to is damaged
+pub step_stands : {M : Type 0} (s : Space) (index : OpenIndex M) (before after : DiskState) (c : PinnedCursor) (fault : PageFault) → IsUnchanged before after → IsRefusal s index.file.head.dim before after c.cursor fault →
+    (IsTrue before.tells → GoesThrough index before.bytes c) → StandsBy index.file.head after (stop_of_page fault)
+step_stands s index before after c page.Disk same refusal goes = tt
+step_stands s index before after c page.Memory same refusal goes = tt
+step_stands s index before after c (page.Bad p f) same refusal goes = λ tells.
+    let now : IsTrue before.tells = subst IsTrue same.same_tells tells in
+    let told = refusal.cause.2 now in absurd (no_fault index before.bytes c (goes now) p (page.Bad p f) told.0 told.1)
+step_stands s index before after c (page.Outside p) same refusal goes = λ tells.
+    let now : IsTrue before.tells = subst IsTrue same.same_tells tells in
+    let told = refusal.cause.1 now in absurd (no_fault index before.bytes c (goes now) p (page.Outside p) told.0 told.1)
+step_stands s index before after c (page.Repeats p) same refusal goes = λ tells.
+    let now : IsTrue before.tells = subst IsTrue same.same_tells tells in
+    absurd (never_again index before.bytes c (goes now) p (refusal.cause.1 now).1)
+step_stands s index before after c (page.Level p) same refusal goes = absurd refusal.cause
 
 -- no open cursor has the number
 pub unnamed_by : {M : Type 0} (s : Space) (index : OpenIndex M) (bytes : List ℕ) (pinned : PinnedCursors) (opened : OpenCursors) (number n : ℕ) → position (λ c. c.number == number) pinned.cursors.items ≡ None →
@@ -284,14 +290,14 @@ kept_more s old new pinned0 pinned1 c guarded kept is items next number = record
 
 -- a cursor is opened
 pub opened_carried : {M : Type 0} (s : Space) (show : Bool) (old new : OpenIndex M) (pinned0 pinned1 : PinnedCursors) (before after : DiskState) (q : List ℕ) (c : PinnedCursor) (live : Live) (point : List ℕ) →
-    IsLawfulFile s.words old.file → StandsAlone old before → new.stopped ≡ false → IsSpace s → IsTrue (s.fits q) → OnlyReads old.file new.file before after →
+    IsLawfulFile s.words old.file → StandsAlone old before → StandsAlone new after → new.stopped ≡ false → IsSpace s → IsTrue (s.fits q) → OnlyReads old.file new.file before after →
     ((generation : ℕ) (tree : List ℕ) → GuardsPages generation tree old → GuardsPages generation tree new) → IsPinned old.file.live.generation new → SoundTreesAreWhole →
     (IsTrue before.tells → (tree : List ℕ) → AreReached (nodes_on old.file before) old.file.live.root tree → GuardsPages old.file.live.generation tree new) →
     live ≡ old.file.live → point ≡ q → c.cursor ≡ begun live point →
     ((t : Space) (nodes : Nodes) → IsSpace t → IsSoundTree t nodes live → IsTrue (t.fits point) → IsCursorOn t nodes c.cursor) →
     c.number ≡ pinned0.next → pinned1.cursors.items ≡ pinned0.cursors.items ++ c ∷ [] → pinned1.next ≡ pinned0.next + 1 → AreKeptBy s old pinned0 → nat_lt (length pinned0.cursors.items) most_cursors ≡ true →
     HasCarriedOut s show old new pinned0 pinned1 before after (command.Cursor q) (Ok (plain_answer (reply.Cursor pinned0.next)))
-opened_carried {M} s show old new pinned0 pinned1 before after q c live point lawful alone going space fits reads guarded pinned whole guards live_is point_is begins starts number items next kept room =
+opened_carried {M} s show old new pinned0 pinned1 before after q c live point lawful alone next_alone going space fits reads guarded pinned whole guards live_is point_is begins starts number items next kept room =
     carried_plain s show old new pinned0 pinned1 before after (command.Cursor q) lawful alone reads (reply.Cursor pinned0.next) going (omega (arith, next))
     (kept_more s old new pinned0 pinned1 c guarded kept (record {
       pinned = subst (λ (o : OpenCursor). IsPinned o.live.generation new) (sym here) pinned;
@@ -306,6 +312,11 @@ opened_carried {M} s show old new pinned0 pinned1 before after q c live point la
         opened_stand s old new before after pinned0 pinned1 opened q c goes reads guarded whole here number guards started space fits items next,
       ),
     ))
+    (λ through tells. subst (AllByRecursion (GoesThrough new after.bytes)) (sym items)
+    (all_append (GoesThrough new after.bytes) pinned0.cursors.items (c ∷ [])
+    (still_through old new before after pinned0 (record { guarded = guarded; kept = λ now generation tree is. same_pages tree before.bytes after.bytes reads.same.same_bytes }) reads.same.same_tells
+    (ap (λ (file : OpenFile M). file.head) reads.rest) through tells)
+    (goes_from_root new after c q next_alone (subst (λ (f : OpenFile M). IsPinned f.live.generation new) (sym reads.rest) pinned) (here ∙ ap (λ (f : OpenFile M). begun f.live q) (sym reads.rest)) tells, tt)))
   where
     here : c.cursor ≡ begun old.file.live q
     here = begins ∙ (λ i. begun (live_is i) (point_is i))
@@ -319,20 +330,20 @@ pub full_carried : {M : Type 0} (s : Space) (show : Bool) (old : OpenIndex M) (p
     HasCarriedOut s show old old pinned pinned disk disk (command.Cursor q) (Ok (plain_answer (reply.Refused refusal.Cursors)))
 full_carried s show old pinned disk q lawful alone going kept fits full =
     carried_plain s show old old pinned pinned disk disk (command.Cursor q) lawful alone (reads_none old.file disk) (reply.Refused refusal.Cursors) going (omega arith) kept tt (rw fits refl) (λ asks. asks) (λ opened goes. refl)
-    (λ opened goes. (opened, (full_means s old disk pinned opened q goes fits full, goes.cursors)))
+    (λ opened goes. (opened, (full_means s old disk pinned opened q goes fits full, goes.cursors))) (λ through. through)
 
 -- the tree can't be pinned
 pub pin_stopped : {M : Type 0} (s : Space) (show : Bool) (old new : OpenIndex M) (pinned0 pinned1 : PinnedCursors) (before after : DiskState) (c : Command) (why : IndexFault) → IsLawfulFile s.words old.file → StandsAlone old before →
-    OnlyReads old.file new.file before after → HasListCause old.file before after.faults why → (IsSoundOn s old.file before → BlamesNoPage why) →
+    OnlyReads old.file new.file before after → HasListCause old.file before after.faults why → BlamesDamage old.file before why → (IsSoundOn s old.file before → BlamesNoPage why) →
     HasCarriedOut s show old new pinned0 pinned1 before after c (answer_of_fault why)
-pin_stopped s show old new pinned0 pinned1 before after c fault.Disk lawful alone reads cause undamaged = carried_stopped s show old new pinned0 pinned1 before after c lawful alone reads stop.Disk cause tt
-pin_stopped s show old new pinned0 pinned1 before after c (fault.Damaged f) lawful alone reads cause undamaged =
+pin_stopped s show old new pinned0 pinned1 before after c fault.Disk lawful alone reads cause blames undamaged = carried_stopped s show old new pinned0 pinned1 before after c lawful alone reads stop.Disk cause (λ all. tt)
+pin_stopped s show old new pinned0 pinned1 before after c (fault.Damaged f) lawful alone reads cause blames undamaged =
     carried_stopped s show old new pinned0 pinned1 before after c lawful alone reads (stop.Damaged f) (walk_damage f cause.0, λ can. undamaged can.1.sound)
-    (λ tells. subst (λ (bytes : List ℕ). StandsIn old.file.head.dim bytes f) (sym reads.same.same_bytes) (list_stands old.file.head.dim old.file.live.pages before.bytes old.file.live f (cause.1 (rw (sym reads.same.same_tells) tells))))
-pin_stopped s show old new pinned0 pinned1 before after c fault.Memory lawful alone reads cause undamaged = carried_stopped s show old new pinned0 pinned1 before after c lawful alone reads stop.Memory tt tt
-pin_stopped s show old new pinned0 pinned1 before after c fault.Full lawful alone reads cause undamaged = absurd cause
-pin_stopped s show old new pinned0 pinned1 before after c fault.NotEmpty lawful alone reads cause undamaged = absurd cause
-pin_stopped s show old new pinned0 pinned1 before after c (fault.NoRoom pages needed) lawful alone reads cause undamaged = absurd cause
-pin_stopped s show old new pinned0 pinned1 before after c fault.Worn lawful alone reads cause undamaged = absurd cause
-pin_stopped s show old new pinned0 pinned1 before after c fault.Stopped lawful alone reads cause undamaged = absurd cause
-pin_stopped s show old new pinned0 pinned1 before after c fault.Commit lawful alone reads cause undamaged = absurd cause
+    (λ all. blames_stands old.file before after alone.stands.opens reads.same.same_tells (fault.Damaged f) (λ g is. reads.same.same_bytes) blames)
+pin_stopped s show old new pinned0 pinned1 before after c fault.Memory lawful alone reads cause blames undamaged = carried_stopped s show old new pinned0 pinned1 before after c lawful alone reads stop.Memory tt (λ all. tt)
+pin_stopped s show old new pinned0 pinned1 before after c fault.Full lawful alone reads cause blames undamaged = absurd cause
+pin_stopped s show old new pinned0 pinned1 before after c fault.NotEmpty lawful alone reads cause blames undamaged = absurd cause
+pin_stopped s show old new pinned0 pinned1 before after c (fault.NoRoom pages needed) lawful alone reads cause blames undamaged = absurd cause
+pin_stopped s show old new pinned0 pinned1 before after c fault.Worn lawful alone reads cause blames undamaged = absurd cause
+pin_stopped s show old new pinned0 pinned1 before after c fault.Stopped lawful alone reads cause blames undamaged = absurd cause
+pin_stopped s show old new pinned0 pinned1 before after c fault.Commit lawful alone reads cause blames undamaged = absurd cause

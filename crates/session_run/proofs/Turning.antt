@@ -76,6 +76,7 @@ module _ {M : Type 0} (s : Space) (show : Bool) (old new : OpenIndex M) (pinned0
     kept = tt;
     cause = cause why did.cause;
     stands = did.stands;
+    through = λ through. tt;
     put = λ opened goes. tt;
     stopped = λ opened goes. stopped opened why did.cause;
     moments = did.moments;
@@ -108,7 +109,8 @@ module _ {M : Type 0} (s : Space) (show : Bool) (old new : OpenIndex M) (pinned0
     numbers = tt;
     kept = tt;
     cause = tt;
-    stands = tt;
+    stands = λ through. tt;
+    through = λ through. tt;
     put = λ opened goes. tt;
     stopped = λ opened goes. (refl, refl);
     moments = λ opened goes. let taken = did.taken opened goes in taken_moments opened taken.0 a taken.1;
@@ -131,7 +133,8 @@ module _ {M : Type 0} (s : Space) (show : Bool) (old new : OpenIndex M) (pinned0
     numbers = did.numbers;
     kept = did.kept;
     cause = tt;
-    stands = tt;
+    stands = λ through. tt;
+    through = did.through;
     put = λ opened goes. let done = did.taken opened goes in (
       done.0,
       record {
@@ -168,7 +171,8 @@ module _ {M : Type 0} (s : Space) (show : Bool) (old new : OpenIndex M) (pinned0
     numbers = tt;
     kept = tt;
     cause = rose;
-    stands = tt;
+    stands = λ through. tt;
+    through = λ through. tt;
     put = λ opened goes. tt;
     stopped = λ opened goes. let taken = (did.taken opened goes).1 in record {
       turn = taken.turn;

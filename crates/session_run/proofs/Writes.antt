@@ -64,7 +64,7 @@ pub record IsWriteOf {M : Type 0} (s : Space) (old : OpenIndex M) (cursors : Ope
   pub worn : result ≡ Err fault.Worn → old.file.live.generation ≡ 2 ^ 48 - 1
   pub room : (pages needed : ℕ) → result ≡ Err (fault.NoRoom pages needed) → IsSoundOn s old.file before → Hinders s old.file.head (version_on old.file before) refusal.NoRoom write
   pub cause : IfErr result (λ why. IfErr (answer_of_fault why) (HasStepCause (IsSoundOn s old.file before) before after))
-  pub stands : IfErr result (λ why. IfErr (answer_of_fault why) (StandsBy old.file.head.dim after))
+  pub stands : IfErr result (λ why. IfErr (answer_of_fault why) (StandsBy old.file.head after))
   pub accepts_says : (n : ℕ) → accepts (says n) ≡ true
   pub tags_says : (n : ℕ) → TagsAre (says n)
   pub tells : after.tells ≡ before.tells
@@ -162,7 +162,7 @@ module _ {M : Type 0} (s : Space) (show : Bool) (old new : OpenIndex M) (cursors
 
   -- it ends the session
   ended : (why : IndexFault) (end : Stop) → why ≢ fault.Commit → HasWritten s write old new before after (Err why) → before.faults ≤ after.faults →
-      HasStepCause (IsSoundOn s old.file before) before after end → StandsBy old.file.head.dim after end → HasStepped s show old new cursors cursors before after c (Err end)
+      HasStepCause (IsSoundOn s old.file before) before after end → StandsBy old.file.head after end → HasStepped s show old new cursors cursors before after c (Err end)
   ended why end other written later cause stands =
       read_stopped s show old new cursors cursors before after c end lawful alone (refused_reads old new before after (written.refused other) later) cause stands
 

@@ -1,5 +1,5 @@
 -- The open cursors of a session: each goes through the tree of its opening, which a pin keeps.
-use Rattle.std.specs.Prelude.{◌≡◌, ℕ, ◌+◌, ◌^◌, ◌≤◌, IsTrue, List, [], ◌∷◌}
+use Rattle.std.specs.Prelude.{◌≡◌, ℕ, ◌+◌, ◌^◌, ◌≤◌, IsTrue, IsSome, List, [], ◌∷◌}
 use Rattle.std.specs.List.{AllByRecursion, AllZip}
 use Rattle.metric_laws.specs.Lists.{IsIn}
 use Rattle.metric_laws.specs.Space.{Space}
@@ -8,10 +8,11 @@ use Rattle.node_page.specs.Opening.{page_of}
 use Rattle.tree_shape.specs.declared.live.Live.{Live}
 use Rattle.tree_shape.specs.Tree.{Nodes, IsSoundTree}
 use Rattle.page_store.specs.Placing.{live_pages}
+use Rattle.page_store.specs.Reached.{StandsOnPages}
 use Rattle.page_store.specs.Reading.{nodes_of, reading}
 use Rattle.rows_text.specs.Meaning.{Cursor}
 use Rattle.plain_scan.specs.OpenCursors.{OpenCursors}
-use Rattle.pin_cursor.specs.Cursor.{IsCursorOn, rest_of, tags_of}
+use Rattle.pin_cursor.specs.Cursor.{IsCursorOn, IsWalked, rest_of, tags_of}
 use Rattle.index_core.specs.Answers.{IsSoundOn}
 use Rattle.index_core.specs.Index.{OpenIndex}
 use Rattle.index_core.specs.Pinning.{IsPinned}
@@ -45,6 +46,23 @@ HoldSame tree before after = AllByRecursion (λ page. page_of after page ≡ pag
 pub record KeepsGuarded {M : Type 0} (old new : OpenIndex M) (before after : DiskState) : Type 0 where
   pub guarded : (generation : ℕ) (tree : List ℕ) → GuardsPages generation tree old → GuardsPages generation tree new
   pub kept : IsTrue before.tells → (generation : ℕ) (tree : List ℕ) → GuardsPages generation tree old → HoldSame tree before.bytes after.bytes
+
+-- the nodes of the pages among which a cursor's tree is
+abbrev pub nodes_for : {M : Type 0} → OpenIndex M → List ℕ → PinnedCursor → Nodes
+nodes_for index bytes c = nodes_of (reading index.file.head.dim c.cursor.live.pages bytes)
+
+-- A cursor goes through a tree that the file holds still, sound or not: the tree stands on pages that hold nodes and are guarded, and
+-- the cursor is a walk of it.
+pub record GoesThrough {M : Type 0} (index : OpenIndex M) (bytes : List ℕ) (c : PinnedCursor) : Type 0 where
+  pub tree : List ℕ
+  pub stands : StandsOnPages (nodes_for index bytes c) c.cursor.live tree
+  pub have : AllByRecursion (λ page. IsSome (nodes_for index bytes c page)) tree
+  pub guarded : GuardsPages c.cursor.live.generation tree index
+  pub walked : IsWalked (nodes_for index bytes c) c.cursor
+
+-- all cursors do, where the disk tells its bytes
+abbrev pub AllGoThrough : {M : Type 0} → OpenIndex M → DiskState → PinnedCursors → Type 0
+AllGoThrough index disk pinned = IsTrue disk.tells → AllByRecursion (GoesThrough index disk.bytes) pinned.cursors.items
 
 -- ---- on a sound file
 

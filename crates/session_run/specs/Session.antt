@@ -7,9 +7,7 @@ use Rattle.outside_io.specs.Causes.{Rose}
 use Rattle.outside_io.specs.Sinks.{SinkState}
 use Rattle.disk_model.specs.Disk.{DiskState, MayLeave, EachImage}
 use Rattle.node_page.specs.declared.head.Head.{Head}
-use Rattle.node_page.specs.declared.node.Version.TheVariants.{Second}
-use Rattle.node_page.specs.Nodes.{fault_in}
-use Rattle.node_page.specs.Opening.{page_of}
+use Rattle.node_page.specs.Opening.{OpensTo}
 use Rattle.page_store.specs.declared.pages.PageFault.{PageFault}
 use Rattle.page_store.specs.declared.pages.PageFault.TheVariants as page
 use Rattle.rows_text.specs.declared.command.Command.{Command}
@@ -19,7 +17,9 @@ use Rattle.rows_text.specs.Texts.{text}
 use Rattle.plain_scan.specs.OpenCursors.{OpenCursors, with_cursors}
 use Rattle.plain_scan.specs.Written.{IsFrontOf}
 use Rattle.log_model.specs.declared.logs.Log.{Log}
+use Rattle.tree_shape.specs.declared.live.Live.{Live}
 use Rattle.index_core.specs.Answers.{points_on, tags_on}
+use Rattle.index_core.specs.Damage.{IsDamageOf}
 use Rattle.index_core.specs.Files.{OpenFile}
 use Rattle.index_core.specs.Writing.{HoldsObjects}
 use Rattle.session_run.specs.declared.stop.Stop.{Stop}
@@ -126,15 +126,17 @@ IsDamage (page.Repeats p) = Unit {0}
 IsDamage (page.Level p) = Unit {0}
 IsDamage _ = ⊥
 
--- where a page is said to hold no node, it holds none in this file of points of so many coordinates, and for this reason
-abbrev pub StandsIn : ℕ → List ℕ → PageFault → Type 0
-StandsIn dim bytes (page.Bad p fault) = fault_in Second dim (page_of bytes p) ≡ Some fault
-StandsIn dim bytes _ = Unit {0}
+-- what a fault says of a page is so in a file of these bytes: it opens to this head and to a live slot, from whose root child numbers
+-- lead to the page
+pub record IsDamageIn (head : Head) (bytes : List ℕ) (fault : PageFault) : Type 0 where
+  pub live : Live
+  pub opens : OpensTo bytes head live
+  pub is : IsDamageOf head.dim bytes live fault
 
 -- the same of a session that stopped, where the disk tells its bytes
-abbrev pub StandsBy : ℕ → DiskState → Stop → Type 0
-StandsBy dim disk (stop.Damaged fault) = IsTrue disk.tells → StandsIn dim disk.bytes fault
-StandsBy dim disk _ = Unit {0}
+abbrev pub StandsBy : Head → DiskState → Stop → Type 0
+StandsBy head disk (stop.Damaged fault) = IsTrue disk.tells → IsDamageIn head disk.bytes fault
+StandsBy head disk _ = Unit {0}
 
 -- Why a session stops: an output failed; the disk failed; a page is damaged, of a file that was not sound; or memory ran out.
 abbrev pub HasStopCause : Type 0 → DiskState → DiskState → SinkState → SinkState → SinkState → SinkState → Stop → Type 0

@@ -29,7 +29,7 @@ use Rattle.session_run.specs.declared.pinned.PinnedCursors.{PinnedCursors}
 use Rattle.session_run.specs.declared.stop.Stop.{Stop}
 use Rattle.session_run.specs.declared.stop.Stop.TheVariants as stop
 use Rattle.session_run.specs.Turns.{Turn, IsTurn, framed, if_any, version_on}
-use Rattle.session_run.specs.Pinned.{AreKeptBy, CanGoOn, GoesOn, StandFor}
+use Rattle.session_run.specs.Pinned.{AllGoThrough, AreKeptBy, CanGoOn, GoesOn, StandFor}
 use Rattle.session_run.specs.Session.{Grew, HasStopCause, HoldsState, IsAsking, IsDamage, StandsBy, most_read, setting_of, state_on}
 
 -- an answer without a log
@@ -98,7 +98,7 @@ pub record HasStepped {M : Type 0} (s : Space) (show : Bool) (old new : OpenInde
   pub spelled : IfOk result (λ a. MatchOption a.log (Unit {0}) IsLawfulLog)
   pub tagged : IfOk result (λ a. show ≡ true → TagsAre a.reply)
   pub cause : IfErr result (HasStepCause (IsSoundOn s old.file before) before after)
-  pub stands : IfErr result (StandsBy old.file.head.dim after)
+  pub stands : IfErr result (StandsBy old.file.head after)
   pub taken : IsSoundOn s old.file before → IfOk result (IsTaken s show old.file new.file opened cursors before after c)
   pub moments : IsSoundOn s old.file before → OnErr result (EachImage before after (HoldsEither s old.file before opened c))
 
@@ -115,7 +115,8 @@ pub record HasCarriedOut {M : Type 0} (s : Space) (show : Bool) (old new : OpenI
   pub spelled : IfOk result (λ a. MatchOption a.log (Unit {0}) IsLawfulLog)
   pub tagged : IfOk result (λ a. show ≡ true → TagsAre a.reply)
   pub cause : IfErr result (HasStepCause (CanGoOn s old before pinned0) before after)
-  pub stands : IfErr result (StandsBy old.file.head.dim after)
+  pub stands : AllGoThrough old before pinned0 → IfErr result (StandsBy old.file.head after)
+  pub through : AllGoThrough old before pinned0 → OnOk result (AllGoThrough new after pinned1)
   pub taken : (opened : OpenCursors) → GoesOn s old before pinned0 opened →
       IfOk result (λ a. (cursors : OpenCursors) × IsTaken s show old.file new.file opened cursors before after c a × GoesOn s new after pinned1 cursors)
   pub moments : (opened : OpenCursors) → GoesOn s old before pinned0 opened → OnErr result (EachImage before after (HoldsEither s old.file before opened c))
@@ -186,7 +187,8 @@ pub record HasTurned {M : Type 0} (s : Space) (show : Bool) (old new : OpenIndex
   pub numbers : OnOk result (pinned1.next ≤ pinned0.next + 1)
   pub kept : OnOk result (AreKeptBy s new pinned1)
   pub cause : IfErr result (HasStopCause (CanGoOn s old before pinned0) before after out0 out1 log0 log1)
-  pub stands : IfErr result (StandsBy old.file.head.dim after)
+  pub stands : AllGoThrough old before pinned0 → IfErr result (StandsBy old.file.head after)
+  pub through : AllGoThrough old before pinned0 → OnOk result (AllGoThrough new after pinned1)
   pub put : (opened : OpenCursors) → GoesOn s old before pinned0 opened →
       OnOk result ((cursors : OpenCursors) × IsPut s show old.file new.file opened cursors before after c out0 out1 log0 log1 × GoesOn s new after pinned1 cursors)
   pub stopped : (opened : OpenCursors) → GoesOn s old before pinned0 opened → IfErr result (IsStoppedAt s show old.file opened before c out0 out1 log0 log1)

@@ -3,20 +3,22 @@ ghost use Rattle.std.specs.Prelude.{◌≡◌, ◌≤◌, ◌<◌, ◌+◌, ◌^
 ghost use Rattle.std.specs.List.{AllByRecursion, filter, list_any, position};
 ghost use Rattle.disk_model.specs.Disk.{IsUnchanged};
 ghost use Rattle.tree_shape.specs.Tree.{Nodes, IsSoundTree};
+ghost use Rattle.page_store.specs.Reading.{nodes_of, reading};
 ghost use Rattle.page_store.specs.Shelf.{IsPassing};
 ghost use Rattle.page_store.specs.Shelves.{disk_shelf};
 ghost use Rattle.rows_text.specs.declared.command.Command.TheVariants as command;
 ghost use Rattle.rows_text.specs.Meaning.{TagsAre, most_cursors};
 ghost use Rattle.plain_scan.specs.OpenCursors.{OpenCursors};
-ghost use Rattle.pin_cursor.specs.Cursor.{IsCursorOn};
+ghost use Rattle.pin_cursor.specs.Cursor.{IsCursorOn, IsWalked};
 ghost use Rattle.pin_cursor.specs.Steps.{GivesNext, HasStepCause as HasPageCause};
 ghost use Rattle.index_core.specs.Answers.{IsSoundOn};
 ghost use Rattle.index_core.specs.Causes.{BlamesNoPage, HasListCause};
+ghost use Rattle.index_core.specs.Damage.{BlamesDamage};
 ghost use Rattle.index_core.specs.Files.{OnlyReads, nodes_on};
 ghost use Rattle.index_core.specs.Index.{MayGoOn};
 ghost use Rattle.index_core.specs.Pinning.{AreReached, IsPinned, LiesBesideTree};
 ghost use Rattle.index_core.specs.Writing.{GuardsPages};
-ghost use Rattle.session_run.specs.Pinned.{AreKeptBy, CanGoOn, HoldsTree, IsKeptBy, StandFor};
+ghost use Rattle.session_run.specs.Pinned.{AllGoThrough, AreKeptBy, CanGoOn, GoesThrough, HoldsTree, IsKeptBy, StandFor};
 ghost use Rattle.session_run.specs.Session.{StandsBy};
 ghost use Rattle.session_run.specs.Steps.{HasAdvanced, HasCarriedOut, HasClosed, HasStepCause, stop_of_page};
 
@@ -71,6 +73,8 @@ fn step_cursor<M: Metric, D: Disk>(
     ensures point { cursor.new.point ≡ cursor.old.point }
     ensures given { IfOk result (λ stepped. cursor.new.given ≡ cursor.old.given + length stepped.hits) }
     ensures each { IfOk result (λ stepped. length stepped.tags ≡ length stepped.hits) }
+    ensures walks { IfOk result (λ _. IsTrue (D.state disk.old).tells → IsWalked (nodes_of (reading index.now.file.head.dim cursor.old.live.pages (D.state disk.old).bytes)) cursor.old →
+        IsWalked (nodes_of (reading index.now.file.head.dim cursor.old.live.pages (D.state disk.old).bytes)) cursor.new) }
     ensures unchanged { OnErr result (cursor.new ≡ cursor.old) }
     ensures gives { IfOk result (λ stepped. (nodes : Nodes) → IsTrue (D.state disk.old).tells → IsSoundTree (M.space index.now.file.metric) nodes cursor.old.live →
         HoldsTree index.now.file.head.dim nodes cursor.old.live (D.state disk.old).bytes → IsCursorOn (M.space index.now.file.metric) nodes cursor.old →
@@ -104,6 +108,7 @@ fn pin_tree<M: Metric, D: Disk>(
         AreReached (nodes_on index.old.file (D.state disk.old)) index.old.file.live.root tree → GuardsPages index.old.file.live.generation tree index.new) }
     ensures guarded { (generation : ℕ) (tree : List ℕ) → GuardsPages generation tree index.old → GuardsPages generation tree index.new }
     ensures cause { IfErr result (HasListCause index.old.file (D.state disk.old) (D.state disk.new).faults) }
+    ensures damage { IfErr result (BlamesDamage index.old.file (D.state disk.old)) }
     ensures undamaged { IfErr result (λ fault. IsSoundOn (M.space index.old.file.metric) index.old.file (D.state disk.old) → BlamesNoPage fault) }
 {
     let live = match index.pin(alloc, disk) {
@@ -226,7 +231,8 @@ impl PinnedCursors {
         ensures advanced { IfOk result (λ reply. (opened : OpenCursors) → IsTrue (D.state disk.old).tells → StandFor (M.space index.now.file.metric) index.now (D.state disk.old).bytes self.old opened →
             HasAdvanced (M.space index.now.file.metric) index.now (D.state disk.new).bytes self.new opened number n reply) }
         ensures cause { IfErr result (HasStepCause (CanGoOn (M.space index.now.file.metric) index.now (D.state disk.old) self.old) (D.state disk.old) (D.state disk.new)) }
-        ensures damage { IfErr result (StandsBy index.now.file.head.dim (D.state disk.new)) }
+        ensures damage { IfErr result (λ why. AllGoThrough index.now (D.state disk.old) self.old → StandsBy index.now.file.head (D.state disk.new) why) }
+        ensures through { OnOk result (AllGoThrough index.now (D.state disk.old) self.old → AllGoThrough index.now (D.state disk.new) self.new) }
     {
         let Some(place) = self.place_of(number) else {
             return Ok(Reply::Refused(Refusal::NoCursor));
@@ -272,6 +278,7 @@ impl PinnedCursors {
         ensures next { self.new.next ≡ self.old.next }
         ensures tagged { TagsAre result }
         ensures beside { (nodes : Nodes) → LiesBesideTree nodes index.old → LiesBesideTree nodes index.new }
+        ensures through { (bytes : List ℕ) → AllByRecursion (GoesThrough index.old bytes) self.old.cursors.items → AllByRecursion (GoesThrough index.new bytes) self.new.cursors.items }
         ensures closed { (bytes : List ℕ) (opened : OpenCursors) → StandFor (M.space index.old.file.metric) index.old bytes self.old opened →
             HasClosed (M.space index.old.file.metric) index.new bytes self.new opened number result }
     {

@@ -32,7 +32,7 @@ fn found_answer<M: Metric, D: Disk>(
     ensures rest { index.new ≡ record index.old { file = index.new.file } }
     ensures answer { IfOk result (IsShownAs (M.space index.old.file.metric) show index.old.file found (D.state disk.old)) }
     ensures cause { IfErr result (HasStepCause (IsSoundOn (M.space index.old.file.metric) index.old.file (D.state disk.old)) (D.state disk.old) (D.state disk.new)) }
-    ensures damage { IfErr result (StandsBy index.old.file.head.dim (D.state disk.new)) }
+    ensures damage { IfErr result (StandsBy index.old.file.head (D.state disk.new)) }
     ensures few { (D.state disk.new).reads ≤ (D.state disk.old).reads + (if show then length found.log.records else 0) }
 {
     let mut tags = Vec::new(alloc);

@@ -148,8 +148,8 @@ pub fn session<R: Threads + Sync, M: Metric, D: Disk, K: Sink, T: Sink>(
     ensures head { result.stopped ≡ None → index.new.file.head ≡ index.old.file.head }
     ensures cause { MatchOption result.stopped (Unit {0}) (HasStopCause (IsSoundOn (M.space index.old.file.metric) index.old.file (D.state disk.old))
         (D.state disk.old) (D.state disk.new) (K.state out.old) (K.state out.new) (T.state log_out.old) (T.state log_out.new)) }
-    // A page that is said to hold no node holds none.
-    ensures damage { MatchOption result.stopped (Unit {0}) (StandsBy index.old.file.head.dim (D.state disk.new)) }
+    // A page that is said to be damaged is one to which child numbers lead, and is so.
+    ensures damage { MatchOption result.stopped (Unit {0}) (StandsBy index.old.file.head (D.state disk.new)) }
     ensures tells { (D.state disk.new).tells ≡ (D.state disk.old).tells }
     ensures later { (D.state disk.old).faults ≤ (D.state disk.new).faults }
     ensures out_later { (K.state out.old).faults ≤ (K.state out.new).faults }

@@ -21,4 +21,4 @@ pub returns-in-Err-clause-stepped : goal.returns-in-Err-clause-stepped
 returns-in-Err-clause-stepped g c = λ cursors. rw c.answer_of_fault.ensures
     (reach_fault (g.M.Metric.space c.args.index.now.file.metric) c.args.show c.args.index.now c.nearest.new.self cursors (g.D.Disk.state c.args.disk.now) (g.D.Disk.state c.nearest.new.disk)
     (command.Nearest c.args.k c.args.q.now) c.in-Err.fault c.is_lawful.ensures (c.requires.stands c.requires.going) c.nearest.ensures.reads
-    (c.in-Err.ensures.cause c.requires.going) (λ sound. (c.in-Err.ensures.searched c.requires.going).undamaged sound))
+    (c.in-Err.ensures.cause c.requires.going) (λ sound. (c.in-Err.ensures.searched c.requires.going).undamaged sound) c.in-Err.ensures.damage)

@@ -21,4 +21,4 @@ pub returns-in-Err-clause-stepped : goal.returns-in-Err-clause-stepped
 returns-in-Err-clause-stepped g c = λ cursors. rw c.answer_of_fault.ensures
     (range_fault (g.M.Metric.space c.args.index.now.file.metric) c.args.show c.args.index.now c.range.new.self cursors (g.D.Disk.state c.args.disk.now) (g.D.Disk.state c.range.new.disk)
     (command.Range c.args.r c.args.q.now) c.as_slice.result.now c.args.r c.in-Err.fault c.is_lawful.ensures (c.requires.stands c.requires.going) c.range.ensures.reads
-    (c.in-Err.ensures.cause c.requires.going) (λ sound. (c.in-Err.ensures.searched c.requires.going).undamaged sound))
+    (c.in-Err.ensures.cause c.requires.going) (λ sound. (c.in-Err.ensures.searched c.requires.going).undamaged sound) c.in-Err.ensures.damage)

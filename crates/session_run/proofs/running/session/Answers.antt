@@ -4,7 +4,9 @@ use Rattle.index_core.specs.Files.{IsLawfulFile}
 use Rattle.index_core.specs.Index.{OpenIndex}
 use Rattle.std.proofs.KnownBytes.{Appends-nil}
 use Rattle.std.specs.List.{AllByRecursion}
-use Rattle.session_run.specs.Pinned.{AreKeptBy, AreNumbered, IsKeptBy}
+use Rattle.node_page.specs.declared.head.Head.{Head}
+use Rattle.session_run.specs.Pinned.{AreKeptBy, AreNumbered, GoesThrough, IsKeptBy}
+use Rattle.session_run.specs.Session.{StandsBy}
 use Rattle.session_run.proofs.Pins.{free_stands}
 use Rattle.session_run.proofs.Runs.{begun, cause_since, finished, grew_more, next_item, one_more, stopped, turned_on}
 use Rattle.session_run.proofs.running.session.Goals as goal
@@ -23,6 +25,7 @@ loop-command-init g c = record {
     each = subst (AllByRecursion (IsKeptBy (g.M.Metric.space c.args.index.now.file.metric) c.args.index.now)) (sym c.new-cursors.ensures.cursors) tt;
     numbers = subst (AreNumbered 0 c.new-cursors.result.next) (sym c.new-cursors.ensures.cursors) (omega arith);
   };
+  through = λ tells. subst (AllByRecursion (GoesThrough c.args.index.now (g.D.Disk.state c.args.disk.now).bytes)) (sym c.new-cursors.ensures.cursors) tt;
   grew = ([], Appends-nil (g.K.Sink.state c.args.out.now).written);
   log_grew = ([], Appends-nil (g.T.Sink.state c.args.log_out.now).written);
   out_later = omega arith;
@@ -48,6 +51,7 @@ loop-command-preserved g c =
       tells = turned.tells ∙ c.loop-command.invariant.tells;
       later = omega (arith, turned.later, c.loop-command.invariant.later);
       kept = subst (λ (m : g.row.M.Denot). AreKeptBy (g.M.Metric.space m) c.turn.new.index c.turn.new.cursors) (sym metric) turned.kept;
+      through = turned.through c.loop-command.invariant.through;
       grew = grew_more (g.K.Sink.state c.args.out.now) (g.K.Sink.state c.loop-command.out) (g.K.Sink.state c.turn.new.out) c.loop-command.invariant.grew turned.grew;
       log_grew = grew_more (g.T.Sink.state c.args.log_out.now) (g.T.Sink.state c.loop-command.log_out) (g.T.Sink.state c.turn.new.log_out) c.loop-command.invariant.log_grew turned.log_grew;
       out_later = omega (arith, turned.out_later, c.loop-command.invariant.out_later);
@@ -92,6 +96,10 @@ returns-in-Err-clause-cause g c =
     cause_since (g.D.Disk.state c.args.disk.now) (g.D.Disk.state c.loop-command.disk) (g.D.Disk.state c.turn.new.disk) (g.K.Sink.state c.args.out.now) (g.K.Sink.state c.loop-command.out) (g.K.Sink.state c.turn.new.out)
     (g.T.Sink.state c.args.log_out.now) (g.T.Sink.state c.loop-command.log_out) (g.T.Sink.state c.turn.new.log_out) c.in-Err.why c.loop-command.invariant.later c.loop-command.invariant.out_later c.loop-command.invariant.log_later
     (λ sound. let so_far = c.loop-command.invariant.done sound in (so_far.cursors, so_far.goes)) turned.cause
+
+pub returns-in-Err-clause-damage : goal.returns-in-Err-clause-damage
+returns-in-Err-clause-damage g c =
+    subst (λ (h : Head). StandsBy h (g.D.Disk.state c.turn.new.disk) c.in-Err.why) c.loop-command.invariant.head (c.in-Err.ensures.turned.stands c.loop-command.invariant.through)
 
 pub returns-in-Err-clause-grew : goal.returns-in-Err-clause-grew
 returns-in-Err-clause-grew g c =

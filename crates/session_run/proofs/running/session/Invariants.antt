@@ -1,7 +1,7 @@
 use Rattle.std.proofs.Common.{◌≡◌, ◌≤◌, false, drop}
 use Rattle.index_core.specs.Answers.{IsSoundOn}
 use Rattle.index_core.specs.Index.{MayGoOn}
-use Rattle.session_run.specs.Pinned.{AreKeptBy}
+use Rattle.session_run.specs.Pinned.{AllGoThrough, AreKeptBy}
 use Rattle.session_run.specs.Session.{Grew}
 use Rattle.session_run.proofs.Runs.{HasDone}
 use Rattle.session_run.proofs.running.session.Given as goal
@@ -18,6 +18,7 @@ invariant-loop-command g l = record {
   tells : (g.D.Disk.state l.disk).tells ≡ (g.D.Disk.state l.fn.disk).tells;
   later : (g.D.Disk.state l.fn.disk).faults ≤ (g.D.Disk.state l.disk).faults;
   kept : AreKeptBy (g.M.Metric.space l.index.file.metric) l.index l.cursors;
+  through : AllGoThrough l.index (g.D.Disk.state l.disk) l.cursors;
   grew : Grew (g.K.Sink.state l.fn.out) (g.K.Sink.state l.out);
   log_grew : Grew (g.T.Sink.state l.fn.log_out) (g.T.Sink.state l.log_out);
   out_later : (g.K.Sink.state l.fn.out).faults ≤ (g.K.Sink.state l.out).faults;

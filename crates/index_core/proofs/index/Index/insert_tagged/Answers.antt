@@ -1,11 +1,13 @@
 use Rattle.std.proofs.Common.{◌≡◌, ◌+◌, ◌≤◌, ℕ, refl, sym, ap, subst, ◌∙◌, arith, Some, Err}
 use Rattle.free_pages.specs.Commits.{AreWithin}
 use Rattle.index_core.specs.Causes.{HasPathCause}
+use Rattle.index_core.specs.Damage.{BlamesDamage}
 use Rattle.index_core.specs.Files.{OpenFile, IsLawfulFile, OnlyReads}
 use Rattle.index_core.specs.Index.{OpenIndex}
 use Rattle.index_core.specs.Writing.{HasWritten, Inserts}
 use Rattle.index_core.specs.declared.faults.IndexFault.{IndexFault}
 use Rattle.index_core.specs.declared.faults.IndexFault.TheVariants.{Commit, Full, Worn}
+use Rattle.index_core.proofs.Damaged.{commit_blames, list_blames, moved_blames, path_blames}
 use Rattle.index_core.proofs.Written.{commit_cause, exact_moved, fits_moved, list_is, reads_both, refused_by, refused_here, refused_written, then_written}
 use Rattle.index_core.proofs.index.Index.insert_tagged.Goals as goal
 
@@ -64,3 +66,19 @@ pub returns-clause-cause : goal.returns-clause-cause
 returns-clause-cause g c =
     commit_cause (g.M.Metric.space c.args.self.now.file.metric) c.args.self.now _ (g.D.Disk.state c.args.disk.now) (g.D.Disk.state c.place.new.disk) (g.D.Disk.state c.commit_placed.new.disk) c.commit_placed.result
     (let l = c.take_free.ensures.reads.later in let m = c.place.ensures.reads.later in omega arith) c.commit_placed.ensures.refusals c.commit_placed.ensures.rose
+
+pub returns-in-Err-clause-damage : goal.returns-in-Err-clause-damage
+returns-in-Err-clause-damage g c = list_blames c.args.self.now.file (g.D.Disk.state c.args.disk.now) _ c.in-Err.fault c.in-Err.ensures.cause
+
+pub returns-in-Err-place-clause-damage : goal.returns-in-Err-place-clause-damage
+returns-in-Err-place-clause-damage g c =
+    let lawful = subst (λ (i : OpenIndex g.row.M.Denot). IsLawfulFile (g.M.Metric.space i.file.metric).words i.file) c.self.view_is c.is_lawful.ensures in
+    let words = subst (λ (i : OpenIndex g.row.M.Denot). (g.M.Metric.space i.file.metric).words ≡ i.file.head.dim) (sym c.self-2.view_is)
+    (subst (λ (f : OpenFile g.row.M.Denot). (g.M.Metric.space f.metric).words ≡ f.head.dim) (sym c.take_free.ensures.reads.rest) lawful.words_are) in
+    moved_blames c.args.self.now.file c.take_free.new.self.file (g.D.Disk.state c.args.disk.now) (g.D.Disk.state c.take_free.new.disk) c.in-Err-place.fault c.take_free.ensures.reads
+    (subst (λ (i : OpenIndex g.row.M.Denot). BlamesDamage i.file (g.D.Disk.state c.take_free.new.disk) c.in-Err-place.fault) c.self-2.view_is
+    (path_blames (g.M.Metric.space c.self-2.inside.view.metric) c.self-2.inside.view c.in-Ok.free (record { id = c.self-2.inside.view.live.count; tag = c.args.tag; point = c.args.p.now })
+    (g.D.Disk.state c.take_free.new.disk) (g.D.Disk.state c.place.new.disk) c.in-Err-place.fault words c.in-Err-place.ensures.cause))
+
+pub returns-clause-damage : goal.returns-clause-damage
+returns-clause-damage g c = commit_blames c.args.self.now.file (g.D.Disk.state c.args.disk.now) c.commit_placed.result c.commit_placed.ensures.refusals

@@ -5,6 +5,7 @@ use Rattle.index_core.specs.Index.{OpenIndex}
 use Rattle.index_core.specs.Loading.{ids}
 use Rattle.index_core.specs.Writing.{Loads}
 use Rattle.index_core.specs.declared.faults.IndexFault.TheVariants.{Memory}
+use Rattle.index_core.proofs.Damaged.{load_blames}
 use Rattle.index_core.proofs.Loaded.{at_once, nothing_written}
 use Rattle.index_core.proofs.index.Index.load.Goals as goal
 
@@ -24,3 +25,6 @@ returns-in_default-tags_of-clause-written g c = λ going.
 
 pub load_tagged-requires-clause-tags : goal.load_tagged-requires-clause-tags
 load_tagged-requires-clause-tags g c = λ κs within. ap length (c.as_slice.ensures.value ∙ c.in-Ok.ensures) ∙ (length-range_with_len 0 c.len-2.result ∙ c.len-2.ensures)
+
+pub returns-in-Err-clause-damage : goal.returns-in-Err-clause-damage
+returns-in-Err-clause-damage g c = load_blames c.args.self.now c.len.result (g.D.Disk.state c.args.disk.now) c.in-Err.fault c.in-Err.ensures.err

@@ -2,6 +2,7 @@ use Rattle.std.proofs.Common.{subst, Some}
 use Rattle.index_core.specs.Files.{OpenFile, IsLawfulFile}
 use Rattle.index_core.specs.Index.{OpenIndex}
 use Rattle.index_core.specs.Writing.{HasWritten, Loads}
+use Rattle.index_core.proofs.Damaged.{list_blames, load_blames, result_blames_nothing}
 use Rattle.index_core.proofs.Loaded.{at_once, nothing_written}
 use Rattle.index_core.proofs.Written.{exact_moved, list_is, then_written}
 use Rattle.index_core.proofs.index.Index.load_tagged.Goals as goal
@@ -25,3 +26,12 @@ returns-clause-written g c = λ going.
     c.load_on.new.self (g.D.Disk.state c.take_free.new.disk) (g.D.Disk.state c.load_on.new.disk) c.load_on.result) c.in-Ok.ensures.reads.rest
     (subst (λ (i : OpenIndex g.row.M.Denot). HasWritten (g.M.Metric.space i.file.metric) (Loads c.args.rows.now.points c.args.tags.now) (record i { free = Some c.in-Ok.free }) c.load_on.new.self
     (g.D.Disk.state c.take_free.new.disk) (g.D.Disk.state c.load_on.new.disk) c.load_on.result) c.in-Ok.ensures.rest c.load_on.ensures.written))
+
+pub returns-in-Err-clause-damage : goal.returns-in-Err-clause-damage
+returns-in-Err-clause-damage g c = load_blames c.args.self.now c.len.result (g.D.Disk.state c.args.disk.now) c.in-Err.fault c.in-Err.ensures.err
+
+pub returns-in-Err-take_free-clause-damage : goal.returns-in-Err-take_free-clause-damage
+returns-in-Err-take_free-clause-damage g c = list_blames c.args.self.now.file (g.D.Disk.state c.args.disk.now) _ c.in-Err-take_free.fault c.in-Err-take_free.ensures.cause
+
+pub returns-clause-damage : goal.returns-clause-damage
+returns-clause-damage g c = result_blames_nothing c.args.self.now.file (g.D.Disk.state c.args.disk.now) c.load_on.result c.load_on.ensures.undamaged

@@ -6,6 +6,7 @@ use Rattle.index_core.specs.Files.{OpenFile}
 use Rattle.index_core.specs.Index.{OpenIndex, IsLawfulFree, MayGoOn}
 use Rattle.index_core.specs.Pinning.{pinned}
 use Rattle.index_core.specs.Writing.{GuardsPages, IsExact}
+use Rattle.index_core.proofs.Damaged.{list_blames}
 use Rattle.index_core.proofs.Pinned.{pin_lawful, put_back_exact, put_back_stands, pinned_guarded, pinned_guards}
 use Rattle.index_core.proofs.index.Index.pin.Goals as goal
 
@@ -52,3 +53,6 @@ returns-in-Err-pinned-clause-exact g c = λ sound exact.
     subst (λ (i : OpenIndex g.row.M.Denot). IsExact i (g.D.Disk.state c.take_free.new.disk)) (sym is)
     (put_back_exact c.args.self.now c.take_free.new.self.file c.in-Ok.free (g.D.Disk.state c.args.disk.now) (g.D.Disk.state c.take_free.new.disk) c.in-Ok.ensures.reads c.in-Ok.ensures.list c.pin-pinned.new.self
     (λ page. (λ i. subst (λ (f : FreePages). IsFreeOrHeld f page) c.in-Err-pinned.ensures.err i, λ i. subst (λ (f : FreePages). IsFreeOrHeld f page) (sym c.in-Err-pinned.ensures.err) i)) (c.in-Ok.ensures.exact sound exact))
+
+pub returns-in-Err-clause-damage : goal.returns-in-Err-clause-damage
+returns-in-Err-clause-damage g c = list_blames c.args.self.now.file (g.D.Disk.state c.args.disk.now) _ c.in-Err.fault c.in-Err.ensures.cause

@@ -1,9 +1,13 @@
-use Rattle.std.proofs.Common.{◌≡◌, refl, sym, subst, ◌∙◌}
-use Rattle.std.specs.Prelude.{◌==◌, set}
+use Rattle.std.proofs.Common.{◌≡◌, ℕ, List, refl, sym, subst, ◌∙◌}
+use Rattle.std.specs.Prelude.{◌==◌, IsTrue, set}
+use Rattle.std.specs.List.{AllByRecursion}
 use Rattle.std.specs.Vec.{with_item}
 use Rattle.std.proofs.lemmas.List.Quantifiers.{position-Some}
 use Rattle.session_run.specs.declared.pinned.PinnedCursor.{PinnedCursor}
+use Rattle.session_run.specs.Pinned.{GoesThrough}
 use Rattle.session_run.proofs.Pins.{same_of}
+use Rattle.session_run.proofs.Standing.{all_at, all_set}
+use Rattle.session_run.proofs.Trees.{goes_on}
 use Rattle.session_run.proofs.Stepped.{IsRefusal, IsStep, advanced_by, kept_set, step_cause, step_stands, unnamed_by}
 use Rattle.session_run.proofs.pinned.PinnedCursors.advance.Goals as goal
 
@@ -39,9 +43,23 @@ returns-in-Err-clause-cause g c = rw c.stop_of_page.ensures
     })))
 
 pub returns-in-Err-clause-damage : goal.returns-in-Err-clause-damage
-returns-in-Err-clause-damage g c = rw c.stop_of_page.ensures
-    (step_stands (g.M.Metric.space c.args.index.now.file.metric) c.args.index.now.file (g.D.Disk.state c.args.disk.now) (g.D.Disk.state c.step_cursor.new.disk) c.index_mut-pinned.result.now.cursor c.in-Err.fault c.step_cursor.ensures.same (record {
+returns-in-Err-clause-damage g c = λ through. rw c.stop_of_page.ensures
+    (let found = position-Some (λ (x : PinnedCursor). x.number == c.args.number) c.args.self.now.cursors.items c.in-Some.place c.index_mut-pinned.result.now (sym c.place_of.ensures ∙ c.in-Some.is) in
+    step_stands (g.M.Metric.space c.args.index.now.file.metric) c.args.index.now (g.D.Disk.state c.args.disk.now) (g.D.Disk.state c.step_cursor.new.disk) c.index_mut-pinned.result.now c.in-Err.fault c.step_cursor.ensures.same (record {
       asked = c.in-Err.ensures.cause.0;
       cause = c.in-Err.ensures.cause.1;
       sound = c.in-Err.ensures.sound;
-    }))
+    })
+    (λ tells. subst (GoesThrough c.args.index.now (g.D.Disk.state c.args.disk.now).bytes) (sym c.index_mut-pinned.ensures.value)
+    (all_at (GoesThrough c.args.index.now (g.D.Disk.state c.args.disk.now).bytes) c.args.self.now.cursors.items c.in-Some.place c.index_mut-pinned.result.now found.0 (through tells))))
+
+pub returns-in-Ok-clause-through : goal.returns-in-Ok-clause-through
+returns-in-Ok-clause-through g c = λ through tells.
+    let found = position-Some (λ (x : PinnedCursor). x.number == c.args.number) c.args.self.now.cursors.items c.in-Some.place c.index_mut-pinned.result.now (sym c.place_of.ensures ∙ c.in-Some.is) in
+    let now : IsTrue (g.D.Disk.state c.args.disk.now).tells = subst IsTrue c.step_cursor.ensures.same.same_tells tells in
+    let goes = subst (GoesThrough c.args.index.now (g.D.Disk.state c.args.disk.now).bytes) (sym c.index_mut-pinned.ensures.value)
+    (all_at (GoesThrough c.args.index.now (g.D.Disk.state c.args.disk.now).bytes) c.args.self.now.cursors.items c.in-Some.place c.index_mut-pinned.result.now found.0 (through now)) in
+    subst (λ (bytes : List ℕ). AllByRecursion (GoesThrough c.args.index.now bytes) (set c.args.self.now.cursors.items c.in-Some.place (record { number = c.index_mut-pinned.result.now.number; cursor = c.step_cursor.new.cursor })))
+    (sym c.step_cursor.ensures.same.same_bytes)
+    (all_set (GoesThrough c.args.index.now (g.D.Disk.state c.args.disk.now).bytes) c.args.self.now.cursors.items c.in-Some.place (record { number = c.index_mut-pinned.result.now.number; cursor = c.step_cursor.new.cursor })
+    (goes_on c.args.index.now (g.D.Disk.state c.args.disk.now).bytes c.index_mut-pinned.result.now goes c.step_cursor.new.cursor c.step_cursor.ensures.live (c.in-Ok.ensures.walks now goes.walked)) (through now))

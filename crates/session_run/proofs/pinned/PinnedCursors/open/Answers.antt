@@ -20,17 +20,17 @@ returns-then-is_full-clause-done g c = rw c.plain.ensures
 pub returns-in_default-clause-done : goal.returns-in_default-clause-done
 returns-in_default-clause-done g c =
     carried_stopped (g.M.Metric.space c.args.index.now.file.metric) c.args.show c.args.index.now c.args.index.now c.args.self.now c.args.self.now (g.D.Disk.state c.args.disk.now) (g.D.Disk.state c.args.disk.now) (command.Cursor c.args.q.now) c.is_lawful.ensures (c.requires.stands c.requires.going)
-    (reads_none c.args.index.now.file (g.D.Disk.state c.args.disk.now)) stop.Memory tt tt
+    (reads_none c.args.index.now.file (g.D.Disk.state c.args.disk.now)) stop.Memory tt (λ all. tt)
 
 pub returns-in_default-open-clause-done : goal.returns-in_default-open-clause-done
 returns-in_default-open-clause-done g c =
     carried_stopped (g.M.Metric.space c.args.index.now.file.metric) c.args.show c.args.index.now c.args.index.now c.args.self.now c.args.self.now (g.D.Disk.state c.args.disk.now) (g.D.Disk.state c.args.disk.now) (command.Cursor c.args.q.now) c.is_lawful.ensures (c.requires.stands c.requires.going)
-    (reads_none c.args.index.now.file (g.D.Disk.state c.args.disk.now)) stop.Memory tt tt
+    (reads_none c.args.index.now.file (g.D.Disk.state c.args.disk.now)) stop.Memory tt (λ all. tt)
 
 pub returns-in_default-reserve-clause-done : goal.returns-in_default-reserve-clause-done
 returns-in_default-reserve-clause-done g c =
     carried_stopped (g.M.Metric.space c.args.index.now.file.metric) c.args.show c.args.index.now c.args.index.now c.args.self.now (record { cursors = c.reserve.new.self; next = c.args.self.now.next }) (g.D.Disk.state c.args.disk.now) (g.D.Disk.state c.args.disk.now) (command.Cursor c.args.q.now) c.is_lawful.ensures (c.requires.stands c.requires.going)
-    (reads_none c.args.index.now.file (g.D.Disk.state c.args.disk.now)) stop.Memory tt tt
+    (reads_none c.args.index.now.file (g.D.Disk.state c.args.disk.now)) stop.Memory tt (λ all. tt)
 
 pub pin_tree-requires-clause-pinned : goal.pin_tree-requires-clause-pinned
 pin_tree-requires-clause-pinned g c = λ κs outlives is.
@@ -41,12 +41,13 @@ pin_tree-requires-clause-pinned g c = λ κs outlives is.
 pub returns-in-Err-clause-done : goal.returns-in-Err-clause-done
 returns-in-Err-clause-done g c = rw c.answer_of_fault.ensures
     (pin_stopped (g.M.Metric.space c.args.index.now.file.metric) c.args.show c.args.index.now c.pin_tree.new.index c.args.self.now (record { cursors = c.reserve.new.self; next = c.args.self.now.next }) (g.D.Disk.state c.args.disk.now) (g.D.Disk.state c.pin_tree.new.disk) (command.Cursor c.args.q.now) c.in-Err.fault c.is_lawful.ensures (c.requires.stands c.requires.going)
-    c.pin_tree.ensures.reads c.in-Err.ensures.cause c.in-Err.ensures.undamaged)
+    c.pin_tree.ensures.reads c.in-Err.ensures.cause c.in-Err.ensures.damage c.in-Err.ensures.undamaged)
 
 pub returns-clause-done : goal.returns-clause-done
 returns-clause-done g c = rw c.plain-2.ensures
     (opened_carried (g.M.Metric.space c.args.index.now.file.metric) c.args.show c.args.index.now c.pin_tree.new.index c.args.self.now (record { cursors = c.push_reserved.new.self; next = c.args.self.now.next + 1 }) (g.D.Disk.state c.args.disk.now) (g.D.Disk.state c.pin_tree.new.disk) c.args.q.now
     (record { number = c.args.self.now.next; cursor = c.in-Ok-open.cursor }) c.live-live.result c.in-Ok.point c.is_lawful.ensures (c.requires.stands c.requires.going)
+    (c.pin_tree.ensures.stands (ap (λ (i : OpenIndex g.row.M.Denot). i.stopped) c.pin_tree.ensures.rest ∙ c.requires.going))
     (ap (λ (i : OpenIndex g.row.M.Denot). i.stopped) c.pin_tree.ensures.rest ∙ c.requires.going) (g.M.Metric.axioms c.args.index.now.file.metric) c.requires.point c.pin_tree.ensures.reads c.pin_tree.ensures.guarded
     c.in_default-pin_tree.ensures.pinned c.sound_trees_are_whole.ensures c.in_default-pin_tree.ensures.guards c.live-live.ensures (c.in-Ok.ensures ∙ c.as_slice.ensures) c.in-Ok-open.ensures.begun c.in-Ok-open.ensures.starts
     refl (c.push_reserved.ensures.items ∙ ap (λ (l : List PinnedCursor). l ++ (record { number = c.args.self.now.next; cursor = c.in-Ok-open.cursor }) ∷ []) c.reserve.ensures.items) refl c.requires.kept (not_full _ (sym c.is_full.ensures ∙ c.if-is_full.false)))
