@@ -37,7 +37,7 @@ use Rattle.rows_text.specs.Meaning.{State}
 use Rattle.rows_text.specs.Script.{script}
 use Rattle.session_run.specs.declared.stop.Stop.{Stop}
 use Rattle.session_run.specs.declared.stop.Stop.TheVariants as stop
-use Rattle.session_run.specs.Session.{Grew, HasRun, HasStopCause, HoldsNext, HoldsSome, HoldsState, IsAsking, IsDamage, StandsBy, StandsIn, no_cursors, setting_of, state_on}
+use Rattle.session_run.specs.Session.{Grew, HasRun, HasStopCause, HoldsNext, HoldsSome, HoldsState, IsAsking, IsDamage, IsDamageIn, StandsBy, no_cursors, setting_of, state_on}
 use Rattle.session_run.specs.Turns.{AreTurns, Turn, Version, commands_of, file_after, framed, logs_of, state_after, texts_of, version_on}
 use Rattle.mtree_cli.specs.Told.{IsTold}
 use Rattle.mtree_cli.proofs.ProgramLemmas.{always, read_whole, told_appended, weaker}
@@ -216,37 +216,37 @@ module _ (show : Bool) (bytes : List ℕ) (head : Head) (live : Live) (file : Li
     stopped_runs (stop.Damaged fault) status ran ended cause sound = absurd (cause.1 sound)
 
 -- why it ended, on any file
-pub finished : (Sound : Type 0) (dim : ℕ) (disk0 disk1 : DiskState) (out0 out1 out2 log0 log1 : SinkState) (why : Stop) (status : ℕ) → out1.faults ≤ out2.faults → HasEnded why out1 out2 status →
-    HasStopCause Sound disk0 disk1 out0 out1 log0 log1 why → StandsBy dim disk1 why → disk1.tells ≡ disk0.tells → Grew out0 out1 → HasFinished dim disk0 disk1 out0 out2 log0 log1 status
-finished Sound dim disk0 disk1 out0 out1 out2 log0 log1 stop.Sink status later ended cause stands told grew = record {
+pub finished : (Sound : Type 0) (head : Head) (disk0 disk1 : DiskState) (out0 out1 out2 log0 log1 : SinkState) (why : Stop) (status : ℕ) → out1.faults ≤ out2.faults → HasEnded why out1 out2 status →
+    HasStopCause Sound disk0 disk1 out0 out1 log0 log1 why → StandsBy head disk1 why → disk1.tells ≡ disk0.tells → Grew out0 out1 → HasFinished head disk0 disk1 out0 out2 log0 log1 status
+finished Sound head disk0 disk1 out0 out1 out2 log0 log1 stop.Sink status later ended cause stands told grew = record {
   tells = told;
   output = λ e. rw ended.1 cause;
   disk = λ e. absurd (omega (arith, ended.0));
   damaged = λ e. absurd (omega (arith, ended.0));
   statuses = inr (inl ended.0);
 }
-finished Sound dim disk0 disk1 out0 out1 out2 log0 log1 stop.Disk status later ended cause stands told grew = record {
+finished Sound head disk0 disk1 out0 out1 out2 log0 log1 stop.Disk status later ended cause stands told grew = record {
   tells = told;
   output = λ e. absurd (omega (arith, ended.0));
   disk = λ e. cause;
   damaged = λ e. absurd (omega (arith, ended.0));
   statuses = inr (inr (inl ended.0));
 }
-finished Sound dim disk0 disk1 out0 out1 out2 log0 log1 stop.Memory status later ended cause stands told grew = record {
+finished Sound head disk0 disk1 out0 out1 out2 log0 log1 stop.Memory status later ended cause stands told grew = record {
   tells = told;
   output = λ e. absurd (omega (arith, ended.0));
   disk = λ e. absurd (omega (arith, ended.0));
   damaged = λ e. absurd (omega (arith, ended.0));
   statuses = inr (inr (inr (inl ended.0)));
 }
-finished Sound dim disk0 disk1 out0 out1 out2 log0 log1 (stop.Damaged fault) status later (inl ended) cause stands told grew = record {
+finished Sound head disk0 disk1 out0 out1 out2 log0 log1 (stop.Damaged fault) status later (inl ended) cause stands told grew = record {
   tells = told;
   output = λ e. absurd (omega (arith, ended.0));
   disk = λ e. absurd (omega (arith, ended.0));
   damaged = λ e. record { fault = fault; mid = out1; is = cause.0; stands = stands; grew = grew; told = ended.1 };
   statuses = inr (inr (inr (inr ended.0)));
 }
-finished Sound dim disk0 disk1 out0 out1 out2 log0 log1 (stop.Damaged fault) status later (inr ended) cause stands told grew = record {
+finished Sound head disk0 disk1 out0 out1 out2 log0 log1 (stop.Damaged fault) status later (inr ended) cause stands told grew = record {
   tells = told;
   output = λ e. absurd (omega (arith, ended.0));
   disk = λ e. absurd (omega (arith, ended.0));
@@ -523,9 +523,9 @@ module _ {M : Type 0} (kind_of dim_of : M → ℕ) (one : OneLiveSlot) (show : B
       record { logs = few.logs; logged = few.logged; reads = let r = few.reads in omega (arith, first, second, r) }
 
 -- what ended it
-pub refused_of : (dim : ℕ) (disk0 disk1 disk2 : DiskState) (out0 out1 log0 log1 : SinkState) (status : ℕ) → disk0.faults ≤ disk1.faults → disk1.tells ≡ disk0.tells →
-    (IsTrue disk0.tells → (head : Head) (live : Live) → OpensTo disk0.bytes head live → dim ≡ head.dim) → HasFinished dim disk1 disk2 out0 out1 log0 log1 status → HasRefused disk0 disk2 out0 out1 log0 log1 status
-refused_of dim disk0 disk1 disk2 out0 out1 log0 log1 status later same_tells same_dim ended = record {
+pub refused_of : (here : Head) (disk0 disk1 disk2 : DiskState) (out0 out1 log0 log1 : SinkState) (status : ℕ) → disk0.faults ≤ disk1.faults → disk1.tells ≡ disk0.tells →
+    (IsTrue disk0.tells → (head : Head) (live : Live) → OpensTo disk0.bytes head live → here ≡ head) → HasFinished here disk1 disk2 out0 out1 log0 log1 status → HasRefused disk0 disk2 out0 out1 log0 log1 status
+refused_of here disk0 disk1 disk2 out0 out1 log0 log1 status later same_tells same_head ended = record {
   output = ended.output;
   disk = λ is. rose_more _ _ _ later (ended.disk is);
   not_index = λ is. absurd (six is ended.statuses);
@@ -533,7 +533,7 @@ refused_of dim disk0 disk1 disk2 out0 out1 log0 log1 status later same_tells sam
     fault = damage.fault;
     mid = damage.mid;
     is = damage.is;
-    stands = λ tells head live opens. subst (λ (d : ℕ). StandsIn d disk2.bytes damage.fault) (same_dim tells head live opens) (damage.stands (rw (ended.tells, same_tells) tells));
+    stands = λ tells head live opens. subst (λ (h : Head). IsDamageIn h disk2.bytes damage.fault) (same_head tells head live opens) (damage.stands (rw (ended.tells, same_tells) tells));
     grew = damage.grew;
     told = damage.told;
   };

@@ -20,7 +20,7 @@ use Rattle.rows_text.specs.Script.{script}
 use Rattle.session_run.specs.declared.stop.Stop.{Stop}
 use Rattle.session_run.specs.declared.stop.Stop.TheVariants as stop
 use Rattle.log_model.specs.declared.logs.Log.{Log}
-use Rattle.session_run.specs.Session.{Grew, HoldsNext, HoldsSome, HoldsState, IsAsking, IsCutShort, IsDamage, StandsIn, most_read}
+use Rattle.session_run.specs.Session.{Grew, HoldsNext, HoldsSome, HoldsState, IsAsking, IsCutShort, IsDamage, IsDamageIn, most_read}
 use Rattle.session_run.specs.Turns.{AreTurns, Turn, Version, commands_of, file_after, framed, logs_of, state_after, texts_of}
 use Rattle.mtree_cli.specs.Told.{IsTold}
 
@@ -119,9 +119,9 @@ pub record TellsDamage (Stands : PageFault → Type 0) (out0 out1 : SinkState) :
   pub grew : Grew out0 mid
   pub told : Tells mid out1 (damaged_text fault)
 
--- where a page is said to hold no node, it holds none in the file that is left, and for this reason
+-- what the line says of a page is so in the file that is left, in a tree from whose root child numbers lead to the page
 abbrev pub StandsAfter : DiskState → DiskState → PageFault → Type 0
-StandsAfter disk0 disk1 fault = IsTrue disk0.tells → (head : Head) (live : Live) → OpensTo disk0.bytes head live → StandsIn head.dim disk1.bytes fault
+StandsAfter disk0 disk1 fault = IsTrue disk0.tells → (head : Head) (live : Live) → OpensTo disk0.bytes head live → IsDamageIn head disk1.bytes fault
 
 -- What a session does with a file and a script: on a sound file this, and on any file its refusals have their causes.
 pub record RunsSession (show : Bool) (input : Option (List ℕ)) (disk0 disk1 : DiskState) (out0 out1 log0 log1 : SinkState) (status : ℕ) : Type 0 where
@@ -151,10 +151,10 @@ HasEnded stop.Memory out0 out1 status = (status ≡ 8) × Tells out0 out1 (codes
 HasEnded (stop.Damaged fault) out0 out1 status = ((status ≡ 9) × Tells out0 out1 (damaged_text fault)) ⊎ ((status ≡ 8) × Tells out0 out1 (codes "fault memory\n"))
 
 -- What ends a session on an opened index, on any file: an output or the disk failed, a page is damaged, or memory ran out.
-pub record HasFinished (dim : ℕ) (disk0 disk1 : DiskState) (out0 out1 log0 log1 : SinkState) (status : ℕ) : Type 0 where
+pub record HasFinished (head : Head) (disk0 disk1 : DiskState) (out0 out1 log0 log1 : SinkState) (status : ℕ) : Type 0 where
   pub output : status ≡ 4 → Rose out0.faults out1.faults ⊎ Rose log0.faults log1.faults
   pub disk : status ≡ 5 → Rose disk0.faults disk1.faults
-  pub damaged : status ≡ 9 → TellsDamage (λ fault. IsTrue disk1.tells → StandsIn dim disk1.bytes fault) out0 out1
+  pub damaged : status ≡ 9 → TellsDamage (λ fault. IsTrue disk1.tells → IsDamageIn head disk1.bytes fault) out0 out1
   pub tells : disk1.tells ≡ disk0.tells
   pub statuses : (status ≡ 0) ⊎ ((status ≡ 4) ⊎ ((status ≡ 5) ⊎ ((status ≡ 8) ⊎ (status ≡ 9))))
 

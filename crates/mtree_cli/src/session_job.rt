@@ -68,7 +68,7 @@ fn run_opened<R: Threads + Sync, D: Disk, K: Sink, T: Sink>(
         mix_kind opened.old.file.metric ≡ opened.old.file.head.kind → mix_dim opened.old.file.metric ≡ opened.old.file.head.dim →
         IsSoundTree (space_in opened.old.file.head) (nodes_on opened.old.file (D.state index.old)) opened.old.file.live → AllByRecursion IsAsking (script opened.old.file.head.dim bytes.now) →
         ReadsFew 0 show_tags (D.state index.old) (D.state index.new) (T.state log_out.old) (T.state log_out.new) }
-    ensures finished { HasFinished opened.old.file.head.dim (D.state index.old) (D.state index.new) (K.state out.old) (K.state out.new) (T.state log_out.old) (T.state log_out.new) result.0 }
+    ensures finished { HasFinished opened.old.file.head (D.state index.old) (D.state index.new) (K.state out.old) (K.state out.new) (T.state log_out.old) (T.state log_out.new) result.0 }
     ensures later { (D.state index.old).faults ≤ (D.state index.new).faults }
     ensures out_later { (K.state out.old).faults ≤ (K.state out.new).faults }
     ensures log_later { (T.state log_out.old).faults ≤ (T.state log_out.new).faults }

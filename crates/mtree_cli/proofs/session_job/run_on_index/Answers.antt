@@ -58,10 +58,10 @@ pub returns-clause-ends : goal.returns-clause-ends
 returns-clause-ends g c =
     let head_here = ap (λ (i : OpenIndex MixSpace). i.file.head) c.in-Ok-use_cache.ensures.ok ∙ ap (λ (i : OpenIndex MixSpace). i.file.head) c.set_workers.ensures in
     let live_here = ap (λ (i : OpenIndex MixSpace). i.file.live) c.in-Ok-use_cache.ensures.ok ∙ ap (λ (i : OpenIndex MixSpace). i.file.live) c.set_workers.ensures in
-    refused_of c.use_cache.new.self.file.head.dim (g.D.Disk.state c.args.index.now) (g.D.Disk.state c.open_write.new.disk) (g.D.Disk.state c.run_opened.new.index) (g.K.Sink.state c.args.out.now)
+    refused_of c.use_cache.new.self.file.head (g.D.Disk.state c.args.index.now) (g.D.Disk.state c.open_write.new.disk) (g.D.Disk.state c.run_opened.new.index) (g.K.Sink.state c.args.out.now)
     (g.K.Sink.state c.run_opened.new.out) (g.T.Sink.state c.args.log_out.now) (g.T.Sink.state c.run_opened.new.log_out) c.run_opened.result.0 (omega (arith, c.in-Ok.ensures.later, c.open_write.ensures.later))
     (c.open_write.ensures.tells ∙ c.in-Ok.ensures.same.same_tells)
-    (λ tells head live is. ap (λ (h : Head). h.dim)
+    (λ tells head live is.
     (head_is c.one_live_slot.ensures c.use_cache.new.self c.in-Ok.opened (g.D.Disk.state c.args.index.now) (g.D.Disk.state c.open_index.new.disk) (g.D.Disk.state c.open_write.new.disk) c.in-Ok.ensures.same
     c.open_write.ensures.bytes c.open_write.ensures.tells (λ told. rw (head_here, live_here) (c.in-Ok-open_write.ensures.stands.stands.opens told)) c.in-Ok.ensures.opens tells head live is))
     (rw c.in-Ok.ensures.silent at c.run_opened.ensures.finished)

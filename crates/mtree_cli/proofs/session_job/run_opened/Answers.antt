@@ -35,7 +35,7 @@ returns-in_default-clause-runs g c = λ tells kind dim sound.
 
 pub returns-clause-finished : goal.returns-clause-finished
 returns-clause-finished g c =
-    finished (IsSoundOn (mix_space (mix_kind c.args.opened.now.file.metric) (mix_dim c.args.opened.now.file.metric)) c.args.opened.now.file (g.D.Disk.state c.args.index.now)) c.args.opened.now.file.head.dim
+    finished (IsSoundOn (mix_space (mix_kind c.args.opened.now.file.metric) (mix_dim c.args.opened.now.file.metric)) c.args.opened.now.file (g.D.Disk.state c.args.index.now)) c.args.opened.now.file.head
     (g.D.Disk.state c.args.index.now)
     (g.D.Disk.state c.session-ended.new.disk) (g.K.Sink.state c.args.out.now) (g.K.Sink.state c.session-ended.new.out) (g.K.Sink.state c.end_stopped.new.out) (g.T.Sink.state c.args.log_out.now)
     (g.T.Sink.state c.session-ended.new.log_out) c.in-Some.why c.end_stopped.result.0 c.end_stopped.ensures.later c.end_stopped.ensures.ended (rw c.in-Some.is at c.session-ended.ensures.cause)
