@@ -9,11 +9,11 @@
 
    Every call returns a status:
      0  done
-     1  the file or a log is rejected; the text names the fault (audit, verify, check)
+     1  the file or a log is rejected; the text names the fault (audit, verify, check, proof)
      2  no query: the point is none of the file's space, or none of the nearest are asked for (range, nearest)
      4  a buffer is too small; the sizes tell what is needed, and the buffers are as they were
      6  the bytes are no index of version 2
-     7  there are more than 2^30 bytes of logs (verify, check)
+     7  there are more than 2^30 bytes of logs (verify, check, proof)
      8  want of memory
      9  the search came to a damaged page; audit names the file's fault (range, nearest)
    5, the status of a device that failed, would be that of a write to the bytes, which no call tries. */
@@ -62,6 +62,9 @@ uint8_t mtree_verify(const uint8_t *file, size_t file_size, const uint8_t *logs,
 /* Audits the file, and where it is sound judges the logs by it and says their answers. */
 uint8_t mtree_check(const uint8_t *file, size_t file_size, const uint8_t *logs, size_t logs_size, uint8_t *text, size_t text_room,
                     size_t *text_size);
+
+/* Judges carried logs, which stand in frames, by the root digest of 32 bytes of an index file, without the file. */
+uint8_t mtree_proof(const uint8_t *logs, size_t logs_size, const uint8_t *root, uint8_t *text, size_t text_room, size_t *text_size);
 
 #ifdef __cplusplus
 }

@@ -79,6 +79,14 @@ def compare_file(name, dim, most):
             same(told(index.verify(given)), run("verify", name, "--log", "given.log"), f"verify {name}")
             same(told(index.check(given)), run("check", name, "--log", "given.log"), f"check {name}")
         same(told(index.audit()), run("audit", name), f"audit {name}")
+        root = run("seal", name)[1].split()[-1]
+        run("proof", name, "--log", "program.log", "--proof", "carried.log")
+        carried = open("carried.log", "rb").read()
+        wrong = bytearray(carried)
+        wrong[len(wrong) // 2] ^= 1
+        for given in (carried, bytes(wrong), carried[:-1], b""):
+            open("given.log", "wb").write(given)
+            same(told(mtree.prove(given, bytes.fromhex(root))), run("proof", "--log", "given.log", "--root", root), f"proof of {name}")
         for unfit in ([0] * (dim + 1), [], [-1] * dim, [1 << 32] * dim):
             try:
                 same(index.nearest(unfit, 1), "no answer", f"a point that is none, on {name}")

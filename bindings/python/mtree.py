@@ -20,7 +20,7 @@ import threading
 from concurrent.futures import ThreadPoolExecutor
 from typing import Any, Callable, Iterable, List, NamedTuple, Sequence, Tuple
 
-__all__ = ["Index", "Hit", "Report", "Error", "NoIndex", "NoQuery", "Damaged", "TooLong"]
+__all__ = ["Index", "prove", "Hit", "Report", "Error", "NoIndex", "NoQuery", "Damaged", "TooLong"]
 
 
 class Hit(NamedTuple):
@@ -85,6 +85,7 @@ def _load() -> ctypes.CDLL:
         "mtree_audit": [place, size, place, size, place],
         "mtree_verify": [place, size, place, size, place, size, place],
         "mtree_check": [place, size, place, size, place, size, place],
+        "mtree_proof": [place, size, place, place, size, place],
     }
     for name, arguments in calls.items():
         call = getattr(library, name)
@@ -208,31 +209,46 @@ class Index:
         hits = [Hit(hit.id, hit.distance, hit.tag) for hit in rooms.hits[: sizes.hits]]
         return hits, bytes(memoryview(rooms.log)[: sizes.log])
 
-    def _text(self, call: Any, logs: Tuple[bytes, ...]) -> Tuple[int, str]:
-        size = ctypes.c_size_t()
-        room = 4096
-        more = [part for log in logs for part in (log, len(log))]
-        while True:
-            text = (ctypes.c_uint8 * room)()
-            status = call(self._file, self._size, *more, text, room, ctypes.byref(size))
-            if status != _SHORT:
-                return status, bytes(memoryview(text)[: size.value]).decode("ascii")
-            room = size.value
-
     def _say(self, call: Any, *logs: bytes) -> Report:
-        status, text = self._text(call, logs)
-        if status > 1:
-            raise self._error(status, text)
-        return Report(status == 0, text)
+        return _report(call, self._file, self._size, *(part for log in logs for part in (log, len(log))))
 
-    def _error(self, status: int, text: str = "") -> Exception:
-        if status == 8:
-            return MemoryError("fault memory")
+    def _error(self, status: int) -> Exception:
         if status == 2:
             return NoQuery("the point is none of the file's space, or none of the nearest are asked for")
-        kinds = {6: NoIndex, 7: TooLong, 9: Damaged}
-        words = text or self._text(_library.mtree_audit, ())[1]
-        return kinds.get(status, Error)(words.strip())
+        return _error(status, "" if status == 8 else _text(_library.mtree_audit, self._file, self._size)[1])
+
+
+def prove(logs: bytes, root: bytes) -> Report:
+    """Judges carried logs, which stand in frames, by the root digest of 32 bytes of an index file, without the file."""
+    if len(root) != 32:
+        raise ValueError("a root digest has 32 bytes")
+    return _report(_library.mtree_proof, logs, len(logs), bytes(root))
+
+
+def _text(call: Any, *given: Any) -> Tuple[int, str]:
+    """The status of a call and its text."""
+    size = ctypes.c_size_t()
+    room = 4096
+    while True:
+        text = (ctypes.c_uint8 * room)()
+        status = call(*given, text, room, ctypes.byref(size))
+        if status != _SHORT:
+            return status, bytes(memoryview(text)[: size.value]).decode("ascii")
+        room = size.value
+
+
+def _report(call: Any, *given: Any) -> Report:
+    status, text = _text(call, *given)
+    if status > 1:
+        raise _error(status, text)
+    return Report(status == 0, text)
+
+
+def _error(status: int, words: str) -> Exception:
+    if status == 8:
+        return MemoryError("fault memory")
+    kinds = {6: NoIndex, 7: TooLong, 9: Damaged}
+    return kinds.get(status, Error)(words.strip())
 
 
 def _number(number: int) -> int:

@@ -1,8 +1,8 @@
 -- What a job says of a disk, a source and a sink is said of their bytes.
-use Rattle.std.proofs.Common.{◌≡◌, ◌≢◌, ◌⊎◌, inl, inr, ⊎_elim, ℕ, ◌+◌, ◌<◌, ◌^◌, List, [], ◌∷◌, ◌++◌, length, Option, Some, refl, sym, subst, ◌∙◌, ap, arith}
+use Rattle.std.proofs.Common.{◌≡◌, ◌≢◌, ◌⊎◌, inl, inr, ⊎_elim, ℕ, ◌+◌, ◌<◌, ◌^◌, List, [], ◌∷◌, ◌++◌, length, Option, Some, None, refl, sym, subst, ◌∙◌, ap, arith}
 use Rattle.std.specs.Prelude.{codes, IsTrue, ◌≤◌}
 use Rattle.std.proofs.lemmas.List.{append-nil}
-use Rattle.std.specs.List.{concat}
+use Rattle.std.specs.List.{concat, flat_map}
 use Rattle.std.specs.Io.KnownBytes.{Appends, Consumes, IsAtEnd}
 use Rattle.outside_io.specs.Causes.{Rose}
 use Rattle.outside_io.specs.Sinks.{SinkState, Tells}
@@ -12,7 +12,8 @@ use Rattle.file_jobs.specs.Lines.{not_index_text, rejected_text, sound_text}
 use Rattle.log_jobs.specs.declared.report.Report.{Report}
 use Rattle.log_jobs.specs.Jobs.{JudgesLogs, IsLogStatus, Judges, Says, WritesOn}
 use Rattle.mtree_c.specs.Rooms.{HandsText, StandAtFront}
-use Rattle.mtree_c.specs.Texts.{IsAuditText, IsLogText, IsUnopenedText}
+use Rattle.seal_jobs.specs.Proofs.{IsProofStatus, ProvesLogs, Shown}
+use Rattle.mtree_c.specs.Texts.{IsAuditText, IsLogText, IsProofText, IsUnopenedText}
 
 pub unmoved : Rose 0 0 → ⊥
 unmoved rose = omega (arith, rose)
@@ -102,3 +103,33 @@ module _ (d0 d1 : DiskState) (o0 o1 : SinkState) (file text : List ℕ) (tells :
       long = λ is. (omega (arith, judged.long.0 is, taken_front l0 l1 logs left judged.bytes had has judged.taken), told o0 o1 text (codes "fault long\n") empty holds none never (judged.long_line is));
       statuses = log_ends statuses;
     }
+
+-- ---- carried logs
+
+appended_twice : (a m b : Option (List ℕ)) (text first second : List ℕ) → a ≡ Some [] → b ≡ Some text → Appends a m first → Appends m b second → text ≡ first ++ second
+appended_twice a m b text first second empty holds one two =
+    go m (subst (λ (x : Option (List ℕ)). Appends x m first) empty one) (subst (λ (x : Option (List ℕ)). Appends m x second) holds two)
+  where
+    go : (m : Option (List ℕ)) → Appends (Some []) m first → Appends m (Some text) second → text ≡ first ++ second
+    go None put more = absurd put
+    go (Some y) put more = more ∙ ap (λ (x : List ℕ). x ++ second) put
+
+pub proof_text : (root logs left text : List ℕ) (l0 l1 : Option (List ℕ)) (o0 o1 : SinkState) (status : ℕ) → l0 ≡ Some logs → l1 ≡ Some left → o0.written ≡ Some [] → o1.written ≡ Some text
+    → ProvesLogs root l0 l1 o0 o1 status → IsProofStatus status → status ≢ 3 → status ≢ 4 → status ≢ 8 → IsProofText root logs text status
+proof_text root logs left text l0 l1 o0 o1 status had has empty holds proves statuses not_input not_short not_memory = record {
+  shown = λ is.
+      let d = proves.done is in
+      let b = proves.before in
+      (b.shown, b.rest, d.1.0, sym (taken_all l0 l1 logs left proves.bytes had has proves.taken d.0) ∙ b.framed, b.told, d.1.1,
+       appended_twice o0.written proves.middle o1.written text (flat_map (λ (f : Shown). f.text) b.shown) d.1.0 empty holds b.written d.1.2);
+  long = λ is. omega (arith, proves.long.0 is, taken_front l0 l1 logs left proves.bytes had has proves.taken);
+  statuses = ends statuses;
+}
+  where
+    ends : IsProofStatus status → (status ≡ 0) ⊎ ((status ≡ 1) ⊎ (status ≡ 7))
+    ends (inl is) = inl is
+    ends (inr (inl is)) = inr (inl is)
+    ends (inr (inr (inl is))) = absurd (not_input is)
+    ends (inr (inr (inr (inl is)))) = absurd (not_short is)
+    ends (inr (inr (inr (inr (inl is))))) = inr (inr is)
+    ends (inr (inr (inr (inr (inr is))))) = absurd (not_memory is)

@@ -1,12 +1,14 @@
 -- The texts on the bytes of a file and of logs, with the statuses of the program's jobs.
-use Rattle.std.specs.Prelude.{◌≡◌, ◌⊎◌, ◌<◌, ◌^◌, ℕ, List, length, codes, Some, None}
-use Rattle.std.specs.List.{concat}
+use Rattle.std.specs.Prelude.{◌≡◌, ◌⊎◌, ◌<◌, ◌^◌, ℕ, List, ◌++◌, length, codes, Some, None}
+use Rattle.std.specs.List.{concat, flat_map}
 use Rattle.tree_audit.specs.declared.faults.AuditFault.{AuditFault}
 use Rattle.file_jobs.specs.Jobs.{IsAudited, IsNoIndex, IsSoundWith}
 use Rattle.file_jobs.specs.Lines.{not_index_text, rejected_text, sound_text}
 use Rattle.log_jobs.specs.declared.report.Report.{Report}
 use Rattle.log_jobs.specs.Jobs.{Says}
 use Rattle.log_jobs.specs.Lines.{Saying}
+use Rattle.prune_log.specs.Spelling.{frame_bytes}
+use Rattle.seal_jobs.specs.Proofs.{AreShown, IsEnd, Shown, all_accepted}
 
 -- why the bytes are no file of version 2, in a line
 abbrev pub IsUnopenedText : List ℕ → List ℕ → Type 0
@@ -26,3 +28,12 @@ pub record IsLogText (what : Report) (file logs text : List ℕ) (status : ℕ) 
   pub no_index : status ≡ 6 → IsUnopenedText file text
   pub long : status ≡ 7 → (2 ^ 30 < length logs) × (text ≡ codes "fault long\n")
   pub statuses : (status ≡ 0) ⊎ ((status ≡ 1) ⊎ ((status ≡ 5) ⊎ ((status ≡ 6) ⊎ (status ≡ 7))))
+
+-- The text on carried logs. Status 0 and 1: the whole frames were shown in order, and then the last line; 7: there are more than 2^30
+-- bytes.
+pub record IsProofText (root logs text : List ℕ) (status : ℕ) : Type 0 where
+  pub shown : (status ≡ 0) ⊎ (status ≡ 1) →
+      (frames : List Shown) × (rest : List ℕ) × (line : List ℕ) × (logs ≡ flat_map (λ (f : Shown). frame_bytes f.body) frames ++ rest) × AreShown root 0 frames
+      × IsEnd rest (all_accepted frames) line status × (text ≡ flat_map (λ (f : Shown). f.text) frames ++ line)
+  pub long : status ≡ 7 → 2 ^ 30 < length logs
+  pub statuses : (status ≡ 0) ⊎ ((status ≡ 1) ⊎ (status ≡ 7))

@@ -3,15 +3,26 @@ ghost use Rattle.std.specs.Prelude.{◌≡◌};
 ghost use Rattle.log_jobs.specs.Laws.{FaultlessIsComplete};
 ghost use Rattle.log_jobs.specs.declared.report.Report.TheVariants.{Answers, Verdicts};
 ghost use Rattle.mtree_c.specs.Rooms.{HandsText};
-ghost use Rattle.mtree_c.specs.Texts.{IsAuditText, IsLogText};
+ghost use Rattle.seal_jobs.specs.Laws.{AcceptedShow};
+ghost use Rattle.mtree_c.specs.Texts.{IsAuditText, IsLogText, IsProofText};
 
 use crate::ends::{Gathered, SliceSource};
 use crate::rooms::hand_text;
 use file_jobs::audit_index;
 use log_jobs::laws::faultless_is_complete;
 use log_jobs::{check_logs, verify_logs};
+use seal_jobs::laws::accepted_show;
+use seal_jobs::prove_logs;
 use slice_disk::SliceDisk;
 use std::alloc::Global;
+
+/// The root digest of an index file.
+#[repr(C)]
+#[derive(Clone, Copy, Debug, PartialEq, Eq)]
+pub struct RootDigest {
+    /// Its bytes.
+    pub bytes: [u8; 32],
+}
 
 /// Audits the bytes of an index file. The lines at the front of `text`, of `size` bytes, are those of the program's `audit`,
 /// and so is the status: 0 the file is sound; 1 it has a fault; 4 `text` has no room for `size` bytes, and is left as it is;
@@ -65,5 +76,27 @@ pub extern "C" fn mtree_check(
     let mut disk = SliceDisk::new(file);
     let mut source = SliceSource::new(logs);
     let status = check_logs(alloc, &mut disk, &mut source, &mut out);
+    hand_text(status, &out, text, size)
+}
+
+/// Judges the carried logs of `logs`, which stand in frames, by the root digest of an index file, without the file. The lines
+/// and the statuses are those of the program's `proof`: 0 all are proved; 1 one is rejected, or the last frame is not whole; 4, 7
+/// and 8 as in [`mtree_verify`].
+#[unsafe(no_mangle)]
+pub extern "C" fn mtree_proof(
+    alloc: Global,
+    logs: &[u8],
+    root: &RootDigest,
+    text: &mut [u8],
+    size: &mut usize,
+) -> u8
+    ensures text { HandsText (IsProofText root.now.bytes logs.now) text.old text.new size.new result }
+    // A frame that is said to be proved holds an accepted carried log, and this is what it shows.
+    ensures shows { AcceptedShow }
+{
+    accepted_show();
+    let mut out = Gathered::new(alloc);
+    let mut source = SliceSource::new(logs);
+    let status = prove_logs(alloc, &mut source, &root.bytes, &mut out);
     hand_text(status, &out, text, size)
 }

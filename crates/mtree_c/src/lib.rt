@@ -11,7 +11,7 @@ mod judging;
 mod rooms;
 
 pub use answering::{Sizes, TaggedHit, mtree_nearest, mtree_range};
-pub use judging::{mtree_audit, mtree_check, mtree_verify};
+pub use judging::{RootDigest, mtree_audit, mtree_check, mtree_proof, mtree_verify};
 
 /// No call can do what was asked for: the point is none of the file's space, or none of the nearest are asked for.
 pub(crate) const NO_QUERY: u8 = 2;

@@ -1,4 +1,6 @@
-use crate::{Sizes, TaggedHit, mtree_audit, mtree_check, mtree_nearest, mtree_range, mtree_verify};
+use crate::{
+    RootDigest, Sizes, TaggedHit, mtree_audit, mtree_check, mtree_nearest, mtree_proof, mtree_range, mtree_verify,
+};
 use std::alloc::{AllocError, Global};
 use std::test::Fail;
 
@@ -113,5 +115,23 @@ fn texts(rt: HostRuntime) -> Result<(), Fail> {
     let mut sizes = NOTHING;
     let status = mtree_range(alloc, &file, &[5], 4, &mut [], &mut [], &mut sizes);
     assert_eq!(rt; (status, sizes), (9, NOTHING));
+    Ok(())
+}
+
+// Bytes of carried logs, and the status and the text on them.
+#[test]
+fn carried_logs(rt: HostRuntime) -> Result<(), Fail> {
+    let cases: [(&[u8], u8, &str); 3] = [
+        (&[], 0, "log proved\n"),
+        (b"\0\0", 1, "log rejected cut\n"),
+        (b"\0\0\0\0\0\0\0\x04MTPX", 1, "frame 0 rejected magic\nlog rejected\n"),
+    ];
+    for (logs, status, wanted) in &cases {
+        let mut text = [0u8; 40];
+        let mut size = 0;
+        let root = RootDigest { bytes: [0; 32] };
+        let found = mtree_proof(rt.alloc(), logs, &root, text.as_mut_slice(), &mut size);
+        assert_eq!(rt; (found, &text[..size.min(40)]), (*status, wanted.as_bytes()));
+    }
     Ok(())
 }
