@@ -194,92 +194,117 @@ fn check_migration<R: AllocGlobal + Threads + Sync + Abort>(
     Ok(())
 }
 
+const OLD_ONE: &[Page] = &[OLD_HEAD, FIRST, ONE, ZEROS, OLD_LEAF];
+
+const NEW_ONE: &[Page] = &[NEW_HEAD, FIRST, ONE, ZEROS, NEW_LEAF];
+
+const OLD_TWO: &[Page] = &[OLD_HEAD, FIRST, TWO, ZEROS, OLD_PAIR];
+
+const NEW_TWO: &[Page] = &[NEW_HEAD, FIRST, TWO, ZEROS, NEW_PAIR];
+
+const OLD_NONE: &[Page] = &[OLD_HEAD, FIRST, ZEROS, ZEROS];
+
+const NEW_NONE: &[Page] = &[NEW_HEAD, FIRST, ZEROS, ZEROS];
+
+const WRONG: &[Page] = &[OLD_HEAD, FIRST, ONE, ZEROS, OTHER_ID];
+
+// The old file of one object, and no fault.
+const PLAIN: Migration<'static> = Migration {
+    index: b"",
+    old: OLD_ONE,
+    stop: None,
+    fails: None,
+    status: 0,
+    text: "migrated 1\n",
+    made: Some(NEW_ONE),
+};
+
+const MIGRATED: [Migration<'static>; 4] = [
+    PLAIN,
+    Migration {
+        old: OLD_TWO,
+        text: "migrated 2\n",
+        made: Some(NEW_TWO),
+        ..PLAIN
+    },
+    Migration {
+        old: OLD_NONE,
+        text: "migrated 0\n",
+        made: Some(NEW_NONE),
+        ..PLAIN
+    },
+    Migration {
+        fails: Some(0),
+        status: 4,
+        text: "",
+        ..PLAIN
+    },
+];
+
+const REFUSED: [Migration<'static>; 7] = [
+    Migration {
+        index: b"x",
+        status: 6,
+        text: "fault notindex notempty\n",
+        made: None,
+        ..PLAIN
+    },
+    Migration {
+        old: NEW_ONE,
+        status: 6,
+        text: "fault notindex version\n",
+        made: None,
+        ..PLAIN
+    },
+    Migration {
+        old: &[ZEROS],
+        status: 6,
+        text: "fault notindex short\n",
+        made: None,
+        ..PLAIN
+    },
+    Migration {
+        old: WRONG,
+        status: 1,
+        text: "rejected id 1\n",
+        made: None,
+        ..PLAIN
+    },
+    Migration {
+        old: WRONG,
+        fails: Some(0),
+        status: 4,
+        text: "",
+        made: None,
+        ..PLAIN
+    },
+    Migration {
+        stop: Some(0),
+        status: 5,
+        text: "fault disk\n",
+        made: None,
+        ..PLAIN
+    },
+    Migration {
+        stop: Some(5),
+        status: 5,
+        text: "fault disk\n",
+        made: None,
+        ..PLAIN
+    },
+];
+
 #[test]
 fn migrated_files(rt: HostRuntime) -> Result<(), Fail> {
-    let one = [OLD_HEAD, FIRST, ONE, ZEROS, OLD_LEAF];
-    let new_one = [NEW_HEAD, FIRST, ONE, ZEROS, NEW_LEAF];
-    let wrong = [OLD_HEAD, FIRST, ONE, ZEROS, OTHER_ID];
-    let plain = Migration {
-        index: b"",
-        old: &one,
-        stop: None,
-        fails: None,
-        status: 0,
-        text: "migrated 1\n",
-        made: Some(&new_one),
-    };
-    let cases = [
-        Migration { ..plain },
-        Migration {
-            old: &[OLD_HEAD, FIRST, TWO, ZEROS, OLD_PAIR],
-            text: "migrated 2\n",
-            made: Some(&[NEW_HEAD, FIRST, TWO, ZEROS, NEW_PAIR]),
-            ..plain
-        },
-        Migration {
-            old: &[OLD_HEAD, FIRST, ZEROS, ZEROS],
-            text: "migrated 0\n",
-            made: Some(&[NEW_HEAD, FIRST, ZEROS, ZEROS]),
-            ..plain
-        },
-        Migration {
-            fails: Some(0),
-            status: 4,
-            text: "",
-            ..plain
-        },
-        Migration {
-            index: b"x",
-            status: 6,
-            text: "fault notindex notempty\n",
-            made: None,
-            ..plain
-        },
-        Migration {
-            old: &new_one,
-            status: 6,
-            text: "fault notindex version\n",
-            made: None,
-            ..plain
-        },
-        Migration {
-            old: &[ZEROS],
-            status: 6,
-            text: "fault notindex short\n",
-            made: None,
-            ..plain
-        },
-        Migration {
-            old: &wrong,
-            status: 1,
-            text: "rejected id 1\n",
-            made: None,
-            ..plain
-        },
-        Migration {
-            old: &wrong,
-            fails: Some(0),
-            status: 4,
-            text: "",
-            made: None,
-            ..plain
-        },
-        Migration {
-            stop: Some(0),
-            status: 5,
-            text: "fault disk\n",
-            made: None,
-            ..plain
-        },
-        Migration {
-            stop: Some(5),
-            status: 5,
-            text: "fault disk\n",
-            made: None,
-            ..plain
-        },
-    ];
-    for case in &cases {
+    for case in &MIGRATED {
+        check_migration(&rt, case)?;
+    }
+    Ok(())
+}
+
+#[test]
+fn refused_migrations(rt: HostRuntime) -> Result<(), Fail> {
+    for case in &REFUSED {
         check_migration(&rt, case)?;
     }
     Ok(())
