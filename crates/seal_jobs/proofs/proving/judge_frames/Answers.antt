@@ -1,4 +1,4 @@
-use Rattle.std.proofs.Common.{◌≡◌, ◌∙◌, ◌+◌, ◌-◌, ◌&&◌, List, [], ℕ, inl, inr, refl, sym, subst, arith, length, length-append}
+use Rattle.std.proofs.Common.{◌≡◌, ◌∙◌, ◌+◌, ◌-◌, ◌&&◌, [], ℕ, inl, inr, refl, sym, subst, arith, length}
 use Rattle.std.specs.Prelude.{codes}
 use Rattle.std.proofs.lemmas.Result.{IfOk-weaker, IfErr-weaker, err_from_is_err_and}
 use Rattle.std.specs.Io.KnownBytes.{Appends}
@@ -8,7 +8,7 @@ use Rattle.seal_jobs.specs.declared.stop.Stop.{Stop}
 use Rattle.seal_jobs.specs.declared.stop.Stop.TheVariants as stop
 use Rattle.prune_log.specs.Spelling.{frame_bytes}
 use Rattle.seal_jobs.specs.Proofs.{HasEnded, HasStopped}
-use Rattle.seal_jobs.proofs.Frames.{Progress, begun, one_more, ended, end_stops, reading_stops, frame_stops}
+use Rattle.seal_jobs.proofs.Frames.{Progress, one_more, ended, end_stops, reading_stops, frame_stops}
 use Rattle.seal_jobs.proofs.proving.judge_frames.Goals as goal
 
 pub returns-in-End-clause-ended : goal.returns-in-End-clause-ended
