@@ -332,7 +332,7 @@ fn carry_opened<D: Disk, K: Sink, L: Sink>(
     }
 }
 
-// Ends a job that stopped, where no output failed with a line.
+// Ends a job that stopped: with a line, but where an output failed.
 fn end_halted<K: Sink>(why: Halt, out: &mut K) -> Status
     ensures statuses { IsHaltStatus result.0 }
     ensures disk { result.0 ≡ 5 → why ≡ Halt.Disk }
@@ -383,10 +383,9 @@ fn carry_index<D: Disk, K: Sink, L: Sink>(
 
 /// Reads logs, and writes to `log_out` for each that has no fault on the index its carried log, as a frame, and then its line
 /// to `out`; for another its first fault. The index is sealed once. Wherever it stops, each line on `out` has its whole frame
-/// on `log_out`. Status 1: a log is rejected, or the bytes are no logs; 3:
-/// they could not be read; 4: a frame or a line could not be written; 5: the disk failed; 6: the file is no index of version
-/// 2; 7: there are more than 2^30 bytes of logs, or the index has more than 262144 pages; 8: want of memory. The index is not
-/// changed.
+/// on `log_out`. Status 1: a log is rejected, or the bytes are no logs; 3: they could not be read; 4: a frame or a line could
+/// not be written; 5: the disk failed; 6: the file is no index of version 2; 7: there are more than 2^30 bytes of logs, or the
+/// index has more than 262144 pages; 8: want of memory. The index is not changed.
 pub fn carry_logs<D: Disk, S: Source, K: Sink, L: Sink>(
     alloc: Global,
     index: &mut D,

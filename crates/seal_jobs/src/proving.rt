@@ -109,16 +109,12 @@ fn judge_frames<S: Source, K: Sink>(
     let mut frame = 0;
     let mut accepted = true;
     'frames: loop {
-        let body = match next_frame(alloc, log_in, room) {
-            Ok(Next::Frame(body)) => body,
-            Ok(Next::End) => return put_end(end_text(accepted), end_status(accepted), out),
-            Ok(Next::Cut) => return put_end(b"log rejected cut\n", 1, out),
-            Err(why) => return Err(why),
+        let body = match next_frame(alloc, log_in, room)? {
+            Next::Frame(body) => body,
+            Next::End => return put_end(end_text(accepted), end_status(accepted), out),
+            Next::Cut => return put_end(b"log rejected cut\n", 1, out),
         };
-        let is_accepted = match judge_frame(alloc, root, frame, &body, out) {
-            Ok(is_accepted) => is_accepted,
-            Err(why) => return Err(why),
-        };
+        let is_accepted = judge_frame(alloc, root, frame, &body, out)?;
         accepted &= is_accepted;
         frame += 1;
         room -= 8 + body.len() as u64;

@@ -76,10 +76,7 @@ pub fn next_frame<S: Source>(alloc: Global, source: &mut S, room: u64) -> Result
     ensures later { S.faults source.old ≤ S.faults source.new }
     ensures input { IsErrOf result Stop.Input → Rose (S.faults source.old) (S.faults source.new) }
 {
-    let size = match take_up_to(alloc, source, 8, room) {
-        Ok(size) => size,
-        Err(why) => return Err(why),
-    };
+    let size = take_up_to(alloc, source, 8, room)?;
     if size.is_empty() {
         return Ok(Next::End);
     }
@@ -87,10 +84,7 @@ pub fn next_frame<S: Source>(alloc: Global, source: &mut S, room: u64) -> Result
         return Ok(Next::Cut);
     }
     let most = number_in(&size);
-    let body = match take_up_to(alloc, source, most, room - 8) {
-        Ok(body) => body,
-        Err(why) => return Err(why),
-    };
+    let body = take_up_to(alloc, source, most, room - 8)?;
     if (body.len() as u64) < most {
         return Ok(Next::Cut);
     }

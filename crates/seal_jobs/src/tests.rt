@@ -244,12 +244,13 @@ fn shows_no_other_answers(alloc: Global, bytes: &[u8]) -> Result<bool, AllocErro
 
 #[test]
 fn no_carried_log_with_a_changed_byte_shows_other_answers(rt: HostRuntime) -> Result<(), Fail> {
-    let mut bytes = carried(rt.alloc())?;
-    for at in 0..bytes.len() {
-        bytes[at] ^= 1;
-        let holds = shows_no_other_answers(rt.alloc(), &bytes)?;
+    let bytes = carried(rt.alloc())?;
+    let mut other = bytes.to_vec(rt.alloc())?;
+    for (at, byte) in bytes.iter().enumerate() {
+        put(&mut other, at, &[*byte ^ 1]);
+        let holds = shows_no_other_answers(rt.alloc(), &other)?;
         assert!(rt; holds, "at {at}");
-        bytes[at] ^= 1;
+        put(&mut other, at, &[*byte]);
     }
     Ok(())
 }

@@ -1,4 +1,4 @@
-use Rattle.std.proofs.Common.{◌≡◌, ◌+◌, ◌^◌, ◌≤◌, length}
+use Rattle.std.proofs.Common.{◌+◌, ◌^◌, ◌≤◌}
 use Rattle.seal_jobs.proofs.Frames.{Progress}
 use Rattle.seal_jobs.proofs.proving.judge_frames.Given as goal
 

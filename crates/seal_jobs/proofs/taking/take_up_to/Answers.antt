@@ -1,4 +1,4 @@
-use Rattle.std.proofs.Common.{◌++◌, ℕ, take, length, arith, length-append, length-take}
+use Rattle.std.proofs.Common.{◌++◌, ℕ, take, arith, length-append, length-take}
 use Rattle.std.proofs.KnownBytes.{Consumes-trans}
 use Rattle.seal_jobs.proofs.taking.take_up_to.Goals as goal
 
