@@ -90,9 +90,14 @@ by_status file head live c asked opens version query (Ok (outcome.Damaged fault)
   statuses = inr (inr (inr (inr refl)));
 }
 by_status file head live c asked opens version query (Ok (outcome.Done r log)) came un = record {
-  no_query = λ e. inr (head, live, opens, version,
-      no_points (space_of head) live file c asked r log (has_points_of (space_of head) c)
-      (subst (λ (q : Option Query). IsTold (space_of head) live file c (if has_points_of (space_of head) c then q else None) (outcome.Done r log)) query came.told) un);
+  no_query = λ e. inr (
+    head,
+    live,
+    opens,
+    version,
+    no_points (space_of head) live file c asked r log (has_points_of (space_of head) c)
+        (subst (λ (q : Option Query). IsTold (space_of head) live file c (if has_points_of (space_of head) c then q else None) (outcome.Done r log)) query came.told) un,
+  );
   no_index = λ e. absurd (omega (arith, e));
   damaged = λ e. absurd (omega (arith, e));
   statuses = inl refl;

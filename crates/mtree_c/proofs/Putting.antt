@@ -32,9 +32,9 @@ put_more hits tags room before i d same within enough is =
     let long_tags : length (take i tags) ≡ i = length-take-le i tags (omega (arith, same)) in
     let long : length front ≡ i = length-tagged (take i hits) (take i tags) (long_tags ∙ sym long_hits) ∙ long_hits in
     let more : tagged (take (i + 1) hits) (take (i + 1) tags) ≡ front ++ e ∷ [] =
-        ap (λ (a : List Hit). tagged a (take (i + 1) tags)) (take_more hits i d within)
-        ∙ ap (λ (s : List ℕ). tagged (take i hits ++ h ∷ []) s) (take_more tags i 0 (omega (arith, same)))
-        ∙ tagged-append (take i hits) (h ∷ []) (take i tags) (t ∷ []) (long_tags ∙ sym long_hits) in
+    ap (λ (a : List Hit). tagged a (take (i + 1) tags)) (take_more hits i d within)
+    ∙ ap (λ (s : List ℕ). tagged (take i hits ++ h ∷ []) s) (take_more tags i 0 (omega (arith, same)))
+    ∙ tagged-append (take i hits) (h ∷ []) (take i tags) (t ∷ []) (long_tags ∙ sym long_hits) in
     ap (λ (x : List TaggedHit). set x i e) (is ∙ ap (λ (x : List TaggedHit). front ++ x) (drop_more room i e (omega arith)))
     ∙ set_at front (slice_index_or room i e) (drop (i + 1) room) e i long
     ∙ sym (ap (λ (x : List TaggedHit). x ++ drop (i + 1) room) more ∙ append_assoc front (e ∷ []) (drop (i + 1) room))

@@ -119,9 +119,15 @@ pub proof_text : (root logs left text : List ℕ) (l0 l1 : Option (List ℕ)) (o
 proof_text root logs left text l0 l1 o0 o1 status had has empty holds proves statuses not_input not_short not_memory = record {
   shown = λ is.
       let d = proves.done is in
-      let b = proves.before in
-      (b.shown, b.rest, d.1.0, sym (taken_all l0 l1 logs left proves.bytes had has proves.taken d.0) ∙ b.framed, b.told, d.1.1,
-       appended_twice o0.written proves.middle o1.written text (flat_map (λ (f : Shown). f.text) b.shown) d.1.0 empty holds b.written d.1.2);
+      let b = proves.before in (
+        b.shown,
+        b.rest,
+        d.1.0,
+        sym (taken_all l0 l1 logs left proves.bytes had has proves.taken d.0) ∙ b.framed,
+        b.told,
+        d.1.1,
+        appended_twice o0.written proves.middle o1.written text (flat_map (λ (f : Shown). f.text) b.shown) d.1.0 empty holds b.written d.1.2,
+      );
   long = λ is. omega (arith, proves.long.0 is, taken_front l0 l1 logs left proves.bytes had has proves.taken);
   statuses = ends statuses;
 }

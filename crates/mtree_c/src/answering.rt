@@ -14,8 +14,8 @@ ghost use Rattle.mtree_c.specs.Answers.{ComesTo, HandsAnswer, HasNoAnswer, IsUna
 use crate::ends::Gathered;
 use crate::rooms::{put_bytes, put_hits};
 use crate::{DAMAGED, MEMORY, NO_QUERY, SHORT};
-use image_answers::{Memory, Outcome, nearest_outcome, range_outcome};
 use file_jobs::{open_index, space_of};
+use image_answers::{Memory, Outcome, nearest_outcome, range_outcome};
 use log_model::Log;
 use metric_laws::{Listed, Point};
 use node_page::Head;

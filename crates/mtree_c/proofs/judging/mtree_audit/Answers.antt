@@ -12,8 +12,8 @@ returns c =
     let after = job.new.disk in
     let out = job.new.out in
     hands_text (IsAuditText c.args.file.now) c.args.text.now c.hand_text.new.text out.bytes.items out.faults c.hand_text.new.size c.hand_text.result job.result.0
-      c.hand_text.ensures.done c.hand_text.ensures.short c.hand_text.ensures.memory
-      (λ no not_short not_memory. audit_text (held before.bytes.now before.faults before.reads) (held after.bytes.now after.faults after.reads)
-        (record { written = Some c.new-out.result.bytes.items; faults = c.new-out.result.faults }) (record { written = Some out.bytes.items; faults = out.faults })
-        c.args.file.now out.bytes.items refl c.new-disk.ensures.bytes (ap (λ (x : List ℕ). Some x) c.new-out.ensures.bytes) refl c.new-out.ensures.faults no
-        job.result.0 job.ensures.audits job.ensures.statuses not_short not_memory)
+    c.hand_text.ensures.done c.hand_text.ensures.short c.hand_text.ensures.memory
+    (λ no not_short not_memory. audit_text (held before.bytes.now before.faults before.reads) (held after.bytes.now after.faults after.reads)
+    (record { written = Some c.new-out.result.bytes.items; faults = c.new-out.result.faults }) (record { written = Some out.bytes.items; faults = out.faults })
+    c.args.file.now out.bytes.items refl c.new-disk.ensures.bytes (ap (λ (x : List ℕ). Some x) c.new-out.ensures.bytes) refl c.new-out.ensures.faults no
+    job.result.0 job.ensures.audits job.ensures.statuses not_short not_memory)

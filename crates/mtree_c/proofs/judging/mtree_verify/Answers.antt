@@ -13,9 +13,9 @@ returns c =
     let after = job.new.index in
     let out = job.new.out in
     hands_text (IsLogText Verdicts c.args.file.now c.args.logs.now) c.args.text.now c.hand_text.new.text out.bytes.items out.faults c.hand_text.new.size c.hand_text.result job.result.0
-      c.hand_text.ensures.done c.hand_text.ensures.short c.hand_text.ensures.memory
-      (λ no not_short not_memory. log_text (held before.bytes.now before.faults before.reads) (held after.bytes.now after.faults after.reads)
-        (record { written = Some c.new-out.result.bytes.items; faults = c.new-out.result.faults }) (record { written = Some out.bytes.items; faults = out.faults })
-        c.args.file.now out.bytes.items refl c.new-disk.ensures.bytes (ap (λ (x : List ℕ). Some x) c.new-out.ensures.bytes) refl c.new-out.ensures.faults no
-        Verdicts (Some c.new-source.result.left.now) (Some job.new.log_in.left.now) c.args.logs.now job.new.log_in.left.now (ap (λ (x : List ℕ). Some x) c.new-source.ensures) refl job.result.0 job.ensures.judges
-        (λ e. unmoved (job.ensures.input e)) not_short not_memory job.ensures.statuses)
+    c.hand_text.ensures.done c.hand_text.ensures.short c.hand_text.ensures.memory
+    (λ no not_short not_memory. log_text (held before.bytes.now before.faults before.reads) (held after.bytes.now after.faults after.reads)
+    (record { written = Some c.new-out.result.bytes.items; faults = c.new-out.result.faults }) (record { written = Some out.bytes.items; faults = out.faults })
+    c.args.file.now out.bytes.items refl c.new-disk.ensures.bytes (ap (λ (x : List ℕ). Some x) c.new-out.ensures.bytes) refl c.new-out.ensures.faults no
+    Verdicts (Some c.new-source.result.left.now) (Some job.new.log_in.left.now) c.args.logs.now job.new.log_in.left.now (ap (λ (x : List ℕ). Some x) c.new-source.ensures) refl job.result.0 job.ensures.judges
+    (λ e. unmoved (job.ensures.input e)) not_short not_memory job.ensures.statuses)

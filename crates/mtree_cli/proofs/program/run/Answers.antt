@@ -43,11 +43,11 @@ returns-in-Err-Memory-clause-memory g c = λ no is. unchanged (g.D.Disk.state c.
 pub returns-in-Err-Memory-clause-statuses : goal.returns-in-Err-Memory-clause-statuses
 returns-in-Err-Memory-clause-statuses g c = memory_status (task_of (job_of (texts_of c.args.words.now))) c.end_with.result.0 c.end_with.ensures.status
 
-pub returns-in-Ok-clause-memory : goal.returns-in-Ok-clause-memory
-returns-in-Ok-clause-memory g c = λ no is. unchanged (g.D.Disk.state c.args.index.now)
+pub returns-in-Err-Usage-clause-memory : goal.returns-in-Err-Usage-clause-memory
+returns-in-Err-Usage-clause-memory g c = λ no is. unchanged (g.D.Disk.state c.args.index.now)
 
-pub returns-in-Ok-clause-long : goal.returns-in-Ok-clause-long
-returns-in-Ok-clause-long g c = nothing_taken _ (g.S.Source.left c.args.input.now) (g.L.Source.left c.args.log_in.now) c.put_line.result.0 (grind (arith))
+pub returns-in-Err-Usage-clause-long : goal.returns-in-Err-Usage-clause-long
+returns-in-Err-Usage-clause-long g c = nothing_taken _ (g.S.Source.left c.args.input.now) (g.L.Source.left c.args.log_in.now) c.put_line.result.0 (grind (arith))
 
 pub returns-in-Ok-Scan-clause-long : goal.returns-in-Ok-Scan-clause-long
 returns-in-Ok-Scan-clause-long g c = input_taken _ _ _ (g.L.Source.left c.args.log_in.now) c.run_scan.result.0 c.run_scan.ensures.long
@@ -95,8 +95,8 @@ returns-in-Ok-Verify-default-default-None-clause-other_same g c = unchanged (g.E
 pub returns-in-Ok-Check-default-default-None-clause-other_same : goal.returns-in-Ok-Check-default-default-None-clause-other_same
 returns-in-Ok-Check-default-default-None-clause-other_same g c = unchanged (g.E.Disk.state c.args.other.now)
 
-pub returns-in-Ok-clause-other_same : goal.returns-in-Ok-clause-other_same
-returns-in-Ok-clause-other_same g c = unchanged (g.E.Disk.state c.args.other.now)
+pub returns-in-Err-Usage-clause-other_same : goal.returns-in-Err-Usage-clause-other_same
+returns-in-Err-Usage-clause-other_same g c = unchanged (g.E.Disk.state c.args.other.now)
 
 pub returns-in-Err-Memory-clause-other_same : goal.returns-in-Err-Memory-clause-other_same
 returns-in-Err-Memory-clause-other_same g c = unchanged (g.E.Disk.state c.args.other.now)
