@@ -392,8 +392,7 @@ module _ (dim : ℕ) (bytes : List ℕ) (t : Live) where
       down level es reads =
           let lawful = read_lawful dim t.pages bytes page (Inner level es) reads in
           let e = chosen_entry s p es lawful.2 in
-          let holds : nodes dim bytes t page ≡ Some (Inner level es) = ap node_or_none reads in
-          (
+          let holds : nodes dim bytes t page ≡ Some (Inner level es) = ap node_or_none reads in (
             suc leads.0,
             (let w = leads.1 in omega arith),
             subst (LeadsTo (nodes dim bytes t) (suc leads.0) t.root) (sym e.2)

@@ -97,12 +97,15 @@ no_join_logs_judged what disk other left o0 o1 line = record {
 no_index_moved : (disk other : DiskState) (o0 o1 : SinkState) → Tells o0 o1 (codes "fault memory\n") → MigratesIndex disk disk other other o0 o1 8
 no_index_moved disk other o0 o1 line = record {
   old_same = unchanged other;
-  ends = inl (unchanged disk, record {
-    disk = λ is. absurd (omega arith);
-    not_empty = λ is. absurd (omega arith);
-    memory = λ is. line;
-    statuses = inr (inr refl);
-  });
+  ends = inl (
+    unchanged disk,
+    record {
+      disk = λ is. absurd (omega arith);
+      not_empty = λ is. absurd (omega arith);
+      memory = λ is. line;
+      statuses = inr (inr refl);
+    },
+  );
 }
 
 -- want of memory refuses no file

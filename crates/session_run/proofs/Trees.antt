@@ -112,8 +112,7 @@ module _ (old new : Nodes) (t : Live) (tree : List ℕ) (stands : StandsOnPages 
   pub walk_same : (opened coming : List ℕ) → WalksTo old (t.root ∷ []) opened coming → WalksTo new (t.root ∷ []) opened coming
   walk_same [] coming walk = walk
   walk_same (page ∷ opened) coming (before, walk, is, some, counts) =
-      let here : new page ≡ old page = same page (in_tree old t tree stands page (walk_reached old t.root opened before walk page is)) in
-      (
+      let here : new page ≡ old page = same page (in_tree old t tree stands page (walk_reached old t.root opened before walk page is)) in (
         before,
         walk_same opened before walk,
         is,
