@@ -30,7 +30,8 @@ use Rattle.batch_jobs.specs.Batches.{IsLarge, IsTooLong}
 use Rattle.batch_jobs.proofs.Whole.{out_of_memory}
 use Rattle.making_jobs.specs.Jobs.{IsSummary, ids_of, points_of}
 use Rattle.making_jobs.proofs.Generated.{no_memory}
-use Rattle.making_jobs.specs.Migrating.{Migrates as MigratesIndex, RefusesNothing}
+use Rattle.making_jobs.proofs.Migrated.{migrates_no_memory}
+use Rattle.making_jobs.specs.Migrating.{RefusesNothing}
 use Rattle.mtree_cli.specs.Run.Task.{Scans, Makes, Draws, Sessions, Generates, Migrates, Batches, Judges, Seals, Carries, Reports, JoinsWithin, ReportsJoins, Proves, Nothing}
 use Rattle.seal_jobs.specs.Seals.{Seals as SealsIndex, IsLarge as IsTooLargeToSeal}
 use Rattle.seal_jobs.specs.Carries.{CarriesLogs, IsDone}
@@ -93,21 +94,6 @@ no_join_logs_judged what disk other left o0 o1 line = record {
   long_line = λ is. absurd (omega arith);
 }
 
--- no new index was begun, and no old one was opened
-no_index_moved : (disk other : DiskState) (o0 o1 : SinkState) → Tells o0 o1 (codes "fault memory\n") → MigratesIndex disk disk other other o0 o1 8
-no_index_moved disk other o0 o1 line = record {
-  old_same = unchanged other;
-  ends = inl (
-    unchanged disk,
-    record {
-      disk = λ is. absurd (omega arith);
-      not_empty = λ is. absurd (omega arith);
-      memory = λ is. line;
-      statuses = inr (inr refl);
-    },
-  );
-}
-
 -- want of memory refuses no file
 no_file_refused : (disk other : DiskState) → RefusesNothing disk other 8
 no_file_refused disk other tells told empty head points tags is = (λ e. absurd (omega (arith, e)), λ e. absurd (omega (arith, e)), λ e. absurd (omega (arith, e)))
@@ -137,7 +123,7 @@ does_at_memory (Makes head) disk other input left v o0 o1 line = record {
 }
 does_at_memory (Sessions show) disk other input left v o0 o1 line = memory_session show input disk o0 o1 v 8 refl line
 does_at_memory (Generates asked) disk other input left v o0 o1 line = no_memory asked.head (points_of asked) (ids_of asked) (IsSummary asked) disk o0 o1 8 refl line
-does_at_memory Migrates disk other input left v o0 o1 line = (no_index_moved disk other o0 o1 line, no_file_refused disk other)
+does_at_memory Migrates disk other input left v o0 o1 line = (migrates_no_memory disk other o0 o1 8 refl line, no_file_refused disk other)
 does_at_memory (Batches show) disk other input left v o0 o1 line = out_of_memory show input disk o0 o1 v 8 refl line
 does_at_memory Draws disk other input left v o0 o1 line = record {
   unchanged = unchanged disk;
