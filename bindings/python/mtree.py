@@ -17,7 +17,6 @@ import ctypes
 import mmap
 import os
 import threading
-from concurrent.futures import ThreadPoolExecutor
 from typing import Any, Callable, Iterable, List, NamedTuple, Sequence, Tuple
 
 __all__ = ["Index", "prove", "Hit", "Report", "Error", "NoIndex", "NoQuery", "Damaged", "TooLong"]
@@ -187,6 +186,8 @@ class Index:
     def _each(ask: Callable[[Any], List[Hit]], points: Iterable[Any], threads: int) -> List[List[Hit]]:
         if threads <= 1:
             return [ask(point) for point in points]
+        from concurrent.futures import ThreadPoolExecutor  # here, since it takes longer to load than many queries take
+
         with ThreadPoolExecutor(threads) as workers:
             return list(workers.map(ask, points))
 

@@ -1,5 +1,5 @@
 -- Commands that ask no query.
-use Rattle.std.proofs.Common.{◌≡◌, ℕ, List, length, refl, sym, ap, Option, None}
+use Rattle.std.proofs.Common.{◌≡◌, ℕ, List, length, refl, sym, ap, None}
 use Rattle.metric_laws.specs.Space.{Space}
 use Rattle.rows_text.specs.declared.command.Command.TheVariants as command
 use Rattle.rows_text.specs.declared.reply.Reply.TheVariants as reply
@@ -16,7 +16,7 @@ counted s live image = length-points (objects (nodes_in s.words live image) live
 
 pub count_is : (s : Space) (live : Live) (image : List ℕ) → IsOutcomeOf s live image command.Count (outcome.Done (reply.Count live.count) None)
 count_is s live image = record {
-  meant = λ sound. ((λ limit. ap (λ (n : ℕ). reply.Count n) (sym (counted s live image))), refl);
+  meant = λ sound. record { meaning = λ limit. ap (λ (n : ℕ). reply.Count n) (sym (counted s live image)); logged = refl };
   told = ((λ limit. ap (λ (n : ℕ). reply.Count n) (sym (counted s live image))), refl);
   lawful = (tt, refl);
 }

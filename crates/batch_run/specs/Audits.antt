@@ -1,6 +1,7 @@
--- The audit of an image, whole and in parts.
-use Rattle.std.specs.Prelude.{◌≡◌, ℕ, ◌+◌, List, [], ◌∷◌, length, Option, Some, None, Result, Ok, Err}
+-- The audit of a file, whole and in parts.
+use Rattle.std.specs.Prelude.{◌≡◌, ℕ, ◌+◌, List, [], ◌∷◌, length, Option, Some, None, Result, Ok, Err, IsTrue}
 use Rattle.metric_laws.specs.Space.{Space}
+use Rattle.disk_model.specs.Disk.{DiskState}
 use Rattle.tree_shape.specs.declared.entry.InnerEntry.{InnerEntry}
 use Rattle.tree_shape.specs.declared.live.Live.{Live}
 use Rattle.tree_shape.specs.Tree.{pages_at}
@@ -33,14 +34,21 @@ IsFaultOf s live image (Page (page.Repeats p)) = ⊥
 IsFaultOf s live image (Page (page.Level p)) = ⊥
 IsFaultOf s live image fault = audit_of s live image ≡ Some fault
 
--- what the walk of an entry of the root met, where it has no fault
-abbrev pub IsPartOf : Space → Live → List ℕ → ℕ → InnerEntry → Part → Type 0
-IsPartOf s live image i e part = part_told s (reading s.words live.pages image) live i e ≡ Ok (met_in part)
+-- ---- the audit in parts, on a disk that several threads read
+
+-- what the walk of an entry of the root met, where it has no fault and the disk tells its bytes
+abbrev pub IsPartOf : Space → Live → DiskState → ℕ → InnerEntry → Part → Type 0
+IsPartOf s live disk i e part = IsTrue disk.tells → part_told s (reading s.words live.pages disk.bytes) live i e ≡ Ok (met_in part)
 
 -- the entries of the root, the first of which has this place, were walked, each by itself, and those without a fault met this
-abbrev pub AreTried : Space → Live → List ℕ → ℕ → List InnerEntry → List (Result Part AuditFault) → Type 0
-AreTried s live image i [] [] = Unit {0}
-AreTried s live image i [] (part ∷ parts) = ⊥
-AreTried s live image i (e ∷ es) [] = ⊥
-AreTried s live image i (e ∷ es) (Ok part ∷ parts) = IsPartOf s live image i e part × AreTried s live image (i + 1) es parts
-AreTried s live image i (e ∷ es) (Err fault ∷ parts) = AreTried s live image (i + 1) es parts
+abbrev pub AreTried : Space → Live → DiskState → ℕ → List InnerEntry → List (Result Part AuditFault) → Type 0
+AreTried s live disk i [] [] = Unit {0}
+AreTried s live disk i [] (part ∷ parts) = ⊥
+AreTried s live disk i (e ∷ es) [] = ⊥
+AreTried s live disk i (e ∷ es) (Ok part ∷ parts) = IsPartOf s live disk i e part × AreTried s live disk (i + 1) es parts
+AreTried s live disk i (e ∷ es) (Err fault ∷ parts) = AreTried s live disk (i + 1) es parts
+
+-- the numbers of a tree without a fault, where the disk tells its bytes
+pub record AreNumbersOn (s : Space) (live : Live) (disk : DiskState) (a : Audited) : Type 0 where
+  pub objects : a.objects ≡ live.count
+  pub told : IsTrue disk.tells → AreNumbersOf s live disk.bytes a

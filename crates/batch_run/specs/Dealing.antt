@@ -21,9 +21,11 @@ place_of d seat = seat % d.rounds * d.workers + wound d.workers (seat / d.rounds
 
 -- each seat whose place is below the count holds something
 abbrev pub AreSeated : {X : Type 0} → Rounds → ℕ → List (Option (Result X AllocError)) → Type 0
-AreSeated {X} d count seats = (length seats ≡ d.rounds * d.workers) × ((seat : ℕ) → seat < length seats → place_of d seat < count → slice_get seats seat ≢ Some None)
+AreSeated {X} d count seats = (length seats ≡ d.rounds * d.workers) × ((seat : ℕ) → seat < length seats → place_of d seat < count →
+    slice_get seats seat ≢ Some None)
 
 -- in the order of the places: at each place below the count what its seat holds
 abbrev pub AreInOrder : {X : Type 0} → Rounds → ℕ → List (Option (Result X AllocError)) → List X → Type 0
 AreInOrder {X} d count seats xs =
-    (length xs ≡ count) × ((place : ℕ) (x : X) → slice_get xs place ≡ Some x → (seat : ℕ) × (place_of d seat ≡ place) × (slice_get seats seat ≡ Some (Some (Ok x))))
+    (length xs ≡ count) × ((place : ℕ) (x : X) → slice_get xs place ≡ Some x → (seat : ℕ) × (place_of d seat ≡ place)
+    × (slice_get seats seat ≡ Some (Some (Ok x))))

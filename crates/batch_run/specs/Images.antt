@@ -1,7 +1,6 @@
 -- Files in memory.
 use Rattle.std.specs.Prelude.{◌≡◌, ℕ, ◌*◌, ◌<◌, List, length, slice_index}
 use Rattle.outside_io.specs.Causes.{Rose}
-use Rattle.node_page.specs.declared.node.Version.{Version}
 use Rattle.page_store.specs.Reading.{reading}
 use Rattle.batch_run.specs.declared.images.ImageFault.{ImageFault}
 use Rattle.batch_run.specs.declared.images.ImageFault.TheVariants as fault

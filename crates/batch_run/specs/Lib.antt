@@ -1,3 +1,4 @@
 pub mod Images
 pub mod Dealing
 pub mod Audits
+pub mod Jobs

@@ -1,25 +1,27 @@
-//! The audit of a file in memory.
+//! The audit of a file by several threads.
 
 ghost use Rattle.std.specs.Prelude.{◌≡◌, ◌≤◌, ◌<◌, ◌+◌, ◌^◌, length, map, Ok, slice_index_or, IsTrue, IfOk, IfErr, IfSome};
 ghost use Rattle.tree_shape.specs.Fill.{IsFilled, root_least};
-ghost use Rattle.tree_audit.specs.Audited.{audit_fault};
-ghost use Rattle.batch_run.specs.Audits.{AreNumbersOf, AreTried, IsFaultOf, IsPartOf};
+ghost use Rattle.batch_run.specs.Audits.{AreNumbersOf, AreNumbersOn, AreTried, IsFaultOf, IsPartOf};
 
 use crate::Memory;
+use disk_model::SharedDisk;
 use image_answers::pages_of;
 use metric_laws::{Meter, Metric};
-use page_store::Pages;
+use page_store::{DiskPages, PageFault, Pages};
 use par_work::share;
+use slice_disk::SliceDisk;
 use std::alloc::Global;
 use std::thread::Threads;
 use tree_audit::laws::parts_make_the_whole;
 use tree_audit::{AuditFault, Audited, Part, audit, audit_part, join_parts};
 use tree_shape::{InnerEntry, Live, Node, fill};
 
-// The entry of the root at this place and the subtree below it, audited as if nothing was met before.
-fn part_of<M: Metric>(
+// The entry of the root at this place and the subtree below it, audited through a reader of its own, as if nothing was met
+// before. Where there is no reader to be had the answer is that of a disk that failed.
+fn part_of<D: SharedDisk, M: Metric>(
     alloc: Global,
-    image: &[u8],
+    disk: &D,
     metric: M,
     live: &Live,
     place: usize,
@@ -28,11 +30,14 @@ fn part_of<M: Metric>(
     requires pages { live.now.pages ≤ 2 ^ 24 }
     requires above { 1 ≤ live.now.height }
     requires place { place < 2 ^ 32 }
-    ensures { IfOk result (IsPartOf (M.space metric) live.now image.now place entry.now) }
+    ensures { IfOk result (IsPartOf (M.space metric) live.now (D.state disk.now) place entry.now) }
 {
-    let mut pages = pages_of(image, metric, live);
-    let mut ruler = Meter::new(metric);
+    let Some(mut reader) = disk.reader(alloc) else {
+        return Err(AuditFault::Page(PageFault::Disk));
+    };
     let dim = metric.words() as u8;
+    let mut pages = DiskPages::new(&mut reader, dim, live.pages);
+    let mut ruler = Meter::new(metric);
     audit_part(
         alloc,
         &mut pages,
@@ -45,10 +50,10 @@ fn part_of<M: Metric>(
 }
 
 // Each entry of the root, audited by itself. The entries are cut in order into pieces of `ceil(e / workers)`.
-fn try_parts<R: Threads + Sync, M: Metric>(
+fn try_parts<R: Threads + Sync, D: SharedDisk, M: Metric>(
     rt: &R,
     alloc: Global,
-    image: &[u8],
+    disk: &D,
     metric: M,
     live: &Live,
     entries: &[InnerEntry],
@@ -59,12 +64,12 @@ fn try_parts<R: Threads + Sync, M: Metric>(
     requires entries { length entries.now < 2 ^ 32 }
     requires some_workers { 1 ≤ workers }
     requires few_workers { workers ≤ 64 }
-    ensures { IfOk result (λ parts. AreTried (M.space metric) live.now image.now 0 entries.now parts.items) }
+    ensures { IfOk result (λ parts. AreTried (M.space metric) live.now (D.state disk.now) 0 entries.now parts.items) }
 {
     let work = |i: usize| -> Result<Part, AuditFault>
         requires { (live.now.pages ≤ 2 ^ 24) × (1 ≤ live.now.height) × (length entries.now < 2 ^ 32) × (i < length entries.now) }
-        ensures { (e : InnerEntry) → IfOk result (IsPartOf (M.space metric) live.entry.now image.entry.now i (slice_index_or entries.entry.now i e)) }
-    { part_of(alloc, image, metric, live, i, &entries[i]) };
+        ensures { (e : InnerEntry) → IfOk result (IsPartOf (M.space metric) live.entry.now (D.state disk.entry.now) i (slice_index_or entries.entry.now i e)) }
+    { part_of(alloc, disk, metric, live, i, &entries[i]) };
     share(rt, alloc, entries.len(), workers, &work)
 }
 
@@ -96,12 +101,16 @@ fn is_root(live: &Live, dim: u8, level: u8, count: usize) -> bool
     live.height >= 1 && u32::from(level) == live.height && count >= 2 && count <= fill(dim).most
 }
 
-// The numbers of a tree that its parts, audited apart from one another, show to be sound. There are none where a part has a
-// fault, two parts have something in common, or the root is no inner node.
-fn sound_by_parts<R: Threads + Sync, M: Metric>(
+/// The numbers of a tree that its parts, audited apart from one another by so many threads, show to be sound. There are none where
+/// a part has a fault or couldn't be read, two parts have something in common, or the root is no inner node; then the audit of the
+/// whole tree tells what is so.
+///
+/// Each worker audits the subtrees of some entries of the root that stand side by side, through readers of its own, and then one
+/// thread compares what they met.
+pub fn sound_by_parts<R: Threads + Sync, D: SharedDisk, M: Metric>(
     rt: &R,
     alloc: Global,
-    image: &[u8],
+    disk: &D,
     metric: M,
     live: &Live,
     workers: usize,
@@ -109,10 +118,14 @@ fn sound_by_parts<R: Threads + Sync, M: Metric>(
     requires pages { live.now.pages ≤ 2 ^ 24 }
     requires some_workers { 1 ≤ workers }
     requires few_workers { workers ≤ 64 }
-    ensures { IfOk result (λ shown. IfSome shown (AreNumbersOf (M.space metric) live.now image.now)) }
+    ensures { IfOk result (λ shown. IfSome shown (AreNumbersOn (M.space metric) live.now (D.state disk.now))) }
 {
     parts_make_the_whole();
-    let mut pages = pages_of(image, metric, live);
+    let Some(mut reader) = disk.reader(alloc) else {
+        return Ok(None);
+    };
+    let dim = metric.words() as u8;
+    let mut pages = DiskPages::new(&mut reader, dim, live.pages);
     let node = match pages.node(alloc, live.root) {
         Ok(node) => node,
         Err(_) => return Ok(None),
@@ -122,11 +135,10 @@ fn sound_by_parts<R: Threads + Sync, M: Metric>(
         Node::Inner { level, entries } => (level, entries),
     };
     let entries = entries.as_slice();
-    let dim = metric.words() as u8;
     if !is_root(live, dim, level, entries.len()) {
         return Ok(None);
     }
-    let tried = try_parts(rt, alloc, image, metric, live, entries, workers)?;
+    let tried = try_parts(rt, alloc, disk, metric, live, entries, workers)?;
     match all_parts(alloc, tried)? {
         Some(parts) => join_parts(alloc, live, &parts),
         None => Ok(None),
@@ -136,9 +148,7 @@ fn sound_by_parts<R: Threads + Sync, M: Metric>(
 /// Audits the live tree in the file with these bytes, whose points have `dim` coordinates: its numbers, or its first fault in
 /// the order of `audit`. It is the same for every number of workers, 1 to 64.
 ///
-/// Several workers audit the subtrees of the root's entries apart from one another, each worker some entries that stand side
-/// by side, and then one compares what they met. Where that does not show the tree to be sound, one worker audits it whole,
-/// which names the fault.
+/// Where its parts do not show the tree to be sound, one worker audits it whole, which names the fault.
 pub fn audit_image<R: Threads + Sync, M: Metric>(
     rt: &R,
     alloc: Global,
@@ -156,7 +166,8 @@ pub fn audit_image<R: Threads + Sync, M: Metric>(
     ensures err { IfErr result (IsFaultOf (M.space metric) live.now image.now) }
 {
     if workers > 1 {
-        match sound_by_parts(rt, alloc, image, metric, live, workers) {
+        let disk = SliceDisk::new(image);
+        match sound_by_parts(rt, alloc, &disk, metric, live, workers) {
             Ok(Some(audited)) => return Ok(audited),
             Ok(None) => {}
             Err(_) => return Err(AuditFault::Memory),

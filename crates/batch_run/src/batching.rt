@@ -15,8 +15,8 @@ use std::alloc::Global;
 use std::thread::Threads;
 use tree_shape::Live;
 
-// What becomes of one command.
-fn outcome_of<M: Metric>(
+/// What becomes of one command on the file with these bytes, whose live slot this is.
+pub fn outcome_of<M: Metric>(
     alloc: Global,
     image: &[u8],
     metric: M,

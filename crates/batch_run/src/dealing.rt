@@ -135,8 +135,11 @@ pub fn share_evenly<R: Threads + Sync, X: Send + Drop, F: Fn(usize) -> Result<X,
 {
     let deal = Deal::of(count, workers);
     let seated = |seat: usize| -> Option<Result<X, Memory>>
-        requires { ((i : ℕ) → i < count → F.pre work.now i) × ((1 ≤ deal.rounds) × (1 ≤ deal.workers)) × ((deal.rounds < 2 ^ 33) × (deal.workers ≤ 64)) × (seat < deal.rounds * deal.workers) }
-        ensures { IfSome result (λ x. F.post work.entry.now (place_of (record { rounds = deal.rounds; workers = deal.workers }) seat) x) × IfNone result (count ≤ place_of (record { rounds = deal.rounds; workers = deal.workers }) seat) }
+        requires { ((i : ℕ) → i < count → F.pre work.now i) × ((1 ≤ deal.rounds) × (1 ≤ deal.workers))
+            × ((deal.rounds < 2 ^ 33) × (deal.workers ≤ 64)) × (seat < deal.rounds * deal.workers) }
+        ensures { IfSome result (λ x.
+            F.post work.entry.now (place_of (record { rounds = deal.rounds; workers = deal.workers }) seat) x)
+            × IfNone result (count ≤ place_of (record { rounds = deal.rounds; workers = deal.workers }) seat) }
     {
         let place = deal.place(seat);
         if place < count {

@@ -5,9 +5,10 @@ mod auditing;
 mod batching;
 mod dealing;
 mod images;
+pub mod jobs;
 pub mod laws;
 
-pub use auditing::audit_image;
+pub use auditing::{audit_image, sound_by_parts};
 pub use batching::batch;
 pub use images::{ImageFault, MOST_PAGES, read_image};
 

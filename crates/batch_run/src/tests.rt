@@ -1,7 +1,7 @@
 ghost use Rattle.std.specs.Prelude.{◌≡◌, ◌≤◌, ◌<◌, ◌^◌, length};
 
 use crate::laws::images_hold_the_file;
-use crate::{ImageFault, audit_image, batch, read_image};
+use crate::{ImageFault, audit_image, batch, read_image, sound_by_parts};
 use disk_model::{Disk, MemoryDisk};
 use image_answers::Outcome;
 use meeting::{Meeting, Seen};
@@ -311,6 +311,29 @@ fn two_workers_of_an_audit_meet(rt: HostRuntime) -> Result<(), Fail> {
         assert_eq!(rt; found, Ok(numbers));
         assert_eq!(rt; seen.met(), workers == 2);
     }
+    Ok(())
+}
+
+// What two threads show of the line on a disk, of which the readers fail at these calls.
+fn shown<R: AllocGlobal + Threads + Sync>(
+    rt: &R,
+    fails: &[u64],
+) -> Result<Option<Audited>, Memory> {
+    let alloc = rt.alloc();
+    let image = line(alloc)?;
+    let room = image.len() as u64;
+    let disk = MemoryDisk::new(alloc, image, room, room, fails.to_vec(alloc)?, None)?;
+    sound_by_parts(rt, alloc, &disk, L1::new(1), &LINE, 2)
+}
+
+#[test]
+fn parts_that_cannot_be_read_show_nothing(rt: HostRuntime) -> Result<(), Fail> {
+    let numbers = Audited {
+        objects: 33,
+        nodes: 3,
+    };
+    assert_eq!(rt; shown(&rt, &[])?, Some(numbers));
+    assert_eq!(rt; shown(&rt, &[0])?, None);
     Ok(())
 }
 

@@ -10,7 +10,8 @@ AreCounts counts all = (group : ℕ) → slice_index counts group ≡ in_group g
 -- the candidates for a group from place k on, as their distances from its seed and their places
 abbrev pub candidates_from : Far → ℕ → ℕ → List Member → ℕ → List Member → List (ℕ × ℕ)
 candidates_from far least a all k [] = []
-candidates_from far least a all k (p ∷ ps) = if is_candidate least all p then (far k a, k) ∷ candidates_from far least a all (k + 1) ps else candidates_from far least a all (k + 1) ps
+candidates_from far least a all k (p ∷ ps) = if is_candidate least all p then (far k a, k) ∷ candidates_from far least a all
+    (k + 1) ps else candidates_from far least a all (k + 1) ps
 
 -- one is nearer than another, or as near and at a lower place
 abbrev pub is_nearer : ℕ × ℕ → ℕ × ℕ → Bool

@@ -30,12 +30,22 @@ seed_point l (Some k) = Some (point_of l k)
 
 -- the entry of a row in the leaf of a seed's set
 abbrev pub leaf_entry : Load → Option ℕ → ℕ → LeafEntry
-leaf_entry l seed k = record { id = k; tag = slice_index_or l.tags k 0; parent = parent_distance l.space (seed_point l seed) (point_of l k); point = point_of l k }
+leaf_entry l seed k = record {
+  id = k;
+  tag = slice_index_or l.tags k 0;
+  parent = parent_distance l.space (seed_point l seed) (point_of l k);
+  point = point_of l k;
+}
 
 -- the entry of a group, whose node stands on this page, in the node of a seed's set
 abbrev pub group_entry : Load → Option ℕ → Group → ℕ → InnerEntry
 group_entry l seed g page =
-    record { child = page; radius = radius_of l (point_of l g.seed) g.members; parent = parent_distance l.space (seed_point l seed) (point_of l g.seed); point = point_of l g.seed }
+    record {
+      child = page;
+      radius = radius_of l (point_of l g.seed) g.members;
+      parent = parent_distance l.space (seed_point l seed) (point_of l g.seed);
+      point = point_of l g.seed;
+    }
 
 -- the number of the last of so many nodes from a place on
 abbrev pub last_of : (ℕ → ℕ) → ℕ → List Node → ℕ

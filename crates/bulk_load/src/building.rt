@@ -118,14 +118,16 @@ pub fn build<R: Threads + Sync, M: Metric>(
     // What is placed can be committed.
     ensures placement { IfOk result (IsPlacement head.now live.now numbers.now (length rows.now.points)) }
     ensures many { IfOk result (λ placed. length placed.staged ≡ node_count (M.space metric) rows.now.points tags.now) }
-    ensures apart { IfOk result (λ placed. (old : Nodes) → IsSoundTree (M.space metric) old live.now → AreOutside old live.now numbers.now → AreOutside old live.now (pages_of placed.staged)) }
+    ensures apart { IfOk result (λ placed. (old : Nodes) → IsSoundTree (M.space metric) old live.now →
+        AreOutside old live.now numbers.now → AreOutside old live.now (pages_of placed.staged)) }
 
     // It is a tree by itself, and the old root is left.
     ensures by_itself { IfOk result StandsByItself }
     ensures left { IfOk result (λ placed. placed.left ≡ live.now.root ∷ []) }
 
     // What is placed is the tree of the rows.
-    ensures loaded { IfOk result (λ placed. (new : Nodes) → Stand placed.staged new → HasLoaded (M.space metric) rows.now.points tags.now live.now numbers.now placed new) }
+    ensures loaded { IfOk result (λ placed. (new : Nodes) → Stand placed.staged new →
+        HasLoaded (M.space metric) rows.now.points tags.now live.now numbers.now placed new) }
 
     // When it is refused.
     ensures worn { (result ≡ Err BuildFault.Worn) ↔ (live.now.generation ≡ 2 ^ 48 - 1) }

@@ -67,7 +67,8 @@ fn move_over(least: usize, group: usize, place: usize, placed: &mut [Member], co
     requires place { place < length placed.old }
     requires groups { All (λ p. p.group < length counts.old) placed.old }
     requires counts { AreCounts counts.old placed.old }
-    ensures placed { placed.new ≡ (if is_candidate least placed.old (slice_index_or placed.old place (member_of 0)) then slice_set placed.old place (member_of group) else placed.old) }
+    ensures placed { placed.new ≡ (if is_candidate least placed.old (slice_index_or placed.old place (member_of 0))
+        then slice_set placed.old place (member_of group) else placed.old) }
     ensures long { length placed.new ≡ length placed.old }
     ensures groups { All (λ p. p.group < length counts.new) placed.new }
     ensures counts { AreCounts counts.new placed.new }

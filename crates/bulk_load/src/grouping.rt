@@ -64,7 +64,8 @@ fn parted<R: Threads + Sync, M: Metric>(
     requires seeds { length placing.now.seeds.now ≡ placing.now.distances.now.width }
     requires workers { (1 ≤ placing.now.workers) × (placing.now.workers ≤ 64) }
     ensures is { IfOk result (λ v. v.items ≡ filled_from (entry placing.now.distances.now.table) least 0 placing.now.distances.now.width
-        (placed_from (entry placing.now.distances.now.table) placing.now.room 0 placing.now.seeds.now 0 (replicate placing.now.distances.now.width 1) (length placing.now.distances.now.table))) }
+        (placed_from (entry placing.now.distances.now.table) placing.now.room 0 placing.now.seeds.now 0
+        (replicate placing.now.distances.now.width 1) (length placing.now.distances.now.table))) }
     ensures len { IfOk result (λ v. vec_len v ≡ length placing.now.distances.now.table) }
 {
     let mut placed = place_all(rt, alloc, placing)?;

@@ -68,7 +68,8 @@ impl Hints {
         }
         let count = BLOCK.min(placing.distances.objects() - place);
         let hint = |i: usize| -> Option<u32>
-            requires { (place + i < 2 ^ 64) × (place + i < length placing.now.distances.now.table) × (placing.now.distances.now.width ≤ 64) × (length counts.now ≡ placing.now.distances.now.width) }
+            requires { (place + i < 2 ^ 64) × (place + i < length placing.now.distances.now.table)
+                × (placing.now.distances.now.width ≤ 64) × (length counts.now ≡ placing.now.distances.now.width) }
             ensures { IfSome result (IsHint (entry placing.entry.now.distances.now.table) placing.entry.now.room (place + i) counts.entry.now) }
         { hint_for(placing, counts, place + i) };
         self.groups = share(rt, alloc, count, placing.workers, &hint)?;
@@ -79,7 +80,8 @@ impl Hints {
     /// What is known of the object at a place.
     #[tactic(auto, using(crate::proofs::Ahead::hint_at))]
     pub fn at(&self, place: usize) -> Option<u32>
-        ensures { (far : Far) (room : ℕ) (counts : List ℕ) → AreHints far room self.now.first counts self.now.groups.items → IfSome result (IsHint far room place counts) }
+        ensures { (far : Far) (room : ℕ) (counts : List ℕ) → AreHints far room self.now.first counts self.now.groups.items →
+            IfSome result (IsHint far room place counts) }
     {
         if self.first <= place && place - self.first < self.groups.len() {
             self.groups[place - self.first]

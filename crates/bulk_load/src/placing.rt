@@ -115,7 +115,8 @@ fn group_for<M: Metric>(
     requires counts { length counts.now ≡ placing.now.distances.now.width }
     requires hint { IfSome hint (IsHint (entry placing.now.distances.now.table) placing.now.room place counts.now) }
     ensures some { IfSome result (λ group. (group < placing.now.distances.now.width) × (slice_index counts.now group < placing.now.room)
-        × (nearest_from (entry placing.now.distances.now.table) placing.now.room place 0 None counts.now ≡ Some (entry placing.now.distances.now.table place group, group))) }
+        × (nearest_from (entry placing.now.distances.now.table) placing.now.room place 0 None counts.now ≡ Some
+        (entry placing.now.distances.now.table place group, group))) }
     ensures none { result ≡ None → nearest_from (entry placing.now.distances.now.table) placing.now.room place 0 None counts.now ≡ None }
 {
     if let Some(group) = with_room(hint, placing.room, counts) {
@@ -170,8 +171,10 @@ fn place_one<M: Metric>(
     ensures small { result.0.group < placing.now.distances.now.width }
     ensures counts { length counts.new ≡ length counts.old }
     ensures grown { HaveGrown counts.old counts.new }
-    ensures step { (left next : ℕ) → left ≡ next + 1 → placed_from (entry placing.now.distances.now.table) placing.now.room place (drop before placing.now.seeds.now) before counts.old left
-        ≡ result.0 ∷ placed_from (entry placing.now.distances.now.table) placing.now.room (place + 1) (drop result.1 placing.now.seeds.now) result.1 counts.new next }
+    ensures step { (left next : ℕ) → left ≡ next + 1 → placed_from (entry placing.now.distances.now.table) placing.now.room place
+        (drop before placing.now.seeds.now) before counts.old left
+        ≡ result.0 ∷ placed_from (entry placing.now.distances.now.table) placing.now.room (place + 1)
+        (drop result.1 placing.now.seeds.now) result.1 counts.new next }
 {
     let seeds = placing.seeds;
     if before < seeds.len() && seeds[before] as usize == place {
@@ -205,7 +208,9 @@ pub fn place_all<R: Threads + Sync, M: Metric>(
     requires width { (0 < placing.now.distances.now.width) × (placing.now.distances.now.width ≤ 64) }
     requires seeds { length placing.now.seeds.now ≡ placing.now.distances.now.width }
     requires workers { (1 ≤ placing.now.workers) × (placing.now.workers ≤ 64) }
-    ensures is { IfOk result (λ v. v.items ≡ placed_from (entry placing.now.distances.now.table) placing.now.room 0 placing.now.seeds.now 0 (replicate placing.now.distances.now.width 1) (length placing.now.distances.now.table)) }
+    ensures is { IfOk result (λ v.
+        v.items ≡ placed_from (entry placing.now.distances.now.table) placing.now.room 0 placing.now.seeds.now 0
+        (replicate placing.now.distances.now.width 1) (length placing.now.distances.now.table)) }
     ensures small { IfOk result (λ v. All (λ p. p.group < placing.now.distances.now.width) v.items) }
     ensures len { IfOk result (λ v. vec_len v ≡ length placing.now.distances.now.table) }
 {

@@ -86,7 +86,9 @@ fn all_made<R: Threads + Sync, M: Metric>(
         requires level { (1 ≤ set.now.level) × (set.now.level ≤ 14) }
         requires groups { All (IsGroupFor (load_by (M.space loading.now.metric) loading.now) (set.now.level - 1)) groups.now }
         requires inside { i < length groups.now }
-        ensures { (g : Group) → IfOk result (IsMadeOf (load_by (M.space loading.entry.now.metric) loading.entry.now) set.entry.now.seed (set.entry.now.level - 1) (slice_index_or groups.entry.now i g)) }
+        ensures { (g : Group) → IfOk result
+            (IsMadeOf (load_by (M.space loading.entry.now.metric) loading.entry.now) set.entry.now.seed (set.entry.now.level - 1)
+            (slice_index_or groups.entry.now i g)) }
     { made_of(rt, alloc, loading, set, &groups[i]) };
     share(rt, alloc, groups.len(), loading.workers, &work)
 }
@@ -106,11 +108,14 @@ pub fn add_tree<R: Threads + Sync, M: Metric>(
     requires seed { IfSome set.now.seed (λ k. k < length loading.now.rows.now.points) }
     requires set { IsSetFor (load_by (M.space loading.now.metric) loading.now) (is_top set.now.seed) set.now.level set.now.places.now }
     requires level { set.now.level ≤ 14 }
-    requires few { length nodes.old.items + length (nodes_at (load_by (M.space loading.now.metric) loading.now) (page_by loading.now) set.now.level set.now.seed set.now.places.now (length nodes.old.items)) ≤ 2 ^ 26 }
+    requires few { length nodes.old.items + length (nodes_at (load_by (M.space loading.now.metric) loading.now)
+        (page_by loading.now) set.now.level set.now.seed set.now.places.now (length nodes.old.items)) ≤ 2 ^ 26 }
     ensures page { IfOk result (λ page. page ≡ last_of (page_by loading.now) (length nodes.old.items)
-        (nodes_at (load_by (M.space loading.now.metric) loading.now) (page_by loading.now) set.now.level set.now.seed set.now.places.now (length nodes.old.items))) }
+        (nodes_at (load_by (M.space loading.now.metric) loading.now) (page_by loading.now) set.now.level set.now.seed
+        set.now.places.now (length nodes.old.items))) }
     ensures nodes { OnOk result (nodes.new.items ≡ nodes.old.items
-        ++ nodes_at (load_by (M.space loading.now.metric) loading.now) (page_by loading.now) set.now.level set.now.seed set.now.places.now (length nodes.old.items)) }
+        ++ nodes_at (load_by (M.space loading.now.metric) loading.now) (page_by loading.now) set.now.level set.now.seed
+        set.now.places.now (length nodes.old.items)) }
 {
     if loading.workers == 1 || set.level == 0 {
         return add_subtree(rt, alloc, loading, set, nodes);

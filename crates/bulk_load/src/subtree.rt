@@ -185,7 +185,8 @@ pub fn groups_in<R: Threads + Sync, M: Metric>(
     requires workers { (1 ≤ loading.now.workers) × (loading.now.workers ≤ 64) }
     requires set { IsSetFor (load_by (M.space loading.now.metric) loading.now) (is_top set.now.seed) set.now.level set.now.places.now }
     requires level { (1 ≤ set.now.level) × (set.now.level ≤ 14) }
-    ensures { IfOk result (λ gs. gs.items ≡ groups_at (load_by (M.space loading.now.metric) loading.now) (is_top set.now.seed) set.now.level set.now.places.now) }
+    ensures { IfOk result (λ gs. gs.items ≡ groups_at (load_by (M.space loading.now.metric) loading.now)
+        (is_top set.now.seed) set.now.level set.now.places.now) }
 {
     groups(
         rt,
@@ -216,11 +217,14 @@ pub fn add_subtree<R: Threads + Sync, M: Metric>(
     requires seed { IfSome set.now.seed (λ k. k < length loading.now.rows.now.points) }
     requires set { IsSetFor (load_by (M.space loading.now.metric) loading.now) (is_top set.now.seed) set.now.level set.now.places.now }
     requires level { set.now.level ≤ 14 }
-    requires few { length nodes.old.items + length (nodes_at (load_by (M.space loading.now.metric) loading.now) (page_by loading.now) set.now.level set.now.seed set.now.places.now (length nodes.old.items)) ≤ 2 ^ 26 }
+    requires few { length nodes.old.items + length (nodes_at (load_by (M.space loading.now.metric) loading.now)
+        (page_by loading.now) set.now.level set.now.seed set.now.places.now (length nodes.old.items)) ≤ 2 ^ 26 }
     ensures page { IfOk result (λ page. page ≡ last_of (page_by loading.now) (length nodes.old.items)
-        (nodes_at (load_by (M.space loading.now.metric) loading.now) (page_by loading.now) set.now.level set.now.seed set.now.places.now (length nodes.old.items))) }
+        (nodes_at (load_by (M.space loading.now.metric) loading.now) (page_by loading.now) set.now.level set.now.seed
+        set.now.places.now (length nodes.old.items))) }
     ensures nodes { OnOk result (nodes.new.items ≡ nodes.old.items
-        ++ nodes_at (load_by (M.space loading.now.metric) loading.now) (page_by loading.now) set.now.level set.now.seed set.now.places.now (length nodes.old.items)) }
+        ++ nodes_at (load_by (M.space loading.now.metric) loading.now) (page_by loading.now) set.now.level set.now.seed
+        set.now.places.now (length nodes.old.items)) }
 {
     if set.level == 0 {
         let entries = leaf_entries(alloc, loading, set)?;

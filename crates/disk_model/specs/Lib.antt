@@ -1,4 +1,5 @@
 pub mod Disk
+pub mod Shared
 pub mod Moments
 pub mod FileCounts
 pub mod Memory

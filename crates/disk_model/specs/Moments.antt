@@ -35,9 +35,12 @@ joined old mid new P first second = record {
 }
 
 -- one call more, before and after which every image has P
-pub goes_on : (old mid new : DiskState) (P : List ℕ → Type 0) → EachImage old mid P → IsOneCall mid new → ((image : List ℕ) → MayLeave mid image → P image) → ((image : List ℕ) → MayLeave new image → P image)
+pub goes_on : (old mid new : DiskState) (P : List ℕ → Type 0) → EachImage old mid P → IsOneCall mid new →
+    ((image : List ℕ) → MayLeave mid image → P image) → ((image : List ℕ) → MayLeave new image → P image)
     → EachImage old new P
-goes_on old mid new P first call before here = joined old mid new P first (weakened mid new (λ image. MayLeave mid image ⊎ MayLeave new image) P call (λ image either. ⊎_elim (before image) (here image) either))
+goes_on old mid new P first call before here =
+    joined old mid new P first (weakened mid new (λ image. MayLeave mid image ⊎ MayLeave new image) P call (λ image either.
+    ⊎_elim (before image) (here image) either))
 
 -- a stretch that only takes images away, as an opening sync, and then one in which every image has P
 pub once : (old mid new : DiskState) (P : List ℕ → Type 0) → EachImage old mid (MayLeave old) → EachImage mid new P → EachImageOnce old new P
@@ -54,8 +57,12 @@ pub then_unchanged : (old mid new : DiskState) → IsUnchanged old mid → IsUnc
 then_unchanged old mid new first second = record {
   same_tells = second.same_tells ∙ first.same_tells;
   same_bytes = second.same_bytes ∙ first.same_bytes;
-  same_images = λ image. (λ left. (first.same_images image).0 ((second.same_images image).0 left), λ left. (second.same_images image).1 ((first.same_images image).1 left));
-  time = joined old mid new (MayLeave old) first.time (weakened mid new (MayLeave mid) (MayLeave old) second.time (λ image left. (first.same_images image).0 left));
+  same_images = λ image. (
+    λ left. (first.same_images image).0 ((second.same_images image).0 left),
+    λ left. (second.same_images image).1 ((first.same_images image).1 left),
+  );
+  time = joined old mid new (MayLeave old) first.time (weakened mid new (MayLeave mid) (MayLeave old) second.time (λ image left.
+      (first.same_images image).0 left));
 }
 
 -- a write that was done is one that might have been cut short

@@ -2,7 +2,8 @@ ghost use Rattle.std.specs.Prelude.{◌≡◌, ◌+◌, ◌^◌, ◌≤◌, leng
 ghost use Rattle.outside_io.specs.Causes.{HasCause};
 ghost use Rattle.disk_model.specs.FileCounts.{state_of, told_nothing};
 
-use crate::{Disk, Failed};
+use crate::{Disk, Failed, SharedDisk};
+use std::alloc::Global;
 use std::fs::File;
 use std::io;
 use std::marker::Model;
@@ -94,5 +95,12 @@ impl Disk for FileDisk {
     fn sync(&mut self) -> Result<(), Failed> {
         let outcome = self.file.sync_all();
         self.answer(outcome)
+    }
+}
+
+impl SharedDisk for FileDisk {
+    fn reader(&self, _alloc: Global) -> Option<FileDisk> {
+        let file = self.file.try_clone().ok()?;
+        Some(FileDisk::new(file))
     }
 }

@@ -9,6 +9,7 @@ mod laws;
 mod memory_disk;
 mod record;
 mod replay;
+mod shared_disk;
 
 pub use disk::Disk;
 pub use file_disk::FileDisk;
@@ -18,6 +19,7 @@ pub use laws::{
 };
 pub use memory_disk::MemoryDisk;
 pub use outside_io::{Failed, Memory};
+pub use shared_disk::SharedDisk;
 
 #[cfg(test)]
 mod tests;

@@ -10,7 +10,7 @@ ghost use Rattle.disk_model.specs.Memory.Laws.{read_may_be_left, places_mix};
 use crate::entry::{Entry, Kind};
 use crate::file::{copy_out, overwrite};
 use crate::record::Record;
-use crate::{Disk, Failed, Memory};
+use crate::{Disk, Failed, Memory, SharedDisk};
 use std::alloc::Global;
 use std::marker::Model;
 
@@ -103,6 +103,18 @@ impl MemoryDisk {
         ensures image { IfOk result (λ file. (memory_state self.now).images (clock_at moment self.now) file.items) }
     {
         self.noted.image(alloc, &self.first, moment, pick)
+    }
+
+    // A disk that holds what a read of this one gives, and fails at the calls of the same numbers.
+    fn again(&self, alloc: Global) -> Result<MemoryDisk, Memory>
+        ensures { IfOk result (λ disk. (kept_by disk).read ≡ (kept_by self.now).read) }
+    {
+        let mut bytes = Vec::new(alloc);
+        bytes.extend_from_slice(&self.bytes)?;
+        let mut fails = Vec::new(alloc);
+        fails.extend_from_slice(&self.fails)?;
+        let size = bytes.len() as u64;
+        MemoryDisk::new(alloc, bytes, size, size, fails, self.stop)
     }
 
     // Whether the next call fails by its number.
@@ -276,5 +288,14 @@ impl Disk for MemoryDisk {
         ensures next { self.new ≡ after_call self.old (if is_ok result then sync else look) (is_ok result) }
     {
         self.sync_all()
+    }
+}
+
+impl SharedDisk for MemoryDisk {
+    fn reader(&self, alloc: Global) -> Option<MemoryDisk> {
+        match self.again(alloc) {
+            Ok(reader) => Some(reader),
+            Err(_) => None,
+        }
     }
 }

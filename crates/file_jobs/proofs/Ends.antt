@@ -1,5 +1,5 @@
 -- How an audit ends, by what its parts told.
-use Rattle.std.proofs.Common.{◌≡◌, ◌≢◌, ◌⊎◌, inl, ⊎_elim, ℕ, ◌≤◌, List, length, Option, Some, None, IsTrue, refl, sym, ◌∙◌, subst, arith}
+use Rattle.std.proofs.Common.{◌≡◌, ◌≢◌, ◌⊎◌, inl, ⊎_elim, ℕ, List, length, Option, Some, None, IsTrue, refl, sym, ◌∙◌, subst, arith}
 use Rattle.outside_io.specs.Causes.{Rose}
 use Rattle.disk_model.specs.Disk.{DiskState, IsUnchanged}
 use Rattle.tree_shape.specs.declared.live.Live.{Live}
@@ -51,9 +51,6 @@ told_by old faults told (audit.Count a b) other cause tells = cause tells
 
 pub audit_rose : (old : DiskState) (faults : ℕ) (told : Option AuditFault) (f : AuditFault) → f ≡ audit.Page page.Disk → HasFault old faults told f → Rose old.faults faults
 audit_rose old faults told f is cause = subst (HasFault old faults told) is cause
-
-pub rose_before : (a b c : ℕ) → a ≤ b → Rose b c → Rose a c
-rose_before a b c le rose = omega arith
 
 -- one status, and not another
 pub only : {P : Type 0} (r x n : ℕ) → r ≡ x → r ≡ n → n ≢ x → P

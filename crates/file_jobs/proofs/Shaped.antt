@@ -12,8 +12,9 @@ use Rattle.page_store.specs.declared.pages.PageFault.{PageFault}
 use Rattle.page_store.specs.declared.pages.PageFault.TheVariants as page
 use Rattle.page_store.specs.Reading.{Read, reading, nodes_of}
 use Rattle.page_store.specs.Shelf.{Shelf, IsPassing}
+use Rattle.page_store.specs.Tours.{Names, NamesInside, HasTourCause}
 use Rattle.tree_outline.specs.declared.outline.Shape.{Shape}
-use Rattle.tree_outline.specs.Shapes.{root_named, tree_lines, DrawsTo, ComesTo, ComesInside, HasShapeCause, IsCounted}
+use Rattle.tree_outline.specs.Shapes.{root_named, tree_lines, DrawsTo, IsCounted}
 use Rattle.file_jobs.specs.Shapes.{AreLinesOf, IsShapeOf, HasDamage, HasStop, IsDamaged, IsSound}
 
 -- what the pages of an opened file on a disk mean
@@ -47,7 +48,7 @@ lines_of (Ok shape) old d head live is walks draws = λ tells.
 abbrev pub PassesOn : Shelf → Live → PageFault → Type 0
 PassesOn old live fault = IsTrue old.tells → (s : Space) → IsSoundTree s (nodes_of old.read) live → IsPassing fault
 
-stop_by : (fault : PageFault) (old new : Shelf) (d : DiskState) (n : ℕ) (head : Head) (live : Live) → IsOf old d head live → n ≡ new.faults → HasShapeCause live old new fault → PassesOn old live fault
+stop_by : (fault : PageFault) (old new : Shelf) (d : DiskState) (n : ℕ) (head : Head) (live : Live) → IsOf old d head live → n ≡ new.faults → HasTourCause live old new fault → PassesOn old live fault
     → HasStop head live d n fault
 stop_by page.Disk old new d n head live is last cause passes = subst (λ (k : ℕ). Rose k n) is.faults (subst (λ (k : ℕ). Rose old.faults k) (sym last) cause)
 stop_by page.Memory old new d n head live is last cause passes = tt
@@ -55,23 +56,23 @@ stop_by (page.Level p) old new d n head live is last cause passes = cause
 stop_by (page.Bad p f) old new d n head live is last cause passes = λ tells.
     let told : IsTrue old.tells = subst IsTrue (sym is.tells) tells in
     record {
-      stops = subst (λ (read : Read). (read p ≡ Err (page.Bad p f)) × ComesInside (nodes_of read) live p) is.read (cause.2 told);
+      stops = subst (λ (read : Read). (read p ≡ Err (page.Bad p f)) × NamesInside (nodes_of read) live p) is.read (cause.2 told);
       unsound = λ sound. passes told (mix_space head.kind head.dim) (sound_on old d head live is sound);
     }
 stop_by (page.Outside p) old new d n head live is last cause passes = λ tells.
     let told : IsTrue old.tells = subst IsTrue (sym is.tells) tells in
     record {
-      stops = subst (λ (read : Read). (read p ≡ Err (page.Outside p)) × ComesInside (nodes_of read) live p) is.read (cause.1 told);
+      stops = subst (λ (read : Read). (read p ≡ Err (page.Outside p)) × NamesInside (nodes_of read) live p) is.read (cause.1 told);
       unsound = λ sound. passes told (mix_space head.kind head.dim) (sound_on old d head live is sound);
     }
 stop_by (page.Repeats p) old new d n head live is last cause passes = λ tells.
     let told : IsTrue old.tells = subst IsTrue (sym is.tells) tells in
     record {
-      stops = subst (λ (read : Read). ComesTo (nodes_of read) live.root live.pages p) is.read (cause.1 told);
+      stops = subst (λ (read : Read). Names (nodes_of read) live.root live.pages p) is.read (cause.1 told);
       unsound = λ sound. passes told (mix_space head.kind head.dim) (sound_on old d head live is sound);
     }
 
-pub stop_of : (r : Result Shape PageFault) (old new : Shelf) (d : DiskState) (n : ℕ) (head : Head) (live : Live) → IsOf old d head live → n ≡ new.faults → IfErr r (HasShapeCause live old new)
+pub stop_of : (r : Result Shape PageFault) (old new : Shelf) (d : DiskState) (n : ℕ) (head : Head) (live : Live) → IsOf old d head live → n ≡ new.faults → IfErr r (HasTourCause live old new)
     → IfErr r (PassesOn old live) → IfErr r (HasStop head live d n)
 stop_of (Ok shape) old new d n head live is last cause passes = tt
 stop_of (Err fault) old new d n head live is last cause passes = stop_by fault old new d n head live is last cause passes

@@ -5,7 +5,7 @@ use Rattle.outside_io.specs.Bytes.{AppendsPrefix}
 use Rattle.outside_io.specs.Causes.{Rose}
 use Rattle.outside_io.specs.Sinks.{SinkState, Tells}
 use Rattle.disk_model.specs.Disk.{DiskState, LeavesOnly, IsUnchanged}
-use Rattle.metric_mix.specs.MixSpaces.{mix_space}
+use Rattle.file_jobs.specs.Spaces.{space_of}
 use Rattle.tree_shape.specs.declared.live.Live.{Live}
 use Rattle.tree_shape.specs.Tree.{pages_at}
 use Rattle.node_page.specs.declared.head.Head.{Head}
@@ -54,7 +54,7 @@ pub record IsAudited (file : List ℕ) (fault : Option AuditFault) : Type 0 wher
   pub live : Live
   pub opens : OpensTo file head live
   pub version : head.version ≡ 2
-  pub told : audit_fault (mix_space head.kind head.dim) (reading head.dim live.pages file) live ≡ fault
+  pub told : audit_fault (space_of head) (reading head.dim live.pages file) live ≡ fault
 
 -- a sound file with so many objects and nodes
 pub record IsSoundWith (file : List ℕ) (objects nodes : ℕ) : Type 0 where
@@ -65,11 +65,14 @@ pub record IsSoundWith (file : List ℕ) (objects nodes : ℕ) : Type 0 where
 -- what stands on out when `audit` ends
 pub record Audits (disk0 disk1 : DiskState) (out0 out1 : SinkState) (status : ℕ) : Type 0 where
   pub unchanged : IsUnchanged disk0 disk1
-  pub sound : status ≡ 0 → (objects : ℕ) × (nodes : ℕ) × Appends out0.written out1.written (sound_text objects nodes) × (IsTrue disk0.tells → IsSoundWith disk0.bytes objects nodes)
-  pub rejected : status ≡ 1 → (fault : AuditFault) × Appends out0.written out1.written (rejected_text fault) × (IsTrue disk0.tells → IsAudited disk0.bytes (Some fault))
+  pub sound : status ≡ 0 → (objects : ℕ) × (nodes : ℕ) × Appends out0.written out1.written (sound_text objects nodes)
+      × (IsTrue disk0.tells → IsSoundWith disk0.bytes objects nodes)
+  pub rejected : status ≡ 1 → (fault : AuditFault) × Appends out0.written out1.written (rejected_text fault)
+      × (IsTrue disk0.tells → IsAudited disk0.bytes (Some fault))
   -- a front of the lines
   pub part : status ≡ 4 →
-      ((objects : ℕ) × (nodes : ℕ) × AppendsPrefix out0.written out1.written (sound_text objects nodes) × (IsTrue disk0.tells → IsSoundWith disk0.bytes objects nodes))
+      ((objects : ℕ) × (nodes : ℕ) × AppendsPrefix out0.written out1.written (sound_text objects nodes)
+      × (IsTrue disk0.tells → IsSoundWith disk0.bytes objects nodes))
       ⊎ ((fault : AuditFault) × AppendsPrefix out0.written out1.written (rejected_text fault) × (IsTrue disk0.tells → IsAudited disk0.bytes (Some fault)))
   pub disk : status ≡ 5 → Rose disk0.faults disk1.faults × Tells out0 out1 (codes "fault disk\n")
   pub not_index : status ≡ 6 → (name : List ℕ) × Tells out0 out1 (not_index_text name) × (IsTrue disk0.tells → IsNoIndex disk0.bytes name)

@@ -1,4 +1,6 @@
 pub mod Lines
+pub mod Spaces
 pub mod Jobs
 pub mod Shapes
 pub mod Laws
+pub mod Logs

@@ -5,7 +5,7 @@ use Rattle.outside_io.specs.Bytes.{AppendsPrefix}
 use Rattle.outside_io.specs.Causes.{Rose}
 use Rattle.outside_io.specs.Sinks.{SinkState, Tells}
 use Rattle.disk_model.specs.Disk.{DiskState, IsUnchanged}
-use Rattle.metric_mix.specs.MixSpaces.{mix_space}
+use Rattle.file_jobs.specs.Spaces.{space_of}
 use Rattle.tree_shape.specs.declared.live.Live.{Live}
 use Rattle.node_page.specs.declared.head.Head.{Head}
 use Rattle.node_page.specs.Opening.{OpensTo}
@@ -13,14 +13,15 @@ use Rattle.page_store.specs.declared.pages.PageFault.{PageFault}
 use Rattle.page_store.specs.declared.pages.PageFault.TheVariants as page
 use Rattle.page_store.specs.Reading.{reading}
 use Rattle.page_store.specs.Files.{IsSoundFile, nodes_in}
+use Rattle.page_store.specs.Tours.{Names, NamesInside}
 use Rattle.tree_outline.specs.declared.outline.ShapeLine.{ShapeLine}
-use Rattle.tree_outline.specs.Shapes.{root_named, tree_lines, DrawsTo, ComesTo, ComesInside}
+use Rattle.tree_outline.specs.Shapes.{root_named, tree_lines, DrawsTo}
 use Rattle.file_jobs.specs.Lines.{damaged_text, not_index_text, shape_text}
 use Rattle.file_jobs.specs.Jobs.{IsNoIndex}
 
 -- the file is sound in its head's space
 abbrev pub IsSound : Head → Live → List ℕ → Type 0
-IsSound head live file = IsSoundFile (mix_space head.kind head.dim) head live file
+IsSound head live file = IsSoundFile (space_of head) head live file
 
 -- the lines of all nodes to which child numbers lead from the root, in pre-order; in a sound file those of its tree
 pub record AreLinesOf (head : Head) (live : Live) (file : List ℕ) (lines : List ShapeLine) : Type 0 where
@@ -37,12 +38,12 @@ pub record IsShapeOf (file : List ℕ) (height objects : ℕ) (lines : List Shap
   pub objects_are : objects ≡ live.count
   pub lines_are : AreLinesOf head live file lines
 
--- The walk of the tree comes to this page, which holds no node or is none of the file's; or it comes to this page after it has
--- opened as many as there are.
+-- The walk of the tree by child numbers names this page, which holds no node or is none of the file's; or it names this page
+-- after it has opened as many as there are.
 abbrev pub StopsAt : ℕ → Live → List ℕ → PageFault → Type 0
-StopsAt dim live file (page.Bad p fault) = (reading dim live.pages file p ≡ Err (page.Bad p fault)) × ComesInside (nodes_in dim live file) live p
-StopsAt dim live file (page.Outside p) = (reading dim live.pages file p ≡ Err (page.Outside p)) × ComesInside (nodes_in dim live file) live p
-StopsAt dim live file (page.Repeats p) = ComesTo (nodes_in dim live file) live.root live.pages p
+StopsAt dim live file (page.Bad p fault) = (reading dim live.pages file p ≡ Err (page.Bad p fault)) × NamesInside (nodes_in dim live file) live p
+StopsAt dim live file (page.Outside p) = (reading dim live.pages file p ≡ Err (page.Outside p)) × NamesInside (nodes_in dim live file) live p
+StopsAt dim live file (page.Repeats p) = Names (nodes_in dim live file) live.root live.pages p
 StopsAt dim live file _ = ⊥
 
 -- so the walk stops, and the file is not sound

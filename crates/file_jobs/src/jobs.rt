@@ -1,7 +1,7 @@
 // The jobs on files.
 ghost use Rattle.std.specs.Prelude.{◌≡◌, ◌≢◌, ◌⊎◌, ◌+◌, ◌≤◌, ◌^◌, ℕ, List, None, length, IsTrue, IfOk, IfErr, OnOk, codes};
 ghost use Rattle.disk_model.specs.Disk.{IsUnchanged};
-ghost use Rattle.metric_mix.specs.MixSpaces.{mix_space};
+ghost use Rattle.file_jobs.specs.Spaces.{space_of};
 ghost use Rattle.tree_shape.specs.Tree.{pages_at};
 ghost use Rattle.page_store.specs.Reading.{reading, nodes_of};
 ghost use Rattle.tree_audit.specs.Audited.{audit_fault};
@@ -92,12 +92,12 @@ pub fn audit_opened<D: Disk>(
     requires pages { live.now.pages ≤ 2 ^ 24 }
     ensures same { IsUnchanged (D.state disk.old) (D.state disk.new) }
     ensures ok { IfOk result (λ a. IsTrue (D.state disk.old).tells
-        → audit_fault (mix_space head.now.kind head.now.dim) (reading head.now.dim live.now.pages (D.state disk.old).bytes) live.now ≡ None) }
+        → audit_fault (space_of head.now) (reading head.now.dim live.now.pages (D.state disk.old).bytes) live.now ≡ None) }
     ensures objects { IfOk result (λ a. a.objects ≡ live.now.count) }
     ensures nodes { IfOk result (λ a. IsTrue (D.state disk.old).tells
         → a.nodes ≡ length (pages_at (nodes_of (reading head.now.dim live.now.pages (D.state disk.old).bytes)) live.now.height live.now.root)) }
     ensures err { IfErr result (HasFault (D.state disk.old) (D.state disk.new).faults
-        (audit_fault (mix_space head.now.kind head.now.dim) (reading head.now.dim live.now.pages (D.state disk.old).bytes) live.now)) }
+        (audit_fault (space_of head.now) (reading head.now.dim live.now.pages (D.state disk.old).bytes) live.now)) }
     ensures later { (D.state disk.old).faults ≤ (D.state disk.new).faults }
 {
     let mut pages = DiskPages::new(disk, head.dim, live.pages);

@@ -4,6 +4,7 @@
 mod jobs;
 pub mod laws;
 mod lines;
+pub mod logs;
 mod shape_lines;
 mod shaping;
 

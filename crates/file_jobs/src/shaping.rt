@@ -46,7 +46,8 @@ fn shape_opened<D: Disk>(
 fn end_shaped<K: Sink>(alloc: Global, shape: &Shape, out: &mut K) -> Status
     requires { shape.now.nodes ≡ length shape.now.lines }
     ensures done { result.0 ≡ 0 → Appends (K.state out.old).written (K.state out.new).written (shape_text shape.now.height shape.now.objects shape.now.lines) }
-    ensures part { result.0 ≡ 4 → AppendsPrefix (K.state out.old).written (K.state out.new).written (shape_text shape.now.height shape.now.objects shape.now.lines) }
+    ensures part { result.0 ≡ 4 → AppendsPrefix (K.state out.old).written (K.state out.new).written
+        (shape_text shape.now.height shape.now.objects shape.now.lines) }
     ensures memory { result.0 ≡ 8 → Tells (K.state out.old) (K.state out.new) (codes "fault memory\n") }
     ensures statuses { (result.0 ≡ 0) ⊎ ((result.0 ≡ 4) ⊎ (result.0 ≡ 8)) }
     ensures later { (K.state out.old).faults ≤ (K.state out.new).faults }

@@ -1,28 +1,23 @@
 -- Free and held pages across a commit.
-use Rattle.std.proofs.Common.{◌≡◌, ◌≢◌, ℕ, zero, suc, ◌+◌, ◌-◌, ◌≤◌, ◌<◌, ◌⊎◌, ◌||◌, Bool, true, false, cond, List, [], ◌∷◌, ◌++◌, inl, inr, refl, sym, ap, subst, ◌∙◌, arith, length, map, take, drop, min, get_or}
-use Rattle.std.specs.Prelude.{◌↔◌, ◌==◌, nat_lt, not, if◌then◌else◌}
-use Rattle.std.specs.List.{AllByRecursion, list_any, range_with_len}
+use Rattle.std.proofs.Common.{◌≡◌, ℕ, zero, suc, ◌+◌, ◌-◌, ◌≤◌, ◌<◌, ◌⊎◌, ◌||◌, Bool, true, false, List, [], ◌∷◌, inl, inr, refl, sym, ap, subst, ◌∙◌, arith, length, map, take, drop, min, get_or}
+use Rattle.std.specs.Prelude.{◌↔◌, nat_lt, if◌then◌else◌}
+use Rattle.std.specs.List.{AllByRecursion, range_with_len}
 use Rattle.std.proofs.lemmas.Bool.{cases_lt}
 use Rattle.std.proofs.lemmas.Bool.Decides.{nat_tests}
 use Rattle.std.proofs.lemmas.List.{get_or-take, length-take}
 use Rattle.metric_laws.specs.Lists.{IsIn}
 use Rattle.metric_laws.proofs.Lists.{all_in, in-append_left, in-map, map-in}
-use Rattle.tree_shape.specs.declared.live.Live.{Live}
 use Rattle.tree_shape.specs.Tree.{times}
-use Rattle.node_page.specs.declared.head.Head.{Head}
-use Rattle.page_store.specs.declared.staging.Placed.{Placed}
 use Rattle.page_store.specs.Numbers.{Ascends, AreNumbers, number_at}
-use Rattle.page_store.specs.Placing.{IsPlacement}
 use Rattle.page_store.specs.Reading.{IsWithin}
 use Rattle.page_store.specs.Staging.{pages_of}
-use Rattle.page_store.specs.Succession.{ShareNone}
 use Rattle.page_store.proofs.Given.{number_in, number_out}
 use Rattle.page_store.proofs.Following.{placements_new}
 use Rattle.free_pages.specs.declared.held.Held.{Held}
-use Rattle.free_pages.specs.Keeping.{FreePages, IsFreeOrHeld, IsKept, held_pages, is_kept, is_pinned_below, put_by, with_free, with_held, with_left, with_page, with_pins, without_pin}
-use Rattle.free_pages.specs.Commits.{with_all_left, after_commit, AreWithin, LiesBeside, AreOutside, IsExchange, FreePagesAreNumbers, PlacementsExchange, CommitsKeepWithin, CommitsKeepBeside, CommitsKeepOutside, IsGuarded, PinsGuard}
-use Rattle.free_pages.proofs.Ascending.{least_numbers, times-below}
-use Rattle.free_pages.proofs.Members.{leaving_keeps, while_pinned, pins_keep, in_pages, pages_in, in_range, range_in}
+use Rattle.free_pages.specs.Keeping.{FreePages, IsFreeOrHeld, IsKept, is_kept, is_pinned_below, put_by, with_left, with_page, without_pin}
+use Rattle.free_pages.specs.Commits.{with_all_left, after_commit, FreePagesAreNumbers, PlacementsExchange, CommitsKeepWithin, CommitsKeepBeside, CommitsKeepOutside, IsGuarded, PinsGuard}
+use Rattle.free_pages.proofs.Ascending.{least_numbers}
+use Rattle.free_pages.proofs.Members.{leaving_keeps, while_pinned, pins_keep, pages_in, in_range, range_in}
 use Rattle.free_pages.proofs.Whole.{in_from_times, times_from_in}
 
 -- ---- the first of a list, and the rest

@@ -9,5 +9,6 @@ mod SoundWalk
 mod Sorting
 pub mod Commits
 mod Steps
+mod Toured
 mod Whole
 mod WholeWalk

@@ -16,7 +16,8 @@ use Rattle.tree_shape.proofs.Counting.{times-append, counted, few}
 use Rattle.page_store.specs.declared.pages.PageFault.{PageFault}
 use Rattle.page_store.specs.Reading.{Read, nodes_of, node_or_none}
 use Rattle.page_store.specs.Placing.{live_pages}
-use Rattle.free_pages.specs.Walk.{children, walked, tree_walk}
+use Rattle.page_store.specs.Tours.{children}
+use Rattle.free_pages.specs.Walk.{walked, tree_walk}
 
 abbrev Once : List ℕ → Type 0
 Once xs = (k : ℕ) → times k xs ≤ 1

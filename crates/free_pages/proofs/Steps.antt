@@ -17,7 +17,8 @@ use Rattle.page_store.specs.Reading.{Read, IsWithin, is_within}
 use Rattle.page_store.specs.Shelf.{Shelf, HoldsSame, HasPageCause, IsNodeOf}
 use Rattle.free_pages.specs.Keeping.{is_among}
 use Rattle.free_pages.specs.Opened.{AreOpened, IsUnderWay}
-use Rattle.free_pages.specs.Walk.{children, walked, tree_walk, IsWalkFault}
+use Rattle.page_store.specs.Tours.{children}
+use Rattle.free_pages.specs.Walk.{walked, tree_walk, IsWalkFault}
 use Rattle.free_pages.proofs.SoundWalk.{opens}
 
 -- ---- flags

@@ -16,7 +16,8 @@ use Rattle.page_store.specs.declared.pages.PageFault.TheVariants.{Repeats}
 use Rattle.page_store.specs.Reading.{Read, nodes_of, node_or_none}
 use Rattle.page_store.specs.Reached.{IsReached, IsWholeTree, named_in}
 use Rattle.page_store.specs.Reached.IsReached.{at_root, by_child}
-use Rattle.free_pages.specs.Walk.{children, on_children, walked, tree_walk}
+use Rattle.page_store.specs.Tours.{children}
+use Rattle.free_pages.specs.Walk.{on_children, walked, tree_walk}
 
 -- ---- what each step keeps holds at the end
 

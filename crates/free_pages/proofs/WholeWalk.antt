@@ -14,7 +14,8 @@ use Rattle.page_store.specs.Reading.{Read, nodes_of, node_or_none}
 use Rattle.free_pages.specs.Keeping.{without_pin}
 use Rattle.free_pages.specs.Laws.{WholeTreesAreWalked}
 use Rattle.page_store.specs.Reached.{IsReached, IsWholeTree, named_in}
-use Rattle.free_pages.specs.Walk.{children, walked}
+use Rattle.page_store.specs.Tours.{children}
+use Rattle.free_pages.specs.Walk.{walked}
 use Rattle.free_pages.proofs.SoundWalk.{opens}
 use Rattle.free_pages.proofs.Whole.{Course, begun, course_step, in_nodes, in_from_times, times_from_in}
 

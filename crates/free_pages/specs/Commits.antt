@@ -51,7 +51,8 @@ FreePagesAreNumbers = (pages n : ℕ) (f : FreePages) → IsKept f → AreWithin
 -- what is placed on the first free pages is such a commit
 abbrev pub PlacementsExchange : Type 0
 PlacementsExchange =
-    (head : Head) (t : Live) (n added : ℕ) (f : FreePages) (placed : Placed) → IsKept f → AreWithin t.pages f → 3 ≤ t.pages → AllByRecursion (IsWithin t.pages) placed.left →
+    (head : Head) (t : Live) (n added : ℕ) (f : FreePages) (placed : Placed) → IsKept f → AreWithin t.pages f → 3 ≤ t.pages →
+    AllByRecursion (IsWithin t.pages) placed.left →
     IsPlacement head t (take n f.free) added placed →
     IsExchange t.pages placed.next.pages (min (length placed.staged) (length (take n f.free))) f (pages_of placed.staged) placed.left
 
@@ -65,7 +66,8 @@ CommitsKeepWithin =
 -- none of which was left
 abbrev pub CommitsKeepBeside : Type 0
 CommitsKeepBeside =
-    (pages next_pages used generation : ℕ) (f : FreePages) (staged left tree next_tree : List ℕ) → IsKept f → IsExchange pages next_pages used f staged left → AreWithin pages f →
+    (pages next_pages used generation : ℕ) (f : FreePages) (staged left tree next_tree : List ℕ) → IsKept f →
+    IsExchange pages next_pages used f staged left → AreWithin pages f →
     LiesBeside tree f → ((page : ℕ) → IsIn page next_tree → IsIn page tree ⊎ IsIn page staged) → ShareNone left next_tree →
     LiesBeside next_tree (after_commit used left generation f)
 
@@ -73,7 +75,8 @@ CommitsKeepBeside =
 -- ones together are the old tree's and the new ones.
 abbrev pub CommitsKeepOutside : Type 0
 CommitsKeepOutside =
-    (pages next_pages used generation : ℕ) (f : FreePages) (staged left tree next_tree : List ℕ) → IsKept f → IsExchange pages next_pages used f staged left → AreOutside pages tree f →
+    (pages next_pages used generation : ℕ) (f : FreePages) (staged left tree next_tree : List ℕ) → IsKept f →
+    IsExchange pages next_pages used f staged left → AreOutside pages tree f →
     ((page : ℕ) → times page tree ≤ 1) → AllByRecursion (IsWithin pages) tree →
     ((page : ℕ) → times page next_tree + times page left ≡ times page tree + times page staged) →
     AreOutside next_pages next_tree (after_commit used left generation f)
@@ -88,10 +91,14 @@ pub record IsGuarded (pages generation : ℕ) (f : FreePages) (tree : List ℕ) 
 -- A pin guards the pages of a tree that lies beside the free and held ones. What is guarded stays so while commits to later
 -- generations go on, as long as the pin is there, and no new node goes to a guarded page.
 pub record PinsGuard : Type 0 where
-  pub begin : (pages generation : ℕ) (f : FreePages) (tree : List ℕ) → IsIn generation f.pins → AllByRecursion (IsWithin pages) tree → LiesBeside tree f → IsGuarded pages generation f tree
-  pub commit : (pages next_pages used generation next : ℕ) (f : FreePages) (tree left : List ℕ) → generation < next → pages ≤ next_pages → IsGuarded pages generation f tree →
+  pub begin : (pages generation : ℕ) (f : FreePages) (tree : List ℕ) → IsIn generation f.pins →
+      AllByRecursion (IsWithin pages) tree → LiesBeside tree f → IsGuarded pages generation f tree
+  pub commit : (pages next_pages used generation next : ℕ) (f : FreePages) (tree left : List ℕ) → generation < next →
+      pages ≤ next_pages → IsGuarded pages generation f tree →
       IsGuarded next_pages generation (after_commit used left next f) tree
-  pub unwritten : (pages next_pages used generation : ℕ) (f : FreePages) (tree staged left : List ℕ) → IsGuarded pages generation f tree → IsExchange pages next_pages used f staged left → ShareNone staged tree
-  pub pin : (pages generation other : ℕ) (f : FreePages) (tree : List ℕ) → IsGuarded pages generation f tree → IsGuarded pages generation (record f { pins = f.pins ++ other ∷ [] }) tree
+  pub unwritten : (pages next_pages used generation : ℕ) (f : FreePages) (tree staged left : List ℕ) →
+      IsGuarded pages generation f tree → IsExchange pages next_pages used f staged left → ShareNone staged tree
+  pub pin : (pages generation other : ℕ) (f : FreePages) (tree : List ℕ) → IsGuarded pages generation f tree →
+      IsGuarded pages generation (record f { pins = f.pins ++ other ∷ [] }) tree
   pub unpin : (pages generation other : ℕ) (f : FreePages) (tree : List ℕ) → IsIn generation (without_pin other f.pins) → IsGuarded pages generation f tree →
       IsGuarded pages generation (with_pins f (without_pin other f.pins)) tree

@@ -1,5 +1,5 @@
 -- Laws of walks and of free pages.
-use Rattle.std.specs.Prelude.{◌≡◌, ◌↔◌, ◌⊎◌, ℕ, List, take, IsSome, Ok, true, false}
+use Rattle.std.specs.Prelude.{◌≡◌, ◌↔◌, ◌⊎◌, ℕ, List, [], ◌∷◌, take, IsSome, Ok, Err, true, false}
 use Rattle.std.specs.List.{AllByRecursion}
 use Rattle.metric_laws.specs.Lists.{IsIn}
 use Rattle.metric_laws.specs.Space.{Space}
@@ -7,7 +7,10 @@ use Rattle.tree_shape.specs.declared.live.Live.{Live}
 use Rattle.tree_shape.specs.Tree.{IsSoundTree}
 use Rattle.page_store.specs.Numbers.{Ascends, AreNumbers}
 use Rattle.page_store.specs.Placing.{live_pages}
+use Rattle.page_store.specs.declared.pages.PageFault.{PageFault}
+use Rattle.page_store.specs.declared.pages.PageFault.TheVariants.{Repeats}
 use Rattle.page_store.specs.Reading.{Read, IsWithin, nodes_of}
+use Rattle.page_store.specs.Tours.{Tours, Names}
 use Rattle.free_pages.specs.declared.held.Held.{Held}
 use Rattle.free_pages.specs.Keeping.{FreePages, IsFreeOrHeld, IsKept, held_pages, is_kept, is_pinned_below, with_free, with_left, with_pins}
 use Rattle.page_store.specs.Reached.{IsWholeTree}
@@ -26,6 +29,13 @@ abbrev pub WholeTreesAreWalked : Type 0
 WholeTreesAreWalked =
     (read : Read) (t : Live) (tree : List ℕ) → IsWholeTree (nodes_of read) t tree → AllByRecursion (λ page. IsSome (nodes_of read page)) tree →
     (order : List ℕ) × (tree_walk read t ≡ Ok order)
+
+-- The walk is the one by child numbers. Where it ends, that one is whole and opened the same pages; where it stops, that one
+-- names the page that holds no node or that repeats.
+pub record WalksAreTours : Type 0 where
+  pub ends : (read : Read) (t : Live) (tree : List ℕ) → tree_walk read t ≡ Ok tree → Tours (nodes_of read) (t.root ∷ []) tree []
+  pub stops : (read : Read) (t : Live) (fault : PageFault) → tree_walk read t ≡ Err fault →
+      (opened : ℕ) × (page : ℕ) × Names (nodes_of read) t.root opened page × ((read page ≡ Err fault) ⊎ (fault ≡ Repeats page))
 
 -- the pages outside some are those that may hold nodes and are none of them
 abbrev pub OutsideIsOutside : Type 0
@@ -48,7 +58,8 @@ PinsKeepPages =
 -- page is free
 pub record HeldWhilePinned : Type 0 where
   pub left : (f : FreePages) (page generation : ℕ) → is_pinned_below generation f.pins ≡ true →
-      ((with_left f page generation).free ≡ f.free) × ((is_kept f page ≡ true) ⊎ IsIn (record { page = page; generation = generation }) (with_left f page generation).held)
+      ((with_left f page generation).free ≡ f.free)
+      × ((is_kept f page ≡ true) ⊎ IsIn (record { page = page; generation = generation }) (with_left f page generation).held)
   pub stay : (f : FreePages) (page generation : ℕ) (h : Held) → IsIn h f.held → IsIn h (with_left f page generation).held
   pub pins : (f : FreePages) (pins : List ℕ) (h : Held) → IsIn h (with_pins f pins).held ↔ (IsIn h f.held × (is_pinned_below h.generation pins ≡ true))
   pub apart : (f : FreePages) (page : ℕ) → IsKept f → IsIn page f.free → IsIn page (held_pages f.held) → ⊥

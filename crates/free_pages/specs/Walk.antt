@@ -1,9 +1,8 @@
 -- The walk of a tree by its child numbers.
-use Rattle.std.specs.Prelude.{◌≡◌, ◌≢◌, ℕ, zero, suc, ◌-◌, ◌==◌, false, List, [], ◌∷◌, ◌++◌, map, filter, Result, Ok, Err, IsTrue, if◌then◌else◌}
+use Rattle.std.specs.Prelude.{◌≡◌, ◌≢◌, ℕ, zero, suc, ◌-◌, ◌==◌, false, List, [], ◌∷◌, ◌++◌, filter, Result, Ok, Err, IsTrue, if◌then◌else◌}
 use Rattle.std.specs.List.{range_with_len}
 use Rattle.outside_io.specs.Causes.{Rose}
 use Rattle.tree_shape.specs.declared.entry.Node.{Node}
-use Rattle.tree_shape.specs.declared.entry.Node.TheVariants.{Leaf, Inner}
 use Rattle.tree_shape.specs.declared.live.Live.{Live}
 use Rattle.tree_shape.specs.Tree.{times}
 use Rattle.node_page.specs.declared.node.NodeFault.TheVariants.{Memory as NodeMemory}
@@ -11,11 +10,7 @@ use Rattle.page_store.specs.declared.pages.PageFault.{PageFault}
 use Rattle.page_store.specs.declared.pages.PageFault.TheVariants.{Disk, Bad, Outside, Memory, Repeats, Level}
 use Rattle.page_store.specs.Reading.{Read, IsWithin, is_within}
 use Rattle.page_store.specs.Shelf.{Shelf}
-
--- the pages that a node names
-abbrev pub children : Node → List ℕ
-children (Leaf es) = []
-children (Inner level es) = map (λ e. e.child) es
+use Rattle.page_store.specs.Tours.{children}
 
 -- what is done with the pages that a page's node names
 abbrev pub on_children : Result Node PageFault → (List ℕ → Result (List ℕ) PageFault) → Result (List ℕ) PageFault

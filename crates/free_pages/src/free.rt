@@ -47,7 +47,13 @@ impl Model for Free {
 
     ghost view = { λ f. record { free = f.free.items; pins = f.pins.items; held = f.held.items; spare = f.spare; newest = f.newest } };
 
-    ghost invariant = { λ f. IsStored (record { free = f.free.items; pins = f.pins.items; held = f.held.items; spare = f.spare; newest = f.newest }) (deque_capacity f.free) (deque_capacity f.held) };
+    ghost invariant = { λ f. IsStored (record {
+      free = f.free.items;
+      pins = f.pins.items;
+      held = f.held.items;
+      spare = f.spare;
+      newest = f.newest;
+    }) (deque_capacity f.free) (deque_capacity f.held) };
 }
 
 impl Free {
@@ -67,7 +73,8 @@ impl Free {
         ensures fresh { IfOk result IsFresh }
         ensures kept { IfOk result IsKept }
         ensures err { IfErr result (IsWalkFault (P.shelf pages.old) (P.shelf pages.new) (tree_walk (P.shelf pages.old).read live.now)) }
-        ensures passing { IfErr result (λ fault. (s : Space) → IsTrue (P.shelf pages.old).tells → IsSoundTree s (nodes_of (P.shelf pages.old).read) live.now → IsPassing fault) }
+        ensures passing { IfErr result (λ fault. (s : Space) → IsTrue (P.shelf pages.old).tells →
+            IsSoundTree s (nodes_of (P.shelf pages.old).read) live.now → IsPassing fault) }
         ensures asked { 1 ≤ live.now.pages → (P.shelf pages.new).asked ≤ (P.shelf pages.old).asked + live.now.pages }
         ensures reads { 1 ≤ live.now.pages → (P.shelf pages.new).reads ≤ (P.shelf pages.old).reads + live.now.pages }
     {
@@ -201,7 +208,12 @@ impl Free {
     pub fn leave(&mut self, page: u32, generation: u64)
         requires { 1 ≤ self.old.spare }
         ensures left { self.new ≡ with_left self.old page generation }
-        ensures others { self.new ≡ record self.old { free = self.new.free; held = self.new.held; spare = self.new.spare; newest = max self.old.newest generation } }
+        ensures others { self.new ≡ record self.old {
+          free = self.new.free;
+          held = self.new.held;
+          spare = self.new.spare;
+          newest = max self.old.newest generation;
+        } }
         ensures spare { self.old.spare ≤ self.new.spare + 1 }
         ensures kept { IsKept self.new }
     {

@@ -1,7 +1,7 @@
 //! Laws of walks and of free pages.
 
 ghost use Rattle.free_pages.specs.Commits.{CommitsKeepBeside, CommitsKeepOutside, CommitsKeepWithin, FreePagesAreNumbers, PinsGuard, PlacementsExchange};
-ghost use Rattle.free_pages.specs.Laws.{HeldWhilePinned, LeastAreNumbers, LeavingKeepsPages, OutsideIsOutside, PinsKeepPages, SoundTreesAreWalked, WholeTreesAreWalked};
+ghost use Rattle.free_pages.specs.Laws.{HeldWhilePinned, LeastAreNumbers, LeavingKeepsPages, OutsideIsOutside, PinsKeepPages, SoundTreesAreWalked, WalksAreTours, WholeTreesAreWalked};
 
 /// The walk of a sound tree opens its pages in pre-order.
 pub fn sound_trees_are_walked()
@@ -16,6 +16,11 @@ pub fn least_are_numbers()
 /// The walk ends where each page that is reached holds a node and is named once.
 pub fn whole_trees_are_walked()
     ensures { WholeTreesAreWalked }
+{}
+
+/// The walk is the one by child numbers: where it ends, that one is whole; where it stops, that one names the page.
+pub fn walks_are_tours()
+    ensures { WalksAreTours }
 {}
 
 /// The pages outside a tree are those that may hold nodes and are none of it.

@@ -128,7 +128,8 @@ fn sort_pages(free: &mut VecDeque<u32>)
 // free pages.
 fn release_first(free: &mut VecDeque<u32>, held: &mut VecDeque<Held>, least: Option<u64>)
     requires { length free.old.items + length held.old.items ≤ deque_capacity free.old }
-    ensures released { (old_free : List ℕ) (old_held : List HeldPage) (left : ℕ) → IsReleasing least old_free old_held free.old.items held.old.items (left + 1) →
+    ensures released { (old_free : List ℕ) (old_held : List HeldPage) (left : ℕ) →
+        IsReleasing least old_free old_held free.old.items held.old.items (left + 1) →
         IsReleasing least old_free old_held free.new.items held.new.items left }
     ensures free_room { deque_capacity free.old ≤ deque_capacity free.new }
     ensures held_room { deque_capacity held.old ≤ deque_capacity held.new }

@@ -82,6 +82,7 @@ fn pages_outside_the_tree(rt: HostRuntime) -> Result<(), Fail> {
     laws::sound_trees_are_walked();
     laws::least_are_numbers();
     laws::whole_trees_are_walked();
+    laws::walks_are_tours();
     laws::outside_is_outside();
     laws::leaving_keeps_pages();
     laws::pins_keep_pages();

@@ -3,7 +3,8 @@ ghost use Rattle.std.specs.Prelude.{◌≡◌, ◌≤◌, ◌<◌, ◌+◌, ◌^
 ghost use Rattle.tree_shape.specs.declared.live.Live.{Live};
 ghost use Rattle.page_store.specs.Shelf.{Shelf, HoldsSame};
 ghost use Rattle.free_pages.specs.Opened.{IsUnderWay};
-ghost use Rattle.free_pages.specs.Walk.{children, tree_walk, IsWalkFault};
+ghost use Rattle.page_store.specs.Tours.{children};
+ghost use Rattle.free_pages.specs.Walk.{tree_walk, IsWalkFault};
 
 use page_store::{Memory, PageFault, Pages};
 use std::alloc::Global;
@@ -71,11 +72,13 @@ fn visit<P: Pages>(
     requires few { walk.old.count ≤ length walk.old.opened.items }
     ensures same { HoldsSame (P.shelf pages.old) (P.shelf pages.new) }
     ensures keeps { P.keeps pages.old pages.new }
-    ensures opened { OnOk result ((old : Shelf) (t : Live) → IsUnderWay old (P.shelf pages.old) t walk.old.count walk.old.opened.items (page ∷ reverse walk.old.coming.items) →
+    ensures opened { OnOk result ((old : Shelf) (t : Live) →
+        IsUnderWay old (P.shelf pages.old) t walk.old.count walk.old.opened.items (page ∷ reverse walk.old.coming.items) →
         IsUnderWay old (P.shelf pages.new) t walk.new.count walk.new.opened.items (reverse walk.new.coming.items)) }
     ensures one { OnOk result (walk.new.count ≡ walk.old.count + 1) }
     ensures flags { length walk.new.opened.items ≡ length walk.old.opened.items }
-    ensures err { IfErr result (λ fault. (old : Shelf) (t : Live) (coming : List ℕ) → IsUnderWay old (P.shelf pages.old) t walk.old.count walk.old.opened.items (page ∷ coming) →
+    ensures err { IfErr result (λ fault. (old : Shelf) (t : Live) (coming : List ℕ) →
+        IsUnderWay old (P.shelf pages.old) t walk.old.count walk.old.opened.items (page ∷ coming) →
         IsWalkFault old (P.shelf pages.new) (tree_walk old.read t) fault) }
     ensures asked { (P.shelf pages.new).asked ≤ (P.shelf pages.old).asked + 1 }
     ensures reads { (P.shelf pages.new).reads ≤ (P.shelf pages.old).reads + 1 }

@@ -1,23 +1,28 @@
 -- The walk from record to record: what it meets, where it ends, and why.
-use Rattle.std.proofs.Common.{◌≡◌, ℕ, suc, ◌+◌, ◌<◌, ◌≤◌, true, false, List, [], ◌∷◌, ◌++◌, length, drop, get_or, reverse, Some, refl, sym, ap, subst, ◌∙◌, arith, append_assoc, drop-cons, inr}
-use Rattle.std.specs.Prelude.{IsTrue, ◌==◌}
+use Rattle.std.proofs.Common.{◌≡◌, ℕ, suc, ◌+◌, ◌<◌, ◌≤◌, true, false, List, [], ◌∷◌, ◌++◌, length, drop, get_or, reverse, map, Option, Some, Result, Ok, Err, IfOk, refl, sym, ap, subst, ◌∙◌, arith, append_assoc, drop-cons, inr}
+use Rattle.std.specs.Prelude.{IsTrue, IfErr, ◌==◌}
 use Rattle.std.proofs.lemmas.List.{append-nil}
 use Rattle.std.proofs.lemmas.Bool.Decides.{nat_tests}
-use Rattle.metric_laws.specs.Counts.{next_count}
+use Rattle.metric_laws.specs.Counts.{next_count, count_up, CountsUpTo}
 use Rattle.tree_shape.specs.declared.entry.LeafEntry.{LeafEntry}
+use Rattle.tree_shape.specs.declared.entry.InnerEntry.{InnerEntry}
 use Rattle.tree_shape.specs.declared.entry.Node.{Node}
+use Rattle.tree_shape.specs.declared.entry.Node.TheVariants.{Leaf, Inner}
 use Rattle.tree_shape.specs.Tree.{Nodes}
 use Rattle.page_store.specs.declared.pages.PageFault.{PageFault}
 use Rattle.page_store.specs.declared.pages.PageFault.TheVariants.{Disk, Bad, Outside, Memory, Repeats, Level}
 use Rattle.page_store.specs.Reading.{Read, IsWithin, is_within, nodes_of}
 use Rattle.page_store.specs.Shelf.{Shelf, HoldsSame, HasPageCause}
+use Rattle.log_model.specs.declared.marks.Mark.{Mark}
+use Rattle.log_model.specs.declared.marks.Mark.TheVariants.{Skip, Far, Near}
 use Rattle.log_model.specs.declared.marks.Record.{Record}
-use Rattle.log_model.specs.Counts.{count_up, entry_count, CountsUpTo}
+use Rattle.log_model.specs.Walk.{near_ones}
+use Rattle.log_model.specs.Counts.{entry_count}
 use Rattle.log_model.proofs.Reached.{count_up_both}
 use Rattle.hit_tags.specs.declared.walking.Walk.{Walk}
-use Rattle.hit_tags.specs.Met.{near_objects, near_pages, marked_node, met, ComesTo}
+use Rattle.hit_tags.specs.Met.{near_objects, near_pages, marked_node, met, ComesTo, AreMarked, IsNoneNear}
 use Rattle.hit_tags.specs.Tags.{HasTagsCause}
-use Rattle.hit_tags.specs.Wanted.{TakesIn}
+use Rattle.hit_tags.specs.Wanted.{TakesIn, Tagging, first_tag}
 use Rattle.hit_tags.specs.Steps.{IsUnderWay, HasFollowed}
 use Rattle.hit_tags.proofs.Taking.{takes_both}
 
@@ -34,6 +39,28 @@ pub met_none : (nodes : Nodes) (ns : List ℕ) → met nodes ns [] ≡ []
 met_none nodes [] = refl
 met_none nodes (n ∷ ns) = refl
 
+-- where nothing is marked Near, nothing is met and nothing needed
+none_near : {X : Type 0} (es : List X) (marks : List Mark) → IsNoneNear marks → near_ones es marks ≡ []
+none_near [] marks none = refl
+none_near (e ∷ es) [] none = refl
+none_near (e ∷ es) (Skip ∷ marks) none = none_near es marks none.1
+none_near (e ∷ es) (Far ∷ marks) none = none_near es marks none.1
+none_near (e ∷ es) (Near ∷ marks) none = absurd (none.0 refl)
+
+no_objects : (node : Node) (marks : List Mark) → IsNoneNear marks → near_objects node marks ≡ []
+no_objects (Leaf es) marks none = none_near es marks none
+no_objects (Inner level es) marks none = refl
+
+no_pages : (node : Node) (marks : List Mark) → IsNoneNear marks → near_pages node marks ≡ []
+no_pages (Leaf es) marks none = refl
+no_pages (Inner level es) marks none = ap (λ (bs : List InnerEntry). map (λ e. e.child) bs) (none_near es marks none)
+
+takes_nothing : (w : Tagging) → TakesIn w [] w
+takes_nothing w id es is = is ∙ ap (λ (l : List LeafEntry). Some (first_tag id l)) (sym (append-nil es))
+
+same_some : (o : Option Node) (m n : Node) → o ≡ Some m → o ≡ Some n → m ≡ n
+same_some o m n a b = (let e : Some m ≡ Some n = sym a ∙ b in cc)
+
 module _ (nodes : Nodes) (old new : Walk) (r : Record) (page : ℕ) (rest : List ℕ) (stack : reverse old.stack.items ≡ page ∷ rest) where
   pub goes_on : (node : Node) → marked_node nodes page r ≡ Some node → TakesIn old.wanted (near_objects node r.marks) new.wanted → reverse new.stack.items ≡ near_pages node r.marks ++ rest →
       (rs : List Record) → IsUnderWay nodes old (r ∷ rs) new rs
@@ -42,7 +69,30 @@ module _ (nodes : Nodes) (old new : Walk) (r : Record) (page : ℕ) (rest : List
     taken = taken;
     whole = rw (pages, stack, marked) refl;
     comes = λ p comes. subst (λ (ns : List ℕ). ComesTo nodes ns (r ∷ rs) p) (sym stack) (inr (node, marked, subst (λ (ns : List ℕ). ComesTo nodes ns rs p) pages comes));
+    marked = λ all.
+        let here : AreMarked nodes (page ∷ rest) (r ∷ rs) = subst (λ (ns : List ℕ). AreMarked nodes ns (r ∷ rs)) stack all in
+        let same = same_some (marked_node nodes page r) here.0 node here.1 marked in
+        subst (λ (ns : List ℕ). AreMarked nodes ns rs) (sym pages) (subst (λ (n : Node). AreMarked nodes (near_pages n r.marks ++ rest) rs) same here.2);
   }
+
+  -- a record that marks nothing Near needn't be looked at
+  pub passes_over : IsNoneNear r.marks → new.wanted ≡ old.wanted → reverse new.stack.items ≡ rest → (rs : List Record) → AreMarked nodes (reverse old.stack.items) (r ∷ rs) →
+      IsUnderWay nodes old (r ∷ rs) new rs
+  passes_over none wanted pages rs all =
+      let here : AreMarked nodes (page ∷ rest) (r ∷ rs) = subst (λ (ns : List ℕ). AreMarked nodes ns (r ∷ rs)) stack all in
+      goes_on here.0 here.1
+      (subst (λ (os : List LeafEntry). TakesIn old.wanted os new.wanted) (sym (no_objects here.0 r.marks none)) (subst (TakesIn old.wanted []) (sym wanted) (takes_nothing old.wanted)))
+      (pages ∙ ap (λ (ps : List ℕ). ps ++ rest) (sym (no_pages here.0 r.marks none))) rs
+
+-- the walk needs a page where a record is left
+pub passes : (nodes : Nodes) (old new : Walk) (r : Record) → IsNoneNear r.marks → new.wanted ≡ old.wanted →
+    ((page : ℕ) (rest : List ℕ) → reverse old.stack.items ≡ page ∷ rest → reverse new.stack.items ≡ rest) → (rs : List Record) → AreMarked nodes (reverse old.stack.items) (r ∷ rs) →
+    IsUnderWay nodes old (r ∷ rs) new rs
+passes nodes old new r none wanted popped rs all = by (reverse old.stack.items) refl
+  where
+    by : (ns : List ℕ) → reverse old.stack.items ≡ ns → IsUnderWay nodes old (r ∷ rs) new rs
+    by [] is = absurd (subst (λ (ns : List ℕ). AreMarked nodes ns (r ∷ rs)) is all)
+    by (page ∷ rest) is = passes_over nodes old new r page rest is none wanted (popped page rest is) rs all
 
 -- ---- from record to record
 
@@ -51,9 +101,8 @@ module _ (nodes : Nodes) (start : Walk) (all : List Record) where
     here : IsUnderWay nodes start all mid (r ∷ drop (suc i) all)
     here = subst (IsUnderWay nodes start all mid) (drop-cons all i r low ∙ ap (λ (e : Record). e ∷ drop (suc i) all) (sym is)) way
 
-    pub way_on : (new : Walk) → HasFollowed nodes mid r new true → IsUnderWay nodes start all new (drop (i + 1) all)
-    way_on new followed =
-        let step : IsUnderWay nodes mid (r ∷ drop (suc i) all) new (drop (suc i) all) = followed (drop (suc i) all) in
+    pub way_on : (new : Walk) → IsUnderWay nodes mid (r ∷ drop (suc i) all) new (drop (suc i) all) → IsUnderWay nodes start all new (drop (i + 1) all)
+    way_on new step =
         let so_far : IsUnderWay nodes start all mid (r ∷ drop (suc i) all) = here in
         subst (λ (k : ℕ). IsUnderWay nodes start all new (drop k all)) (let e : suc i ≡ i + 1 = omega arith in e)
         (record {
@@ -61,7 +110,14 @@ module _ (nodes : Nodes) (start : Walk) (all : List Record) where
           taken = takes_both start.wanted mid.wanted new.wanted so_far.objects step.objects so_far.taken step.taken;
           whole = append_assoc so_far.objects step.objects (met nodes (reverse new.stack.items) (drop (suc i) all)) ∙ ap (λ (os : List LeafEntry). so_far.objects ++ os) step.whole ∙ so_far.whole;
           comes = λ page comes. so_far.comes page (step.comes page comes);
+          marked = λ marked. step.marked (so_far.marked marked);
         })
+
+    -- a record that marks nothing Near is passed over
+    pub way_past : (new : Walk) → IsNoneNear r.marks → new.wanted ≡ mid.wanted →
+        ((page : ℕ) (rest : List ℕ) → reverse mid.stack.items ≡ page ∷ rest → reverse new.stack.items ≡ rest) → AreMarked nodes (reverse start.stack.items) all →
+        IsUnderWay nodes start all new (drop (i + 1) all)
+    way_past new none wanted popped marked = way_on new (passes nodes mid new r none wanted popped (drop (suc i) all) (here.marked marked))
 
     pub way_ends : (new : Walk) → HasFollowed nodes mid r new false → TakesIn start.wanted (met nodes (reverse start.stack.items) all) new.wanted
     way_ends new ended =
@@ -73,15 +129,6 @@ module _ (nodes : Nodes) (start : Walk) (all : List Record) where
     way_comes = here.comes
 
 -- ---- causes
-
-pub holds_both : (old mid new : Shelf) → HoldsSame old mid → HoldsSame mid new → HoldsSame old new
-holds_both old mid new one two = record {
-  dim = two.dim ∙ one.dim;
-  pages = two.pages ∙ one.pages;
-  tells = two.tells ∙ one.tells;
-  read = two.read ∙ one.read;
-  faults = omega (arith, one.faults, two.faults);
-}
 
 -- a page's cause since an earlier state
 page_cause_kept : (old mid new : Shelf) (page : ℕ) (fault : PageFault) → HoldsSame old mid → HasPageCause mid new page fault → HasPageCause old new page fault
@@ -130,3 +177,13 @@ upto_more a b m n le few = (few.0, omega (arith, few.1), few.2)
 
 pub upto_both : (a b c m n : ℕ) → CountsUpTo a b m → CountsUpTo b c n → CountsUpTo a c (m + n)
 upto_both a b c m n one two = (one.0 + two.0, omega (arith, one.1, two.1), two.2 ∙ ap (λ (u : ℕ). count_up u two.0) one.2 ∙ count_up_both a one.0 two.0)
+
+-- ---- results
+
+pub if_ok : {A E : Type 0} {P Q : A → Type 0} (r : Result A E) → ((a : A) → P a → Q a) → IfOk r P → IfOk r Q
+if_ok (Ok a) so holds = so a holds
+if_ok (Err e) so holds = tt
+
+pub if_err : {A E : Type 0} {P Q : E → Type 0} (r : Result A E) → ((e : E) → P e → Q e) → IfErr r P → IfErr r Q
+if_err (Ok a) so holds = tt
+if_err (Err e) so holds = so e holds

@@ -1,10 +1,12 @@
 -- The objects that the walk of a log meets, and the pages that it comes to.
-use Rattle.std.specs.Prelude.{◌≡◌, ◌⊎◌, ℕ, List, [], ◌∷◌, ◌++◌, map, length, Option, Some, None, if◌then◌else◌, ◌==◌}
+use Rattle.std.specs.Prelude.{◌≡◌, ◌≢◌, ◌⊎◌, ℕ, List, [], ◌∷◌, ◌++◌, map, length, Option, Some, None, if◌then◌else◌, ◌==◌}
+use Rattle.std.specs.List.{AllByRecursion}
 use Rattle.tree_shape.specs.declared.entry.LeafEntry.{LeafEntry}
 use Rattle.tree_shape.specs.declared.entry.Node.{Node}
 use Rattle.tree_shape.specs.declared.entry.Node.TheVariants.{Leaf, Inner}
 use Rattle.tree_shape.specs.Tree.{Nodes}
 use Rattle.log_model.specs.declared.marks.Mark.{Mark}
+use Rattle.log_model.specs.declared.marks.Mark.TheVariants.{Near}
 use Rattle.log_model.specs.declared.marks.Record.{Record}
 use Rattle.log_model.specs.Counts.{entry_count}
 use Rattle.log_model.specs.Walk.{near_ones}
@@ -46,3 +48,14 @@ ComesTo nodes [] (r ∷ rs) page = ⊥
 ComesTo nodes (p ∷ ps) [] page = ⊥
 ComesTo nodes (p ∷ ps) (r ∷ rs) page =
     ((page ≡ p) × (r.page ≡ p)) ⊎ ((node : Node) × (marked_node nodes p r ≡ Some node) × ComesTo nodes (near_pages node r.marks ++ ps) rs page)
+
+-- the walk of these needed pages by these records marks each node that it comes to
+abbrev pub AreMarked : Nodes → List ℕ → List Record → Type 0
+AreMarked nodes [] [] = Unit {0}
+AreMarked nodes [] (r ∷ rs) = ⊥
+AreMarked nodes (p ∷ ps) [] = Unit {0}
+AreMarked nodes (p ∷ ps) (r ∷ rs) = (node : Node) × (marked_node nodes p r ≡ Some node) × AreMarked nodes (near_pages node r.marks ++ ps) rs
+
+-- nothing is marked Near
+abbrev pub IsNoneNear : List Mark → Type 0
+IsNoneNear marks = AllByRecursion (λ m. m ≢ Near) marks

@@ -4,7 +4,7 @@ use Rattle.tree_shape.specs.declared.entry.LeafEntry.{LeafEntry}
 use Rattle.tree_shape.specs.Tree.{Nodes}
 use Rattle.log_model.specs.declared.marks.Record.{Record}
 use Rattle.hit_tags.specs.declared.walking.Walk.{Walk}
-use Rattle.hit_tags.specs.Met.{met, ComesTo}
+use Rattle.hit_tags.specs.Met.{met, ComesTo, AreMarked}
 use Rattle.hit_tags.specs.Wanted.{TakesIn}
 
 -- a walk that had all these records before it has these left: what it met since and will meet is what it was to meet
@@ -13,6 +13,7 @@ pub record IsUnderWay (nodes : Nodes) (start : Walk) (all : List Record) (now : 
   pub taken : TakesIn start.wanted objects now.wanted
   pub whole : objects ++ met nodes (reverse now.stack.items) left ≡ met nodes (reverse start.stack.items) all
   pub comes : (page : ℕ) → ComesTo nodes (reverse now.stack.items) left page → ComesTo nodes (reverse start.stack.items) all page
+  pub marked : AreMarked nodes (reverse start.stack.items) all → AreMarked nodes (reverse now.stack.items) left
 
 -- a record was followed; or the walk ends at it
 abbrev pub HasFollowed : Nodes → Walk → Record → Walk → Bool → Type 0

@@ -5,7 +5,7 @@ mod tagging;
 mod walking;
 mod wanted;
 
-pub use tagging::tags_of;
+pub use tagging::{marked_tags, tags_of};
 
 /// Want of memory.
 pub type Memory = std::alloc::AllocError;

@@ -1,10 +1,11 @@
-ghost use Rattle.std.specs.Prelude.{◌≡◌, ◌≤◌, ◌+◌, [], ◌∷◌, length, vec_len, IsTrue, IfOk, IfErr};
+ghost use Rattle.std.specs.Prelude.{◌≡◌, ◌≤◌, ◌+◌, [], ◌∷◌, length, vec_len, true, IsTrue, IfOk, IfErr};
 ghost use Rattle.std.specs.List.{AllZip};
 ghost use Rattle.metric_laws.specs.Space.{Space};
 ghost use Rattle.tree_shape.specs.Tree.{IsSoundTree};
 ghost use Rattle.page_store.specs.Reading.{nodes_of};
 ghost use Rattle.page_store.specs.Shelf.{HoldsSame, IsPassing};
-ghost use Rattle.log_model.specs.Counts.{CountsUpTo};
+ghost use Rattle.metric_laws.specs.Counts.{CountsUpTo};
+ghost use Rattle.hit_tags.specs.Met.{AreMarked};
 ghost use Rattle.hit_tags.specs.Tags.{met_tags, object_tags, IsOwnTag, IsShown, HasTagsCause};
 
 use crate::walking::Walk;
@@ -12,6 +13,37 @@ use log_model::Found;
 use page_store::{PageFault, Pages};
 use std::alloc::Global;
 use tree_shape::Live;
+
+// The tag of each hit by the walk of the live tree by the found log, which opens each page or, where the log is known to mark each
+// node that it comes to, those alone of which something is marked Near.
+fn walked_tags<P: Pages>(
+    alloc: Global,
+    pages: &mut P,
+    live: &Live,
+    found: &Found,
+    are_marked: bool,
+) -> Result<Vec<u64>, PageFault>
+    requires marked { are_marked ≡ true → IsTrue (P.shelf pages.old).tells →
+        AreMarked (nodes_of (P.shelf pages.old).read) (live.now.root ∷ []) found.now.log.records }
+    ensures same { HoldsSame (P.shelf pages.old) (P.shelf pages.new) }
+    ensures keeps { P.keeps pages.old pages.new }
+    ensures asked { CountsUpTo (P.shelf pages.old).asked (P.shelf pages.new).asked (length found.now.log.records) }
+    ensures reads { (P.shelf pages.new).reads ≤ (P.shelf pages.old).reads + length found.now.log.records }
+    ensures each { IfOk result (λ tags. vec_len tags ≡ length found.now.hits) }
+    ensures met { IfOk result (λ tags. IsTrue (P.shelf pages.old).tells →
+        tags.items ≡ met_tags (nodes_of (P.shelf pages.old).read) live.now found.now) }
+    ensures cause { IfErr result (HasTagsCause (P.shelf pages.old) (P.shelf pages.new) (live.now.root ∷ []) found.now.log.records) }
+{
+    let hits = found.hits.as_slice();
+    let Ok(mut walk) = Walk::begin(alloc, live.root, hits) else {
+        return Err(PageFault::Memory);
+    };
+    walk.follow_all(alloc, pages, found.log.records.as_slice(), are_marked)?;
+    match walk.wanted.tags(alloc, hits) {
+        Ok(tags) => Ok(tags),
+        Err(_) => Err(PageFault::Memory),
+    }
+}
 
 /// The tag of each hit: that of the first object with its id that the walk of the live tree by the found log meets, and 0
 /// where it meets none. Where the log shows the hits, these are the tags of the hits' objects.
@@ -48,13 +80,30 @@ pub fn tags_of<P: Pages>(
     ensures sound { IfErr result (λ fault. IsTrue (P.shelf pages.old).tells →
         (s : Space) → IsSoundTree s (nodes_of (P.shelf pages.old).read) live.now → IsPassing fault) }
 {
-    let hits = found.hits.as_slice();
-    let Ok(mut walk) = Walk::begin(alloc, live.root, hits) else {
-        return Err(PageFault::Memory);
-    };
-    walk.follow_all(alloc, pages, found.log.records.as_slice())?;
-    match walk.wanted.tags(alloc, hits) {
-        Ok(tags) => Ok(tags),
-        Err(_) => Err(PageFault::Memory),
-    }
+    walked_tags(alloc, pages, live, found, false)
+}
+
+/// The same tags, where the found log marks each node to which its walk comes, as that of a search does: then only those pages are
+/// opened of which something is marked Near. On a sound tree these are the leaves of the hits and what leads to them.
+pub fn marked_tags<P: Pages>(
+    alloc: Global,
+    pages: &mut P,
+    live: &Live,
+    found: &Found,
+) -> Result<Vec<u64>, PageFault>
+    requires marked { IsTrue (P.shelf pages.old).tells →
+        AreMarked (nodes_of (P.shelf pages.old).read) (live.now.root ∷ []) found.now.log.records }
+    ensures same { HoldsSame (P.shelf pages.old) (P.shelf pages.new) }
+    ensures keeps { P.keeps pages.old pages.new }
+    ensures asked { CountsUpTo (P.shelf pages.old).asked (P.shelf pages.new).asked (length found.now.log.records) }
+    ensures reads { (P.shelf pages.new).reads ≤ (P.shelf pages.old).reads + length found.now.log.records }
+    ensures each { IfOk result (λ tags. vec_len tags ≡ length found.now.hits) }
+    ensures met { IfOk result (λ tags. IsTrue (P.shelf pages.old).tells →
+        tags.items ≡ met_tags (nodes_of (P.shelf pages.old).read) live.now found.now) }
+    ensures objects { IfOk result (λ tags. IsTrue (P.shelf pages.old).tells →
+        (s : Space) → IsShown s (nodes_of (P.shelf pages.old).read) live.now found.now →
+        tags.items ≡ object_tags (nodes_of (P.shelf pages.old).read) live.now found.now) }
+    ensures cause { IfErr result (HasTagsCause (P.shelf pages.old) (P.shelf pages.new) (live.now.root ∷ []) found.now.log.records) }
+{
+    walked_tags(alloc, pages, live, found, true)
 }

@@ -1,11 +1,12 @@
-use crate::{Memory, tags_of};
-use disk_model::MemoryDisk;
+use crate::{Memory, marked_tags, tags_of};
+use disk_model::{FileDisk, MemoryDisk};
 use log_model::{Found, Log, Mark, Record};
 use metric_laws::{Listed, Point};
 use node_page::NodeFault;
 use page_store::{DiskPages, ImagePages, PageFault, Pages};
 use scan_model::{Hit, Query};
 use std::alloc::Global;
+use std::fs::{self, File};
 use std::process::Abort;
 use std::test::Fail;
 use tree_shape::Live;
@@ -223,4 +224,29 @@ fn a_read_that_fails(rt: HostRuntime) -> Result<(), Fail> {
         &marked,
         Ok(&[103, 117]),
     )
+}
+
+// A real file tells nothing of its bytes, so that any log can be handed in.
+#[test]
+fn a_page_of_which_nothing_is_near_is_not_opened(rt: HostRuntime) -> Result<(), Fail> {
+    let path = "numbers_of_a_test";
+    fs::write(&rt, path, &numbers(rt.alloc())?)?;
+    let mut disk = FileDisk::new(File::open(&rt, path)?);
+    let cases: &[(&[Marked], [u64; 2], u64)] = &[
+        (&[ROOT, LOW, HIGH], [103, 117], 3),
+        (&[ROOT, (3, 16, 0, 0), HIGH], [0, 117], 2),
+        (&[ROOT, LOW, (4, 17, 0, 0)], [103, 0], 2),
+        (&[(5, 2, 0, 0)], [0, 0], 0),
+    ];
+    for (marked, wanted, asked) in cases {
+        let mut pages = DiskPages::new(&mut disk, 1, 6);
+        let found = found_of(rt.alloc(), &[3, 17], marked)?;
+        match marked_tags(rt.alloc(), &mut pages, &NUMBERS, &found) {
+            Ok(tags) => assert_eq!(rt; tags.as_slice(), wanted.as_slice()),
+            Err(_) => assert!(rt; false),
+        }
+        assert_eq!(rt; pages.asked, *asked);
+    }
+    fs::remove_file(&rt, path)?;
+    Ok(())
 }

@@ -1,11 +1,12 @@
 // The walk by the records of a log.
-ghost use Rattle.std.specs.Prelude.{◌≡◌, ◌++◌, ◌+◌, ◌≤◌, [], ◌∷◌, List, map, length, reverse, Some, None, IsTrue, IfOk, IfErr, OnOk};
+ghost use Rattle.std.specs.Prelude.{◌≡◌, ◌++◌, ◌+◌, ◌≤◌, [], ◌∷◌, List, ℕ, map, length, reverse, true, Some, None, IsTrue, IfOk, IfErr, OnOk};
 ghost use Rattle.std.specs.List.{AllByRecursion};
 ghost use Rattle.page_store.specs.Reading.{nodes_of};
 ghost use Rattle.page_store.specs.Shelf.{HoldsSame};
-ghost use Rattle.log_model.specs.Counts.{entry_count, CountsUpTo};
+ghost use Rattle.metric_laws.specs.Counts.{CountsUpTo};
+ghost use Rattle.log_model.specs.Counts.{entry_count};
 ghost use Rattle.log_model.specs.Walk.{near_ones};
-ghost use Rattle.hit_tags.specs.Met.{near_objects, near_pages, met};
+ghost use Rattle.hit_tags.specs.Met.{AreMarked, IsNoneNear, met, near_objects, near_pages};
 ghost use Rattle.hit_tags.specs.Tags.{HasTagsCause};
 ghost use Rattle.log_model.specs.declared.marks.Record.{Record};
 ghost use Rattle.hit_tags.specs.Wanted.{held, TakesIn};
@@ -60,6 +61,13 @@ fn push_near(stack: &mut Vec<u32>, entries: &[InnerEntry], marks: &[Mark]) -> Re
         }
     }
     Ok(())
+}
+
+// Whether nothing is marked Near.
+fn is_none_near(marks: &[Mark]) -> bool
+    ensures { IsTrue result → IsNoneNear marks.now }
+{
+    !marks.contains(&Mark::Near)
 }
 
 impl Walk {
@@ -121,13 +129,25 @@ impl Walk {
         }
     }
 
-    /// Follows the records, as far as the walk goes.
+    // Passes over the page that is needed next.
+    fn pass(&mut self)
+        ensures next { (page : ℕ) (rest : List ℕ) → reverse self.old.stack.items ≡ page ∷ rest → reverse self.new.stack.items ≡ rest }
+        ensures wanted { self.new.wanted ≡ self.old.wanted }
+    {
+        self.stack.pop();
+    }
+
+    /// Follows the records, as far as the walk goes. Where they are those of a walk that marks each node it comes to, a page of
+    /// which nothing is marked Near is not opened: nothing of it is met or needed.
     pub fn follow_all<P: Pages>(
         &mut self,
         alloc: Global,
         pages: &mut P,
         records: &[Record],
+        are_marked: bool,
     ) -> Result<(), PageFault>
+        requires marked { are_marked ≡ true → IsTrue (P.shelf pages.old).tells →
+            AreMarked (nodes_of (P.shelf pages.old).read) (reverse self.old.stack.items) records.now }
         ensures same { HoldsSame (P.shelf pages.old) (P.shelf pages.new) }
         ensures keeps { P.keeps pages.old pages.new }
         ensures asked { CountsUpTo (P.shelf pages.old).asked (P.shelf pages.new).asked (length records.now) }
@@ -137,6 +157,10 @@ impl Walk {
         ensures cause { IfErr result (HasTagsCause (P.shelf pages.old) (P.shelf pages.new) (reverse self.old.stack.items) records.now) }
     {
         for told in records {
+            if are_marked && is_none_near(told.marks.as_slice()) {
+                self.pass();
+                continue;
+            }
             if !self.follow(alloc, pages, told)? {
                 return Ok(());
             }

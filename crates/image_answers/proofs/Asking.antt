@@ -1,6 +1,6 @@
 -- What becomes of a query.
-use Rattle.std.proofs.Common.{◌≡◌, ◌≢◌, ℕ, ◌+◌, ◌-◌, ◌^◌, ◌≤◌, true, false, List, [], ◌∷◌, ◌++◌, length, map, min, refl, sym, ap, subst, ◌∙◌, arith, inl, inr, Option, Some, None, Result, Ok, Err, append_assoc}
-use Rattle.std.specs.Prelude.{MatchOption, IfOk, IfErr, IsTrue, slice_index_or, ◌⊎◌}
+use Rattle.std.proofs.Common.{◌≡◌, ◌≢◌, ℕ, List, [], ◌∷◌, ◌++◌, map, min, length, refl, sym, ap, subst, ◌∙◌, arith, inl, inr, Option, Some, None, Result, Ok, Err}
+use Rattle.std.specs.Prelude.{IfOk, IsTrue, slice_index_or}
 use Rattle.metric_laws.specs.Space.{Space, bound}
 use Rattle.outside_io.specs.Causes.{Rose}
 use Rattle.scan_model.specs.declared.hit.Hit.{Hit}
@@ -11,19 +11,18 @@ use Rattle.rows_text.specs.declared.command.Command.TheVariants as command
 use Rattle.scan_model.specs.Scan.{range_hits}
 use Rattle.range_search.specs.Searched.{HasWalkCause, IsFound}
 use Rattle.nearest_search.specs.Searched.{HasNearestCause, IsFront, IsNearest}
-use Rattle.rows_text.specs.declared.reply.Reply.{Reply}
 use Rattle.rows_text.specs.declared.reply.Reply.TheVariants as reply
 use Rattle.rows_text.specs.Meaning.{hits_reply, tags_of}
 use Rattle.tree_shape.specs.declared.entry.InnerEntry.{InnerEntry}
 use Rattle.tree_shape.specs.declared.entry.Node.{Node}
 use Rattle.tree_shape.specs.declared.entry.Node.TheVariants.{Leaf, Inner}
 use Rattle.tree_shape.specs.declared.live.Live.{Live}
-use Rattle.tree_shape.specs.Tree.{Nodes, IsSoundTree, points_by_id, tags_by_id}
+use Rattle.tree_shape.specs.Tree.{Nodes, IsSoundTree, points_by_id}
 use Rattle.page_store.specs.declared.pages.PageFault.{PageFault}
 use Rattle.page_store.specs.declared.pages.PageFault.TheVariants as page
 use Rattle.page_store.specs.Files.{nodes_in, points_in, tags_in}
 use Rattle.page_store.specs.Reading.{node_or_none, nodes_of, reading}
-use Rattle.page_store.specs.Shelf.{Shelf, IsPassing, HasPageCause}
+use Rattle.page_store.specs.Shelf.{Shelf, IsDamage, IsPassing}
 use Rattle.log_model.specs.declared.logs.Log.{Log}
 use Rattle.log_model.specs.declared.logs.Found.{Found}
 use Rattle.log_model.specs.declared.marks.Record.{Record}
@@ -31,14 +30,16 @@ use Rattle.log_model.specs.declared.marks.Need.{Need}
 use Rattle.log_model.specs.Laws.{scan_answers}
 use Rattle.log_model.specs.Sound.{IsLeastLog, IsLogOf, search_for}
 use Rattle.log_model.specs.Walk.{Rule, Search, AreLeast, ReachesBy, WalksBy, near_ones, need_of, needs_of, root_need, search_at}
+use Rattle.log_model.proofs.Lawful.{marks_long}
 use Rattle.log_model.proofs.LeastLog.{least_sound}
-use Rattle.hit_tags.specs.Met.{ComesTo, near_pages}
+use Rattle.hit_tags.specs.Met.{AreMarked, ComesTo, near_pages}
 use Rattle.hit_tags.specs.Tags.{HasTagsCause, met_tags}
+use Rattle.hit_tags.proofs.Following.{marks_node}
 use Rattle.hit_tags.proofs.Showing.{marked_is}
+use Rattle.answer_texts.specs.Asked.{Held, HasLog, answered_query, held_in, state_of}
 use Rattle.image_answers.specs.declared.outcome.Outcome.{Outcome}
 use Rattle.image_answers.specs.declared.outcome.Outcome.TheVariants as outcome
-use Rattle.image_answers.specs.Outcomes.{outcome_of_fault}
-use Rattle.image_answers.specs.Outcomes.{AreTagsOf, FollowsWalk, HasLog, HasSearchCause, IsAnswer, IsDamage, IsLogged, IsMeant, IsOutcomeOf, IsTagged, IsTold, answered_query, pages_asked, reply_in, state_in}
+use Rattle.image_answers.specs.Outcomes.{outcome_of_fault, AreTagsOf, FollowsWalk, HasSearchCause, IsOutcomeOf, IsTagged, IsTold, pages_asked, reply_in}
 
 -- ---- the pages to which the walk of a log comes
 
@@ -84,11 +85,32 @@ follows_to_node s nodes live (query.Range q r) log follows page comes = comes_to
     (walk_reaches AreLeast (search_for s log.query log.answers) nodes (root_need live.root ∷ []) log.records follows.1.hits follows.1.walk) page comes
 follows_to_node s nodes live (query.Nearest q k) log follows page comes = comes_to_node AreLeast (search_at s q follows.rho) nodes (root_need live.root ∷ []) log.records follows.hits follows.left follows.walk page comes
 
+-- ---- a walk with the least marks marks each node that it comes to
+
+reaches_marked : (f : Search) (nodes : Nodes) (ns : List Need) (rs : List Record) (hits : List Hit) (left : List Need) → ReachesBy AreLeast f nodes ns rs hits left →
+    AreMarked nodes (pages_needed ns) rs
+reaches_marked f nodes [] [] hits left walk = tt
+reaches_marked f nodes (n ∷ ns) [] hits left walk = tt
+reaches_marked f nodes [] (r ∷ rs) hits left walk = absurd walk
+reaches_marked f nodes (n ∷ ns) (r ∷ rs) hits left walk = (
+  walk.0,
+  marks_node nodes n.page r walk.0 walk.2 walk.1 (ap length walk.3 ∙ marks_long f n.above walk.0),
+  subst (λ (ps : List ℕ). AreMarked nodes ps rs) (sym (near_needs f walk.0 r ns)) (reaches_marked f nodes (needs_of f walk.0 r.marks ++ ns) rs walk.4.0 left walk.4.1),
+)
+
+follows_marked : (s : Space) (nodes : Nodes) (live : Live) (asked : Query) (log : Log) → FollowsWalk s nodes live asked log → AreMarked nodes (live.root ∷ []) log.records
+follows_marked s nodes live (query.Range q r) log follows = reaches_marked (search_for s log.query log.answers) nodes (root_need live.root ∷ []) log.records follows.1.hits []
+    (walk_reaches AreLeast (search_for s log.query log.answers) nodes (root_need live.root ∷ []) log.records follows.1.hits follows.1.walk)
+follows_marked s nodes live (query.Nearest q k) log follows = reaches_marked (search_at s q follows.rho) nodes (root_need live.root ∷ []) log.records follows.hits follows.left follows.walk
+
 -- ---- what was found
 
 module _ (s : Space) (live : Live) (image : List ℕ) (c : Command) (asked : Query) (answers : answered_query s c ≡ Some asked) where
   abbrev nodes : Nodes
   nodes = nodes_in s.words live image
+
+  abbrev held : Held
+  held = held_in s.words live image
 
   abbrev Sound : Type 0
   Sound = IsSoundTree s nodes live
@@ -117,13 +139,13 @@ module _ (s : Space) (live : Live) (image : List ℕ) (c : Command) (asked : Que
   -- the answer
   module _ (found : Found) (mid new : Shelf) (n : ℕ) (is : mid ≡ pages_asked s live image n) (quiet : new.faults ≡ 0) (follows : FollowsWalk s nodes live asked found.log)
       (named : IsLogOf live asked found) (least : Sound → IsLeastLog s nodes live asked found.log) (scanned : Sound → found.hits ≡ scan_answers s asked (points_in s.words live image))
-      (meaning : (limit : ℕ) → reply_in s live image limit c ≡ hits_reply (state_in s live image).objects (scan_answers s asked (points_in s.words live image))) where
+      (meaning : (limit : ℕ) → reply_in s held limit c ≡ hits_reply (state_of held).objects (scan_answers s asked (points_in s.words live image))) where
     answer_is : (tags : List ℕ) → AreTagsOf mid live found tags → IsOutcomeOf s live image c (outcome.Done (reply.Hits found.hits tags) (Some found.log))
     answer_is tags are = record {
-      meant = λ sound. (
-        (λ limit. (λ i. reply.Hits (scanned sound i) (own sound i)) ∙ sym (meaning limit)),
-        subst (λ (q : Option Query). HasLog s live image q (Some found.log)) (sym answers) (least sound),
-      );
+      meant = λ sound. record {
+        meaning = λ limit. (λ i. reply.Hits (scanned sound i) (own sound i)) ∙ sym (meaning limit);
+        logged = subst (λ (q : Option Query). HasLog s held q (Some found.log)) (sym answers) (least sound);
+      };
       told = subst (λ (q : Option Query). IsTold s live image c q (outcome.Done (reply.Hits found.hits tags) (Some found.log))) (sym answers)
           (record { named = named; walk = follows; tags_are = met });
       lawful = (are.each, named.lawful);
@@ -135,7 +157,7 @@ module _ (s : Space) (live : Live) (image : List ℕ) (c : Command) (asked : Que
         met : tags ≡ met_tags nodes live found
         met = by_image.met refl
 
-        own : Sound → tags ≡ tags_of (state_in s live image).objects (scan_answers s asked (points_in s.words live image))
+        own : Sound → tags ≡ tags_of (state_of held).objects (scan_answers s asked (points_in s.words live image))
         own sound =
             by_image.objects refl s (record { tree = sound; log = least_sound s nodes live asked found.log (least sound); hits_are = named.hits_are })
             ∙ ap (λ (hs : List Hit). map (λ h. slice_index_or (tags_in s.words live image) h.id 0) hs) (scanned sound)
@@ -211,6 +233,20 @@ module _ (s : Space) (live : Live) (image : List ℕ) (q : List ℕ) (fits : IsT
       found_if_ok s live image (command.Nearest k q) (query.Nearest q k) (rw fits refl) found mid new n is quiet
       (record { rho = walk.rho; hits = walk.hits; left = walk.left; walk = walk.walk; some = walk.some; answers_are = walk.answers_are })
       named (λ sound. (by_image sound).least) (λ sound. (by_image sound).scanned) (λ limit. rw fits refl) result tagged
+
+  -- so the tags can be had from what is marked Near alone
+  pub range_marked : (r used0 used1 : ℕ) (found : Found) → IsFound s live (query.Range q r) old mid used0 used1 found → IsTrue mid.tells → AreMarked (nodes_of mid.read) (live.root ∷ []) found.log.records
+  range_marked r used0 used1 found is_found tells =
+      let least : IsLeastLog s (nodes_in s.words live image) live (query.Range q r) found.log =
+      subst (λ (x : Shelf). IsTrue x.tells → IsLeastLog s (nodes_of x.read) live (query.Range q r) found.log) begins is_found.least refl in
+      subst (λ (x : Shelf). AreMarked (nodes_of x.read) (live.root ∷ []) found.log.records) (sym is) (follows_marked s (nodes_in s.words live image) live (query.Range q r) found.log least)
+
+  pub nearest_marked : (k : ℕ) (found : Found) → (IsTrue old.tells → IsFront s (nodes_of old.read) live q k found) → IsTrue mid.tells →
+      AreMarked (nodes_of mid.read) (live.root ∷ []) found.log.records
+  nearest_marked k found front tells =
+      let walk : IsFront s (nodes_in s.words live image) live q k found = subst (λ (x : Shelf). IsTrue x.tells → IsFront s (nodes_of x.read) live q k found) begins front refl in
+      subst (λ (x : Shelf). AreMarked (nodes_of x.read) (live.root ∷ []) found.log.records) (sym is)
+      (reaches_marked (search_at s q walk.rho) (nodes_in s.words live image) (root_need live.root ∷ []) found.log.records walk.hits walk.left walk.walk)
 
   pub range_fault : (r : ℕ) (f : PageFault) → HasWalkCause (search_at s q (min r bound)) live old mid f → (IsTrue old.tells → IsSoundTree s (nodes_of old.read) live → IsPassing f) →
       IfOk (outcome_of_fault f) (IsOutcomeOf s live image (command.Range r q))

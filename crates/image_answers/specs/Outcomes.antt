@@ -1,5 +1,5 @@
 -- What commands on an image, a file in memory, come to: for each an outcome, which the image and the command alone decide.
-use Rattle.std.specs.Prelude.{◌≡◌, ◌≢◌, ◌⊎◌, ℕ, min, Bool, true, List, [], ◌∷◌, length, Option, Some, None, MatchOption, IsTrue, if◌then◌else◌, Result, Ok, Err, alloc_error}
+use Rattle.std.specs.Prelude.{◌≡◌, ◌≢◌, ◌⊎◌, ℕ, min, true, List, [], ◌∷◌, length, Option, Some, None, MatchOption, IsTrue, Result, Ok, Err, alloc_error}
 use Rattle.std.specs.declared.alloc.AllocError.{AllocError}
 use Rattle.metric_laws.specs.Space.{Space, bound}
 use Rattle.scan_model.specs.declared.hit.Hit.{Hit}
@@ -10,14 +10,14 @@ use Rattle.rows_text.specs.declared.command.Command.TheVariants as command
 use Rattle.rows_text.specs.declared.refusal.Refusal.TheVariants as refusal
 use Rattle.rows_text.specs.declared.reply.Reply.{Reply}
 use Rattle.rows_text.specs.declared.reply.Reply.TheVariants as reply
-use Rattle.rows_text.specs.Meaning.{Setting, State, TagsAre, has_points_of, step}
+use Rattle.rows_text.specs.Meaning.{TagsAre, step}
 use Rattle.tree_shape.specs.declared.live.Live.{Live}
 use Rattle.tree_shape.specs.Tree.{Nodes, IsSoundTree}
 use Rattle.page_store.specs.declared.pages.PageFault.{PageFault}
 use Rattle.page_store.specs.declared.pages.PageFault.TheVariants as page
-use Rattle.page_store.specs.Files.{nodes_in, points_in, tags_in}
+use Rattle.page_store.specs.Files.{nodes_in}
 use Rattle.page_store.specs.Reading.{Read, nodes_of, reading}
-use Rattle.page_store.specs.Shelf.{Shelf}
+use Rattle.page_store.specs.Shelf.{Shelf, IsDamage}
 use Rattle.page_store.specs.Shelves.{image_shelf}
 use Rattle.log_model.specs.declared.logs.Log.{Log}
 use Rattle.log_model.specs.declared.logs.Found.{Found}
@@ -27,6 +27,8 @@ use Rattle.log_model.specs.Walk.{search_at}
 use Rattle.hit_tags.specs.Tags.{HasTagsCause, IsShown, met_tags, object_tags}
 use Rattle.range_search.specs.Searched.{HasWalkCause}
 use Rattle.nearest_search.specs.Searched.{HasNearestCause, IsFront}
+use Rattle.answer_texts.specs.Answered.{Answered}
+use Rattle.answer_texts.specs.Asked.{Held, HasLog, answered_query, held_in, state_of}
 use Rattle.image_answers.specs.declared.outcome.Outcome.{Outcome}
 use Rattle.image_answers.specs.declared.outcome.Outcome.TheVariants as outcome
 
@@ -46,34 +48,20 @@ as_reader (command.Nearest k q) = command.Nearest k q
 as_reader command.Count = command.Count
 as_reader (command.Bad why) = command.Bad why
 
--- the query that a command asks
-abbrev pub query_of : Command → Option Query
-query_of (command.Range r q) = Some (query.Range q r)
-query_of (command.Nearest k q) = Some (query.Nearest q k)
-query_of other = None
+-- ---- what a command means
 
--- the query that is answered: one whose point is a point of the space
-abbrev pub answered_query : Space → Command → Option Query
-answered_query s c = if has_points_of s c then query_of c else None
+-- the reply that a command's meaning gives on what a file holds, whatever the limit of objects is, since none is added
+abbrev pub reply_in : Space → Held → ℕ → Command → Reply
+reply_in s held limit c = (step (record { space = s; limit = limit }) (state_of held) (as_reader c)).reply
 
--- ---- what a command means on an image
+-- What a reader's turn is: its reply is what the command means, and a query that is answered has its least log.
+pub record IsTurn (s : Space) (held : Held) (turn : Answered) : Type 0 where
+  pub meaning : (limit : ℕ) → turn.reply ≡ reply_in s held limit turn.command
+  pub logged : HasLog s held (answered_query s turn.command) turn.log
 
--- the objects of an image, with no cursor open
-abbrev pub state_in : Space → Live → List ℕ → State
-state_in s live image = record { objects = record { points = points_in s.words live image; tags = tags_in s.words live image }; cursors = []; next = 0 }
-
--- the reply that a command's meaning gives, whatever the limit of objects is, since none is added
-abbrev pub reply_in : Space → Live → List ℕ → ℕ → Command → Reply
-reply_in s live image limit c = (step (record { space = s; limit = limit }) (state_in s live image) (as_reader c)).reply
-
--- a query that is answered has the least log of the image, and nothing else has a log
-abbrev pub HasLog : Space → Live → List ℕ → Option Query → Option Log → Type 0
-HasLog s live image None log = log ≡ None
-HasLog s live image (Some asked) log = MatchOption log ⊥ (IsLeastLog s (nodes_in s.words live image) live asked)
-
--- the outcome is what the command means
+-- the outcome is a turn on what the image holds
 abbrev pub IsMeant : Space → Live → List ℕ → Command → Outcome → Type 0
-IsMeant s live image c (outcome.Done r log) = ((limit : ℕ) → r ≡ reply_in s live image limit c) × HasLog s live image (answered_query s c) log
+IsMeant s live image c (outcome.Done r log) = IsTurn s (held_in s.words live image) (record { command = c; reply = r; log = log })
 IsMeant s live image c (outcome.Damaged fault) = ⊥
 
 -- ---- what is told on any image, sound or not
@@ -98,15 +86,9 @@ pages_asked s live image asked = image_shelf s.words live.pages image asked
 
 -- why a search on pages that hold this refuses, when it has asked for so many pages
 abbrev pub HasSearchCause : Space → Live → Read → Query → ℕ → PageFault → Type 0
-HasSearchCause s live read (query.Range q r) asked = HasWalkCause (search_at s q (min r bound)) live (pages_holding s live read 0) (pages_holding s live read asked)
+HasSearchCause s live read (query.Range q r) asked = HasWalkCause (search_at s q (min r bound)) live (pages_holding s live read 0)
+    (pages_holding s live read asked)
 HasSearchCause s live read (query.Nearest q k) asked = HasNearestCause live (pages_holding s live read 0) (pages_holding s live read asked)
-
--- a damaged page: it holds no node, is none of the file's, or is needed after as many as there are
-abbrev pub IsDamage : PageFault → Type 0
-IsDamage (page.Bad p fault) = Unit {0}
-IsDamage (page.Outside p) = Unit {0}
-IsDamage (page.Repeats p) = Unit {0}
-IsDamage _ = ⊥
 
 -- the search of a query on pages that hold this came to a damaged one, so the tree on them is not sound
 pub record HasDamage (s : Space) (live : Live) (read : Read) (asked : Query) (fault : PageFault) : Type 0 where
@@ -117,7 +99,7 @@ pub record HasDamage (s : Space) (live : Live) (read : Read) (asked : Query) (fa
 
 -- what is told of a command that asks this query, or none
 abbrev pub IsTold : Space → Live → List ℕ → Command → Option Query → Outcome → Type 0
-IsTold s live image c None (outcome.Done r log) = ((limit : ℕ) → r ≡ reply_in s live image limit c) × (log ≡ None)
+IsTold s live image c None (outcome.Done r log) = ((limit : ℕ) → r ≡ reply_in s (held_in s.words live image) limit c) × (log ≡ None)
 IsTold s live image c None (outcome.Damaged fault) = ⊥
 IsTold s live image c (Some asked) (outcome.Done (reply.Hits hits tags) (Some log)) = IsAnswer s live image asked hits tags log
 IsTold s live image c (Some asked) (outcome.Damaged fault) = HasDamage s live (reading s.words live.pages image) asked fault

@@ -1,13 +1,15 @@
 //! Queries on a file in memory.
 
-ghost use Rattle.std.specs.Prelude.{◌≡◌, ◌≢◌, ◌≤◌, ◌^◌, IfOk, Ok, Err, alloc_error};
+ghost use Rattle.std.specs.Prelude.{◌≡◌, ◌≢◌, ◌≤◌, ◌^◌, ◌∷◌, [], IsTrue, IfOk, Ok, Err, alloc_error};
 ghost use Rattle.rows_text.specs.declared.command.Command.TheVariants as command;
+ghost use Rattle.page_store.specs.Reading.{nodes_of};
 ghost use Rattle.page_store.specs.Shelf.{HoldsSame};
+ghost use Rattle.hit_tags.specs.Met.{AreMarked};
 ghost use Rattle.image_answers.specs.Outcomes.{IsOutcomeOf, IsTagged, outcome_of_fault};
 
 use crate::Memory;
 use crate::outcome::Outcome;
-use hit_tags::tags_of;
+use hit_tags::marked_tags;
 use log_model::Found;
 use metric_laws::{Listed, Meter, Metric, Point};
 use nearest_search::nearest;
@@ -45,9 +47,11 @@ fn tagged<P: Pages>(
     live: &Live,
     found: Found,
 ) -> Result<Outcome, Memory>
+    requires marked { IsTrue (P.shelf pages.old).tells →
+        AreMarked (nodes_of (P.shelf pages.old).read) (live.now.root ∷ []) found.log.records }
     ensures { IfOk result (IsTagged (P.shelf pages.old) (P.shelf pages.new) live.now found) }
 {
-    match tags_of(alloc, pages, live, &found) {
+    match marked_tags(alloc, pages, live, &found) {
         Ok(tags) => Ok(Outcome::Done {
             reply: Reply::Hits {
                 hits: found.hits,

@@ -1,35 +1,33 @@
 -- What a commit of placed nodes needs, and what it leaves.
-use Rattle.std.proofs.Common.{◌≡◌, ◌≢◌, ◌⊎◌, ℕ, zero, suc, ◌+◌, ◌≤◌, ◌<◌, Bool, true, false, List, [], ◌∷◌, ◌++◌, inl, inr, refl, sym, ap, subst, ◌∙◌, arith, length, take, min, Option, Some, None, Result, Ok, Err}
-use Rattle.std.specs.Prelude.{IsTrue, IsSome, ◌==◌}
+use Rattle.std.proofs.Common.{◌≡◌, ◌⊎◌, ℕ, zero, suc, ◌+◌, ◌≤◌, Bool, true, false, List, [], ◌∷◌, ◌++◌, inl, inr, refl, sym, ap, subst, arith, length, take, min, Option, Some, None, Result, Ok, Err}
+use Rattle.std.specs.Prelude.{IsSome, ◌==◌}
 use Rattle.std.specs.List.{AllByRecursion}
 use Rattle.std.proofs.lemmas.Bool.Decides.{nat_tests}
-use Rattle.std.proofs.lemmas.List.{length-take}
 use Rattle.metric_laws.specs.Lists.{IsIn}
 use Rattle.metric_laws.proofs.Lists.{all_append, all_in, in-append, in-filter}
-use Rattle.disk_model.specs.Disk.{DiskState, MayLeave, LeavesOnly}
+use Rattle.disk_model.specs.Disk.{DiskState, LeavesOnly}
 use Rattle.tree_shape.specs.declared.live.Live.{Live}
 use Rattle.tree_shape.specs.declared.entry.Node.{Node}
 use Rattle.tree_shape.specs.Tree.{Nodes, IsNodePage, times}
 use Rattle.node_page.specs.declared.head.Head.{Head}
-use Rattle.node_page.specs.Opening.{OpensTo, page_of}
+use Rattle.node_page.specs.Opening.{OpensTo}
 use Rattle.page_store.specs.declared.staging.Placed.{Placed}
 use Rattle.page_store.specs.declared.staging.StagedNode.{StagedNode}
 use Rattle.page_store.specs.declared.pages.PageFault.{PageFault}
 use Rattle.page_store.specs.Files.{nodes_in}
 use Rattle.page_store.specs.Laws.{AreNew}
-use Rattle.page_store.specs.Numbers.{AreNumbers}
 use Rattle.page_store.specs.Placing.{IsPlacement}
 use Rattle.page_store.specs.Reached.{StandsOnPages}
 use Rattle.page_store.specs.Reading.{IsWithin, node_or_none}
 use Rattle.page_store.specs.Staging.{pages_of, staged_for}
-use Rattle.page_store.specs.Succession.{TakesPlace, StandsByItself, IsWritten, ShareNone, without}
+use Rattle.page_store.specs.Succession.{IsWritten, ShareNone, without}
 use Rattle.page_store.proofs.Following.{placements_new, go_on, new_stands}
 use Rattle.page_store.proofs.Whole.{stand_on_pages}
 use Rattle.shadow_root.specs.Commit.{IsReady, IsStagedFor, IsInPlace, KeepsTree}
 use Rattle.shadow_root.specs.Live.{IsSuccessor}
 use Rattle.shadow_root.specs.Placements.{KeepsBytes}
 use Rattle.shadow_root.proofs.Beside.{in_place_is_written, new_is_beside, placements_can_follow}
-use Rattle.free_pages.specs.Keeping.{FreePages, IsFreeOrHeld, IsKept}
+use Rattle.free_pages.specs.Keeping.{FreePages, IsKept}
 use Rattle.free_pages.specs.Commits.{after_commit, AreWithin, LiesBeside, IsExchange}
 use Rattle.free_pages.proofs.Commits.{free_numbers, placements_exchange, keep_within, keep_beside}
 use Rattle.page_store.proofs.Standing.{all_each, in_times as times_from_in}

@@ -35,7 +35,8 @@ use Rattle.log_model.specs.declared.marks.Mark.{Mark}
 use Rattle.log_model.specs.declared.marks.Mark.TheVariants.{Skip, Far, Near}
 use Rattle.log_model.specs.declared.marks.Need.{Need}
 use Rattle.log_model.specs.declared.marks.Record.{Record}
-use Rattle.log_model.specs.Counts.{count_up, entry_count}
+use Rattle.metric_laws.specs.Counts.{count_up}
+use Rattle.log_model.specs.Counts.{entry_count}
 use Rattle.log_model.specs.Walk.{AreLeast, ReachesBy, Search, near_ones, need_of, needs_of, root_need, search_at}
 use Rattle.range_search.specs.Searched.{HasWalkCause, Needs}
 use Rattle.nearest_search.specs.Searched.{HasNearestCause, IsReachedBy}
@@ -43,14 +44,16 @@ use Rattle.nearest_search.specs.Walks.{OpensBefore, WalksTo, named_of}
 use Rattle.hit_tags.specs.Met.{ComesTo, marked_node, near_pages, with_marks}
 use Rattle.hit_tags.specs.Tags.{HasTagsCause}
 use Rattle.free_pages.specs.Keeping.{FreePages}
-use Rattle.free_pages.specs.Walk.{children, on_children, tree_walk, walked}
+use Rattle.page_store.specs.Tours.{children}
+use Rattle.free_pages.specs.Walk.{on_children, tree_walk, walked}
 use Rattle.insert_path.specs.Placing.{is_split, or_level, place_fault}
 use Rattle.insert_path.specs.Walk.{chosen_child, inner_ball, inner_fault, leaf_fault, walk_fault}
 use Rattle.insert_path.proofs.Level.{child_page}
 use Rattle.index_core.specs.declared.faults.IndexFault.{IndexFault}
 use Rattle.index_core.specs.declared.faults.IndexFault.TheVariants as fault
 use Rattle.index_core.specs.Answers.{HasRangeCause, HasReachCause, HasTagCause}
-use Rattle.index_core.specs.Causes.{BlamesNoPage, HasListCause, HasPathCause, HasReadCause, IsDamage, rules_of}
+use Rattle.page_store.specs.Shelf.{IsDamage}
+use Rattle.index_core.specs.Causes.{BlamesNoPage, HasListCause, HasPathCause, HasReadCause, rules_of}
 use Rattle.index_core.specs.Damage.{BlamesDamage, ComesAgain, IsAtHeight, IsDamageOf, LeadsTo}
 use Rattle.index_core.specs.Files.{OpenFile, OnlyReads, pages_on}
 use Rattle.index_core.specs.Index.{OpenIndex}

@@ -1,3 +1,4 @@
+pub mod Still
 pub mod Opening
 pub mod Forgetting
 pub mod Committed

@@ -1,13 +1,12 @@
 -- The free list of a file, and what is placed on its pages.
-use Rattle.std.proofs.Common.{◌≡◌, ◌⊎◌, ℕ, zero, suc, ◌+◌, ◌≤◌, ◌<◌, List, [], ◌∷◌, inl, inr, refl, sym, ap, subst, ◌∙◌, arith, take, ◌++◌, Bool, true, false, Option, Result, Ok, Err}
-use Rattle.std.specs.Prelude.{IsTrue, IsSome, ◌↔◌, ◌==◌, if◌then◌else◌}
+use Rattle.std.proofs.Common.{◌≡◌, ℕ, zero, suc, ◌+◌, ◌≤◌, ◌<◌, List, [], ◌∷◌, inl, inr, refl, sym, ap, subst, arith, take, ◌++◌, Bool, true, false, Option, Result, Ok, Err}
+use Rattle.std.specs.Prelude.{IsTrue, IsSome, ◌==◌, if◌then◌else◌}
 use Rattle.std.specs.List.{AllByRecursion}
 use Rattle.metric_laws.specs.Lists.{IsIn}
 use Rattle.metric_laws.specs.Space.{Space}
 use Rattle.metric_laws.proofs.Lists.{all_append, all_in}
 use Rattle.tree_shape.specs.declared.live.Live.{Live}
 use Rattle.tree_shape.specs.declared.entry.Node.{Node}
-use Rattle.tree_shape.specs.Plain.{Object}
 use Rattle.tree_shape.specs.Tree.{Nodes, IsSoundTree, times}
 use Rattle.tree_growth.specs.Insertion.{rules}
 use Rattle.node_page.specs.declared.head.Head.{Head}
@@ -15,22 +14,22 @@ use Rattle.page_store.specs.declared.staging.Placed.{Placed}
 use Rattle.page_store.specs.Numbers.{Ascends, AreNumbers}
 use Rattle.page_store.specs.Placing.{AreOutside as AreBeside, IsOver, live_pages}
 use Rattle.page_store.specs.Staging.{pages_of}
-use Rattle.page_store.specs.Reading.{IsWithin, Read, node_or_none, nodes_of}
+use Rattle.page_store.specs.Reading.{Read, node_or_none, nodes_of}
 use Rattle.page_store.specs.Shelf.{Shelf}
 use Rattle.page_store.proofs.Standing.{times_in}
 use Rattle.page_store.proofs.Whole.{sound_is_whole, stand_on_pages}
 use Rattle.insert_path.specs.Placing.{HasInserted}
 use Rattle.free_pages.specs.Keeping.{FreePages, IsFreeOrHeld, held_pages}
-use Rattle.free_pages.specs.Commits.{AreOutside, AreWithin}
+use Rattle.free_pages.specs.Commits.{AreOutside}
 use Rattle.free_pages.specs.Free.{AreOutsideTree, IsFresh}
-use Rattle.free_pages.specs.Laws.{OutsideIsOutside}
 use Rattle.free_pages.proofs.Members.{outside_is}
 use Rattle.disk_model.specs.Disk.{DiskState}
 use Rattle.outside_io.specs.Causes.{Rose}
 use Rattle.page_store.specs.declared.pages.PageFault.{PageFault}
 use Rattle.page_store.specs.declared.pages.PageFault.TheVariants.{Disk, Bad, Outside, Memory, Repeats, Level}
 use Rattle.page_store.specs.Shelf.{IsPassing}
-use Rattle.free_pages.specs.Walk.{IsWalkFault, children, on_children, outside_pages, tree_walk, walked}
+use Rattle.page_store.specs.Tours.{children}
+use Rattle.free_pages.specs.Walk.{IsWalkFault, on_children, outside_pages, tree_walk, walked}
 use Rattle.index_core.specs.declared.faults.IndexFault.{IndexFault}
 use Rattle.index_core.specs.Causes.{BlamesNoPage, HasListCause, read_fault}
 use Rattle.index_core.specs.Files.{OpenFile, pages_on}

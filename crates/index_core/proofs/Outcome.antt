@@ -1,6 +1,6 @@
 -- What a commit of what was placed makes of an index.
-use Rattle.std.proofs.Common.{◌≡◌, ◌≢◌, ◌⊎◌, ℕ, zero, suc, ◌+◌, ◌-◌, ◌*◌, ◌≤◌, ◌<◌, Bool, true, false, List, [], ◌∷◌, ◌++◌, inl, inr, refl, sym, ap, subst, ◌∙◌, arith, length, take, drop, min, max, Option, Some, None, Result, Ok, Err}
-use Rattle.std.specs.Prelude.{IsTrue, MatchOption, OnOk, IfOk, IfErr}
+use Rattle.std.proofs.Common.{◌≡◌, ◌⊎◌, ℕ, zero, suc, ◌+◌, ◌≤◌, true, List, [], ◌∷◌, inl, inr, refl, sym, ap, subst, ◌∙◌, arith, drop, max, Some, Ok, Err}
+use Rattle.std.specs.Prelude.{IsTrue}
 use Rattle.std.specs.List.{AllByRecursion}
 use Rattle.metric_laws.specs.Lists.{IsIn}
 use Rattle.metric_laws.specs.Space.{Space}
@@ -10,7 +10,7 @@ use Rattle.disk_model.specs.Disk.{DiskState, MayLeave, LeavesOnly, EachImage}
 use Rattle.disk_model.specs.Moments.{weakened}
 use Rattle.tree_shape.specs.declared.live.Live.{Live}
 use Rattle.tree_shape.specs.Plain.{tree_of}
-use Rattle.tree_shape.specs.Tree.{Nodes, IsNodePage, IsSoundTree, points_by_id, tags_by_id, times}
+use Rattle.tree_shape.specs.Tree.{Nodes, IsSoundTree, points_by_id, tags_by_id}
 use Rattle.node_page.specs.Opening.{page_of}
 use Rattle.page_store.specs.declared.staging.Placed.{Placed}
 use Rattle.page_store.specs.declared.staging.StagedNode.{StagedNode}
@@ -19,18 +19,17 @@ use Rattle.page_store.specs.Placing.{IsOver, live_pages}
 use Rattle.page_store.specs.Reading.{IsWithin}
 use Rattle.page_store.specs.Staging.{pages_of}
 use Rattle.page_store.specs.Succession.{IsWritten}
-use Rattle.shadow_root.specs.Commit.{IsBeforeOrAfter, HasNext, IsNotStaged, IsStagedAs}
+use Rattle.shadow_root.specs.Commit.{IsBeforeOrAfter, IsNotStaged, IsStagedAs}
 use Rattle.shadow_root.specs.Placements.{IsFileOf, IsTreeOf, KeepsBytes, alone_keeps}
 use Rattle.shadow_root.proofs.Beside.{in_place_is_written}
 use Rattle.shadow_root.proofs.Lists.{commits_keep_lists}
 use Rattle.free_pages.specs.Keeping.{FreePages, IsKept, with_left}
-use Rattle.free_pages.specs.Commits.{after_commit, with_all_left, AreOutside, AreWithin, IsExchange, IsGuarded}
+use Rattle.free_pages.specs.Commits.{with_all_left, AreOutside, AreWithin, IsExchange, IsGuarded}
 use Rattle.free_pages.proofs.Commits.{keep_outside, guard, pins_left}
-use Rattle.index_core.specs.declared.faults.IndexFault.{IndexFault}
 use Rattle.index_core.specs.declared.faults.IndexFault.TheVariants.{Commit}
 use Rattle.index_core.specs.Files.{OpenFile, StandsOn, IsLawfulFile, nodes_on}
 use Rattle.index_core.specs.Index.{OpenIndex, AreSpare, IsLawfulFree}
-use Rattle.index_core.specs.Writing.{Write, added_by, answer_to, points_after, tags_after, tree_after, HasObjects, HoldsObjects, LeavesEither, IsCommitted, IsExact, IsExactFor, IsMadeBy, IsNext, IsPlacedFor, IsPlacedOn, GuardsPages, KeepsPages, HasWritten}
+use Rattle.index_core.specs.Writing.{Write, added_by, answer_to, points_after, tags_after, tree_after, HasObjects, HoldsObjects, LeavesEither, IsCommitted, IsExact, IsExactFor, IsMadeBy, IsPlacedFor, IsPlacedOn, KeepsPages, HasWritten}
 use Rattle.index_core.proofs.Committed.{exchange}
 use Rattle.index_core.proofs.Settled.{can_follow}
 

@@ -17,7 +17,7 @@ use Rattle.free_pages.proofs.Members.{pins_keep}
 use Rattle.index_core.specs.Files.{OpenFile, StandsOn, OnlyReads, nodes_on}
 use Rattle.index_core.specs.Index.{OpenIndex, AreSpare, IsLawfulFree, StandsAlone}
 use Rattle.index_core.specs.Pinning.{AreReached, LiesBesideTree, LiesOutside, pinned, unpinned}
-use Rattle.index_core.specs.Still.{stands_alone_still}
+use Rattle.index_core.proofs.Still.{stands_alone_still}
 use Rattle.index_core.specs.Writing.{GuardsPages, IsExactFor}
 use Rattle.index_core.proofs.Written.{exact_moved}
 

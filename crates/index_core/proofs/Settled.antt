@@ -1,16 +1,10 @@
 -- The file of an index after the commit of what was placed for it.
-use Rattle.std.proofs.Common.{◌≡◌, ◌⊎◌, ℕ, ◌+◌, ◌*◌, ◌≤◌, List, [], ◌∷◌, inl, inr, refl, sym, ap, subst, ◌∙◌, arith, length, take, min, Option, Some, None, Ok, Err}
-use Rattle.std.specs.Prelude.{IsTrue, MatchOption, All}
-use Rattle.std.specs.List.{AllByRecursion}
-use Rattle.metric_laws.specs.Lists.{IsIn}
+use Rattle.std.proofs.Common.{◌≡◌, ℕ, ◌*◌, ◌≤◌, List, refl, sym, subst, arith}
+use Rattle.std.specs.Prelude.{IsTrue}
 use Rattle.disk_model.specs.Disk.{DiskState, MayLeave, LeavesOnly, EachImage}
-use Rattle.tree_shape.specs.declared.live.Live.{Live}
-use Rattle.tree_shape.specs.declared.entry.Node.{Node}
-use Rattle.node_page.specs.Opening.{IsLawfulLive, OpensTo}
+use Rattle.node_page.specs.Opening.{OpensTo}
 use Rattle.page_store.specs.declared.staging.Placed.{Placed}
-use Rattle.page_store.specs.Shelf.{Shelf, IsNodeOf}
 use Rattle.page_store.specs.Staging.{pages_of}
-use Rattle.page_cache.specs.Keeping.{Pairs}
 use Rattle.page_cache.proofs.Agreement.{agreement_lasts}
 use Rattle.page_cache.specs.Laws.{ForgettingKeepsAgreement, GrowsTo}
 use Rattle.shadow_root.specs.Commit.{IsBeforeOrAfter, HasNext, IsReady, IsStagedFor}
@@ -19,9 +13,8 @@ use Rattle.shadow_root.specs.Placements.{KeepsBytes, alone_keeps}
 use Rattle.shadow_root.proofs.Lists.{commits_keep_head}
 use Rattle.free_pages.specs.Keeping.{FreePages, IsKept}
 use Rattle.free_pages.specs.Commits.{after_commit, AreWithin}
-use Rattle.index_core.specs.Files.{OpenFile, StandsOn, IsLawfulFile, IsLawfulKept, nodes_on, pages_on}
+use Rattle.index_core.specs.Files.{OpenFile, StandsOn, IsLawfulFile, nodes_on, pages_on}
 use Rattle.index_core.specs.Index.{AreSpare}
-use Rattle.index_core.specs.Lending.{KeptAgrees}
 use Rattle.index_core.specs.Writing.{Follows, IsCommitted, IsPlacedOn, forgotten_of}
 use Rattle.index_core.proofs.Committed.{follows, is_ready, next_spare, next_within, page_same, read_same}
 use Rattle.index_core.proofs.Forgetting.{forgotten_agrees, forgotten_lawful, same_room}

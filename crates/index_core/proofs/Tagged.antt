@@ -1,5 +1,5 @@
 -- The tags of what was found, as those who called the index see them.
-use Rattle.std.specs.Prelude.{◌≡◌, ℕ, ◌+◌, ◌≤◌, List, [], ◌∷◌, length, Vec, vec_len, IsTrue, Result, Ok, Err, IfOk, IfErr, MatchResult}
+use Rattle.std.specs.Prelude.{◌≡◌, ℕ, ◌+◌, ◌≤◌, [], ◌∷◌, length, Vec, vec_len, IsTrue, Result, Ok, Err, IfOk, IfErr, MatchResult}
 use Rattle.std.specs.List.{AllZip}
 use Rattle.std.specs.declared.alloc.Global.{Global}
 use Rattle.std.proofs.Common.{sym, subst}
@@ -14,9 +14,9 @@ use Rattle.page_store.specs.Reading.{nodes_of}
 use Rattle.page_store.specs.Shelf.{Shelf, IsPassing}
 use Rattle.log_model.specs.declared.logs.Found.{Found}
 use Rattle.hit_tags.specs.Tags.{met_tags, object_tags, IsOwnTag, IsShown, HasTagsCause}
-use Rattle.index_core.specs.Answers.{IsSoundOn, HasTagged, HasTagCause}
+use Rattle.index_core.specs.Answers.{HasTagged, HasTagCause}
 use Rattle.index_core.specs.Causes.{read_fault, MayComeAnytime}
-use Rattle.index_core.specs.Files.{OpenFile, pages_on, nodes_on}
+use Rattle.index_core.specs.Files.{OpenFile, pages_on}
 use Rattle.index_core.specs.declared.faults.IndexFault.{IndexFault}
 
 -- what the walk of the found log gives over pages

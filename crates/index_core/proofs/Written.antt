@@ -1,18 +1,16 @@
 -- A write that follows calls that only read.
-use Rattle.std.proofs.Common.{◌≡◌, ◌≢◌, ◌⊎◌, ℕ, ◌+◌, ◌-◌, ◌^◌, ◌≤◌, Bool, true, false, List, [], ◌∷◌, ◌++◌, inl, inr, refl, sym, ap, subst, ◌∙◌, arith, min, Option, Some, None, Result, Ok, Err}
+use Rattle.std.proofs.Common.{◌≡◌, ◌⊎◌, ℕ, ◌+◌, ◌-◌, ◌≤◌, List, [], ◌∷◌, inl, inr, refl, sym, ap, subst, ◌∙◌, arith, Option, Some, None, Result, Ok, Err}
 use Rattle.std.specs.Prelude.{IsTrue, MatchOption, OnOk, IfOk, IfErr}
 use Rattle.std.specs.List.{AllByRecursion}
 use Rattle.metric_laws.specs.Space.{Space}
-use Rattle.metric_laws.proofs.Lists.{all_weaker}
 use Rattle.outside_io.specs.Causes.{Rose}
 use Rattle.disk_model.specs.Disk.{DiskState, MayLeave, LeavesOnly, EachImage, IsUnchanged}
-use Rattle.disk_model.specs.Moments.{joined, started, then_unchanged, weakened}
+use Rattle.disk_model.specs.Moments.{joined, then_unchanged, weakened}
 use Rattle.tree_shape.specs.Plain.{tree_of}
 use Rattle.tree_shape.specs.Tree.{IsSoundTree, points_by_id, tags_by_id}
 use Rattle.node_page.specs.Opening.{page_of}
 use Rattle.page_store.specs.Reading.{nodes_of, reading}
 use Rattle.page_store.specs.Kept.{unchanged_by_none}
-use Rattle.page_cache.specs.Keeping.{Pairs}
 use Rattle.free_pages.specs.Keeping.{FreePages}
 use Rattle.free_pages.specs.Commits.{AreOutside, IsGuarded}
 use Rattle.index_core.specs.declared.faults.IndexFault.{IndexFault}
@@ -24,11 +22,9 @@ use Rattle.index_core.specs.Answers.{IsSoundOn}
 use Rattle.index_core.specs.Causes.{HasInsertCause}
 use Rattle.index_core.specs.Files.{OpenFile, StandsOn, OnlyReads, IsLawfulFile, nodes_on}
 use Rattle.index_core.specs.Index.{OpenIndex}
-use Rattle.index_core.specs.Lending.{SameRoom, same_room_by_none, same_room_by_both}
+use Rattle.index_core.specs.Lending.{same_room_by_none, same_room_by_both}
 use Rattle.index_core.specs.Writing.{Write, added_by, answer_to, points_after, tags_after, tree_after, HasObjects, HoldsObjects, LeavesEither, IsExact, IsExactFor, IsNext, IsPlacedFor, IsRefused, GuardsPages, KeepsPages, HasWritten}
-
-rose_more : (a b c : ℕ) → a ≤ b → Rose b c → Rose a c
-rose_more a b c more rose = grind arith
+use Rattle.outside_io.proofs.Rising.{rose_before}
 
 -- the file of an index on a disk that tells, with these objects
 pub holds : {M : Type 0} (s : Space) (file : OpenFile M) (disk : DiskState) (points : List (List ℕ)) (tags : List ℕ) → IsLawfulFile s.words file → StandsOn file disk →
@@ -129,7 +125,7 @@ module _ {M : Type 0} (s : Space) (write : Write) (old new : OpenIndex M) (file 
     answer = answer result written.answer;
     next = each_ok result (next_then reads) written.next;
     refused = each_err result (λ fault h no. refused_then reads list (h no)) written.refused;
-    stops = each_err result (λ fault h is. ((h is).0, rose_more before.faults mid.faults after.faults reads.later (h is).1)) written.stops;
+    stops = each_err result (λ fault h is. ((h is).0, rose_before before.faults mid.faults after.faults reads.later (h is).1)) written.stops;
     moments = λ points tags has.
         joined before mid after (λ image. HoldsObjects s old.file.head points tags image ⊎ HoldsObjects s old.file.head (points_after write points) (tags_after write tags) image)
         (either_still s old.file write points tags before mid lawful stands (only has.tells) reads.same has)
@@ -218,5 +214,5 @@ pub commit_cause : {M : Type 0} (s : Space) (index : OpenIndex M) (o : Object) (
 commit_cause s index o before mid after (Ok n) later either rose = tt
 commit_cause s index o before mid after (Err fault) later either rose = elim either [
   | inl e ↦ subst (HasInsertCause s index o before after) (sym e) tt
-  | inr e ↦ subst (HasInsertCause s index o before after) (sym e) (rose_more before.faults mid.faults after.faults later (rose e))
+  | inr e ↦ subst (HasInsertCause s index o before after) (sym e) (rose_before before.faults mid.faults after.faults later (rose e))
 ]

@@ -1,5 +1,5 @@
 -- What the reading calls of an opened index answer, and why they refuse.
-use Rattle.std.specs.Prelude.{◌≡◌, ℕ, ◌+◌, ◌≤◌, min, List, [], ◌∷◌, length, Vec, vec_len, IsTrue, Result, IfOk, IfErr, MatchResult}
+use Rattle.std.specs.Prelude.{◌≡◌, ℕ, ◌+◌, ◌≤◌, min, List, [], ◌∷◌, length, Vec, vec_len, IsTrue, Result, IfOk, IfErr}
 use Rattle.std.specs.List.{AllZip}
 use Rattle.std.specs.declared.alloc.Global.{Global}
 use Rattle.metric_laws.specs.Space.{Space, bound}
@@ -7,7 +7,8 @@ use Rattle.disk_model.specs.Disk.{DiskState}
 use Rattle.scan_model.specs.declared.query.Query.{Query}
 use Rattle.tree_shape.specs.Tree.{IsSoundTree, points_by_id, tags_by_id}
 use Rattle.log_model.specs.declared.logs.Found.{Found}
-use Rattle.log_model.specs.Counts.{count_up, measured}
+use Rattle.metric_laws.specs.Counts.{count_up}
+use Rattle.log_model.specs.Counts.{measured}
 use Rattle.log_model.specs.Laws.{scan_answers}
 use Rattle.log_model.specs.Sound.{IsLogOf, IsLeastLog}
 use Rattle.log_model.specs.Walk.{search_at}
@@ -15,8 +16,9 @@ use Rattle.hit_tags.specs.Tags.{met_tags, object_tags, IsOwnTag, IsShown, HasTag
 use Rattle.range_search.specs.Searched.{IsFound, HasWalkCause}
 use Rattle.nearest_search.specs.Searched.{HasNearestCause}
 use Rattle.index_core.specs.declared.faults.IndexFault.{IndexFault}
+use Rattle.page_store.specs.Tours.{HasTourCause}
 use Rattle.tree_outline.specs.declared.outline.Shape.{Shape}
-use Rattle.tree_outline.specs.Shapes.{root_named, tree_lines, DrawsTo, IsCounted, HasShapeCause}
+use Rattle.tree_outline.specs.Shapes.{root_named, tree_lines, DrawsTo, IsCounted}
 use Rattle.index_core.specs.Causes.{HasReadCause, MayComeAnytime}
 use Rattle.index_core.specs.Files.{OpenFile, pages_on, nodes_on}
 
@@ -49,11 +51,14 @@ pub record HasSearched {M : Type 0} (s : Space) (file : OpenFile M) (query : Que
 -- record of it.
 abbrev pub IsFoundOn : {M : Type 0} → Space → OpenFile M → Query → DiskState → DiskState → Found → Type 0
 IsFoundOn s file query old new found =
-    IsFound s file.live query (pages_on file old 0) (pages_on file new (count_up 0 (length found.log.records))) 0 (count_up 0 (measured found.log.records)) found
+    IsFound s file.live query (pages_on file old 0) (pages_on file new (count_up 0 (length found.log.records))) 0
+    (count_up 0 (measured found.log.records)) found
 
 -- why a range search refuses: the disk failed, memory ran out, or the walk with the least marks came to a damaged page
 abbrev pub HasRangeCause : {M : Type 0} → Space → OpenFile M → List ℕ → ℕ → DiskState → DiskState → IndexFault → Type 0
-HasRangeCause s file q r old new = HasReadCause (HasWalkCause (search_at s q (min r bound)) file.live (pages_on file old 0) (pages_on file new (count_up 0 file.live.pages)))
+HasRangeCause s file q r old new =
+    HasReadCause (HasWalkCause (search_at s q (min r bound)) file.live (pages_on file old 0)
+    (pages_on file new (count_up 0 file.live.pages)))
 
 -- why a search for the nearest refuses: the disk failed, memory ran out, or a reached page is damaged
 abbrev pub HasReachCause : {M : Type 0} → OpenFile M → DiskState → DiskState → IndexFault → Type 0
@@ -61,7 +66,7 @@ HasReachCause file old new = HasReadCause (HasNearestCause file.live (pages_on f
 
 -- why the walk of a shape refuses: the disk failed, memory ran out, or the walk in pre-order came to a damaged page
 abbrev pub HasDrawCause : {M : Type 0} → OpenFile M → DiskState → DiskState → IndexFault → Type 0
-HasDrawCause file old new = HasReadCause (HasShapeCause file.live (pages_on file old 0) (pages_on file new (count_up 0 file.live.pages)))
+HasDrawCause file old new = HasReadCause (HasTourCause file.live (pages_on file old 0) (pages_on file new (count_up 0 file.live.pages)))
 
 -- What the walk of a shape gives: a line for each node that the disk was read for; where the disk tells its bytes, the lines of the
 -- nodes that child numbers lead to, in pre-order; on a sound file those of the live tree, and no refusal but for the disk or memory.
@@ -80,11 +85,13 @@ HasTagCause file found old new = HasReadCause (HasTagsCause (pages_on file old 0
 -- What the walk by a found log gives: a tag for each hit; where the disk tells its bytes, that of the first object with its id that
 -- the walk meets; where the log shows the hits, those of the hits' objects. On a sound file no hit has another object's tag,
 -- whatever the log says, and only the disk or memory refuses. The disk was read at most once per record of the log.
-pub record HasTagged {M : Type 0} (s : Space) (file : OpenFile M) (found : Found) (old new : DiskState) (result : Result (Vec ℕ Global) IndexFault) : Type 0 where
+pub record HasTagged {M : Type 0} (s : Space) (file : OpenFile M) (found : Found) (old new : DiskState)
+    (result : Result (Vec ℕ Global) IndexFault) : Type 0 where
   pub each : IfOk result (λ tags. vec_len tags ≡ length found.hits)
   pub met : IfOk result (λ tags. IsTrue old.tells → tags.items ≡ met_tags (nodes_on file old) file.live found)
   pub own : IfOk result (λ tags. IsSoundOn s file old → AllZip (IsOwnTag (nodes_on file old) file.live) found.hits tags.items)
-  pub objects : IfOk result (λ tags. IsTrue old.tells → IsShown s (nodes_on file old) file.live found → tags.items ≡ object_tags (nodes_on file old) file.live found)
+  pub objects : IfOk result (λ tags. IsTrue old.tells → IsShown s (nodes_on file old) file.live found →
+      tags.items ≡ object_tags (nodes_on file old) file.live found)
   pub reads : new.reads ≤ old.reads + length found.log.records
   pub cause : IfErr result (HasTagCause file found old new)
   pub undamaged : IsSoundOn s file old → IfErr result MayComeAnytime

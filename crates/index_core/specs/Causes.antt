@@ -6,6 +6,7 @@ use Rattle.node_page.specs.declared.head.Head.{Head}
 use Rattle.node_page.specs.declared.head.HeadFault.TheVariants.{Version, Space}
 use Rattle.node_page.specs.Opening.{OpensTo}
 use Rattle.page_store.specs.declared.pages.PageFault.{PageFault}
+use Rattle.page_store.specs.Shelf.{IsDamage}
 use Rattle.page_store.specs.declared.pages.PageFault.TheVariants as page
 use Rattle.shadow_root.specs.Opening.{HasOpenCause}
 use Rattle.shadow_root.specs.declared.faults.OpenFault.{OpenFault}
@@ -42,13 +43,6 @@ abbrev pub read_fault : PageFault → IndexFault
 read_fault page.Disk = Disk
 read_fault page.Memory = Memory
 read_fault fault = Damaged fault
-
--- the file is damaged: a page holds no node, is none of the file's, or is reached twice
-abbrev pub IsDamage : PageFault → Type 0
-IsDamage (page.Bad p fault) = Unit {0}
-IsDamage (page.Outside p) = Unit {0}
-IsDamage (page.Repeats p) = Unit {0}
-IsDamage _ = ⊥
 
 -- why a reading call refuses, by why its walk does
 abbrev pub HasReadCause : (PageFault → Type 0) → IndexFault → Type 0
@@ -120,9 +114,13 @@ HasInsertCause s index o old new Full = Unit {0}
 HasInsertCause s index o old new Worn = Unit {0}
 HasInsertCause s index o old new Disk = Rose old.faults new.faults
 HasInsertCause s index o old new (Damaged fault) =
-    ((index.free ≡ None) × HasListCause index.file old new.faults (Damaged fault)) ⊎ (IsPathDamage fault × (IsTrue old.tells → faults_of_path s (rules_of s index.file) (pages_on index.file old 0).read index.file.live o ≡ Some fault))
+    ((index.free ≡ None) × HasListCause index.file old new.faults (Damaged fault))
+    ⊎ (IsPathDamage fault × (IsTrue old.tells →
+    faults_of_path s (rules_of s index.file) (pages_on index.file old 0).read index.file.live o ≡ Some fault))
 HasInsertCause s index o old new (NoRoom pages needed) =
-    (f : FreePages) × IsListOf index f × (asked : ℕ) × HasPlaceCause s (rules_of s index.file) (take asked f.free) index.file.live o (pages_on index.file old 0) (pages_on index.file new 0) (place.NoRoom pages needed)
+    (f : FreePages) × IsListOf index f × (asked : ℕ)
+    × HasPlaceCause s (rules_of s index.file) (take asked f.free) index.file.live o (pages_on index.file old 0)
+    (pages_on index.file new 0) (place.NoRoom pages needed)
 HasInsertCause s index o old new Memory = Unit {0}
 HasInsertCause s index o old new Commit = Rose old.faults new.faults
 HasInsertCause s index o old new NotEmpty = ⊥

@@ -1,5 +1,5 @@
 -- What an opened index is, and on which disks it stands.
-use Rattle.std.specs.Prelude.{◌≡◌, ℕ, ◌≤◌, false, IsTrue, Option, Some, None, MatchOption, All}
+use Rattle.std.specs.Prelude.{◌≡◌, ℕ, ◌≤◌, false, IsTrue, Option, MatchOption, All}
 use Rattle.disk_model.specs.Disk.{DiskState, IsUnchanged}
 use Rattle.tree_shape.specs.declared.live.Live.{Live}
 use Rattle.tree_shape.specs.Tree.{Nodes}

@@ -7,4 +7,3 @@ pub mod Answers
 pub mod Writing
 pub mod Loading
 pub mod Pinning
-pub mod Still

@@ -43,7 +43,8 @@ HasLoadCause s file f rows labels _ = ⊥
 -- Why a load that nothing refused at once was refused: the rows were not placed on the pages of the free list; the disk failed in the
 -- commit; or the walk that makes the list, which wasn't made yet, came to a fault.
 abbrev pub HasLoadingCause : {M : Type 0} → Space → OpenIndex M → OpenIndex M → List (List ℕ) → List ℕ → DiskState → ℕ → IndexFault → Type 0
-HasLoadingCause s old new rows labels before faults (NoRoom pages needed) = MatchOption new.free ⊥ (λ f. HasLoadCause s old.file f rows labels (NoRoom pages needed))
+HasLoadingCause s old new rows labels before faults (NoRoom pages needed) =
+    MatchOption new.free ⊥ (λ f. HasLoadCause s old.file f rows labels (NoRoom pages needed))
 HasLoadingCause s old new rows labels before faults Memory = Unit {0}
 HasLoadingCause s old new rows labels before faults Commit = Rose before.faults faults
 HasLoadingCause s old new rows labels before faults fault = (old.free ≡ None) × HasListCause old.file before faults fault

@@ -1,10 +1,9 @@
 -- What a write makes of an index, and what a crash in it may leave.
-use Rattle.std.specs.Prelude.{◌≡◌, ◌≢◌, ◌⊎◌, ℕ, ◌+◌, ◌-◌, ◌≤◌, true, false, IsTrue, List, [], ◌∷◌, ◌++◌, length, take, min, Option, Some, None, MatchOption, Result, IfOk, IfErr, OnOk}
+use Rattle.std.specs.Prelude.{◌≡◌, ◌≢◌, ◌⊎◌, ℕ, ◌+◌, ◌-◌, ◌≤◌, true, IsTrue, List, [], ◌∷◌, ◌++◌, length, take, min, Option, Some, None, MatchOption, Result, IfOk, IfErr, OnOk}
 use Rattle.std.specs.List.{AllByRecursion}
-use Rattle.metric_laws.specs.Lists.{IsIn}
 use Rattle.metric_laws.specs.Space.{Space}
 use Rattle.outside_io.specs.Causes.{Rose}
-use Rattle.disk_model.specs.Disk.{DiskState, MayLeave, LeavesOnly, EachImage, IsUnchanged}
+use Rattle.disk_model.specs.Disk.{DiskState, LeavesOnly, EachImage, IsUnchanged}
 use Rattle.tree_shape.specs.declared.live.Live.{Live}
 use Rattle.tree_shape.specs.Tree.{Nodes, IsSoundTree, points_by_id, tags_by_id, times}
 use Rattle.tree_shape.specs.Plain.{Tall, tree_of}
@@ -17,7 +16,7 @@ use Rattle.page_store.specs.Placing.{AreOutside as AreBeside, IsOver, IsPlacemen
 use Rattle.page_store.specs.Staging.{pages_of}
 use Rattle.page_store.specs.Reading.{IsWithin}
 use Rattle.page_store.specs.Succession.{TakesPlace, StandsByItself}
-use Rattle.shadow_root.specs.Commit.{IsBeforeOrAfter, HasNext}
+use Rattle.shadow_root.specs.Commit.{HasNext}
 use Rattle.shadow_root.specs.Placements.{IsFileOf, IsTreeOf}
 use Rattle.page_cache.specs.Keeping.{Pairs, without}
 use Rattle.free_pages.specs.Keeping.{FreePages}
@@ -122,11 +121,13 @@ pub record HasWritten {M : Type 0} (s : Space) (write : Write) (old new : OpenIn
   pub next : OnOk result (IsNext write old new)
   pub refused : IfErr result (λ fault. fault ≢ Commit → IsRefused old new before after)
   pub stops : IfErr result (λ fault. fault ≡ Commit → (new.stopped ≡ true) × Rose before.faults after.faults)
-  pub moments : (points : List (List ℕ)) (tags : List ℕ) → HasObjects s old.file before points tags → LeavesEither s old.file.head write points tags before after
+  pub moments : (points : List (List ℕ)) (tags : List ℕ) → HasObjects s old.file before points tags →
+      LeavesEither s old.file.head write points tags before after
   pub objects : (points : List (List ℕ)) (tags : List ℕ) → HasObjects s old.file before points tags →
       OnOk result (HasObjects s new.file after (points_after write points) (tags_after write tags))
   pub tree : (points : List (List ℕ)) (tags : List ℕ) → HasObjects s old.file before points tags →
-      OnOk result (tree_of (nodes_on new.file after) new.file.live ≡ tree_after s old.file.head write old.file.live.count (tree_of (nodes_on old.file before) old.file.live))
+      OnOk result (tree_of (nodes_on new.file after) new.file.live ≡ tree_after s old.file.head write old.file.live.count
+      (tree_of (nodes_on old.file before) old.file.live))
   pub exact : (points : List (List ℕ)) (tags : List ℕ) → HasObjects s old.file before points tags → IsExact old before → OnOk result (IsExact new after)
   pub guarded : (generation : ℕ) (tree : List ℕ) → GuardsPages generation tree old → OnOk result (GuardsPages generation tree new)
   pub kept : (generation : ℕ) (tree : List ℕ) → IsTrue before.tells → GuardsPages generation tree old → KeepsPages tree before after
@@ -158,7 +159,8 @@ forgotten_of pages (Some kept) = Some (forgotten pages kept)
 pub record IsMadeBy (s : Space) (head : Head) (write : Write) (old : Nodes) (t : Live) (placed : Placed) (new : Nodes) : Type 0 where
   pub objects : IsTreeOf s new placed.next (points_after write (points_by_id old t)) (tags_after write (tags_by_id old t))
   pub tree : tree_of new placed.next ≡ tree_after s head write t.count (tree_of old t)
-  pub balance : (page : ℕ) → times page (live_pages new placed.next) + times page placed.left ≡ times page (live_pages old t) + times page (pages_of placed.staged)
+  pub balance : (page : ℕ) → times page (live_pages new placed.next) + times page placed.left ≡ times page
+      (live_pages old t) + times page (pages_of placed.staged)
 
 -- what was placed is this write, on a sound file: none of its pages lies in the live tree, and it makes the tree after the write
 pub record IsPlacedFor (s : Space) (head : Head) (write : Write) (old : Nodes) (t : Live) (placed : Placed) : Type 0 where

@@ -50,7 +50,12 @@ impl<M: Metric> Index<M> {
     pub fn open_write<D: Disk>(disk: &mut D, metric: M) -> Result<Self, OpenFault>
         ensures stands { IfOk result (λ index. StandsAlone index (D.state disk.new)) }
         ensures lawful { IfOk result (λ index. IsLawfulFile (M.space metric).words index.file) }
-        ensures opened { IfOk result (λ index. index ≡ record { file = record index.file { metric = metric; kept = None }; free = None; stopped = false; workers = 1 }) }
+        ensures opened { IfOk result (λ index. index ≡ record {
+          file = record index.file { metric = metric; kept = None };
+          free = None;
+          stopped = false;
+          workers = 1;
+        }) }
         ensures cause { IfErr result (HasReaderCause (M.space metric).words (D.state disk.old) (D.state disk.new)) }
         ensures bytes { (D.state disk.new).bytes ≡ (D.state disk.old).bytes }
         ensures tells { (D.state disk.new).tells ≡ (D.state disk.old).tells }
@@ -155,9 +160,12 @@ impl<M: Metric> Index<M> {
         ensures stands { MayGoOn self.new (D.state disk.new) }
         ensures reads { OnlyReads self.old.file self.new.file (D.state disk.old) (D.state disk.new) }
         ensures rest { self.new ≡ record self.old { file = self.new.file } }
-        ensures searched { self.old.stopped ≡ false → HasSearched (M.space self.old.file.metric) self.old.file (Range q.now r) (D.state disk.old) (D.state disk.new) result }
+        ensures searched { self.old.stopped ≡ false → HasSearched (M.space self.old.file.metric) self.old.file (Range q.now r)
+            (D.state disk.old) (D.state disk.new) result }
         ensures found { IfOk result (IsFoundOn (M.space self.old.file.metric) self.old.file (Range q.now r) (D.state disk.old) (D.state disk.new)) }
-        ensures cause { self.old.stopped ≡ false → IfErr result (HasRangeCause (M.space self.old.file.metric) self.old.file q.now r (D.state disk.old) (D.state disk.new)) }
+        ensures cause { self.old.stopped ≡ false →
+            IfErr result (HasRangeCause (M.space self.old.file.metric) self.old.file q.now r (D.state disk.old)
+            (D.state disk.new)) }
         // A page that it blames is damaged.
         ensures damage { IfErr result (BlamesDamage self.old.file (D.state disk.old)) }
     {
@@ -182,7 +190,8 @@ impl<M: Metric> Index<M> {
         ensures stands { MayGoOn self.new (D.state disk.new) }
         ensures reads { OnlyReads self.old.file self.new.file (D.state disk.old) (D.state disk.new) }
         ensures rest { self.new ≡ record self.old { file = self.new.file } }
-        ensures searched { self.old.stopped ≡ false → HasSearched (M.space self.old.file.metric) self.old.file (Nearest q.now k) (D.state disk.old) (D.state disk.new) result }
+        ensures searched { self.old.stopped ≡ false → HasSearched (M.space self.old.file.metric) self.old.file (Nearest q.now k)
+            (D.state disk.old) (D.state disk.new) result }
         ensures cause { self.old.stopped ≡ false → IfErr result (HasReachCause self.old.file (D.state disk.old) (D.state disk.new)) }
         // A page that it blames is damaged.
         ensures damage { IfErr result (BlamesDamage self.old.file (D.state disk.old)) }

@@ -36,9 +36,11 @@ impl<M: Metric> Index<M> {
         requires placed { IsPlacedOn self.old.file free placement.now.used placement.now.placed }
         requires follows { IsTrue (D.state disk.old).tells → Follows (nodes_on self.old.file (D.state disk.old)) self.old.file.live placement.now.placed }
         ensures stands { MayGoOn self.new (D.state disk.new) }
-        ensures written { (write : Write) → placement.now.placed.next.count ≡ self.old.file.live.count + added_by write → answer ≡ answer_to write self.old.file.live.count →
+        ensures written { (write : Write) → placement.now.placed.next.count ≡ self.old.file.live.count + added_by write →
+            answer ≡ answer_to write self.old.file.live.count →
             (IsSoundOn (M.space self.old.file.metric) self.old.file (D.state disk.old) →
-            IsPlacedFor (M.space self.old.file.metric) self.old.file.head write (nodes_on self.old.file (D.state disk.old)) self.old.file.live placement.now.placed) →
+            IsPlacedFor (M.space self.old.file.metric) self.old.file.head write (nodes_on self.old.file (D.state disk.old))
+            self.old.file.live placement.now.placed) →
             HasWritten (M.space self.old.file.metric) write (record self.old { free = Some free }) self.new (D.state disk.old) (D.state disk.new) result }
         ensures refusals { IfErr result (λ fault. (fault ≡ IndexFault.Memory) ⊎ (fault ≡ IndexFault.Commit)) }
         ensures rose { IfErr result (λ fault. fault ≡ IndexFault.Commit → Rose (D.state disk.old).faults (D.state disk.new).faults) }
@@ -112,7 +114,9 @@ impl<M: Metric> Index<M> {
         requires point { IsTrue ((M.space self.old.file.metric).fits p.now) }
         ensures stands { MayGoOn self.new (D.state disk.new) }
         ensures stopped { self.old.stopped ≡ true → (result ≡ Err IndexFault.Stopped) × (self.new ≡ self.old) × (disk.new ≡ disk.old) }
-        ensures written { self.old.stopped ≡ false → HasWritten (M.space self.old.file.metric) (Inserts p.now tag) self.old self.new (D.state disk.old) (D.state disk.new) result }
+        ensures written { self.old.stopped ≡ false →
+            HasWritten (M.space self.old.file.metric) (Inserts p.now tag) self.old self.new (D.state disk.old)
+            (D.state disk.new) result }
         ensures full { self.old.stopped ≡ false → (result ≡ Err IndexFault.Full) ↔ (self.old.file.live.count ≡ self.old.file.head.limit) }
         ensures worn { self.old.stopped ≡ false →
             (result ≡ Err IndexFault.Worn) ↔ ((self.old.file.live.count ≢ self.old.file.head.limit) × (self.old.file.live.generation ≡ 2 ^ 48 - 1)) }

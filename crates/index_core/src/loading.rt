@@ -179,9 +179,11 @@ impl<M: Metric> Index<M> {
             (result ≡ Err fault) × (self.new ≡ self.old) × (disk.new ≡ disk.old) }
         ensures stands { MayGoOn self.new (D.state disk.new) }
         ensures written { self.old.stopped ≡ false →
-            HasWritten (M.space self.old.file.metric) (Loads rows.now.points (ids (length rows.now.points))) self.old self.new (D.state disk.old) (D.state disk.new) result }
+            HasWritten (M.space self.old.file.metric) (Loads rows.now.points (ids (length rows.now.points))) self.old self.new
+            (D.state disk.old) (D.state disk.new) result }
         ensures cause { load_fault self.old (length rows.now.points) ≡ None →
-            IfErr result (HasLoadingCause (M.space self.old.file.metric) self.old self.new rows.now.points (ids (length rows.now.points)) (D.state disk.old) (D.state disk.new).faults) }
+            IfErr result (HasLoadingCause (M.space self.old.file.metric) self.old self.new rows.now.points
+            (ids (length rows.now.points)) (D.state disk.old) (D.state disk.new).faults) }
         // A page that it blames is damaged.
         ensures damage { IfErr result (BlamesDamage self.old.file (D.state disk.old)) }
         ensures undamaged { IfErr result (λ fault. IsSoundOn (M.space self.old.file.metric) self.old.file (D.state disk.old) → BlamesNoPage fault) }
@@ -225,7 +227,8 @@ impl<M: Metric> Index<M> {
         ensures written { self.old.stopped ≡ false →
             HasWritten (M.space self.old.file.metric) (Loads rows.now.points tags.now) self.old self.new (D.state disk.old) (D.state disk.new) result }
         ensures cause { load_fault self.old (length rows.now.points) ≡ None →
-            IfErr result (HasLoadingCause (M.space self.old.file.metric) self.old self.new rows.now.points tags.now (D.state disk.old) (D.state disk.new).faults) }
+            IfErr result (HasLoadingCause (M.space self.old.file.metric) self.old self.new rows.now.points tags.now
+            (D.state disk.old) (D.state disk.new).faults) }
         // A page that it blames is damaged.
         ensures damage { IfErr result (BlamesDamage self.old.file (D.state disk.old)) }
         ensures undamaged { IfErr result (λ fault. IsSoundOn (M.space self.old.file.metric) self.old.file (D.state disk.old) → BlamesNoPage fault) }

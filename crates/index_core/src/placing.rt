@@ -46,10 +46,12 @@ impl<M: Metric> View<M> {
         ensures reads { OnlyReads self.old self.new (D.state disk.old) (D.state disk.new) }
         ensures placed { IfOk result (λ placement. IsPlacedOn self.old free.now placement.used placement.placed) }
         ensures one { IfOk result (λ placement. placement.placed.next.count ≡ self.old.live.count + 1) }
-        ensures takes_place { IfOk result (λ placement. IsTrue (D.state disk.old).tells → TakesPlace (nodes_on self.old (D.state disk.old)) self.old.live placement.placed) }
+        ensures takes_place { IfOk result (λ placement. IsTrue (D.state disk.old).tells →
+            TakesPlace (nodes_on self.old (D.state disk.old)) self.old.live placement.placed) }
         ensures inserts { IfOk result (λ placement. IsSoundOn (M.space self.old.metric) self.old (D.state disk.old) →
             IsPlacedFor (M.space self.old.metric) self.old.head (Inserts p.now tag) (nodes_on self.old (D.state disk.old)) self.old.live placement.placed) }
-        ensures cause { IfErr result (HasPathCause (M.space self.old.metric) self.old free.now (record { id = self.old.live.count; tag = tag; point = p.now }) (D.state disk.old) (D.state disk.new)) }
+        ensures cause { IfErr result (HasPathCause (M.space self.old.metric) self.old free.now
+            (record { id = self.old.live.count; tag = tag; point = p.now }) (D.state disk.old) (D.state disk.new)) }
         ensures undamaged { IfErr result (λ fault. IsSoundOn (M.space self.old.metric) self.old (D.state disk.old) → BlamesNoPage fault) }
         ensures few { (D.state disk.new).reads ≤ (D.state disk.old).reads + (self.old.live.height + 1) }
     {

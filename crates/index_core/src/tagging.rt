@@ -54,7 +54,8 @@ impl<M: Metric> Index<M> {
         ensures stands { MayGoOn self.new (D.state disk.new) }
         ensures reads { OnlyReads self.old.file self.new.file (D.state disk.old) (D.state disk.new) }
         ensures rest { self.new ≡ record self.old { file = self.new.file } }
-        ensures tagged { self.old.stopped ≡ false → HasTagged (M.space self.old.file.metric) self.old.file found.now (D.state disk.old) (D.state disk.new) result }
+        ensures tagged { self.old.stopped ≡ false → HasTagged (M.space self.old.file.metric) self.old.file found.now
+            (D.state disk.old) (D.state disk.new) result }
         // A page that it blames is damaged.
         ensures damage { IfErr result (BlamesDamage self.old.file (D.state disk.old)) }
     {

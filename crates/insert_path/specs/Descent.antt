@@ -34,7 +34,15 @@ pub record Plan : Type 0 where
   pub object : Object
 
 abbrev pub plan_of : Space → Policy → Bounds → (ℕ → ℕ) → Object → Plan
-plan_of s policy bounds number o = record { space = s; promote = policy.promote; split = policy.split; most = bounds.most; least = bounds.least; number = number; object = o }
+plan_of s policy bounds number o = record {
+  space = s;
+  promote = policy.promote;
+  split = policy.split;
+  most = bounds.most;
+  least = bounds.least;
+  number = number;
+  object = o;
+}
 
 abbrev pub rules_of : Plan → Rules
 rules_of P = rules_for P.space P.promote P.split P.most P.least
@@ -66,7 +74,8 @@ pub record AreHalves {E : Type 0} (P : Plan) (ball : E → Ball) (set : E → �
   pub near : AreNear P.space ball es hs.first.point × AreNear P.space ball es hs.second.point
 
 -- a node with an entry too many is split, and its halves are staged, the first before the second
-pub record IsHalved {E : Type 0} (P : Plan) (ball : E → Ball) (set : E → ℕ → E) (make : List E → Node) (es : List E) (hs : Halves E) (old new : List Node) (g : Grew) : Type 0 where
+pub record IsHalved {E : Type 0} (P : Plan) (ball : E → Ball) (set : E → ℕ → E) (make : List E → Node) (es : List E)
+    (hs : Halves E) (old new : List Node) (g : Grew) : Type 0 where
   pub many : P.most < length es
   pub halves : AreHalves P ball set es hs
   pub staged : new ≡ old ++ make hs.first.entries ∷ make hs.second.entries ∷ []

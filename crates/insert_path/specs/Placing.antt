@@ -73,4 +73,5 @@ pub record HasInserted (s : Space) (R : Rules) (old : Nodes) (t : Live) (o : Obj
   pub tags : tags_by_id new placed.next ≡ tags_by_id old t ++ o.tag ∷ []
   pub fresh : map (staged_tree new) placed.staged ≡ fresh_of R o (tree_of old t)
   pub left : (page : ℕ) → IsIn page placed.left ↔ (IsIn page (live_pages old t) × (IsIn page (live_pages new placed.next) → ⊥))
-  pub balance : (page : ℕ) → times page (live_pages new placed.next) + times page placed.left ≡ times page (live_pages old t) + times page (pages_of placed.staged)
+  pub balance : (page : ℕ) → times page (live_pages new placed.next) + times page placed.left ≡ times page
+      (live_pages old t) + times page (pages_of placed.staged)

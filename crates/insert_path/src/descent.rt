@@ -60,7 +60,9 @@ fn regrow<R: Ruler>(
     requires small { IsSmall grew }
     ensures metric { R.metric ruler.new ≡ R.metric ruler.old }
     ensures near { OnOk result (AllByRecursion IsNear entries.new.items) }
-    ensures entries { OnOk result (entries.new.items ≡ regrown ((R.M.space (R.metric ruler.old)).dist task.now.object.point.now) (parent_distance (R.M.space (R.metric ruler.old)) (above_of spot.now.root spot.now.above.now)) place grew entries.old.items) }
+    ensures entries { OnOk result (entries.new.items ≡ regrown ((R.M.space (R.metric ruler.old)).dist task.now.object.point.now)
+        (parent_distance (R.M.space (R.metric ruler.old)) (above_of spot.now.root spot.now.above.now)) place grew
+        entries.old.items) }
 {
     match grew {
         Grew::One(page) => {
@@ -95,7 +97,11 @@ fn at_leaf<R: Ruler>(
     ensures metric { R.metric ruler.new ≡ R.metric ruler.old }
     ensures count { OnOk result (length nodes.new.items ≤ length nodes.old.items + 2) }
     ensures within { parent_distance (R.M.space (R.metric ruler.old)) (above_of spot.now.root spot.now.above.now) task.now.object.point.now ≤ bound }
-    ensures staged { IfOk result (λ g. let P = plan_of (R.M.space (R.metric ruler.old)) task.now.policy task.now.bounds (number_at task.now.numbering.numbers.now task.now.numbering.first) (record { id = task.now.object.id; tag = task.now.object.tag; point = task.now.object.point.now }) in IsStaged P leaf_ball leaf_with Leaf (entries.items ++ new_entry P (above_of spot.now.root spot.now.above.now) ∷ []) nodes.old.items nodes.new.items g) }
+    ensures staged { IfOk result (λ g. let P = plan_of (R.M.space (R.metric ruler.old)) task.now.policy task.now.bounds
+        (number_at task.now.numbering.numbers.now task.now.numbering.first)
+        (record { id = task.now.object.id; tag = task.now.object.tag; point = task.now.object.point.now }) in IsStaged P leaf_ball
+        leaf_with Leaf (entries.items ++ new_entry P (above_of spot.now.root spot.now.above.now) ∷ []) nodes.old.items
+        nodes.new.items g) }
 {
     let parent = parent_of(ruler, spot, task.object.point);
     let point = Point::new(alloc, task.object.point)?;
@@ -134,8 +140,16 @@ fn back_at<R: Ruler>(
     requires small { IsSmall regrowth.grew }
     ensures metric { R.metric ruler.new ≡ R.metric ruler.old }
     ensures count { OnOk result (length nodes.new.items ≤ length nodes.old.items + 2) }
-    ensures near { OnOk result (AllByRecursion IsNear (regrown ((R.M.space (R.metric ruler.old)).dist task.now.object.point.now) (parent_distance (R.M.space (R.metric ruler.old)) (above_of spot.now.root spot.now.above.now)) regrowth.place regrowth.grew regrowth.entries.items)) }
-    ensures staged { IfOk result (λ g. let P = plan_of (R.M.space (R.metric ruler.old)) task.now.policy task.now.bounds (number_at task.now.numbering.numbers.now task.now.numbering.first) (record { id = task.now.object.id; tag = task.now.object.tag; point = task.now.object.point.now }) in IsStaged P inner_ball inner_with (Inner spot.now.level) (regrown (P.space.dist P.object.point) (parent_distance P.space (above_of spot.now.root spot.now.above.now)) regrowth.place regrowth.grew regrowth.entries.items) nodes.old.items nodes.new.items g) }
+    ensures near { OnOk result
+        (AllByRecursion IsNear (regrown ((R.M.space (R.metric ruler.old)).dist task.now.object.point.now)
+        (parent_distance (R.M.space (R.metric ruler.old)) (above_of spot.now.root spot.now.above.now)) regrowth.place regrowth.grew
+        regrowth.entries.items)) }
+    ensures staged { IfOk result (λ g. let P = plan_of (R.M.space (R.metric ruler.old)) task.now.policy task.now.bounds
+        (number_at task.now.numbering.numbers.now task.now.numbering.first)
+        (record { id = task.now.object.id; tag = task.now.object.tag; point = task.now.object.point.now }) in IsStaged P inner_ball
+        inner_with (Inner spot.now.level)
+        (regrown (P.space.dist P.object.point) (parent_distance P.space (above_of spot.now.root spot.now.above.now)) regrowth.place
+        regrowth.grew regrowth.entries.items) nodes.old.items nodes.new.items g) }
 {
     let Regrowth {
         mut entries,
@@ -164,9 +178,15 @@ pub fn descend<P: Pages, R: Ruler>(
     ensures asked { HasAsked (spot.now.level + 1) (P.shelf pages.old) (P.shelf pages.new) }
     ensures keeps { P.keeps pages.old pages.new }
     ensures count { OnOk result (length written.new.nodes.items ≤ length written.old.nodes.items + 2 * (spot.now.level + 1)) }
-    ensures descends { IfOk result (λ g. Descends (plan_of (R.M.space (R.metric ruler.old)) task.now.policy task.now.bounds (number_at task.now.numbering.numbers.now task.now.numbering.first) (record { id = task.now.object.id; tag = task.now.object.tag; point = task.now.object.point.now }))
-        (P.shelf pages.old) spot.now.level spot.now.page (above_of spot.now.root spot.now.above.now) written.old.left.items written.old.nodes.items written.new.left.items written.new.nodes.items g) }
-    ensures cause { IfErr result (HasWalkCause (P.shelf pages.old) (P.shelf pages.new) (walk_fault (R.M.space (R.metric ruler.old)) (P.shelf pages.old).read task.now.object.point.now spot.now.level spot.now.page)) }
+    ensures descends { IfOk result (λ g.
+        Descends (plan_of (R.M.space (R.metric ruler.old)) task.now.policy task.now.bounds
+        (number_at task.now.numbering.numbers.now task.now.numbering.first)
+        (record { id = task.now.object.id; tag = task.now.object.tag; point = task.now.object.point.now }))
+        (P.shelf pages.old) spot.now.level spot.now.page (above_of spot.now.root spot.now.above.now) written.old.left.items
+        written.old.nodes.items written.new.left.items written.new.nodes.items g) }
+    ensures cause { IfErr result (HasWalkCause (P.shelf pages.old) (P.shelf pages.new)
+        (walk_fault (R.M.space (R.metric ruler.old)) (P.shelf pages.old).read task.now.object.point.now spot.now.level
+        spot.now.page)) }
 {
     let node = pages.node(alloc, spot.page)?;
     if written.left.push(spot.page).is_err() {

@@ -68,7 +68,9 @@ fn grow_root(
     requires height { live.now.height ≤ 14 }
     requires first { task.now.numbering.first ≤ 2 ^ 24 }
     requires few { length written.nodes.items < 2 ^ 9 }
-    ensures roots { IfOk result (λ grown. Roots (number_at task.now.numbering.numbers.now task.now.numbering.first) live.now.height grew written.nodes.items grown.nodes.items grown.root grown.height) }
+    ensures roots { IfOk result (λ grown.
+        Roots (number_at task.now.numbering.numbers.now task.now.numbering.first) live.now.height grew written.nodes.items
+        grown.nodes.items grown.root grown.height) }
     ensures left { IfOk result (λ grown. grown.left.items ≡ written.left.items) }
     ensures added { IfOk result (λ grown. grown.added ≡ 1) }
     ensures count { IfOk result (λ grown. length grown.nodes.items ≤ length written.nodes.items + 1) }
@@ -119,10 +121,15 @@ pub fn grow<P: Pages, R: Ruler>(
     ensures keeps { P.keeps pages.old pages.new }
     ensures count { IfOk result (λ grown. length grown.nodes.items < 2 ^ 9) }
     ensures added { IfOk result (λ grown. grown.added ≡ 1) }
-    ensures walks { IfOk result (λ grown. Walks (plan_of (R.M.space (R.metric ruler.old)) task.now.policy task.now.bounds (number_at task.now.numbering.numbers.now task.now.numbering.first) (record { id = task.now.object.id; tag = task.now.object.tag; point = task.now.object.point.now }))
+    ensures walks { IfOk result (λ grown.
+        Walks (plan_of (R.M.space (R.metric ruler.old)) task.now.policy task.now.bounds
+        (number_at task.now.numbering.numbers.now task.now.numbering.first)
+        (record { id = task.now.object.id; tag = task.now.object.tag; point = task.now.object.point.now }))
         (P.shelf pages.old) live.now grown.left.items grown.nodes.items grown.root grown.height) }
     ensures cause { IfErr result (HasTreeCause (P.shelf pages.old) (P.shelf pages.new)
-        (let Q = plan_of (R.M.space (R.metric ruler.old)) task.now.policy task.now.bounds (number_at task.now.numbering.numbers.now task.now.numbering.first) (record { id = task.now.object.id; tag = task.now.object.tag; point = task.now.object.point.now }) in
+        (let Q = plan_of (R.M.space (R.metric ruler.old)) task.now.policy task.now.bounds
+        (number_at task.now.numbering.numbers.now task.now.numbering.first)
+        (record { id = task.now.object.id; tag = task.now.object.tag; point = task.now.object.point.now }) in
         place_fault Q.space (rules_of Q) (P.shelf pages.old).read live.now Q.object)) }
 {
     let mut written = Written {

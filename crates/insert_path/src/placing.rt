@@ -45,7 +45,9 @@ pub fn place<P: Pages, R: Ruler>(
     requires dim { (P.shelf pages.old).dim ≡ head.now.dim }
     requires pages { (P.shelf pages.old).pages ≡ live.now.pages }
     requires numbers { AreNumbers live.now.pages numbers.now }
-    requires outside { IsTrue (P.shelf pages.old).tells → IsSoundTree (R.M.space (R.metric ruler.old)) (nodes_of (P.shelf pages.old).read) live.now → AreOutside (nodes_of (P.shelf pages.old).read) live.now numbers.now }
+    requires outside { IsTrue (P.shelf pages.old).tells →
+        IsSoundTree (R.M.space (R.metric ruler.old)) (nodes_of (P.shelf pages.old).read) live.now →
+        AreOutside (nodes_of (P.shelf pages.old).read) live.now numbers.now }
 
     ensures metric { R.metric ruler.new ≡ R.metric ruler.old }
     ensures asked { HasAsked (live.now.height + 1) (P.shelf pages.old) (P.shelf pages.new) }
@@ -53,7 +55,8 @@ pub fn place<P: Pages, R: Ruler>(
 
     // What is placed can be committed.
     ensures placement { IfOk result (IsPlacement head.now live.now numbers.now 1) }
-    ensures apart { IfOk result (λ placed. IsTrue (P.shelf pages.old).tells → IsSoundTree (R.M.space (R.metric ruler.old)) (nodes_of (P.shelf pages.old).read) live.now →
+    ensures apart { IfOk result (λ placed. IsTrue (P.shelf pages.old).tells →
+        IsSoundTree (R.M.space (R.metric ruler.old)) (nodes_of (P.shelf pages.old).read) live.now →
         AreOutside (nodes_of (P.shelf pages.old).read) live.now (pages_of placed.staged)) }
 
     // Page by page it takes the place of what is left, also on a file that isn't sound.
@@ -62,16 +65,22 @@ pub fn place<P: Pages, R: Ruler>(
 
     // What is placed is the insertion's.
     ensures walked { IfOk result (λ placed. IsTrue (P.shelf pages.old).tells →
-        HasWalked (R.M.space (R.metric ruler.old)) (rules (R.M.space (R.metric ruler.old)) head.now.promote head.now.split) (P.shelf pages.old).read live.now (record { id = live.now.count; tag = tag; point = p.now }) placed) }
-    ensures inserted { IfOk result (λ placed. IsTrue (P.shelf pages.old).tells → IsSoundTree (R.M.space (R.metric ruler.old)) (nodes_of (P.shelf pages.old).read) live.now →
+        HasWalked (R.M.space (R.metric ruler.old)) (rules (R.M.space (R.metric ruler.old)) head.now.promote head.now.split)
+        (P.shelf pages.old).read live.now (record { id = live.now.count; tag = tag; point = p.now }) placed) }
+    ensures inserted { IfOk result (λ placed. IsTrue (P.shelf pages.old).tells →
+        IsSoundTree (R.M.space (R.metric ruler.old)) (nodes_of (P.shelf pages.old).read) live.now →
         (new : Nodes) → IsOver (nodes_of (P.shelf pages.old).read) live.now placed.staged new →
-        HasInserted (R.M.space (R.metric ruler.old)) (rules (R.M.space (R.metric ruler.old)) head.now.promote head.now.split) (nodes_of (P.shelf pages.old).read) live.now (record { id = live.now.count; tag = tag; point = p.now }) placed new) }
+        HasInserted (R.M.space (R.metric ruler.old)) (rules (R.M.space (R.metric ruler.old)) head.now.promote head.now.split)
+        (nodes_of (P.shelf pages.old).read) live.now (record { id = live.now.count; tag = tag; point = p.now }) placed new) }
 
     // When it is refused.
     ensures full { (result ≡ Err PlaceFault.Full) ↔ (live.now.count ≡ head.now.limit) }
     ensures worn { (result ≡ Err PlaceFault.Worn) ↔ ((live.now.count ≢ head.now.limit) × (live.now.generation ≡ 2 ^ 48 - 1)) }
-    ensures cause { IfErr result (HasPlaceCause (R.M.space (R.metric ruler.old)) (rules (R.M.space (R.metric ruler.old)) head.now.promote head.now.split) numbers.now live.now (record { id = live.now.count; tag = tag; point = p.now }) (P.shelf pages.old) (P.shelf pages.new)) }
-    ensures sound { IfErr result (λ fault. IsTrue (P.shelf pages.old).tells → IsSoundTree (R.M.space (R.metric ruler.old)) (nodes_of (P.shelf pages.old).read) live.now → IsUndamaged fault) }
+    ensures cause { IfErr result
+        (HasPlaceCause (R.M.space (R.metric ruler.old)) (rules (R.M.space (R.metric ruler.old)) head.now.promote head.now.split)
+        numbers.now live.now (record { id = live.now.count; tag = tag; point = p.now }) (P.shelf pages.old) (P.shelf pages.new)) }
+    ensures sound { IfErr result (λ fault. IsTrue (P.shelf pages.old).tells →
+        IsSoundTree (R.M.space (R.metric ruler.old)) (nodes_of (P.shelf pages.old).read) live.now → IsUndamaged fault) }
 {
     if live.count == head.limit {
         return Err(PlaceFault::Full);

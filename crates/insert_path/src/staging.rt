@@ -91,7 +91,10 @@ fn stage_halves<E: NodeEntry>(
 ) -> Result<Grew, Memory>
     requires first { task.now.numbering.first ≤ 2 ^ 24 }
     requires few { length nodes.old.items + 2 < 2 ^ 10 }
-    ensures grew { IfOk result (λ g. g ≡ Grew.Two (stem_of (number_at task.now.numbering.numbers.now task.now.numbering.first (length nodes.old.items)) halves.first) (stem_of (number_at task.now.numbering.numbers.now task.now.numbering.first (length nodes.old.items + 1)) halves.second)) }
+    ensures grew { IfOk result (λ g.
+        g ≡ Grew.Two (stem_of (number_at task.now.numbering.numbers.now task.now.numbering.first (length nodes.old.items))
+        halves.first) (stem_of (number_at task.now.numbering.numbers.now task.now.numbering.first (length nodes.old.items + 1))
+        halves.second)) }
     ensures staged { OnOk result (nodes.new.items ≡ nodes.old.items ++ E.make level halves.first.entries ∷ E.make level halves.second.entries ∷ []) }
     ensures count { OnOk result (length nodes.new.items ≡ length nodes.old.items + 2) }
 {
@@ -118,7 +121,11 @@ fn stage_split<R: Ruler, E: NodeEntry>(
     requires radii { AllByRecursion (λ e. (E.ball e).1 ≤ bound) entries.items }
     ensures metric { R.metric ruler.new ≡ R.metric ruler.old }
     ensures count { OnOk result (length nodes.new.items ≡ length nodes.old.items + 2) }
-    ensures staged { IfOk result (λ g. IsStaged (plan_of (R.M.space (R.metric ruler.old)) task.now.policy task.now.bounds (number_at task.now.numbering.numbers.now task.now.numbering.first) (record { id = task.now.object.id; tag = task.now.object.tag; point = task.now.object.point.now })) E.ball E.with_parent (E.make level) entries.items nodes.old.items nodes.new.items g) }
+    ensures staged { IfOk result (λ g.
+        IsStaged (plan_of (R.M.space (R.metric ruler.old)) task.now.policy task.now.bounds
+        (number_at task.now.numbering.numbers.now task.now.numbering.first)
+        (record { id = task.now.object.id; tag = task.now.object.tag; point = task.now.object.point.now })) E.ball E.with_parent
+        (E.make level) entries.items nodes.old.items nodes.new.items g) }
 {
     let halves = split(alloc, ruler, entries, task.policy, task.bounds.least)?;
     let grew = stage_halves(task, level, halves, nodes)?;
@@ -141,7 +148,11 @@ pub fn stage<R: Ruler, E: NodeEntry>(
     requires radii { AllByRecursion (λ e. (E.ball e).1 ≤ bound) entries.items }
     ensures metric { R.metric ruler.new ≡ R.metric ruler.old }
     ensures count { OnOk result (length nodes.new.items ≤ length nodes.old.items + 2) }
-    ensures staged { IfOk result (λ g. IsStaged (plan_of (R.M.space (R.metric ruler.old)) task.now.policy task.now.bounds (number_at task.now.numbering.numbers.now task.now.numbering.first) (record { id = task.now.object.id; tag = task.now.object.tag; point = task.now.object.point.now })) E.ball E.with_parent (E.make level) entries.items nodes.old.items nodes.new.items g) }
+    ensures staged { IfOk result (λ g.
+        IsStaged (plan_of (R.M.space (R.metric ruler.old)) task.now.policy task.now.bounds
+        (number_at task.now.numbering.numbers.now task.now.numbering.first)
+        (record { id = task.now.object.id; tag = task.now.object.tag; point = task.now.object.point.now })) E.ball E.with_parent
+        (E.make level) entries.items nodes.old.items nodes.new.items g) }
 {
     if entries.len() > task.bounds.most {
         let grew = stage_split(alloc, ruler, task, level, entries, nodes)?;

@@ -1,12 +1,10 @@
 -- How a job ends, by what its parts told.
-use Rattle.std.proofs.Common.{◌≡◌, ◌≢◌, ◌⊎◌, inl, inr, ⊎_elim, ℕ, Bool, true, false, List, refl, sym, subst, ◌∙◌, ap, arith}
+use Rattle.std.proofs.Common.{◌≡◌, ◌≢◌, ◌⊎◌, inl, inr, ⊎_elim, ℕ, false, List, refl, sym, subst, arith}
 use Rattle.std.specs.Prelude.{codes, ◌≤◌, IsTrue}
 use Rattle.std.specs.Io.KnownBytes.{Appends}
 use Rattle.outside_io.specs.Bytes.{AppendsPrefix}
-use Rattle.outside_io.specs.Causes.{Rose}
 use Rattle.outside_io.specs.Sinks.{SinkState, Tells}
-use Rattle.disk_model.specs.Disk.{DiskState, IsUnchanged, MayLeave}
-use Rattle.disk_model.specs.Moments.{started}
+use Rattle.disk_model.specs.Disk.{DiskState, IsUnchanged}
 use Rattle.tree_shape.specs.declared.live.Live.{Live}
 use Rattle.node_page.specs.declared.head.Head.{Head}
 use Rattle.page_store.specs.declared.pages.PageFault.{PageFault}
@@ -15,22 +13,12 @@ use Rattle.log_model.specs.declared.logs.JoinLog.{JoinLog}
 use Rattle.metric_join.specs.declared.faults.JoinFault.{JoinFault}
 use Rattle.metric_join.specs.declared.faults.JoinFault.TheVariants as join
 use Rattle.file_jobs.specs.Jobs.{Refuses as RefusesFile}
-use Rattle.join_jobs.specs.declared.report.Report.{Report}
+use Rattle.file_jobs.proofs.logs.Ends.{of_two, of_three}
 use Rattle.join_jobs.specs.declared.opened.Trees.{Trees}
-use Rattle.join_jobs.specs.Lines.{status_of, spaces_text}
-use Rattle.join_jobs.specs.Trees.{Tree, tree_of, IsOpened, is_one_space, said_of}
-use Rattle.join_jobs.specs.Jobs.{EitherRose, Refuses, OnTrees, Judges, Joins, PutsJoin, CutsJoin, IsJoinOf, HaveOtherSpaces, HasRefusal, HasDamage, EndsRefused, IsDiskFault, IsDamage, AreDamaged}
-
--- two numbers that differ
-pub clash : {P : Type 0} (n a b : ℕ) → n ≡ a → n ≡ b → a ≢ b → P
-clash n a b one other differ = absurd (differ (sym one ∙ other))
-
--- one of two or three, and none of them
-pub of_two : {P : Type 0} (n a b x : ℕ) → (n ≡ a) ⊎ (n ≡ b) → n ≡ x → a ≢ x → b ≢ x → P
-of_two n a b x either is p q = ⊎_elim (λ e. clash n a x e is p) (λ e. clash n b x e is q) either
-
-pub of_three : {P : Type 0} (n a b c x : ℕ) → (n ≡ a) ⊎ ((n ≡ b) ⊎ (n ≡ c)) → n ≡ x → a ≢ x → b ≢ x → c ≢ x → P
-of_three n a b c x either is p q r = ⊎_elim (λ e. clash n a x e is p) (λ rest. of_two n b c x rest is q r) either
+use Rattle.join_jobs.specs.Lines.{spaces_text}
+use Rattle.join_jobs.specs.Trees.{Tree, tree_of, IsOpened, is_one_space}
+use Rattle.join_jobs.specs.Jobs.{EitherRose, Refuses, OnTrees, Joins, PutsJoin, CutsJoin, IsJoinOf, HaveOtherSpaces, HasRefusal, HasDamage, EndsRefused, IsDiskFault, IsDamage, AreDamaged}
+use Rattle.outside_io.proofs.Rising.{rose_before}
 
 -- ---- what opening both files tells
 
@@ -58,9 +46,6 @@ on_trees Holds d0 d1 e0 e1 l r opened holds t u = (
       (holds (subst IsTrue (sym opened.same.same_tells) t) (subst IsTrue (sym opened.other_same.same_tells) u))),
 )
 
-rose_before : (a b c : ℕ) → a ≤ b → Rose b c → Rose a c
-rose_before a b c le rose = omega arith
-
 pub either_before : (d0 d1 d2 e0 e1 e2 : DiskState) (l r : Head × Live) → Opened d0 d1 e0 e1 l r → EitherRose d1 d2 e1 e2 → EitherRose d0 d2 e0 e2
 either_before d0 d1 d2 e0 e1 e2 l r opened either =
     ⊎_elim (λ rose. inl (rose_before d0.faults d1.faults d2.faults opened.later rose)) (λ rose. inr (rose_before e0.faults e1.faults e2.faults opened.other_later rose)) either
@@ -72,78 +57,6 @@ other_refuses d0 d1 e0 e1 l w0 w1 status opens refuses = record {
   not_index = λ is. let told = refuses.not_index is in (told.0, told.1, inr ((λ t. (tree_of d0 l, refl, opens t)), told.2));
   statuses = refuses.statuses;
 }
-
--- ---- verify and check
-
-pub judge_refused : (what : Report) (d0 d1 e0 e1 : DiskState) (bytes : List ℕ) (w0 w1 : SinkState) (status : ℕ) → IsUnchanged d0 d1 → IsUnchanged e0 e1
-    → Refuses d0 d1 e0 e1 w0 w1 status → Judges what d0 d1 e0 e1 bytes w0 w1 status
-judge_refused what d0 d1 e0 e1 bytes w0 w1 status same other refuses = record {
-  unchanged = (same, other);
-  done = λ either. ⊎_elim (λ is. of_two status 5 6 0 refuses.statuses is (omega arith) (omega arith)) (λ is. of_two status 5 6 1 refuses.statuses is (omega arith) (omega arith)) either;
-  output = λ is. of_two status 5 6 4 refuses.statuses is (omega arith) (omega arith);
-  disk = refuses.disk;
-  not_index = refuses.not_index;
-  memory = λ is. of_two status 5 6 8 refuses.statuses is (omega arith) (omega arith);
-}
-
-good_or_not : (good : Bool) → (status_of good ≡ 0) ⊎ (status_of good ≡ 1)
-good_or_not true = inl refl
-good_or_not false = inr refl
-
-not_status : {P : Type 0} (good : Bool) (n x : ℕ) → (n ≡ status_of good) ⊎ (n ≡ 4) → n ≡ x → 0 ≢ x → 1 ≢ x → 4 ≢ x → P
-not_status good n x either is a b c =
-    ⊎_elim (λ e. ⊎_elim (λ z. clash n 0 x (e ∙ z) is a) (λ z. clash n 1 x (e ∙ z) is b) (good_or_not good)) (λ e. clash n 4 x e is c) either
-
-pub judge_said : (what : Report) (d0 d1 d2 e0 e1 e2 : DiskState) (bytes : List ℕ) (l r : Head × Live) (w0 w1 : SinkState) (text : List ℕ) (good : Bool) (status : ℕ) → Opened d0 d1 e0 e1 l r
-    → IsUnchanged d0 d2 → IsUnchanged e0 e2
-    → (IsTrue d1.tells → IsTrue e1.tells → text ≡ (said_of what (tree_of d1 l) (tree_of e1 r) bytes).text)
-    → (IsTrue d1.tells → IsTrue e1.tells → good ≡ (said_of what (tree_of d1 l) (tree_of e1 r) bytes).good)
-    → (status ≡ status_of good) ⊎ (status ≡ 4) → (status ≡ status_of good → Appends w0.written w1.written text) → (status ≡ 4 → AppendsPrefix w0.written w1.written text)
-    → Judges what d0 d2 e0 e2 bytes w0 w1 status
-judge_said what d0 d1 d2 e0 e1 e2 bytes l r w0 w1 text good status opened same other said_text said_good either whole part = record {
-  unchanged = (same, other);
-  done = λ zero_one.
-      let is : status ≡ status_of good = ⊎_elim (λ e. e) (λ four. ⊎_elim (λ z. clash status 4 0 four z (omega arith)) (λ z. clash status 4 1 four z (omega arith)) zero_one) either in
-      on_trees _ d0 d1 e0 e1 l r opened (λ t u. (is ∙ ap (λ (g : Bool). status_of g) (said_good t u), subst (λ (x : List ℕ). Appends w0.written w1.written x) (said_text t u) (whole is)));
-  output = λ is. on_trees _ d0 d1 e0 e1 l r opened (λ t u. subst (λ (x : List ℕ). AppendsPrefix w0.written w1.written x) (said_text t u) (part is));
-  disk = λ is. not_status good status 5 either is (omega arith) (omega arith) (omega arith);
-  not_index = λ is. not_status good status 6 either is (omega arith) (omega arith) (omega arith);
-  memory = λ is. not_status good status 8 either is (omega arith) (omega arith) (omega arith);
-}
-
-pub judge_disk : (what : Report) (d0 d1 e0 e1 : DiskState) (bytes : List ℕ) (w0 w1 : SinkState) (status : ℕ) → IsUnchanged d0 d1 → IsUnchanged e0 e1
-    → status ≡ 5 → EitherRose d0 d1 e0 e1 → Tells w0 w1 (codes "fault disk\n") → Judges what d0 d1 e0 e1 bytes w0 w1 status
-judge_disk what d0 d1 e0 e1 bytes w0 w1 status same other five rose line = record {
-  unchanged = (same, other);
-  done = λ either. ⊎_elim (λ is. clash status 5 0 five is (omega arith)) (λ is. clash status 5 1 five is (omega arith)) either;
-  output = λ is. clash status 5 4 five is (omega arith);
-  disk = λ is. (rose, line);
-  not_index = λ is. clash status 5 6 five is (omega arith);
-  memory = λ is. clash status 5 8 five is (omega arith);
-}
-
-pub judge_memory : (what : Report) (d0 d1 e0 e1 : DiskState) (bytes : List ℕ) (w0 w1 : SinkState) (status : ℕ) → IsUnchanged d0 d1 → IsUnchanged e0 e1
-    → status ≡ 8 → Tells w0 w1 (codes "fault memory\n") → Judges what d0 d1 e0 e1 bytes w0 w1 status
-judge_memory what d0 d1 e0 e1 bytes w0 w1 status same other eight line = record {
-  unchanged = (same, other);
-  done = λ either. ⊎_elim (λ is. clash status 8 0 eight is (omega arith)) (λ is. clash status 8 1 eight is (omega arith)) either;
-  output = λ is. clash status 8 4 eight is (omega arith);
-  disk = λ is. clash status 8 5 eight is (omega arith);
-  not_index = λ is. clash status 8 6 eight is (omega arith);
-  memory = λ is. line;
-}
-
--- no call was made
-pub unchanged : (disk : DiskState) → IsUnchanged disk disk
-unchanged disk = record {
-  same_tells = refl;
-  same_bytes = refl;
-  same_images = λ image. (λ left. left, λ left. left);
-  time = started disk (MayLeave disk) (λ image left. left);
-}
-
-pub early_memory : (what : Report) (d e : DiskState) (bytes : List ℕ) (w0 w1 : SinkState) (status : ℕ) → status ≡ 8 → Tells w0 w1 (codes "fault memory\n") → Judges what d d e e bytes w0 w1 status
-early_memory what d e bytes w0 w1 status eight line = judge_memory what d d e e bytes w0 w1 status (unchanged d) (unchanged e) eight line
 
 -- ---- join
 

@@ -11,7 +11,7 @@ use Rattle.page_store.specs.Reading.{Read, nodes_of}
 use Rattle.page_store.specs.Shelf.{Shelf}
 use Rattle.metric_join.specs.declared.faults.JoinFault.{JoinFault}
 use Rattle.metric_join.specs.declared.faults.JoinFault.TheVariants as join
-use Rattle.metric_join.specs.Tours.{Names, NamesInside}
+use Rattle.page_store.specs.Tours.{Names, NamesInside}
 use Rattle.metric_join.specs.Joined.{HasSideCause, HasJoinCause, IsPassing}
 use Rattle.join_jobs.specs.declared.opened.Trees.{Trees}
 use Rattle.join_jobs.specs.Trees.{Tree, tree_of, read_of, space_of, is_one_space}

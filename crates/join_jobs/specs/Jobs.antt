@@ -1,6 +1,6 @@
 -- What the jobs on two files do and write, by the status with which they end.
-use Rattle.std.specs.Prelude.{◌≡◌, ◌≢◌, ◌⊎◌, ◌↔◌, ◌^◌, ◌<◌, ◌≤◌, ◌+◌, ℕ, true, false, List, length, codes, Option, Err, IsTrue}
-use Rattle.std.specs.Io.KnownBytes.{Appends, Consumes, IsAtEnd}
+use Rattle.std.specs.Prelude.{◌≡◌, ◌≢◌, ◌⊎◌, ◌^◌, ◌≤◌, ℕ, true, false, List, codes, Option, Err, IsTrue}
+use Rattle.std.specs.Io.KnownBytes.{Appends}
 use Rattle.outside_io.specs.Bytes.{AppendsPrefix}
 use Rattle.outside_io.specs.Causes.{Rose}
 use Rattle.outside_io.specs.Sinks.{SinkState, Tells}
@@ -12,12 +12,13 @@ use Rattle.log_model.specs.declared.logs.JoinLog.{JoinLog}
 use Rattle.prune_log.specs.Spelling.{join_log_bytes, frame_bytes}
 use Rattle.metric_join.specs.declared.faults.JoinFault.{JoinFault}
 use Rattle.metric_join.specs.declared.faults.JoinFault.TheVariants as join
-use Rattle.metric_join.specs.Tours.{Names, NamesInside}
+use Rattle.page_store.specs.Tours.{Names, NamesInside}
 use Rattle.file_jobs.specs.Lines.{damaged_text, not_index_text}
 use Rattle.file_jobs.specs.Jobs.{IsNoIndex}
-use Rattle.join_jobs.specs.declared.report.Report.{Report}
+use Rattle.file_jobs.specs.declared.logs.report.Report.{Report}
+use Rattle.file_jobs.specs.Logs.Jobs.{JudgesBytes, ReadsLogs, Writes}
 use Rattle.join_jobs.specs.declared.opened.Trees.{Trees}
-use Rattle.join_jobs.specs.Lines.{status_of, pairs_text, spaces_text}
+use Rattle.join_jobs.specs.Lines.{pairs_text, spaces_text}
 use Rattle.join_jobs.specs.Trees.{Tree, tree_of, IsOpened, IsSoundFile, IsLeastLog, is_one_space, read_of, tree_nodes, scanned_pairs, said_of}
 
 -- ---- opening
@@ -57,43 +58,21 @@ OnTrees index other Holds =
 
 -- ---- verify and check
 
--- the lines on both files and the logs were put whole, and the status is theirs
-abbrev pub SaysAll : Report → List ℕ → SinkState → SinkState → ℕ → Tree → Tree → Type 0
-SaysAll what bytes out0 out1 status left right =
-    let said = said_of what left right bytes in (status ≡ status_of said.good) × Appends out0.written out1.written said.text
-
--- a front of them was put
-abbrev pub SaysPart : Report → List ℕ → SinkState → SinkState → Tree → Tree → Type 0
-SaysPart what bytes out0 out1 left right = AppendsPrefix out0.written out1.written (said_of what left right bytes).text
+-- the job said what there is to say of both files and of the logs, up to what the status tells
+abbrev pub WritesOn : Report → DiskState → DiskState → List ℕ → SinkState → SinkState → ℕ → Type 0
+WritesOn what index other bytes out0 out1 status = OnTrees index other (λ left right. Writes status (said_of what left right bytes) out0 out1)
 
 -- what a job does with two files and the bytes of their logs
-pub record Judges (what : Report) (index0 index1 other0 other1 : DiskState) (bytes : List ℕ) (out0 out1 : SinkState) (status : ℕ) : Type 0 where
-  pub unchanged : IsUnchanged index0 index1 × IsUnchanged other0 other1
-  pub done : (status ≡ 0) ⊎ (status ≡ 1) → OnTrees index0 other0 (SaysAll what bytes out0 out1 status)
-  pub output : status ≡ 4 → OnTrees index0 other0 (SaysPart what bytes out0 out1)
-  pub disk : status ≡ 5 → EitherRose index0 index1 other0 other1 × Tells out0 out1 (codes "fault disk\n")
-  pub not_index : status ≡ 6 → (name : List ℕ) × Tells out0 out1 (not_index_text name) × IsNoPair index0 other0 name
-  pub memory : status ≡ 8 → Tells out0 out1 (codes "fault memory\n")
+abbrev pub Judges : Report → DiskState → DiskState → DiskState → DiskState → List ℕ → SinkState → SinkState → ℕ → Type 0
+Judges what index0 index1 other0 other1 bytes out0 out1 status =
+    JudgesBytes (IsUnchanged index0 index1 × IsUnchanged other0 other1) (WritesOn what index0 other0 bytes out0 out1 status)
+    (EitherRose index0 index1 other0 other1) (IsNoPair index0 other0) out0 out1 status
 
--- a job ends so and in no other way once it has read its logs
-abbrev pub IsJudgeStatus : ℕ → Type 0
-IsJudgeStatus n = (n ≡ 0) ⊎ ((n ≡ 1) ⊎ ((n ≡ 4) ⊎ ((n ≡ 5) ⊎ ((n ≡ 6) ⊎ (n ≡ 8)))))
-
--- the same of a job that takes bytes of logs from `left0` first
-pub record JudgesLogs (what : Report) (index0 index1 other0 other1 : DiskState) (left0 left1 : Option (List ℕ)) (out0 out1 : SinkState) (status : ℕ) : Type 0 where
-  pub bytes : List ℕ
-  pub taken : Consumes left0 left1 bytes
-  -- at most 2 ^ 30 and a buffer more were taken, and too many are told exactly where more than 2 ^ 30 were
-  pub few : length bytes ≤ 2 ^ 30 + 4096
-  pub long : (status ≡ 7) ↔ (2 ^ 30 < length bytes)
-  pub all : status ≢ 3 → status ≢ 7 → status ≢ 8 → IsAtEnd left1
-  pub judges : status ≢ 3 → status ≢ 7 → Judges what index0 index1 other0 other1 bytes out0 out1 status
-  pub unchanged : IsUnchanged index0 index1 × IsUnchanged other0 other1
-  pub input_line : status ≡ 3 → Tells out0 out1 (codes "fault input\n")
-  pub long_line : status ≡ 7 → Tells out0 out1 (codes "fault long\n")
-
-abbrev pub IsLogStatus : ℕ → Type 0
-IsLogStatus n = (n ≡ 3) ⊎ ((n ≡ 7) ⊎ IsJudgeStatus n)
+-- what a job does that takes bytes of logs from `left0`
+abbrev pub JudgesLogs : Report → DiskState → DiskState → DiskState → DiskState → Option (List ℕ) → Option (List ℕ) → SinkState → SinkState → ℕ → Type 0
+JudgesLogs what index0 index1 other0 other1 left0 left1 out0 out1 status =
+    ReadsLogs (IsUnchanged index0 index1 × IsUnchanged other0 other1)
+    (λ bytes. Judges what index0 index1 other0 other1 bytes out0 out1 status) left0 left1 out0 out1 status
 
 -- ---- join
 

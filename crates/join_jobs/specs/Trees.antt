@@ -12,13 +12,14 @@ use Rattle.page_store.specs.Shelf.{Shelf}
 use Rattle.scan_model.specs.declared.hit.Pair.{Pair}
 use Rattle.scan_model.specs.Join.{join_pairs}
 use Rattle.tree_audit.specs.declared.faults.AuditFault.{AuditFault}
-use Rattle.tree_audit.specs.Audited.{audit_fault}
 use Rattle.log_model.specs.declared.logs.JoinLog.{JoinLog}
 use Rattle.log_model.specs.SoundJoin.{IsSoundJoinLog, IsLeastJoinLog}
 use Rattle.log_verify.specs.JoinJudged.{join_fault}
 use Rattle.prune_log.specs.Reading.{join_log_at, frames_at}
-use Rattle.join_jobs.specs.declared.report.Report.{Report}
-use Rattle.join_jobs.specs.Lines.{Judge, Saying, saying, on_spaces}
+use Rattle.file_jobs.specs.declared.logs.report.Report.{Report}
+use Rattle.file_jobs.specs.Logs.Files.{fault_of as first_fault}
+use Rattle.file_jobs.specs.Logs.Sayings.{Saying, on_logs}
+use Rattle.join_jobs.specs.Lines.{Judge, join_words, saying, on_spaces}
 
 -- the bytes of a file, and the head and the live slot that it was opened with
 pub record Tree : Type 0 where
@@ -49,7 +50,7 @@ points_of tree = points_by_id (tree_nodes tree) tree.live
 
 -- the first fault of the live tree, and whether it is sound
 abbrev pub fault_of : Tree → Option AuditFault
-fault_of tree = audit_fault (space_of tree) (read_of tree) tree.live
+fault_of tree = first_fault tree.file tree.head tree.live
 
 abbrev pub IsSoundFile : Tree → Type 0
 IsSoundFile tree = IsSoundTree (space_of tree) (tree_nodes tree) tree.live
@@ -79,9 +80,12 @@ IsLeastLog left right radius log = IsLeastJoinLog (space_of left) (tree_nodes le
 abbrev pub scanned_pairs : Tree → Tree → ℕ → List Pair
 scanned_pairs left right radius = join_pairs (space_of left) (points_of left) (points_of right) radius
 
--- what is said of two opened files and of the bytes of their logs
+-- what is said of the logs that bytes spell; of two files of one space and of the logs; and of any two opened files
+abbrev pub said_of_logs : Report → Tree → Tree → List ℕ → Saying
+said_of_logs what left right bytes = on_logs join_words what (judge_of left right) (frames_at join_log_at bytes)
+
+abbrev pub said_of_files : Report → Tree → Tree → List ℕ → Saying
+said_of_files what left right bytes = saying what (fault_of left) (fault_of right) (judge_of left right) (frames_at join_log_at bytes)
+
 abbrev pub said_of : Report → Tree → Tree → List ℕ → Saying
-said_of what left right bytes =
-    if is_one_space left.head right.head
-    then saying what (fault_of left) (fault_of right) (judge_of left right) (frames_at join_log_at bytes)
-    else on_spaces
+said_of what left right bytes = if is_one_space left.head right.head then said_of_files what left right bytes else on_spaces

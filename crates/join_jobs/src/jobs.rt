@@ -3,21 +3,18 @@ ghost use Rattle.std.specs.Prelude.{◌≡◌, ◌≢◌, ◌⊎◌, ◌≤◌, 
 ghost use Rattle.outside_io.specs.Causes.{Rose};
 ghost use Rattle.disk_model.specs.Disk.{IsUnchanged};
 ghost use Rattle.join_jobs.specs.Trees.{Tree, tree_of, IsOpened};
-ghost use Rattle.join_jobs.specs.Jobs.{AreLawful, Refuses, Judges, JudgesLogs, Joins, IsJudgeStatus, IsLogStatus, IsJoinStatus};
+ghost use Rattle.file_jobs.specs.Logs.Jobs.{IsJudgeStatus, IsLogStatus};
+ghost use Rattle.join_jobs.specs.Jobs.{AreLawful, Refuses, Judges, JudgesLogs, Joins, IsJoinStatus};
 ghost use Rattle.join_jobs.specs.Laws.{FaultlessIsComplete};
 
-use crate::Report;
 use crate::joining::{end_joined, end_refused, join_opened};
 use crate::laws::faultless_is_complete;
-use crate::opened::{REJECTED_SPACES, Trees, report_on};
-use crate::stop::Stop;
+use crate::opened::{Docket, REJECTED_SPACES, Trees, report_on};
 use disk_model::Disk;
-use file_jobs::{FAULT_DISK, FAULT_MEMORY, end_with, open_index, put_line};
-use outside_io::{ReadAll, Sink, Source, Status, read_all};
+use file_jobs::logs::{Report, end_stopped, read_logs};
+use file_jobs::{open_index, put_line};
+use outside_io::{Sink, Source, Status};
 use std::alloc::Global;
-
-/// The most bytes of logs that are read.
-const MOST_LOGS: u64 = 1 << 30;
 
 // Opens two indexes of version 2. Else it writes why the first of them that is none is none, and answers the status.
 fn open_both<D: Disk, E: Disk, K: Sink>(
@@ -31,7 +28,9 @@ fn open_both<D: Disk, E: Disk, K: Sink>(
     ensures other_opens { IfOk result (λ trees. IsTrue (E.state other.old).tells → IsOpened (tree_of (E.state other.old) trees.right)) }
     ensures lawful { IfOk result AreLawful }
     ensures silent { OnOk result (out.new ≡ out.old) }
-    ensures refuses { IfErr result (λ status. Refuses (D.state index.old) (D.state index.new) (E.state other.old) (E.state other.new) (K.state out.old) (K.state out.new) status.0) }
+    ensures refuses { IfErr result (λ status.
+        Refuses (D.state index.old) (D.state index.new) (E.state other.old) (E.state other.new) (K.state out.old)
+        (K.state out.new) status.0) }
     ensures later { (D.state index.old).faults ≤ (D.state index.new).faults }
     ensures other_later { (E.state other.old).faults ≤ (E.state other.new).faults }
     ensures written_later { (K.state out.old).faults ≤ (K.state out.new).faults }
@@ -50,7 +49,8 @@ fn judge_indexes<D: Disk, E: Disk, K: Sink>(
     bytes: &[u8],
     out: &mut K,
 ) -> Status
-    ensures judges { Judges report (D.state index.old) (D.state index.new) (E.state other.old) (E.state other.new) bytes.now (K.state out.old) (K.state out.new) result.0 }
+    ensures judges { Judges report (D.state index.old) (D.state index.new) (E.state other.old) (E.state other.new) bytes.now
+        (K.state out.old) (K.state out.new) result.0 }
     ensures statuses { IsJudgeStatus result.0 }
     ensures output { result.0 ≡ 4 → Rose (K.state out.old).faults (K.state out.new).faults }
     ensures later { (K.state out.old).faults ≤ (K.state out.new).faults }
@@ -59,10 +59,10 @@ fn judge_indexes<D: Disk, E: Disk, K: Sink>(
         Ok(trees) => trees,
         Err(status) => return status,
     };
-    match report_on(alloc, report, index, other, &trees, bytes) {
-        Ok(said) => put_line(out, &said.text, u8::from(!said.good)),
-        Err(Stop::Disk) => end_with(out, FAULT_DISK, 5),
-        Err(Stop::Memory) => end_with(out, FAULT_MEMORY, 8),
+    let docket = Docket { report, bytes };
+    match report_on(alloc, &docket, index, other, &trees, out) {
+        Ok(status) => status,
+        Err(why) => end_stopped(why, out),
     }
 }
 
@@ -75,25 +75,24 @@ fn judge_logs<D: Disk, E: Disk, S: Source, K: Sink>(
     log_in: &mut S,
     out: &mut K,
 ) -> Status
-    ensures judges { JudgesLogs report (D.state index.old) (D.state index.new) (E.state other.old) (E.state other.new) (S.left log_in.old) (S.left log_in.new) (K.state out.old) (K.state out.new) result.0 }
+    ensures judges { JudgesLogs report (D.state index.old) (D.state index.new) (E.state other.old) (E.state other.new)
+        (S.left log_in.old) (S.left log_in.new) (K.state out.old) (K.state out.new) result.0 }
     ensures statuses { IsLogStatus result.0 }
     ensures input { result.0 ≡ 3 → Rose (S.faults log_in.old) (S.faults log_in.new) }
     ensures output { result.0 ≡ 4 → Rose (K.state out.old).faults (K.state out.new).faults }
     ensures counts { (S.faults log_in.old ≤ S.faults log_in.new) × ((K.state out.old).faults ≤ (K.state out.new).faults) }
 {
-    match read_all(alloc, log_in, MOST_LOGS) {
+    match read_logs(alloc, log_in, out) {
         Ok(bytes) => judge_indexes(alloc, report, index, other, &bytes, out),
-        Err(ReadAll::Fault) => end_with(out, b"fault input\n", 3),
-        Err(ReadAll::TooLong) => end_with(out, b"fault long\n", 7),
-        Err(ReadAll::Memory) => end_with(out, FAULT_MEMORY, 8),
+        Err(status) => status,
     }
 }
 
 /// Judges the join logs of `log_in` by two indexes, `index` on the left, and writes a line on each: that it is accepted, or
-/// its first fault. The files are not audited. Where their spaces differ it writes `rejected spaces` and nothing more. All
-/// lines are written at the end, in one piece. Status 1: a log is rejected, the bytes are no join logs, or the spaces differ;
-/// 3: the logs could not be read; 4: the lines could not be written; 5: a disk failed; 6: a file is no index of version 2;
-/// 7: there are more than 2^30 bytes of logs; 8: want of memory. Nothing is changed.
+/// its first fault, as soon as it is judged. The files are not audited. Where their spaces differ it writes `rejected spaces`
+/// and nothing more. Status 1: a log is rejected, the bytes are no join logs, or the spaces differ; 3: the logs could not be
+/// read; 4: a line could not be written; 5: a disk failed; 6: a file is no index of version 2; 7: there are more than 2^30
+/// bytes of logs; 8: want of memory. Nothing is changed.
 pub fn verify_join_logs<D: Disk, E: Disk, S: Source, K: Sink>(
     alloc: Global,
     index: &mut D,
@@ -101,7 +100,8 @@ pub fn verify_join_logs<D: Disk, E: Disk, S: Source, K: Sink>(
     log_in: &mut S,
     out: &mut K,
 ) -> Status
-    ensures judges { JudgesLogs Report.Verdicts (D.state index.old) (D.state index.new) (E.state other.old) (E.state other.new) (S.left log_in.old) (S.left log_in.new) (K.state out.old) (K.state out.new) result.0 }
+    ensures judges { JudgesLogs Report.Verdicts (D.state index.old) (D.state index.new) (E.state other.old) (E.state other.new)
+        (S.left log_in.old) (S.left log_in.new) (K.state out.old) (K.state out.new) result.0 }
     ensures statuses { IsLogStatus result.0 }
     ensures input { result.0 ≡ 3 → Rose (S.faults log_in.old) (S.faults log_in.new) }
     ensures output { result.0 ≡ 4 → Rose (K.state out.old).faults (K.state out.new).faults }
@@ -120,7 +120,8 @@ pub fn check_join_logs<D: Disk, E: Disk, S: Source, K: Sink>(
     log_in: &mut S,
     out: &mut K,
 ) -> Status
-    ensures judges { JudgesLogs Report.Answers (D.state index.old) (D.state index.new) (E.state other.old) (E.state other.new) (S.left log_in.old) (S.left log_in.new) (K.state out.old) (K.state out.new) result.0 }
+    ensures judges { JudgesLogs Report.Answers (D.state index.old) (D.state index.new) (E.state other.old) (E.state other.new)
+        (S.left log_in.old) (S.left log_in.new) (K.state out.old) (K.state out.new) result.0 }
     // A log that is written complete is sound on two sound files, and its answers are the pairs of the double loop.
     ensures complete { (left right : Tree) → IsOpened left → IsOpened right → FaultlessIsComplete left right }
     ensures statuses { IsLogStatus result.0 }
@@ -145,7 +146,8 @@ pub fn join_indexes<D: Disk, E: Disk, K: Sink, T: Sink>(
     out: &mut K,
     log_out: &mut T,
 ) -> Status
-    ensures joins { Joins radius (D.state index.old) (D.state index.new) (E.state other.old) (E.state other.new) (K.state out.old) (K.state out.new) (T.state log_out.old) (T.state log_out.new) result.0 }
+    ensures joins { Joins radius (D.state index.old) (D.state index.new) (E.state other.old) (E.state other.new) (K.state out.old)
+        (K.state out.new) (T.state log_out.old) (T.state log_out.new) result.0 }
     ensures statuses { IsJoinStatus result.0 }
     ensures output { result.0 ≡ 4 → Rose (K.state out.old).faults (K.state out.new).faults ⊎ Rose (T.state log_out.old).faults (T.state log_out.new).faults }
     ensures kept { result.0 ≢ 0 → result.0 ≢ 4 → log_out.new ≡ log_out.old }

@@ -320,6 +320,11 @@ fn disks_that_fail(rt: HostRuntime) -> Result<(), Fail> {
     for case in [JOIN, VERIFY, CHECK] {
         // Opening takes four calls.
         for stop in [0, 4] {
+            // That the index is sound is told before the other file is audited.
+            let output = match (case.job, stop) {
+                (Job::Check, 4) => "file sound\nfault disk\n",
+                _ => "fault disk\n",
+            };
             check(
                 &rt,
                 &Case {
@@ -335,7 +340,7 @@ fn disks_that_fail(rt: HostRuntime) -> Result<(), Fail> {
                 &Case {
                     other_stop: Some(stop),
                     status: 5,
-                    output: "fault disk\n",
+                    output,
                     framed: 0,
                     ..case
                 },
@@ -366,6 +371,18 @@ fn sinks_and_a_source_that_fail(rt: HostRuntime) -> Result<(), Fail> {
             status: 4,
             output: "",
             ..VERIFY
+        },
+        Case {
+            out_fails: Some(1),
+            status: 4,
+            output: "frame 0 accepted\n",
+            ..VERIFY
+        },
+        Case {
+            out_fails: Some(2),
+            status: 4,
+            output: "file sound\nother sound\n",
+            ..CHECK
         },
         Case {
             log_in_fails: Some(1),

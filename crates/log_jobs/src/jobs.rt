@@ -1,32 +1,17 @@
 // The jobs, from their objects to their statuses.
 ghost use Rattle.std.specs.Prelude.{◌≡◌, ◌≤◌};
 ghost use Rattle.outside_io.specs.Causes.{Rose};
-ghost use Rattle.log_jobs.specs.Jobs.{IsJudgeStatus, IsLogStatus, Judges, JudgesLogs, Stops};
+ghost use Rattle.file_jobs.specs.Logs.Jobs.{IsJudgeStatus, IsLogStatus};
+ghost use Rattle.log_jobs.specs.Jobs.{Judges, JudgesLogs};
 ghost use Rattle.log_jobs.specs.Laws.{FaultlessIsComplete};
 
-use crate::Report;
 use crate::laws::faultless_is_complete;
 use crate::opened::report_on;
-use crate::stop::Stop;
 use disk_model::Disk;
-use file_jobs::{FAULT_DISK, FAULT_MEMORY, end_with, open_index};
-use outside_io::{ReadAll, Sink, Source, Status, read_all};
+use file_jobs::logs::{Report, end_stopped, read_logs};
+use file_jobs::open_index;
+use outside_io::{Sink, Source, Status};
 use std::alloc::Global;
-
-/// The most bytes of logs that are read.
-const MOST_LOGS: u64 = 1 << 30;
-
-// Ends a job that stopped.
-fn end_stopped<K: Sink>(why: Stop, out: &mut K) -> Status
-    ensures ends { Stops why (K.state out.old) (K.state out.new) result.0 }
-    ensures later { (K.state out.old).faults ≤ (K.state out.new).faults }
-{
-    match why {
-        Stop::Sink => Status(4),
-        Stop::Disk => end_with(out, FAULT_DISK, 5),
-        Stop::Memory => end_with(out, FAULT_MEMORY, 8),
-    }
-}
 
 // Says what there is to say of an index and the bytes of its logs.
 fn judge_index<D: Disk, K: Sink>(
@@ -59,17 +44,16 @@ fn judge_logs<D: Disk, S: Source, K: Sink>(
     log_in: &mut S,
     out: &mut K,
 ) -> Status
-    ensures judges { JudgesLogs report (D.state index.old) (D.state index.new) (S.left log_in.old) (S.left log_in.new) (K.state out.old) (K.state out.new) result.0 }
+    ensures judges { JudgesLogs report (D.state index.old) (D.state index.new) (S.left log_in.old) (S.left log_in.new)
+        (K.state out.old) (K.state out.new) result.0 }
     ensures statuses { IsLogStatus result.0 }
     ensures input { result.0 ≡ 3 → Rose (S.faults log_in.old) (S.faults log_in.new) }
     ensures output { result.0 ≡ 4 → Rose (K.state out.old).faults (K.state out.new).faults }
     ensures counts { (S.faults log_in.old ≤ S.faults log_in.new) × ((K.state out.old).faults ≤ (K.state out.new).faults) }
 {
-    match read_all(alloc, log_in, MOST_LOGS) {
+    match read_logs(alloc, log_in, out) {
         Ok(bytes) => judge_index(alloc, report, index, &bytes, out),
-        Err(ReadAll::Fault) => end_with(out, b"fault input\n", 3),
-        Err(ReadAll::TooLong) => end_with(out, b"fault long\n", 7),
-        Err(ReadAll::Memory) => end_with(out, FAULT_MEMORY, 8),
+        Err(status) => status,
     }
 }
 
@@ -83,7 +67,8 @@ pub fn verify_logs<D: Disk, S: Source, K: Sink>(
     log_in: &mut S,
     out: &mut K,
 ) -> Status
-    ensures judges { JudgesLogs Report.Verdicts (D.state index.old) (D.state index.new) (S.left log_in.old) (S.left log_in.new) (K.state out.old) (K.state out.new) result.0 }
+    ensures judges { JudgesLogs Report.Verdicts (D.state index.old) (D.state index.new) (S.left log_in.old) (S.left log_in.new)
+        (K.state out.old) (K.state out.new) result.0 }
     ensures statuses { IsLogStatus result.0 }
     ensures input { result.0 ≡ 3 → Rose (S.faults log_in.old) (S.faults log_in.new) }
     ensures output { result.0 ≡ 4 → Rose (K.state out.old).faults (K.state out.new).faults }
@@ -101,7 +86,8 @@ pub fn check_logs<D: Disk, S: Source, K: Sink>(
     log_in: &mut S,
     out: &mut K,
 ) -> Status
-    ensures judges { JudgesLogs Report.Answers (D.state index.old) (D.state index.new) (S.left log_in.old) (S.left log_in.new) (K.state out.old) (K.state out.new) result.0 }
+    ensures judges { JudgesLogs Report.Answers (D.state index.old) (D.state index.new) (S.left log_in.old) (S.left log_in.new)
+        (K.state out.old) (K.state out.new) result.0 }
     // A log that is written complete is sound on a sound file, and its answers are those of the plain scan.
     ensures complete { FaultlessIsComplete (D.state index.old).bytes }
     ensures statuses { IsLogStatus result.0 }

@@ -1,12 +1,12 @@
 -- One entry of a node that is marked.
 use Rattle.std.proofs.Common.{◌≡◌, ℕ, suc, ◌+◌, ◌<◌, true, false, List, [], ◌∷◌, ◌++◌, refl, sym, ap, ◌∙◌, Option, drop, drop-cons, add-one, get_or, length, append_assoc}
-use Rattle.metric_laws.specs.Counts.{next_count}
+use Rattle.metric_laws.specs.Counts.{next_count, count_up}
 use Rattle.metric_laws.specs.Pruning.{centre_rules_out}
 use Rattle.tree_shape.specs.declared.entry.LeafEntry.{LeafEntry}
 use Rattle.tree_shape.specs.declared.entry.InnerEntry.{InnerEntry}
 use Rattle.log_model.specs.declared.marks.Mark.{Mark}
 use Rattle.log_model.specs.declared.marks.Mark.TheVariants.{Far, Near}
-use Rattle.log_model.specs.Counts.{count_up, measured_by}
+use Rattle.log_model.specs.Counts.{measured_by}
 use Rattle.log_model.specs.Walk.{Search, away, is_skipped, leaf_marks, inner_marks, leaf_hits, inner_needs, hit_of, need_of}
 
 -- what one more element makes of the list that is still to come

@@ -4,7 +4,7 @@ use Rattle.std.specs.Prelude.{map}
 use Rattle.std.specs.List.{AllByRecursion, flat_map}
 use Rattle.std.proofs.lemmas.List.{append-nil}
 use Rattle.metric_laws.specs.Space.{Space}
-use Rattle.metric_laws.specs.Counts.{next_count}
+use Rattle.metric_laws.specs.Counts.{next_count, count_up}
 use Rattle.metric_laws.proofs.Lists.{all_append, all_weaker, flat_map-append}
 use Rattle.scan_model.specs.declared.hit.Hit.{Hit}
 use Rattle.tree_shape.specs.declared.live.Live.{Live}
@@ -18,7 +18,7 @@ use Rattle.log_model.specs.declared.marks.Mark.{Mark}
 use Rattle.log_model.specs.declared.marks.Mark.TheVariants.{Skip, Far, Near}
 use Rattle.log_model.specs.declared.marks.Record.{Record}
 use Rattle.log_model.specs.declared.marks.Need.{Need}
-use Rattle.log_model.specs.Counts.{count_up, measured_by, measured}
+use Rattle.log_model.specs.Counts.{measured_by, measured}
 use Rattle.log_model.specs.Walk.{Search, Rule, WalksBy, ReachesBy, near_ones, needs_of, hits_of, root_need}
 use Rattle.log_model.proofs.Pruned.{FitsAbove}
 use Rattle.log_model.proofs.Walk.{Spot, need_at, spot_of, IsSoundSpot, needs_from_spots, near_of_sound, same_node}

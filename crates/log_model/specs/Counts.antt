@@ -1,21 +1,11 @@
 -- What a walk costs.
-use Rattle.std.specs.Prelude.{◌≡◌, ℕ, zero, suc, ◌+◌, ◌≤◌, List, [], ◌∷◌, length}
-use Rattle.metric_laws.specs.Counts.{next_count}
+use Rattle.std.specs.Prelude.{ℕ, suc, ◌+◌, List, [], ◌∷◌, length}
 use Rattle.tree_shape.specs.declared.entry.Node.{Node}
 use Rattle.tree_shape.specs.declared.entry.Node.TheVariants.{Leaf, Inner}
 use Rattle.log_model.specs.declared.marks.Mark.{Mark}
 use Rattle.log_model.specs.declared.marks.Mark.TheVariants.{Skip, Far, Near}
 use Rattle.log_model.specs.declared.marks.Record.{Record}
 use Rattle.log_model.specs.declared.marks.JoinRecord.{JoinRecord}
-
--- a count that rose so many times by one, each time up to the greatest `u64`
-abbrev pub count_up : ℕ → ℕ → ℕ
-count_up count zero = count
-count_up count (suc n) = count_up (next_count count) n
-
--- a count rose by one so many times, at most as often as is said
-abbrev pub CountsUpTo : ℕ → ℕ → ℕ → Type 0
-CountsUpTo old new most = (n : ℕ) × (n ≤ most) × (new ≡ count_up old n)
 
 -- the distances that a node's marks cost: one for each entry that isn't skipped
 abbrev pub measured_by : List Mark → ℕ

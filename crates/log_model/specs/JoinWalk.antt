@@ -161,5 +161,6 @@ JoinWalksBy rule j left right [] [] hits = hits ≡ []
 JoinWalksBy rule j left right [] (r ∷ rs) hits = ⊥
 JoinWalksBy rule j left right (n ∷ ns) [] hits = ⊥
 JoinWalksBy rule j left right (n ∷ ns) (r ∷ rs) hits =
-    (node : Node) × (side_of left right (opens_right n) (page_of (opened n)) ≡ Some node) × (r.right ≡ opens_right n) × (r.page ≡ page_of (opened n)) × rule j n node r.marks
+    (node : Node) × (side_of left right (opens_right n) (page_of (opened n)) ≡ Some node) × (r.right ≡ opens_right n)
+    × (r.page ≡ page_of (opened n)) × rule j n node r.marks
     × ((rest : List Pair) × JoinWalksBy rule j left right (join_needs j n node r.marks ++ ns) rs rest × (hits ≡ join_hits j n node r.marks ++ rest))

@@ -28,7 +28,8 @@ SoundLogsAreComplete =
 -- on two sound trees the answers of a sound join log are those of the plain double loop over the trees' points
 abbrev pub SoundJoinLogsAreComplete : Type 0
 SoundJoinLogsAreComplete =
-    (s : Space) (left right : Nodes) (l r : Live) (log : JoinLog) → IsSpace s → IsSoundTree s left l → IsSoundTree s right r → IsSoundJoinLog s left right l r log →
+    (s : Space) (left right : Nodes) (l r : Live) (log : JoinLog) → IsSpace s → IsSoundTree s left l → IsSoundTree s right r →
+    IsSoundJoinLog s left right l r log →
     log.answers ≡ join_pairs s (points_by_id left l) (points_by_id right r) log.r
 
 -- a least log is sound
@@ -37,7 +38,8 @@ LeastLogsAreSound = (s : Space) (nodes : Nodes) (live : Live) (query : Query) (l
 
 abbrev pub LeastJoinLogsAreSound : Type 0
 LeastJoinLogsAreSound =
-    (s : Space) (left right : Nodes) (l r : Live) (radius : ℕ) (log : JoinLog) → IsLeastJoinLog s left right l r radius log → IsSoundJoinLog s left right l r log
+    (s : Space) (left right : Nodes) (l r : Live) (radius : ℕ) (log : JoinLog) → IsLeastJoinLog s left right l r radius log →
+    IsSoundJoinLog s left right l r log
 
 -- on a sound tree each query whose point fits has exactly one least log
 abbrev pub LeastLogIsOne : Type 0

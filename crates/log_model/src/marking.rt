@@ -1,7 +1,8 @@
 //! The least marks of a node, one distance for each entry that the parent test leaves.
 
 ghost use Rattle.std.specs.Prelude.{◌≡◌, ◌++◌, OnOk};
-ghost use Rattle.log_model.specs.Counts.{count_up, measured_by};
+ghost use Rattle.metric_laws.specs.Counts.{count_up};
+ghost use Rattle.log_model.specs.Counts.{measured_by};
 ghost use Rattle.log_model.specs.Walk.{search_at, parent_skips, leaf_marks, inner_marks, leaf_hits, inner_needs};
 
 use crate::{Mark, Memory, Need};
@@ -39,9 +40,16 @@ pub fn mark_leaf<R: Ruler>(
     hits: &mut Vec<Hit>,
 ) -> Result<(), Memory>
     ensures metric { R.metric ruler.new ≡ R.metric ruler.old }
-    ensures counted { OnOk result (R.used ruler.new ≡ count_up (R.used ruler.old) (measured_by (leaf_marks (search_at (R.M.space (R.metric ruler.old)) probe.entry.q.now probe.entry.rho) above entries.now))) }
-    ensures marks { OnOk result (marks.new.items ≡ marks.old.items ++ leaf_marks (search_at (R.M.space (R.metric ruler.old)) probe.entry.q.now probe.entry.rho) above entries.now) }
-    ensures hits { OnOk result (hits.new.items ≡ hits.old.items ++ leaf_hits (search_at (R.M.space (R.metric ruler.old)) probe.entry.q.now probe.entry.rho) above entries.now) }
+    ensures counted { OnOk result
+        (R.used ruler.new ≡ count_up (R.used ruler.old)
+        (measured_by (leaf_marks (search_at (R.M.space (R.metric ruler.old)) probe.entry.q.now probe.entry.rho) above
+        entries.now))) }
+    ensures marks { OnOk result
+        (marks.new.items ≡ marks.old.items ++ leaf_marks
+        (search_at (R.M.space (R.metric ruler.old)) probe.entry.q.now probe.entry.rho) above entries.now) }
+    ensures hits { OnOk result
+        (hits.new.items ≡ hits.old.items ++ leaf_hits
+        (search_at (R.M.space (R.metric ruler.old)) probe.entry.q.now probe.entry.rho) above entries.now) }
 {
     for entry in entries {
         if is_ruled_out(above, entry.parent, probe.rho, 0) {
@@ -69,9 +77,16 @@ pub fn mark_inner<R: Ruler>(
     needs: &mut Vec<Need>,
 ) -> Result<(), Memory>
     ensures metric { R.metric ruler.new ≡ R.metric ruler.old }
-    ensures counted { OnOk result (R.used ruler.new ≡ count_up (R.used ruler.old) (measured_by (inner_marks (search_at (R.M.space (R.metric ruler.old)) probe.entry.q.now probe.entry.rho) above entries.now))) }
-    ensures marks { OnOk result (marks.new.items ≡ marks.old.items ++ inner_marks (search_at (R.M.space (R.metric ruler.old)) probe.entry.q.now probe.entry.rho) above entries.now) }
-    ensures needs { OnOk result (needs.new.items ≡ needs.old.items ++ inner_needs (search_at (R.M.space (R.metric ruler.old)) probe.entry.q.now probe.entry.rho) above entries.now) }
+    ensures counted { OnOk result
+        (R.used ruler.new ≡ count_up (R.used ruler.old)
+        (measured_by (inner_marks (search_at (R.M.space (R.metric ruler.old)) probe.entry.q.now probe.entry.rho) above
+        entries.now))) }
+    ensures marks { OnOk result
+        (marks.new.items ≡ marks.old.items ++ inner_marks
+        (search_at (R.M.space (R.metric ruler.old)) probe.entry.q.now probe.entry.rho) above entries.now) }
+    ensures needs { OnOk result
+        (needs.new.items ≡ needs.old.items ++ inner_needs
+        (search_at (R.M.space (R.metric ruler.old)) probe.entry.q.now probe.entry.rho) above entries.now) }
 {
     for entry in entries {
         if is_ruled_out(above, entry.parent, probe.rho, entry.radius) {

@@ -2,7 +2,7 @@
 
 ghost use Rattle.std.specs.Prelude.{◌≡◌, ◌+◌, Some, Ok, IfOk};
 ghost use Rattle.std.specs.Option.{option_copied};
-ghost use Rattle.log_model.specs.Counts.{CountsUpTo};
+ghost use Rattle.metric_laws.specs.Counts.{CountsUpTo};
 ghost use Rattle.log_model.specs.JoinWalk.{rank_of, centre_of, radius_of, page_of, id_of, is_object, opens_right, opened, other, far_apart, far_stored};
 ghost use Rattle.log_model.specs.JoinSteps.{apart_from};
 

@@ -1,7 +1,8 @@
 //! The walk of a search that marks each node with the least marks.
 
 ghost use Rattle.std.specs.Prelude.{◌≡◌, ◌++◌, [], ◌∷◌, reverse, IfOk, OnOk};
-ghost use Rattle.log_model.specs.Counts.{count_up, measured_by};
+ghost use Rattle.metric_laws.specs.Counts.{count_up};
+ghost use Rattle.log_model.specs.Counts.{measured_by};
 ghost use Rattle.log_model.specs.Walk.{search_at, least_marks, root_need};
 ghost use Rattle.log_model.specs.Steps.{TakesNode};
 
@@ -64,7 +65,10 @@ impl Traversal {
         node: &Node,
     ) -> Result<(), Memory>
         ensures metric { R.metric ruler.new ≡ R.metric ruler.old }
-        ensures counted { OnOk result (R.used ruler.new ≡ count_up (R.used ruler.old) (measured_by (least_marks (search_at (R.M.space (R.metric ruler.old)) probe.entry.q.now probe.entry.rho) need.above node.now))) }
+        ensures counted { OnOk result
+            (R.used ruler.new ≡ count_up (R.used ruler.old)
+            (measured_by (least_marks (search_at (R.M.space (R.metric ruler.old)) probe.entry.q.now probe.entry.rho) need.above
+            node.now))) }
         ensures taken { OnOk result (TakesNode (search_at (R.M.space (R.metric ruler.old)) probe.entry.q.now probe.entry.rho) need node.now self.old self.new) }
     {
         let mut marks = Vec::new(alloc);

@@ -1,10 +1,10 @@
 -- What a node's marks and a log's records cost, counted up.
 use Rattle.std.proofs.Common.{◌≡◌, ℕ, zero, suc, ◌+◌, ◌<◌, ◌≤◌, List, [], ◌∷◌, length, get_or, take, refl, sym, ap, ◌∙◌, arith}
-use Rattle.metric_laws.specs.Counts.{next_count}
+use Rattle.metric_laws.specs.Counts.{next_count, count_up, CountsUpTo}
 use Rattle.log_model.specs.declared.marks.Mark.{Mark}
 use Rattle.log_model.specs.declared.marks.Mark.TheVariants.{Skip, Far, Near}
 use Rattle.log_model.specs.declared.marks.JoinRecord.{JoinRecord}
-use Rattle.log_model.specs.Counts.{count_up, measured_by, join_measured, CountsUpTo}
+use Rattle.log_model.specs.Counts.{measured_by, join_measured}
 use Rattle.page_store.specs.Shelf.{Shelf}
 use Rattle.log_verify.specs.Causes.{AskBothUpTo}
 

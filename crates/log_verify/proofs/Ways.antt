@@ -1,7 +1,7 @@
 -- From one record to the next: what the walk is, why it stops, and what it costs.
 use Rattle.std.proofs.Common.{◌≡◌, ℕ, zero, suc, ◌+◌, ◌<◌, ◌≤◌, List, [], ◌∷◌, length, drop, take, get_or, Ok, Err, Result, refl, sym, ap, subst, ◌∙◌, arith, drop-cons}
 use Rattle.std.specs.Prelude.{IsTrue}
-use Rattle.metric_laws.specs.Counts.{next_count}
+use Rattle.metric_laws.specs.Counts.{next_count, count_up, CountsUpTo}
 use Rattle.scan_model.specs.declared.hit.Hit.{Hit}
 use Rattle.page_store.specs.declared.pages.PageFault.{PageFault}
 use Rattle.page_store.specs.declared.pages.PageFault.TheVariants as pages
@@ -9,25 +9,13 @@ use Rattle.page_store.specs.Reading.{Read, IsWithin, is_within}
 use Rattle.page_store.specs.Shelf.{Shelf, HoldsSame}
 use Rattle.log_model.specs.declared.marks.Record.{Record}
 use Rattle.log_model.specs.declared.marks.Need.{Need}
-use Rattle.log_model.specs.Counts.{count_up, measured_by, measured, CountsUpTo}
+use Rattle.log_model.specs.Counts.{measured_by, measured}
 use Rattle.log_model.specs.Walk.{Search}
 use Rattle.log_verify.specs.declared.faults.Verdict.{Verdict}
 use Rattle.log_verify.specs.declared.faults.Verdict.TheVariants.{OtherState, Point, Page, WrongPage, WrongCount, WrongMark, WrongAnswer, LeftOver, Memory}
 use Rattle.log_verify.specs.Judged.{walked}
 use Rattle.log_verify.specs.Causes.{HasRefusal, HasCause}
 use Rattle.log_verify.proofs.Counting.{count_up-add}
-
-pub holds_both : (old mid new : Shelf) → HoldsSame old mid → HoldsSame mid new → HoldsSame old new
-holds_both old mid new one two = record {
-  dim = two.dim ∙ one.dim;
-  pages = two.pages ∙ one.pages;
-  tells = two.tells ∙ one.tells;
-  read = two.read ∙ one.read;
-  faults = omega (arith, one.faults, two.faults);
-}
-
-pub holds_none : (old : Shelf) → HoldsSame old old
-holds_none old = record { dim = refl; pages = refl; tells = refl; read = refl; faults = omega arith }
 
 -- ---- causes
 

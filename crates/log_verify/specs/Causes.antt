@@ -6,7 +6,7 @@ use Rattle.page_store.specs.declared.pages.PageFault.{PageFault}
 use Rattle.page_store.specs.declared.pages.PageFault.TheVariants as pages
 use Rattle.page_store.specs.Reading.{IsWithin, is_within}
 use Rattle.page_store.specs.Shelf.{Shelf}
-use Rattle.log_model.specs.Counts.{count_up}
+use Rattle.metric_laws.specs.Counts.{count_up}
 use Rattle.log_model.specs.declared.pairs.JoinNeed.{JoinNeed}
 use Rattle.log_model.specs.JoinWalk.{opens_right, opened, page_of}
 use Rattle.log_verify.specs.declared.faults.JoinVerdict.{JoinVerdict}
@@ -49,8 +49,10 @@ verdict_of right fault = join.Page right fault
 -- why a page of the opened item's side is refused
 abbrev pub IsJoinPageVerdict : Shelf → Shelf → Shelf → Shelf → JoinNeed → JoinVerdict → Type 0
 IsJoinPageVerdict left left2 right right2 n join.Memory = Unit {0}
-IsJoinPageVerdict left left2 right right2 n (join.Page false fault) = (opens_right n ≡ false) × HasRefusal left left2 fault (left.read (page_of (opened n)) ≡ Err fault)
-IsJoinPageVerdict left left2 right right2 n (join.Page true fault) = (opens_right n ≡ true) × HasRefusal right right2 fault (right.read (page_of (opened n)) ≡ Err fault)
+IsJoinPageVerdict left left2 right right2 n (join.Page false fault) = (opens_right n ≡ false)
+    × HasRefusal left left2 fault (left.read (page_of (opened n)) ≡ Err fault)
+IsJoinPageVerdict left left2 right right2 n (join.Page true fault) = (opens_right n ≡ true)
+    × HasRefusal right right2 fault (right.read (page_of (opened n)) ≡ Err fault)
 IsJoinPageVerdict left left2 right right2 n _ = ⊥
 
 -- why a verdict on a join's log is given, where Fault says that it is the log's first fault

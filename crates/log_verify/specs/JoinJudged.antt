@@ -27,7 +27,8 @@ after_join_marks i None rest = rest
 after_join_marks i (Some k) rest = Err (WrongMark i k)
 
 -- behind a record's page: why it holds no node, or the count of its marks and the marks
-abbrev pub after_join_page : JoinSearch → JoinNeed → List Mark → ℕ → Result Node PageFault → (Node → Result (List Pair) JoinVerdict) → Result (List Pair) JoinVerdict
+abbrev pub after_join_page : JoinSearch → JoinNeed → List Mark → ℕ → Result Node PageFault →
+    (Node → Result (List Pair) JoinVerdict) → Result (List Pair) JoinVerdict
 after_join_page j n marks i (Err fault) rest = Err (Page (opens_right n) fault)
 after_join_page j n marks i (Ok node) rest =
     if length marks == entry_count node then after_join_marks i (join_wrong_in j n node marks) (rest node) else Err (WrongCount i)

@@ -17,4 +17,5 @@ FaultsAreUnsoundness = (s : Space) (read : Read) (live : Live) (log : Log) → (
 -- a join's log has no fault exactly where it is sound
 abbrev pub JoinFaultsAreUnsoundness : Type 0
 JoinFaultsAreUnsoundness =
-    (s : Space) (left right : Read) (l r : Live) (log : JoinLog) → (join_fault s left right l r log ≡ None) ↔ IsSoundJoinLog s (nodes_of left) (nodes_of right) l r log
+    (s : Space) (left right : Read) (l r : Live) (log : JoinLog) → (join_fault s left right l r log ≡ None)
+    ↔ IsSoundJoinLog s (nodes_of left) (nodes_of right) l r log

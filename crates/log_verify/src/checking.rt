@@ -1,7 +1,8 @@
 // The marks of one record against its node.
 ghost use Rattle.std.specs.Prelude.{◌≡◌, ◌++◌, ◌+◌, ◌≤◌, ◌<◌, ◌^◌, [], ◌∷◌, map, length, IfOk, IfNone, OnOk};
 ghost use Rattle.log_model.specs.declared.marks.Mark.TheVariants.{Near};
-ghost use Rattle.log_model.specs.Counts.{count_up, measured_by, CountsUpTo};
+ghost use Rattle.metric_laws.specs.Counts.{count_up, CountsUpTo};
+ghost use Rattle.log_model.specs.Counts.{measured_by};
 ghost use Rattle.log_model.specs.Walk.{search_at, away, allows_object, allows_subtree, near_ones, hit_of, need_of};
 ghost use Rattle.log_verify.specs.Judged.{first_wrong};
 
@@ -107,8 +108,13 @@ pub fn check_leaf<R: Ruler>(
     requires long { length marks.now ≡ length entries.now }
     requires few { length entries.now < 2 ^ 32 }
     ensures metric { R.metric ruler.new ≡ R.metric ruler.old }
-    ensures wrong { IfOk result (λ w. w ≡ first_wrong (allows_object (search_at (R.M.space (R.metric ruler.old)) probe.entry.q.now probe.entry.rho) above) entries.now marks.now 0) }
-    ensures named { IfOk result (λ w. IfNone w (hits.new.items ≡ hits.old.items ++ map (hit_of (search_at (R.M.space (R.metric ruler.old)) probe.entry.q.now probe.entry.rho)) (near_ones entries.now marks.now))) }
+    ensures wrong { IfOk result (λ w.
+        w ≡ first_wrong (allows_object (search_at (R.M.space (R.metric ruler.old)) probe.entry.q.now probe.entry.rho) above)
+        entries.now marks.now 0) }
+    ensures named { IfOk result (λ w.
+        IfNone w (hits.new.items ≡ hits.old.items ++ map
+        (hit_of (search_at (R.M.space (R.metric ruler.old)) probe.entry.q.now probe.entry.rho))
+        (near_ones entries.now marks.now))) }
     ensures counted { IfOk result (λ w. IfNone w (R.used ruler.new ≡ count_up (R.used ruler.old) (measured_by marks.now))) }
     ensures few_counted { CountsUpTo (R.used ruler.old) (R.used ruler.new) (measured_by marks.now) }
 {
@@ -140,8 +146,13 @@ pub fn check_inner<R: Ruler>(
     requires long { length marks.now ≡ length entries.now }
     requires few { length entries.now < 2 ^ 32 }
     ensures metric { R.metric ruler.new ≡ R.metric ruler.old }
-    ensures wrong { IfOk result (λ w. w ≡ first_wrong (allows_subtree (search_at (R.M.space (R.metric ruler.old)) probe.entry.q.now probe.entry.rho) above) entries.now marks.now 0) }
-    ensures named { IfOk result (λ w. IfNone w (needs.new.items ≡ needs.old.items ++ map (need_of (search_at (R.M.space (R.metric ruler.old)) probe.entry.q.now probe.entry.rho)) (near_ones entries.now marks.now))) }
+    ensures wrong { IfOk result (λ w.
+        w ≡ first_wrong (allows_subtree (search_at (R.M.space (R.metric ruler.old)) probe.entry.q.now probe.entry.rho) above)
+        entries.now marks.now 0) }
+    ensures named { IfOk result (λ w.
+        IfNone w (needs.new.items ≡ needs.old.items ++ map
+        (need_of (search_at (R.M.space (R.metric ruler.old)) probe.entry.q.now probe.entry.rho))
+        (near_ones entries.now marks.now))) }
     ensures counted { IfOk result (λ w. IfNone w (R.used ruler.new ≡ count_up (R.used ruler.old) (measured_by marks.now))) }
     ensures few_counted { CountsUpTo (R.used ruler.old) (R.used ruler.new) (measured_by marks.now) }
 {

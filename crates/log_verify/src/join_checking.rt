@@ -2,7 +2,8 @@
 ghost use Rattle.std.specs.Prelude.{◌≡◌, ◌++◌, ◌<◌, ◌^◌, [], ◌∷◌, length, OnOk, IfOk, IfNone};
 ghost use Rattle.log_model.specs.declared.marks.Mark.TheVariants.{Near};
 ghost use Rattle.log_model.specs.declared.pairs.JoinNeed.{JoinNeed};
-ghost use Rattle.log_model.specs.Counts.{measured_by, CountsUpTo};
+ghost use Rattle.metric_laws.specs.Counts.{CountsUpTo};
+ghost use Rattle.log_model.specs.Counts.{measured_by};
 ghost use Rattle.log_model.specs.Walk.{near_ones};
 ghost use Rattle.log_model.specs.JoinWalk.{allows_entry, object_entry, subtree_entry, join_hits, join_needs, within_apart};
 ghost use Rattle.log_model.specs.JoinSteps.{search_within, hits_among, needs_among, paired};
@@ -180,8 +181,10 @@ fn name_object(
     mark: Mark,
     apart: Option<u64>,
 ) -> Result<(), Memory>
-    ensures hits { OnOk result (named.new.hits.items ≡ named.old.hits.items ++ hits_among (near_ones (paired need.now (object_entry entry.now).item apart ∷ []) (mark ∷ []))) }
-    ensures needs { OnOk result (named.new.needs.items ≡ named.old.needs.items ++ needs_among (near_ones (paired need.now (object_entry entry.now).item apart ∷ []) (mark ∷ []))) }
+    ensures hits { OnOk result (named.new.hits.items ≡ named.old.hits.items ++ hits_among
+        (near_ones (paired need.now (object_entry entry.now).item apart ∷ []) (mark ∷ []))) }
+    ensures needs { OnOk result (named.new.needs.items ≡ named.old.needs.items ++ needs_among
+        (near_ones (paired need.now (object_entry entry.now).item apart ∷ []) (mark ∷ []))) }
 {
     match mark {
         Mark::Near => {
@@ -216,8 +219,10 @@ fn name_subtree(
     mark: Mark,
     apart: Option<u64>,
 ) -> Result<(), Memory>
-    ensures hits { OnOk result (named.new.hits.items ≡ named.old.hits.items ++ hits_among (near_ones (paired probe.entry.need.now (subtree_entry level entry.now).item apart ∷ []) (mark ∷ []))) }
-    ensures needs { OnOk result (named.new.needs.items ≡ named.old.needs.items ++ needs_among (near_ones (paired probe.entry.need.now (subtree_entry level entry.now).item apart ∷ []) (mark ∷ []))) }
+    ensures hits { OnOk result (named.new.hits.items ≡ named.old.hits.items ++ hits_among
+        (near_ones (paired probe.entry.need.now (subtree_entry level entry.now).item apart ∷ []) (mark ∷ []))) }
+    ensures needs { OnOk result (named.new.needs.items ≡ named.old.needs.items ++ needs_among
+        (near_ones (paired probe.entry.need.now (subtree_entry level entry.now).item apart ∷ []) (mark ∷ []))) }
 {
     match mark {
         Mark::Near => {
@@ -239,9 +244,15 @@ fn check_leaf<R: Ruler>(
     requires long { length marks.now ≡ length entries.now }
     requires few { length entries.now < 2 ^ 32 }
     ensures metric { R.metric ruler.new ≡ R.metric ruler.old }
-    ensures wrong { IfOk result (λ w. w ≡ join_wrong_in (search_within (R.M.space (R.metric ruler.old)) probe.entry.rho) probe.entry.need.now (Node.Leaf entries.now) marks.now) }
-    ensures hits { IfOk result (λ w. IfNone w (named.new.hits.items ≡ named.old.hits.items ++ join_hits (search_within (R.M.space (R.metric ruler.old)) probe.entry.rho) probe.entry.need.now (Node.Leaf entries.now) marks.now)) }
-    ensures needs { IfOk result (λ w. IfNone w (named.new.needs.items ≡ named.old.needs.items ++ join_needs (search_within (R.M.space (R.metric ruler.old)) probe.entry.rho) probe.entry.need.now (Node.Leaf entries.now) marks.now)) }
+    ensures wrong { IfOk result (λ w.
+        w ≡ join_wrong_in (search_within (R.M.space (R.metric ruler.old)) probe.entry.rho) probe.entry.need.now
+        (Node.Leaf entries.now) marks.now) }
+    ensures hits { IfOk result (λ w.
+        IfNone w (named.new.hits.items ≡ named.old.hits.items ++ join_hits
+        (search_within (R.M.space (R.metric ruler.old)) probe.entry.rho) probe.entry.need.now (Node.Leaf entries.now) marks.now)) }
+    ensures needs { IfOk result (λ w.
+        IfNone w (named.new.needs.items ≡ named.old.needs.items ++ join_needs
+        (search_within (R.M.space (R.metric ruler.old)) probe.entry.rho) probe.entry.need.now (Node.Leaf entries.now) marks.now)) }
     ensures few_counted { CountsUpTo (R.used ruler.old) (R.used ruler.new) (measured_by marks.now) }
 {
     for i in 0..entries.len() {
@@ -274,9 +285,17 @@ fn check_inner<R: Ruler>(
     requires long { length marks.now ≡ length entries.now }
     requires few { length entries.now < 2 ^ 32 }
     ensures metric { R.metric ruler.new ≡ R.metric ruler.old }
-    ensures wrong { IfOk result (λ w. w ≡ join_wrong_in (search_within (R.M.space (R.metric ruler.old)) probe.entry.rho) probe.entry.need.now (Node.Inner level entries.now) marks.now) }
-    ensures hits { IfOk result (λ w. IfNone w (named.new.hits.items ≡ named.old.hits.items ++ join_hits (search_within (R.M.space (R.metric ruler.old)) probe.entry.rho) probe.entry.need.now (Node.Inner level entries.now) marks.now)) }
-    ensures needs { IfOk result (λ w. IfNone w (named.new.needs.items ≡ named.old.needs.items ++ join_needs (search_within (R.M.space (R.metric ruler.old)) probe.entry.rho) probe.entry.need.now (Node.Inner level entries.now) marks.now)) }
+    ensures wrong { IfOk result (λ w.
+        w ≡ join_wrong_in (search_within (R.M.space (R.metric ruler.old)) probe.entry.rho) probe.entry.need.now
+        (Node.Inner level entries.now) marks.now) }
+    ensures hits { IfOk result (λ w.
+        IfNone w (named.new.hits.items ≡ named.old.hits.items ++ join_hits
+        (search_within (R.M.space (R.metric ruler.old)) probe.entry.rho) probe.entry.need.now
+        (Node.Inner level entries.now) marks.now)) }
+    ensures needs { IfOk result (λ w.
+        IfNone w (named.new.needs.items ≡ named.old.needs.items ++ join_needs
+        (search_within (R.M.space (R.metric ruler.old)) probe.entry.rho) probe.entry.need.now
+        (Node.Inner level entries.now) marks.now)) }
     ensures few_counted { CountsUpTo (R.used ruler.old) (R.used ruler.new) (measured_by marks.now) }
 {
     for i in 0..entries.len() {
@@ -302,9 +321,15 @@ pub fn check_node<R: Ruler>(
     requires long { length marks.now ≡ entry_count node.now }
     requires few { entry_count node.now < 2 ^ 32 }
     ensures metric { R.metric ruler.new ≡ R.metric ruler.old }
-    ensures wrong { IfOk result (λ w. w ≡ join_wrong_in (search_within (R.M.space (R.metric ruler.old)) probe.entry.rho) probe.entry.need.now node.now marks.now) }
-    ensures hits { IfOk result (λ w. IfNone w (named.new.hits.items ≡ named.old.hits.items ++ join_hits (search_within (R.M.space (R.metric ruler.old)) probe.entry.rho) probe.entry.need.now node.now marks.now)) }
-    ensures needs { IfOk result (λ w. IfNone w (named.new.needs.items ≡ named.old.needs.items ++ join_needs (search_within (R.M.space (R.metric ruler.old)) probe.entry.rho) probe.entry.need.now node.now marks.now)) }
+    ensures wrong { IfOk result (λ w.
+        w ≡ join_wrong_in (search_within (R.M.space (R.metric ruler.old)) probe.entry.rho) probe.entry.need.now node.now
+        marks.now) }
+    ensures hits { IfOk result (λ w.
+        IfNone w (named.new.hits.items ≡ named.old.hits.items ++ join_hits
+        (search_within (R.M.space (R.metric ruler.old)) probe.entry.rho) probe.entry.need.now node.now marks.now)) }
+    ensures needs { IfOk result (λ w.
+        IfNone w (named.new.needs.items ≡ named.old.needs.items ++ join_needs
+        (search_within (R.M.space (R.metric ruler.old)) probe.entry.rho) probe.entry.need.now node.now marks.now)) }
     ensures few_counted { CountsUpTo (R.used ruler.old) (R.used ruler.new) (measured_by marks.now) }
 {
     match node {

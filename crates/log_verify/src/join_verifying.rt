@@ -1,7 +1,8 @@
 ghost use Rattle.std.specs.Prelude.{◌≡◌, ◌≤◌, length, None, Some, IsTrue, IfOk, IfErr, OnOk};
 ghost use Rattle.page_store.specs.Reading.{nodes_of};
 ghost use Rattle.page_store.specs.Shelf.{HoldsSame};
-ghost use Rattle.log_model.specs.Counts.{join_measured, CountsUpTo};
+ghost use Rattle.metric_laws.specs.Counts.{CountsUpTo};
+ghost use Rattle.log_model.specs.Counts.{join_measured};
 ghost use Rattle.log_model.specs.Grammar.{IsLawfulJoinLog};
 ghost use Rattle.log_model.specs.SoundJoin.{IsSoundJoinLog};
 ghost use Rattle.log_verify.specs.JoinJudged.{join_fault};
@@ -50,7 +51,8 @@ pub fn verify_join<P: Pages, Q: Pages, R: Ruler>(
         (join_fault (R.M.space (R.metric ruler.old)) (P.shelf left.old).read (Q.shelf right.old).read ll.now lr.now log.now ≡ Some v)) }
     // A sound log is accepted, unless a disk fails or memory runs out.
     ensures complete { IfErr result (λ v. IsTrue (P.shelf left.old).tells → IsTrue (Q.shelf right.old).tells →
-        IsSoundJoinLog (R.M.space (R.metric ruler.old)) (nodes_of (P.shelf left.old).read) (nodes_of (Q.shelf right.old).read) ll.now lr.now log.now → IsJoinPassing v) }
+        IsSoundJoinLog (R.M.space (R.metric ruler.old)) (nodes_of (P.shelf left.old).read)
+        (nodes_of (Q.shelf right.old).read) ll.now lr.now log.now → IsJoinPassing v) }
 
     // What it costs.
     ensures few_asked { AskBothUpTo (P.shelf left.old) (P.shelf left.new) (Q.shelf right.old) (Q.shelf right.new) (length log.now.records) }

@@ -1,9 +1,9 @@
 // The walk that takes the records of a join's log one after the other.
 ghost use Rattle.std.specs.Prelude.{◌≡◌, ◌++◌, ◌+◌, ◌≤◌, ◌<◌, ◌^◌, ◌-◌, [], ◌∷◌, List, length, reverse, IsTrue, Ok, Err, IfOk, IfErr, OnOk};
 ghost use Rattle.page_store.specs.Shelf.{HoldsSame};
-ghost use Rattle.metric_laws.specs.Counts.{next_count};
+ghost use Rattle.metric_laws.specs.Counts.{next_count, CountsUpTo};
 ghost use Rattle.log_model.specs.declared.marks.JoinRecord.{JoinRecord};
-ghost use Rattle.log_model.specs.Counts.{measured_by, join_measured, CountsUpTo};
+ghost use Rattle.log_model.specs.Counts.{measured_by, join_measured};
 ghost use Rattle.log_model.specs.JoinWalk.{opens_right, opened, page_of};
 ghost use Rattle.log_model.specs.SoundJoin.{root_item, root_pair};
 ghost use Rattle.log_model.specs.JoinSteps.{search_within};
@@ -153,10 +153,13 @@ fn take_record<P: Pages, Q: Pages, R: Ruler>(
     ensures rho { walk.new.rho ≡ walk.old.rho }
     ensures taken { OnOk result (walk.new.taken ≡ walk.old.taken + 1) }
     ensures ok { OnOk result (IsTrue (P.shelf left.old).tells → IsTrue (Q.shelf right.old).tells → (rs : List JoinRecord) →
-        join_walked (search_within (R.M.space (R.metric ruler.old)) walk.old.rho) (P.shelf left.old).read (Q.shelf right.old).read walk.old.named.hits.items (reverse walk.old.stack.items) (told.now ∷ rs) walk.old.taken
-        ≡ join_walked (search_within (R.M.space (R.metric ruler.old)) walk.old.rho) (P.shelf left.old).read (Q.shelf right.old).read walk.new.named.hits.items (reverse walk.new.stack.items) rs walk.new.taken) }
+        join_walked (search_within (R.M.space (R.metric ruler.old)) walk.old.rho) (P.shelf left.old).read
+        (Q.shelf right.old).read walk.old.named.hits.items (reverse walk.old.stack.items) (told.now ∷ rs) walk.old.taken
+        ≡ join_walked (search_within (R.M.space (R.metric ruler.old)) walk.old.rho) (P.shelf left.old).read
+        (Q.shelf right.old).read walk.new.named.hits.items (reverse walk.new.stack.items) rs walk.new.taken) }
     ensures cause { IfErr result (λ v. HasJoinCause (P.shelf left.old) (P.shelf left.new) (Q.shelf right.old) (Q.shelf right.new) v ((rs : List JoinRecord) →
-        join_walked (search_within (R.M.space (R.metric ruler.old)) walk.old.rho) (P.shelf left.old).read (Q.shelf right.old).read walk.old.named.hits.items (reverse walk.old.stack.items) (told.now ∷ rs) walk.old.taken
+        join_walked (search_within (R.M.space (R.metric ruler.old)) walk.old.rho) (P.shelf left.old).read
+        (Q.shelf right.old).read walk.old.named.hits.items (reverse walk.old.stack.items) (told.now ∷ rs) walk.old.taken
         ≡ Err v)) }
     ensures few_asked { AskBothUpTo (P.shelf left.old) (P.shelf left.new) (Q.shelf right.old) (Q.shelf right.new) 1 }
     ensures few_counted { CountsUpTo (R.used ruler.old) (R.used ruler.new) (measured_by told.now.marks) }
@@ -206,9 +209,11 @@ pub fn walk_records<P: Pages, Q: Pages, R: Ruler>(
     ensures right_same { HoldsSame (Q.shelf right.old) (Q.shelf right.new) }
     ensures right_keeps { Q.keeps right.old right.new }
     ensures ok { IfOk result (λ hits. IsTrue (P.shelf left.old).tells → IsTrue (Q.shelf right.old).tells →
-        join_walked (search_within (R.M.space (R.metric ruler.old)) begun.rho) (P.shelf left.old).read (Q.shelf right.old).read begun.named.hits.items (reverse begun.stack.items) records.now 0 ≡ Ok hits.items) }
+        join_walked (search_within (R.M.space (R.metric ruler.old)) begun.rho) (P.shelf left.old).read
+        (Q.shelf right.old).read begun.named.hits.items (reverse begun.stack.items) records.now 0 ≡ Ok hits.items) }
     ensures cause { IfErr result (λ v. HasJoinCause (P.shelf left.old) (P.shelf left.new) (Q.shelf right.old) (Q.shelf right.new) v
-        (join_walked (search_within (R.M.space (R.metric ruler.old)) begun.rho) (P.shelf left.old).read (Q.shelf right.old).read begun.named.hits.items (reverse begun.stack.items) records.now 0 ≡ Err v)) }
+        (join_walked (search_within (R.M.space (R.metric ruler.old)) begun.rho) (P.shelf left.old).read
+        (Q.shelf right.old).read begun.named.hits.items (reverse begun.stack.items) records.now 0 ≡ Err v)) }
     ensures few_asked { AskBothUpTo (P.shelf left.old) (P.shelf left.new) (Q.shelf right.old) (Q.shelf right.new) (length records.now) }
     ensures few_counted { CountsUpTo (R.used ruler.old) (R.used ruler.new) (join_measured records.now) }
 {

@@ -1,7 +1,8 @@
 ghost use Rattle.std.specs.Prelude.{◌≡◌, ◌≤◌, ◌+◌, length, None, Some, IsTrue, IfOk, IfErr, OnOk};
 ghost use Rattle.page_store.specs.Reading.{nodes_of};
 ghost use Rattle.page_store.specs.Shelf.{HoldsSame};
-ghost use Rattle.log_model.specs.Counts.{count_up, measured, CountsUpTo};
+ghost use Rattle.metric_laws.specs.Counts.{count_up, CountsUpTo};
+ghost use Rattle.log_model.specs.Counts.{measured};
 ghost use Rattle.log_model.specs.Grammar.{IsLawfulLog};
 ghost use Rattle.log_model.specs.Sound.{IsSoundLog};
 ghost use Rattle.log_verify.specs.Judged.{log_fault};
@@ -37,12 +38,17 @@ pub fn verify<P: Pages, R: Ruler>(
     ensures keeps { P.keeps pages.old pages.new }
 
     ensures records { IfOk result (λ accepted. accepted.records ≡ length log.now.records) }
-    ensures faultless { OnOk result (IsTrue (P.shelf pages.old).tells → log_fault (R.M.space (R.metric ruler.old)) (P.shelf pages.old).read live.now log.now ≡ None) }
-    ensures sound { OnOk result (IsTrue (P.shelf pages.old).tells → IsSoundLog (R.M.space (R.metric ruler.old)) (nodes_of (P.shelf pages.old).read) live.now log.now) }
+    ensures faultless { OnOk result (IsTrue (P.shelf pages.old).tells →
+        log_fault (R.M.space (R.metric ruler.old)) (P.shelf pages.old).read live.now log.now ≡ None) }
+    ensures sound { OnOk result (IsTrue (P.shelf pages.old).tells →
+        IsSoundLog (R.M.space (R.metric ruler.old)) (nodes_of (P.shelf pages.old).read) live.now log.now) }
     // It names the first fault.
-    ensures cause { IfErr result (λ v. HasCause (P.shelf pages.old) (P.shelf pages.new) v (log_fault (R.M.space (R.metric ruler.old)) (P.shelf pages.old).read live.now log.now ≡ Some v)) }
+    ensures cause { IfErr result (λ v.
+        HasCause (P.shelf pages.old) (P.shelf pages.new) v
+        (log_fault (R.M.space (R.metric ruler.old)) (P.shelf pages.old).read live.now log.now ≡ Some v)) }
     // A sound log is accepted, unless the disk fails or memory runs out.
-    ensures complete { IfErr result (λ v. IsTrue (P.shelf pages.old).tells → IsSoundLog (R.M.space (R.metric ruler.old)) (nodes_of (P.shelf pages.old).read) live.now log.now → IsPassing v) }
+    ensures complete { IfErr result (λ v. IsTrue (P.shelf pages.old).tells →
+        IsSoundLog (R.M.space (R.metric ruler.old)) (nodes_of (P.shelf pages.old).read) live.now log.now → IsPassing v) }
 
     // What it costs.
     ensures asked { OnOk result ((P.shelf pages.new).asked ≡ count_up (P.shelf pages.old).asked (length log.now.records)) }

@@ -1,9 +1,9 @@
 // The walk that takes the records of a log one after the other.
 ghost use Rattle.std.specs.Prelude.{◌≡◌, ◌++◌, ◌+◌, ◌≤◌, ◌<◌, ◌^◌, [], ◌∷◌, List, length, reverse, IsTrue, Ok, Err, IfOk, IfErr, IfNone, OnOk};
-ghost use Rattle.metric_laws.specs.Counts.{next_count};
+ghost use Rattle.metric_laws.specs.Counts.{next_count, count_up, CountsUpTo};
 ghost use Rattle.page_store.specs.Shelf.{HoldsSame};
 ghost use Rattle.log_model.specs.declared.marks.Record.{Record};
-ghost use Rattle.log_model.specs.Counts.{count_up, measured_by, measured, CountsUpTo};
+ghost use Rattle.log_model.specs.Counts.{measured_by, measured};
 ghost use Rattle.log_model.specs.Walk.{search_at, root_need};
 ghost use Rattle.log_verify.specs.Judged.{entry_count, first_wrong_in, walked};
 ghost use Rattle.log_verify.specs.Causes.{HasCause, IsPageVerdict};
@@ -104,8 +104,12 @@ fn check_node<R: Ruler>(
     requires few { entry_count node.now < 2 ^ 32 }
     ensures metric { R.metric ruler.new ≡ R.metric ruler.old }
     ensures taken { walk.new.taken ≡ walk.old.taken }
-    ensures wrong { IfOk result (λ w. w ≡ first_wrong_in (search_at (R.M.space (R.metric ruler.old)) probe.entry.q.now probe.entry.rho) above node.now marks.now) }
-    ensures named { IfOk result (λ w. IfNone w (NamesNode (search_at (R.M.space (R.metric ruler.old)) probe.entry.q.now probe.entry.rho) node.now marks.now walk.old walk.new)) }
+    ensures wrong { IfOk result (λ w.
+        w ≡ first_wrong_in (search_at (R.M.space (R.metric ruler.old)) probe.entry.q.now probe.entry.rho) above node.now
+        marks.now) }
+    ensures named { IfOk result (λ w.
+        IfNone w (NamesNode (search_at (R.M.space (R.metric ruler.old)) probe.entry.q.now probe.entry.rho) node.now marks.now
+        walk.old walk.new)) }
     ensures counted { IfOk result (λ w. IfNone w (R.used ruler.new ≡ count_up (R.used ruler.old) (measured_by marks.now))) }
     ensures few_counted { CountsUpTo (R.used ruler.old) (R.used ruler.new) (measured_by marks.now) }
 {
@@ -155,10 +159,13 @@ fn take_record<P: Pages, R: Ruler>(
     ensures few_counted { CountsUpTo (R.used ruler.old) (R.used ruler.new) (measured_by told.now.marks) }
     ensures taken { OnOk result (walk.new.taken ≡ walk.old.taken + 1) }
     ensures ok { OnOk result (IsTrue (P.shelf pages.old).tells → (rs : List Record) →
-        walked (search_at (R.M.space (R.metric ruler.old)) probe.entry.q.now probe.entry.rho) (P.shelf pages.old).read walk.old.hits.items (reverse walk.old.stack.items) (told.now ∷ rs) walk.old.taken
-        ≡ walked (search_at (R.M.space (R.metric ruler.old)) probe.entry.q.now probe.entry.rho) (P.shelf pages.old).read walk.new.hits.items (reverse walk.new.stack.items) rs walk.new.taken) }
+        walked (search_at (R.M.space (R.metric ruler.old)) probe.entry.q.now probe.entry.rho)
+        (P.shelf pages.old).read walk.old.hits.items (reverse walk.old.stack.items) (told.now ∷ rs) walk.old.taken
+        ≡ walked (search_at (R.M.space (R.metric ruler.old)) probe.entry.q.now probe.entry.rho)
+        (P.shelf pages.old).read walk.new.hits.items (reverse walk.new.stack.items) rs walk.new.taken) }
     ensures cause { IfErr result (λ v. HasCause (P.shelf pages.old) (P.shelf pages.new) v ((rs : List Record) →
-        walked (search_at (R.M.space (R.metric ruler.old)) probe.entry.q.now probe.entry.rho) (P.shelf pages.old).read walk.old.hits.items (reverse walk.old.stack.items) (told.now ∷ rs) walk.old.taken
+        walked (search_at (R.M.space (R.metric ruler.old)) probe.entry.q.now probe.entry.rho)
+        (P.shelf pages.old).read walk.old.hits.items (reverse walk.old.stack.items) (told.now ∷ rs) walk.old.taken
         ≡ Err v)) }
 {
     let Some(need) = walk.stack.pop() else {
@@ -201,9 +208,11 @@ pub fn walk_records<P: Pages, R: Ruler>(
     ensures counted { OnOk result (R.used ruler.new ≡ count_up (R.used ruler.old) (measured records.now)) }
     ensures few_counted { CountsUpTo (R.used ruler.old) (R.used ruler.new) (measured records.now) }
     ensures ok { IfOk result (λ hits. IsTrue (P.shelf pages.old).tells →
-        walked (search_at (R.M.space (R.metric ruler.old)) probe.entry.q.now probe.entry.rho) (P.shelf pages.old).read [] (root_need root ∷ []) records.now 0 ≡ Ok hits.items) }
+        walked (search_at (R.M.space (R.metric ruler.old)) probe.entry.q.now probe.entry.rho) (P.shelf pages.old).read []
+        (root_need root ∷ []) records.now 0 ≡ Ok hits.items) }
     ensures cause { IfErr result (λ v. HasCause (P.shelf pages.old) (P.shelf pages.new) v
-        (walked (search_at (R.M.space (R.metric ruler.old)) probe.entry.q.now probe.entry.rho) (P.shelf pages.old).read [] (root_need root ∷ []) records.now 0 ≡ Err v)) }
+        (walked (search_at (R.M.space (R.metric ruler.old)) probe.entry.q.now probe.entry.rho) (P.shelf pages.old).read []
+        (root_need root ∷ []) records.now 0 ≡ Err v)) }
 {
     let mut walk = Walk::begin(alloc, root)?;
     for told in records {

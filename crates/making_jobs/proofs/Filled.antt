@@ -36,11 +36,10 @@ use Rattle.index_core.specs.Loading.{HasLoadCause, HasLoadingCause, load_fault}
 use Rattle.index_core.specs.Writing.{HasObjects, HasWritten, HoldsObjects, Loads}
 use Rattle.making_jobs.specs.declared.filling.FillFault.{FillFault}
 use Rattle.making_jobs.specs.declared.filling.FillFault.TheVariants as fill
-use Rattle.making_jobs.specs.Filling.{HasFillCause, HoldsNoneOrAll, IsDiskFault, IsFilled, IsOtherFile, fault_of, space_of}
+use Rattle.file_jobs.specs.Spaces.{space_of}
+use Rattle.making_jobs.specs.Filling.{HasFillCause, HoldsNoneOrAll, IsDiskFault, IsFilled, IsOtherFile, fault_of}
 use Rattle.making_jobs.proofs.Few.{few_nodes}
-
-pub rose_more : (a b c : ℕ) → a ≤ b → Rose b c → Rose a c
-rose_more a b c more rose = grind arith
+use Rattle.outside_io.proofs.Rising.{rose_before}
 
 pub limit_by_head : (limit : ℕ) → IsTrue (is_limit limit) → limit ≤ 2 ^ 24
 unfolding is_limit
@@ -153,8 +152,8 @@ module _ (s : Space) (space : IsSpace s) (narrow : s.words ≤ 64) (i j : OpenIn
           omega (arith, nodes, few, there, much, is)
 
   pub load_cause : (fault : IndexFault) → HasLoadingCause s i j points tags d1 d2.faults fault → (IsTrue d0.tells → BlamesNoPage fault) → HasFillCause d0 d2 (fault_of fault)
-  load_cause index.Disk cause told = rose_more d0.faults d1.faults d2.faults later cause.1
-  load_cause index.Commit cause told = rose_more d0.faults d1.faults d2.faults later cause
+  load_cause index.Disk cause told = rose_before d0.faults d1.faults d2.faults later cause.1
+  load_cause index.Commit cause told = rose_before d0.faults d1.faults d2.faults later cause
   load_cause index.Stopped cause told = absurd cause.1
   load_cause index.Memory cause told = tt
   load_cause (index.Damaged page) cause told = (cause.1.0, told)

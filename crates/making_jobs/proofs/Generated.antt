@@ -28,10 +28,11 @@ use Rattle.page_store.specs.Files.{nodes_in}
 use Rattle.shadow_root.specs.Placements.{IsFileOf}
 use Rattle.making_jobs.specs.declared.generating.Generation.{Generation}
 use Rattle.making_jobs.specs.Asking.{HasAskCause, hits_of}
-use Rattle.making_jobs.specs.Filling.{IsFilled, space_of}
+use Rattle.file_jobs.specs.Spaces.{space_of}
+use Rattle.making_jobs.specs.Filling.{IsFilled}
 use Rattle.making_jobs.specs.Generator.{generated_row}
 use Rattle.making_jobs.specs.Jobs.{Fills, IsFilledSince, IsFull, IsSummary, IsUnfilled, ids_of, points_of, summary}
-use Rattle.making_jobs.proofs.Filled.{rose_more}
+use Rattle.outside_io.proofs.Rising.{rose_before}
 
 -- ---- a run without memory
 
@@ -90,7 +91,7 @@ module _ (head : Head) (points : List (List ℕ)) (tags : List ℕ) (IsText : Li
         (status ≡ 8 → Tells out0 out1 (codes "fault memory\n")) → (status ≡ 9 → (IsPassing fault → ⊥) × Tells out0 out1 (damaged_text fault)) → (status ≡ 5) ⊎ ((status ≡ 8) ⊎ (status ≡ 9)) →
         Fills head points tags IsText d0 d2 out0 out1 status
     stopped Sound fault sound cause five eight nine statuses = refused d2 (record {
-      disk = λ is. (rose_more d0.faults d1.faults d2.faults later (subst (HasAskCause Sound d1 d2) (five is).0 cause), (five is).1);
+      disk = λ is. (rose_before d0.faults d1.faults d2.faults later (subst (HasAskCause Sound d1 d2) (five is).0 cause), (five is).1);
       not_empty = λ is. absurd (elim statuses [ inl e ↦ omega (arith, e, is) | inr (inl e) ↦ omega (arith, e, is) | inr (inr e) ↦ omega (arith, e, is) ]);
       memory = eight;
       damaged = λ is. ((λ tells. never fault (nine is).0 cause (sound tells)), fault, (nine is).1);

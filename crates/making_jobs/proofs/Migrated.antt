@@ -17,9 +17,9 @@ use Rattle.index_core.specs.Lending.{same_room_by_none}
 use Rattle.making_jobs.specs.Filling.{IsFilled}
 use Rattle.making_jobs.specs.Jobs.{Fills, IsFillStatus, IsFilledSince, IsUnfilled}
 use Rattle.making_jobs.specs.Migrating.{IsMigrateStatus, IsOldFile, Migrates, Moves, RefusesNew, RefusesNothing, RefusesOld, migrated_text, renewed}
-use Rattle.making_jobs.proofs.Filled.{rose_more}
 use Rattle.making_jobs.proofs.Generated.{is_full, leaves_only, refused as unfilled, unchanged, written}
 use Rattle.making_jobs.proofs.OldFiles.{not_rejected, not_unopened}
+use Rattle.outside_io.proofs.Rising.{rose_before}
 
 -- ---- before the old file was come to
 
@@ -64,7 +64,7 @@ fills_before head points tags IsText d0 d1 d2 out0 out1 status same later fills 
   done = λ tells is. fills.done (told tells) is;
   part = λ tells is. fills.part (told tells) is;
   unfilled = record {
-    disk = λ is. (rose_more d0.faults d1.faults d2.faults later (fills.unfilled.disk is).0, (fills.unfilled.disk is).1);
+    disk = λ is. (rose_before d0.faults d1.faults d2.faults later (fills.unfilled.disk is).0, (fills.unfilled.disk is).1);
     not_empty = λ is.
         let n = fills.unfilled.not_empty is in
         (n.0, n.1, λ tells. (let m = n.2 (told tells) in (m.0, subst (λ (b : List ℕ). 0 < length b) same.same_bytes m.1, then_unchanged d0 d1 d2 same m.2)));

@@ -1,5 +1,5 @@
 -- Files of the first version: how they are opened, audited and read.
-use Rattle.std.proofs.Common.{◌≡◌, ◌≢◌, ◌⊎◌, ⊎_elim, inl, inr, ℕ, ◌<◌, ◌≤◌, Bool, true, false, List, Option, Some, None, Result, Ok, Err, IfOk, IfErr, refl, sym, ap, ◌∙◌, subst, arith, length}
+use Rattle.std.proofs.Common.{◌≡◌, ◌≢◌, ◌⊎◌, ⊎_elim, inl, inr, ℕ, ◌≤◌, Bool, true, false, List, Option, Some, None, Result, Ok, Err, IfOk, IfErr, refl, sym, ap, ◌∙◌, subst, arith}
 use Rattle.std.specs.Prelude.{codes, IsTrue}
 use Rattle.std.specs.Io.KnownBytes.{Appends}
 use Rattle.outside_io.specs.Bytes.{AppendsPrefix}
@@ -16,7 +16,7 @@ use Rattle.node_page.specs.Laws.{FaultIsNotOpen, OneLiveSlot}
 use Rattle.node_page.specs.Opening.{OpensTo, open_fault}
 use Rattle.node_page.specs.Opening.Unopened.{Short, NoHead, Unfinished, TwoRoots, BadSlot}
 use Rattle.page_store.specs.declared.pages.PageFault.TheVariants as page
-use Rattle.page_store.specs.Answers.{within_by_test, reads_outside}
+use Rattle.page_store.proofs.Answers.{within_by_test, reads_outside}
 use Rattle.page_store.specs.Reading.{IsWithin, Read, is_within, nodes_of}
 use Rattle.shadow_root.specs.declared.faults.OpenFault.{OpenFault}
 use Rattle.shadow_root.specs.declared.faults.OpenFault.TheVariants as open_fault
@@ -29,7 +29,7 @@ use Rattle.page_store.specs.Shelf.{HoldsSame, Shelf}
 use Rattle.metric_laws.specs.Space.{Space}
 use Rattle.file_jobs.specs.Jobs.{IsPassing}
 use Rattle.file_jobs.specs.Lines.{not_index_text, rejected_text, unopened_name, unopened_text}
-use Rattle.making_jobs.specs.Filling.{space_of}
+use Rattle.file_jobs.specs.Spaces.{space_of}
 use Rattle.making_jobs.specs.Migrating.{HasOldFault, IsNoOldFile, IsOldFile, IsOldRejected, RefusesOld, old_fault, old_nodes, old_reading, renewed}
 use Rattle.making_jobs.specs.Ordering.{HasTakingCause}
 

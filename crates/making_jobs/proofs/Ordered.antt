@@ -1,5 +1,5 @@
 -- Objects that were put in order of id.
-use Rattle.std.proofs.Common.{◌≡◌, ◌≢◌, ℕ, suc, ◌+◌, ◌<◌, ◌≤◌, Bool, true, false, List, [], ◌∷◌, refl, sym, ap, ◌∙◌, subst, arith, length, inl, inr}
+use Rattle.std.proofs.Common.{◌≡◌, ℕ, suc, ◌+◌, ◌<◌, ◌≤◌, List, [], ◌∷◌, refl, sym, ap, ◌∙◌, subst, arith, length, inl, inr}
 use Rattle.std.specs.Prelude.{All, IfErr, IfOk, IsTrue, OnOk, Result, Ok, Err, ◌⊎◌, map, sum_by, ◌==◌, nat_lt, if◌then◌else◌}
 use Rattle.std.specs.List.{AllByRecursion}
 use Rattle.std.specs.List.Sorted.{IsNonDecreasingBy, IsPermutation}
@@ -15,7 +15,7 @@ use Rattle.tree_shape.specs.declared.entry.LeafEntry.{LeafEntry}
 use Rattle.tree_shape.specs.declared.live.Live.{Live}
 use Rattle.tree_shape.specs.Tree.{Nodes, IsSoundTree, objects, point_of, points_by_id, points_from, tag_of, tags_by_id, tags_from, times}
 use Rattle.tree_shape.proofs.ById.{ids_of, object_of, point_of-in, times-in}
-use Rattle.tree_shape.proofs.Counting.{counted, each_once_back, times-cons_le}
+use Rattle.tree_shape.proofs.Counting.{each_once_back}
 use Rattle.page_store.proofs.Ids.{tag_of-in}
 use Rattle.tree_audit.specs.declared.faults.AuditFault.{AuditFault}
 use Rattle.tree_audit.specs.declared.faults.AuditFault.TheVariants as audit

@@ -1,5 +1,5 @@
 -- The walk that collects the objects of a tree.
-use Rattle.std.proofs.Common.{◌≡◌, ℕ, zero, suc, ◌+◌, ◌<◌, ◌≤◌, false, List, [], ◌∷◌, ◌++◌, refl, sym, ap, ◌∙◌, arith, length, length-append, append_assoc, subst, Option, Some, None, Err}
+use Rattle.std.proofs.Common.{◌≡◌, ℕ, zero, suc, ◌+◌, ◌<◌, ◌≤◌, List, [], ◌∷◌, ◌++◌, refl, sym, ap, ◌∙◌, arith, length, length-append, append_assoc, subst, Option, Some, None, Err}
 use Rattle.std.specs.Prelude.{IsTrue, map}
 use Rattle.std.specs.List.{AllByRecursion, flat_map}
 use Rattle.std.proofs.lemmas.List.{append-nil}
@@ -20,6 +20,7 @@ use Rattle.page_store.specs.Reading.{Read, nodes_of, node_or_none}
 use Rattle.page_store.specs.Shelf.{Shelf, HoldsSame, IsNodeOf, HasPageCause, IsPassing}
 use Rattle.log_model.proofs.Walk.{same_node}
 use Rattle.making_jobs.specs.Collecting.{IsOpened}
+use Rattle.page_store.proofs.Held.{holds_both, told_then}
 
 -- a page that is still to come, in a sound tree
 record Spot : Type 0 where
@@ -165,19 +166,6 @@ module _ (s : Space) (nodes : Nodes) (t : Live) where
 
 -- ---- one step of the walk
 
-same_trans : (a b c : Shelf) → HoldsSame a b → HoldsSame b c → HoldsSame a c
-same_trans a b c first second = record {
-  dim = second.dim ∙ first.dim;
-  pages = second.pages ∙ first.pages;
-  tells = second.tells ∙ first.tells;
-  read = second.read ∙ first.read;
-  faults = omega (arith, first.faults, second.faults);
-}
-
-told_then : (old now : Shelf) (page : ℕ) (node : Node) → HoldsSame old now → IsNodeOf now page node → IsTrue old.tells → nodes_of old.read page ≡ Some node
-told_then old now page node holds is tells =
-    ap (λ (r : Read). node_or_none (r page)) (sym holds.read) ∙ ap node_or_none (is.told (rw holds.tells tells))
-
 module _ (old : Shelf) (t : Live) where
   pub begins : IsCollecting old old t [] 0 (t.root ∷ [])
   begins = record {
@@ -188,7 +176,7 @@ module _ (old : Shelf) (t : Live) where
   module _ (now : Shelf) (found : List LeafEntry) (opened page : ℕ) (rest : List ℕ) (before : IsCollecting old now t found opened (page ∷ rest)) where
     pub goes_on : (new : Shelf) (found' : List LeafEntry) (coming : List ℕ) → HoldsSame now new → IsOpened now page found found' rest coming → IsCollecting old new t found' (opened + 1) coming
     goes_on new found' coming same was = record {
-      same = same_trans old now new before.same same;
+      same = holds_both old now new before.same same;
       front = λ tells s sound.
           subst (λ (c : List ℕ). AreFront s (nodes_of old.read) t found' (opened + 1) c) (sym was.coming_are)
           (subst (λ (f : List LeafEntry). AreFront s (nodes_of old.read) t f (opened + 1) (children (Some was.node) ++ rest)) (sym was.found_are)

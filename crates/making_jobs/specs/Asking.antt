@@ -11,7 +11,7 @@ use Rattle.page_store.specs.declared.pages.PageFault.{PageFault}
 use Rattle.page_store.specs.declared.pages.PageFault.TheVariants as page
 use Rattle.index_core.specs.declared.faults.IndexFault.{IndexFault}
 use Rattle.index_core.specs.declared.faults.IndexFault.TheVariants as index
-use Rattle.index_core.specs.Causes.{IsDamage}
+use Rattle.page_store.specs.Shelf.{IsDamage}
 use Rattle.making_jobs.specs.declared.asking.Asked.{Asked}
 use Rattle.making_jobs.specs.declared.asking.Tally.{Tally}
 

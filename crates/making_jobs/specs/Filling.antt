@@ -14,17 +14,14 @@ use Rattle.page_store.specs.declared.pages.PageFault.TheVariants as page
 use Rattle.shadow_root.specs.declared.faults.OpenFault.TheVariants as open_fault
 use Rattle.index_core.specs.declared.faults.IndexFault.{IndexFault}
 use Rattle.index_core.specs.declared.faults.IndexFault.TheVariants as index
-use Rattle.index_core.specs.Causes.{IsDamage}
+use Rattle.page_store.specs.Shelf.{IsDamage}
 use Rattle.index_core.specs.Files.{nodes_on}
 use Rattle.index_core.specs.Index.{OpenIndex}
 use Rattle.index_core.specs.Writing.{HasObjects, HoldsObjects}
 use Rattle.file_jobs.specs.Lines.{damaged_text, not_index_text}
 use Rattle.making_jobs.specs.declared.filling.FillFault.{FillFault}
 use Rattle.making_jobs.specs.declared.filling.FillFault.TheVariants as fill
-
--- the space of a head
-abbrev pub space_of : Head → Space
-space_of head = mix_space head.kind head.dim
+use Rattle.file_jobs.specs.Spaces.{space_of}
 
 -- the file is a sound index of this head, with no object or with all of these
 abbrev pub HoldsNoneOrAll : Head → List (List ℕ) → List ℕ → List ℕ → Type 0

@@ -17,7 +17,8 @@ use Rattle.shadow_root.specs.Placements.{IsFileOf}
 use Rattle.rows_text.specs.Texts.{counted}
 use Rattle.file_jobs.specs.Lines.{damaged_text, not_index_text}
 use Rattle.making_jobs.specs.Asking.{hits_of}
-use Rattle.making_jobs.specs.Filling.{HoldsNoneOrAll, space_of}
+use Rattle.file_jobs.specs.Spaces.{space_of}
+use Rattle.making_jobs.specs.Filling.{HoldsNoneOrAll}
 use Rattle.making_jobs.specs.Generator.{generated_rows}
 use Rattle.making_jobs.specs.declared.generating.Generation.{Generation}
 
@@ -40,14 +41,16 @@ pub record IsFilledSince (head : Head) (points : List (List ℕ)) (tags : List �
 -- damaged, which comes only on a disk that does not tell its bytes.
 pub record IsUnfilled (head : Head) (points : List (List ℕ)) (tags : List ℕ) (disk0 disk1 : DiskState) (out0 out1 : SinkState) (status : ℕ) : Type 0 where
   pub disk : status ≡ 5 → Rose disk0.faults disk1.faults × Tells out0 out1 (codes "fault disk\n")
-  pub not_empty : status ≡ 6 → (name : List ℕ) × Tells out0 out1 (not_index_text name) × (IsTrue disk0.tells → (name ≡ codes "notempty") × (0 < length disk0.bytes) × IsUnchanged disk0 disk1)
+  pub not_empty : status ≡ 6 → (name : List ℕ) × Tells out0 out1 (not_index_text name)
+      × (IsTrue disk0.tells → (name ≡ codes "notempty") × (0 < length disk0.bytes) × IsUnchanged disk0 disk1)
   pub memory : status ≡ 8 → Tells out0 out1 (codes "fault memory\n")
   pub damaged : status ≡ 9 → (IsTrue disk0.tells → ⊥) × (fault : PageFault) × Tells out0 out1 (damaged_text fault)
   -- what a crash leaves; where the disk failed it may have been while the index was made
   pub left : IsTrue disk0.tells → status ≢ 5 → IsUnchanged disk0 disk1 ⊎ IsFilledSince head points tags disk1
 
 -- What a job does that makes an index of this head in an empty file, fills it with these objects, and then writes a text of the file.
-pub record Fills (head : Head) (points : List (List ℕ)) (tags : List ℕ) (IsText : List ℕ → List ℕ → Type 0) (disk0 disk1 : DiskState) (out0 out1 : SinkState) (status : ℕ) : Type 0 where
+pub record Fills (head : Head) (points : List (List ℕ)) (tags : List ℕ) (IsText : List ℕ → List ℕ →
+    Type 0) (disk0 disk1 : DiskState) (out0 out1 : SinkState) (status : ℕ) : Type 0 where
   pub filled : IsTrue disk0.tells → (status ≡ 0) ⊎ (status ≡ 4) → (length disk0.bytes ≡ 0) × IsFull head points tags disk1.bytes × LeavesOnly disk1 disk1.bytes
   pub done : IsTrue disk0.tells → status ≡ 0 → (text : List ℕ) × IsText disk1.bytes text × Appends out0.written out1.written text
   pub part : IsTrue disk0.tells → status ≡ 4 → (text : List ℕ) × IsText disk1.bytes text × AppendsPrefix out0.written out1.written text
@@ -65,14 +68,16 @@ ids_of asked = range_with_len 0 asked.count
 -- the lines on a generated index with so many objects and nodes and of this height, and on the eight queries
 abbrev pub summary : ℕ → ℕ → ℕ → ℕ → ℕ → List ℕ
 summary objects nodes height hits accepted =
-    counted (codes "objects ") objects ++ counted (codes "nodes ") nodes ++ counted (codes "height ") height ++ codes "queries 8\n" ++ counted (codes "hits ") hits ++ counted (codes "accepted ") accepted
+    counted (codes "objects ") objects ++ counted (codes "nodes ") nodes ++ counted (codes "height ") height ++ codes "queries 8\n"
+    ++ counted (codes "hits ") hits ++ counted (codes "accepted ") accepted
 
 -- The lines on the file: as many objects as were asked for, the nodes and the height of its tree, as many hits as the plain scan of the
 -- rows has, and every log accepted.
 pub record IsSummary (asked : Generation) (file text : List ℕ) : Type 0 where
   pub live : Live
   pub is : IsFileOf (space_of asked.head) asked.head live (points_of asked) (ids_of asked) file
-  pub text_is : text ≡ summary asked.count (length (tree_lines (nodes_in asked.head.dim live file) live)) live.height (hits_of (space_of asked.head) (points_of asked) 8) 8
+  pub text_is : text ≡ summary asked.count (length (tree_lines (nodes_in asked.head.dim live file) live)) live.height
+      (hits_of (space_of asked.head) (points_of asked) 8) 8
 
 abbrev pub Generates : Generation → DiskState → DiskState → SinkState → SinkState → ℕ → Type 0
 Generates asked = Fills asked.head (points_of asked) (ids_of asked) (IsSummary asked)

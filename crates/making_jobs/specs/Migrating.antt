@@ -17,7 +17,7 @@ use Rattle.page_store.specs.declared.pages.PageFault.TheVariants as page
 use Rattle.tree_audit.specs.Audited.{audit_fault}
 use Rattle.rows_text.specs.Texts.{counted}
 use Rattle.file_jobs.specs.Lines.{not_index_text, rejected_text, unopened_name}
-use Rattle.making_jobs.specs.Filling.{space_of}
+use Rattle.file_jobs.specs.Spaces.{space_of}
 use Rattle.making_jobs.specs.Jobs.{Fills, IsFillStatus}
 
 -- ---- files of the first version
@@ -86,8 +86,10 @@ pub record RefusesNew (new0 new1 : DiskState) (out0 out1 : SinkState) (status : 
 -- The old file was refused. Status 1: it is not sound, and its first fault was written, or at status 4 a front of that line; 5: its disk
 -- failed; 6: it does not open, or is of the second version; 8: memory ran out.
 pub record RefusesOld (old0 old1 : DiskState) (out0 out1 : SinkState) (status : ℕ) : Type 0 where
-  pub rejected : status ≡ 1 → (fault : AuditFault) × Appends out0.written out1.written (rejected_text fault) × (IsTrue old0.tells → IsOldRejected old0.bytes fault)
-  pub part : status ≡ 4 → (fault : AuditFault) × AppendsPrefix out0.written out1.written (rejected_text fault) × (IsTrue old0.tells → IsOldRejected old0.bytes fault)
+  pub rejected : status ≡ 1 → (fault : AuditFault) × Appends out0.written out1.written (rejected_text fault)
+      × (IsTrue old0.tells → IsOldRejected old0.bytes fault)
+  pub part : status ≡ 4 → (fault : AuditFault) × AppendsPrefix out0.written out1.written (rejected_text fault)
+      × (IsTrue old0.tells → IsOldRejected old0.bytes fault)
   pub disk : status ≡ 5 → Rose old0.faults old1.faults × Tells out0 out1 (codes "fault disk\n")
   pub not_old : status ≡ 6 → (name : List ℕ) × Tells out0 out1 (not_index_text name) × (IsTrue old0.tells → IsNoOldFile old0.bytes name)
   pub memory : status ≡ 8 → Tells out0 out1 (codes "fault memory\n")
@@ -117,5 +119,6 @@ IsMigrateStatus n = (n ≡ 0) ⊎ ((n ≡ 1) ⊎ ((n ≡ 4) ⊎ ((n ≡ 5) ⊎ (
 -- of an empty file and a sound one of the first version nothing is refused
 abbrev pub RefusesNothing : DiskState → DiskState → ℕ → Type 0
 RefusesNothing new0 old0 status =
-    IsTrue new0.tells → IsTrue old0.tells → length new0.bytes ≡ 0 → (head : Head) (points : List (List ℕ)) (tags : List ℕ) → IsOldFile head points tags old0.bytes →
+    IsTrue new0.tells → IsTrue old0.tells → length new0.bytes ≡ 0 → (head : Head) (points : List (List ℕ)) (tags : List ℕ) →
+    IsOldFile head points tags old0.bytes →
     (status ≢ 1) × (status ≢ 6) × (status ≢ 9)

@@ -94,7 +94,9 @@ fn is_accepted<M: Metric, D: Disk>(
     requires lawful { IsLawfulLog log.now }
     ensures same { IsUnchanged (D.state disk.old) (D.state disk.new) }
     ensures later { (D.state disk.old).faults ≤ (D.state disk.new).faults }
-    ensures sound { IfOk result (λ accepted. IsTrue (D.state disk.old).tells → IsSoundLog (M.space metric) (nodes_of (reading dim live.now.pages (D.state disk.old).bytes)) live.now log.now → accepted ≡ true) }
+    ensures sound { IfOk result (λ accepted. IsTrue (D.state disk.old).tells →
+        IsSoundLog (M.space metric) (nodes_of (reading dim live.now.pages (D.state disk.old).bytes)) live.now log.now →
+        accepted ≡ true) }
     ensures cause { IfErr result (HasAskCause ⊥ (D.state disk.old) (D.state disk.new)) }
     ensures passing { IfErr result IsPassing }
 {
@@ -125,7 +127,8 @@ fn ask<M: Metric, D: Disk>(
     ensures few { IfOk result (λ asked. asked.hits < 2 ^ 32) }
     ensures answered { IsSoundOn (M.space index.old.file.metric) index.old.file (D.state disk.old) →
         IfOk result (IsAnswered (M.space index.old.file.metric) (query_at t q.now) (points_on index.old.file (D.state disk.old))) }
-    ensures cause { IfErr result (HasAskCause (IsSoundOn (M.space index.old.file.metric) index.old.file (D.state disk.old)) (D.state disk.old) (D.state disk.new)) }
+    ensures cause { IfErr result (HasAskCause (IsSoundOn (M.space index.old.file.metric) index.old.file (D.state disk.old))
+        (D.state disk.old) (D.state disk.new)) }
 {
     index.is_lawful();
     least_logs_are_sound();
@@ -166,9 +169,11 @@ pub fn ask_all<M: Metric, D: Disk>(
     ensures stands { MayGoOn index.new (D.state disk.new) }
     ensures reads { OnlyReads index.old.file index.new.file (D.state disk.old) (D.state disk.new) }
     ensures rest { index.new ≡ record index.old { file = index.new.file } }
-    ensures tallied { IsSoundOn (M.space index.old.file.metric) index.old.file (D.state disk.old) → points_on index.old.file (D.state disk.old) ≡ rows.now.points →
+    ensures tallied { IsSoundOn (M.space index.old.file.metric) index.old.file (D.state disk.old) →
+        points_on index.old.file (D.state disk.old) ≡ rows.now.points →
         IfOk result (IsTally (M.space index.old.file.metric) rows.now.points) }
-    ensures cause { IfErr result (HasAskCause (IsSoundOn (M.space index.old.file.metric) index.old.file (D.state disk.old)) (D.state disk.old) (D.state disk.new)) }
+    ensures cause { IfErr result (HasAskCause (IsSoundOn (M.space index.old.file.metric) index.old.file (D.state disk.old))
+        (D.state disk.old) (D.state disk.new)) }
 {
     let mut tally = Tally {
         hits: 0,

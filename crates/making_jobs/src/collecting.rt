@@ -68,7 +68,8 @@ pub fn collect<P: Pages>(
     ensures found { IfOk result (λ found. IsTrue (P.shelf pages.old).tells → (s : Space) → IsSoundTree s (nodes_of (P.shelf pages.old).read) live.now →
         found.items ≡ objects (nodes_of (P.shelf pages.old).read) live.now) }
     ensures disk { IfErr result (λ fault. fault ≡ PageFault.Disk → Rose (P.shelf pages.old).faults (P.shelf pages.new).faults) }
-    ensures sound { IfErr result (λ fault. IsTrue (P.shelf pages.old).tells → (s : Space) → IsSoundTree s (nodes_of (P.shelf pages.old).read) live.now → IsPassing fault) }
+    ensures sound { IfErr result (λ fault. IsTrue (P.shelf pages.old).tells → (s : Space) →
+        IsSoundTree s (nodes_of (P.shelf pages.old).read) live.now → IsPassing fault) }
 {
     let mut found = Vec::new(alloc);
     let Ok(mut coming) = vec![in alloc; live.root] else {

@@ -5,7 +5,8 @@ ghost use Rattle.metric_mix.specs.MixKinds.{mix_kind, mix_dim};
 ghost use Rattle.node_page.specs.Heads.{IsLawfulHead};
 ghost use Rattle.shadow_root.specs.Making.{IsMade, first_live};
 ghost use Rattle.index_core.specs.Index.{MayGoOn};
-ghost use Rattle.making_jobs.specs.Filling.{HasFillCause, HoldsNoneOrAll, IsFilled, fault_of, space_of};
+ghost use Rattle.file_jobs.specs.Spaces.{space_of};
+ghost use Rattle.making_jobs.specs.Filling.{HasFillCause, HoldsNoneOrAll, IsFilled, fault_of};
 
 use disk_model::Disk;
 use file_jobs::laws::heads_have_spaces;
@@ -99,7 +100,8 @@ pub fn fill<R: Threads + Sync, D: Disk>(
     ensures head { IfOk result (λ index. index.file.head ≡ head.now) }
     ensures kind { IfOk result (λ index. mix_kind index.file.metric ≡ head.now.kind) }
     ensures dim { IfOk result (λ index. mix_dim index.file.metric ≡ head.now.dim) }
-    ensures moments { IsTrue (D.state disk.old).tells → EachImage (D.state disk.old) (D.state disk.new) (HoldsNoneOrAll head.now objects.now.rows.points objects.now.tags.items) }
+    ensures moments { IsTrue (D.state disk.old).tells →
+        EachImage (D.state disk.old) (D.state disk.new) (HoldsNoneOrAll head.now objects.now.rows.points objects.now.tags.items) }
     ensures cause { IfErr result (HasFillCause (D.state disk.old) (D.state disk.new)) }
     ensures tells { (D.state disk.new).tells ≡ (D.state disk.old).tells }
     ensures later { (D.state disk.old).faults ≤ (D.state disk.new).faults }

@@ -10,7 +10,8 @@ ghost use Rattle.index_core.specs.Answers.{IsSoundOn, points_on};
 ghost use Rattle.index_core.specs.Files.{OnlyReads, nodes_on};
 ghost use Rattle.index_core.specs.Index.{MayGoOn};
 ghost use Rattle.making_jobs.specs.Asking.{HasAskCause, hits_of};
-ghost use Rattle.making_jobs.specs.Filling.{EndsUnfilled, IsFilled, space_of};
+ghost use Rattle.file_jobs.specs.Spaces.{space_of};
+ghost use Rattle.making_jobs.specs.Filling.{EndsUnfilled, IsFilled};
 ghost use Rattle.making_jobs.specs.Generator.{generated_rows};
 ghost use Rattle.making_jobs.specs.Jobs.{Generates, IsFillStatus, IsFilledSince, IsUnfilled, summary};
 
@@ -69,7 +70,8 @@ pub fn make_filled<R: Threads + Sync, D: Disk, K: Sink>(
     requires few { length objects.now.rows.points ≤ head.now.limit }
     requires tags { length objects.now.tags.items ≡ length objects.now.rows.points }
     ensures empty { OnOk result (IsTrue (D.state disk.old).tells → length (D.state disk.old).bytes ≡ 0) }
-    ensures filled { IfOk result (λ index. IsTrue (D.state disk.old).tells → IsFilled head.now objects.now.rows.points objects.now.tags.items (D.state disk.new) index) }
+    ensures filled { IfOk result (λ index. IsTrue (D.state disk.old).tells →
+        IsFilled head.now objects.now.rows.points objects.now.tags.items (D.state disk.new) index) }
     ensures since { OnOk result (IsTrue (D.state disk.old).tells → IsFilledSince head.now objects.now.rows.points objects.now.tags.items (D.state disk.new)) }
     ensures going { IfOk result (λ index. index.stopped ≡ false) }
     ensures stands { IfOk result (λ index. MayGoOn index (D.state disk.new)) }
@@ -77,7 +79,9 @@ pub fn make_filled<R: Threads + Sync, D: Disk, K: Sink>(
     ensures kind { IfOk result (λ index. mix_kind index.file.metric ≡ head.now.kind) }
     ensures dim { IfOk result (λ index. mix_dim index.file.metric ≡ head.now.dim) }
     ensures silent { OnOk result (out.new ≡ out.old) }
-    ensures unfilled { IfErr result (λ status. IsUnfilled head.now objects.now.rows.points objects.now.tags.items (D.state disk.old) (D.state disk.new) (K.state out.old) (K.state out.new) status.0) }
+    ensures unfilled { IfErr result (λ status.
+        IsUnfilled head.now objects.now.rows.points objects.now.tags.items (D.state disk.old) (D.state disk.new) (K.state out.old)
+        (K.state out.new) status.0) }
     ensures statuses { IfErr result (λ status. (status.0 ≡ 5) ⊎ ((status.0 ≡ 6) ⊎ ((status.0 ≡ 8) ⊎ (status.0 ≡ 9)))) }
     ensures tells { (D.state disk.new).tells ≡ (D.state disk.old).tells }
     ensures later { (D.state disk.old).faults ≤ (D.state disk.new).faults }
@@ -130,9 +134,11 @@ fn summary_of<M: Metric, D: Disk>(
     requires fits { All (λ p. IsTrue ((M.space index.old.file.metric).fits p)) rows.now.points }
     ensures reads { OnlyReads index.old.file index.new.file (D.state disk.old) (D.state disk.new) }
     ensures text { IsSoundOn (M.space index.old.file.metric) index.old.file (D.state disk.old) → points_on index.old.file (D.state disk.old) ≡ rows.now.points →
-        IfOk result (λ text. text.items ≡ summary index.old.file.live.count (length (tree_lines (nodes_on index.old.file (D.state disk.old)) index.old.file.live)) index.old.file.live.height
+        IfOk result (λ text. text.items ≡ summary index.old.file.live.count
+        (length (tree_lines (nodes_on index.old.file (D.state disk.old)) index.old.file.live)) index.old.file.live.height
         (hits_of (M.space index.old.file.metric) rows.now.points 8) 8) }
-    ensures cause { IfErr result (HasAskCause (IsSoundOn (M.space index.old.file.metric) index.old.file (D.state disk.old)) (D.state disk.old) (D.state disk.new)) }
+    ensures cause { IfErr result (HasAskCause (IsSoundOn (M.space index.old.file.metric) index.old.file (D.state disk.old))
+        (D.state disk.old) (D.state disk.new)) }
 {
     let tally = match ask_all(alloc, index, disk, rows) {
         Ok(tally) => tally,
@@ -175,7 +181,8 @@ fn ids(alloc: Global, count: u32) -> Result<Vec<u64>, Memory>
 
 // The generated rows; each row's tag is its number.
 fn generated_objects(alloc: Global, asked: &Generation) -> Result<Objects, Memory>
-    ensures rows { IfOk result (λ o. o.rows ≡ record { words = asked.now.head.dim; points = generated_rows asked.now.seed asked.now.head.dim asked.now.count }) }
+    ensures rows { IfOk result (λ o.
+        o.rows ≡ record { words = asked.now.head.dim; points = generated_rows asked.now.seed asked.now.head.dim asked.now.count }) }
     ensures tags { IfOk result (λ o. o.tags.items ≡ range_with_len 0 asked.now.count) }
 {
     let rows = generated_rows(alloc, asked.seed, asked.head.dim, asked.count)?;

@@ -12,7 +12,7 @@ ghost use Rattle.page_store.specs.Reading.{nodes_of};
 ghost use Rattle.page_store.specs.Shelf.{HoldsSame};
 ghost use Rattle.tree_audit.specs.Audited.{audit_fault};
 ghost use Rattle.tree_audit.specs.Laws.{HasNodesWithin};
-ghost use Rattle.making_jobs.specs.Filling.{space_of};
+ghost use Rattle.file_jobs.specs.Spaces.{space_of};
 ghost use Rattle.making_jobs.specs.Jobs.{Fills, IsFillStatus};
 ghost use Rattle.making_jobs.specs.Migrating.{HasOldFault, IsMigrateStatus, IsOldFile, Migrates, RefusesNew, RefusesNothing, RefusesOld, migrated_text, old_fault, old_nodes, renewed};
 
@@ -98,7 +98,8 @@ fn audited<P: Pages, M: Metric>(
     ensures sound { OnOk result (IsTrue (P.shelf pages.old).tells → IsSoundTree (M.space metric) (nodes_of (P.shelf pages.old).read) live.now) }
     ensures points { IfOk result (λ o. IsTrue (P.shelf pages.old).tells → o.rows.points ≡ points_by_id (nodes_of (P.shelf pages.old).read) live.now) }
     ensures tags { IfOk result (λ o. IsTrue (P.shelf pages.old).tells → o.tags.items ≡ tags_by_id (nodes_of (P.shelf pages.old).read) live.now) }
-    ensures fault { IfErr result (HasOldFault (P.shelf pages.old).tells (P.shelf pages.old).faults (P.shelf pages.new).faults (audit_fault (M.space metric) (P.shelf pages.old).read live.now)) }
+    ensures fault { IfErr result (HasOldFault (P.shelf pages.old).tells (P.shelf pages.old).faults (P.shelf pages.new).faults
+        (audit_fault (M.space metric) (P.shelf pages.old).read live.now)) }
 {
     audit_faults_are_unsoundness();
     let mut ruler = Meter::new(metric);
@@ -121,10 +122,14 @@ fn audited_objects<D: Disk>(
     ensures fits { IfOk result (λ o. All (λ p. IsTrue ((space_of head.now).fits p)) o.rows.points) }
     ensures count { IfOk result (λ o. length o.rows.points ≡ live.now.count) }
     ensures tag_count { IfOk result (λ o. length o.tags.items ≡ length o.rows.points) }
-    ensures sound { OnOk result (IsTrue (D.state disk.old).tells → IsSoundTree (space_of head.now) (old_nodes head.now live.now (D.state disk.old).bytes) live.now) }
-    ensures points { IfOk result (λ o. IsTrue (D.state disk.old).tells → o.rows.points ≡ points_by_id (old_nodes head.now live.now (D.state disk.old).bytes) live.now) }
-    ensures tags { IfOk result (λ o. IsTrue (D.state disk.old).tells → o.tags.items ≡ tags_by_id (old_nodes head.now live.now (D.state disk.old).bytes) live.now) }
-    ensures fault { IfErr result (HasOldFault (D.state disk.old).tells (D.state disk.old).faults (D.state disk.new).faults (old_fault head.now live.now (D.state disk.old).bytes)) }
+    ensures sound { OnOk result (IsTrue (D.state disk.old).tells →
+        IsSoundTree (space_of head.now) (old_nodes head.now live.now (D.state disk.old).bytes) live.now) }
+    ensures points { IfOk result (λ o. IsTrue (D.state disk.old).tells →
+        o.rows.points ≡ points_by_id (old_nodes head.now live.now (D.state disk.old).bytes) live.now) }
+    ensures tags { IfOk result (λ o. IsTrue (D.state disk.old).tells →
+        o.tags.items ≡ tags_by_id (old_nodes head.now live.now (D.state disk.old).bytes) live.now) }
+    ensures fault { IfErr result (HasOldFault (D.state disk.old).tells (D.state disk.old).faults (D.state disk.new).faults
+        (old_fault head.now live.now (D.state disk.old).bytes)) }
     ensures later { (D.state disk.old).faults ≤ (D.state disk.new).faults }
 {
     let mut pages = DiskPages::old(disk, head.dim, live.pages);

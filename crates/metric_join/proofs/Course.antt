@@ -1,35 +1,17 @@
 -- The steps of the walk through a whole tree.
-use Rattle.std.proofs.Common.{◌≡◌, ℕ, suc, ◌+◌, ◌<◌, ◌≤◌, List, [], ◌∷◌, ◌++◌, refl, sym, ap, subst, ◌∙◌, Some, Err, arith, length, length-append, reverse}
-use Rattle.std.specs.Prelude.{IsTrue, false}
-use Rattle.metric_laws.specs.Counts.{next_count}
+use Rattle.std.proofs.Common.{◌≡◌, ℕ, suc, ◌+◌, ◌<◌, ◌≤◌, List, [], ◌∷◌, ◌++◌, refl, sym, ap, subst, ◌∙◌, arith, length, length-append, reverse}
+use Rattle.std.specs.Prelude.{IsTrue}
+use Rattle.metric_laws.specs.Counts.{next_count, count_up}
 use Rattle.tree_shape.specs.declared.live.Live.{Live}
-use Rattle.tree_shape.specs.declared.entry.Node.{Node}
 use Rattle.page_store.specs.declared.pages.PageFault.{PageFault}
-use Rattle.page_store.specs.declared.pages.PageFault.TheVariants.{Disk, Bad, Outside, Memory, Repeats, Level}
-use Rattle.page_store.specs.Reading.{Read, nodes_of, node_or_none, IsWithin, is_within}
-use Rattle.page_store.specs.Shelf.{Shelf, HoldsSame, IsNodeOf, HasPageCause}
-use Rattle.log_model.specs.Counts.{count_up}
+use Rattle.page_store.specs.declared.pages.PageFault.TheVariants.{Repeats}
+use Rattle.page_store.specs.Reading.{nodes_of}
+use Rattle.page_store.specs.Shelf.{Shelf, HoldsSame, HasPageCause}
+use Rattle.page_store.specs.Tours.{Tours, IsToured, Names, OpensPage, HasTourCause}
+use Rattle.page_store.proofs.Touring.{tours_more, page_stops}
 use Rattle.log_model.proofs.Reached.{count_up_more}
-use Rattle.metric_join.specs.Tours.{Tours, IsToured, Names, OpensPage}
-use Rattle.metric_join.specs.Joined.{IsWalked, HasTourCause}
-use Rattle.metric_join.proofs.Tours.{tours_more}
-
-pub same_trans : (a b c : Shelf) → HoldsSame a b → HoldsSame b c → HoldsSame a c
-same_trans a b c h k = record {
-  dim = k.dim ∙ h.dim;
-  pages = k.pages ∙ h.pages;
-  tells = k.tells ∙ h.tells;
-  read = k.read ∙ h.read;
-  faults = (let x = h.faults in let y = k.faults in omega arith);
-}
-
-pub same_refl : (a : Shelf) → HoldsSame a a
-same_refl a = record { dim = refl; pages = refl; tells = refl; read = refl; faults = (omega arith) }
-
--- what the pages held at the start is what they hold
-pub told_then : (old now : Shelf) (page : ℕ) (node : Node) → HoldsSame old now → IsNodeOf now page node → IsTrue old.tells → nodes_of old.read page ≡ Some node
-told_then old now page node holds is tells =
-    ap (λ (r : Read). node_or_none (r page)) (sym holds.read) ∙ ap node_or_none (is.told (rw holds.tells tells))
+use Rattle.metric_join.specs.Joined.{IsWalked}
+use Rattle.page_store.proofs.Held.{holds_both, holds_none, told_then}
 
 -- the walk has opened so many pages, and has these still to open
 pub record IsTouring (live : Live) (old now : Shelf) (opened : ℕ) (left : List ℕ) : Type 0 where
@@ -39,7 +21,7 @@ pub record IsTouring (live : Live) (old now : Shelf) (opened : ℕ) (left : List
   pub walk : IsTrue old.tells → (os : List ℕ) × Tours (nodes_of old.read) (live.root ∷ []) os left × (length os ≡ opened)
 
 pub tour_begins : (live : Live) (old : Shelf) (stack : List ℕ) → stack ≡ live.root ∷ [] → IsTouring live old old 0 (reverse stack)
-tour_begins live old stack one = rw one (record { holds = same_refl old; asked = refl; low = omega arith; walk = λ tells. ([], refl, refl) })
+tour_begins live old stack one = rw one (record { holds = holds_none old; asked = refl; low = omega arith; walk = λ tells. ([], refl, refl) })
 
 module _ (live : Live) (old now : Shelf) (opened page : ℕ) (rest stack : List ℕ) (top : stack ≡ page ∷ rest) (way : IsTouring live old now opened stack) where
   on_top : (IsTrue old.tells) → (os : List ℕ) × Tours (nodes_of old.read) (live.root ∷ []) os (page ∷ rest) × (length os ≡ opened)
@@ -49,7 +31,7 @@ module _ (live : Live) (old now : Shelf) (opened page : ℕ) (rest stack : List 
 
   pub tour_step : (next : Shelf) (opened2 : ℕ) (stack2 : List ℕ) → opened < live.pages → opened2 ≡ opened + 1 → HoldsSame now next → OpensPage now next page rest stack2 → IsTouring live old next opened2 stack2
   tour_step next opened2 stack2 low more same opens = record {
-    holds = same_trans old now next way.holds same;
+    holds = holds_both old now next way.holds same;
     asked = opens.asked ∙ ap next_count way.asked ∙ count_up_more old.asked opened ∙ ap (count_up old.asked) (let e : suc opened ≡ opened2 = omega (arith, more) in e);
     low = omega (arith, more, low);
     walk = λ tells.
@@ -61,41 +43,19 @@ module _ (live : Live) (old now : Shelf) (opened page : ℕ) (rest stack : List 
         );
   }
 
-  names_here : (there : ℕ) → page ≡ there → IsTrue old.tells → Names (nodes_of old.read) live.root opened there
-  names_here there is tells =
+  names_here : IsTrue old.tells → Names (nodes_of old.read) live.root opened page
+  names_here tells =
       let w = on_top tells in
-      record { before = w.0; rest = rest; walk = subst (λ (p : ℕ). Tours (nodes_of old.read) (live.root ∷ []) w.0 (p ∷ rest)) is w.1; count = w.2 }
+      record { before = w.0; rest = rest; walk = w.1; count = w.2 }
 
   pub tour_cause : (next : Shelf) (fault : PageFault) → opened < live.pages → HasPageCause now next page fault → HasTourCause live old next fault
-  tour_cause next Disk low cause = (let l = way.holds.faults in let c = cause in omega arith)
-  tour_cause next (Bad p fault) low cause = (
-    cause.1,
-    subst (λ (n : ℕ). IsWithin n p) way.holds.pages (subst (λ (k : ℕ). IsWithin now.pages k) (sym cause.0) cause.2),
-    λ tells. (
-      subst (λ (k : ℕ). old.read k ≡ Err (Bad p fault)) (sym cause.0)
-          (subst (λ (k : ℕ). old.read page ≡ Err (Bad k fault)) (sym cause.0)
-          (ap (λ (r : Read). r page) (sym way.holds.read) ∙ cause.3 (rw way.holds.tells tells))),
-      (opened, low, names_here p (sym cause.0) tells),
-    ),
-  )
-  tour_cause next (Outside p) low cause = (
-    subst (λ (n : ℕ). is_within n p ≡ false) way.holds.pages (subst (λ (k : ℕ). is_within now.pages k ≡ false) (sym cause.0) cause.1),
-    λ tells. (
-      subst (λ (k : ℕ). old.read k ≡ Err (Outside p)) (sym cause.0)
-          (subst (λ (k : ℕ). old.read page ≡ Err (Outside k)) (sym cause.0)
-          (ap (λ (r : Read). r page) (sym way.holds.read) ∙ cause.2 (rw way.holds.tells tells))),
-      (opened, low, names_here p (sym cause.0) tells),
-    ),
-  )
-  tour_cause next Memory low cause = tt
-  tour_cause next (Repeats p) low cause = absurd cause
-  tour_cause next (Level p) low cause = absurd cause
+  tour_cause next fault low cause = page_stops live old now next opened page way.holds low names_here fault cause
 
   -- as many pages as there are were opened
   pub tour_repeats : opened ≡ live.pages → HasTourCause live old now (Repeats page)
   tour_repeats all = (
-    (opened, (omega (arith, all)), way.asked),
-    λ tells. subst (λ (n : ℕ). Names (nodes_of old.read) live.root n page) all (names_here page refl tells),
+    way.asked ∙ ap (count_up old.asked) all,
+    λ tells. subst (λ (n : ℕ). Names (nodes_of old.read) live.root n page) all (names_here tells),
   )
 
 -- nothing is left to open

@@ -1,5 +1,5 @@
 -- Where the walk of pairs begins, and what a whole one answers.
-use Rattle.std.proofs.Common.{◌≡◌, ℕ, ◌+◌, ◌<◌, ◌^◌, Bool, true, false, List, [], ◌∷◌, ◌++◌, refl, sym, ap, subst, ◌∙◌, None, Err, arith, length, min, reverse}
+use Rattle.std.proofs.Common.{◌≡◌, ℕ, ◌+◌, ◌<◌, ◌^◌, Bool, true, false, List, [], ◌∷◌, ◌++◌, refl, sym, ap, subst, ◌∙◌, inl, inr, arith, length, min, reverse}
 use Rattle.std.specs.Prelude.{IsTrue}
 use Rattle.std.proofs.lemmas.List.{append-nil}
 use Rattle.metric_laws.specs.Space.{Space, IsSpace, bound}
@@ -9,11 +9,12 @@ use Rattle.tree_shape.specs.declared.live.Live.{Live}
 use Rattle.tree_shape.specs.Tree.{Nodes, IsSoundTree, points_by_id}
 use Rattle.page_store.specs.declared.pages.PageFault.{PageFault}
 use Rattle.page_store.specs.declared.pages.PageFault.TheVariants as pages
-use Rattle.page_store.specs.Reading.{Read, nodes_of, node_or_none, IsWithin, is_within}
+use Rattle.page_store.specs.Reading.{Read, nodes_of, IsWithin, is_within}
 use Rattle.page_store.specs.Shelf.{Shelf, HoldsSame}
 use Rattle.log_model.specs.declared.logs.Joined.{Joined}
 use Rattle.log_model.specs.declared.marks.JoinRecord.{JoinRecord}
-use Rattle.log_model.specs.Counts.{count_up, CountsUpTo, join_measured}
+use Rattle.metric_laws.specs.Counts.{count_up, CountsUpTo}
+use Rattle.log_model.specs.Counts.{join_measured}
 use Rattle.log_model.specs.InOrder.{in_order, pair_before}
 use Rattle.log_model.specs.JoinWalk.{JoinSearch, JoinLeast, JoinWalksBy}
 use Rattle.log_model.specs.SoundJoin.{root_pair, IsLeastJoinLog}
@@ -23,14 +24,15 @@ use Rattle.log_model.proofs.Reached.{count_up_both}
 use Rattle.log_model.proofs.JoinScan.{join_complete}
 use Rattle.log_model.proofs.JoinLeast.{join_least_sound}
 use Rattle.log_model.specs.JoinSteps.{search_within}
-use Rattle.metric_join.specs.Tours.{IsToured, Names}
-use Rattle.metric_join.specs.Joined.{IsJoinLogOf, IsJoined, IsWalked, HasSideCause, HasTourCause, HasJoinCause, IsPassing, opened_on, fault_of}
+use Rattle.page_store.specs.Tours.{IsToured, HasTourCause}
+use Rattle.page_store.proofs.SoundTour.{sound_names, tour_passes}
+use Rattle.metric_join.specs.Joined.{IsJoinLogOf, IsJoined, IsWalked, HasSideCause, HasJoinCause, IsPassing, opened_on, fault_of}
 use Rattle.metric_join.specs.declared.faults.JoinFault.{JoinFault}
 use Rattle.metric_join.specs.declared.faults.JoinFault.TheVariants as join
 use Rattle.metric_join.specs.declared.walking.Waiting.{Waiting}
 use Rattle.metric_join.specs.Steps.{IsUnderWay, HasSideStop, HasWalkCause}
-use Rattle.metric_join.proofs.Tours.{sound_names}
-use Rattle.metric_join.proofs.Course.{same_refl, toured_of}
+use Rattle.metric_join.proofs.Course.{toured_of}
+use Rattle.page_store.proofs.Held.{holds_none}
 
 -- pages that hold the same tell the same
 toured_then : (live : Live) (old now : Shelf) → HoldsSame old now → IsWalked live old now 0 → IsTrue now.tells → IsToured (nodes_of now.read) live
@@ -42,8 +44,8 @@ pub walk_begins : (j : JoinSearch) (l r : Live) (left0 left right0 right : Shelf
     records ≡ [] → hits ≡ [] → stack ≡ (record { need = root_pair l r; left_room = l.pages; right_room = r.pages }) ∷ [] →
     IsUnderWay j l r left left right right used used records hits (reverse stack)
 walk_begins j l r left0 left right0 right used records hits stack left_same right_same left_toured right_toured none no_hits one = rw (none, no_hits, one) (record {
-  left_holds = same_refl left;
-  right_holds = same_refl right;
+  left_holds = holds_none left;
+  right_holds = holds_none right;
   left_asked = refl;
   right_asked = refl;
   used_up = (0, omega arith, refl);
@@ -60,6 +62,16 @@ walk_begins j l r left0 left right0 right used records hits stack left_same righ
   );
   walk = λ told_left told_right rs hs walk. walk;
 })
+
+-- a side was asked further after the first walk
+walked_after : (live : Live) (old mid new : Shelf) (further : ℕ) → IsWalked live old mid 0 → new.asked ≡ count_up mid.asked further → IsWalked live old new further
+walked_after live old mid new further walked asked = record {
+  opened = walked.opened;
+  few = walked.few;
+  whole = walked.whole;
+  asked = asked ∙ ap (λ (u : ℕ). count_up u further) walked.asked ∙ count_up_both old.asked (walked.opened + 0) further
+      ∙ ap (λ (n : ℕ). count_up old.asked (n + further)) (let e : walked.opened + 0 ≡ walked.opened = omega arith in e);
+}
 
 module _ (s : Space) (l r : Live) (radius : ℕ) (left0 left1 left2 right0 right1 right2 : Shelf) (used used2 : ℕ) (records : List JoinRecord) (hits : List Pair)
     (left_same : HoldsSame left0 left1) (right_same : HoldsSame right0 right1)
@@ -102,15 +114,6 @@ module _ (s : Space) (l r : Live) (radius : ℕ) (left0 left1 left2 right0 right
           (subst (λ (hs : List Pair). JoinWalksBy JoinLeast (search_within s (min radius bound)) (nodes_of left1.read) (nodes_of right1.read) (root_pair l r ∷ []) (records ++ []) hs) (append-nil hits)
           (way.walk (rw left_same.tells told_left) (rw right_same.tells told_right) [] [] refl))
 
-  walked_after : (live : Live) (old mid new : Shelf) (further : ℕ) → IsWalked live old mid 0 → new.asked ≡ count_up mid.asked further → IsWalked live old new further
-  walked_after live old mid new further walked asked = record {
-    opened = walked.opened;
-    few = walked.few;
-    whole = walked.whole;
-    asked = asked ∙ ap (λ (u : ℕ). count_up u further) walked.asked ∙ count_up_both old.asked (walked.opened + 0) further
-        ∙ ap (λ (n : ℕ). count_up old.asked (n + further)) (let e : walked.opened + 0 ≡ walked.opened = omega arith in e);
-  }
-
   used_is : CountsUpTo used used2 (join_measured joined.log.records)
   used_is = rw records_are way.used_up
 
@@ -139,7 +142,7 @@ left_refused l r left0 left1 right pages.Disk cause = cause
 left_refused l r left0 left1 right (pages.Bad p f) cause = cause
 left_refused l r left0 left1 right (pages.Outside p) cause = cause
 left_refused l r left0 left1 right pages.Memory cause = tt
-left_refused l r left0 left1 right (pages.Repeats p) cause = cause
+left_refused l r left0 left1 right (pages.Repeats p) cause = (inl cause.0, cause.1)
 left_refused l r left0 left1 right (pages.Level p) cause = cause
 
 -- the first walk of the right tree is refused
@@ -148,7 +151,7 @@ right_refused l r left0 left1 right0 right1 pages.Disk walked cause = (cause, to
 right_refused l r left0 left1 right0 right1 (pages.Bad p f) walked cause = (cause, toured_of l left0 left1 0 walked)
 right_refused l r left0 left1 right0 right1 (pages.Outside p) walked cause = (cause, toured_of l left0 left1 0 walked)
 right_refused l r left0 left1 right0 right1 pages.Memory walked cause = tt
-right_refused l r left0 left1 right0 right1 (pages.Repeats p) walked cause = (cause, toured_of l left0 left1 0 walked)
+right_refused l r left0 left1 right0 right1 (pages.Repeats p) walked cause = ((inl cause.0, cause.1), toured_of l left0 left1 0 walked)
 right_refused l r left0 left1 right0 right1 (pages.Level p) walked cause = (cause, toured_of l left0 left1 0 walked)
 
 -- the walk of pairs is refused
@@ -158,10 +161,9 @@ side_refused live old mid new (pages.Bad p f) holds walked stop = (stop.0, subst
 side_refused live old mid new (pages.Outside p) holds walked stop = (subst (λ (n : ℕ). is_within n p ≡ false) holds.pages stop.0, λ tells. absurd (stop.1 (rw holds.tells tells)))
 side_refused live old mid new pages.Memory holds walked stop = absurd stop
 side_refused live old mid new (pages.Repeats p) holds walked stop =
-    let asked = stop.0 in (
-      (walked.opened + 0 + asked.0, (let most = asked.1 in omega (arith, most)), asked.2 ∙ ap (λ (u : ℕ). count_up u asked.0) walked.asked ∙ count_up_both old.asked (walked.opened + 0) asked.0),
-      λ tells. absurd (stop.1 (rw holds.tells tells)),
-    )
+    let further = stop.0 in
+    let never : IsTrue old.tells → ⊥ = λ tells. stop.1 (rw holds.tells tells) in
+    (inr (further.0, further.1, walked_after live old mid new further.0 walked further.2, never), λ tells. absurd (never tells))
 side_refused live old mid new (pages.Level p) holds walked stop = absurd stop
 
 pub walk_refused : (l r : Live) (left0 left1 left2 right0 right1 right2 : Shelf) (fault : JoinFault) → HoldsSame left0 left1 → HoldsSame right0 right1 → IsWalked l left0 left1 0 → IsWalked r right0 right1 0 →
@@ -173,25 +175,14 @@ walk_refused l r left0 left1 left2 right0 right1 right2 (join.Right fault) left_
 
 -- on sound trees nothing but a passing fault is refused
 
-no_node : (s : Space) (live : Live) (old : Shelf) (page opened : ℕ) (fault : PageFault) → old.read page ≡ Err fault → Names (nodes_of old.read) live.root opened page → IsSoundTree s (nodes_of old.read) live → ⊥
-no_node s live old page opened fault is named sound =
-    let there = (sound_names s (nodes_of old.read) live opened page sound named).1 in
-    let some = there.1 in
-    let none : nodes_of old.read page ≡ None = ap node_or_none is in
-    cc
-
 abbrev PassesSide : PageFault → Type 0
 PassesSide pages.Disk = Unit {0}
 PassesSide _ = ⊥
 
 side_passes : (s : Space) (live : Live) (old new : Shelf) (fault : PageFault) → HasSideCause live old new fault → IsTrue old.tells → IsSoundTree s (nodes_of old.read) live → PassesSide fault
 side_passes s live old new pages.Disk cause tells sound = tt
-side_passes s live old new (pages.Bad p f) cause tells sound =
-    let why = cause.2 tells in
-    absurd (no_node s live old p why.1.0 (pages.Bad p f) why.0 why.1.2 sound)
-side_passes s live old new (pages.Outside p) cause tells sound =
-    let why = cause.1 tells in
-    absurd (no_node s live old p why.1.0 (pages.Outside p) why.0 why.1.2 sound)
+side_passes s live old new (pages.Bad p f) cause tells sound = absurd (tour_passes s live old new (pages.Bad p f) cause tells sound)
+side_passes s live old new (pages.Outside p) cause tells sound = absurd (tour_passes s live old new (pages.Outside p) cause tells sound)
 side_passes s live old new pages.Memory cause tells sound = absurd cause
 side_passes s live old new (pages.Repeats p) cause tells sound =
     let low = (sound_names s (nodes_of old.read) live live.pages p sound (cause.1 tells)).0 in

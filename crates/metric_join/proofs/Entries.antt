@@ -5,7 +5,8 @@ use Rattle.metric_laws.specs.Space.{Space}
 use Rattle.log_model.specs.declared.marks.Mark.{Mark}
 use Rattle.log_model.specs.declared.marks.Mark.TheVariants.{Skip, Far, Near}
 use Rattle.log_model.specs.declared.pairs.JoinNeed.{JoinNeed}
-use Rattle.log_model.specs.Counts.{count_up, measured_by}
+use Rattle.metric_laws.specs.Counts.{count_up}
+use Rattle.log_model.specs.Counts.{measured_by}
 use Rattle.log_model.specs.Walk.{near_ones}
 use Rattle.log_model.specs.JoinWalk.{JoinSearch, Entry, opens_right, apart_of, centre_of, radius_of, with_entry, least_for_entry}
 use Rattle.log_model.specs.JoinSteps.{apart_from, paired, hits_among, needs_among}

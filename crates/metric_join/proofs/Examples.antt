@@ -6,7 +6,7 @@ use Rattle.tree_shape.specs.Tree.{Nodes}
 use Rattle.log_model.specs.declared.marks.JoinRecord.{JoinRecord}
 use Rattle.log_model.specs.declared.marks.Mark.TheVariants.{Far, Near}
 use Rattle.log_model.specs.Counts.{join_measured}
-use Rattle.metric_join.specs.Tours.{Tours, Names}
+use Rattle.page_store.specs.Tours.{Tours, Names}
 use Rattle.metric_join.specs.Joined.{opened_on}
 
 abbrev child_on : ℕ → InnerEntry

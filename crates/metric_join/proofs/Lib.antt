@@ -1,6 +1,5 @@
 pub mod Examples
 pub mod Tours
-pub mod OneTour
 pub mod Course
 pub mod Entries
 pub mod Standing

@@ -3,7 +3,7 @@ use Rattle.std.proofs.Common.{◌≡◌, ℕ, suc, ◌+◌, ◌-◌, ◌<◌, �
 use Rattle.std.specs.Prelude.{IsTrue, filter}
 use Rattle.std.specs.List.{AllByRecursion}
 use Rattle.std.proofs.lemmas.List.{map-append, length-map}
-use Rattle.metric_laws.specs.Counts.{next_count}
+use Rattle.metric_laws.specs.Counts.{next_count, count_up, CountsUpTo}
 use Rattle.metric_laws.proofs.Lists.{all_append, all_weaker}
 use Rattle.scan_model.specs.declared.hit.Pair.{Pair}
 use Rattle.tree_shape.specs.declared.live.Live.{Live}
@@ -14,7 +14,7 @@ use Rattle.page_store.specs.Shelf.{Shelf, HoldsSame, IsNodeOf}
 use Rattle.log_model.specs.declared.marks.Mark.{Mark}
 use Rattle.log_model.specs.declared.marks.JoinRecord.{JoinRecord}
 use Rattle.log_model.specs.declared.pairs.JoinNeed.{JoinNeed}
-use Rattle.log_model.specs.Counts.{count_up, measured_by, CountsUpTo, join_measured}
+use Rattle.log_model.specs.Counts.{measured_by, join_measured}
 use Rattle.log_model.specs.Walk.{near_ones}
 use Rattle.log_model.specs.JoinWalk.{JoinSearch, JoinLeast, JoinWalksBy, Entry, entries_of, page_of, opens_right, opened, with_entry, is_need, least_for_entry, join_needs, join_hits, side_of}
 use Rattle.log_model.specs.SoundJoin.{root_pair}
@@ -25,8 +25,8 @@ use Rattle.metric_join.specs.Joined.{is_on, opened_on}
 use Rattle.metric_join.specs.declared.walking.Waiting.{Waiting}
 use Rattle.metric_join.specs.Steps.{following, record_for, weight, weight_of, needs_in, marks_for, pairs_for, IsStanding, IsWaiting, IsOpened, IsUnderWay}
 use Rattle.metric_join.proofs.Tours.{whole_below}
-use Rattle.metric_join.proofs.Course.{same_trans, told_then}
 use Rattle.metric_join.proofs.Standing.{shelf_on, room_on, left_after, right_after, opened_whole, entries_stand, needs_follow, needs_wait, needs_few, entries_few, lighter}
+use Rattle.page_store.proofs.Held.{holds_both, told_then}
 
 opened_on_more : (side : Bool) (rs : List JoinRecord) (r : JoinRecord) → opened_on side (rs ++ r ∷ []) ≡ opened_on side rs + is_on side r.right
 opened_on_more side [] r = omega arith
@@ -181,8 +181,8 @@ module _ (j : JoinSearch) (l r : Live) (left1 left left2 right1 right right2 : S
         let long = length-map (entries_of node) (λ e. e.stored) in
         let few = before.used_up.1 in
         record {
-          left_holds = same_trans left1 left left2 before.left_holds left_same;
-          right_holds = same_trans right1 right right2 before.right_holds right_same;
+          left_holds = holds_both left1 left left2 before.left_holds left_same;
+          right_holds = holds_both right1 right right2 before.right_holds right_same;
           left_asked = asked.left_asked ∙ ap (count_up left1.asked) (sym all_left);
           right_asked = asked.right_asked ∙ ap (count_up right1.asked) (sym all_right);
           used_up = (

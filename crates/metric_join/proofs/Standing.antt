@@ -24,7 +24,7 @@ use Rattle.log_model.specs.Walk.{near_ones}
 use Rattle.log_model.specs.JoinWalk.{JoinSearch, Entry, object_entry, subtree_entry, entries_of, rank_of, page_of, is_object, opens_right, with_entry, is_need}
 use Rattle.log_model.proofs.JoinNames.{with_side, opened_side}
 use Rattle.log_model.specs.JoinSteps.{needs_among}
-use Rattle.metric_join.specs.Tours.{children, IsWhole}
+use Rattle.page_store.specs.Tours.{children, IsWhole}
 use Rattle.metric_join.specs.declared.walking.Waiting.{Waiting}
 use Rattle.metric_join.specs.Steps.{following, weight, weight_of, needs_in, marks_for, pairs_for, IsStanding, IsWaiting}
 

@@ -8,10 +8,10 @@ use Rattle.page_store.specs.declared.pages.PageFault.TheVariants.{Disk, Bad, Out
 use Rattle.page_store.specs.Reading.{Read, nodes_of, node_or_none, IsWithin, is_within}
 use Rattle.page_store.specs.Shelf.{Shelf, HoldsSame}
 use Rattle.log_model.specs.declared.marks.JoinRecord.{JoinRecord}
-use Rattle.log_model.specs.Counts.{count_up}
+use Rattle.metric_laws.specs.Counts.{count_up}
 use Rattle.log_model.specs.JoinWalk.{JoinSearch, page_of, opens_right, opened}
 use Rattle.log_model.proofs.JoinNames.{opened_side}
-use Rattle.metric_join.specs.Tours.{IsWhole}
+use Rattle.page_store.specs.Tours.{IsWhole}
 use Rattle.metric_join.specs.Joined.{opened_on}
 use Rattle.metric_join.specs.declared.faults.JoinFault.{JoinFault}
 use Rattle.metric_join.specs.declared.faults.JoinFault.TheVariants as join

@@ -1,19 +1,18 @@
 -- What a join answers, and why it may refuse.
-use Rattle.std.specs.Prelude.{◌≡◌, ◌≢◌, ℕ, ◌+◌, ◌≤◌, Bool, true, false, List, [], ◌∷◌, length, IsTrue, Err}
+use Rattle.std.specs.Prelude.{◌≡◌, ◌⊎◌, ℕ, ◌+◌, ◌≤◌, Bool, true, false, List, [], ◌∷◌, length, IsTrue}
 use Rattle.metric_laws.specs.Space.{Space}
-use Rattle.outside_io.specs.Causes.{Rose}
 use Rattle.tree_shape.specs.declared.live.Live.{Live}
-use Rattle.node_page.specs.declared.node.NodeFault.TheVariants.{Memory as NodeMemory}
 use Rattle.page_store.specs.declared.pages.PageFault.{PageFault}
 use Rattle.page_store.specs.declared.pages.PageFault.TheVariants as pages
-use Rattle.page_store.specs.Reading.{IsWithin, is_within, nodes_of}
+use Rattle.page_store.specs.Reading.{nodes_of}
 use Rattle.page_store.specs.Shelf.{Shelf}
 use Rattle.log_model.specs.declared.logs.Joined.{Joined}
 use Rattle.log_model.specs.declared.marks.JoinRecord.{JoinRecord}
-use Rattle.log_model.specs.Counts.{count_up, join_measured, CountsUpTo}
+use Rattle.metric_laws.specs.Counts.{count_up, CountsUpTo}
+use Rattle.log_model.specs.Counts.{join_measured}
 use Rattle.log_model.specs.Grammar.{IsLawfulJoinLog}
 use Rattle.log_model.specs.SoundJoin.{IsLeastJoinLog}
-use Rattle.metric_join.specs.Tours.{Tours, IsToured, Names, NamesInside}
+use Rattle.page_store.specs.Tours.{Tours, IsToured, Names, HasTourCause}
 use Rattle.metric_join.specs.declared.faults.JoinFault.{JoinFault}
 use Rattle.metric_join.specs.declared.faults.JoinFault.TheVariants.{Left, Right, Memory}
 
@@ -52,20 +51,18 @@ pub record IsJoined (s : Space) (l r : Live) (radius : ℕ) (left left2 right ri
   pub right_walked : IsWalked r right right2 (opened_on true joined.log.records)
   pub distances : CountsUpTo used used2 (join_measured joined.log.records)
 
--- why a side's page is refused: the disk failed; or the walk of the live tree by child numbers comes to a page that holds no
--- node, or that is none of the file's, or it has opened as many pages as there are, and names this one besides. Where the
--- pages don't tell what they hold, as many as there are were asked for at the least before a page repeats
+-- What a side was asked for before a page repeats: by the first walk exactly as many pages as there are; or by one that was
+-- whole, and then by the walk of pairs as many at the least. The latter only where the pages don't tell what they hold.
+abbrev pub AsksTooMany : Live → Shelf → Shelf → Type 0
+AsksTooMany live old new =
+    (new.asked ≡ count_up old.asked live.pages) ⊎ ((further : ℕ) × (live.pages ≤ further) × IsWalked live old new further × (IsTrue old.tells → ⊥))
+
+-- why a side's page is refused: for the causes of the first walk but want of memory, which is told of no side; a page may
+-- repeat in the walk of pairs as well
 abbrev pub HasSideCause : Live → Shelf → Shelf → PageFault → Type 0
-HasSideCause live old new pages.Disk = Rose old.faults new.faults
-HasSideCause live old new (pages.Bad page fault) =
-    (fault ≢ NodeMemory) × IsWithin old.pages page
-    × (IsTrue old.tells → (old.read page ≡ Err (pages.Bad page fault)) × NamesInside (nodes_of old.read) live page)
-HasSideCause live old new (pages.Outside page) =
-    (is_within old.pages page ≡ false) × (IsTrue old.tells → (old.read page ≡ Err (pages.Outside page)) × NamesInside (nodes_of old.read) live page)
-HasSideCause live old new (pages.Repeats page) =
-    ((asked : ℕ) × (live.pages ≤ asked) × (new.asked ≡ count_up old.asked asked)) × (IsTrue old.tells → Names (nodes_of old.read) live.root live.pages page)
 HasSideCause live old new pages.Memory = ⊥
-HasSideCause live old new (pages.Level page) = ⊥
+HasSideCause live old new (pages.Repeats page) = AsksTooMany live old new × (IsTrue old.tells → Names (nodes_of old.read) live.root live.pages page)
+HasSideCause live old new fault = HasTourCause live old new fault
 
 -- why a join is refused: a page of the left tree, or one of the right tree after the left one was walked whole, or memory
 abbrev pub HasJoinCause : Live → Live → Shelf → Shelf → Shelf → Shelf → JoinFault → Type 0
@@ -85,8 +82,3 @@ abbrev pub fault_of : Bool → PageFault → JoinFault
 fault_of right pages.Memory = Memory
 fault_of true fault = Right fault
 fault_of false fault = Left fault
-
--- the same of the first walk alone, which may want memory besides
-abbrev pub HasTourCause : Live → Shelf → Shelf → PageFault → Type 0
-HasTourCause live old new pages.Memory = Unit {0}
-HasTourCause live old new fault = HasSideCause live old new fault

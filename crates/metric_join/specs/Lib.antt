@@ -1,4 +1,2 @@
-pub mod Tours
-pub mod Laws
 pub mod Joined
 pub mod Steps

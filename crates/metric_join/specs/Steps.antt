@@ -1,7 +1,7 @@
 -- The steps of the join's walk.
 use Rattle.std.specs.Prelude.{◌≡◌, ◌≢◌, ℕ, ◌+◌, ◌-◌, ◌^◌, ◌≤◌, true, false, List, [], ◌∷◌, ◌++◌, map, length, IsTrue, if◌then◌else◌}
 use Rattle.std.specs.List.{AllByRecursion}
-use Rattle.metric_laws.specs.Counts.{next_count}
+use Rattle.metric_laws.specs.Counts.{next_count, count_up, CountsUpTo}
 use Rattle.scan_model.specs.declared.hit.Pair.{Pair}
 use Rattle.tree_shape.specs.declared.live.Live.{Live}
 use Rattle.tree_shape.specs.declared.entry.Node.{Node}
@@ -17,12 +17,12 @@ use Rattle.log_model.specs.declared.marks.JoinRecord.{JoinRecord}
 use Rattle.log_model.specs.declared.pairs.Item.{Item}
 use Rattle.log_model.specs.declared.pairs.Item.TheVariants.{Subtree, Object}
 use Rattle.log_model.specs.declared.pairs.JoinNeed.{JoinNeed}
-use Rattle.log_model.specs.Counts.{count_up, measured_by, CountsUpTo, join_measured}
+use Rattle.log_model.specs.Counts.{measured_by, join_measured}
 use Rattle.log_model.specs.Walk.{near_ones}
 use Rattle.log_model.specs.JoinWalk.{JoinSearch, JoinLeast, JoinWalksBy, Entry, radius_of, page_of, opens_right, opened, other, with_entry, far_apart, far_stored, is_need, least_for_entry}
 use Rattle.log_model.specs.JoinSteps.{apart_from, hits_among, needs_among}
 use Rattle.log_model.specs.SoundJoin.{root_pair}
-use Rattle.metric_join.specs.Tours.{IsWhole}
+use Rattle.page_store.specs.Tours.{IsWhole}
 use Rattle.metric_join.specs.Joined.{opened_on}
 use Rattle.metric_join.specs.declared.faults.JoinFault.{JoinFault}
 use Rattle.metric_join.specs.declared.faults.JoinFault.TheVariants.{Left, Right, Memory}
@@ -32,7 +32,8 @@ use Rattle.metric_join.specs.declared.walking.Waiting.{Waiting}
 -- the least mark of an entry with this point, this distance to the routing point above and this radius
 abbrev pub least_at : JoinSearch → JoinNeed → List ℕ → ℕ → ℕ → Mark
 least_at j n point stored radius =
-    if far_stored n.apart stored j.rho (radius + radius_of (other n)) then Skip else (if far_apart (apart_from j.space n point) j.rho radius (radius_of (other n)) then Far else Near)
+    if far_stored n.apart stored j.rho (radius + radius_of (other n)) then Skip
+    else (if far_apart (apart_from j.space n point) j.rho radius (radius_of (other n)) then Far else Near)
 
 -- the least marks of entries, and the pairs that they leave
 abbrev pub marks_for : JoinSearch → JoinNeed → List Entry → List Mark
@@ -72,7 +73,8 @@ pub record IsWaiting (l r : Live) (left right : Shelf) (lefts rights : ℕ) (w :
   pub right_room : r.pages ≤ w.right_room + rights
 
 -- a join that walked the least walk so far: what is left to walk makes the whole walk
-pub record IsUnderWay (j : JoinSearch) (l r : Live) (left left2 right right2 : Shelf) (used used2 : ℕ) (records : List JoinRecord) (hits : List Pair) (stack : List Waiting) : Type 0 where
+pub record IsUnderWay (j : JoinSearch) (l r : Live) (left left2 right right2 : Shelf) (used used2 : ℕ) (records : List JoinRecord)
+    (hits : List Pair) (stack : List Waiting) : Type 0 where
   pub left_holds : HoldsSame left left2
   pub right_holds : HoldsSame right right2
   pub left_asked : left2.asked ≡ count_up left.asked (opened_on false records)

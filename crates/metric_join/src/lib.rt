@@ -3,7 +3,6 @@
 
 mod faults;
 mod joining;
-pub mod laws;
 mod opening;
 mod touring;
 mod walking;

@@ -1,6 +1,7 @@
 // The least marks of an opened node, and the pairs that they leave.
 ghost use Rattle.std.specs.Prelude.{◌≡◌, ◌++◌, ◌≤◌, [], ◌∷◌, map, IfOk, OnOk};
-ghost use Rattle.log_model.specs.Counts.{measured_by, CountsUpTo};
+ghost use Rattle.metric_laws.specs.Counts.{CountsUpTo};
+ghost use Rattle.log_model.specs.Counts.{measured_by};
 ghost use Rattle.log_model.specs.declared.marks.Mark.TheVariants.{Near};
 ghost use Rattle.log_model.specs.JoinWalk.{object_entry, subtree_entry, entries_of};
 ghost use Rattle.log_model.specs.JoinSteps.{search_within, apart_from, paired, hits_among, needs_among};
@@ -135,7 +136,8 @@ fn mark_object<R: Ruler>(
 ) -> Result<(), Memory>
     ensures metric { R.metric ruler.new ≡ R.metric ruler.old }
     ensures counted { OnOk result (CountsMarks (R.used ruler.old) (R.used ruler.new) opening.old.marks.items opening.new.marks.items) }
-    ensures taken { OnOk result (TakesEntries (search_within (R.M.space (R.metric ruler.old)) probe.entry.rho) probe.entry.need.now (object_entry entry.now ∷ []) opening.old opening.new) }
+    ensures taken { OnOk result (TakesEntries (search_within (R.M.space (R.metric ruler.old)) probe.entry.rho) probe.entry.need.now
+        (object_entry entry.now ∷ []) opening.old opening.new) }
 {
     let marked = least_mark(ruler, probe, entry.point.as_slice(), entry.parent, 0);
     opening.marks.push(marked.mark)?;
@@ -159,7 +161,8 @@ fn mark_subtree<R: Ruler>(
 ) -> Result<(), Memory>
     ensures metric { R.metric ruler.new ≡ R.metric ruler.old }
     ensures counted { OnOk result (CountsMarks (R.used ruler.old) (R.used ruler.new) opening.old.marks.items opening.new.marks.items) }
-    ensures taken { OnOk result (TakesEntries (search_within (R.M.space (R.metric ruler.old)) probe.entry.rho) probe.entry.need.now (subtree_entry level entry.now ∷ []) opening.old opening.new) }
+    ensures taken { OnOk result (TakesEntries (search_within (R.M.space (R.metric ruler.old)) probe.entry.rho) probe.entry.need.now
+        (subtree_entry level entry.now ∷ []) opening.old opening.new) }
 {
     let marked = least_mark(
         ruler,
@@ -190,7 +193,8 @@ fn mark_leaf<R: Ruler>(
 ) -> Result<(), Memory>
     ensures metric { R.metric ruler.new ≡ R.metric ruler.old }
     ensures counted { OnOk result (CountsMarks (R.used ruler.old) (R.used ruler.new) opening.old.marks.items opening.new.marks.items) }
-    ensures taken { OnOk result (TakesEntries (search_within (R.M.space (R.metric ruler.old)) probe.entry.rho) probe.entry.need.now (map object_entry entries.now) opening.old opening.new) }
+    ensures taken { OnOk result (TakesEntries (search_within (R.M.space (R.metric ruler.old)) probe.entry.rho) probe.entry.need.now
+        (map object_entry entries.now) opening.old opening.new) }
 {
     for entry in entries {
         mark_object(ruler, probe, entry, opening)?;
@@ -208,7 +212,8 @@ fn mark_inner<R: Ruler>(
 ) -> Result<(), Memory>
     ensures metric { R.metric ruler.new ≡ R.metric ruler.old }
     ensures counted { OnOk result (CountsMarks (R.used ruler.old) (R.used ruler.new) opening.old.marks.items opening.new.marks.items) }
-    ensures taken { OnOk result (TakesEntries (search_within (R.M.space (R.metric ruler.old)) probe.entry.rho) probe.entry.need.now (map (subtree_entry level) entries.now) opening.old opening.new) }
+    ensures taken { OnOk result (TakesEntries (search_within (R.M.space (R.metric ruler.old)) probe.entry.rho) probe.entry.need.now
+        (map (subtree_entry level) entries.now) opening.old opening.new) }
 {
     for entry in entries {
         mark_subtree(ruler, probe, level, entry, opening)?;
@@ -220,9 +225,15 @@ fn mark_inner<R: Ruler>(
 pub fn open_node<R: Ruler>(ruler: &mut R, probe: JoinProbe, node: &Node) -> Result<Opening, Memory>
     ensures metric { R.metric ruler.new ≡ R.metric ruler.old }
     ensures counted { IfOk result (λ opening. CountsUpTo (R.used ruler.old) (R.used ruler.new) (measured_by opening.marks.items)) }
-    ensures marks { IfOk result (λ opening. opening.marks.items ≡ marks_for (search_within (R.M.space (R.metric ruler.old)) probe.entry.rho) probe.entry.need.now (entries_of node.now)) }
-    ensures hits { IfOk result (λ opening. opening.hits.items ≡ hits_among (pairs_for (search_within (R.M.space (R.metric ruler.old)) probe.entry.rho) probe.entry.need.now (entries_of node.now))) }
-    ensures needs { IfOk result (λ opening. opening.needs.items ≡ needs_among (pairs_for (search_within (R.M.space (R.metric ruler.old)) probe.entry.rho) probe.entry.need.now (entries_of node.now))) }
+    ensures marks { IfOk result (λ opening.
+        opening.marks.items ≡ marks_for (search_within (R.M.space (R.metric ruler.old)) probe.entry.rho) probe.entry.need.now
+        (entries_of node.now)) }
+    ensures hits { IfOk result (λ opening.
+        opening.hits.items ≡ hits_among
+        (pairs_for (search_within (R.M.space (R.metric ruler.old)) probe.entry.rho) probe.entry.need.now (entries_of node.now))) }
+    ensures needs { IfOk result (λ opening.
+        opening.needs.items ≡ needs_among
+        (pairs_for (search_within (R.M.space (R.metric ruler.old)) probe.entry.rho) probe.entry.need.now (entries_of node.now))) }
 {
     let mut opening = Opening::new(probe.alloc);
     match node {

@@ -1,4 +1,4 @@
-use crate::{JoinFault, join, laws};
+use crate::{JoinFault, join};
 use disk_model::MemoryDisk;
 use log_model::{JoinRecord, Joined, Mark};
 use metric_laws::{Memory, Meter};
@@ -280,7 +280,6 @@ fn a_tree_without_objects(rt: HostRuntime) -> Result<(), Memory> {
 // Page 4 is reached six times, or the entries name a page that the file has not or one that holds no node.
 #[test]
 fn a_first_walk_is_refused_where_it_meets_a_fault(rt: HostRuntime) -> Result<(), Memory> {
-    laws::tour_has_one_course();
     let good = one_leaf(rt.alloc(), &[0, 5, 9])?;
     let sound = live(1, 3, 0, 4);
     let faults = [

@@ -1,8 +1,8 @@
 // The walk through a whole tree by child numbers.
 ghost use Rattle.std.specs.Prelude.{◌≡◌, ◌++◌, IfErr, OnOk, reverse};
 ghost use Rattle.page_store.specs.Shelf.{HoldsSame, HasPageCause};
-ghost use Rattle.metric_join.specs.Tours.{children, OpensPage};
-ghost use Rattle.metric_join.specs.Joined.{IsWalked, HasTourCause};
+ghost use Rattle.page_store.specs.Tours.{children, HasTourCause, OpensPage};
+ghost use Rattle.metric_join.specs.Joined.{IsWalked};
 
 use metric_laws::Memory;
 use page_store::{PageFault, Pages};

@@ -60,7 +60,12 @@ impl JoinWalk {
         ensures rho { IfOk result (λ walk. walk.rho ≡ min r bound) }
         ensures records { IfOk result (λ walk. walk.records.items ≡ []) }
         ensures hits { IfOk result (λ walk. walk.hits.items ≡ []) }
-        ensures stack { IfOk result (λ walk. walk.stack.items ≡ (record { need = root_pair left.now right.now; left_room = left.now.pages; right_room = right.now.pages }) ∷ []) }
+        ensures stack { IfOk result (λ walk.
+            walk.stack.items ≡ (record {
+              need = root_pair left.now right.now;
+              left_room = left.now.pages;
+              right_room = right.now.pages;
+            }) ∷ []) }
     {
         let roots = Waiting {
             need: JoinNeed {
@@ -192,9 +197,11 @@ fn open_pair<P: Pages, Q: Pages, R: Ruler>(
     ensures right_keeps { Q.keeps right.old right.new }
     ensures rho { walk.new.rho ≡ walk.old.rho }
     ensures on { OnOk result ((l r : Live) (left1 right1 : Shelf) (used1 : ℕ) →
-        IsUnderWay (search_within (R.M.space (R.metric ruler.old)) walk.old.rho) l r left1 (P.shelf left.old) right1 (Q.shelf right.old) used1 (R.used ruler.old)
+        IsUnderWay (search_within (R.M.space (R.metric ruler.old)) walk.old.rho) l r left1 (P.shelf left.old) right1
+        (Q.shelf right.old) used1 (R.used ruler.old)
         walk.old.records.items walk.old.hits.items (waiting ∷ reverse walk.old.stack.items) →
-        IsUnderWay (search_within (R.M.space (R.metric ruler.old)) walk.old.rho) l r left1 (P.shelf left.new) right1 (Q.shelf right.new) used1 (R.used ruler.new)
+        IsUnderWay (search_within (R.M.space (R.metric ruler.old)) walk.old.rho) l r left1 (P.shelf left.new) right1
+        (Q.shelf right.new) used1 (R.used ruler.new)
         walk.new.records.items walk.new.hits.items (reverse walk.new.stack.items)) }
     ensures lighter { OnOk result (weight (reverse walk.new.stack.items) < weight_of waiting + weight (reverse walk.old.stack.items)) }
     ensures cause { IfErr result (HasStopped (P.shelf left.old) (P.shelf left.new) (Q.shelf right.old) (Q.shelf right.new) waiting) }
@@ -224,12 +231,15 @@ pub fn walk_pairs<P: Pages, Q: Pages, R: Ruler>(
     ensures right_same { HoldsSame (Q.shelf right.old) (Q.shelf right.new) }
     ensures right_keeps { Q.keeps right.old right.new }
     ensures ok { IfOk result (λ walk. (l r : Live) →
-        IsUnderWay (search_within (R.M.space (R.metric ruler.old)) begun.rho) l r (P.shelf left.old) (P.shelf left.old) (Q.shelf right.old) (Q.shelf right.old) (R.used ruler.old) (R.used ruler.old)
+        IsUnderWay (search_within (R.M.space (R.metric ruler.old)) begun.rho) l r (P.shelf left.old) (P.shelf left.old)
+        (Q.shelf right.old) (Q.shelf right.old) (R.used ruler.old) (R.used ruler.old)
         begun.records.items begun.hits.items (reverse begun.stack.items) →
-        IsUnderWay (search_within (R.M.space (R.metric ruler.old)) begun.rho) l r (P.shelf left.old) (P.shelf left.new) (Q.shelf right.old) (Q.shelf right.new) (R.used ruler.old) (R.used ruler.new)
+        IsUnderWay (search_within (R.M.space (R.metric ruler.old)) begun.rho) l r (P.shelf left.old) (P.shelf left.new)
+        (Q.shelf right.old) (Q.shelf right.new) (R.used ruler.old) (R.used ruler.new)
         walk.records.items walk.hits.items []) }
     ensures cause { IfErr result (λ fault. (l r : Live) →
-        IsUnderWay (search_within (R.M.space (R.metric ruler.old)) begun.rho) l r (P.shelf left.old) (P.shelf left.old) (Q.shelf right.old) (Q.shelf right.old) (R.used ruler.old) (R.used ruler.old)
+        IsUnderWay (search_within (R.M.space (R.metric ruler.old)) begun.rho) l r (P.shelf left.old) (P.shelf left.old)
+        (Q.shelf right.old) (Q.shelf right.old) (R.used ruler.old) (R.used ruler.old)
         begun.records.items begun.hits.items (reverse begun.stack.items) →
         HasWalkCause l r (P.shelf left.old) (P.shelf left.new) (Q.shelf right.old) (Q.shelf right.new) fault) }
 {

@@ -28,7 +28,13 @@ kendall_axioms n some few = record {
   same_zero = λ a b fa fb none.
       discord_apart a b (same_long n a b fa fb) (λ v. high_is n v a fa ∙ sym (high_is n v b fb)) (sym (kendall_is n a b fa fb) ∙ none);
   triangle = λ a b c fa fb fc.
-      omega (arith, kendall_is n a c fa fc, kendall_is n a b fa fb, kendall_is n b c fb fc, discord_triangle a b c (same_long n a b fa fb) (same_long n b c fb fc));
+      omega (
+        arith,
+        kendall_is n a c fa fc,
+        kendall_is n a b fa fb,
+        kendall_is n b c fb fc,
+        discord_triangle a b c (same_long n a b fa fb) (same_long n b c fb fc),
+      );
   bounded = λ a b fa fb.
       omega (arith, kendall_is n a b fa fb, discord_few a b (omega (arith, permutation_long n a fa)), permutation_long n a fa);
 }

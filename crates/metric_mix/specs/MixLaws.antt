@@ -110,7 +110,8 @@ halves_fit : (half dim : ℕ) (p : List ℕ) → half + half ≡ dim → IsTrue 
 halves_fit half dim p even fits =
     let parts = and_parts (length p == dim) (list_all (λ x. nat_lt x (2 ^ 32)) p) fits in
     let long = eqb-true (length p) dim parts.0 in
-    let whole : list_all (λ x. nat_lt x (2 ^ 32)) (take half p ++ drop half p) ≡ true = ap (λ (l : List ℕ). list_all (λ x. nat_lt x (2 ^ 32)) l) (take-append-drop half p) ∙ parts.1 in
+    let whole : list_all (λ x. nat_lt x (2 ^ 32)) (take half p ++ drop half p) ≡ true =
+    ap (λ (l : List ℕ). list_all (λ x. nat_lt x (2 ^ 32)) l) (take-append-drop half p) ∙ parts.1 in
     let small = and_parts (list_all (λ x. nat_lt x (2 ^ 32)) (take half p)) (list_all (λ x. nat_lt x (2 ^ 32)) (drop half p))
     (sym (list_all-append (λ x. nat_lt x (2 ^ 32)) (take half p) (drop half p)) ∙ whole) in
     and_from (is_vector half (take half p)) (is_vector half (drop half p))

@@ -44,7 +44,8 @@ low_step : (v : ℕ) (p : List ℕ) → list_any (λ x. x == v) p ≡ true → s
 low_step v [] stands = absurd (cc)
 low_step v (x ∷ p) stands = cases (x == v) refl stands (low_step v p)
   where
-    cases : (b : Bool) → (x == v) ≡ b → (b || list_any (λ y. y == v) p) ≡ true → (list_any (λ y. y == v) p ≡ true → suc (low v p) ≤ low (suc v) p) → suc (low v (x ∷ p)) ≤ low (suc v) (x ∷ p)
+    cases : (b : Bool) → (x == v) ≡ b → (b || list_any (λ y. y == v) p) ≡ true →
+        (list_any (λ y. y == v) p ≡ true → suc (low v p) ≤ low (suc v) p) → suc (low v (x ∷ p)) ≤ low (suc v) (x ∷ p)
     cases true e either ih = let here = eqb-true x v e in let rest = low_rises v p in grind (arith, nat_tests)
     cases false e either ih = let rest = ih either in grind (arith, nat_tests)
 

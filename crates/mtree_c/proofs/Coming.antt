@@ -1,6 +1,6 @@
 -- What a query comes to, and what of it is handed over.
-use Rattle.std.proofs.Common.{◌≡◌, ◌≢◌, ◌⊎◌, inl, inr, ⊎_elim, ◌∙◌, ℕ, ◌<◌, List, length, Bool, true, false, Option, Some, None, Result, Ok, Err, refl, sym, subst, ap, arith}
-use Rattle.std.specs.Prelude.{IfOk, IfErr, IsTrue, if◌then◌else◌}
+use Rattle.std.proofs.Common.{◌≡◌, ◌⊎◌, inl, inr, ⊎_elim, ◌∙◌, ℕ, ◌<◌, List, length, Bool, true, false, Option, Some, None, Result, Ok, Err, refl, sym, subst, ap, arith}
+use Rattle.std.specs.Prelude.{IfOk, IfErr, if◌then◌else◌}
 use Rattle.std.specs.declared.alloc.AllocError.{AllocError}
 use Rattle.metric_laws.specs.Space.{Space}
 use Rattle.metric_mix.specs.MixSpaces.{mix_space}
@@ -16,11 +16,13 @@ use Rattle.rows_text.specs.declared.reply.Reply.TheVariants as reply
 use Rattle.rows_text.specs.Meaning.{has_points_of}
 use Rattle.image_answers.specs.declared.outcome.Outcome.{Outcome}
 use Rattle.image_answers.specs.declared.outcome.Outcome.TheVariants as outcome
-use Rattle.image_answers.specs.Outcomes.{IsOutcomeOf, IsTold, query_of}
+use Rattle.answer_texts.specs.Asked.{query_of}
+use Rattle.image_answers.specs.Outcomes.{IsOutcomeOf, IsTold}
 use Rattle.mtree_c.specs.declared.answering.TaggedHit.{TaggedHit}
 use Rattle.mtree_c.specs.declared.answering.Sizes.{Sizes}
 use Rattle.mtree_c.specs.Rooms.{StandAtFront}
-use Rattle.mtree_c.specs.Answers.{Answer, ComesTo, HandsAnswer, HasNoAnswer, IsAnswer, IsUnanswered, frame_for, sizes_of, space_of, status_of, tagged}
+use Rattle.file_jobs.specs.Spaces.{space_of}
+use Rattle.mtree_c.specs.Answers.{Answer, ComesTo, HandsAnswer, HasNoAnswer, IsAnswer, IsUnanswered, frame_for, sizes_of, status_of, tagged}
 use Rattle.mtree_c.proofs.Putting.{length-tagged}
 
 -- ---- what is handed over

@@ -1,5 +1,5 @@
 -- What a job says of a disk, a source and a sink is said of their bytes.
-use Rattle.std.proofs.Common.{◌≡◌, ◌≢◌, ◌⊎◌, inl, inr, ⊎_elim, ℕ, ◌+◌, ◌<◌, ◌^◌, List, [], ◌∷◌, ◌++◌, length, Option, Some, None, refl, sym, subst, ◌∙◌, ap, arith}
+use Rattle.std.proofs.Common.{◌≡◌, ◌≢◌, ◌⊎◌, inl, inr, ⊎_elim, ℕ, ◌+◌, ◌<◌, List, [], ◌++◌, length, Option, Some, None, sym, subst, ◌∙◌, ap, arith}
 use Rattle.std.specs.Prelude.{codes, IsTrue, ◌≤◌}
 use Rattle.std.proofs.lemmas.List.{append-nil}
 use Rattle.std.specs.List.{concat, flat_map}
@@ -9,8 +9,10 @@ use Rattle.outside_io.specs.Sinks.{SinkState, Tells}
 use Rattle.disk_model.specs.Disk.{DiskState}
 use Rattle.file_jobs.specs.Jobs.{Audits, IsAuditStatus, IsAudited, IsNoIndex, IsSoundWith}
 use Rattle.file_jobs.specs.Lines.{not_index_text, rejected_text, sound_text}
-use Rattle.log_jobs.specs.declared.report.Report.{Report}
-use Rattle.log_jobs.specs.Jobs.{JudgesLogs, IsLogStatus, Judges, Says, WritesOn}
+use Rattle.file_jobs.specs.declared.logs.report.Report.{Report}
+use Rattle.file_jobs.specs.Logs.Jobs.{IsLogStatus}
+use Rattle.file_jobs.specs.Logs.Sayings.{Saying}
+use Rattle.log_jobs.specs.Jobs.{JudgesLogs, Says}
 use Rattle.mtree_c.specs.Rooms.{HandsText, StandAtFront}
 use Rattle.seal_jobs.specs.Proofs.{IsProofStatus, ProvesLogs, Shown}
 use Rattle.mtree_c.specs.Texts.{IsAuditText, IsLogText, IsProofText, IsUnopenedText}
@@ -78,7 +80,7 @@ module _ (d0 d1 : DiskState) (o0 o1 : SinkState) (file text : List ℕ) (tells :
     all_taken other = taken_all l0 l1 logs left judged.bytes had has judged.taken (judged.all not_input other not_memory)
 
     said : (status ≡ 0) ⊎ (status ≡ 1) → status ≢ 7 →
-        (s : Rattle.log_jobs.specs.Lines.Saying) × Says what file logs s × (text ≡ concat s.texts) × (status ≡ s.status)
+        (s : Saying) × Says what file logs s × (text ≡ concat s.texts) × (status ≡ s.status)
     said is other =
         let w = (judged.judges not_input other).done is tells in
         let e = w.2.ends.done is in

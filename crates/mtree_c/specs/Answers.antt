@@ -21,6 +21,7 @@ use Rattle.image_answers.specs.Outcomes.{IsOutcomeOf}
 use Rattle.mtree_c.specs.declared.answering.TaggedHit.{TaggedHit}
 use Rattle.mtree_c.specs.declared.answering.Sizes.{Sizes}
 use Rattle.mtree_c.specs.Rooms.{StandAtFront}
+use Rattle.file_jobs.specs.Spaces.{space_of}
 
 -- each hit with its tag
 abbrev pub tagged : List Hit → List ℕ → List TaggedHit
@@ -29,10 +30,6 @@ tagged (h ∷ hits) [] = []
 tagged (h ∷ hits) (tag ∷ tags) = record { id = h.id; distance = h.dist; tag = tag } ∷ tagged hits tags
 
 -- ---- on the bytes of a file
-
--- the space of a head
-abbrev pub space_of : Head → Space
-space_of head = mix_space head.kind head.dim
 
 -- the bytes are a file of version 2, and a command on it comes to this
 pub record ComesTo (file : List ℕ) (c : Command) (o : Outcome) : Type 0 where
@@ -45,7 +42,8 @@ pub record ComesTo (file : List ℕ) (c : Command) (o : Outcome) : Type 0 where
 -- it asks for none of the nearest, or about what is no point of the file's space
 abbrev pub IsNoQuery : List ℕ → Command → Type 0
 IsNoQuery file c =
-    ((q : List ℕ) × (c ≡ command.Nearest 0 q)) ⊎ ((head : Head) × (live : Live) × OpensTo file head live × (head.version ≡ 2) × (has_points_of (space_of head) c ≡ false))
+    ((q : List ℕ) × (c ≡ command.Nearest 0 q)) ⊎ ((head : Head) × (live : Live) × OpensTo file head live × (head.version ≡ 2)
+    × (has_points_of (space_of head) c ≡ false))
 
 -- why a query has no answer, by its status: 2 it was no query; 6 the bytes are no file of version 2; 9 its search came to a damaged page
 pub record HasNoAnswer (file : List ℕ) (c : Command) (status : ℕ) : Type 0 where

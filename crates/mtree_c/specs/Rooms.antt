@@ -1,5 +1,5 @@
 -- What is put into a caller's buffers.
-use Rattle.std.specs.Prelude.{◌≡◌, ◌≢◌, ◌⊎◌, ◌<◌, ℕ, List, ◌++◌, length, drop}
+use Rattle.std.specs.Prelude.{◌≡◌, ◌≢◌, ◌<◌, ℕ, List, ◌++◌, length, drop}
 
 -- these items stand at the front of the buffer, and behind them what stood there
 abbrev pub StandAtFront : {A : Type 0} → List A → List A → List A → Type 0

@@ -1,12 +1,12 @@
 -- The texts on the bytes of a file and of logs, with the statuses of the program's jobs.
-use Rattle.std.specs.Prelude.{◌≡◌, ◌⊎◌, ◌<◌, ◌^◌, ℕ, List, ◌++◌, length, codes, Some, None}
+use Rattle.std.specs.Prelude.{◌≡◌, ◌⊎◌, ◌<◌, ◌^◌, ℕ, List, ◌++◌, length, codes, Some}
 use Rattle.std.specs.List.{concat, flat_map}
 use Rattle.tree_audit.specs.declared.faults.AuditFault.{AuditFault}
 use Rattle.file_jobs.specs.Jobs.{IsAudited, IsNoIndex, IsSoundWith}
 use Rattle.file_jobs.specs.Lines.{not_index_text, rejected_text, sound_text}
-use Rattle.log_jobs.specs.declared.report.Report.{Report}
+use Rattle.file_jobs.specs.declared.logs.report.Report.{Report}
 use Rattle.log_jobs.specs.Jobs.{Says}
-use Rattle.log_jobs.specs.Lines.{Saying}
+use Rattle.file_jobs.specs.Logs.Sayings.{Saying}
 use Rattle.prune_log.specs.Spelling.{frame_bytes}
 use Rattle.seal_jobs.specs.Proofs.{AreShown, IsEnd, Shown, all_accepted}
 

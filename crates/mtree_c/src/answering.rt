@@ -146,7 +146,8 @@ fn hand_over(
 ) -> u8
     requires each { IfOk answer (λ a. length a.tags ≡ length a.hits) }
     requires log { IfOk answer (λ a. IsLawfulLog a.log) }
-    ensures { (file : List ℕ) (c : Command) → IfOk answer (λ a. ComesTo file c (outcome.Done (reply.Hits a.hits a.tags) (Some a.log))) → IfErr answer (HasNoAnswer file c)
+    ensures { (file : List ℕ) (c : Command) →
+        IfOk answer (λ a. ComesTo file c (outcome.Done (reply.Hits a.hits a.tags) (Some a.log))) → IfErr answer (HasNoAnswer file c)
         → HandsAnswer file c hits.old hits.new log.old log.new sizes.new result }
 {
     *sizes = NOTHING;

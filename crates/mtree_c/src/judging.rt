@@ -1,7 +1,7 @@
 // Audits a file and judges logs, and says so in the lines that the program writes.
 ghost use Rattle.std.specs.Prelude.{◌≡◌};
 ghost use Rattle.log_jobs.specs.Laws.{FaultlessIsComplete};
-ghost use Rattle.log_jobs.specs.declared.report.Report.TheVariants.{Answers, Verdicts};
+ghost use Rattle.file_jobs.specs.declared.logs.report.Report.TheVariants.{Answers, Verdicts};
 ghost use Rattle.mtree_c.specs.Rooms.{HandsText};
 ghost use Rattle.seal_jobs.specs.Laws.{AcceptedShow};
 ghost use Rattle.mtree_c.specs.Texts.{IsAuditText, IsLogText, IsProofText};

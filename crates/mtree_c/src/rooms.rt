@@ -36,8 +36,10 @@ pub fn put_hits(hits: &[Hit], tags: &[u64], room: &mut [TaggedHit])
 
 /// Hands over the text of a job that ended with this status. Status 4: the text has no room; 8: memory ran out.
 pub fn hand_text(status: Status, written: &Gathered, text: &mut [u8], size: &mut usize) -> u8
-    ensures done { result ≢ 4 → result ≢ 8 → (result ≡ status.0) × (written.now.faults ≡ 0) × StandAtFront written.now.bytes.items text.old text.new × (size.new ≡ length written.now.bytes.items) }
-    ensures short { result ≡ 4 → (status.0 ≢ 4) × (status.0 ≢ 8) × (written.now.faults ≡ 0) × (text.new ≡ text.old) × (size.new ≡ length written.now.bytes.items) × (length text.old < size.new) }
+    ensures done { result ≢ 4 → result ≢ 8 → (result ≡ status.0) × (written.now.faults ≡ 0)
+        × StandAtFront written.now.bytes.items text.old text.new × (size.new ≡ length written.now.bytes.items) }
+    ensures short { result ≡ 4 → (status.0 ≢ 4) × (status.0 ≢ 8) × (written.now.faults ≡ 0) × (text.new ≡ text.old)
+        × (size.new ≡ length written.now.bytes.items) × (length text.old < size.new) }
     ensures memory { result ≡ 8 → (text.new ≡ text.old) × (size.new ≡ 0) }
 {
     *size = 0;

@@ -3,7 +3,7 @@ use Rattle.std.proofs.Common.{◌≡◌, ◌⊎◌, inl, inr, ⊎_elim, ◌≤�
 use Rattle.std.specs.Prelude.{codes, IfSome}
 use Rattle.std.specs.List.{concat}
 use Rattle.std.specs.Io.KnownBytes.{Appends, Consumes, IsAtEnd}
-use Rattle.std.proofs.KnownBytes.{Appends-nil, Appends-trans, Consumes-all}
+use Rattle.std.proofs.KnownBytes.{Appends-nil, Consumes-all}
 use Rattle.std.proofs.lemmas.List.{append-nil}
 use Rattle.outside_io.specs.Bytes.{AppendsPrefix}
 use Rattle.outside_io.specs.Causes.{Rose}
@@ -14,10 +14,11 @@ use Rattle.job_words.specs.declared.job.Job.TheVariants as job
 use Rattle.metric_mix.specs.MixSpaces.{mix_space}
 use Rattle.plain_scan.specs.declared.session.Stop.TheVariants as stop
 use Rattle.plain_scan.specs.Written.{Writes, reply_texts}
-use Rattle.plain_scan.proofs.WrittenLemmas.{front_appended}
 use Rattle.rows_text.specs.Script.{script}
-use Rattle.mtree_cli.specs.Told.{IsTold}
+use Rattle.answer_texts.specs.Ending.{IsTold}
+use Rattle.answer_texts.proofs.Behind.{told_behind}
 use Rattle.mtree_cli.specs.Run.{Asked, IsScan, WritesScan, Ends, scan_texts}
+use Rattle.outside_io.proofs.Rising.{rose_before}
 
 -- words ask for one scan
 
@@ -45,16 +46,10 @@ read_whole old new bs took end = Consumes-all old new bs [] bs took end refl
 
 -- faults
 
--- a line behind what was put
-pub told_appended : (w0 w1 w2 : Option (List ℕ)) (Failed : Type 0) (bs line : List ℕ) → Appends w0 w1 bs → Appends w1 w2 line ⊎ (AppendsPrefix w1 w2 line × Failed)
-    → (rest : List ℕ) × IsTold Failed rest line × Appends w0 w2 (bs ++ rest)
-told_appended w0 w1 w2 Failed bs line is (inl whole) = (line, inl refl, Appends-trans w0 w1 w2 bs line is whole)
-told_appended w0 w1 w2 Failed bs line is (inr cut) = let part = front_appended w0 w1 w2 bs line is cut.0 in (part.0, inr (part.1, cut.1), part.2)
-
 pub fault_writes : (w0 w1 : SinkState) (texts : List (List ℕ)) (status : ℕ) (line : List ℕ) → Tells w0 w1 line →
     ((rest : List ℕ) → IsTold (Rose w0.faults w1.faults) rest line → Ends (Rose w0.faults w1.faults) status [] texts rest) → WritesScan w0 w1 texts status
 fault_writes w0 w1 texts status line told ends =
-    let part = told_appended w0.written w0.written w1.written (Rose w0.faults w1.faults) [] line (Appends-nil w0.written) told in
+    let part = told_behind w0.written w0.written w1.written (Rose w0.faults w1.faults) [] line (Appends-nil w0.written) told in
     record { acknowledged = []; more = texts; rest = part.0; whole = refl; ends = ends part.0 part.1; written = part.2 }
 
 module _ (Failed : Type 0) where
@@ -86,9 +81,6 @@ module _ (Failed : Type 0) where
     memory = λ _. line;
   }
 
-rose_before : (a b c : ℕ) → a ≤ b → Rose b c → Rose a c
-rose_before a b c le rose = omega arith
-
 -- the line of want of memory after some replies
 pub stopped : (w0 w1 w2 : SinkState) (texts : List (List ℕ)) (status : ℕ) → status ≡ 8 → w0.faults ≤ w1.faults →
     Writes w0.written w1.written texts (Err stop.Memory) → Tells w1 w2 (codes "fault memory\n") → WritesScan w0 w2 texts status
@@ -97,7 +89,7 @@ stopped w0 w1 w2 texts status is later wrote line =
     let told : Appends w1.written w2.written (codes "fault memory\n") ⊎ (AppendsPrefix w1.written w2.written (codes "fault memory\n") × Failed) =
     ⊎_elim (λ whole. inl whole) (λ cut. inr (cut.0, rose_before w0.faults w1.faults w2.faults later cut.1)) line in
     let nothing : concat wrote.acknowledged ++ wrote.rest ≡ concat wrote.acknowledged = ap (λ (l : List ℕ). concat wrote.acknowledged ++ l) wrote.follows ∙ append-nil (concat wrote.acknowledged) in
-    let part = told_appended w0.written w1.written w2.written Failed (concat wrote.acknowledged) (codes "fault memory\n") (rw nothing at wrote.written) told in
+    let part = told_behind w0.written w1.written w2.written Failed (concat wrote.acknowledged) (codes "fault memory\n") (rw nothing at wrote.written) told in
     record { acknowledged = wrote.acknowledged; more = wrote.more; rest = part.0; whole = wrote.whole; ends = memory_ends Failed status wrote.acknowledged wrote.more part.0 is part.1; written = part.2 }
 
 -- the scan that the words ask for

@@ -1,14 +1,14 @@
 -- What a session on an index leaves and writes, by its status.
-use Rattle.std.proofs.Common.{◌≡◌, ◌≢◌, ◌⊎◌, inl, inr, ℕ, ◌+◌, ◌≤◌, ◌<◌, ◌^◌, Bool, true, false, List, [], ◌∷◌, ◌++◌, Option, Some, None, refl, sym, ◌∙◌, ap, subst, arith}
+use Rattle.std.proofs.Common.{◌≡◌, ◌≢◌, ◌⊎◌, inl, inr, ℕ, ◌+◌, ◌≤◌, Bool, List, [], ◌++◌, Option, Some, None, refl, sym, ◌∙◌, ap, subst, arith}
 use Rattle.std.specs.Prelude.{codes, IsTrue, MatchOption}
 use Rattle.std.specs.List.{AllByRecursion, concat}
 use Rattle.std.specs.Io.KnownBytes.{Appends, Consumes, IsAtEnd}
-use Rattle.std.proofs.KnownBytes.{Appends-nil, Appends-trans}
+use Rattle.std.proofs.KnownBytes.{Appends-nil}
 use Rattle.std.proofs.lemmas.List.{append-nil}
 use Rattle.outside_io.specs.Bytes.{AppendsPrefix}
 use Rattle.outside_io.specs.Causes.{Rose}
 use Rattle.outside_io.specs.Sinks.{SinkState, Tells}
-use Rattle.disk_model.specs.Disk.{DiskState, EachImage, EachImageOnce, IsUnchanged, LeavesOnly, MayLeave}
+use Rattle.disk_model.specs.Disk.{DiskState, EachImage, IsUnchanged, MayLeave}
 use Rattle.disk_model.specs.Moments.{once, joined, started, weakened}
 use Rattle.node_page.specs.declared.head.Head.{Head}
 use Rattle.node_page.specs.Laws.{FaultIsNotOpen, OneLiveSlot}
@@ -28,43 +28,47 @@ use Rattle.metric_laws.specs.Space.{Space}
 use Rattle.index_core.specs.Files.{IsLawfulFile, nodes_on}
 use Rattle.index_core.specs.Index.{OpenIndex, StandsAlone}
 use Rattle.index_core.proofs.Written.{holds}
-use Rattle.session_run.proofs.Asking.{rose_more}
 use Rattle.session_run.proofs.Reading.{objects_on}
-use Rattle.page_store.specs.declared.pages.PageFault.{PageFault}
-use Rattle.file_jobs.specs.Lines.{damaged_text, not_index_text, unopened_name, unopened_text}
+use Rattle.file_jobs.specs.Lines.{not_index_text, unopened_name, unopened_text}
 use Rattle.rows_text.specs.declared.command.Command.{Command}
 use Rattle.rows_text.specs.Meaning.{State}
 use Rattle.rows_text.specs.Script.{script}
 use Rattle.session_run.specs.declared.stop.Stop.{Stop}
 use Rattle.session_run.specs.declared.stop.Stop.TheVariants as stop
-use Rattle.session_run.specs.Session.{Grew, HasRun, HasStopCause, HoldsNext, HoldsSome, HoldsState, IsAsking, IsDamage, IsDamageIn, StandsBy, no_cursors, setting_of, state_on}
-use Rattle.session_run.specs.Turns.{AreTurns, Turn, Version, commands_of, file_after, framed, logs_of, state_after, texts_of, version_on}
-use Rattle.mtree_cli.specs.Told.{IsTold}
-use Rattle.mtree_cli.proofs.ProgramLemmas.{always, read_whole, told_appended, weaker}
-use Rattle.mtree_cli.specs.Session.{Ends, HasEnded, HasFinished, HasRefused, HoldsFront, HoldsLast, IsComplete, IsLeft, Leaves, LeavesAll, ReadsFew, ReadsScript, RunsOn, RunsScript, RunsSession, setting_in, space_in, state_in, version_in}
+use Rattle.session_run.specs.Session.{Grew, HasRun, HasStopCause, HoldsState, IsAsking, IsDamage, IsDamageIn, StandsBy, no_cursors, setting_of, state_on}
+use Rattle.answer_texts.specs.Answered.{commands_of, framed, logs_of, texts_of}
+use Rattle.answer_texts.specs.Asked.{Held, held_in}
+use Rattle.answer_texts.specs.Ending.{IsTold}
+use Rattle.answer_texts.proofs.Behind.{told_behind}
+use Rattle.answer_texts.proofs.Endings.{disk_ends, input_ends, long_ends, memory_ends}
+use Rattle.session_run.specs.Turns.{AreTurns, Turn, answers_of, held_on}
+use Rattle.mtree_cli.proofs.ProgramLemmas.{always, read_whole, weaker}
+use Rattle.file_jobs.specs.Spaces.{space_of}
+use Rattle.mtree_cli.specs.Session.{HasEnded, HasFinished, HasRefused, HoldsFront, IsComplete, IsLeft, Leaves, LeavesAll, ReadsFew, ReadsScript, RunsOn, RunsScript, RunsSession, SessionEnds, setting_in, state_in}
+use Rattle.outside_io.proofs.Rising.{rose_before}
 
 module _ (show : Bool) (bytes : List ℕ) (head : Head) (live : Live) (file : List ℕ) (disk0 disk1 : DiskState) (out0 out1 out2 log0 log1 : SinkState) where
   abbrev pub state0 : State
   state0 = state_in head live file
 
-  abbrev pub file0 : Version
-  file0 = version_in head live file
+  abbrev pub file0 : Held
+  file0 = held_in head.dim live file
 
   -- the line of a fault stands behind the acknowledged replies
-  module _ (Left : List Turn → List Command → Type 0) (turns : List Turn) (more : List Command) (line : List ℕ) (whole : script head.dim bytes ≡ commands_of turns ++ more)
-      (are : AreTurns (setting_in head) head state0 file0 turns) (written : Appends out0.written out1.written (concat (texts_of show turns))) (logged : Appends log0.written log1.written (framed (logs_of turns)))
+  module _ (Left : List Turn → List Command → Type 0) (turns : List Turn) (more : List Command) (line : List ℕ) (whole : script head.dim bytes ≡ commands_of (answers_of turns) ++ more)
+      (are : AreTurns (setting_in head) head state0 file0 turns) (written : Appends out0.written out1.written (concat (texts_of show (answers_of turns)))) (logged : Appends log0.written log1.written (framed (logs_of (answers_of turns))))
       (later : out0.faults ≤ out1.faults) (told : Tells out1 out2 line) (left : Left turns more) where
     told_since : Appends out1.written out2.written line ⊎ (AppendsPrefix out1.written out2.written line × Rose out0.faults out2.faults)
     told_since = elim told [
       | inl all ↦ inl all
-      | inr cut ↦ inr (cut.0, rose_more _ _ _ later cut.1)
+      | inr cut ↦ inr (cut.0, rose_before _ _ _ later cut.1)
     ]
 
     pub with_line : (status : ℕ) →
-        ((rest : List ℕ) → IsTold (Rose out0.faults out2.faults) rest line → Ends (Rose out0.faults out2.faults) status head show state0 file0 turns more rest []) → status ≢ 0 →
+        ((rest : List ℕ) → IsTold (Rose out0.faults out2.faults) rest line → SessionEnds (Rose out0.faults out2.faults) status head show state0 file0 turns more rest []) → status ≢ 0 →
         RunsOn Left show bytes head live file disk1 out0 out2 log0 log1 status
     with_line status ends other =
-        let part = told_appended out0.written out1.written out2.written (Rose out0.faults out2.faults) (concat (texts_of show turns)) line written told_since in
+        let part = told_behind out0.written out1.written out2.written (Rose out0.faults out2.faults) (concat (texts_of show (answers_of turns))) line written told_since in
         record {
           turns = turns;
           more = more;
@@ -74,70 +78,16 @@ module _ (show : Bool) (bytes : List ℕ) (head : Head) (live : Live) (file : Li
           are = are;
           ends = ends part.0 part.1;
           written = part.2;
-          logged = rw (append-nil (framed (logs_of turns))) logged;
+          logged = rw (append-nil (framed (logs_of (answers_of turns)))) logged;
           last = λ is. absurd (other is);
           leaves = left;
         }
 
--- what an end with a line says, by the status
-module _ (Failed : Type 0) (head : Head) (show : Bool) (state : State) (file : Version) (more : List Command) (rest : List ℕ) where
-  pub disk_ends : (turns : List Turn) (status : ℕ) → status ≡ 5 → IsTold Failed rest (codes "fault disk\n") → Ends Failed status head show state file turns more rest []
-  disk_ends turns status is line = record {
-    done = λ e. absurd (omega arith);
-    input = λ e. absurd (omega arith);
-    output = λ e. absurd (omega arith);
-    disk = λ e. line;
-    long = λ e. absurd (omega arith);
-    memory = λ e. absurd (omega arith);
-    unlogged = λ e. refl;
-    index = λ e. absurd (omega arith);
-    undamaged = λ e. absurd (omega arith);
-  }
-
-  pub memory_ends : (turns : List Turn) (status : ℕ) → status ≡ 8 → IsTold Failed rest (codes "fault memory\n") → Ends Failed status head show state file turns more rest []
-  memory_ends turns status is line = record {
-    done = λ e. absurd (omega arith);
-    input = λ e. absurd (omega arith);
-    output = λ e. absurd (omega arith);
-    disk = λ e. absurd (omega arith);
-    long = λ e. absurd (omega arith);
-    memory = λ e. line;
-    unlogged = λ e. refl;
-    index = λ e. absurd (omega arith);
-    undamaged = λ e. absurd (omega arith);
-  }
-
-  pub input_ends : (status : ℕ) → status ≡ 3 → IsTold Failed rest (codes "fault input\n") → Ends Failed status head show state file [] more rest []
-  input_ends status is line = record {
-    done = λ e. absurd (omega arith);
-    input = λ e. (refl, line);
-    output = λ e. absurd (omega arith);
-    disk = λ e. absurd (omega arith);
-    long = λ e. absurd (omega arith);
-    memory = λ e. absurd (omega arith);
-    unlogged = λ e. refl;
-    index = λ e. absurd (omega arith);
-    undamaged = λ e. absurd (omega arith);
-  }
-
-  pub long_ends : (status : ℕ) → status ≡ 7 → IsTold Failed rest (codes "fault long\n") → Ends Failed status head show state file [] more rest []
-  long_ends status is line = record {
-    done = λ e. absurd (omega arith);
-    input = λ e. absurd (omega arith);
-    output = λ e. absurd (omega arith);
-    disk = λ e. absurd (omega arith);
-    long = λ e. (refl, line);
-    memory = λ e. absurd (omega arith);
-    unlogged = λ e. refl;
-    index = λ e. absurd (omega arith);
-    undamaged = λ e. absurd (omega arith);
-  }
-
 -- ---- after a session on an opened index
 
-module _ (show : Bool) (bytes : List ℕ) (head : Head) (live : Live) (file : List ℕ) (disk0 disk1 : DiskState) (out0 out1 log0 log1 : SinkState) (commands : List Command) (ack : ℕ) (left : Version)
+module _ (show : Bool) (bytes : List ℕ) (head : Head) (live : Live) (file : List ℕ) (disk0 disk1 : DiskState) (out0 out1 log0 log1 : SinkState) (commands : List Command) (ack : ℕ) (left : Held)
     (script_is : commands ≡ script head.dim bytes) (later : out0.faults ≤ out1.faults) where
-  pub done_runs : HasRun (setting_in head) head show commands (state_in head live file) (version_in head live file) disk0 disk1 out0 out1 log0 log1 ack None left → IsLeft head left disk1 →
+  pub done_runs : HasRun (setting_in head) head show commands (state_in head live file) (held_in head.dim live file) disk0 disk1 out0 out1 log0 log1 ack None left → IsLeft head left disk1 →
       RunsOn (LeavesAll head (state_in head live file) disk0 disk1) show bytes head live file disk1 out0 out1 log0 log1 0
   done_runs ran is_left = record {
     turns = ran.turns;
@@ -159,12 +109,12 @@ module _ (show : Bool) (bytes : List ℕ) (head : Head) (live : Live) (file : Li
     };
     written = ran.written;
     logged = ran.logged;
-    last = λ e. subst (λ (v : Version). IsLeft head v disk1) (ran.last refl) is_left;
+    last = λ e. subst (λ (v : Held). IsLeft head v disk1) (ran.last refl) is_left;
     leaves = (ran.moments, ran.remains);
   }
 
   -- an output failed
-  pub cut_runs : HasRun (setting_in head) head show commands (state_in head live file) (version_in head live file) disk0 disk1 out0 out1 log0 log1 ack (Some stop.Sink) left → (status : ℕ) → status ≡ 4 →
+  pub cut_runs : HasRun (setting_in head) head show commands (state_in head live file) (held_in head.dim live file) disk0 disk1 out0 out1 log0 log1 ack (Some stop.Sink) left → (status : ℕ) → status ≡ 4 →
       RunsOn (LeavesAll head (state_in head live file) disk0 disk1) show bytes head live file disk1 out0 out1 log0 log1 status
   cut_runs ran status is = record {
     turns = ran.turns;
@@ -192,27 +142,27 @@ module _ (show : Bool) (bytes : List ℕ) (head : Head) (live : Live) (file : Li
 
   module _ (Sound : Type 0) (out2 : SinkState) where
     -- a line is put behind the acknowledged replies
-    lined : (why : Stop) (line : List ℕ) (ran : HasRun (setting_in head) head show commands (state_in head live file) (version_in head live file) disk0 disk1 out0 out1 log0 log1 ack (Some why) left) →
+    lined : (why : Stop) (line : List ℕ) (ran : HasRun (setting_in head) head show commands (state_in head live file) (held_in head.dim live file) disk0 disk1 out0 out1 log0 log1 ack (Some why) left) →
         (ran.rest ≡ []) × (ran.log_rest ≡ []) → Tells out1 out2 line → (status : ℕ) →
-        ((rest : List ℕ) → IsTold (Rose out0.faults out2.faults) rest line → Ends (Rose out0.faults out2.faults) status head show (state_in head live file) (version_in head live file) ran.turns ran.more rest []) → status ≢ 0 →
+        ((rest : List ℕ) → IsTold (Rose out0.faults out2.faults) rest line → SessionEnds (Rose out0.faults out2.faults) status head show (state_in head live file) (held_in head.dim live file) ran.turns ran.more rest []) → status ≢ 0 →
         RunsOn (LeavesAll head (state_in head live file) disk0 disk1) show bytes head live file disk1 out0 out2 log0 log1 status
     lined why line ran nothing told status ends other =
         with_line show bytes head live file disk0 disk1 out0 out1 out2 log0 log1 (LeavesAll head (state_in head live file) disk0 disk1) ran.turns ran.more line (sym script_is ∙ ran.whole) ran.are
-        (subst (λ (l : List ℕ). Appends out0.written out1.written l) (append-nil (concat (texts_of show ran.turns)))
-        (subst (λ (rest : List ℕ). Appends out0.written out1.written (concat (texts_of show ran.turns) ++ rest)) nothing.0 ran.written))
-        (subst (λ (l : List ℕ). Appends log0.written log1.written l) (append-nil (framed (logs_of ran.turns)))
-        (subst (λ (rest : List ℕ). Appends log0.written log1.written (framed (logs_of ran.turns) ++ rest)) nothing.1 ran.logged))
+        (subst (λ (l : List ℕ). Appends out0.written out1.written l) (append-nil (concat (texts_of show (answers_of ran.turns))))
+        (subst (λ (rest : List ℕ). Appends out0.written out1.written (concat (texts_of show (answers_of ran.turns)) ++ rest)) nothing.0 ran.written))
+        (subst (λ (l : List ℕ). Appends log0.written log1.written l) (append-nil (framed (logs_of (answers_of ran.turns))))
+        (subst (λ (rest : List ℕ). Appends log0.written log1.written (framed (logs_of (answers_of ran.turns)) ++ rest)) nothing.1 ran.logged))
         later told (ran.moments, ran.remains) status ends other
 
     -- it was stopped
-    pub stopped_runs : (why : Stop) (status : ℕ) → HasRun (setting_in head) head show commands (state_in head live file) (version_in head live file) disk0 disk1 out0 out1 log0 log1 ack (Some why) left →
+    pub stopped_runs : (why : Stop) (status : ℕ) → HasRun (setting_in head) head show commands (state_in head live file) (held_in head.dim live file) disk0 disk1 out0 out1 log0 log1 ack (Some why) left →
         HasEnded why out1 out2 status → HasStopCause Sound disk0 disk1 out0 out1 log0 log1 why → Sound →
         RunsOn (LeavesAll head (state_in head live file) disk0 disk1) show bytes head live file disk1 out0 out2 log0 log1 status
     stopped_runs stop.Sink status ran ended cause sound = rw ended.1 (cut_runs ran status ended.0)
     stopped_runs stop.Disk status ran ended cause sound =
-        lined stop.Disk (codes "fault disk\n") ran ran.ends ended.1 status (λ rest line. disk_ends _ head show _ _ ran.more rest ran.turns status ended.0 line) (λ e. absurd (omega (arith, ended.0)))
+        lined stop.Disk (codes "fault disk\n") ran ran.ends ended.1 status (λ rest line. disk_ends _ _ ran.more rest (answers_of ran.turns) status ended.0 line) (λ e. absurd (omega (arith, ended.0)))
     stopped_runs stop.Memory status ran ended cause sound =
-        lined stop.Memory (codes "fault memory\n") ran ran.ends ended.1 status (λ rest line. memory_ends _ head show _ _ ran.more rest ran.turns status ended.0 line) (λ e. absurd (omega (arith, ended.0)))
+        lined stop.Memory (codes "fault memory\n") ran ran.ends ended.1 status (λ rest line. memory_ends _ _ ran.more rest (answers_of ran.turns) status ended.0 line) (λ e. absurd (omega (arith, ended.0)))
     stopped_runs (stop.Damaged fault) status ran ended cause sound = absurd (cause.1 sound)
 
 -- why it ended, on any file
@@ -256,61 +206,61 @@ finished Sound head disk0 disk1 out0 out1 out2 log0 log1 (stop.Damaged fault) st
 
 -- ---- on an opened index
 
-is_left : {M : Type 0} (new : OpenIndex M) (disk1 : DiskState) (head : Head) → new.file.head ≡ head → StandsAlone new disk1 → IsTrue disk1.tells → IsLeft head (version_on new.file disk1) disk1
-is_left new disk1 head same alone tells = subst (λ (h : Head). IsLeft h (version_on new.file disk1) disk1) same (record { opens = alone.stands.opens tells; nodes = refl; only = alone.only tells })
+is_left : {M : Type 0} (new : OpenIndex M) (disk1 : DiskState) (head : Head) → new.file.head ≡ head → StandsAlone new disk1 → IsTrue disk1.tells → IsLeft head (held_on new.file disk1) disk1
+is_left new disk1 head same alone tells = subst (λ (h : Head). IsLeft h (held_on new.file disk1) disk1) same (record { opens = alone.stands.opens tells; nodes = refl; only = alone.only tells })
 
 module _ {M : Type 0} (show : Bool) (bytes : List ℕ) (old new : OpenIndex M) (disk0 disk1 : DiskState) (out0 out1 log0 log1 : SinkState) (commands : List Command) (ack : ℕ)
     (script_is : commands ≡ script old.file.head.dim bytes) (later : out0.faults ≤ out1.faults) (told : disk1.tells ≡ disk0.tells) where
-  pub opened_done : (IsSoundOn (space_in old.file.head) old.file disk0 →
-      HasRun (setting_of (space_in old.file.head) old.file) old.file.head show commands (state_on old.file disk0 no_cursors) (version_on old.file disk0) disk0 disk1 out0 out1 log0 log1 ack None (version_on new.file disk1)) →
-      new.file.head ≡ old.file.head → StandsAlone new disk1 → IsTrue disk0.tells → IsSoundTree (space_in old.file.head) (nodes_on old.file disk0) old.file.live →
+  pub opened_done : (IsSoundOn (space_of old.file.head) old.file disk0 →
+      HasRun (setting_of (space_of old.file.head) old.file) old.file.head show commands (state_on old.file disk0 no_cursors) (held_on old.file disk0) disk0 disk1 out0 out1 log0 log1 ack None (held_on new.file disk1)) →
+      new.file.head ≡ old.file.head → StandsAlone new disk1 → IsTrue disk0.tells → IsSoundTree (space_of old.file.head) (nodes_on old.file disk0) old.file.live →
       RunsOn (LeavesAll old.file.head (state_in old.file.head old.file.live disk0.bytes) disk0 disk1) show bytes old.file.head old.file.live disk0.bytes disk1 out0 out1 log0 log1 0
   opened_done run same alone tells sound =
-      done_runs show bytes old.file.head old.file.live disk0.bytes disk0 disk1 out0 out1 log0 log1 commands ack (version_on new.file disk1) script_is later (run (tells, sound))
+      done_runs show bytes old.file.head old.file.live disk0.bytes disk0 disk1 out0 out1 log0 log1 commands ack (held_on new.file disk1) script_is later (run (tells, sound))
       (is_left new disk1 old.file.head same alone (rw told tells))
 
-  pub opened_stopped : (out2 : SinkState) (why : Stop) (status : ℕ) → (IsSoundOn (space_in old.file.head) old.file disk0 →
-      HasRun (setting_of (space_in old.file.head) old.file) old.file.head show commands (state_on old.file disk0 no_cursors) (version_on old.file disk0) disk0 disk1 out0 out1 log0 log1 ack (Some why)
-      (version_on new.file disk1)) → HasEnded why out1 out2 status → HasStopCause (IsSoundOn (space_in old.file.head) old.file disk0) disk0 disk1 out0 out1 log0 log1 why →
-      IsTrue disk0.tells → IsSoundTree (space_in old.file.head) (nodes_on old.file disk0) old.file.live →
+  pub opened_stopped : (out2 : SinkState) (why : Stop) (status : ℕ) → (IsSoundOn (space_of old.file.head) old.file disk0 →
+      HasRun (setting_of (space_of old.file.head) old.file) old.file.head show commands (state_on old.file disk0 no_cursors) (held_on old.file disk0) disk0 disk1 out0 out1 log0 log1 ack (Some why)
+      (held_on new.file disk1)) → HasEnded why out1 out2 status → HasStopCause (IsSoundOn (space_of old.file.head) old.file disk0) disk0 disk1 out0 out1 log0 log1 why →
+      IsTrue disk0.tells → IsSoundTree (space_of old.file.head) (nodes_on old.file disk0) old.file.live →
       RunsOn (LeavesAll old.file.head (state_in old.file.head old.file.live disk0.bytes) disk0 disk1) show bytes old.file.head old.file.live disk0.bytes disk1 out0 out2 log0 log1 status
   opened_stopped out2 why status run ended cause tells sound =
-      stopped_runs show bytes old.file.head old.file.live disk0.bytes disk0 disk1 out0 out1 log0 log1 commands ack (version_on new.file disk1) script_is later (IsSoundOn (space_in old.file.head) old.file disk0) out2 why status
+      stopped_runs show bytes old.file.head old.file.live disk0.bytes disk0 disk1 out0 out1 log0 log1 commands ack (held_on new.file disk1) script_is later (IsSoundOn (space_of old.file.head) old.file disk0) out2 why status
       (run (tells, sound)) ended cause (tells, sound)
 
 module _ {M : Type 0} (s : Space) (show : Bool) (bytes : List ℕ) (old new : OpenIndex M) (disk0 disk1 : DiskState) (out0 out1 log0 log1 : SinkState) (commands : List Command) (ack : ℕ) (ended : Option Stop)
-    (same : s ≡ space_in old.file.head) (script_is : commands ≡ script old.file.head.dim bytes) (later : out0.faults ≤ out1.faults) (told : disk1.tells ≡ disk0.tells)
+    (same : s ≡ space_of old.file.head) (script_is : commands ≡ script old.file.head.dim bytes) (later : out0.faults ≤ out1.faults) (told : disk1.tells ≡ disk0.tells)
     (run : IsSoundOn s old.file disk0 →
-    HasRun (setting_of s old.file) old.file.head show commands (state_on old.file disk0 no_cursors) (version_on old.file disk0) disk0 disk1 out0 out1 log0 log1 ack ended (version_on new.file disk1)) where
-  run_in : (e : Option Stop) → ended ≡ e → IsSoundOn (space_in old.file.head) old.file disk0 →
-      HasRun (setting_of (space_in old.file.head) old.file) old.file.head show commands (state_on old.file disk0 no_cursors) (version_on old.file disk0) disk0 disk1 out0 out1 log0 log1 ack e (version_on new.file disk1)
+    HasRun (setting_of s old.file) old.file.head show commands (state_on old.file disk0 no_cursors) (held_on old.file disk0) disk0 disk1 out0 out1 log0 log1 ack ended (held_on new.file disk1)) where
+  run_in : (e : Option Stop) → ended ≡ e → IsSoundOn (space_of old.file.head) old.file disk0 →
+      HasRun (setting_of (space_of old.file.head) old.file) old.file.head show commands (state_on old.file disk0 no_cursors) (held_on old.file disk0) disk0 disk1 out0 out1 log0 log1 ack e (held_on new.file disk1)
   run_in e is =
-      subst (λ (o : Option Stop). IsSoundOn (space_in old.file.head) old.file disk0 →
-      HasRun (setting_of (space_in old.file.head) old.file) old.file.head show commands (state_on old.file disk0 no_cursors) (version_on old.file disk0) disk0 disk1 out0 out1 log0 log1 ack o (version_on new.file disk1)) is
+      subst (λ (o : Option Stop). IsSoundOn (space_of old.file.head) old.file disk0 →
+      HasRun (setting_of (space_of old.file.head) old.file) old.file.head show commands (state_on old.file disk0 no_cursors) (held_on old.file disk0) disk0 disk1 out0 out1 log0 log1 ack o (held_on new.file disk1)) is
       (subst (λ (x : Space). IsSoundOn x old.file disk0 →
-      HasRun (setting_of x old.file) old.file.head show commands (state_on old.file disk0 no_cursors) (version_on old.file disk0) disk0 disk1 out0 out1 log0 log1 ack ended (version_on new.file disk1)) same run)
+      HasRun (setting_of x old.file) old.file.head show commands (state_on old.file disk0 no_cursors) (held_on old.file disk0) disk0 disk1 out0 out1 log0 log1 ack ended (held_on new.file disk1)) same run)
 
-  pub is_done : ended ≡ None → new.file.head ≡ old.file.head → StandsAlone new disk1 → IsTrue disk0.tells → IsSoundTree (space_in old.file.head) (nodes_on old.file disk0) old.file.live →
+  pub is_done : ended ≡ None → new.file.head ≡ old.file.head → StandsAlone new disk1 → IsTrue disk0.tells → IsSoundTree (space_of old.file.head) (nodes_on old.file disk0) old.file.live →
       RunsOn (LeavesAll old.file.head (state_in old.file.head old.file.live disk0.bytes) disk0 disk1) show bytes old.file.head old.file.live disk0.bytes disk1 out0 out1 log0 log1 0
   is_done is same_head alone tells sound = opened_done show bytes old new disk0 disk1 out0 out1 log0 log1 commands ack script_is later told (run_in None is) same_head alone tells sound
 
   pub is_stopped : (out2 : SinkState) (why : Stop) (status : ℕ) → ended ≡ Some why → HasEnded why out1 out2 status →
-      MatchOption ended (Unit {0}) (HasStopCause (IsSoundOn s old.file disk0) disk0 disk1 out0 out1 log0 log1) → IsTrue disk0.tells → IsSoundTree (space_in old.file.head) (nodes_on old.file disk0) old.file.live →
+      MatchOption ended (Unit {0}) (HasStopCause (IsSoundOn s old.file disk0) disk0 disk1 out0 out1 log0 log1) → IsTrue disk0.tells → IsSoundTree (space_of old.file.head) (nodes_on old.file disk0) old.file.live →
       RunsOn (LeavesAll old.file.head (state_in old.file.head old.file.live disk0.bytes) disk0 disk1) show bytes old.file.head old.file.live disk0.bytes disk1 out0 out2 log0 log1 status
   is_stopped out2 why status is end cause tells sound =
       opened_stopped show bytes old new disk0 disk1 out0 out1 log0 log1 commands ack script_is later told out2 why status (run_in (Some why) is) end
       (subst (λ (x : Space). HasStopCause (IsSoundOn x old.file disk0) disk0 disk1 out0 out1 log0 log1 why) same (rw is at cause)) tells sound
 
   -- few pages were read
-  pub few_read : ended ≡ None → IsTrue disk0.tells → IsSoundTree (space_in old.file.head) (nodes_on old.file disk0) old.file.live → AllByRecursion IsAsking (script old.file.head.dim bytes) → ReadsFew 0 show disk0 disk1 log0 log1
+  pub few_read : ended ≡ None → IsTrue disk0.tells → IsSoundTree (space_of old.file.head) (nodes_on old.file disk0) old.file.live → AllByRecursion IsAsking (script old.file.head.dim bytes) → ReadsFew 0 show disk0 disk1 log0 log1
   few_read is tells sound asks = record {
-    logs = logs_of ran.turns;
-    logged = subst (λ (l : List ℕ). Appends log0.written log1.written l) (append-nil (framed (logs_of ran.turns)))
-        (subst (λ (rest : List ℕ). Appends log0.written log1.written (framed (logs_of ran.turns) ++ rest)) ran.ends.2 ran.logged);
+    logs = logs_of (answers_of ran.turns);
+    logged = subst (λ (l : List ℕ). Appends log0.written log1.written l) (append-nil (framed (logs_of (answers_of ran.turns))))
+        (subst (λ (rest : List ℕ). Appends log0.written log1.written (framed (logs_of (answers_of ran.turns)) ++ rest)) ran.ends.2 ran.logged);
     reads = let few = ran.reads refl (subst (AllByRecursion IsAsking) (sym script_is) asks) in omega (arith, few);
   }
     where
-      ran : HasRun (setting_of (space_in old.file.head) old.file) old.file.head show commands (state_on old.file disk0 no_cursors) (version_on old.file disk0) disk0 disk1 out0 out1 log0 log1 ack None (version_on new.file disk1)
+      ran : HasRun (setting_of (space_of old.file.head) old.file) old.file.head show commands (state_on old.file disk0 no_cursors) (held_on old.file disk0) disk0 disk1 out0 out1 log0 log1 ack None (held_on new.file disk1)
       ran = run_in None is (tells, sound)
 
 -- a session that was stopped is not done
@@ -323,22 +273,22 @@ not_done (stop.Damaged fault) out0 out1 status (inr ended) is = omega (arith, en
 
 -- what a crash leaves that comes before the first command
 pub held : {M : Type 0} (index : OpenIndex M) (disk : DiskState) (words : ℕ) → words ≡ index.file.head.dim → IsLawfulFile words index.file → StandsAlone index disk → IsTrue disk.tells →
-    IsSoundTree (space_in index.file.head) (nodes_on index.file disk) index.file.live → (image : List ℕ) → MayLeave disk image →
-    HoldsState (space_in index.file.head) index.file.head (state_in index.file.head index.file.live disk.bytes) image
+    IsSoundTree (space_of index.file.head) (nodes_on index.file disk) index.file.live → (image : List ℕ) → MayLeave disk image →
+    HoldsState (space_of index.file.head) index.file.head (state_in index.file.head index.file.live disk.bytes) image
 held index disk words same lawful alone tells sound image left =
-    subst (λ (file : List ℕ). HoldsState (space_in index.file.head) index.file.head (state_in index.file.head index.file.live disk.bytes) file) (sym (alone.only tells image left))
-    (holds (space_in index.file.head) index.file disk _ _ (subst (λ (w : ℕ). IsLawfulFile w index.file) same lawful) alone.stands (objects_on (space_in index.file.head) index.file disk (tells, sound)))
+    subst (λ (file : List ℕ). HoldsState (space_of index.file.head) index.file.head (state_in index.file.head index.file.live disk.bytes) file) (sym (alone.only tells image left))
+    (holds (space_of index.file.head) index.file disk _ _ (subst (λ (w : ℕ). IsLawfulFile w index.file) same lawful) alone.stands (objects_on (space_of index.file.head) index.file disk (tells, sound)))
 
 -- nothing was done: the line of a fault is all that was put
 pub unread : (show : Bool) (bytes : List ℕ) (head : Head) (live : Live) (file : List ℕ) (disk0 disk1 : DiskState) (out0 out1 log : SinkState) (line : List ℕ) (Left : List Turn → List Command → Type 0) →
     Tells out0 out1 line → Left [] (script head.dim bytes) → (status : ℕ) →
-    ((rest : List ℕ) → IsTold (Rose out0.faults out1.faults) rest line → Ends (Rose out0.faults out1.faults) status head show (state_in head live file) (version_in head live file) [] (script head.dim bytes) rest []) →
+    ((rest : List ℕ) → IsTold (Rose out0.faults out1.faults) rest line → SessionEnds (Rose out0.faults out1.faults) status head show (state_in head live file) (held_in head.dim live file) [] (script head.dim bytes) rest []) →
     status ≢ 0 → RunsOn Left show bytes head live file disk1 out0 out1 log log status
 unread show bytes head live file disk0 disk1 out0 out1 log line Left told left status ends other =
     with_line show bytes head live file disk0 disk1 out0 out0 out1 log log Left [] (script head.dim bytes) line refl tt (Appends-nil out0.written) (Appends-nil log.written) (omega arith) told left status ends other
 
 -- a session that did nothing left the objects that were there
-pub nothing_left : (head : Head) (live : Live) (file : List ℕ) (disk : DiskState) (more : List Command) → ((image : List ℕ) → MayLeave disk image → HoldsState (space_in head) head (state_in head live file) image) →
+pub nothing_left : (head : Head) (live : Live) (file : List ℕ) (disk : DiskState) (more : List Command) → ((image : List ℕ) → MayLeave disk image → HoldsState (space_of head) head (state_in head live file) image) →
     LeavesAll head (state_in head live file) disk disk [] more
 nothing_left head live file disk more holds = (started disk _ (λ image left. inl (holds image left)), λ image left. inl (holds image left))
 
@@ -377,7 +327,7 @@ pub refused_runs : FaultIsNotOpen → OneLiveSlot → (show : Bool) (bytes : Lis
 refused_runs faults one show bytes disk0 disk1 out0 out1 log status same refuses tells head live sound = elim refuses.statuses [
   | inl five ↦
       unread show bytes head live disk0.bytes disk0 disk1 out0 out1 log (codes "fault disk\n") (Leaves head (state_in head live disk0.bytes) disk0 disk1) (refuses.disk five).1 (inl (refl, same.time)) status
-      (λ rest line. disk_ends (Rose out0.faults out1.faults) head show (state_in head live disk0.bytes) (version_in head live disk0.bytes) (script head.dim bytes) rest [] status five line) (λ e. absurd (omega arith))
+      (λ rest line. disk_ends (Rose out0.faults out1.faults) _ (script head.dim bytes) rest [] status five line) (λ e. absurd (omega arith))
   | inr six ↦ let named = refuses.not_index six in absurd (no_index_unsound faults one disk0.bytes named.0 (named.2 tells) head live sound)
 ]
 
@@ -386,7 +336,7 @@ pub memory_runs : (show : Bool) (bytes : List ℕ) (disk0 disk1 disk2 : DiskStat
     Tells out0 out1 (codes "fault memory\n") → RunsScript show bytes disk0 disk2 out0 out1 log log status
 memory_runs show bytes disk0 disk1 disk2 out0 out1 log status same time eight told tells head live sound =
     unread show bytes head live disk0.bytes disk0 disk2 out0 out1 log (codes "fault memory\n") (Leaves head (state_in head live disk0.bytes) disk0 disk2) told (inl (refl, opening disk0 disk1 disk2 same time)) status
-    (λ rest line. memory_ends (Rose out0.faults out1.faults) head show (state_in head live disk0.bytes) (version_in head live disk0.bytes) (script head.dim bytes) rest [] status eight line) (λ e. absurd (omega arith))
+    (λ rest line. memory_ends (Rose out0.faults out1.faults) _ (script head.dim bytes) rest [] status eight line) (λ e. absurd (omega arith))
 
 module _ (faults : FaultIsNotOpen) (one : OneLiveSlot) (show : Bool) (bytes : List ℕ) (disk0 disk1 disk2 : DiskState) (out0 out1 log : SinkState) (words status : ℕ) (why : OpenFault) (opened : Head × Live)
     (same : IsUnchanged disk0 disk1) (later : disk0.faults ≤ disk1.faults) (opens : IsTrue disk0.tells → OpensTo disk0.bytes opened.0 opened.1) (version : opened.0.version ≡ 2) (dim : words ≡ opened.0.dim)
@@ -422,7 +372,7 @@ module _ (faults : FaultIsNotOpen) (one : OneLiveSlot) (show : Bool) (bytes : Li
     | inl is ↦
         unread show bytes head live disk0.bytes disk0 disk2 out0 out1 log (codes "fault disk\n") (Leaves head (state_in head live disk0.bytes) disk0 disk2)
         (subst (λ (w : OpenFault). Tells out0 out1 (unopened_text w)) (five is) line) (inl (refl, opening disk0 disk1 disk2 same time)) status
-        (λ rest line. disk_ends (Rose out0.faults out1.faults) head show (state_in head live disk0.bytes) (version_in head live disk0.bytes) (script head.dim bytes) rest [] status is line) (λ e. absurd (omega arith))
+        (λ rest line. disk_ends (Rose out0.faults out1.faults) _ (script head.dim bytes) rest [] status is line) (λ e. absurd (omega arith))
     | inr is ↦ absurd (never tells (six is))
   ]
 
@@ -436,7 +386,7 @@ module _ (faults : FaultIsNotOpen) (one : OneLiveSlot) (show : Bool) (bytes : Li
   }
     where
       rose_of : why ≡ fault.Disk → HasReaderCause words disk1 disk2 why → Rose disk0.faults disk2.faults
-      rose_of is (inl first) = rose_more _ _ _ later (rose_by_disk disk1 disk2 why is first)
+      rose_of is (inl first) = rose_before _ _ _ later (rose_by_disk disk1 disk2 why is first)
       rose_of is (inr (inl old)) = absurd (let e = sym is ∙ old.0 in cc)
       rose_of is (inr (inr wide)) = absurd (let e = sym is ∙ wide.0 in cc)
 
@@ -484,8 +434,8 @@ module _ {M : Type 0} (kind_of dim_of : M → ℕ) (one : OneLiveSlot) (show : B
     (reopens : IsTrue disk2.tells → OpensTo disk2.bytes index.file.head index.file.live) (opens : IsTrue disk0.tells → OpensTo disk0.bytes opened.0 opened.1)
     (kind : kind_of index.file.metric ≡ opened.0.kind) (dim : dim_of index.file.metric ≡ opened.0.dim) where
   -- what is said of the opened index is said of the file
-  said_before : (Asks : ℕ → Type 0) (Said : Head → Live → List ℕ → Type 0) (head : Head) (live : Live) → IsTrue disk0.tells → IsSoundFile (space_in head) head live disk0.bytes → Asks head.dim →
-      (IsTrue disk2.tells → kind_of index.file.metric ≡ index.file.head.kind → dim_of index.file.metric ≡ index.file.head.dim → IsSoundTree (space_in index.file.head) (nodes_on index.file disk2) index.file.live →
+  said_before : (Asks : ℕ → Type 0) (Said : Head → Live → List ℕ → Type 0) (head : Head) (live : Live) → IsTrue disk0.tells → IsSoundFile (space_of head) head live disk0.bytes → Asks head.dim →
+      (IsTrue disk2.tells → kind_of index.file.metric ≡ index.file.head.kind → dim_of index.file.metric ≡ index.file.head.dim → IsSoundTree (space_of index.file.head) (nodes_on index.file disk2) index.file.live →
       Asks index.file.head.dim → Said index.file.head index.file.live disk2.bytes) → Said head live disk0.bytes
   said_before Asks Said head live tells sound asks run =
       moved index.file.head index.file.live disk2.bytes head_here live_here (bytes_are one index opened disk0 disk1 disk2 same bytes_same tells_same reopens opens tells head live sound.opens)
@@ -500,14 +450,14 @@ module _ {M : Type 0} (kind_of dim_of : M → ℕ) (one : OneLiveSlot) (show : B
       opened_here : opened.0 ≡ index.file.head
       opened_here = opened_is one index opened disk0 disk1 disk2 same bytes_same tells_same reopens opens tells head live sound.opens
 
-      moved : (h : Head) (l : Live) (f : List ℕ) → h ≡ head → l ≡ live → f ≡ disk0.bytes → (IsSoundTree (space_in h) (nodes_in h.dim l f) l → Asks h.dim → Said h l f) → Said head live disk0.bytes
+      moved : (h : Head) (l : Live) (f : List ℕ) → h ≡ head → l ≡ live → f ≡ disk0.bytes → (IsSoundTree (space_of h) (nodes_in h.dim l f) l → Asks h.dim → Said h l f) → Said head live disk0.bytes
       moved h l f hs ls fs go =
-          (subst (λ (x : Head). IsSoundTree (space_in x) (nodes_in x.dim live disk0.bytes) live → Asks x.dim → Said x live disk0.bytes) hs
-          (subst (λ (x : Live). IsSoundTree (space_in h) (nodes_in h.dim x disk0.bytes) x → Asks h.dim → Said h x disk0.bytes) ls
-          (subst (λ (x : List ℕ). IsSoundTree (space_in h) (nodes_in h.dim l x) l → Asks h.dim → Said h l x) fs go))) sound.tree asks
+          (subst (λ (x : Head). IsSoundTree (space_of x) (nodes_in x.dim live disk0.bytes) live → Asks x.dim → Said x live disk0.bytes) hs
+          (subst (λ (x : Live). IsSoundTree (space_of h) (nodes_in h.dim x disk0.bytes) x → Asks h.dim → Said h x disk0.bytes) ls
+          (subst (λ (x : List ℕ). IsSoundTree (space_of h) (nodes_in h.dim l x) l → Asks h.dim → Said h l x) fs go))) sound.tree asks
 
   pub since_opening :
-      (IsTrue disk2.tells → kind_of index.file.metric ≡ index.file.head.kind → dim_of index.file.metric ≡ index.file.head.dim → IsSoundTree (space_in index.file.head) (nodes_on index.file disk2) index.file.live →
+      (IsTrue disk2.tells → kind_of index.file.metric ≡ index.file.head.kind → dim_of index.file.metric ≡ index.file.head.dim → IsSoundTree (space_of index.file.head) (nodes_on index.file disk2) index.file.live →
       RunsOn (LeavesAll index.file.head (state_in index.file.head index.file.live disk2.bytes) disk2 disk3) show bytes index.file.head index.file.live disk2.bytes disk3 out0 out1 log0 log1 status) →
       RunsScript show bytes disk0 disk3 out0 out1 log0 log1 status
   since_opening run tells head live sound =
@@ -516,7 +466,7 @@ module _ {M : Type 0} (kind_of dim_of : M → ℕ) (one : OneLiveSlot) (show : B
       (λ told is_kind is_dim tree asks. run told is_kind is_dim tree))
 
   pub reads_since : disk1.reads ≤ disk0.reads + 3 → disk2.reads ≤ disk1.reads + 3 →
-      (status ≡ 0 → IsTrue disk2.tells → kind_of index.file.metric ≡ index.file.head.kind → dim_of index.file.metric ≡ index.file.head.dim → IsSoundTree (space_in index.file.head) (nodes_on index.file disk2) index.file.live →
+      (status ≡ 0 → IsTrue disk2.tells → kind_of index.file.metric ≡ index.file.head.kind → dim_of index.file.metric ≡ index.file.head.dim → IsSoundTree (space_of index.file.head) (nodes_on index.file disk2) index.file.live →
       AllByRecursion IsAsking (script index.file.head.dim bytes) → ReadsFew 0 show disk2 disk3 log0 log1) → ReadsScript show bytes disk0 disk3 log0 log1 status
   reads_since first second run zero tells head live sound asks =
       let few = said_before (λ dim. AllByRecursion IsAsking (script dim bytes)) (λ h l f. ReadsFew 0 show disk2 disk3 log0 log1) head live tells sound asks (run zero) in
@@ -527,7 +477,7 @@ pub refused_of : (here : Head) (disk0 disk1 disk2 : DiskState) (out0 out1 log0 l
     (IsTrue disk0.tells → (head : Head) (live : Live) → OpensTo disk0.bytes head live → here ≡ head) → HasFinished here disk1 disk2 out0 out1 log0 log1 status → HasRefused disk0 disk2 out0 out1 log0 log1 status
 refused_of here disk0 disk1 disk2 out0 out1 log0 log1 status later same_tells same_head ended = record {
   output = ended.output;
-  disk = λ is. rose_more _ _ _ later (ended.disk is);
+  disk = λ is. rose_before _ _ _ later (ended.disk is);
   not_index = λ is. absurd (six is ended.statuses);
   damaged = λ is. let damage = ended.damaged is in record {
     fault = damage.fault;
@@ -559,7 +509,7 @@ refused_of here disk0 disk1 disk2 out0 out1 log0 log1 status later same_tells sa
 -- the script was not read: the line of a fault is all that was put
 pub unread_session : (show : Bool) (input : Option (List ℕ)) (disk : DiskState) (out0 out1 log : SinkState) (status : ℕ) (line : List ℕ) → Tells out0 out1 line → status ≢ 0 → status ≢ 5 → status ≢ 6 → status ≢ 9 →
     ((bytes : List ℕ) (head : Head) (live : Live) (rest : List ℕ) → IsTold (Rose out0.faults out1.faults) rest line →
-    Ends (Rose out0.faults out1.faults) status head show (state_in head live disk.bytes) (version_in head live disk.bytes) [] (script head.dim bytes) rest []) →
+    SessionEnds (Rose out0.faults out1.faults) status head show (state_in head live disk.bytes) (held_in head.dim live disk.bytes) [] (script head.dim bytes) rest []) →
     RunsSession show input disk disk out0 out1 log log status
 unread_session show input disk out0 out1 log status line told zero five six nine ends = record {
   runs = always input _ (λ bytes tells head live sound.
@@ -574,17 +524,17 @@ unread_session show input disk out0 out1 log status line told zero five six nine
 pub input_session : (show : Bool) (input : Option (List ℕ)) (disk : DiskState) (out0 out1 log : SinkState) (status : ℕ) → status ≡ 3 → Tells out0 out1 (codes "fault input\n") → RunsSession show input disk disk out0 out1 log log status
 input_session show input disk out0 out1 log status is told =
     unread_session show input disk out0 out1 log status (codes "fault input\n") told (λ e. absurd (omega arith)) (λ e. absurd (omega arith)) (λ e. absurd (omega arith)) (λ e. absurd (omega arith))
-    (λ bytes head live rest line. input_ends (Rose out0.faults out1.faults) head show (state_in head live disk.bytes) (version_in head live disk.bytes) (script head.dim bytes) rest status is line)
+    (λ bytes head live rest line. input_ends (Rose out0.faults out1.faults) _ (script head.dim bytes) rest status is line)
 
 pub long_session : (show : Bool) (input : Option (List ℕ)) (disk : DiskState) (out0 out1 log : SinkState) (status : ℕ) → status ≡ 7 → Tells out0 out1 (codes "fault long\n") → RunsSession show input disk disk out0 out1 log log status
 long_session show input disk out0 out1 log status is told =
     unread_session show input disk out0 out1 log status (codes "fault long\n") told (λ e. absurd (omega arith)) (λ e. absurd (omega arith)) (λ e. absurd (omega arith)) (λ e. absurd (omega arith))
-    (λ bytes head live rest line. long_ends (Rose out0.faults out1.faults) head show (state_in head live disk.bytes) (version_in head live disk.bytes) (script head.dim bytes) rest status is line)
+    (λ bytes head live rest line. long_ends (Rose out0.faults out1.faults) _ (script head.dim bytes) rest status is line)
 
 pub memory_session : (show : Bool) (input : Option (List ℕ)) (disk : DiskState) (out0 out1 log : SinkState) (status : ℕ) → status ≡ 8 → Tells out0 out1 (codes "fault memory\n") → RunsSession show input disk disk out0 out1 log log status
 memory_session show input disk out0 out1 log status is told =
     unread_session show input disk out0 out1 log status (codes "fault memory\n") told (λ e. absurd (omega arith)) (λ e. absurd (omega arith)) (λ e. absurd (omega arith)) (λ e. absurd (omega arith))
-    (λ bytes head live rest line. memory_ends (Rose out0.faults out1.faults) head show (state_in head live disk.bytes) (version_in head live disk.bytes) (script head.dim bytes) rest [] status is line)
+    (λ bytes head live rest line. memory_ends (Rose out0.faults out1.faults) _ (script head.dim bytes) rest [] status is line)
 
 -- ---- a script that was read whole
 

@@ -19,22 +19,22 @@ use Rattle.job_words.specs.declared.names.Split.TheVariants.{Hyperplane, Balance
 use Rattle.std.specs.Borrow.{Bor}
 use Rattle.job_words.specs.Jobs.{job_of, texts_in}
 use Rattle.job_words.specs.declared.job.Job.{Job}
-use Rattle.log_jobs.specs.declared.report.Report.{Report}
+use Rattle.file_jobs.specs.declared.logs.report.Report.{Report}
 use Rattle.log_jobs.specs.Jobs.{JudgesLogs}
-use Rattle.join_jobs.specs.declared.report.Report.{Report as JoinReport}
 use Rattle.join_jobs.specs.Jobs.{Joins, JudgesLogs as JudgesJoinLogs}
 use Rattle.mtree_cli.proofs.Sessions.{memory_session}
 use Rattle.mtree_cli.specs.Run.{Task, Scene, Does, IsStatusOf, TakesWithin, scan_texts, task_of}
 use Rattle.std.proofs.lemmas.Bool.{true≢false}
-use Rattle.batch_jobs.specs.Batches.{IsLarge, IsTooLong}
-use Rattle.batch_jobs.proofs.Whole.{out_of_memory}
+use Rattle.page_store.specs.Files.{IsLarge}
+use Rattle.batch_run.specs.Jobs.Batches.{IsTooLong}
+use Rattle.batch_run.proofs.jobs.Whole.{out_of_memory}
 use Rattle.making_jobs.specs.Jobs.{IsSummary, ids_of, points_of}
 use Rattle.making_jobs.proofs.Generated.{no_memory}
 use Rattle.making_jobs.proofs.Migrated.{migrates_no_memory}
 use Rattle.making_jobs.specs.Migrating.{RefusesNothing}
 use Rattle.mtree_cli.specs.Run.Task.{Scans, Makes, Draws, Sessions, Generates, Migrates, Batches, Judges, Seals, Carries, Reports, JoinsWithin, ReportsJoins, Proves, Nothing}
-use Rattle.seal_jobs.specs.Seals.{Seals as SealsIndex, IsLarge as IsTooLargeToSeal}
-use Rattle.seal_jobs.specs.Carries.{CarriesLogs, IsDone}
+use Rattle.seal_jobs.specs.Seals.{Seals as SealsIndex}
+use Rattle.seal_jobs.specs.Carries.{CarriesLogs}
 use Rattle.seal_jobs.specs.Proofs.{ProvesLogs}
 use Rattle.seal_jobs.specs.declared.stop.Halt.{Halt}
 use Rattle.seal_jobs.specs.declared.stop.Halt.TheVariants as halt
@@ -74,7 +74,7 @@ no_logs_judged what disk left o0 o1 line = record {
   long_line = λ is. absurd (omega arith);
 }
 
-no_join_logs_judged : (what : JoinReport) (disk other : DiskState) (left : Option (List ℕ)) (o0 o1 : SinkState) → Tells o0 o1 (codes "fault memory\n") → JudgesJoinLogs what disk disk other other left left o0 o1 8
+no_join_logs_judged : (what : Report) (disk other : DiskState) (left : Option (List ℕ)) (o0 o1 : SinkState) → Tells o0 o1 (codes "fault memory\n") → JudgesJoinLogs what disk disk other other left left o0 o1 8
 no_join_logs_judged what disk other left o0 o1 line = record {
   bytes = [];
   taken = Consumes-nil left;
@@ -87,7 +87,7 @@ no_join_logs_judged what disk other left o0 o1 line = record {
     output = λ is. absurd (omega arith);
     disk = λ is. absurd (omega arith);
     not_index = λ is. absurd (omega arith);
-    memory = λ is. line;
+    memory = λ is. inl line;
   };
   unchanged = (unchanged disk, unchanged other);
   input_line = λ is. absurd (omega arith);
@@ -275,11 +275,11 @@ within_logs Large input left0 left1 status bytes taken few long = record {
 pub logs_taken : (Large : Type 0) (input left0 left1 : Option (List ℕ)) (what : Report) (d0 d1 : DiskState) (o0 o1 : SinkState) (status : ℕ) → JudgesLogs what d0 d1 left0 left1 o0 o1 status → TakesWithin Large input input left0 left1 status
 logs_taken Large input left0 left1 what d0 d1 o0 o1 status told = within_logs Large input left0 left1 status told.bytes told.taken told.few told.long
 
-pub join_logs_taken : (Large : Type 0) (input left0 left1 : Option (List ℕ)) (what : JoinReport) (d0 d1 e0 e1 : DiskState) (o0 o1 : SinkState) (status : ℕ) → JudgesJoinLogs what d0 d1 e0 e1 left0 left1 o0 o1 status
+pub join_logs_taken : (Large : Type 0) (input left0 left1 : Option (List ℕ)) (what : Report) (d0 d1 e0 e1 : DiskState) (o0 o1 : SinkState) (status : ℕ) → JudgesJoinLogs what d0 d1 e0 e1 left0 left1 o0 o1 status
     → TakesWithin Large input input left0 left1 status
 join_logs_taken Large input left0 left1 what d0 d1 e0 e1 o0 o1 status told = within_logs Large input left0 left1 status told.bytes told.taken told.few told.long
 
-pub seal_taken : (input left : Option (List ℕ)) (d0 d1 : DiskState) (o0 o1 : SinkState) (status : ℕ) → SealsIndex d0 d1 o0 o1 status → TakesWithin (IsTrue d0.tells → IsTooLargeToSeal d0.bytes) input input left left status
+pub seal_taken : (input left : Option (List ℕ)) (d0 d1 : DiskState) (o0 o1 : SinkState) (status : ℕ) → SealsIndex d0 d1 o0 o1 status → TakesWithin (IsTrue d0.tells → IsLarge d0.bytes) input input left left status
 seal_taken input left d0 d1 o0 o1 status told = record {
   script_bytes = [];
   log_bytes = [];
@@ -292,7 +292,7 @@ seal_taken input left d0 d1 o0 o1 status told = record {
 }
 
 pub carried_taken : (input left0 left1 l0 l1 : Option (List ℕ)) (d0 d1 : DiskState) (o0 o1 : SinkState) (status : ℕ) → CarriesLogs d0 d1 left0 left1 l0 l1 o0 o1 status
-    → TakesWithin (IsTrue d0.tells → IsTooLargeToSeal d0.bytes) input input left0 left1 status
+    → TakesWithin (IsTrue d0.tells → IsLarge d0.bytes) input input left0 left1 status
 carried_taken input left0 left1 l0 l1 d0 d1 o0 o1 status told = record {
   script_bytes = [];
   log_bytes = told.bytes;
@@ -311,7 +311,7 @@ proofs_taken Large input left0 left1 root o0 o1 status told = within_logs Large 
 pub logs_rose : (left0 left1 : Option (List ℕ)) (what : Report) (d0 d1 : DiskState) (o0 o1 : SinkState) (status : ℕ) → JudgesLogs what d0 d1 left0 left1 o0 o1 status → status ≡ 5 → Rose d0.faults d1.faults
 logs_rose left0 left1 what d0 d1 o0 o1 status told is = ((told.judges (omega arith) (omega arith)).disk is).0
 
-pub join_logs_rose : (left0 left1 : Option (List ℕ)) (what : JoinReport) (d0 d1 e0 e1 : DiskState) (o0 o1 : SinkState) (status : ℕ) → JudgesJoinLogs what d0 d1 e0 e1 left0 left1 o0 o1 status → status ≡ 5 → Rose d0.faults d1.faults ⊎ Rose e0.faults e1.faults
+pub join_logs_rose : (left0 left1 : Option (List ℕ)) (what : Report) (d0 d1 e0 e1 : DiskState) (o0 o1 : SinkState) (status : ℕ) → JudgesJoinLogs what d0 d1 e0 e1 left0 left1 o0 o1 status → status ≡ 5 → Rose d0.faults d1.faults ⊎ Rose e0.faults e1.faults
 join_logs_rose left0 left1 what d0 d1 e0 e1 o0 o1 status told is = ((told.judges (omega arith) (omega arith)).disk is).0
 
 pub join_rose : (radius : ℕ) (d0 d1 e0 e1 : DiskState) (o0 o1 v0 v1 : SinkState) (status : ℕ) → Joins radius d0 d1 e0 e1 o0 o1 v0 v1 status → status ≡ 5 → Rose d0.faults d1.faults ⊎ Rose e0.faults e1.faults

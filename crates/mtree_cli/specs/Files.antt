@@ -25,7 +25,8 @@ scene_of disk left sink files out = record {
 }
 
 -- the files of these names were opened, and the run did on them what the job says, and answered its status
-pub record Ran {I L T : Type 0} (disk : I → DiskState) (left : L → Option (List ℕ)) (sink : T → SinkState) (AreFiles : FileNames (List ℕ) → Opened I L T → Type 0)
+pub record Ran {I L T : Type 0} (disk : I → DiskState) (left : L → Option (List ℕ)) (sink : T → SinkState)
+    (AreFiles : FileNames (List ℕ) → Opened I L T → Type 0)
     (job : Option (Job (List ℕ))) (input : Option (List ℕ)) (out0 out1 : SinkState) (status : ℕ) : Type 0 where
   pub before : Opened I L T
   pub after : Opened I L T

@@ -1,4 +1,3 @@
-pub mod Told
 pub mod Session
 pub mod Run
 pub mod Files

@@ -13,25 +13,25 @@ use Rattle.disk_model.specs.Disk.{DiskState}
 use Rattle.node_page.specs.declared.head.Head.{Head}
 use Rattle.file_jobs.specs.Jobs.{Creates, Audits, IsAuditStatus}
 use Rattle.file_jobs.specs.Shapes.{Shapes, IsShapeStatus}
-use Rattle.log_jobs.specs.declared.report.Report.{Report}
-use Rattle.log_jobs.specs.declared.report.Report.TheVariants as report
-use Rattle.log_jobs.specs.Jobs.{JudgesLogs, IsLogStatus}
-use Rattle.join_jobs.specs.declared.report.Report.{Report as JoinReport}
-use Rattle.join_jobs.specs.declared.report.Report.TheVariants as join_report
-use Rattle.join_jobs.specs.Jobs.{Joins, IsJoinStatus, JudgesLogs as JudgesJoinLogs, IsLogStatus as IsJoinLogStatus}
+use Rattle.file_jobs.specs.declared.logs.report.Report.{Report}
+use Rattle.file_jobs.specs.declared.logs.report.Report.TheVariants as report
+use Rattle.file_jobs.specs.Logs.Jobs.{IsLogStatus}
+use Rattle.log_jobs.specs.Jobs.{JudgesLogs}
+use Rattle.join_jobs.specs.Jobs.{Joins, IsJoinStatus, JudgesLogs as JudgesJoinLogs}
 use Rattle.job_words.specs.declared.job.Job.TheVariants as job
 use Rattle.job_words.specs.declared.names.SpaceName.{SpaceName}
 use Rattle.metric_mix.specs.MixSpaces.{mix_space}
 use Rattle.plain_scan.specs.Written.{IsFrontOf, first_text, reply_texts}
-use Rattle.mtree_cli.specs.Told.{IsTold}
+use Rattle.answer_texts.specs.Ending.{IsTold}
 use Rattle.mtree_cli.specs.Session.{RunsSession, IsSessionStatus}
 use Rattle.rows_text.specs.Meaning.{Setting}
 use Rattle.rows_text.specs.Script.{script}
 use Rattle.making_jobs.specs.declared.generating.Generation.{Generation}
 use Rattle.making_jobs.specs.Jobs.{Generates as GeneratesIndex, IsFillStatus}
 use Rattle.making_jobs.specs.Migrating.{Migrates as MigratesIndex, IsMigrateStatus, RefusesNothing}
-use Rattle.batch_jobs.specs.Batches.{IsBatchStatus, IsLarge, RunsBatch}
-use Rattle.seal_jobs.specs.Seals.{Seals as SealsIndex, IsLarge as IsTooLargeToSeal, IsSealStatus}
+use Rattle.page_store.specs.Files.{IsLarge}
+use Rattle.batch_run.specs.Jobs.Batches.{IsBatchStatus, RunsBatch}
+use Rattle.seal_jobs.specs.Seals.{Seals as SealsIndex, IsSealStatus}
 use Rattle.seal_jobs.specs.Carries.{CarriesLogs, IsCarriedLogsStatus}
 use Rattle.seal_jobs.specs.Proofs.{ProvesLogs, IsProofStatus}
 
@@ -117,7 +117,7 @@ pub data Task : Type 0 where
   Carries : Task
   Reports : Report → Task
   JoinsWithin : ℕ → Task
-  ReportsJoins : JoinReport → Task
+  ReportsJoins : Report → Task
   Proves : List ℕ → Task
   Nothing : Task
 
@@ -126,7 +126,8 @@ task_of (Some (job.Scan space limit show)) = Scans (record { space = space; limi
 task_of (Some (job.Create index space policies limit)) = Makes (new_head space policies limit)
 task_of (Some (job.Shape index)) = Draws
 task_of (Some (job.Session index log workers show)) = Sessions show
-task_of (Some (job.Gen index space count seed policies workers)) = Generates (record { head = new_head space policies most_objects; count = count; seed = seed; workers = workers })
+task_of (Some (job.Gen index space count seed policies workers)) =
+    Generates (record { head = new_head space policies most_objects; count = count; seed = seed; workers = workers })
 task_of (Some (job.Migrate index other)) = Migrates
 task_of (Some (job.Batch index workers log show)) = Batches show
 task_of (Some (job.Audit index workers)) = Judges
@@ -136,8 +137,8 @@ task_of (Some (job.Prove log root)) = Proves root
 task_of (Some (job.Verify index log None)) = Reports report.Verdicts
 task_of (Some (job.Check index log None)) = Reports report.Answers
 task_of (Some (job.Join index other radius log)) = JoinsWithin radius
-task_of (Some (job.Verify index log (Some other))) = ReportsJoins join_report.Verdicts
-task_of (Some (job.Check index log (Some other))) = ReportsJoins join_report.Answers
+task_of (Some (job.Verify index log (Some other))) = ReportsJoins report.Verdicts
+task_of (Some (job.Check index log (Some other))) = ReportsJoins report.Answers
 task_of None = Nothing
 
 -- what a run finds or leaves: the index and the other index, what is left of the logs, and what was put to out and to the log's
@@ -263,8 +264,8 @@ PutsLogLast other = Unit {0}
 -- the index has more pages than the task reads into memory
 abbrev pub HasTooManyPages : Task → DiskState → Type 0
 HasTooManyPages (Batches show) disk = IsTrue disk.tells → IsLarge disk.bytes
-HasTooManyPages Seals disk = IsTrue disk.tells → IsTooLargeToSeal disk.bytes
-HasTooManyPages Carries disk = IsTrue disk.tells → IsTooLargeToSeal disk.bytes
+HasTooManyPages Seals disk = IsTrue disk.tells → IsLarge disk.bytes
+HasTooManyPages Carries disk = IsTrue disk.tells → IsLarge disk.bytes
 HasTooManyPages other disk = ⊥
 
 -- Some bytes of input and of logs were taken, at most 2 ^ 26 and 2 ^ 30 and a buffer more. Where more than that many were, the status
@@ -295,7 +296,7 @@ IsStatusOf Draws n = IsShapeStatus n
 IsStatusOf Judges n = IsAuditStatus n
 IsStatusOf (Reports what) n = IsLogStatus n
 IsStatusOf (JoinsWithin radius) n = IsJoinStatus n
-IsStatusOf (ReportsJoins what) n = IsJoinLogStatus n
+IsStatusOf (ReportsJoins what) n = IsLogStatus n
 IsStatusOf Seals n = IsSealStatus n
 IsStatusOf Carries n = IsCarriedLogsStatus n
 IsStatusOf (Proves root) n = IsProofStatus n

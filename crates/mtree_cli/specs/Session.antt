@@ -1,5 +1,5 @@
 -- What a session on an index does and writes, by the status with which it ends.
-use Rattle.std.specs.Prelude.{◌≡◌, ◌≢◌, ◌⊎◌, ℕ, ◌+◌, ◌^◌, ◌≤◌, Bool, List, [], ◌++◌, length, Option, codes, IsTrue, IfSome}
+use Rattle.std.specs.Prelude.{◌≡◌, ◌⊎◌, ℕ, ◌+◌, ◌^◌, ◌≤◌, Bool, List, [], ◌++◌, length, Option, codes, IsTrue, IfSome}
 use Rattle.std.specs.List.{AllByRecursion, concat}
 use Rattle.std.specs.Io.KnownBytes.{Appends}
 use Rattle.outside_io.specs.Causes.{Rose}
@@ -11,7 +11,7 @@ use Rattle.node_page.specs.declared.head.Head.{Head}
 use Rattle.node_page.specs.Opening.{OpensTo}
 use Rattle.tree_shape.specs.declared.live.Live.{Live}
 use Rattle.page_store.specs.declared.pages.PageFault.{PageFault}
-use Rattle.page_store.specs.Files.{IsSoundFile, nodes_in, points_in, tags_in}
+use Rattle.page_store.specs.Files.{IsSoundFile, nodes_in}
 use Rattle.file_jobs.specs.Jobs.{IsNoIndex}
 use Rattle.file_jobs.specs.Lines.{not_index_text, damaged_text}
 use Rattle.rows_text.specs.declared.command.Command.{Command}
@@ -20,64 +20,55 @@ use Rattle.rows_text.specs.Script.{script}
 use Rattle.session_run.specs.declared.stop.Stop.{Stop}
 use Rattle.session_run.specs.declared.stop.Stop.TheVariants as stop
 use Rattle.log_model.specs.declared.logs.Log.{Log}
+use Rattle.answer_texts.specs.Answered.{commands_of, framed, logs_of, texts_of}
+use Rattle.answer_texts.specs.Asked.{Held, held_in, state_of}
+use Rattle.answer_texts.specs.Ending.{Ends}
 use Rattle.session_run.specs.Session.{Grew, HoldsNext, HoldsSome, HoldsState, IsAsking, IsCutShort, IsDamage, IsDamageIn, most_read}
-use Rattle.session_run.specs.Turns.{AreTurns, Turn, Version, commands_of, file_after, framed, logs_of, state_after, texts_of}
-use Rattle.mtree_cli.specs.Told.{IsTold}
+use Rattle.session_run.specs.Turns.{AreTurns, Turn, answers_of, file_after, state_after}
+use Rattle.file_jobs.specs.Spaces.{space_of}
 
 -- the space of a head, and how many objects a file of it may have
-abbrev pub space_in : Head → Space
-space_in head = mix_space head.kind head.dim
-
 abbrev pub setting_in : Head → Setting
-setting_in head = record { space = space_in head; limit = head.limit }
+setting_in head = record { space = space_of head; limit = head.limit }
 
--- what a file holds, and its objects, with no cursor open
-abbrev pub version_in : Head → Live → List ℕ → Version
-version_in head live file = record { nodes = nodes_in head.dim live file; live = live }
-
+-- the objects of a file, with no cursor open
 abbrev pub state_in : Head → Live → List ℕ → State
-state_in head live file = record { objects = record { points = points_in head.dim live file; tags = tags_in head.dim live file }; cursors = []; next = 0 }
+state_in head live file = state_of (held_in head.dim live file)
 
--- What stands on the outputs when a session ends with a status: the acknowledged replies and the frames of their logs, and then `rest`
--- and `log_rest`, where `more` are the other commands.
-pub record Ends (Failed : Type 0) (status : ℕ) (head : Head) (show : Bool) (state : State) (file : Version) (turns : List Turn) (more : List Command) (rest log_rest : List ℕ) : Type 0 where
-  pub done : status ≡ 0 → (more ≡ []) × (rest ≡ []) × (log_rest ≡ [])
-  pub input : status ≡ 3 → (turns ≡ []) × IsTold Failed rest (codes "fault input\n")
-  pub output : status ≡ 4 → IsCutShort (setting_in head) head show (state_after state turns) (file_after file turns) more rest log_rest
-  pub disk : status ≡ 5 → IsTold Failed rest (codes "fault disk\n")
-  pub long : status ≡ 7 → (turns ≡ []) × IsTold Failed rest (codes "fault long\n")
-  pub memory : status ≡ 8 → IsTold Failed rest (codes "fault memory\n")
-  pub unlogged : status ≢ 4 → log_rest ≡ []
-  -- a sound file is an index, and no page of it is damaged
-  pub index : status ≢ 6
-  pub undamaged : status ≢ 9
+-- what stands on the outputs when a session ends with a status, after these turns, where `more` are the other commands
+abbrev pub SessionEnds : Type 0 → ℕ → Head → Bool → State → Held → List Turn → List Command → List ℕ → List ℕ → Type 0
+SessionEnds Failed status head show state file turns more rest log_rest =
+    Ends Failed (IsCutShort (setting_in head) head show (state_after state turns) (file_after file turns) more) status (answers_of turns) more rest log_rest
 
 -- After the last command the file has the last version, which is all that a crash may leave.
-pub record IsLeft (head : Head) (last : Version) (disk : DiskState) : Type 0 where
+pub record IsLeft (head : Head) (last : Held) (disk : DiskState) : Type 0 where
   pub opens : OpensTo disk.bytes head last.live
   pub nodes : nodes_in head.dim last.live disk.bytes ≡ last.nodes
   pub only : LeavesOnly disk disk.bytes
 
 -- the objects after some first turns, or after the next command
 abbrev pub HoldsFront : Head → State → List Turn → List Command → List ℕ → Type 0
-HoldsFront head state turns more image = HoldsSome (setting_in head) head state turns image ⊎ HoldsNext (setting_in head) head (state_after state turns) more image
+HoldsFront head state turns more image = HoldsSome (setting_in head) head state turns image
+    ⊎ HoldsNext (setting_in head) head (state_after state turns) more image
 
 -- the objects after all turns, or after the next command
 abbrev pub HoldsLast : Head → State → List Turn → List Command → List ℕ → Type 0
-HoldsLast head state turns more image = HoldsState (space_in head) head (state_after state turns) image ⊎ HoldsNext (setting_in head) head (state_after state turns) more image
+HoldsLast head state turns more image = HoldsState (space_of head) head (state_after state turns) image
+    ⊎ HoldsNext (setting_in head) head (state_after state turns) more image
 
 -- A session of this script on a sound file with these bytes, where `Left` says what it leaves.
-pub record RunsOn (Left : List Turn → List Command → Type 0) (show : Bool) (bytes : List ℕ) (head : Head) (live : Live) (file : List ℕ) (disk1 : DiskState) (out0 out1 log0 log1 : SinkState) (status : ℕ) : Type 0 where
+pub record RunsOn (Left : List Turn → List Command → Type 0) (show : Bool) (bytes : List ℕ) (head : Head) (live : Live)
+    (file : List ℕ) (disk1 : DiskState) (out0 out1 log0 log1 : SinkState) (status : ℕ) : Type 0 where
   pub turns : List Turn
   pub more : List Command
   pub rest : List ℕ
   pub log_rest : List ℕ
-  pub whole : script head.dim bytes ≡ commands_of turns ++ more
-  pub are : AreTurns (setting_in head) head (state_in head live file) (version_in head live file) turns
-  pub ends : Ends (Rose out0.faults out1.faults) status head show (state_in head live file) (version_in head live file) turns more rest log_rest
-  pub written : Appends out0.written out1.written (concat (texts_of show turns) ++ rest)
-  pub logged : Appends log0.written log1.written (framed (logs_of turns) ++ log_rest)
-  pub last : status ≡ 0 → IsLeft head (file_after (version_in head live file) turns) disk1
+  pub whole : script head.dim bytes ≡ commands_of (answers_of turns) ++ more
+  pub are : AreTurns (setting_in head) head (state_in head live file) (held_in head.dim live file) turns
+  pub ends : SessionEnds (Rose out0.faults out1.faults) status head show (state_in head live file) (held_in head.dim live file) turns more rest log_rest
+  pub written : Appends out0.written out1.written (concat (texts_of show (answers_of turns)) ++ rest)
+  pub logged : Appends log0.written log1.written (framed (logs_of (answers_of turns)) ++ log_rest)
+  pub last : status ≡ 0 → IsLeft head (file_after (held_in head.dim live file) turns) disk1
   pub leaves : Left turns more
 
 -- at every moment, and at the end
@@ -94,7 +85,7 @@ Leaves head state disk0 disk1 turns more =
 -- what a session does whose script has these bytes
 abbrev pub RunsScript : Bool → List ℕ → DiskState → DiskState → SinkState → SinkState → SinkState → SinkState → ℕ → Type 0
 RunsScript show bytes disk0 disk1 out0 out1 log0 log1 status =
-    IsTrue disk0.tells → (head : Head) (live : Live) → IsSoundFile (space_in head) head live disk0.bytes →
+    IsTrue disk0.tells → (head : Head) (live : Live) → IsSoundFile (space_of head) head live disk0.bytes →
     RunsOn (Leaves head (state_in head live disk0.bytes) disk0 disk1) show bytes head live disk0.bytes disk1 out0 out1 log0 log1 status
 
 -- The frames of these logs were put, and the index was read once for each of their records at the most, twice where tags are shown,
@@ -107,7 +98,7 @@ pub record ReadsFew (more : ℕ) (show : Bool) (disk0 disk1 : DiskState) (log0 l
 -- that is so where a script that only asks is done on a sound file; the index is opened with six reads
 abbrev pub ReadsScript : Bool → List ℕ → DiskState → DiskState → SinkState → SinkState → ℕ → Type 0
 ReadsScript show bytes disk0 disk1 log0 log1 status =
-    status ≡ 0 → IsTrue disk0.tells → (head : Head) (live : Live) → IsSoundFile (space_in head) head live disk0.bytes →
+    status ≡ 0 → IsTrue disk0.tells → (head : Head) (live : Live) → IsSoundFile (space_of head) head live disk0.bytes →
     AllByRecursion IsAsking (script head.dim bytes) → ReadsFew 6 show disk0 disk1 log0 log1
 
 -- the last line says which page is damaged, as it is; before it only replies were put
@@ -135,7 +126,7 @@ pub record RunsSession (show : Bool) (input : Option (List ℕ)) (disk0 disk1 : 
 abbrev pub IsComplete : Option (List ℕ) → DiskState → Type 0 → ℕ → Type 0
 IsComplete input disk Fault status =
     IfSome input (λ bytes. length bytes ≤ 2 ^ 26 → IsTrue disk.tells → (head : Head) (live : Live) →
-    IsSoundFile (space_in head) head live disk.bytes → ¬ Fault → (status ≡ 0) ⊎ (status ≡ 8))
+    IsSoundFile (space_of head) head live disk.bytes → ¬ Fault → (status ≡ 0) ⊎ (status ≡ 8))
 
 -- a session ends so and in no other way
 abbrev pub IsSessionStatus : ℕ → Type 0
@@ -148,7 +139,8 @@ abbrev pub HasEnded : Stop → SinkState → SinkState → ℕ → Type 0
 HasEnded stop.Sink out0 out1 status = (status ≡ 4) × (out1 ≡ out0)
 HasEnded stop.Disk out0 out1 status = (status ≡ 5) × Tells out0 out1 (codes "fault disk\n")
 HasEnded stop.Memory out0 out1 status = (status ≡ 8) × Tells out0 out1 (codes "fault memory\n")
-HasEnded (stop.Damaged fault) out0 out1 status = ((status ≡ 9) × Tells out0 out1 (damaged_text fault)) ⊎ ((status ≡ 8) × Tells out0 out1 (codes "fault memory\n"))
+HasEnded (stop.Damaged fault) out0 out1 status = ((status ≡ 9) × Tells out0 out1 (damaged_text fault))
+    ⊎ ((status ≡ 8) × Tells out0 out1 (codes "fault memory\n"))
 
 -- What ends a session on an opened index, on any file: an output or the disk failed, a page is damaged, or memory ran out.
 pub record HasFinished (head : Head) (disk0 disk1 : DiskState) (out0 out1 log0 log1 : SinkState) (status : ℕ) : Type 0 where

@@ -1,8 +1,5 @@
 use crate::log_tests::{HEAD, place};
-use crate::program::run;
-use crate::tests::{fails, words};
-use disk_model::MemoryDisk;
-use outside_io::{MemorySink, MemorySource, Status};
+use crate::runs::{check_both, disk_of, with_logs};
 use std::alloc::{AllocError, Global};
 use std::process::Abort;
 use std::test::Fail;
@@ -62,13 +59,6 @@ fn two_leaves(alloc: Global) -> Result<Vec<u8>, AllocError> {
     Ok(file)
 }
 
-// A disk that holds these bytes.
-fn disk_of(alloc: Global, file: &[u8]) -> Result<MemoryDisk, AllocError> {
-    let bytes = file.to_vec(alloc)?;
-    let room = (bytes.len() as u64).max(65536);
-    MemoryDisk::new(alloc, bytes, room, 1_000_000, Vec::new(alloc), None)
-}
-
 // Two files, and the bytes of logs.
 #[derive(Clone, Copy)]
 struct Files<'a> {
@@ -82,30 +72,13 @@ fn check<R: AllocGlobal + Abort + Threads + Sync>(
     rt: &R,
     command: &str,
     files: &Files<'_>,
-    (status, output): (u8, &str),
+    ended: (u8, &str),
 ) -> Result<Vec<u8>, Fail> {
     let alloc = rt.alloc();
-    let words = words(alloc, command)?;
-    let mut index = disk_of(alloc, files.index)?;
-    let mut other = disk_of(alloc, files.other)?;
-    let mut input = MemorySource::new(Vec::new(alloc), 1, Vec::new(alloc));
-    let mut log_in = MemorySource::new(files.logs.to_vec(alloc)?, 50, fails(alloc, None)?);
-    let mut out = MemorySink::new(alloc, 1000, Vec::new(alloc))?;
-    let mut log_out = MemorySink::new(alloc, 1000, Vec::new(alloc))?;
-    let ended = run(
-        rt,
-        alloc,
-        &words,
-        &mut index,
-        &mut other,
-        &mut input,
-        &mut log_in,
-        &mut out,
-        &mut log_out,
-    );
-    assert_eq!(rt; out.written(), output.as_bytes(), "{}", output);
-    assert_eq!(rt; ended, Status(status), "{}", output);
-    Ok(log_out.written().to_vec(alloc)?)
+    let mut index = disk_of(alloc, files.index, None)?;
+    let mut other = disk_of(alloc, files.other, None)?;
+    let given = with_logs(command, files.logs);
+    check_both(rt, &given, &mut index, &mut other, ended)
 }
 
 #[test]

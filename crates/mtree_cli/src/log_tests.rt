@@ -1,7 +1,5 @@
-use crate::program::run;
-use crate::tests::{empty_disk, fails, words};
+use crate::runs::{Given, check_run, disk_of, with_logs};
 use disk_model::MemoryDisk;
-use outside_io::{MemorySink, MemorySource, Status};
 use std::alloc::{AllocError, Global};
 use std::process::Abort;
 use std::test::Fail;
@@ -102,15 +100,7 @@ fn index_of(alloc: Global, case: &Case<'_>) -> Result<MemoryDisk, AllocError> {
     if let Some((at, byte)) = case.file_change {
         place(&mut file, at, &[byte]);
     }
-    let room = (file.len() as u64).max(65536);
-    MemoryDisk::new(
-        alloc,
-        file,
-        room,
-        1_000_000,
-        Vec::new(alloc),
-        case.disk_stop,
-    )
+    disk_of(alloc, &file, case.disk_stop)
 }
 
 // The logs of a case.
@@ -130,50 +120,18 @@ fn logs_of(alloc: Global, case: &Case<'_>) -> Result<Vec<u8>, AllocError> {
     Ok(logs)
 }
 
-// Runs a command on an index and on logs.
-pub fn check_run<R: AllocGlobal + Abort + Threads + Sync>(
-    rt: &R,
-    command: &str,
-    mut index: MemoryDisk,
-    mut log_in: MemorySource,
-    mut out: MemorySink,
-    (status, output): (u8, &str),
-) -> Result<(), Fail> {
-    let alloc = rt.alloc();
-    let words = words(alloc, command)?;
-    let mut other = empty_disk(alloc, 0)?;
-    let mut input = MemorySource::new(Vec::new(alloc), 1, Vec::new(alloc));
-    let mut log_out = MemorySink::new(alloc, 0, Vec::new(alloc))?;
-    let ended = run(
-        rt,
-        alloc,
-        &words,
-        &mut index,
-        &mut other,
-        &mut input,
-        &mut log_in,
-        &mut out,
-        &mut log_out,
-    );
-    assert_eq!(rt; out.written(), output.as_bytes(), "{}", output);
-    assert_eq!(rt; ended, Status(status), "{}", output);
-    Ok(())
-}
-
 // Runs a case.
 fn check<R: AllocGlobal + Abort + Threads + Sync>(rt: &R, case: &Case<'_>) -> Result<(), Fail> {
     let alloc = rt.alloc();
-    let index = index_of(alloc, case)?;
-    let log_in = MemorySource::new(logs_of(alloc, case)?, 50, fails(alloc, case.log_fails)?);
-    let out = MemorySink::new(alloc, 1000, fails(alloc, case.out_fails)?)?;
-    check_run(
-        rt,
-        case.command,
-        index,
-        log_in,
-        out,
-        (case.status, case.output),
-    )
+    let logs = logs_of(alloc, case)?;
+    let given = Given {
+        logs_fail: case.log_fails,
+        out_fails: case.out_fails,
+        ..with_logs(case.command, &logs)
+    };
+    let mut index = index_of(alloc, case)?;
+    check_run(rt, &given, &mut index, (case.status, case.output))?;
+    Ok(())
 }
 
 #[test]

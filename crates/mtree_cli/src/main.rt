@@ -9,6 +9,8 @@ mod log_tests;
 #[cfg(test)]
 mod number_tests;
 mod program;
+#[cfg(test)]
+mod runs;
 mod scan_job;
 mod session_job;
 #[cfg(test)]

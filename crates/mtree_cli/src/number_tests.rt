@@ -1,6 +1,5 @@
-use crate::log_tests::{HEAD, check_run, place};
-use disk_model::MemoryDisk;
-use outside_io::{MemorySink, MemorySource};
+use crate::log_tests::{HEAD, place};
+use crate::runs::{check_run, disk_of, with_logs};
 use std::alloc::{AllocError, Global};
 use std::process::Abort;
 use std::test::Fail;
@@ -101,12 +100,9 @@ fn check<R: AllocGlobal + Abort + Threads + Sync>(
     frame: &[u8],
     ended: (u8, &str),
 ) -> Result<(), Fail> {
-    let alloc = rt.alloc();
-    let room = (file.len() as u64).max(65536);
-    let index = MemoryDisk::new(alloc, file, room, 1_000_000, Vec::new(alloc), None)?;
-    let log_in = MemorySource::new(frame.to_vec(alloc)?, 50, Vec::new(alloc));
-    let out = MemorySink::new(alloc, 1000, Vec::new(alloc))?;
-    check_run(rt, command, index, log_in, out, ended)
+    let mut index = disk_of(rt.alloc(), &file, None)?;
+    check_run(rt, &with_logs(command, frame), &mut index, ended)?;
+    Ok(())
 }
 
 const AUDIT: &str = "audit a.mt";

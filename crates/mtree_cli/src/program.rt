@@ -18,8 +18,8 @@ ghost use Rattle.mtree_cli.specs.Run.{Asked, Does, HasTooManyPages, IsScan, IsSe
 
 use crate::scan_job::run_scan;
 use crate::session_job::run_session;
-use batch_jobs::{audit_index_by, run_batch};
-use disk_model::Disk;
+use batch_run::jobs::{audit_index_by, run_batch};
+use disk_model::{Disk, SharedDisk};
 use file_jobs::{FAULT_MEMORY, create_index, end_with, put_line, shape_index};
 use job_words::{Job, JobFault, PolicyNames, SpaceName, read_job};
 use join_jobs::laws::faultless_is_complete as joins_are_complete;
@@ -69,7 +69,7 @@ fn new_head(space: SpaceName, policies: PolicyNames, limit: u32) -> Head
 /// `--other`, `verify` and `check` take join logs and both indexes. `seal` writes the digest of the whole file of `index`; `proof` with an
 /// index puts to `log_out` each log of `log_in` with the pages that it names, and with a digest judges such carried logs of `log_in` by it
 /// alone.
-pub fn run<R: Threads + Sync, D: Disk, E: Disk, S: Source, L: Source, K: Sink, T: Sink>(
+pub fn run<R: Threads + Sync, D: SharedDisk, E: Disk, S: Source, L: Source, K: Sink, T: Sink>(
     rt: &R,
     alloc: Global,
     words: &[String],
@@ -117,13 +117,16 @@ pub fn run<R: Threads + Sync, D: Disk, E: Disk, S: Source, L: Source, K: Sink, T
     // A failed read or write is told only where the object's count of faults rose.
     ensures input { result.0 ≡ 3 → Rose (S.faults input.old) (S.faults input.new) ⊎ Rose (L.faults log_in.old) (L.faults log_in.new) }
     ensures output { PutsNoLog (task_of (job_of (texts_of words.now))) → result.0 ≡ 4 → Rose (K.state out.old).faults (K.state out.new).faults }
-    ensures either_output { result.0 ≡ 4 → Rose (K.state out.old).faults (K.state out.new).faults ⊎ Rose (T.state log_out.old).faults (T.state log_out.new).faults }
+    ensures either_output { result.0 ≡ 4 → Rose (K.state out.old).faults (K.state out.new).faults
+        ⊎ Rose (T.state log_out.old).faults (T.state log_out.new).faults }
     ensures disk { TakesNoOther (task_of (job_of (texts_of words.now))) → result.0 ≡ 5 → Rose (D.state index.old).faults (D.state index.new).faults }
-    ensures either_disk { result.0 ≡ 5 → Rose (D.state index.old).faults (D.state index.new).faults ⊎ Rose (E.state other.old).faults (E.state other.new).faults }
+    ensures either_disk { result.0 ≡ 5 → Rose (D.state index.old).faults (D.state index.new).faults
+        ⊎ Rose (E.state other.old).faults (E.state other.new).faults }
 
     // At most 2 ^ 26 bytes of input, 2 ^ 30 of logs and a buffer are taken; too much is told where it was more than those, and else only
     // where the index has too many pages.
-    ensures long { TakesWithin (HasTooManyPages (task_of (job_of (texts_of words.now))) (D.state index.old)) (S.left input.old) (S.left input.new) (L.left log_in.old) (L.left log_in.new) result.0 }
+    ensures long { TakesWithin (HasTooManyPages (task_of (job_of (texts_of words.now))) (D.state index.old)) (S.left input.old)
+        (S.left input.new) (L.left log_in.old) (L.left log_in.new) result.0 }
 
     // A scan that is done has taken all input.
     ensures end { (asked : Asked) → IsScan (texts_of words.now) asked → result.0 ≡ 0 → IsAtEnd (S.left input.new) }
@@ -135,7 +138,8 @@ pub fn run<R: Threads + Sync, D: Disk, E: Disk, S: Source, L: Source, K: Sink, T
     ensures complete_session { IsSession (texts_of words.now) → IsComplete (S.left input.old) (D.state index.old)
         (Rose (S.faults input.old) (S.faults input.new) ⊎ (Rose (D.state index.old).faults (D.state index.new).faults
         ⊎ (Rose (K.state out.old).faults (K.state out.new).faults ⊎ Rose (T.state log_out.old).faults (T.state log_out.new).faults))) result.0 }
-    ensures counts { (S.faults input.old ≤ S.faults input.new) × (L.faults log_in.old ≤ L.faults log_in.new) × ((K.state out.old).faults ≤ (K.state out.new).faults) × ((T.state log_out.old).faults ≤ (T.state log_out.new).faults) }
+    ensures counts { (S.faults input.old ≤ S.faults input.new) × (L.faults log_in.old ≤ L.faults log_in.new)
+        × ((K.state out.old).faults ≤ (K.state out.new).faults) × ((T.state log_out.old).faults ≤ (T.state log_out.new).faults) }
 {
     faultless_is_complete();
     joins_are_complete();

@@ -48,7 +48,8 @@ fn run_bytes<K: Sink>(
     requires narrow { dim ≤ 64 }
     requires limit { IsLimit scan.now.limit }
     ensures wrote { WritesScan (K.state out.old) (K.state out.new)
-        (reply_texts (record { space = mix_space (mix_kind scan.now.metric) (mix_dim scan.now.metric); limit = scan.now.limit }) scan.now.show_tags (script dim bytes.now)) result.0 }
+        (reply_texts (record { space = mix_space (mix_kind scan.now.metric) (mix_dim scan.now.metric); limit = scan.now.limit })
+        scan.now.show_tags (script dim bytes.now)) result.0 }
     ensures statuses { (result.0 ≡ 0) ⊎ ((result.0 ≡ 4) ⊎ (result.0 ≡ 8)) }
     ensures later { (K.state out.old).faults ≤ (K.state out.new).faults }
     ensures rose { result.0 ≡ 4 → Rose (K.state out.old).faults (K.state out.new).faults }

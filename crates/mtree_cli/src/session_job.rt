@@ -10,7 +10,8 @@ ghost use Rattle.index_core.specs.Index.{MayGoOn};
 ghost use Rattle.std.specs.List.{AllByRecursion};
 ghost use Rattle.rows_text.specs.Script.{script};
 ghost use Rattle.session_run.specs.Session.{IsAsking};
-ghost use Rattle.mtree_cli.specs.Session.{HasEnded, HasFinished, HasRefused, IsComplete, IsSessionStatus, LeavesAll, ReadsFew, ReadsScript, RunsOn, RunsScript, RunsSession, space_in, state_in};
+ghost use Rattle.file_jobs.specs.Spaces.{space_of};
+ghost use Rattle.mtree_cli.specs.Session.{HasEnded, HasFinished, HasRefused, IsComplete, IsSessionStatus, LeavesAll, ReadsFew, ReadsScript, RunsOn, RunsScript, RunsSession, state_in};
 
 use crate::scan_job::MOST_INPUT;
 use disk_model::Disk;
@@ -60,15 +61,20 @@ fn run_opened<R: Threads + Sync, D: Disk, K: Sink, T: Sink>(
     requires going { opened.old.stopped ≡ false }
     requires stands { MayGoOn opened.old (D.state index.old) }
     requires few { length bytes.now ≤ 2 ^ 26 }
-    ensures runs { IsTrue (D.state index.old).tells → mix_kind opened.old.file.metric ≡ opened.old.file.head.kind → mix_dim opened.old.file.metric ≡ opened.old.file.head.dim → IsSoundTree (space_in opened.old.file.head) (nodes_on opened.old.file (D.state index.old)) opened.old.file.live →
-        RunsOn (LeavesAll opened.old.file.head (state_in opened.old.file.head opened.old.file.live (D.state index.old).bytes) (D.state index.old) (D.state index.new))
+    ensures runs { IsTrue (D.state index.old).tells → mix_kind opened.old.file.metric ≡ opened.old.file.head.kind →
+        mix_dim opened.old.file.metric ≡ opened.old.file.head.dim →
+        IsSoundTree (space_of opened.old.file.head) (nodes_on opened.old.file (D.state index.old)) opened.old.file.live →
+        RunsOn (LeavesAll opened.old.file.head (state_in opened.old.file.head opened.old.file.live (D.state index.old).bytes)
+        (D.state index.old) (D.state index.new))
         show_tags bytes.now opened.old.file.head opened.old.file.live (D.state index.old).bytes (D.state index.new)
         (K.state out.old) (K.state out.new) (T.state log_out.old) (T.state log_out.new) result.0 }
     ensures reads { result.0 ≡ 0 → IsTrue (D.state index.old).tells →
         mix_kind opened.old.file.metric ≡ opened.old.file.head.kind → mix_dim opened.old.file.metric ≡ opened.old.file.head.dim →
-        IsSoundTree (space_in opened.old.file.head) (nodes_on opened.old.file (D.state index.old)) opened.old.file.live → AllByRecursion IsAsking (script opened.old.file.head.dim bytes.now) →
+        IsSoundTree (space_of opened.old.file.head) (nodes_on opened.old.file (D.state index.old)) opened.old.file.live →
+        AllByRecursion IsAsking (script opened.old.file.head.dim bytes.now) →
         ReadsFew 0 show_tags (D.state index.old) (D.state index.new) (T.state log_out.old) (T.state log_out.new) }
-    ensures finished { HasFinished opened.old.file.head (D.state index.old) (D.state index.new) (K.state out.old) (K.state out.new) (T.state log_out.old) (T.state log_out.new) result.0 }
+    ensures finished { HasFinished opened.old.file.head (D.state index.old) (D.state index.new) (K.state out.old) (K.state out.new)
+        (T.state log_out.old) (T.state log_out.new) result.0 }
     ensures later { (D.state index.old).faults ≤ (D.state index.new).faults }
     ensures out_later { (K.state out.old).faults ≤ (K.state out.new).faults }
     ensures log_later { (T.state log_out.old).faults ≤ (T.state log_out.new).faults }
@@ -98,7 +104,8 @@ fn run_on_index<R: Threads + Sync, D: Disk, K: Sink, T: Sink>(
     requires some { 1 ≤ workers }
     requires many { workers ≤ 64 }
     requires few { length bytes.now ≤ 2 ^ 26 }
-    ensures runs { RunsScript show_tags bytes.now (D.state index.old) (D.state index.new) (K.state out.old) (K.state out.new) (T.state log_out.old) (T.state log_out.new) result.0 }
+    ensures runs { RunsScript show_tags bytes.now (D.state index.old) (D.state index.new) (K.state out.old) (K.state out.new)
+        (T.state log_out.old) (T.state log_out.new) result.0 }
     ensures reads { ReadsScript show_tags bytes.now (D.state index.old) (D.state index.new) (T.state log_out.old) (T.state log_out.new) result.0 }
     ensures ends { HasRefused (D.state index.old) (D.state index.new) (K.state out.old) (K.state out.new) (T.state log_out.old) (T.state log_out.new) result.0 }
     ensures out_later { (K.state out.old).faults ≤ (K.state out.new).faults }
@@ -146,7 +153,8 @@ pub fn run_session<R: Threads + Sync, D: Disk, S: Source, K: Sink, T: Sink>(
 ) -> Status
     requires some { 1 ≤ workers }
     requires many { workers ≤ 64 }
-    ensures runs { RunsSession show_tags (S.left input.old) (D.state index.old) (D.state index.new) (K.state out.old) (K.state out.new) (T.state log_out.old) (T.state log_out.new) result.0 }
+    ensures runs { RunsSession show_tags (S.left input.old) (D.state index.old) (D.state index.new) (K.state out.old)
+        (K.state out.new) (T.state log_out.old) (T.state log_out.new) result.0 }
     ensures statuses { IsSessionStatus result.0 }
     // A failed read or write is told only where the object's count of faults rose.
     ensures input { result.0 ≡ 3 → Rose (S.faults input.old) (S.faults input.new) }
@@ -159,7 +167,8 @@ pub fn run_session<R: Threads + Sync, D: Disk, S: Source, K: Sink, T: Sink>(
         ⊎ (Rose (K.state out.old).faults (K.state out.new).faults ⊎ Rose (T.state log_out.old).faults (T.state log_out.new).faults))) result.0 }
     // A session that is done has taken all input.
     ensures end { result.0 ≡ 0 → IsAtEnd (S.left input.new) }
-    ensures counts { (S.faults input.old ≤ S.faults input.new) × ((K.state out.old).faults ≤ (K.state out.new).faults) × ((T.state log_out.old).faults ≤ (T.state log_out.new).faults) }
+    ensures counts { (S.faults input.old ≤ S.faults input.new) × ((K.state out.old).faults ≤ (K.state out.new).faults)
+        × ((T.state log_out.old).faults ≤ (T.state log_out.new).faults) }
 {
     match read_all(alloc, input, MOST_INPUT) {
         Ok(bytes) => run_on_index(rt, alloc, index, workers, show_tags, &bytes, out, log_out),

@@ -1,87 +1,22 @@
 use crate::log_tests::{HEAD, place, small_index};
-use crate::program::run;
-use crate::tests::{empty_disk, fails, words};
-use disk_model::{Disk, MemoryDisk};
-use outside_io::{MemorySink, MemorySource, Status};
+use crate::runs::{Given, Ran, check_run, check_runs, disk_of, run_on, with_input, with_logs};
+use disk_model::SharedDisk;
+use outside_io::Status;
 use std::alloc::{AllocError, Global};
 use std::process::Abort;
 use std::test::Fail;
 use std::thread::Threads;
 
-// Which call of input and which of out fails.
-type Fails = (Option<u64>, Option<u64>);
+// Words that make an index of numbers.
+const CREATE: &str = "create a.mt --metric l1 --dim 1";
 
-// Runs a command on an index and devices of which calls fail, and gives what it put to the log's output.
-fn check_failing<R: AllocGlobal + Abort + Threads + Sync, D: Disk>(
-    rt: &R,
-    index: &mut D,
-    (command, input, logs): (&str, &str, &[u8]),
-    (input_fails, out_fails): Fails,
-    (status, output): (u8, &str),
-) -> Result<Vec<u8>, Fail> {
-    let alloc = rt.alloc();
-    let words = words(alloc, command)?;
-    let mut other = empty_disk(alloc, 0)?;
-    let input = input.as_bytes().to_vec(alloc)?;
-    let mut input = MemorySource::new(input, 100, fails(alloc, input_fails)?);
-    let mut log_in = MemorySource::new(logs.to_vec(alloc)?, 100, fails(alloc, None)?);
-    let mut out = MemorySink::new(alloc, 1000, fails(alloc, out_fails)?)?;
-    let mut log_out = MemorySink::new(alloc, 10000, fails(alloc, None)?)?;
-    let ended = run(
-        rt,
-        alloc,
-        &words,
-        index,
-        &mut other,
-        &mut input,
-        &mut log_in,
-        &mut out,
-        &mut log_out,
-    );
-    assert_eq!(rt; out.written(), output.as_bytes(), "{}", output);
-    assert_eq!(rt; ended, Status(status), "{}", output);
-    Ok(log_out.written().to_vec(alloc)?)
-}
-
-// Runs a command on an index, and gives what it put to the log's output.
-fn check_command<R: AllocGlobal + Abort + Threads + Sync, D: Disk>(
-    rt: &R,
-    index: &mut D,
-    asked: (&str, &str, &[u8]),
-    answered: (u8, &str),
-) -> Result<Vec<u8>, Fail> {
-    check_failing(rt, index, asked, (None, None), answered)
-}
-
-// A session on a new index: the words that make it, those of the session, its script and its replies.
-#[derive(Clone, Copy)]
-struct Case<'a> {
-    create: &'a str,
-    session: &'a str,
-    script: &'a str,
-    replies: &'a str,
-}
-
-// Runs a session, and verifies its logs.
-fn check<R: AllocGlobal + Abort + Threads + Sync>(rt: &R, case: &Case<'_>) -> Result<(), Fail> {
-    let mut index = empty_disk(rt.alloc(), 65536)?;
-    check_command(rt, &mut index, (case.create, "", b""), (0, "created\n"))?;
-    check_command(
-        rt,
-        &mut index,
-        (case.session, case.script, b""),
-        (0, case.replies),
-    )?;
-    Ok(())
-}
-
+// Sessions on new indexes: the words that make them, those of the session, its script and its replies.
 #[test]
 fn sessions(rt: HostRuntime) -> Result<(), Fail> {
-    let line = "create a.mt --metric l1 --dim 1";
     let plane = "create a.mt --metric l1 --dim 2";
     let session = "session a.mt --workers 2";
     let cases = [
-        (line, session, "nearest,1,5\n", "hits 0\n"),
+        (CREATE, session, "nearest,1,5\n", "hits 0\n"),
         (
             plane,
             session,
@@ -101,13 +36,13 @@ fn sessions(rt: HostRuntime) -> Result<(), Fail> {
             "loaded 4\nhits 2\n1 4\n0 18\nhits 3\n1 4\n0 18\n3 365\n",
         ),
         (
-            line,
+            CREATE,
             "session a.mt --tags show",
             "tinsert,900,5\ninsert,7\nrange,10,5\ntload,2\n7,1\nx,2\n",
             "id 0\nid 1\nhits 2\n0 900 0\n1 1 2\nrefused row 1\n",
         ),
         (
-            line,
+            CREATE,
             session,
             "insert,0\ninsert,10\ncursor,0\nnext,0,1\ninsert,1\nnext,0,5\nnext,0,1\nclose,0\nclose,0\n",
             "id 0\nid 1\ncursor 0\nnext 1\n0 0\nid 2\nnext 1\n1 10\nnext 0\nclosed 0\nrefused nocursor\n",
@@ -119,14 +54,12 @@ fn sessions(rt: HostRuntime) -> Result<(), Fail> {
             "id 0\nid 1\nrefused unfit\nhits 1\n0 1\n",
         ),
     ];
-    for (create, session, script, replies) in &cases {
-        let case = Case {
-            create,
-            session,
-            script,
-            replies,
-        };
-        check(&rt, &case)?;
+    for (create, session, script, replies) in cases {
+        let runs = [
+            (create, "", (0, "created\n")),
+            (session, script, (0, replies)),
+        ];
+        check_runs(&rt, &mut disk_of(rt.alloc(), &[], None)?, &runs)?;
     }
     Ok(())
 }
@@ -134,29 +67,28 @@ fn sessions(rt: HostRuntime) -> Result<(), Fail> {
 // A session's log shows its answers, and the index goes on in a second session.
 #[test]
 fn a_log_of_a_session(rt: HostRuntime) -> Result<(), Fail> {
-    let mut index = empty_disk(rt.alloc(), 65536)?;
-    let create = "create a.mt --metric l1 --dim 1";
-    let session = "session a.mt --log a.log";
-    check_command(&rt, &mut index, (create, "", b""), (0, "created\n"))?;
+    let mut index = disk_of(rt.alloc(), &[], None)?;
+    check_run(&rt, &with_input(CREATE, ""), &mut index, (0, "created\n"))?;
     let script = "insert,4\ninsert,9\nrange,3,6\n";
     let replies = "id 0\nid 1\nhits 2\n0 2\n1 3\n";
-    let logs = check_command(&rt, &mut index, (session, script, b""), (0, replies))?;
+    let session = with_input("session a.mt --log a.log", script);
+    let logs = check_run(&rt, &session, &mut index, (0, replies))?;
     let checked = "file sound\nframe 0 complete\nrange,3,6\nhits 2\n0 2\n1 3\nlog complete\n";
-    let check = "check a.mt --log a.log";
-    check_command(&rt, &mut index, (check, "", logs.as_slice()), (0, checked))?;
-    check_command(
-        &rt,
-        &mut index,
-        (session, "insert,5\ncount\n", b""),
-        (0, "id 2\ncount 3\n"),
-    )?;
-    check_command(
-        &rt,
-        &mut index,
-        ("shape a.mt", "", b""),
-        (0, "height 0\nobjects 3\nnodes 1\n0 3 - -\n"),
-    )?;
-    Ok(())
+    let check = with_logs("check a.mt --log a.log", &logs);
+    check_run(&rt, &check, &mut index, (0, checked))?;
+    let runs = [
+        (
+            "session a.mt --log a.log",
+            "insert,5\ncount\n",
+            (0, "id 2\ncount 3\n"),
+        ),
+        (
+            "shape a.mt",
+            "",
+            (0, "height 0\nobjects 3\nnodes 1\n0 3 - -\n"),
+        ),
+    ];
+    check_runs(&rt, &mut index, &runs)
 }
 
 // The inserts of the numbers from 0 on, and their replies.
@@ -180,38 +112,21 @@ fn hits(alloc: Global, count: u32) -> Result<String, Fail> {
 }
 
 // Inserts the numbers from 0 on into a new index.
-fn insert_all<R: AllocGlobal + Abort + Threads + Sync, D: Disk>(
+fn insert_all<R: AllocGlobal + Abort + Threads + Sync, D: SharedDisk>(
     rt: &R,
     index: &mut D,
     count: u32,
 ) -> Result<(), Fail> {
-    let create = "create a.mt --metric l1 --dim 1";
-    check_command(rt, index, (create, "", b""), (0, "created\n"))?;
     let (script, replies) = inserts(rt.alloc(), count)?;
-    let asked = ("session a.mt", script.as_str(), b"".as_slice());
-    check_command(rt, index, asked, (0, replies.as_str()))?;
-    Ok(())
+    let runs = [
+        (CREATE, "", (0, "created\n")),
+        ("session a.mt", script.as_str(), (0, replies.as_str())),
+    ];
+    check_runs(rt, index, &runs)
 }
 
-// All objects of the index of 33 numbers by their distance.
-fn check_nearest<R: AllocGlobal + Abort + Threads + Sync, D: Disk>(
-    rt: &R,
-    index: &mut D,
-) -> Result<(), Fail> {
-    let alloc = rt.alloc();
-    let all = hits(alloc, 33)?;
-    let replies = format!(in alloc; "{all}refused count\n")?;
-    let asked = (
-        "session a.mt",
-        "nearest,50,0\nnearest,0,0\n",
-        b"".as_slice(),
-    );
-    check_command(rt, index, asked, (0, replies.as_str()))?;
-    Ok(())
-}
-
-// The first three of them, and the log that shows them.
-fn check_range<R: AllocGlobal + Abort + Threads + Sync, D: Disk>(
+// The first three of the index of numbers, and the log that shows them.
+fn check_range<R: AllocGlobal + Abort + Threads + Sync, D: SharedDisk>(
     rt: &R,
     index: &mut D,
 ) -> Result<Vec<u8>, Fail> {
@@ -220,29 +135,35 @@ fn check_range<R: AllocGlobal + Abort + Threads + Sync, D: Disk>(
     let checked = format!(in alloc;
         "file sound\nframe 0 complete\nrange,2,0\n{three}log complete\n"
     )?;
-    let asked = ("session a.mt --log a.log", "range,2,0\n", b"".as_slice());
-    let logs = check_command(rt, index, asked, (0, three.as_str()))?;
-    let asked = ("check a.mt --log a.log", "", logs.as_slice());
-    check_command(rt, index, asked, (0, checked.as_str()))?;
+    let session = with_input("session a.mt --log a.log", "range,2,0\n");
+    let logs = check_run(rt, &session, index, (0, three.as_str()))?;
+    let check = with_logs("check a.mt --log a.log", &logs);
+    check_run(rt, &check, index, (0, checked.as_str()))?;
     Ok(logs)
 }
 
 // The 33rd insert splits the leaf. Its tree is searched, and a log is refused after a later insert, which uses free pages again.
 #[test]
 fn a_leaf_is_split(rt: HostRuntime) -> Result<(), Fail> {
-    let mut index = empty_disk(rt.alloc(), 65536)?;
+    let alloc = rt.alloc();
+    let mut index = disk_of(alloc, &[], None)?;
     insert_all(&rt, &mut index, 33)?;
+    let all = hits(alloc, 33)?;
+    let replies = format!(in alloc; "{all}refused count\n")?;
     let shape = "height 1\nobjects 33\nnodes 3\n1 2 - -\n0 16 7 8\n0 17 24 8\n";
-    check_command(&rt, &mut index, ("shape a.mt", "", b""), (0, shape))?;
-    let sound = "sound\nobjects 33\nnodes 3\n";
-    check_command(&rt, &mut index, ("audit a.mt", "", b""), (0, sound))?;
-    check_nearest(&rt, &mut index)?;
+    let nearest = "nearest,50,0\nnearest,0,0\n";
+    let runs = [
+        ("shape a.mt", "", (0, shape)),
+        ("audit a.mt", "", (0, "sound\nobjects 33\nnodes 3\n")),
+        ("session a.mt", nearest, (0, replies.as_str())),
+    ];
+    check_runs(&rt, &mut index, &runs)?;
     let logs = check_range(&rt, &mut index)?;
-    let more = ("session a.mt", "insert,33\n", b"".as_slice());
-    check_command(&rt, &mut index, more, (0, "id 33\n"))?;
-    let verify = ("verify a.mt --log a.log", "", logs.as_slice());
+    let more = with_input("session a.mt", "insert,33\n");
+    check_run(&rt, &more, &mut index, (0, "id 33\n"))?;
+    let verify = with_logs("verify a.mt --log a.log", &logs);
     let refused = "frame 0 rejected otherstate 34 6 35 7\nlog rejected\n";
-    check_command(&rt, &mut index, verify, (1, refused))?;
+    check_run(&rt, &verify, &mut index, (1, refused))?;
     Ok(())
 }
 
@@ -250,7 +171,6 @@ fn a_leaf_is_split(rt: HostRuntime) -> Result<(), Fail> {
 #[test]
 fn a_load_and_equal_points(rt: HostRuntime) -> Result<(), Fail> {
     let alloc = rt.alloc();
-    let create = "create a.mt --metric l1 --dim 1";
     let mut rows = String::from_str(alloc, "load,33\n")?;
     for i in 0..33u32 {
         rows.push_str(format!(in alloc; "{i}\n")?.as_str())?;
@@ -278,18 +198,14 @@ fn a_load_and_equal_points(rt: HostRuntime) -> Result<(), Fail> {
         ),
     ];
     for (script, replies, shape) in cases {
-        let mut index = empty_disk(alloc, 65536)?;
-        check_command(&rt, &mut index, (create, "", b""), (0, "created\n"))?;
-        check_command(&rt, &mut index, ("session a.mt", script, b""), (0, replies))?;
-        check_command(&rt, &mut index, ("shape a.mt", "", b""), (0, shape))?;
+        let runs = [
+            (CREATE, "", (0, "created\n")),
+            ("session a.mt", script, (0, replies)),
+            ("shape a.mt", "", (0, shape)),
+        ];
+        check_runs(&rt, &mut disk_of(alloc, &[], None)?, &runs)?;
     }
     Ok(())
-}
-
-// A disk that holds these bytes, and from one call on fails.
-fn disk_of(alloc: Global, bytes: Vec<u8>, stop: Option<u64>) -> Result<MemoryDisk, AllocError> {
-    let room = (bytes.len() as u64).max(65536);
-    MemoryDisk::new(alloc, bytes, room, 1_000_000, Vec::new(alloc), stop)
 }
 
 // A file of which a byte is changed: its place, the byte; the script of the session on it, its status and what is written.
@@ -328,24 +244,15 @@ fn hostile_files(rt: HostRuntime) -> Result<(), Fail> {
     for (at, byte, script, status, output) in HOSTILE {
         let mut file = small_index(alloc)?;
         place(&mut file, at, &[byte]);
-        let mut index = disk_of(alloc, file, None)?;
-        check_command(
-            &rt,
-            &mut index,
-            ("session a.mt", script, b""),
-            (status, output),
-        )?;
+        let mut index = disk_of(alloc, &file, None)?;
+        let session = with_input("session a.mt", script);
+        check_run(&rt, &session, &mut index, (status, output))?;
     }
     let mut cut = small_index(alloc)?;
     cut.truncate(16384);
-    let mut index = disk_of(alloc, cut, None)?;
-    let slot = (6, "fault notindex slot\n");
-    check_command(
-        &rt,
-        &mut index,
-        ("session a.mt", "range,7,0,0\n", b""),
-        slot,
-    )?;
+    let mut index = disk_of(alloc, &cut, None)?;
+    let session = with_input("session a.mt", "range,7,0,0\n");
+    check_run(&rt, &session, &mut index, (6, "fault notindex slot\n"))?;
     Ok(())
 }
 
@@ -384,8 +291,9 @@ fn pages_that_repeat(rt: HostRuntime) -> Result<(), Fail> {
         (3, "range,0,0\n", "fault damaged repeats 3\n"),
     ];
     for (child, script, output) in cases {
-        let mut index = disk_of(alloc, repeating(alloc, child)?, None)?;
-        check_command(&rt, &mut index, ("session a.mt", script, b""), (9, output))?;
+        let mut index = disk_of(alloc, &repeating(alloc, child)?, None)?;
+        let session = with_input("session a.mt", script);
+        check_run(&rt, &session, &mut index, (9, output))?;
     }
     Ok(())
 }
@@ -393,28 +301,21 @@ fn pages_that_repeat(rt: HostRuntime) -> Result<(), Fail> {
 // Input and out that fail: no object is there, or the object whose reply could not be put.
 #[test]
 fn devices_of_a_session_fail(rt: HostRuntime) -> Result<(), Fail> {
-    let alloc = rt.alloc();
-    let create = "create a.mt --metric l1 --dim 1";
-    let cases: [(Fails, u8, &str, &str); 2] = [
-        ((Some(0), None), 3, "fault input\n", "count 0\n"),
-        ((None, Some(0)), 4, "", "count 1\n"),
+    let cases: [(Option<u64>, Option<u64>, u8, &str, &str); 2] = [
+        (Some(0), None, 3, "fault input\n", "count 0\n"),
+        (None, Some(0), 4, "", "count 1\n"),
     ];
-    for (calls, status, output, count) in cases {
-        let mut index = empty_disk(alloc, 65536)?;
-        check_command(&rt, &mut index, (create, "", b""), (0, "created\n"))?;
-        check_failing(
-            &rt,
-            &mut index,
-            ("session a.mt", "insert,7\n", b""),
-            calls,
-            (status, output),
-        )?;
-        check_command(
-            &rt,
-            &mut index,
-            ("session a.mt", "count\n", b""),
-            (0, count),
-        )?;
+    for (input_fails, out_fails, status, output, count) in cases {
+        let mut index = disk_of(rt.alloc(), &[], None)?;
+        check_run(&rt, &with_input(CREATE, ""), &mut index, (0, "created\n"))?;
+        let failing = Given {
+            input_fails,
+            out_fails,
+            ..with_input("session a.mt", "insert,7\n")
+        };
+        check_run(&rt, &failing, &mut index, (status, output))?;
+        let counted = with_input("session a.mt", "count\n");
+        check_run(&rt, &counted, &mut index, (0, count))?;
     }
     Ok(())
 }
@@ -422,70 +323,55 @@ fn devices_of_a_session_fail(rt: HostRuntime) -> Result<(), Fail> {
 // The file of the numbers from 0 on, so many of them.
 fn numbers(rt: &(impl AllocGlobal + Abort + Threads + Sync), count: u32) -> Result<Vec<u8>, Fail> {
     let alloc = rt.alloc();
-    let mut index = empty_disk(alloc, 65536)?;
+    let mut index = disk_of(alloc, &[], None)?;
     insert_all(rt, &mut index, count)?;
     Ok(index.bytes().to_vec(alloc)?)
 }
 
 // Runs a session, and gives its status and what it wrote.
-fn run_session<R: AllocGlobal + Abort + Threads + Sync, D: Disk>(
+fn run_session<R: AllocGlobal + Abort + Threads + Sync, D: SharedDisk>(
     rt: &R,
     index: &mut D,
     script: &str,
-) -> Result<(Status, Vec<u8>), Fail> {
-    let alloc = rt.alloc();
-    let words = words(alloc, "session a.mt")?;
-    let mut other = empty_disk(alloc, 0)?;
-    let input = script.as_bytes().to_vec(alloc)?;
-    let mut input = MemorySource::new(input, 100, Vec::new(alloc));
-    let mut log_in = MemorySource::new(Vec::new(alloc), 100, Vec::new(alloc));
-    let mut out = MemorySink::new(alloc, 1000, Vec::new(alloc))?;
-    let mut log_out = MemorySink::new(alloc, 0, Vec::new(alloc))?;
-    let ended = run(
-        rt,
-        alloc,
-        &words,
-        index,
-        &mut other,
-        &mut input,
-        &mut log_in,
-        &mut out,
-        &mut log_out,
-    );
-    Ok((ended, out.written().to_vec(alloc)?))
+) -> Result<Ran, Fail> {
+    let mut other = disk_of(rt.alloc(), &[], None)?;
+    let given = with_input("session a.mt", script);
+    run_on(rt, rt.alloc(), &given, 100, index, &mut other)
 }
 
 // Two more inserts, the second of which splits the leaf, on a disk that stops: how many are acknowledged.
-fn insert_two<R: AllocGlobal + Abort + Threads + Sync, D: Disk>(
+fn insert_two<R: AllocGlobal + Abort + Threads + Sync, D: SharedDisk>(
     rt: &R,
     index: &mut D,
 ) -> Result<u32, Fail> {
-    let (ended, written) = run_session(rt, index, "insert,31\ninsert,32\n")?;
-    if ended == Status(0) {
-        assert_eq!(rt; written.as_slice(), b"id 31\nid 32\n".as_slice());
+    let ran = run_session(rt, index, "insert,31\ninsert,32\n")?;
+    let written = ran.out.as_slice();
+    if ran.status == Status(0) {
+        assert_eq!(rt; written, b"id 31\nid 32\n".as_slice());
         return Ok(2);
     }
-    assert_eq!(rt; ended, Status(5));
-    if written.as_slice() == b"fault disk\n".as_slice() {
+    assert_eq!(rt; ran.status, Status(5));
+    if written == b"fault disk\n".as_slice() {
         return Ok(0);
     }
-    assert_eq!(rt; written.as_slice(), b"id 31\nfault disk\n".as_slice());
+    assert_eq!(rt; written, b"id 31\nfault disk\n".as_slice());
     Ok(1)
 }
 
 // A file is sound and has so many objects, or one more.
-fn check_left<R: AllocGlobal + Abort + Threads + Sync, D: Disk>(
+fn check_left<R: AllocGlobal + Abort + Threads + Sync, D: SharedDisk>(
     rt: &R,
     index: &mut D,
     count: u32,
 ) -> Result<(), Fail> {
     let alloc = rt.alloc();
-    let (ended, written) = run_session(rt, index, "count\n")?;
+    let ran = run_session(rt, index, "count\n")?;
     let more = count.saturating_add(1);
     let here = format!(in alloc; "count {count}\n")?;
     let next = format!(in alloc; "count {more}\n")?;
-    assert_eq!(rt; ended, Status(0));
-    assert!(rt; written.as_slice() == here.as_bytes() || written.as_slice() == next.as_bytes());
+    let written = ran.out.as_slice();
+    assert_eq!(rt; ran.status, Status(0));
+    assert!(rt; written == here.as_bytes() || written == next.as_bytes());
     Ok(())
 }
 
@@ -496,12 +382,12 @@ fn a_session_is_stopped(rt: HostRuntime) -> Result<(), Fail> {
     let file = numbers(&rt, 31)?;
     let mut acknowledged = 0;
     for stop in 0..40 {
-        let mut index = disk_of(alloc, file.clone()?, Some(stop))?;
+        let mut index = disk_of(alloc, &file, Some(stop))?;
         acknowledged = insert_two(&rt, &mut index)?;
         let count = acknowledged.saturating_add(31);
         for pick in [0, 1, 165, 255] {
             let image = index.image(alloc, index.moments(), pick)?;
-            check_left(&rt, &mut disk_of(alloc, image, None)?, count)?;
+            check_left(&rt, &mut disk_of(alloc, &image, None)?, count)?;
         }
     }
     assert_eq!(&rt; acknowledged, 2);

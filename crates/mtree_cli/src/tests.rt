@@ -1,11 +1,7 @@
-ghost use Rattle.std.specs.Prelude.{◌≤◌};
-
 use crate::files::run_on_files;
-use crate::program::run;
-use disk_model::{Disk, MemoryDisk};
+use crate::runs::{Given, check_run, check_runs, disk_of, run_on, with_input, words};
 use named_files::HostFolder;
 use outside_io::{MemorySink, MemorySource, Status};
-use std::alloc::{AllocError, Global};
 use std::fs;
 use std::process::Abort;
 use std::test::Fail;
@@ -13,108 +9,21 @@ use std::thread::Threads;
 
 const USAGE: &str = "usage: mtree COMMAND INDEX [options]\n";
 
-// The words of a line, cut at its spaces.
-pub fn words(alloc: Global, line: &str) -> Result<Vec<String>, AllocError> {
-    let mut words = Vec::new(alloc);
-    for word in line.split(' ') {
-        words.push(String::from_str(alloc, word)?)?;
-    }
-    Ok(words)
-}
-
-// An empty disk with room for so many bytes.
-pub fn empty_disk(alloc: Global, room: u64) -> Result<MemoryDisk, AllocError> {
-    MemoryDisk::new(
-        alloc,
-        Vec::new(alloc),
-        room,
-        1_000_000,
-        Vec::new(alloc),
-        None,
-    )
-}
-
-// The calls that fail: none or one.
-pub fn fails(alloc: Global, call: Option<u64>) -> Result<Vec<u64>, AllocError> {
-    let mut fails = Vec::new(alloc);
-    if let Some(call) = call {
-        fails.push(call)?;
-    }
-    Ok(fails)
-}
-
-// Runs words on these objects, and on empty ones in the place of the others.
-fn run_on<R: Threads + Sync, D: Disk>(
-    rt: &R,
-    alloc: Global,
-    words: &[String],
-    index: &mut D,
-    input: &mut MemorySource,
-    out: &mut MemorySink,
-) -> Result<Status, AllocError> {
-    let mut other = empty_disk(alloc, 0)?;
-    let mut log_in = MemorySource::new(Vec::new(alloc), 1, Vec::new(alloc));
-    let mut log_out = MemorySink::new(alloc, 0, Vec::new(alloc))?;
-    Ok(run(
-        rt,
-        alloc,
-        words,
-        index,
-        &mut other,
-        input,
-        &mut log_in,
-        out,
-        &mut log_out,
-    ))
-}
-
-// A run: its words, its input, the calls of the input and of the output that fail, its status and its output.
-#[derive(Clone, Copy)]
-struct Case<'a> {
-    words: &'a str,
-    input: &'a str,
-    input_fails: Option<u64>,
-    output_fails: Option<u64>,
-    status: u8,
-    output: &'a str,
-}
-
-// Runs a case with an input that gives at most `piece` bytes at once.
-fn check<R: AllocGlobal + Abort + Threads + Sync>(
-    rt: &R,
-    case: &Case<'_>,
-    piece: usize,
-) -> Result<(), Fail>
-    requires { 1 ≤ piece }
-{
-    let alloc = rt.alloc();
-    let words = words(alloc, case.words)?;
-    let bytes = case.input.as_bytes().to_vec(alloc)?;
-    let mut input = MemorySource::new(bytes, piece, fails(alloc, case.input_fails)?);
-    let mut out = MemorySink::new(alloc, 1000, fails(alloc, case.output_fails)?)?;
-    let mut index = empty_disk(alloc, 0)?;
-    let status = run_on(rt, alloc, &words, &mut index, &mut input, &mut out)?;
-    assert_eq!(rt; status, Status(case.status));
-    assert_eq!(rt; out.written(), case.output.as_bytes());
-    Ok(())
-}
-
 // Checks scans that end well: their words, their script and their replies.
 fn check_scans<R: AllocGlobal + Abort + Threads + Sync>(
     rt: &R,
     cases: &[(&str, &str, &str)],
 ) -> Result<(), Fail> {
+    let alloc = rt.alloc();
     for (words, input, output) in cases {
-        let case = Case {
-            words,
-            input,
-            input_fails: None,
-            output_fails: None,
-            status: 0,
-            output,
-        };
-        check(rt, &case, 1)?;
-        check(rt, &case, 4096)?;
+        for piece in [1usize, 4096] {
+            let mut index = disk_of(alloc, &[], None)?;
+            let mut other = disk_of(alloc, &[], None)?;
+            let asked = with_input(words, input);
+            let ran = run_on(rt, alloc, &asked, piece.max(1), &mut index, &mut other)?;
+            assert_eq!(rt; ran.out.as_slice(), output.as_bytes(), "{}", output);
+            assert_eq!(rt; ran.status, Status(0), "{}", output);
+        }
     }
     Ok(())
 }
@@ -125,36 +34,15 @@ fn check_refused<R: AllocGlobal + Abort + Threads + Sync>(
     cases: &[&str],
 ) -> Result<(), Fail> {
     for words in cases {
-        let case = Case {
-            words,
-            input: "insert,1,2\n",
-            input_fails: None,
-            output_fails: None,
-            status: 2,
-            output: USAGE,
-        };
-        check(rt, &case, 4096)?;
+        let mut index = disk_of(rt.alloc(), &[], None)?;
+        check_run(
+            rt,
+            &with_input(words, "insert,1,2\n"),
+            &mut index,
+            (2, USAGE),
+        )?;
     }
     Ok(())
-}
-
-// Checks one run whose input or output fails at a call.
-fn check_fault<R: AllocGlobal + Abort + Threads + Sync>(
-    rt: &R,
-    input_fails: Option<u64>,
-    output_fails: Option<u64>,
-    status: u8,
-    output: &str,
-) -> Result<(), Fail> {
-    let case = Case {
-        words: "scan --metric l1 --dim 2",
-        input: "insert,7,7\ninsert,8,8\n",
-        input_fails,
-        output_fails,
-        status,
-        output,
-    };
-    check(rt, &case, 4096)
 }
 
 #[test]
@@ -279,37 +167,19 @@ fn words_without_a_scan(rt: HostRuntime) -> Result<(), Fail> {
     )
 }
 
-// Runs the words on this index, with no input.
-fn check_index<R: AllocGlobal + Abort + Threads + Sync, D: Disk>(
-    rt: &R,
-    index: &mut D,
-    line: &str,
-    status: u8,
-    output: &str,
-) -> Result<(), Fail> {
-    let alloc = rt.alloc();
-    let words = words(alloc, line)?;
-    let mut input = MemorySource::new(Vec::new(alloc), 1, Vec::new(alloc));
-    let mut out = MemorySink::new(alloc, 1000, Vec::new(alloc))?;
-    let found = run_on(rt, alloc, &words, index, &mut input, &mut out)?;
-    assert_eq!(rt; found, Status(status));
-    assert_eq!(rt; out.written(), output.as_bytes());
-    Ok(())
-}
-
 #[test]
 fn create_audit_and_shape(rt: HostRuntime) -> Result<(), Fail> {
     let create = "create a.mt --metric l1 --dim 2";
-    let audit = "audit a.mt";
-    let shape = "shape a.mt";
-    let new = "height 0\nobjects 0\nnodes 1\n0 0 - -\n";
-    let mut index = empty_disk(rt.alloc(), 65536)?;
-    check_index(&rt, &mut index, shape, 6, "fault notindex short\n")?;
-    check_index(&rt, &mut index, audit, 6, "fault notindex short\n")?;
-    check_index(&rt, &mut index, create, 0, "created\n")?;
-    check_index(&rt, &mut index, audit, 0, "sound\nobjects 0\nnodes 1\n")?;
-    check_index(&rt, &mut index, shape, 0, new)?;
-    check_index(&rt, &mut index, create, 6, "fault notindex notempty\n")
+    let shape = (0, "height 0\nobjects 0\nnodes 1\n0 0 - -\n");
+    let runs = [
+        ("shape a.mt", "", (6, "fault notindex short\n")),
+        ("audit a.mt", "", (6, "fault notindex short\n")),
+        (create, "", (0, "created\n")),
+        ("audit a.mt", "", (0, "sound\nobjects 0\nnodes 1\n")),
+        ("shape a.mt", "", shape),
+        (create, "", (6, "fault notindex notempty\n")),
+    ];
+    check_runs(&rt, &mut disk_of(rt.alloc(), &[], None)?, &runs)
 }
 
 // Commands on real files, one after another, and their statuses.
@@ -345,25 +215,41 @@ fn named_files(rt: HostRuntime) -> Result<(), Fail> {
     Ok(())
 }
 
+// The call of the input and the call of the output that fails, the status, and what is written.
 #[test]
 fn faults(rt: HostRuntime) -> Result<(), Fail> {
-    check_fault(&rt, Some(0), None, 3, "fault input\n")?;
-    check_fault(&rt, Some(1), None, 3, "fault input\n")?;
-    check_fault(&rt, None, Some(0), 4, "")?;
-    check_fault(&rt, None, Some(1), 4, "id 0\n")
+    let cases: [(Option<u64>, Option<u64>, u8, &str); 4] = [
+        (Some(0), None, 3, "fault input\n"),
+        (Some(1), None, 3, "fault input\n"),
+        (None, Some(0), 4, ""),
+        (None, Some(1), 4, "id 0\n"),
+    ];
+    let scan = with_input("scan --metric l1 --dim 2", "insert,7,7\ninsert,8,8\n");
+    for (input_fails, out_fails, status, output) in cases {
+        let failing = Given {
+            input_fails,
+            out_fails,
+            ..scan
+        };
+        let mut index = disk_of(rt.alloc(), &[], None)?;
+        check_run(&rt, &failing, &mut index, (status, output))?;
+    }
+    Ok(())
 }
 
 #[test]
 fn an_input_of_one_byte_too_many(rt: HostRuntime) -> Result<(), Fail> {
     let alloc = rt.alloc();
-    let words = words(alloc, "scan --metric l1 --dim 2")?;
     let bytes = vec![in alloc; b'x'; 67108865]?;
-    let mut input = MemorySource::new(bytes, 1 << 20, Vec::new(alloc));
-    let mut out = MemorySink::new(alloc, 1000, Vec::new(alloc))?;
-    let mut index = empty_disk(alloc, 0)?;
-    let status = run_on(&rt, alloc, &words, &mut index, &mut input, &mut out)?;
-    assert_eq!(rt; status, Status(7));
-    assert_eq!(rt; out.written(), b"fault long\n".as_slice());
+    let long = Given {
+        input: &bytes,
+        ..with_input("scan --metric l1 --dim 2", "")
+    };
+    let mut index = disk_of(alloc, &[], None)?;
+    let mut other = disk_of(alloc, &[], None)?;
+    let ran = run_on(&rt, alloc, &long, 1 << 20, &mut index, &mut other)?;
+    assert_eq!(rt; ran.status, Status(7));
+    assert_eq!(rt; ran.out.as_slice(), b"fault long\n".as_slice());
     scan_model::laws::range_answers_are_all();
     scan_model::laws::join_answers_are_all();
     rows_text::laws::run_is_its_steps();

@@ -1,5 +1,5 @@
 -- A file that a word may name: what it means where there is no such word.
-use Rattle.std.specs.Prelude.{◌≡◌, ◌<◌, ℕ, Bool, List, [], Option, Some, None, length, set, slice_index, IsTrue}
+use Rattle.std.specs.Prelude.{◌<◌, ℕ, List, [], Option, Some, None, length, set, slice_index, IsTrue}
 use Rattle.outside_io.specs.Sinks.{SinkState}
 use Rattle.disk_model.specs.Disk.{DiskState, MayLeave}
 use Rattle.disk_model.specs.FileCounts.{state_of, told_nothing}
@@ -36,7 +36,8 @@ module _ {D : Type 0} (state : D → DiskState) where
 
   pub named_mix : ((disk : D) (one other : List ℕ) (i : ℕ) → MayLeave (state disk) one → MayLeave (state disk) other → i < length one → i < length other
       → MayLeave (state disk) (set one i (slice_index other i)))
-      → (file : Option D) (one other : List ℕ) (i : ℕ) → MayLeave (named_disk state file) one → MayLeave (named_disk state file) other → i < length one → i < length other
+      → (file : Option D) (one other : List ℕ) (i : ℕ) → MayLeave (named_disk state file) one →
+      MayLeave (named_disk state file) other → i < length one → i < length other
       → MayLeave (named_disk state file) (set one i (slice_index other i))
   named_mix law None one other i left right low high = left
   named_mix law (Some disk) one other i left right low high = law disk one other i left right low high

@@ -1,12 +1,12 @@
 ghost use Rattle.std.specs.Prelude.{ℕ, List, Bool, IfSome, IfNone, IsTrue, ◌≡◌, false};
 
-use disk_model::Disk;
+use disk_model::SharedDisk;
 use outside_io::{Sink, Source};
 
 /// Where files are opened by their names.
 pub trait Folder {
     /// A file that is an index.
-    type Index: Disk + Drop;
+    type Index: SharedDisk;
     /// A file of logs that is read.
     type LogIn: Source + Drop;
     /// A file that logs or proofs are written to.

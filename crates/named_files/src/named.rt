@@ -1,8 +1,9 @@
 // Files that words may name.
 ghost use Rattle.named_files.specs.Named.{named_disk, named_faults, named_left, named_mix, named_read, named_sink};
 
-use disk_model::{Disk, Failed};
+use disk_model::{Disk, Failed, SharedDisk};
 use outside_io::{Sink, Source};
+use std::alloc::Global;
 
 /// The file that a word names. Where there is no such word, a disk reads as empty and keeps nothing, a source is at its end,
 /// and a sink discards what it takes.
@@ -44,6 +45,18 @@ impl<D: Disk> Disk for Named<D> {
         match &mut self.0 {
             Some(disk) => disk.sync(),
             None => Ok(()),
+        }
+    }
+}
+
+impl<D: SharedDisk> SharedDisk for Named<D> {
+    fn reader(&self, alloc: Global) -> Option<Self> {
+        match &self.0 {
+            Some(disk) => match disk.reader(alloc) {
+                Some(reader) => Some(Named(Some(reader))),
+                None => None,
+            },
+            None => Some(Named(None)),
         }
     }
 }

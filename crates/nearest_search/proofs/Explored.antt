@@ -3,7 +3,7 @@ use Rattle.std.proofs.Common.{◌≡◌, ℕ, zero, suc, ◌+◌, ◌<◌, ◌�
 use Rattle.std.specs.Prelude.{IsTrue, ◌==◌}
 use Rattle.std.proofs.lemmas.Bool.Decides.{nat_tests}
 use Rattle.metric_laws.specs.Space.{Space, IsSpace}
-use Rattle.metric_laws.specs.Counts.{next_count}
+use Rattle.metric_laws.specs.Counts.{next_count, count_up}
 use Rattle.metric_laws.specs.Lists.{IsIn}
 use Rattle.metric_laws.proofs.Lists.{all_append, in-map, in-append, in-append_right}
 use Rattle.scan_model.specs.declared.hit.Hit.{Hit}
@@ -25,7 +25,7 @@ use Rattle.log_model.specs.declared.marks.Mark.TheVariants.{Skip, Far, Near}
 use Rattle.log_model.specs.declared.marks.Record.{Record}
 use Rattle.log_model.specs.declared.marks.Need.{Need}
 use Rattle.log_model.specs.declared.traversal.Traversal.{Traversal}
-use Rattle.log_model.specs.Counts.{count_up, entry_count}
+use Rattle.log_model.specs.Counts.{entry_count}
 use Rattle.log_model.specs.Grammar.{IsLawfulQuery}
 use Rattle.log_model.specs.Sound.{IsLogOf, IsLeastLog, selected, search_for}
 use Rattle.log_model.specs.Laws.{scan_answers}
@@ -47,23 +47,11 @@ use Rattle.nearest_search.proofs.Steps.{step}
 use Rattle.nearest_search.proofs.Ends.{begins, room, ends}
 use Rattle.nearest_search.proofs.KeptWalk.{agrees_reach}
 use Rattle.nearest_search.proofs.Walking.{walk_opens, opens_before}
-
-pub same_trans : (a b c : Shelf) → HoldsSame a b → HoldsSame b c → HoldsSame a c
-same_trans a b c h k = record {
-  dim = k.dim ∙ h.dim;
-  pages = k.pages ∙ h.pages;
-  tells = k.tells ∙ h.tells;
-  read = k.read ∙ h.read;
-  faults = (let x = h.faults in let y = k.faults in omega arith);
-}
+use Rattle.page_store.proofs.Held.{holds_both, told_then}
 
 entries_few : (dim : ℕ) (node : Node) → IsLawfulNode dim node → entry_count node ≤ 32
 entries_few dim (Leaf es) lawful = let few = lawful.0 in omega arith
 entries_few dim (Inner level es) lawful = let few = lawful.3 in omega arith
-
-told_then : (old now : Shelf) (page : ℕ) (node : Node) → HoldsSame old now → IsNodeOf now page node → IsTrue old.tells → nodes_of old.read page ≡ Some node
-told_then old now page node holds is tells =
-    ap (λ (r : Read). node_or_none (r page)) (sym holds.read) ∙ ap node_or_none (is.told (rw holds.tells tells))
 
 -- a page that was kept anew has few entries, and so have the others
 keeps_few_then : (before after : Nodes) (page : ℕ) (node : Node) → KeepsFew before → entry_count node ≤ 32 → after page ≡ Some node → ((p : ℕ) → (p ≡ page → ⊥) → after p ≡ before p) → KeepsFew after
@@ -125,7 +113,7 @@ module _ (s : Space) (axioms : IsSpace s) (old : Shelf) (live : Live) (q : List 
         subst (λ (n : ℕ). IsOpened (search_at s q rho) now n next (record { queue = rest; best = state.best; kept = state.kept }) after) is_k
         (subst (λ (g : Search). IsOpened g now j next (record { queue = rest; best = state.best; kept = state.kept }) after) is_search does) in
         record {
-          same = same_trans old now new before.same same;
+          same = holds_both old now new before.same same;
           asked = asked ∙ ap next_count before.asked ∙ count_up_more old.asked opened ∙ ap (count_up old.asked) (let e : suc opened ≡ opened + 1 = omega arith in e);
           reads = (let b = before.reads in omega arith);
           few = omega arith;

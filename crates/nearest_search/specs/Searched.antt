@@ -17,7 +17,8 @@ use Rattle.page_store.specs.Reading.{IsWithin, is_within, nodes_of}
 use Rattle.page_store.specs.Shelf.{Shelf, HoldsSame}
 use Rattle.log_model.specs.declared.logs.Found.{Found}
 use Rattle.log_model.specs.declared.marks.Need.{Need}
-use Rattle.log_model.specs.Counts.{count_up, entry_count}
+use Rattle.metric_laws.specs.Counts.{count_up}
+use Rattle.log_model.specs.Counts.{entry_count}
 use Rattle.log_model.specs.Sound.{IsLeastLog, selected}
 use Rattle.log_model.specs.Walk.{search_at, ReachesBy, AreLeast, root_need}
 use Rattle.nearest_search.specs.declared.pending.Pending.{Pending}

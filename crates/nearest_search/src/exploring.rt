@@ -5,7 +5,7 @@ ghost use Rattle.std.specs.BinaryHeap.{heap_items};
 ghost use Rattle.tree_shape.specs.Tree.{IsSoundTree};
 ghost use Rattle.page_store.specs.Reading.{nodes_of};
 ghost use Rattle.page_store.specs.Shelf.{HoldsSame, IsPassing};
-ghost use Rattle.log_model.specs.Counts.{CountsUpTo};
+ghost use Rattle.metric_laws.specs.Counts.{CountsUpTo};
 ghost use Rattle.nearest_search.specs.Machine.{pending_root};
 ghost use Rattle.nearest_search.specs.Keeping.{kept_node};
 ghost use Rattle.nearest_search.specs.Searched.{IsExplored, HasNearestCause};
@@ -49,7 +49,8 @@ pub fn explore<P: Pages, R: Ruler>(
     ensures cause { IfErr result (HasNearestCause live.now (P.shelf pages.old) (P.shelf pages.new)) }
     ensures asked { CountsUpTo (P.shelf pages.old).asked (P.shelf pages.new).asked live.now.pages }
     ensures reads { (P.shelf pages.new).reads ≤ (P.shelf pages.old).reads + live.now.pages }
-    ensures sound { IfErr result (λ fault. IsTrue (P.shelf pages.old).tells → IsSoundTree (R.M.space (R.metric ruler.old)) (nodes_of (P.shelf pages.old).read) live.now → IsPassing fault) }
+    ensures sound { IfErr result (λ fault. IsTrue (P.shelf pages.old).tells →
+        IsSoundTree (R.M.space (R.metric ruler.old)) (nodes_of (P.shelf pages.old).read) live.now → IsPassing fault) }
 {
     let mut opened = 0u32;
     loop {

@@ -22,7 +22,8 @@ pub fn relog<R: Ruler>(
 ) -> Result<Traversal, Memory>
     requires { KeepsFew (kept_node kept.now) }
     ensures metric { R.metric ruler.new ≡ R.metric ruler.old }
-    ensures ok { IfOk result (λ walk. IsRelogged (search_at (R.M.space (R.metric ruler.old)) probe.entry.q.now probe.entry.rho) (kept_node kept.now) live.now walk.records.items walk.hits.items) }
+    ensures ok { IfOk result (λ walk. IsRelogged (search_at (R.M.space (R.metric ruler.old)) probe.entry.q.now probe.entry.rho)
+        (kept_node kept.now) live.now walk.records.items walk.hits.items) }
 {
     let mut walk = Traversal::begin(alloc, live.root)?;
     let mut opened = 0u32;

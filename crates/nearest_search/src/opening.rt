@@ -28,7 +28,8 @@ pub fn note_leaf<R: Ruler>(
 ) -> Result<(), AllocError>
     ensures metric { R.metric ruler.new ≡ R.metric ruler.old }
     ensures count { best.new.k ≡ best.old.k }
-    ensures noted { OnOk result (Takes best.old.k (heap_items best.old.heap) (heap_items best.new.heap) (leaf_dists (search_at (R.M.space (R.metric ruler.old)) probe.entry.q.now probe.entry.rho) above entries.now)) }
+    ensures noted { OnOk result (Takes best.old.k (heap_items best.old.heap) (heap_items best.new.heap)
+        (leaf_dists (search_at (R.M.space (R.metric ruler.old)) probe.entry.q.now probe.entry.rho) above entries.now)) }
 {
     for entry in entries {
         if is_ruled_out(above, entry.parent, probe.rho, 0) {
@@ -52,7 +53,9 @@ pub fn queue_inner<R: Ruler>(
     frontier: &mut Frontier,
 ) -> Result<(), AllocError>
     ensures metric { R.metric ruler.new ≡ R.metric ruler.old }
-    ensures queued { OnOk result (IsPermutation (inner_pendings (search_at (R.M.space (R.metric ruler.old)) probe.entry.q.now probe.entry.rho) above entries.now ++ frontier.old) frontier.new) }
+    ensures queued { OnOk result
+        (IsPermutation (inner_pendings (search_at (R.M.space (R.metric ruler.old)) probe.entry.q.now probe.entry.rho) above
+        entries.now ++ frontier.old) frontier.new) }
 {
     for entry in entries {
         if is_ruled_out(above, entry.parent, probe.rho, entry.radius) {
@@ -86,7 +89,8 @@ pub fn open_page<P: Pages, R: Ruler>(
     ensures asked { (P.shelf pages.new).asked ≡ next_count (P.shelf pages.old).asked }
     ensures reads { (P.shelf pages.new).reads ≤ (P.shelf pages.old).reads + 1 }
     ensures count { machine.new.best.k ≡ machine.old.best.k }
-    ensures opened { OnOk result (IsOpened (search_at (R.M.space (R.metric ruler.old)) probe.entry.q.now probe.entry.rho) (P.shelf pages.old) machine.old.best.k next
+    ensures opened { OnOk result (IsOpened (search_at (R.M.space (R.metric ruler.old)) probe.entry.q.now probe.entry.rho)
+        (P.shelf pages.old) machine.old.best.k next
         (record { queue = machine.old.frontier; best = heap_items machine.old.best.heap; kept = kept_node machine.old.kept })
         (record { queue = machine.new.frontier; best = heap_items machine.new.best.heap; kept = kept_node machine.new.kept })) }
     ensures cause { IfErr result (HasPageCause (P.shelf pages.old) (P.shelf pages.new) next.page) }

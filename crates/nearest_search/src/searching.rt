@@ -3,7 +3,7 @@ ghost use Rattle.scan_model.specs.declared.query.Query.TheVariants.{Nearest};
 ghost use Rattle.tree_shape.specs.Tree.{IsSoundTree};
 ghost use Rattle.page_store.specs.Reading.{nodes_of};
 ghost use Rattle.page_store.specs.Shelf.{HoldsSame, IsPassing};
-ghost use Rattle.log_model.specs.Counts.{CountsUpTo};
+ghost use Rattle.metric_laws.specs.Counts.{CountsUpTo};
 ghost use Rattle.log_model.specs.Sound.{IsLogOf};
 ghost use Rattle.nearest_search.specs.Searched.{HasNearestCause, IsFront, IsNearest};
 
@@ -39,14 +39,17 @@ pub fn nearest<P: Pages, R: Ruler>(
     ensures same { HoldsSame (P.shelf pages.old) (P.shelf pages.new) }
     ensures keeps { P.keeps pages.old pages.new }
     ensures log { IfOk result (IsLogOf live.now (Nearest q.now k)) }
-    ensures nearest { IfOk result (λ found. IsTrue (P.shelf pages.old).tells → IsSoundTree (R.M.space (R.metric ruler.old)) (nodes_of (P.shelf pages.old).read) live.now →
+    ensures nearest { IfOk result (λ found. IsTrue (P.shelf pages.old).tells →
+        IsSoundTree (R.M.space (R.metric ruler.old)) (nodes_of (P.shelf pages.old).read) live.now →
         IsNearest (R.M.space (R.metric ruler.old)) (nodes_of (P.shelf pages.old).read) live.now q.now k (P.shelf pages.old) (P.shelf pages.new) found) }
-    ensures front { IfOk result (λ found. IsTrue (P.shelf pages.old).tells → IsFront (R.M.space (R.metric ruler.old)) (nodes_of (P.shelf pages.old).read) live.now q.now k found) }
+    ensures front { IfOk result (λ found. IsTrue (P.shelf pages.old).tells →
+        IsFront (R.M.space (R.metric ruler.old)) (nodes_of (P.shelf pages.old).read) live.now q.now k found) }
     ensures cause { IfErr result (HasNearestCause live.now (P.shelf pages.old) (P.shelf pages.new)) }
     // Whatever the result, at most as many pages were asked for, and read, as the file has.
     ensures asked { CountsUpTo (P.shelf pages.old).asked (P.shelf pages.new).asked live.now.pages }
     ensures reads { (P.shelf pages.new).reads ≤ (P.shelf pages.old).reads + live.now.pages }
-    ensures sound { IfErr result (λ fault. IsTrue (P.shelf pages.old).tells → IsSoundTree (R.M.space (R.metric ruler.old)) (nodes_of (P.shelf pages.old).read) live.now → IsPassing fault) }
+    ensures sound { IfErr result (λ fault. IsTrue (P.shelf pages.old).tells →
+        IsSoundTree (R.M.space (R.metric ruler.old)) (nodes_of (P.shelf pages.old).read) live.now → IsPassing fault) }
 {
     let Ok(point) = Point::new(alloc, q) else {
         return Err(PageFault::Memory);

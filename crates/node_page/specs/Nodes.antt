@@ -53,7 +53,12 @@ leaf_at dim page at = leaf_in Second dim page at
 
 -- the inner entry from a place on
 unfoldable pub inner_at : ℕ → List ℕ → ℕ → InnerEntry
-inner_at dim page at = record { child = number_at at 4 page; radius = number_at (at + 4) 8 page; parent = number_at (at + 12) 8 page; point = point_at dim page (at + 20) }
+inner_at dim page at = record {
+  child = number_at at 4 page;
+  radius = number_at (at + 4) 8 page;
+  parent = number_at (at + 12) 8 page;
+  point = point_at dim page (at + 20);
+}
 
 -- the place of an entry over points of so many coordinates
 abbrev pub place_in : Version → Bool → ℕ → ℕ → ℕ

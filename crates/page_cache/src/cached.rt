@@ -97,7 +97,8 @@ impl<P: Pages> Pages for Cached<P> {
     /// there is none for the copy.
     fn node(&mut self, alloc: Global, page: u32) -> Result<Node, PageFault>
         ensures ok { IfOk result (IsNodeOf (asked_for (P.shelf self.old.inner) self.old.asked) page) }
-        ensures cause { IfErr result (HasPageCause (asked_for (P.shelf self.old.inner) self.old.asked) (asked_for (P.shelf self.new.inner) self.new.asked) page) }
+        ensures cause { IfErr result (HasPageCause (asked_for (P.shelf self.old.inner) self.old.asked)
+            (asked_for (P.shelf self.new.inner) self.new.asked) page) }
         ensures outside { is_within (P.shelf self.old.inner).pages page ≡ false → result ≡ Err (Outside page) }
         ensures unread { is_within (P.shelf self.old.inner).pages page ≡ false → (P.shelf self.new.inner).reads ≡ (P.shelf self.old.inner).reads }
         ensures same { HoldsSame (asked_for (P.shelf self.old.inner) self.old.asked) (asked_for (P.shelf self.new.inner) self.new.asked) }

@@ -1,3 +1,6 @@
+pub mod PageBytes
+pub mod Answers
+pub mod Held
 pub mod Apart
 pub mod Results
 pub mod Given
@@ -8,3 +11,7 @@ pub mod Ids
 pub mod Named
 pub mod Whole
 pub mod Following
+pub mod OneTour
+pub mod Touring
+pub mod SoundTour
+pub mod Copied

@@ -1,5 +1,5 @@
 -- Which files are sound.
-use Rattle.std.specs.Prelude.{◌≡◌, ℕ, List}
+use Rattle.std.specs.Prelude.{◌≡◌, ℕ, ◌<◌, List}
 use Rattle.metric_laws.specs.Space.{Space}
 use Rattle.tree_shape.specs.declared.live.Live.{Live}
 use Rattle.tree_shape.specs.Tree.{Nodes, IsSoundTree, points_by_id, tags_by_id}
@@ -24,3 +24,7 @@ points_in dim live file = points_by_id (nodes_in dim live file) live
 
 abbrev pub tags_in : ℕ → Live → List ℕ → List ℕ
 tags_in dim live file = tags_by_id (nodes_in dim live file) live
+
+-- the file opens to a live slot with more pages than are taken into memory or sealed: more than a gigabyte
+abbrev pub IsLarge : List ℕ → Type 0
+IsLarge file = (head : Head) × (live : Live) × OpensTo file head live × (262144 < live.pages)

@@ -1,8 +1,9 @@
 -- Laws of trees on pages.
-use Rattle.std.specs.Prelude.{ℕ, ◌≤◌, List, ◌++◌}
+use Rattle.std.specs.Prelude.{◌≡◌, ℕ, ◌<◌, ◌≤◌, List, ◌++◌, Some}
 use Rattle.std.specs.List.{AllByRecursion}
 use Rattle.metric_laws.specs.Lists.{IsIn}
 use Rattle.metric_laws.specs.Space.{Space}
+use Rattle.tree_shape.specs.declared.entry.Node.{Node}
 use Rattle.tree_shape.specs.declared.live.Live.{Live}
 use Rattle.tree_shape.specs.Tree.{Nodes, IsNodePage, IsSoundTree, times}
 use Rattle.node_page.specs.declared.head.Head.{Head}
@@ -11,6 +12,7 @@ use Rattle.page_store.specs.Numbers.{AreNumbers}
 use Rattle.page_store.specs.Placing.{IsPlacement, live_pages}
 use Rattle.page_store.specs.Reached.{IsReached, IsWholeTree, StandsOnPages}
 use Rattle.page_store.specs.Staging.{pages_of}
+use Rattle.page_store.specs.Tours.{IsWhole, IsToured, Names}
 use Rattle.page_store.specs.Succession.{ShareNone, TakesPlace, StandsByItself, IsWritten, without}
 
 -- a sound tree is whole, on its pages in pre-order
@@ -45,5 +47,19 @@ TreesGoOn =
 -- where the new nodes stand by themselves, the next tree stands on the new pages alone
 abbrev pub NewTreesStand : Type 0
 NewTreesStand =
-    (old new : Nodes) (tree : List ℕ) (placed : Placed) → StandsByItself placed → AreNew placed.next tree (pages_of placed.staged) → IsWritten old tree placed.staged new →
+    (old new : Nodes) (tree : List ℕ) (placed : Placed) → StandsByItself placed →
+    AreNew placed.next tree (pages_of placed.staged) → IsWritten old tree placed.staged new →
     StandsOnPages new placed.next (pages_of placed.staged)
+
+-- On any file: after so many opened pages the walk by child numbers names one page and no other; and where the walk is whole,
+-- that page holds a node, and fewer pages were opened than in the whole walk. So a walk that comes to a page without a node, or
+-- names a page more than there are, answers nothing else, and names that page.
+abbrev pub TourHasOneCourse : Type 0
+TourHasOneCourse =
+    (nodes : Nodes) (root opened page : ℕ) → Names nodes root opened page →
+    ((other : ℕ) → Names nodes root opened other → page ≡ other)
+    × ((most : ℕ) → IsWhole nodes root most → (opened < most) × ((node : Node) × (nodes page ≡ Some node)))
+
+-- the walk by child numbers of a sound tree is whole, and opens no more pages than there are
+abbrev pub SoundTreesAreToured : Type 0
+SoundTreesAreToured = (s : Space) (nodes : Nodes) (t : Live) → IsSoundTree s nodes t → IsToured nodes t

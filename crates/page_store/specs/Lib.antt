@@ -1,11 +1,10 @@
-pub mod PageBytes
 pub mod Reading
 pub mod Shelf
 pub mod Files
 pub mod Staging
 pub mod Reached
+pub mod Tours
 pub mod Kept
-pub mod Answers
 pub mod Shelves
 pub mod Numbers
 pub mod Succession

@@ -36,7 +36,8 @@ pub record IsNodeOf (shelf : Shelf) (page : ℕ) (node : Node) : Type 0 where
 -- why a page gave no node: its disk failed, its bytes are no node, it is none of the pages, or memory ran out
 abbrev pub HasPageCause : Shelf → Shelf → ℕ → PageFault → Type 0
 HasPageCause old new page Disk = Rose old.faults new.faults
-HasPageCause old new page (Bad p fault) = (p ≡ page) × (fault ≢ NodeMemory) × IsWithin old.pages page × (IsTrue old.tells → old.read page ≡ Err (Bad page fault))
+HasPageCause old new page (Bad p fault) = (p ≡ page) × (fault ≢ NodeMemory) × IsWithin old.pages page
+    × (IsTrue old.tells → old.read page ≡ Err (Bad page fault))
 HasPageCause old new page (Outside p) = (p ≡ page) × (is_within old.pages page ≡ false) × (IsTrue old.tells → old.read page ≡ Err (Outside page))
 HasPageCause old new page Memory = Unit {0}
 HasPageCause old new page (Repeats p) = ⊥
@@ -47,3 +48,11 @@ abbrev pub IsPassing : PageFault → Type 0
 IsPassing Disk = Unit {0}
 IsPassing Memory = Unit {0}
 IsPassing _ = ⊥
+
+-- what a walk by child numbers says of a damaged file: a page holds no node, or is none of the file's, or is needed after as many
+-- as there are
+abbrev pub IsDamage : PageFault → Type 0
+IsDamage (Bad page fault) = Unit {0}
+IsDamage (Outside page) = Unit {0}
+IsDamage (Repeats page) = Unit {0}
+IsDamage _ = ⊥

@@ -20,7 +20,8 @@ pub record TakesPlace (nodes : Nodes) (t : Live) (placed : Placed) : Type 0 wher
   pub once : (page : ℕ) → times page placed.left ≤ 1
   pub root : IsIn placed.next.root (pages_of placed.staged)
   pub names : (page : ℕ) →
-      times page (placed.next.root ∷ named_by placed.staged) + times page placed.left ≡ times page (t.root ∷ named_in nodes placed.left) + times page (pages_of placed.staged)
+      times page (placed.next.root ∷ named_by placed.staged) + times page placed.left ≡ times page
+      (t.root ∷ named_in nodes placed.left) + times page (pages_of placed.staged)
 
 -- The new nodes are a whole tree by themselves: where its root counts as named once, they name each new page once.
 pub record StandsByItself (placed : Placed) : Type 0 where

@@ -86,7 +86,8 @@ impl<D: Disk> Pages for DiskPages<'_, D> {
 
     ghost keeps_none = { λ p. (refl, unchanged_by_none (D.state p.disk.now)) };
 
-    ghost keeps_both = { λ p q r first second. (second.0 ∙ first.0, then_unchanged (D.state p.disk.now) (D.state q.disk.now) (D.state r.disk.now) first.1 second.1) };
+    ghost keeps_both = { λ p q r first second.
+        (second.0 ∙ first.0, then_unchanged (D.state p.disk.now) (D.state q.disk.now) (D.state r.disk.now) first.1 second.1) };
 
     fn node(&mut self, alloc: Global, page: u32) -> Result<Node, PageFault> {
         self.asked = self.asked.saturating_add(1);

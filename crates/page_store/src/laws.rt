@@ -1,6 +1,6 @@
 //! Laws of trees on pages.
 
-ghost use Rattle.page_store.specs.Laws.{NewTreesStand, PlacementsAreNew, SoundTreesAreWhole, TreesGoOn, TreesStandOnPages};
+ghost use Rattle.page_store.specs.Laws.{NewTreesStand, PlacementsAreNew, SoundTreesAreToured, SoundTreesAreWhole, TourHasOneCourse, TreesGoOn, TreesStandOnPages};
 
 /// A sound tree is whole: it has exactly the pages that are reached, each once.
 pub fn sound_trees_are_whole()
@@ -25,4 +25,15 @@ pub fn trees_go_on()
 /// Where the new nodes stand by themselves, the next tree stands on the new pages.
 pub fn new_trees_stand()
     ensures { NewTreesStand }
+{}
+
+/// The walk by child numbers of a tree whose pages tell what they hold is whole, or it comes to a page that holds no node, or it
+/// names a page after it has opened as many as there are: one of these and no other.
+pub fn tour_has_one_course()
+    ensures { TourHasOneCourse }
+{}
+
+/// The walk by child numbers of a sound tree is whole, so none of the causes that its pages tell comes there.
+pub fn sound_trees_are_toured()
+    ensures { SoundTreesAreToured }
 {}

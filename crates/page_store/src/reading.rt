@@ -32,11 +32,16 @@ fn byte_at(file: &[u8], place: usize) -> u8
     if place < file.len() { file[place] } else { 0 }
 }
 
-// Copies a page of a file in memory.
+// Copies a page of a file in memory: at once where the file has all of it.
 pub fn copy_page(file: &[u8], page: u32, bytes: &mut [u8; 4096])
     ensures { bytes.new ≡ page_of file.now page }
 {
     let from = PAGE as usize * page as usize;
+    let past = from + bytes.len();
+    if past <= file.len() {
+        bytes.copy_from_slice(&file[from..past]);
+        return;
+    }
     for at in 0..bytes.len() {
         bytes[at] = byte_at(file, from + at);
     }
@@ -62,7 +67,8 @@ pub fn node_on(
     requires some { 1 ≤ dim }
     requires few { dim ≤ 64 }
     ensures lawful { IfOk result (IsLawfulNode dim) }
-    ensures told { IfOk result (λ node. (fault_in (version_of first_version) dim bytes.now ≡ None) × (node ≡ node_in (version_of first_version) dim bytes.now)) }
+    ensures told { IfOk result (λ node. (fault_in (version_of first_version) dim bytes.now ≡ None)
+        × (node ≡ node_in (version_of first_version) dim bytes.now)) }
     ensures fault { IfErr result (IsBytesFault (version_of first_version) dim bytes.now page) }
 {
     match decode(alloc, bytes, dim, first_version) {
@@ -82,7 +88,8 @@ fn decode(
     requires some { 1 ≤ dim }
     requires few { dim ≤ 64 }
     ensures lawful { IfOk result (IsLawfulNode dim) }
-    ensures told { IfOk result (λ node. (fault_in (version_of first_version) dim bytes.now ≡ None) × (node ≡ node_in (version_of first_version) dim bytes.now)) }
+    ensures told { IfOk result (λ node. (fault_in (version_of first_version) dim bytes.now ≡ None)
+        × (node ≡ node_in (version_of first_version) dim bytes.now)) }
     ensures fault { IfErr result (λ fault. (fault ≡ NodeFault.Memory) ⊎ (fault_in (version_of first_version) dim bytes.now ≡ Some fault)) }
 {
     if first_version {

@@ -108,11 +108,20 @@ pub fn settle(
 
     // Node i stands on page i of the numbers and then from the end on.
     ensures staged { IfOk result (λ placed. placed.staged ≡ numbered (number_at numbering.now.numbers.now numbering.now.first) 0 tree.nodes.items) }
-    ensures next { IfOk result (λ placed. placed.next ≡ record { side = 1 - live.now.side; generation = live.now.generation + 1; root = tree.root; height = tree.height; count = live.now.count + tree.added; pages = live.now.pages + (length tree.nodes.items - length numbering.now.numbers.now) }) }
+    ensures next { IfOk result (λ placed. placed.next ≡ record {
+      side = 1 - live.now.side;
+      generation = live.now.generation + 1;
+      root = tree.root;
+      height = tree.height;
+      count = live.now.count + tree.added;
+      pages = live.now.pages + (length tree.nodes.items - length numbering.now.numbers.now);
+    }) }
     ensures left { IfOk result (λ placed. placed.left ≡ tree.left.items) }
 
     // Under every head that allows so many objects, and whose pages can hold the nodes, this can be committed.
-    ensures placement { IfOk result (λ placed. (head : Head) → live.now.count + tree.added ≤ head.limit → AllByRecursion (IsLawfulNode head.dim) tree.nodes.items → IsPlacement head live.now numbering.now.numbers.now tree.added placed) }
+    ensures placement { IfOk result (λ placed. (head : Head) → live.now.count + tree.added ≤ head.limit →
+        AllByRecursion (IsLawfulNode head.dim) tree.nodes.items →
+        IsPlacement head live.now numbering.now.numbers.now tree.added placed) }
 
     // When it is refused.
     ensures room { OnOk result (live.now.pages + (length tree.nodes.items - length numbering.now.numbers.now) ≤ 2 ^ 24) }

@@ -89,6 +89,7 @@ fn nodes_are_staged(rt: HostRuntime) -> Result<(), Fail> {
     laws::sound_trees_are_whole();
     laws::trees_stand_on_pages();
     laws::placements_are_new();
+    laws::tour_has_one_course();
     laws::trees_go_on();
     laws::new_trees_stand();
     Ok(())

@@ -4,7 +4,7 @@ use Rattle.std.specs.Prelude.{map, false, IsTrue, IsPermutation}
 use Rattle.std.proofs.lemmas.List.Sorted.{length_permutation, IsPermutation-pop_more}
 use Rattle.std.specs.List.{flat_map}
 use Rattle.metric_laws.specs.Space.{Space, IsSpace}
-use Rattle.metric_laws.specs.Counts.{next_count}
+use Rattle.metric_laws.specs.Counts.{next_count, count_up, CountsUpTo}
 use Rattle.metric_laws.specs.Lists.{IsIn}
 use Rattle.metric_laws.proofs.Lists.{in-append, in-map, length_map}
 use Rattle.scan_model.specs.declared.hit.Hit.{Hit}
@@ -20,7 +20,6 @@ use Rattle.page_store.specs.Reached.{IsReached}
 use Rattle.page_store.specs.Reached.IsReached.{at_root, by_child}
 use Rattle.page_store.specs.Reading.{Read, IsWithin, is_within, nodes_of, node_or_none}
 use Rattle.page_store.specs.Shelf.{Shelf, HoldsSame, HasPageCause, IsPassing}
-use Rattle.log_model.specs.Counts.{count_up, CountsUpTo}
 use Rattle.log_model.proofs.Reached.{count_up_more}
 use Rattle.log_model.proofs.Walk.{map-append}
 use Rattle.pin_cursor.specs.declared.waiting.Subtree.{Subtree}
@@ -32,18 +31,7 @@ use Rattle.pin_cursor.proofs.Lists.{in-permutation_back, drop_add, take_more, ta
 use Rattle.pin_cursor.proofs.Pops.{standing, given_first, given_stands, given_tag}
 use Rattle.pin_cursor.proofs.Walking.{walk_opens, opens_before}
 use Rattle.pin_cursor.proofs.Opens.{page_there, node_there, opens_room, opened_stands}
-
-pub same_itself : (a : Shelf) → HoldsSame a a
-same_itself a = record { dim = refl; pages = refl; tells = refl; read = refl; faults = omega arith }
-
-pub same_both : (a b c : Shelf) → HoldsSame a b → HoldsSame b c → HoldsSame a c
-same_both a b c h k = record {
-  dim = k.dim ∙ h.dim;
-  pages = k.pages ∙ h.pages;
-  tells = k.tells ∙ h.tells;
-  read = k.read ∙ h.read;
-  faults = (let x = h.faults in let y = k.faults in omega arith);
-}
+use Rattle.page_store.proofs.Held.{holds_none, holds_both}
 
 objects_few : (dim : ℕ) (node : Node) → IsLawfulNode dim node → length (leaf_entries (Some node)) ≤ 32
 objects_few dim (Leaf es) lawful = let few = lawful.0 in omega arith
@@ -59,7 +47,7 @@ module _ (s : Space) (axioms : IsSpace s) (old : Shelf) (live : Live) (q : List 
 
   pub way_begins : o0 ≤ live.pages → g0 + length cs0 ≤ 32 * o0 → IsUnderWay s old old start start [] []
   way_begins few room = record {
-    same = same_itself old;
+    same = holds_none old;
     more = omega arith;
     few = few;
     asked = ap (count_up old.asked) (let e : 0 ≡ o0 - o0 = omega arith in e);
@@ -157,7 +145,7 @@ module _ (s : Space) (axioms : IsSpace s) (old : Shelf) (live : Live) (q : List 
 
         pub way_opens : IsUnderWay s old new start (stage live q g (o + 1) xs' cs') hits tags
         way_opens = record {
-          same = same_both old now new way.same kept;
+          same = holds_both old now new way.same kept;
           more = (let m = way.more in omega arith);
           few = omega arith;
           asked = one_more new asked;

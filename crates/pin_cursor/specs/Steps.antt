@@ -14,7 +14,7 @@ use Rattle.page_store.specs.declared.pages.PageFault.TheVariants.{Disk, Bad, Out
 use Rattle.page_store.specs.Reached.{IsReached}
 use Rattle.page_store.specs.Reading.{IsWithin, is_within, nodes_of}
 use Rattle.page_store.specs.Shelf.{Shelf, HoldsSame, IsNodeOf}
-use Rattle.log_model.specs.Counts.{count_up}
+use Rattle.metric_laws.specs.Counts.{count_up}
 use Rattle.nearest_search.specs.Walks.{OpensBefore}
 use Rattle.pin_cursor.specs.declared.waiting.Subtree.{Subtree}
 use Rattle.pin_cursor.specs.declared.waiting.Candidate.{Candidate}

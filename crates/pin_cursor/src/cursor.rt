@@ -4,7 +4,7 @@ ghost use Rattle.metric_laws.specs.Lists.{IsIn};
 ghost use Rattle.tree_shape.specs.Tree.{Nodes, IsSoundTree};
 ghost use Rattle.page_store.specs.Reading.{nodes_of};
 ghost use Rattle.page_store.specs.Shelf.{HoldsSame, IsPassing};
-ghost use Rattle.log_model.specs.Counts.{CountsUpTo, count_up};
+ghost use Rattle.metric_laws.specs.Counts.{CountsUpTo, count_up};
 ghost use Rattle.pin_cursor.specs.Cursor.{OpenCursor, begun, IsCursorOn, IsWalked, HoldsTree};
 ghost use Rattle.pin_cursor.specs.Steps.{HasStepCause, HasGiven, IsAccounted, IsReachedFrom, GivesNext};
 
@@ -116,18 +116,25 @@ impl Cursor {
         ensures each { IfOk result (λ stepped. length stepped.tags ≡ length stepped.hits) }
         ensures unchanged { OnErr result (self.new ≡ self.old) }
         // On the tree of a sound file, which the pages still hold, these are the scan's next hits, with their tags.
-        ensures gives { IfOk result (λ stepped. (nodes : Nodes) → IsTrue (P.shelf pages.old).tells → IsSoundTree (R.M.space (R.metric ruler.old)) nodes self.old.live → HoldsTree nodes self.old.live (P.shelf pages.old) →
-            IsCursorOn (R.M.space (R.metric ruler.old)) nodes self.old → GivesNext (R.M.space (R.metric ruler.old)) nodes self.old self.new n stepped.hits stepped.tags) }
-        ensures sound { IfErr result (λ fault. (nodes : Nodes) → IsTrue (P.shelf pages.old).tells → IsSoundTree (R.M.space (R.metric ruler.old)) nodes self.old.live → HoldsTree nodes self.old.live (P.shelf pages.old) →
+        ensures gives { IfOk result (λ stepped. (nodes : Nodes) → IsTrue (P.shelf pages.old).tells →
+            IsSoundTree (R.M.space (R.metric ruler.old)) nodes self.old.live → HoldsTree nodes self.old.live (P.shelf pages.old) →
+            IsCursorOn (R.M.space (R.metric ruler.old)) nodes self.old →
+            GivesNext (R.M.space (R.metric ruler.old)) nodes self.old self.new n stepped.hits stepped.tags) }
+        ensures sound { IfErr result (λ fault. (nodes : Nodes) → IsTrue (P.shelf pages.old).tells →
+            IsSoundTree (R.M.space (R.metric ruler.old)) nodes self.old.live → HoldsTree nodes self.old.live (P.shelf pages.old) →
             IsCursorOn (R.M.space (R.metric ruler.old)) nodes self.old → IsPassing fault) }
         ensures cause { IfErr result (HasStepCause self.old (P.shelf pages.old) (P.shelf pages.new)) }
         // On any tree: as many hits as are wanted, or all; and what was opened, met and given adds up.
         ensures ends { IfOk result (λ stepped. HasGiven n stepped.hits self.new.candidates self.new.subtrees) }
-        ensures accounted { IfOk result (λ stepped. IsTrue (P.shelf pages.old).tells → IsAccounted (R.M.space (R.metric ruler.old)) (nodes_of (P.shelf pages.old).read) self.old self.new stepped.hits stepped.tags) }
+        ensures accounted { IfOk result (λ stepped. IsTrue (P.shelf pages.old).tells →
+            IsAccounted (R.M.space (R.metric ruler.old)) (nodes_of (P.shelf pages.old).read) self.old self.new stepped.hits
+            stepped.tags) }
         // What waits is reached from what waited.
-        ensures reached { IfOk result (λ _. IsTrue (P.shelf pages.old).tells → (x : Subtree) → IsIn x self.new.subtrees → IsReachedFrom (nodes_of (P.shelf pages.old).read) self.old x.page) }
+        ensures reached { IfOk result (λ _. IsTrue (P.shelf pages.old).tells → (x : Subtree) → IsIn x self.new.subtrees →
+            IsReachedFrom (nodes_of (P.shelf pages.old).read) self.old x.page) }
         // A cursor that is a walk by child numbers stays one.
-        ensures walks { IfOk result (λ _. IsTrue (P.shelf pages.old).tells → IsWalked (nodes_of (P.shelf pages.old).read) self.old → IsWalked (nodes_of (P.shelf pages.old).read) self.new) }
+        ensures walks { IfOk result (λ _. IsTrue (P.shelf pages.old).tells →
+            IsWalked (nodes_of (P.shelf pages.old).read) self.old → IsWalked (nodes_of (P.shelf pages.old).read) self.new) }
         // An opened node is asked for once. Over all steps that answer Ok no more are opened than the file has pages.
         ensures opened { IfOk result (λ _. (self.old.opened ≤ self.new.opened) × (self.new.opened ≤ self.old.live.pages)) }
         ensures work { IfOk result (λ _. (P.shelf pages.new).asked ≡ count_up (P.shelf pages.old).asked (self.new.opened - self.old.opened)) }
@@ -155,7 +162,14 @@ impl Cursor {
     fn settle(&mut self, walk: Walk) -> Stepped
         requires few { walk.opened ≤ self.old.live.pages }
         requires room { walk.given + length walk.candidates ≤ 32 * walk.opened }
-        ensures after { self.new ≡ record { live = self.old.live; point = self.old.point; given = walk.given; opened = walk.opened; subtrees = walk.subtrees; candidates = walk.candidates } }
+        ensures after { self.new ≡ record {
+          live = self.old.live;
+          point = self.old.point;
+          given = walk.given;
+          opened = walk.opened;
+          subtrees = walk.subtrees;
+          candidates = walk.candidates;
+        } }
         ensures hits { result.hits ≡ walk.hits.items }
         ensures tags { result.tags ≡ walk.tags.items }
     {

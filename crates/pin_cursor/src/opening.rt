@@ -73,7 +73,8 @@ pub fn open_page<P: Pages, R: Ruler>(
     ensures given { walk.new.given ≡ walk.old.given }
     ensures hits { walk.new.hits ≡ walk.old.hits }
     ensures tags { walk.new.tags ≡ walk.old.tags }
-    ensures node { OnOk result (IsOpened (R.M.space (R.metric ruler.old)) q.now (P.shelf pages.old) page walk.old.candidates walk.new.candidates walk.old.subtrees walk.new.subtrees) }
+    ensures node { OnOk result (IsOpened (R.M.space (R.metric ruler.old)) q.now (P.shelf pages.old) page walk.old.candidates
+        walk.new.candidates walk.old.subtrees walk.new.subtrees) }
     ensures cause { IfErr result (HasPageCause (P.shelf pages.old) (P.shelf pages.new) page) }
 {
     let node = pages.node(alloc, page)?;

@@ -3,7 +3,7 @@
 ghost use Rattle.std.specs.Prelude.{◌≡◌, ◌+◌, ◌-◌, ◌*◌, ◌≤◌, [], length, IfOk, IfErr, IsTrue};
 ghost use Rattle.tree_shape.specs.Tree.{Nodes, IsSoundTree};
 ghost use Rattle.page_store.specs.Shelf.{HoldsSame, IsPassing};
-ghost use Rattle.log_model.specs.Counts.{CountsUpTo};
+ghost use Rattle.metric_laws.specs.Counts.{CountsUpTo};
 ghost use Rattle.pin_cursor.specs.Cursor.{OpenCursor, IsCursorOn, HoldsTree};
 ghost use Rattle.pin_cursor.specs.Steps.{HasStepCause, IsUnderWay, HasGiven, stage};
 
@@ -47,9 +47,14 @@ pub fn advance<P: Pages, R: Ruler>(
     ensures ends { IfOk result (λ _. HasGiven goal.entry.n walk.new.hits.items walk.new.candidates walk.new.subtrees) }
     ensures asked { CountsUpTo (P.shelf pages.old).asked (P.shelf pages.new).asked (live.now.pages - walk.old.opened) }
     ensures reads { (P.shelf pages.new).reads ≤ (P.shelf pages.old).reads + (live.now.pages - walk.old.opened) }
-    ensures cause { IfErr result (HasStepCause (stage live.now goal.entry.q.now walk.old.given walk.old.opened walk.old.subtrees walk.old.candidates) (P.shelf pages.old) (P.shelf pages.new)) }
-    ensures sound { IfErr result (λ fault. (nodes : Nodes) → IsTrue (P.shelf pages.old).tells → IsSoundTree (R.M.space (R.metric ruler.old)) nodes live.now → HoldsTree nodes live.now (P.shelf pages.old) →
-        IsCursorOn (R.M.space (R.metric ruler.old)) nodes (stage live.now goal.entry.q.now walk.old.given walk.old.opened walk.old.subtrees walk.old.candidates) → IsPassing fault) }
+    ensures cause { IfErr result
+        (HasStepCause (stage live.now goal.entry.q.now walk.old.given walk.old.opened walk.old.subtrees walk.old.candidates)
+        (P.shelf pages.old) (P.shelf pages.new)) }
+    ensures sound { IfErr result (λ fault. (nodes : Nodes) → IsTrue (P.shelf pages.old).tells →
+        IsSoundTree (R.M.space (R.metric ruler.old)) nodes live.now → HoldsTree nodes live.now (P.shelf pages.old) →
+        IsCursorOn (R.M.space (R.metric ruler.old)) nodes
+        (stage live.now goal.entry.q.now walk.old.given walk.old.opened walk.old.subtrees walk.old.candidates) →
+        IsPassing fault) }
 {
     while (walk.hits.len() as u64) < goal.n {
         let spent = walk.opened == live.pages;

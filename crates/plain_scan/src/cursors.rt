@@ -78,7 +78,12 @@ impl Cursors {
 
     /// The next `n` hits of the cursor of this number, or all that are left.
     pub fn advance(&mut self, alloc: Global, number: u32, n: u64) -> Result<Reply, Memory>
-        ensures ok { (objects : Holdings) → IfOk result (λ reply. next_from (with_cursors objects self.old) number n (cursor_named number (with_cursors objects self.old)) ≡ record { reply = reply; state = with_cursors objects self.new }) }
+        ensures ok { (objects : Holdings) →
+            IfOk result (λ reply. next_from (with_cursors objects self.old) number n
+            (cursor_named number (with_cursors objects self.old)) ≡ record {
+              reply = reply;
+              state = with_cursors objects self.new;
+            }) }
         ensures tagged { IfOk result TagsAre }
         ensures next { self.new.next ≡ self.old.next }
         ensures err { OnErr result (self.new ≡ self.old) }
@@ -97,7 +102,9 @@ impl Cursors {
 
     /// Closes the cursor of this number.
     pub fn close(&mut self, number: u32) -> Reply
-        ensures step { (objects : Holdings) → close_from (with_cursors objects self.old) number (cursor_named number (with_cursors objects self.old)) ≡ record { reply = result; state = with_cursors objects self.new } }
+        ensures step { (objects : Holdings) →
+            close_from (with_cursors objects self.old) number (cursor_named number (with_cursors objects self.old))
+            ≡ record { reply = result; state = with_cursors objects self.new } }
         ensures tagged { TagsAre result }
         ensures next { self.new.next ≡ self.old.next }
     {

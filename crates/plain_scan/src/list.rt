@@ -138,7 +138,11 @@ impl PlainList {
         requires numbers { self.old.cursors.next + 1 < 2 ^ 32 }
         requires readable { IsReadable (M.space metric.now).words command }
         requires points { IsTrue (has_points_of (M.space metric.now) command) }
-        ensures ok { IfOk result (λ reply. execute (record { space = M.space metric.now; limit = limit }) (state_of self.old) command ≡ record { reply = reply; state = state_of self.new }) }
+        ensures ok { IfOk result (λ reply.
+            execute (record { space = M.space metric.now; limit = limit }) (state_of self.old) command ≡ record {
+              reply = reply;
+              state = state_of self.new;
+            }) }
         ensures tagged { IfOk result TagsAre }
         ensures err { OnErr result (state_of self.new ≡ state_of self.old) }
         ensures list { IsListOf (M.space metric.now) limit self.new }
@@ -183,7 +187,8 @@ impl PlainList {
         requires limit { limit < 2 ^ 32 - 1 }
         requires numbers { self.old.cursors.next + 1 < 2 ^ 32 }
         requires readable { IsReadable (M.space metric.now).words command }
-        ensures ok { IfOk result (λ reply. step (record { space = M.space metric.now; limit = limit }) (state_of self.old) command ≡ record { reply = reply; state = state_of self.new }) }
+        ensures ok { IfOk result (λ reply. step (record { space = M.space metric.now; limit = limit }) (state_of self.old) command
+            ≡ record { reply = reply; state = state_of self.new }) }
         ensures tagged { IfOk result TagsAre }
         ensures err { OnErr result (state_of self.new ≡ state_of self.old) }
         ensures list { IsListOf (M.space metric.now) limit self.new }

@@ -44,8 +44,12 @@ fn answer<M: Metric, K: Sink>(
     requires limit { scan.now.limit < 2 ^ 32 - 1 }
     requires numbers { list.old.cursors.next + 1 < 2 ^ 32 }
     requires readable { IsReadable (M.space scan.now.metric).words command }
-    ensures puts { Puts (K.state out.old).written (K.state out.new).written (text scan.now.show_tags (step (record { space = M.space scan.now.metric; limit = scan.now.limit }) (state_of list.old) command).reply) result }
-    ensures state { OnOk result (state_of list.new ≡ (step (record { space = M.space scan.now.metric; limit = scan.now.limit }) (state_of list.old) command).state) }
+    ensures puts { Puts (K.state out.old).written (K.state out.new).written
+        (text scan.now.show_tags (step (record { space = M.space scan.now.metric; limit = scan.now.limit })
+        (state_of list.old) command).reply) result }
+    ensures state { OnOk result
+        (state_of list.new ≡ (step (record { space = M.space scan.now.metric; limit = scan.now.limit })
+        (state_of list.old) command).state) }
     ensures list { IsListOf (M.space scan.now.metric) scan.now.limit list.new }
     ensures numbers { list.new.cursors.next ≤ list.old.cursors.next + 1 }
     ensures later { (K.state out.old).faults ≤ (K.state out.new).faults }
@@ -76,7 +80,9 @@ pub fn run_script<M: Metric, K: Sink>(
     requires limit { scan.now.limit < 2 ^ 32 - 1 }
     requires few { length commands.items < 2 ^ 32 }
     requires readable { All (IsReadable (M.space scan.now.metric).words) commands.items }
-    ensures wrote { Writes (K.state out.old).written (K.state out.new).written (reply_texts (record { space = M.space scan.now.metric; limit = scan.now.limit }) scan.now.show_tags commands.items) result }
+    ensures wrote { Writes (K.state out.old).written (K.state out.new).written
+        (reply_texts (record { space = M.space scan.now.metric; limit = scan.now.limit }) scan.now.show_tags commands.items)
+        result }
     ensures later { (K.state out.old).faults ≤ (K.state out.new).faults }
     ensures rose { IsErrOf result Stop.Sink → Rose (K.state out.old).faults (K.state out.new).faults }
 {

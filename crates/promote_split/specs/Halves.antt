@@ -28,7 +28,8 @@ abbrev pub AreNear : {E : Type 0} → Space → (E → Ball) → List E → List
 AreNear s ball es point = AllByRecursion (λ e. s.dist (ball e).0 point ≤ bound) es
 
 -- a half by the node's table
-pub record IsHalfBy {E : Type 0} (ball : E → Ball) (set : E → ℕ → E) (t : Table) (p : ℕ) (on : Side) (sides : List Side) (es : List E) (h : Half E) : Type 0 where
+pub record IsHalfBy {E : Type 0} (ball : E → Ball) (set : E → ℕ → E) (t : Table) (p : ℕ) (on : Side) (sides : List Side)
+    (es : List E) (h : Half E) : Type 0 where
   pub point_is : h.point ≡ point_at (map ball es) p
   pub radius_is : h.radius ≡ group_radius t p on sides
   pub entries_are : h.entries ≡ half_entries set on (row t p) sides es

@@ -82,7 +82,8 @@ fn consider(
 // The nearest entry that may leave its side.
 fn nearest(row: &[u64], sides: &[Side], from: Side, pair: Promoted) -> Option<usize>
     requires { length row.now ≡ length sides.now }
-    ensures nearest { result ≡ first_least (λ i. slice_index_or row.now i 0) (filter (may_leave pair.a pair.b from sides.now) (range_with_len 0 (length sides.now))) }
+    ensures nearest { result ≡ first_least (λ i. slice_index_or row.now i 0)
+        (filter (may_leave pair.a pair.b from sides.now) (range_with_len 0 (length sides.now))) }
     ensures low { IfSome result (λ i. i < length sides.now) }
 {
     let mut best = None;
@@ -120,7 +121,9 @@ fn fill_up(matrix: &Matrix, pair: Promoted, least: usize, step: Step, sides: &mu
 fn side_by_nearer(first: &[u64], second: &[u64], pair: Promoted, i: usize) -> Side
     requires first { i < length first.now }
     requires second { i < length second.now }
-    ensures { result ≡ (if i == pair.a then Side.First else (if i == pair.b then Side.Second else (if nat_le (slice_index_or first.now i 0) (slice_index_or second.now i 0) then Side.First else Side.Second))) }
+    ensures { result ≡ (if i == pair.a then Side.First
+        else (if i == pair.b then Side.Second else (if nat_le (slice_index_or first.now i 0) (slice_index_or second.now i 0)
+        then Side.First else Side.Second))) }
 {
     if i == pair.a {
         Side::First
@@ -183,7 +186,8 @@ fn deal(matrix: &Matrix, pair: Promoted, sides: &mut [Side])
     requires a { pair.a < size matrix.now }
     requires b { pair.b < size matrix.now }
     requires two { 2 ≤ size matrix.now }
-    ensures { sides.new ≡ in_turn (size matrix.now - 2) (received matrix.now pair.a pair.b pair.a Side.Open Side.First) (received matrix.now pair.a pair.b pair.b Side.Open Side.Second) sides.old }
+    ensures { sides.new ≡ in_turn (size matrix.now - 2) (received matrix.now pair.a pair.b pair.a Side.Open Side.First)
+        (received matrix.now pair.a pair.b pair.b Side.Open Side.Second) sides.old }
 {
     let mut own = pair.a;
     let mut other = pair.b;

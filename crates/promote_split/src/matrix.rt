@@ -35,7 +35,8 @@ fn push_row<R: Ruler, E: Entry>(
     requires { AllByRecursion (λ d. d ≤ bound) distances.old.items }
     ensures metric { R.metric ruler.new ≡ R.metric ruler.old }
     ensures counted { OnOk result (HasCounted (length entries.now) (R.used ruler.old) (R.used ruler.new)) }
-    ensures row { OnOk result (distances.new.items ≡ distances.old.items ++ map (λ (q : Ball). (R.M.space (R.metric ruler.old)).dist q.0 to.now) (map E.ball entries.now)) }
+    ensures row { OnOk result (distances.new.items ≡ distances.old.items ++ map (λ (q : Ball).
+        (R.M.space (R.metric ruler.old)).dist q.0 to.now) (map E.ball entries.now)) }
     ensures long { OnOk result (length distances.new.items ≡ length distances.old.items + length entries.now) }
     ensures within { AllByRecursion (λ d. d ≤ bound) distances.new.items }
 {

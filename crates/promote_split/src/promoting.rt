@@ -28,7 +28,8 @@ fn widen(row: &[u64], radii: &[u64], on: Side, sides: &[Side], i: usize, radius:
     requires row_within { AllByRecursion (λ d. d ≤ bound) row.now }
     requires radii_within { AllByRecursion (λ d. d ≤ bound) radii.now }
     ensures within { radius ≤ bound → result ≤ bound }
-    ensures radius { result ≡ (if is_on on (side_at sides.now i) then max radius (capped (slice_index_or row.now i 0) (slice_index_or radii.now i 0)) else radius) }
+    ensures radius { result ≡ (if is_on on (side_at sides.now i)
+        then max radius (capped (slice_index_or row.now i 0) (slice_index_or radii.now i 0)) else radius) }
 {
     if is_same(on, sides[i]) {
         radius.max(cap(row[i], radii[i]))

@@ -28,8 +28,12 @@ fn put<E: Entry>(
     second: u64,
     groups: &mut Groups<E>,
 ) -> Result<(), Memory>
-    ensures first { OnOk result (groups.new.first.items ≡ (if is_on Side.First side then groups.old.first.items ++ E.with_parent entry first ∷ [] else groups.old.first.items)) }
-    ensures second { OnOk result (groups.new.second.items ≡ (if is_on Side.Second side then groups.old.second.items ++ E.with_parent entry second ∷ [] else groups.old.second.items)) }
+    ensures first { OnOk result
+        (groups.new.first.items ≡ (if is_on Side.First side then groups.old.first.items ++ E.with_parent entry first ∷ []
+        else groups.old.first.items)) }
+    ensures second { OnOk result
+        (groups.new.second.items ≡ (if is_on Side.Second side then groups.old.second.items ++ E.with_parent entry second ∷ []
+        else groups.old.second.items)) }
 {
     match side {
         Side::First => {
@@ -56,8 +60,10 @@ fn part<E: Entry>(
     requires sides { length sides.now ≡ length entries.old.items }
     requires first { length first.now ≡ length entries.old.items }
     requires second { length second.now ≡ length entries.old.items }
-    ensures first { OnOk result (groups.new.first.items ≡ groups.old.first.items ++ half_entries E.with_parent Side.First first.now sides.now (reverse entries.old.items)) }
-    ensures second { OnOk result (groups.new.second.items ≡ groups.old.second.items ++ half_entries E.with_parent Side.Second second.now sides.now (reverse entries.old.items)) }
+    ensures first { OnOk result (groups.new.first.items ≡ groups.old.first.items ++ half_entries E.with_parent Side.First first.now
+        sides.now (reverse entries.old.items)) }
+    ensures second { OnOk result (groups.new.second.items ≡ groups.old.second.items ++ half_entries E.with_parent Side.Second
+        second.now sides.now (reverse entries.old.items)) }
 {
     for i in 0..sides.len() {
         let Some(entry) = entries.pop() else {
@@ -105,7 +111,9 @@ fn split_by<E: Entry>(
     ensures halves { IfOk result (λ h. IsSplitBy E.ball E.with_parent matrix.now policy.promote policy.split least entries.items h) }
     ensures pair { IfOk result (λ h. IsPair (size matrix.now) (promoted matrix.now policy.promote policy.split least)) }
     ensures within { IfOk result (λ h. (h.first.radius ≤ bound) × (h.second.radius ≤ bound)) }
-    ensures near { OnOk result (AllByRecursion (λ d. d ≤ bound) (row matrix.now (promoted matrix.now policy.promote policy.split least).0) × AllByRecursion (λ d. d ≤ bound) (row matrix.now (promoted matrix.now policy.promote policy.split least).1)) }
+    ensures near { OnOk result
+        (AllByRecursion (λ d. d ≤ bound) (row matrix.now (promoted matrix.now policy.promote policy.split least).0)
+        × AllByRecursion (λ d. d ≤ bound) (row matrix.now (promoted matrix.now policy.promote policy.split least).1)) }
 {
     let (a, b) = promote(alloc, matrix, policy, least)?;
     let mut sides = Vec::with_capacity(alloc, matrix.len())?;
@@ -142,9 +150,11 @@ pub fn split<R: Ruler, E: Entry>(
     ensures metric { R.metric ruler.new ≡ R.metric ruler.old }
     ensures counted { OnOk result (HasCounted (length entries.items * length entries.items) (R.used ruler.old) (R.used ruler.new)) }
     ensures halves { IfOk result (λ h. IsSplit (R.M.space (R.metric ruler.old)) E.ball E.with_parent policy.promote policy.split least entries.items h) }
-    ensures shares { IfOk result (λ h. (least ≤ length h.first.entries) × (least ≤ length h.second.entries) × (length h.first.entries + length h.second.entries ≡ length entries.items)) }
+    ensures shares { IfOk result (λ h. (least ≤ length h.first.entries) × (least ≤ length h.second.entries)
+        × (length h.first.entries + length h.second.entries ≡ length entries.items)) }
     ensures within { IfOk result (λ h. (h.first.radius ≤ bound) × (h.second.radius ≤ bound)) }
-    ensures near { IfOk result (λ h. AreNear (R.M.space (R.metric ruler.old)) E.ball entries.items h.first.point × AreNear (R.M.space (R.metric ruler.old)) E.ball entries.items h.second.point) }
+    ensures near { IfOk result (λ h. AreNear (R.M.space (R.metric ruler.old)) E.ball entries.items h.first.point
+        × AreNear (R.M.space (R.metric ruler.old)) E.ball entries.items h.second.point) }
 {
     let matrix = Matrix::of(alloc, ruler, &entries)?;
     let halves = split_by(alloc, &matrix, entries, policy, least)?;

@@ -83,7 +83,8 @@ pub fn decode_join_log(alloc: Global, bytes: &[u8]) -> Result<JoinLog, LogFault>
     ensures lawful { IfOk result (λ log. IsLawfulJoinLog log) }
     ensures in_range { IfOk result (λ log. JoinLogInRange log) }
     // What is spelled so is read, unless memory runs out.
-    ensures only { (log : JoinLog) → IsLawfulJoinLog log → JoinLogInRange log → join_log_bytes log ≡ bytes.now → (result ≡ Ok log) ⊎ (result ≡ Err LogFault.Memory) }
+    ensures only { (log : JoinLog) → IsLawfulJoinLog log → JoinLogInRange log → join_log_bytes log ≡ bytes.now → (result ≡ Ok log)
+        ⊎ (result ≡ Err LogFault.Memory) }
     ensures fault { IfErr result (λ fault. (fault ≡ LogFault.Memory) ⊎ (join_log_fault bytes.now ≡ Some fault)) }
 {
     whole_join_log(alloc, bytes)

@@ -1,7 +1,7 @@
 -- The steps of a search.
 use Rattle.std.proofs.Common.{◌≡◌, ℕ, suc, ◌+◌, ◌<◌, ◌≤◌, false, List, [], ◌∷◌, ◌++◌, refl, sym, ap, ◌∙◌, Some, Err, arith, length, length-append, subst, reverse}
 use Rattle.std.specs.Prelude.{IsTrue}
-use Rattle.metric_laws.specs.Counts.{next_count}
+use Rattle.metric_laws.specs.Counts.{next_count, count_up}
 use Rattle.metric_laws.proofs.Lists.{all_append}
 use Rattle.scan_model.specs.declared.hit.Hit.{Hit}
 use Rattle.tree_shape.specs.declared.live.Live.{Live}
@@ -15,31 +15,18 @@ use Rattle.page_store.specs.Shelf.{Shelf, HoldsSame, IsNodeOf, HasPageCause}
 use Rattle.log_model.specs.declared.marks.Record.{Record}
 use Rattle.log_model.specs.declared.marks.Need.{Need}
 use Rattle.log_model.specs.declared.traversal.Traversal.{Traversal}
-use Rattle.log_model.specs.Counts.{count_up, measured, measured_by, entry_count}
+use Rattle.log_model.specs.Counts.{measured, measured_by, entry_count}
 use Rattle.log_model.specs.Steps.{TakesNode}
 use Rattle.log_model.specs.Walk.{Search, AreLeast, ReachesBy, least_marks, hits_of, record_of, root_need}
 use Rattle.log_model.proofs.Lawful.{marks_long, hits_few}
 use Rattle.log_model.proofs.Reached.{reaches_more, count_up_more, count_up_both, measured-append}
 use Rattle.range_search.specs.Searched.{IsUnderWay, Needs, HasWalkCause}
-
-pub same_trans : (a b c : Shelf) → HoldsSame a b → HoldsSame b c → HoldsSame a c
-same_trans a b c h k = record {
-  dim = k.dim ∙ h.dim;
-  pages = k.pages ∙ h.pages;
-  tells = k.tells ∙ h.tells;
-  read = k.read ∙ h.read;
-  faults = (let x = h.faults in let y = k.faults in omega arith);
-}
+use Rattle.page_store.proofs.Held.{holds_both, told_then}
 
 -- a node has at most 32 entries
 entries_few : (dim : ℕ) (node : Node) → IsLawfulNode dim node → entry_count node ≤ 32
 entries_few dim (Leaf es) lawful = let few = lawful.0 in omega arith
 entries_few dim (Inner level es) lawful = let few = lawful.3 in omega arith
-
--- what the pages held at the start is what they hold
-told_then : (old now : Shelf) (page : ℕ) (node : Node) → HoldsSame old now → IsNodeOf now page node → IsTrue old.tells → nodes_of old.read page ≡ Some node
-told_then old now page node holds is tells =
-    ap (λ (r : Read). node_or_none (r page)) (sym holds.read) ∙ ap node_or_none (is.told (rw holds.tells tells))
 
 step_on : (f : Search) (old now next : Shelf) (u v w root : ℕ) (n : Need) (node : Node) (rs : List Record) (hits : List Hit) (left : List Need) (needs : List Need) →
     IsNodeOf now n.page node → HoldsSame now next → next.asked ≡ next_count now.asked → next.reads ≤ now.reads + 1 → w ≡ count_up v (measured_by (least_marks f n.above node)) →
@@ -54,7 +41,7 @@ step_on f old now next u v w root n node rs hits left needs is same asked reads 
     let few = hits_few f node (least_marks f n.above node) in
     let many = marks_long f n.above node in
     record {
-      holds = same_trans old now next before.holds same;
+      holds = holds_both old now next before.holds same;
       asked =
           asked ∙ ap next_count before.asked ∙ count_up_more old.asked (length rs)
           ∙ ap (count_up old.asked) (let e : suc (length rs) ≡ length (rs ++ r ∷ []) = omega arith in e);

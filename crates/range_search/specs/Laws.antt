@@ -14,4 +14,5 @@ abbrev pub WalkHasOneCourse : Type 0
 WalkHasOneCourse =
     (f : Search) (nodes : Nodes) (root opened page : ℕ) → Needs f nodes root opened page →
     ((other : ℕ) → Needs f nodes root opened other → page ≡ other)
-    × ((records : List Record) (hits : List Hit) → WalksBy AreLeast f nodes (root_need root ∷ []) records hits → (opened < length records) × ((node : Node) × (nodes page ≡ Some node)))
+    × ((records : List Record) (hits : List Hit) → WalksBy AreLeast f nodes (root_need root ∷ []) records hits →
+    (opened < length records) × ((node : Node) × (nodes page ≡ Some node)))

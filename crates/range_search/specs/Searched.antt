@@ -15,7 +15,8 @@ use Rattle.page_store.specs.Shelf.{Shelf, HoldsSame}
 use Rattle.log_model.specs.declared.logs.Found.{Found}
 use Rattle.log_model.specs.declared.marks.Record.{Record}
 use Rattle.log_model.specs.declared.marks.Need.{Need}
-use Rattle.log_model.specs.Counts.{count_up, measured}
+use Rattle.metric_laws.specs.Counts.{count_up}
+use Rattle.log_model.specs.Counts.{measured}
 use Rattle.log_model.specs.Sound.{IsLogOf, IsLeastLog}
 use Rattle.log_model.specs.Walk.{Search, ReachesBy, AreLeast, root_need}
 
@@ -55,7 +56,8 @@ HasWalkCause f live old new (Bad page fault) =
     × (IsTrue old.tells → (old.read page ≡ Err (Bad page fault)) × NeedsInside f (nodes_of old.read) live page)
 HasWalkCause f live old new (Outside page) =
     (is_within old.pages page ≡ false) × (IsTrue old.tells → (old.read page ≡ Err (Outside page)) × NeedsInside f (nodes_of old.read) live page)
-HasWalkCause f live old new (Repeats page) = (new.asked ≡ count_up old.asked live.pages) × (IsTrue old.tells → Needs f (nodes_of old.read) live.root live.pages page)
+HasWalkCause f live old new (Repeats page) = (new.asked ≡ count_up old.asked live.pages)
+    × (IsTrue old.tells → Needs f (nodes_of old.read) live.root live.pages page)
 HasWalkCause f live old new (Level page) = ⊥
 
 -- What a range search answers: where the pages tell what they hold, the least log of the query. One page was asked for per

@@ -1,12 +1,11 @@
 ghost use Rattle.std.specs.Prelude.{◌≡◌, ◌≤◌, ◌<◌, ◌^◌, ◌+◌, ℕ, List, [], ◌∷◌, length, reverse, min, IsTrue, IfOk, IfErr, OnOk};
-ghost use Rattle.metric_laws.specs.Counts.{next_count};
+ghost use Rattle.metric_laws.specs.Counts.{next_count, CountsUpTo};
 ghost use Rattle.metric_laws.specs.Space.{bound};
 ghost use Rattle.scan_model.specs.Scan.{range_hits};
 ghost use Rattle.scan_model.specs.declared.query.Query.TheVariants.{Range};
 ghost use Rattle.tree_shape.specs.Tree.{IsSoundTree, points_by_id};
 ghost use Rattle.page_store.specs.Reading.{nodes_of};
 ghost use Rattle.page_store.specs.Shelf.{Shelf, HoldsSame, HasPageCause, IsPassing};
-ghost use Rattle.log_model.specs.Counts.{CountsUpTo};
 ghost use Rattle.log_model.specs.Walk.{search_at, root_need};
 ghost use Rattle.range_search.specs.Searched.{IsUnderWay, HasWalkCause, IsFound};
 
@@ -57,10 +56,12 @@ fn follow<P: Pages, R: Ruler>(
     ensures metric { R.metric ruler.new ≡ R.metric ruler.old }
     ensures same { HoldsSame (P.shelf pages.old) (P.shelf pages.new) }
     ensures keeps { P.keeps pages.old pages.new }
-    ensures ok { IfOk result (λ walk. IsUnderWay (search_at (R.M.space (R.metric ruler.old)) probe.entry.q.now probe.entry.rho) (P.shelf pages.old) (P.shelf pages.new)
+    ensures ok { IfOk result (λ walk. IsUnderWay (search_at (R.M.space (R.metric ruler.old)) probe.entry.q.now probe.entry.rho)
+        (P.shelf pages.old) (P.shelf pages.new)
         (R.used ruler.old) (R.used ruler.new) live.now.root walk.records.items walk.hits.items []) }
     ensures few { IfOk result (λ walk. length walk.records.items ≤ live.now.pages) }
-    ensures cause { IfErr result (HasWalkCause (search_at (R.M.space (R.metric ruler.old)) probe.entry.q.now probe.entry.rho) live.now (P.shelf pages.old) (P.shelf pages.new)) }
+    ensures cause { IfErr result (HasWalkCause (search_at (R.M.space (R.metric ruler.old)) probe.entry.q.now probe.entry.rho)
+        live.now (P.shelf pages.old) (P.shelf pages.new)) }
     ensures asked { CountsUpTo (P.shelf pages.old).asked (P.shelf pages.new).asked live.now.pages }
     ensures reads { (P.shelf pages.new).reads ≤ (P.shelf pages.old).reads + live.now.pages }
 {
@@ -101,14 +102,18 @@ pub fn range<P: Pages, R: Ruler>(
     ensures metric { R.metric ruler.new ≡ R.metric ruler.old }
     ensures same { HoldsSame (P.shelf pages.old) (P.shelf pages.new) }
     ensures keeps { P.keeps pages.old pages.new }
-    ensures found { IfOk result (IsFound (R.M.space (R.metric ruler.old)) live.now (Range q.now r) (P.shelf pages.old) (P.shelf pages.new) (R.used ruler.old) (R.used ruler.new)) }
-    ensures cause { IfErr result (HasWalkCause (search_at (R.M.space (R.metric ruler.old)) q.now (min r bound)) live.now (P.shelf pages.old) (P.shelf pages.new)) }
+    ensures found { IfOk result (IsFound (R.M.space (R.metric ruler.old)) live.now (Range q.now r) (P.shelf pages.old)
+        (P.shelf pages.new) (R.used ruler.old) (R.used ruler.new)) }
+    ensures cause { IfErr result (HasWalkCause (search_at (R.M.space (R.metric ruler.old)) q.now (min r bound)) live.now
+        (P.shelf pages.old) (P.shelf pages.new)) }
     // Whatever the result, at most as many pages were asked for, and read, as the file has.
     ensures asked { CountsUpTo (P.shelf pages.old).asked (P.shelf pages.new).asked live.now.pages }
     ensures reads { (P.shelf pages.new).reads ≤ (P.shelf pages.old).reads + live.now.pages }
-    ensures scanned { IfOk result (λ found. IsTrue (P.shelf pages.old).tells → IsSoundTree (R.M.space (R.metric ruler.old)) (nodes_of (P.shelf pages.old).read) live.now →
+    ensures scanned { IfOk result (λ found. IsTrue (P.shelf pages.old).tells →
+        IsSoundTree (R.M.space (R.metric ruler.old)) (nodes_of (P.shelf pages.old).read) live.now →
         found.hits ≡ range_hits (R.M.space (R.metric ruler.old)) (points_by_id (nodes_of (P.shelf pages.old).read) live.now) q.now r) }
-    ensures sound { IfErr result (λ fault. IsTrue (P.shelf pages.old).tells → IsSoundTree (R.M.space (R.metric ruler.old)) (nodes_of (P.shelf pages.old).read) live.now → IsPassing fault) }
+    ensures sound { IfErr result (λ fault. IsTrue (P.shelf pages.old).tells →
+        IsSoundTree (R.M.space (R.metric ruler.old)) (nodes_of (P.shelf pages.old).read) live.now → IsPassing fault) }
 {
     let Ok(point) = Point::new(alloc, q) else {
         return Err(PageFault::Memory);

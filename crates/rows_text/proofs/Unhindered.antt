@@ -1,6 +1,6 @@
 -- What nothing stands in the way of.
-use Rattle.std.specs.Prelude.{◌≡◌, suc, List, [], ◌∷◌, length, Option, Some, None, refl}
-use Rattle.std.proofs.Common.{ap, ◌∙◌, arith}
+use Rattle.std.specs.Prelude.{◌≡◌, List, [], ◌∷◌, length, Option, Some, None, refl}
+use Rattle.std.proofs.Common.{ap, arith}
 use Rattle.std.specs.List.{AllByRecursion}
 use Rattle.rows_text.specs.declared.command.Command.{Command}
 use Rattle.rows_text.specs.declared.refusal.Refusal.{Refusal}

@@ -184,8 +184,10 @@ hindered_after setting state (c ∷ commands) (why ∷ whys) = hindered_after se
 -- what nothing stands in the way of is what the commands do
 abbrev pub UnhinderedIsPlain : Type 0
 UnhinderedIsPlain =
-    (setting : Setting) (state : State) (commands : List Command) (whys : List (Option Refusal)) → length whys ≡ length commands → AllByRecursion (λ why. why ≡ None) whys →
-    (hindered_replies setting state commands whys ≡ replies setting state commands) × (hindered_after setting state commands whys ≡ after setting state commands)
+    (setting : Setting) (state : State) (commands : List Command) (whys : List (Option Refusal)) → length whys ≡ length commands →
+    AllByRecursion (λ why. why ≡ None) whys →
+    (hindered_replies setting state commands whys ≡ replies setting state commands)
+    × (hindered_after setting state commands whys ≡ after setting state commands)
 
 abbrev pub RunIsItsSteps : Type 0
 RunIsItsSteps =

@@ -10,7 +10,8 @@ use Rattle.node_page.proofs.Opened.{live_is}
 use Rattle.page_store.specs.Reading.{reading}
 use Rattle.tree_audit.specs.Audited.{audit_fault}
 use Rattle.seal_log.specs.Digests.{root_digest}
-use Rattle.seal_jobs.specs.Seals.{IsLarge, IsSealed}
+use Rattle.page_store.specs.Files.{IsLarge}
+use Rattle.seal_jobs.specs.Seals.{IsSealed}
 
 -- a file that opens to few pages is not large
 pub not_large : (file : List ℕ) (head : Head) (live : Live) → OpensTo file head live → live.pages ≤ 262144 → IsLarge file → ⊥

@@ -12,7 +12,7 @@ use Rattle.page_store.specs.Reading.{reading}
 use Rattle.log_model.specs.declared.logs.Log.{Log}
 use Rattle.log_verify.specs.declared.faults.Verdict.{Verdict}
 use Rattle.log_verify.specs.Judged.{log_fault}
-use Rattle.log_lines.specs.Lines.{frame, rejected_line, undecoded_text, verdict_text}
+use Rattle.file_jobs.specs.Logs.Lines.{frame, rejected_line, undecoded_text, verdict_text}
 use Rattle.prune_log.specs.declared.fault.LogFault.{LogFault}
 use Rattle.prune_log.specs.Spelling.{frame_bytes}
 use Rattle.prune_log.specs.Reading.{frames_at, log_at}
@@ -22,8 +22,8 @@ use Rattle.file_jobs.specs.Lines.{not_index_text}
 use Rattle.file_jobs.specs.Jobs.{IsNoIndex}
 use Rattle.seal_jobs.specs.declared.stop.Halt.{Halt}
 use Rattle.seal_jobs.specs.declared.stop.Halt.TheVariants as halt
-use Rattle.seal_jobs.specs.Proofs.{space_of}
-use Rattle.seal_jobs.specs.Seals.{IsLarge}
+use Rattle.file_jobs.specs.Spaces.{space_of}
+use Rattle.page_store.specs.Files.{IsLarge}
 
 -- the first fault of a log over an opened file
 abbrev pub judged : List ℕ → Head → Live → Log → Option Verdict
@@ -39,8 +39,10 @@ carried_end false = codes "log rejected\n"
 -- the frame and the line of a log: its carried log where it has no fault, else nothing and its first fault
 abbrev pub TellsLog : List ℕ → Head → Live → ℕ → Log → List ℕ → List ℕ → Bool → Type 0
 TellsLog file head live i log put line true =
-    (judged file head live log ≡ None) × ((bytes : List ℕ) × Carries file (leaf_digests file live.pages) log bytes × (put ≡ frame_bytes bytes) × (line ≡ carried_line i))
-TellsLog file head live i log put line false = (why : Verdict) × (judged file head live log ≡ Some why) × (put ≡ []) × (line ≡ rejected_line i (verdict_text why))
+    (judged file head live log ≡ None) × ((bytes : List ℕ) × Carries file (leaf_digests file live.pages) log bytes
+    × (put ≡ frame_bytes bytes) × (line ≡ carried_line i))
+TellsLog file head live i log put line false = (why : Verdict) × (judged file head live log ≡ Some why) × (put ≡ [])
+    × (line ≡ rejected_line i (verdict_text why))
 
 -- a log, its frame and its line, and whether it has no fault
 pub record Told : Type 0 where
@@ -59,10 +61,12 @@ AreTold file head live i (t ∷ ts) = IsTold file head live i t × AreTold file 
 
 -- the frame and the line of a log were put
 abbrev pub PutsLog : List ℕ → Head → Live → ℕ → Log → Bool → Option (List ℕ) → Option (List ℕ) → Option (List ℕ) → Option (List ℕ) → Type 0
-PutsLog file head live i log accepted l0 l1 o0 o1 = (put : List ℕ) × (line : List ℕ) × TellsLog file head live i log put line accepted × Appends l0 l1 put × Appends o0 o1 line
+PutsLog file head live i log accepted l0 l1 o0 o1 = (put : List ℕ) × (line : List ℕ)
+    × TellsLog file head live i log put line accepted × Appends l0 l1 put × Appends o0 o1 line
 
 -- the frames and the lines of the first logs were put
-pub record HasCarried (file : List ℕ) (head : Head) (live : Live) (logs rest : List Log) (i : ℕ) (accepted : Bool) (l0 l1 o0 o1 : Option (List ℕ)) : Type 0 where
+pub record HasCarried (file : List ℕ) (head : Head) (live : Live) (logs rest : List Log) (i : ℕ) (accepted : Bool)
+    (l0 l1 o0 o1 : Option (List ℕ)) : Type 0 where
   pub told : List Told
   pub logs_are : logs ≡ map (λ (t : Told). t.log) told ++ rest
   pub are_told : AreTold file head live 0 told
@@ -107,7 +111,8 @@ pub record CarriesOn (file bytes : List ℕ) (l0 l1 o0 o1 : Option (List ℕ)) (
 -- of its line.
 abbrev pub StopsLog : List ℕ → Head → Live → ℕ → Log → Halt → Option (List ℕ) → Option (List ℕ) → Option (List ℕ) → Option (List ℕ) → Type 0
 StopsLog file head live i log halt.Sink l0 l1 o0 o1 =
-    (put : List ℕ) × (line : List ℕ) × (b : Bool) × TellsLog file head live i log put line b × ((AppendsPrefix l0 l1 put × (o1 ≡ o0)) ⊎ (Appends l0 l1 put × AppendsPrefix o0 o1 line))
+    (put : List ℕ) × (line : List ℕ) × (b : Bool) × TellsLog file head live i log put line b
+    × ((AppendsPrefix l0 l1 put × (o1 ≡ o0)) ⊎ (Appends l0 l1 put × AppendsPrefix o0 o1 line))
 StopsLog file head live i log halt.Disk l0 l1 o0 o1 = (l1 ≡ l0) × (o1 ≡ o0)
 StopsLog file head live i log halt.Memory l0 l1 o0 o1 = (l1 ≡ l0) × (o1 ≡ o0)
 
@@ -124,7 +129,8 @@ pub record StopsCarrying (file : List ℕ) (head : Head) (live : Live) (logs : L
   pub frames : Option (List ℕ)
   pub lines : Option (List ℕ)
   pub carried : HasCarried file head live logs rest i accepted l0 frames o0 lines
-  pub after : ((log : Log) × (more : List Log) × (rest ≡ log ∷ more) × StopsLog file head live i log why frames l1 lines o1) ⊎ ((rest ≡ []) × StopsEnd accepted why frames l1 lines o1)
+  pub after : ((log : Log) × (more : List Log) × (rest ≡ log ∷ more) × StopsLog file head live i log why frames l1 lines o1)
+      ⊎ ((rest ≡ []) × StopsEnd accepted why frames l1 lines o1)
 
 -- no output had failed and nothing was put
 abbrev pub StopsBefore : Halt → Option (List ℕ) → Option (List ℕ) → Option (List ℕ) → Option (List ℕ) → Type 0
@@ -151,8 +157,10 @@ StopsOn file bytes why l0 l1 o0 o1 =
 -- what stands on both outputs where the job stopped: behind that, on out, the line of its status
 pub record HasHalted (file bytes : List ℕ) (l0 l1 : Option (List ℕ)) (out0 out1 : SinkState) (status : ℕ) : Type 0 where
   pub output : status ≡ 4 → StopsOn file bytes halt.Sink l0 l1 out0.written out1.written
-  pub disk : status ≡ 5 → (lines : Option (List ℕ)) × StopsOn file bytes halt.Disk l0 l1 out0.written lines × Tells (record out0 { written = lines }) out1 (codes "fault disk\n")
-  pub memory : status ≡ 8 → (lines : Option (List ℕ)) × StopsOn file bytes halt.Memory l0 l1 out0.written lines × Tells (record out0 { written = lines }) out1 (codes "fault memory\n")
+  pub disk : status ≡ 5 → (lines : Option (List ℕ)) × StopsOn file bytes halt.Disk l0 l1 out0.written lines
+      × Tells (record out0 { written = lines }) out1 (codes "fault disk\n")
+  pub memory : status ≡ 8 → (lines : Option (List ℕ)) × StopsOn file bytes halt.Memory l0 l1 out0.written lines
+      × Tells (record out0 { written = lines }) out1 (codes "fault memory\n")
 
 -- ---- by status
 

@@ -2,7 +2,8 @@
 use Rattle.std.specs.Prelude.{List, ℕ}
 use Rattle.seal_log.specs.Judged.{CarriedLog}
 use Rattle.seal_log.specs.Laws.{ShowsAnswers}
-use Rattle.seal_jobs.specs.Proofs.{IsAccepted, space_of}
+use Rattle.file_jobs.specs.Spaces.{space_of}
+use Rattle.seal_jobs.specs.Proofs.{IsAccepted}
 
 -- an accepted carried log shows its answers in the space of its head
 abbrev pub AcceptedShow : Type 0

@@ -7,7 +7,7 @@ use Rattle.outside_io.specs.Sinks.{SinkState, Tells}
 use Rattle.scan_model.specs.declared.hit.Hit.{Hit}
 use Rattle.scan_model.specs.declared.query.Query.{Query}
 use Rattle.fault_lines.specs.Lines.{head_fault_name, numbered}
-use Rattle.log_lines.specs.Lines.{answers_text, frame, log_fault_name, rejected_line, verdict_text}
+use Rattle.file_jobs.specs.Logs.Lines.{answers_text, frame, log_fault_name, rejected_line, verdict_text}
 use Rattle.metric_laws.specs.Space.{Space}
 use Rattle.metric_mix.specs.MixSpaces.{mix_space}
 use Rattle.node_page.specs.declared.head.Head.{Head}
@@ -19,6 +19,7 @@ use Rattle.seal_jobs.specs.declared.stop.Stop.TheVariants as stop
 use Rattle.seal_log.specs.declared.faults.ProofFault.{ProofFault}
 use Rattle.seal_log.specs.declared.faults.ProofFault.TheVariants as fault
 use Rattle.seal_log.specs.Judged.{CarriedLog, IsCarried, SpellsCarried, proof_fault, judged_fault}
+use Rattle.file_jobs.specs.Spaces.{space_of}
 
 -- ---- a carried log
 
@@ -39,10 +40,6 @@ proof_fault_text fault.Memory = codes "memory"
 -- an accepted one: its query, and its answers as those of a search
 abbrev pub proved_frame : ℕ → Query → List Hit → List ℕ
 proved_frame i query hits = frame i ++ codes " proved\n" ++ answers_text query hits
-
--- the space of a head
-abbrev pub space_of : Head → Space
-space_of head = mix_space head.kind head.dim
 
 -- the bytes spell this carried log, and its paths lead to the root
 pub record IsRead (root bytes : List ℕ) (c : CarriedLog) : Type 0 where
@@ -129,14 +126,16 @@ ReadsNext room old new next.Cut = (bytes : List ℕ) × Consumes old new bytes �
 -- Up to `most` bytes could not be read.
 abbrev pub StopsTaking : ℕ → ℕ → Option (List ℕ) → Option (List ℕ) → Stop → Type 0
 StopsTaking most room old new stop.Input = (bytes : List ℕ) × Consumes old new bytes × (length bytes ≤ room) × (length bytes < most)
-StopsTaking most room old new stop.Long = (bytes : List ℕ) × Consumes old new bytes × (room < length bytes) × (length bytes ≤ room + 4096) × (length bytes ≤ most)
+StopsTaking most room old new stop.Long = (bytes : List ℕ) × Consumes old new bytes × (room < length bytes)
+    × (length bytes ≤ room + 4096) × (length bytes ≤ most)
 StopsTaking most room old new stop.Memory = (bytes : List ℕ) × Consumes old new bytes × (length bytes ≤ room)
 StopsTaking most room old new stop.Sink = ⊥
 
 -- No frame could be read. Where the source failed, no whole one was taken; where too many bytes were, none stands within the room.
 abbrev pub StopsReading : ℕ → Option (List ℕ) → Option (List ℕ) → Stop → Type 0
 StopsReading room old new stop.Input = (bytes : List ℕ) × Consumes old new bytes × (length bytes ≤ room) × BeginsNoFrame bytes
-StopsReading room old new stop.Long = (bytes : List ℕ) × Consumes old new bytes × (room < length bytes) × (length bytes ≤ room + 4096) × BeginsNoFrame (take room bytes)
+StopsReading room old new stop.Long = (bytes : List ℕ) × Consumes old new bytes × (room < length bytes)
+    × (length bytes ≤ room + 4096) × BeginsNoFrame (take room bytes)
 StopsReading room old new stop.Memory = (bytes : List ℕ) × Consumes old new bytes × (length bytes ≤ room)
 StopsReading room old new stop.Sink = ⊥
 
@@ -196,12 +195,15 @@ pub record ProvesLogs (root : List ℕ) (left0 left1 : Option (List ℕ)) (out0 
   pub middle : Option (List ℕ)
   pub before : HasShown root bytes out0.written middle
   -- all of them, and the last line
-  pub done : (status ≡ 0) ⊎ (status ≡ 1) → IsAtEnd left1 × ((line : List ℕ) × IsEnd before.rest (all_accepted before.shown) line status × Appends middle out1.written line)
+  pub done : (status ≡ 0) ⊎ (status ≡ 1) → IsAtEnd left1
+      × ((line : List ℕ) × IsEnd before.rest (all_accepted before.shown) line status × Appends middle out1.written line)
   -- a front of the next text
-  pub output : status ≡ 4 → (text : List ℕ) × IsNext root (length before.shown) before.rest (all_accepted before.shown) left1 text × AppendsPrefix middle out1.written text
+  pub output : status ≡ 4 → (text : List ℕ) × IsNext root (length before.shown) before.rest (all_accepted before.shown) left1 text
+      × AppendsPrefix middle out1.written text
   -- all whole frames of what was taken were shown, or where that is too much, all within the first 2 ^ 30 bytes
   pub input_line : status ≡ 3 → BeginsNoFrame before.rest × Tells (record out0 { written = middle }) out1 (codes "fault input\n")
-  pub long_line : status ≡ 7 → BeginsNoFrame (take (room_behind bytes before.rest) before.rest) × Tells (record out0 { written = middle }) out1 (codes "fault long\n")
+  pub long_line : status ≡ 7 → BeginsNoFrame (take (room_behind bytes before.rest) before.rest)
+      × Tells (record out0 { written = middle }) out1 (codes "fault long\n")
   pub memory_line : status ≡ 8 → Tells (record out0 { written = middle }) out1 (codes "fault memory\n")
 
 abbrev pub IsProofStatus : ℕ → Type 0

@@ -1,5 +1,5 @@
 -- What the job `seal` does and writes, by the status with which it ends.
-use Rattle.std.specs.Prelude.{◌≡◌, ◌⊎◌, ℕ, ◌<◌, ◌≤◌, List, ◌++◌, Some, None, codes, IsTrue}
+use Rattle.std.specs.Prelude.{◌≡◌, ◌⊎◌, ℕ, ◌≤◌, List, ◌++◌, Some, None, codes, IsTrue}
 use Rattle.std.specs.Io.KnownBytes.{Appends}
 use Rattle.hex.specs.Hex.{encode_lower}
 use Rattle.outside_io.specs.Bytes.{AppendsPrefix}
@@ -7,11 +7,12 @@ use Rattle.outside_io.specs.Causes.{Rose}
 use Rattle.outside_io.specs.Sinks.{SinkState, Tells}
 use Rattle.disk_model.specs.Disk.{DiskState, IsUnchanged}
 use Rattle.rows_text.specs.Texts.{line_end}
-use Rattle.metric_mix.specs.MixSpaces.{mix_space}
+use Rattle.file_jobs.specs.Spaces.{space_of}
 use Rattle.tree_shape.specs.declared.live.Live.{Live}
 use Rattle.node_page.specs.declared.head.Head.{Head}
 use Rattle.node_page.specs.Opening.{OpensTo}
 use Rattle.page_store.specs.Reading.{reading}
+use Rattle.page_store.specs.Files.{IsLarge}
 use Rattle.tree_audit.specs.declared.faults.AuditFault.{AuditFault}
 use Rattle.tree_audit.specs.Audited.{audit_fault}
 use Rattle.file_jobs.specs.Lines.{rejected_text, not_index_text}
@@ -22,10 +23,6 @@ use Rattle.seal_log.specs.Digests.{root_digest}
 abbrev pub sealed_text : List ℕ → List ℕ
 sealed_text root = codes "sealed " ++ (encode_lower root ++ line_end)
 
--- the file opens to a live slot with more pages than are sealed
-abbrev pub IsLarge : List ℕ → Type 0
-IsLarge file = (head : Head) × (live : Live) × OpensTo file head live × (262144 < live.pages)
-
 -- a sound file of version 2 and of up to 262144 pages, with this root digest
 pub record IsSealed (file root : List ℕ) : Type 0 where
   pub head : Head
@@ -33,14 +30,15 @@ pub record IsSealed (file root : List ℕ) : Type 0 where
   pub opens : OpensTo file head live
   pub version : head.version ≡ 2
   pub few : live.pages ≤ 262144
-  pub sound : audit_fault (mix_space head.kind head.dim) (reading head.dim live.pages file) live ≡ None
+  pub sound : audit_fault (space_of head) (reading head.dim live.pages file) live ≡ None
   pub root_is : root ≡ root_digest file live.pages
 
 -- what stands on out when `seal` ends
 pub record Seals (disk0 disk1 : DiskState) (out0 out1 : SinkState) (status : ℕ) : Type 0 where
   pub unchanged : IsUnchanged disk0 disk1
   pub sealed : status ≡ 0 → (root : List ℕ) × Appends out0.written out1.written (sealed_text root) × (IsTrue disk0.tells → IsSealed disk0.bytes root)
-  pub rejected : status ≡ 1 → (fault : AuditFault) × Appends out0.written out1.written (rejected_text fault) × (IsTrue disk0.tells → IsAudited disk0.bytes (Some fault))
+  pub rejected : status ≡ 1 → (fault : AuditFault) × Appends out0.written out1.written (rejected_text fault)
+      × (IsTrue disk0.tells → IsAudited disk0.bytes (Some fault))
   -- a front of the line
   pub part : status ≡ 4 →
       ((root : List ℕ) × AppendsPrefix out0.written out1.written (sealed_text root) × (IsTrue disk0.tells → IsSealed disk0.bytes root))
@@ -69,7 +67,8 @@ pub record Refuses (disk0 disk1 : DiskState) (out0 out1 : SinkState) (status : �
 pub record EndsSealed (disk0 disk1 : DiskState) (pages : ℕ) (out0 out1 : SinkState) (status : ℕ) : Type 0 where
   pub unchanged : IsUnchanged disk0 disk1
   pub sealed : status ≡ 0 → (root : List ℕ) × Appends out0.written out1.written (sealed_text root) × (IsTrue disk0.tells → root ≡ root_digest disk0.bytes pages)
-  pub part : status ≡ 4 → (root : List ℕ) × AppendsPrefix out0.written out1.written (sealed_text root) × (IsTrue disk0.tells → root ≡ root_digest disk0.bytes pages)
+  pub part : status ≡ 4 → (root : List ℕ) × AppendsPrefix out0.written out1.written (sealed_text root)
+      × (IsTrue disk0.tells → root ≡ root_digest disk0.bytes pages)
   pub disk : status ≡ 5 → Rose disk0.faults disk1.faults × Tells out0 out1 (codes "fault disk\n")
   pub memory : status ≡ 8 → Tells out0 out1 (codes "fault memory\n")
   pub statuses : (status ≡ 0) ⊎ ((status ≡ 4) ⊎ ((status ≡ 5) ⊎ (status ≡ 8)))

@@ -16,15 +16,15 @@ ghost use Rattle.seal_log.specs.Digests.{leaf_digests};
 ghost use Rattle.seal_log.specs.Laws.{CarriedLogsAreAccepted};
 ghost use Rattle.file_jobs.specs.Lines.{not_index_text};
 ghost use Rattle.file_jobs.specs.Jobs.{IsNoIndex};
-ghost use Rattle.seal_jobs.specs.Seals.{IsLarge};
+ghost use Rattle.page_store.specs.Files.{IsLarge};
 ghost use Rattle.seal_jobs.specs.Carries.{CarriesLogs, CarriesOn, EndsCarried, HasCarried, HasHalted, IsCarriedLogsStatus, IsCarryStatus, IsDone, IsHaltStatus, PutsLog, Stops, StopsCarrying, StopsLog, TellsLog, carried_end, carried_line, judged};
 
 use crate::opening::open_small;
 use crate::proof_lines::rejected_text;
 use crate::stop::Halt;
 use disk_model::Disk;
+use file_jobs::logs::{push_frame, undecoded_text};
 use file_jobs::{FAULT_DISK, FAULT_MEMORY, end_with, space_of};
-use log_lines::{push_frame, undecoded_text};
 use log_model::{Log, Record};
 use log_verify::{Verdict, verify};
 use metric_laws::{Meter, Metric};
@@ -113,7 +113,8 @@ fn carried_frame<D: Disk>(
     requires few { length tree.now ≤ 262144 }
     requires lawful { IsLawfulLog log.now }
     ensures same { IsUnchanged (D.state index.old) (D.state index.new) }
-    ensures carries { IfOk result (λ put. IsTrue (D.state index.old).tells → (bytes : List ℕ) × Carries (D.state index.old).bytes tree.now log.now bytes × (put.items ≡ frame_bytes bytes)) }
+    ensures carries { IfOk result (λ put. IsTrue (D.state index.old).tells → (bytes : List ℕ)
+        × Carries (D.state index.old).bytes tree.now log.now bytes × (put.items ≡ frame_bytes bytes)) }
     ensures disk { IsErrOf result Halt.Disk → Rose (D.state index.old).faults (D.state index.new).faults }
     ensures not_sink { IsErrOf result Halt.Sink → ⊥ }
     ensures later { (D.state index.old).faults ≤ (D.state index.new).faults }
@@ -148,7 +149,8 @@ fn log_texts<D: Disk>(
     requires sealed { IsTrue (D.state index.old).tells → tree.now ≡ leaf_digests (D.state index.old).bytes opened.now.1.pages }
     requires lawful { IsLawfulLog log.now }
     ensures same { IsUnchanged (D.state index.old) (D.state index.new) }
-    ensures tells { IfOk result (λ x. IsTrue (D.state index.old).tells → TellsLog (D.state index.old).bytes opened.now.0 opened.now.1 number log.now x.0.items x.1.items x.2) }
+    ensures tells { IfOk result (λ x. IsTrue (D.state index.old).tells →
+        TellsLog (D.state index.old).bytes opened.now.0 opened.now.1 number log.now x.0.items x.1.items x.2) }
     ensures disk { IsErrOf result Halt.Disk → Rose (D.state index.old).faults (D.state index.new).faults }
     ensures not_sink { IsErrOf result Halt.Sink → ⊥ }
     ensures later { (D.state index.old).faults ≤ (D.state index.new).faults }
@@ -179,12 +181,14 @@ fn carry_log<D: Disk, K: Sink, L: Sink>(
     requires sealed { IsTrue (D.state index.old).tells → tree.now ≡ leaf_digests (D.state index.old).bytes opened.now.1.pages }
     requires lawful { IsLawfulLog log.now }
     ensures same { IsUnchanged (D.state index.old) (D.state index.new) }
-    ensures puts { IfOk result (λ accepted. IsTrue (D.state index.old).tells → PutsLog (D.state index.old).bytes opened.now.0 opened.now.1 number log.now accepted
+    ensures puts { IfOk result (λ accepted. IsTrue (D.state index.old).tells →
+        PutsLog (D.state index.old).bytes opened.now.0 opened.now.1 number log.now accepted
         (L.state log_out.old).written (L.state log_out.new).written (K.state out.old).written (K.state out.new).written) }
     ensures stops { IfErr result (λ why. IsTrue (D.state index.old).tells → StopsLog (D.state index.old).bytes opened.now.0 opened.now.1 number log.now why
         (L.state log_out.old).written (L.state log_out.new).written (K.state out.old).written (K.state out.new).written) }
     ensures disk { IsErrOf result Halt.Disk → Rose (D.state index.old).faults (D.state index.new).faults }
-    ensures output { IsErrOf result Halt.Sink → Rose (K.state out.old).faults (K.state out.new).faults ⊎ Rose (L.state log_out.old).faults (L.state log_out.new).faults }
+    ensures output { IsErrOf result Halt.Sink → Rose (K.state out.old).faults (K.state out.new).faults
+        ⊎ Rose (L.state log_out.old).faults (L.state log_out.new).faults }
     ensures later { (D.state index.old).faults ≤ (D.state index.new).faults }
     ensures out_later { (K.state out.old).faults ≤ (K.state out.new).faults }
     ensures log_later { (L.state log_out.old).faults ≤ (L.state log_out.new).faults }
@@ -216,12 +220,14 @@ fn carry_all<D: Disk, K: Sink, L: Sink>(
     requires sealed { IsTrue (D.state index.old).tells → tree.now ≡ leaf_digests (D.state index.old).bytes opened.now.1.pages }
     requires lawful { All IsLawfulLog logs.items }
     ensures same { IsUnchanged (D.state index.old) (D.state index.new) }
-    ensures puts { IfOk result (λ accepted. IsTrue (D.state index.old).tells → HasCarried (D.state index.old).bytes opened.now.0 opened.now.1 logs.items [] (length logs.items) accepted
+    ensures puts { IfOk result (λ accepted. IsTrue (D.state index.old).tells →
+        HasCarried (D.state index.old).bytes opened.now.0 opened.now.1 logs.items [] (length logs.items) accepted
         (L.state log_out.old).written (L.state log_out.new).written (K.state out.old).written (K.state out.new).written) }
     ensures stops { IfErr result (λ why. IsTrue (D.state index.old).tells → StopsCarrying (D.state index.old).bytes opened.now.0 opened.now.1 logs.items why
         (L.state log_out.old).written (L.state log_out.new).written (K.state out.old).written (K.state out.new).written) }
     ensures disk { IsErrOf result Halt.Disk → Rose (D.state index.old).faults (D.state index.new).faults }
-    ensures output { IsErrOf result Halt.Sink → Rose (K.state out.old).faults (K.state out.new).faults ⊎ Rose (L.state log_out.old).faults (L.state log_out.new).faults }
+    ensures output { IsErrOf result Halt.Sink → Rose (K.state out.old).faults (K.state out.new).faults
+        ⊎ Rose (L.state log_out.old).faults (L.state log_out.new).faults }
     ensures later { (D.state index.old).faults ≤ (D.state index.new).faults }
     ensures out_later { (K.state out.old).faults ≤ (K.state out.new).faults }
     ensures log_later { (L.state log_out.old).faults ≤ (L.state log_out.new).faults }
@@ -283,7 +289,8 @@ fn carry_bytes<D: Disk, K: Sink, L: Sink>(
         (L.state log_out.old).written (L.state log_out.new).written (K.state out.old).written (K.state out.new).written) }
     ensures statuses { IfOk result (λ status. IsDone status.0) }
     ensures disk { IsErrOf result Halt.Disk → Rose (D.state index.old).faults (D.state index.new).faults }
-    ensures output { IsErrOf result Halt.Sink → Rose (K.state out.old).faults (K.state out.new).faults ⊎ Rose (L.state log_out.old).faults (L.state log_out.new).faults }
+    ensures output { IsErrOf result Halt.Sink → Rose (K.state out.old).faults (K.state out.new).faults
+        ⊎ Rose (L.state log_out.old).faults (L.state log_out.new).faults }
     ensures later { (D.state index.old).faults ≤ (D.state index.new).faults }
     ensures out_later { (K.state out.old).faults ≤ (K.state out.new).faults }
     ensures log_later { (L.state log_out.old).faults ≤ (L.state log_out.new).faults }
@@ -320,7 +327,8 @@ fn carry_opened<D: Disk, K: Sink, L: Sink>(
         (L.state log_out.old).written (L.state log_out.new).written (K.state out.old).written (K.state out.new).written) }
     ensures statuses { IfOk result (λ status. IsDone status.0) }
     ensures disk { IsErrOf result Halt.Disk → Rose (D.state index.old).faults (D.state index.new).faults }
-    ensures output { IsErrOf result Halt.Sink → Rose (K.state out.old).faults (K.state out.new).faults ⊎ Rose (L.state log_out.old).faults (L.state log_out.new).faults }
+    ensures output { IsErrOf result Halt.Sink → Rose (K.state out.old).faults (K.state out.new).faults
+        ⊎ Rose (L.state log_out.old).faults (L.state log_out.new).faults }
     ensures later { (D.state index.old).faults ≤ (D.state index.new).faults }
     ensures out_later { (K.state out.old).faults ≤ (K.state out.new).faults }
     ensures log_later { (L.state log_out.old).faults ≤ (L.state log_out.new).faults }
@@ -361,9 +369,12 @@ fn carry_index<D: Disk, K: Sink, L: Sink>(
     ensures same { IsUnchanged (D.state index.old) (D.state index.new) }
     ensures done { IsDone result.0 → IsTrue (D.state index.old).tells → CarriesOn (D.state index.old).bytes bytes.now
         (L.state log_out.old).written (L.state log_out.new).written (K.state out.old).written (K.state out.new).written result.0 }
-    ensures halted { IsTrue (D.state index.old).tells → HasHalted (D.state index.old).bytes bytes.now (L.state log_out.old).written (L.state log_out.new).written (K.state out.old) (K.state out.new) result.0 }
-    ensures not_index { result.0 ≡ 6 → (name : List ℕ) × Tells (K.state out.old) (K.state out.new) (not_index_text name) × (IsTrue (D.state index.old).tells → IsNoIndex (D.state index.old).bytes name) }
-    ensures long { result.0 ≡ 7 → Tells (K.state out.old) (K.state out.new) (codes "fault long\n") × (IsTrue (D.state index.old).tells → IsLarge (D.state index.old).bytes) }
+    ensures halted { IsTrue (D.state index.old).tells → HasHalted (D.state index.old).bytes bytes.now (L.state log_out.old).written
+        (L.state log_out.new).written (K.state out.old) (K.state out.new) result.0 }
+    ensures not_index { result.0 ≡ 6 → (name : List ℕ) × Tells (K.state out.old) (K.state out.new) (not_index_text name)
+        × (IsTrue (D.state index.old).tells → IsNoIndex (D.state index.old).bytes name) }
+    ensures long { result.0 ≡ 7 → Tells (K.state out.old) (K.state out.new) (codes "fault long\n")
+        × (IsTrue (D.state index.old).tells → IsLarge (D.state index.old).bytes) }
     ensures statuses { IsCarryStatus result.0 }
     ensures disk { result.0 ≡ 5 → Rose (D.state index.old).faults (D.state index.new).faults }
     ensures output { result.0 ≡ 4 → Rose (K.state out.old).faults (K.state out.new).faults ⊎ Rose (L.state log_out.old).faults (L.state log_out.new).faults }
@@ -401,7 +412,8 @@ pub fn carry_logs<D: Disk, S: Source, K: Sink, L: Sink>(
     ensures input { result.0 ≡ 3 → Rose (S.faults log_in.old) (S.faults log_in.new) }
     ensures disk { result.0 ≡ 5 → Rose (D.state index.old).faults (D.state index.new).faults }
     ensures output { result.0 ≡ 4 → Rose (K.state out.old).faults (K.state out.new).faults ⊎ Rose (L.state log_out.old).faults (L.state log_out.new).faults }
-    ensures counts { (S.faults log_in.old ≤ S.faults log_in.new) × ((K.state out.old).faults ≤ (K.state out.new).faults) × ((L.state log_out.old).faults ≤ (L.state log_out.new).faults) }
+    ensures counts { (S.faults log_in.old ≤ S.faults log_in.new) × ((K.state out.old).faults ≤ (K.state out.new).faults)
+        × ((L.state log_out.old).faults ≤ (L.state log_out.new).faults) }
 {
     carried_logs_are_accepted();
     match read_all(alloc, log_in, MOST_LOGS) {

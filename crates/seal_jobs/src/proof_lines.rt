@@ -1,10 +1,10 @@
 // The texts on carried logs.
 ghost use Rattle.std.specs.Prelude.{◌≡◌, ◌++◌, OnOk, IfOk};
-ghost use Rattle.log_lines.specs.Lines.{rejected_line};
+ghost use Rattle.file_jobs.specs.Logs.Lines.{rejected_line};
 ghost use Rattle.seal_jobs.specs.Proofs.{end_text, proof_fault_text, proved_frame};
 
 use fault_lines::{head_fault_name, push_numbered};
-use log_lines::{log_fault_name, push_answers, push_frame, push_verdict};
+use file_jobs::logs::{log_fault_name, push_answers, push_frame, push_verdict};
 use outside_io::Memory;
 use seal_log::{ProofFault, Proved};
 use std::alloc::Global;

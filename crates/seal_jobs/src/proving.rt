@@ -21,7 +21,8 @@ const MOST_LOGS: u64 = 1 << 30;
 
 // What a carried log shows under a root digest, or its first fault.
 fn judge(alloc: Global, root: &[u8; 32], body: &[u8]) -> Result<Proved, ProofFault>
-    ensures accepted { IfOk result (λ proved. (c : CarriedLog) × IsAccepted root.now body.now c × (proved.query ≡ c.log.query) × (proved.answers ≡ c.log.answers)) }
+    ensures accepted { IfOk result (λ proved. (c : CarriedLog) × IsAccepted root.now body.now c × (proved.query ≡ c.log.query)
+        × (proved.answers ≡ c.log.answers)) }
     ensures fault { IfErr result (λ why. (why ≡ ProofFault.Memory) ⊎ HasFault root.now body.now why) }
 {
     let carried = match read_proof(alloc, body, root) {
@@ -97,7 +98,8 @@ fn judge_frames<S: Source, K: Sink>(
     root: &[u8; 32],
     out: &mut K,
 ) -> Result<Status, Stop>
-    ensures ended { IfOk result (λ status. HasEnded root.now (S.left log_in.old) (S.left log_in.new) (K.state out.old).written (K.state out.new).written status.0) }
+    ensures ended { IfOk result (λ status. HasEnded root.now (S.left log_in.old) (S.left log_in.new) (K.state out.old).written
+        (K.state out.new).written status.0) }
     ensures stopped { IfErr result (HasStopped root.now (S.left log_in.old) (S.left log_in.new) (K.state out.old).written (K.state out.new).written) }
     ensures statuses { IfOk result (λ status. (status.0 ≡ 0) ⊎ (status.0 ≡ 1)) }
     ensures input_later { S.faults log_in.old ≤ S.faults log_in.new }

@@ -15,7 +15,7 @@ use Rattle.node_page.proofs.HeadLaws.{head_is}
 use Rattle.node_page.proofs.Opened.{live_is}
 use Rattle.page_store.specs.declared.pages.PageFault.{PageFault}
 use Rattle.page_store.specs.declared.pages.PageFault.TheVariants.{Outside}
-use Rattle.page_store.specs.PageBytes.{length-page_of}
+use Rattle.page_store.proofs.PageBytes.{length-page_of}
 use Rattle.page_store.specs.Files.{IsSoundFile, nodes_in}
 use Rattle.page_store.specs.Reading.{is_within, reading_in, reading, nodes_of, node_or_none}
 use Rattle.log_model.specs.declared.marks.Record.{Record}

@@ -13,7 +13,7 @@ use Rattle.node_page.proofs.HeadLaws.{head_is, none_by_spells}
 use Rattle.node_page.proofs.Opened.{opens_by_none, none_by_opens, live_is}
 use Rattle.seal_log.specs.declared.faults.ProofFault.{ProofFault}
 use Rattle.seal_log.specs.declared.faults.ProofFault.TheVariants as faults
-use Rattle.seal_log.specs.Judged.{first_fault, opening_fault, live_fault, slots_fault, after_slots, version_fault}
+use Rattle.seal_log.specs.Judged.{first_fault, opening_fault, live_fault, slots_fault, after_slots}
 use Rattle.seal_log.specs.Judged as judged
 use Rattle.seal_log.specs.Opened.{IsLiveOf}
 

@@ -11,7 +11,7 @@ use Rattle.node_page.specs.Nodes.{fault_in, node_in}
 use Rattle.node_page.specs.Opening.{page_of, OpensTo}
 use Rattle.node_page.proofs.HeadLaws.{head_is}
 use Rattle.node_page.proofs.Opened.{live_is}
-use Rattle.page_store.specs.PageBytes.{length-page_of}
+use Rattle.page_store.proofs.PageBytes.{length-page_of}
 use Rattle.page_store.specs.Files.{IsSoundFile, nodes_in, points_in}
 use Rattle.page_store.specs.Reading.{is_within, judged, reading_in, reading}
 use Rattle.page_store.specs.declared.pages.PageFault.TheVariants.{Outside}

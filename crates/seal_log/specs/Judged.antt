@@ -170,7 +170,8 @@ after_verdict None = None
 
 -- of the log, judged by the carried pages
 unfoldable pub judged_fault : Space → CarriedLog → Option ProofFault
-judged_fault s c = first_fault (missing_from c.carried c.log.records 0) (after_verdict (verdict_on s (reading c.head.dim c.live.pages (file_of c)) c.live c.log))
+judged_fault s c = first_fault (missing_from c.carried c.log.records 0)
+    (after_verdict (verdict_on s (reading c.head.dim c.live.pages (file_of c)) c.live c.log))
 
 -- ---- what is hashed to check it
 

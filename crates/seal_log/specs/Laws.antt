@@ -28,7 +28,8 @@ AcceptedLogsShowAnswers = (s : Space) (c : CarriedLog) → IsSpace s → IsCarri
 
 -- bytes have no fault exactly where they spell a carried log whose paths lead to the root
 abbrev pub FaultIsNoCarriedLog : Type 0
-FaultIsNoCarriedLog = (root : Digest) (bytes : List ℕ) → IsBytes bytes → (proof_fault root bytes ≡ None) ↔ ((c : CarriedLog) × (c.root ≡ root) × IsCarried c × SpellsCarried bytes c)
+FaultIsNoCarriedLog = (root : Digest) (bytes : List ℕ) → IsBytes bytes → (proof_fault root bytes ≡ None)
+    ↔ ((c : CarriedLog) × (c.root ≡ root) × IsCarried c × SpellsCarried bytes c)
 
 -- A sound file's carried log of a sound log is accepted under the file's root digest, by whoever reads it and by whoever
 -- judges it, with that log.

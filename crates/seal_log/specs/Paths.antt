@@ -74,4 +74,5 @@ top_messages pages (Some top) = root_message pages top ∷ []
 unfoldable pub check_messages : ℕ → ℕ → List ℕ → List Digest → List (List ℕ)
 check_messages pages i bytes path =
     leaf_message bytes
-    ∷ (climb_messages (widths_over pages) i (sha256 (leaf_message bytes)) path ++ top_messages pages (climbed (widths_over pages) i (sha256 (leaf_message bytes)) path))
+    ∷ (climb_messages (widths_over pages) i (sha256 (leaf_message bytes)) path ++ top_messages pages
+    (climbed (widths_over pages) i (sha256 (leaf_message bytes)) path))

@@ -74,7 +74,8 @@ impl Carried {
     pub fn node_on(&self, alloc: Global, page: u32) -> Result<Node, PageFault>
         requires { page < self.now.live.pages }
         ensures lawful { IfOk result (IsLawfulNode self.now.head.dim) }
-        ensures told { IfOk result (λ node. (fault_in Second self.now.head.dim (page_of (file_of self.now) page) ≡ None) × (node ≡ node_in Second self.now.head.dim (page_of (file_of self.now) page))) }
+        ensures told { IfOk result (λ node. (fault_in Second self.now.head.dim (page_of (file_of self.now) page) ≡ None)
+            × (node ≡ node_in Second self.now.head.dim (page_of (file_of self.now) page))) }
         ensures fault { IfErr result (IsBytesFault Second self.now.head.dim (page_of (file_of self.now) page) page) }
     {
         let bytes = page_bytes(self.pages.as_slice(), page);

@@ -56,7 +56,8 @@ fn put_page<D: Disk>(
 ) -> Result<(), SealFault>
     requires few { length tree.now ≤ 262144 }
     requires within { page < 2 ^ 24 }
-    ensures put { OnOk result (IsTrue (D.state disk.old).tells → out.new.items ≡ out.old.items ++ page_bytes (page_with_path (D.state disk.old).bytes tree.now page)) }
+    ensures put { OnOk result (IsTrue (D.state disk.old).tells →
+        out.new.items ≡ out.old.items ++ page_bytes (page_with_path (D.state disk.old).bytes tree.now page)) }
     ensures disk { IsErrOf result SealFault.Disk → Rose (D.state disk.old).faults (D.state disk.new).faults }
     ensures later { (D.state disk.old).faults ≤ (D.state disk.new).faults }
     ensures same { IsUnchanged (D.state disk.old) (D.state disk.new) }

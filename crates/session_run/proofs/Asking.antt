@@ -1,6 +1,6 @@
 -- What a query of a session answers.
-use Rattle.std.proofs.Common.{◌≡◌, ℕ, ◌+◌, ◌*◌, ◌≤◌, Bool, true, false, List, [], ◌∷◌, ◌++◌, length, map, min, refl, sym, ap, subst, ◌∙◌, arith, Option, Some, None, Result, Ok, Err}
-use Rattle.std.specs.Prelude.{IsTrue, MatchOption, IfOk, IfErr, codes, flat_map, slice_index_or, if◌then◌else◌}
+use Rattle.std.proofs.Common.{◌≡◌, ℕ, ◌+◌, ◌*◌, ◌≤◌, Bool, true, false, List, ◌++◌, length, map, min, refl, sym, ap, subst, ◌∙◌, arith, Option, Some, None, Result, Ok, Err}
+use Rattle.std.specs.Prelude.{MatchOption, IfOk, IfErr, codes, flat_map, slice_index_or, if◌then◌else◌}
 use Rattle.metric_laws.specs.Space.{Space, bound}
 use Rattle.outside_io.specs.Causes.{Rose}
 use Rattle.disk_model.specs.Disk.{DiskState}
@@ -21,12 +21,13 @@ use Rattle.tree_shape.specs.Tree.{tags_by_id}
 use Rattle.log_model.proofs.LeastLog.{least_sound}
 use Rattle.range_search.specs.Searched.{HasWalkCause}
 use Rattle.nearest_search.specs.Searched.{HasNearestCause}
-use Rattle.log_model.specs.Counts.{count_up}
+use Rattle.metric_laws.specs.Counts.{count_up}
 use Rattle.log_model.specs.Walk.{search_at}
 use Rattle.index_core.specs.declared.faults.IndexFault.{IndexFault}
 use Rattle.index_core.specs.declared.faults.IndexFault.TheVariants as fault
 use Rattle.index_core.specs.Answers.{HasRangeCause, HasReachCause, HasSearched, IsSoundOn, points_on, tags_on}
-use Rattle.index_core.specs.Causes.{HasReadCause, MayComeAnytime, IsDamage as IsWalkDamage}
+use Rattle.page_store.specs.Shelf.{IsDamage as IsWalkDamage}
+use Rattle.index_core.specs.Causes.{HasReadCause, MayComeAnytime}
 use Rattle.index_core.specs.Damage.{BlamesDamage}
 use Rattle.index_core.specs.Files.{OpenFile, IsLawfulFile, OnlyReads, nodes_on, pages_on}
 use Rattle.index_core.specs.Index.{OpenIndex, StandsAlone}
@@ -36,12 +37,12 @@ use Rattle.session_run.specs.declared.stop.Stop.{Stop}
 use Rattle.session_run.specs.declared.stop.Stop.TheVariants as stop
 use Rattle.session_run.specs.Session.{IsDamage, StandsBy, most_read, setting_of, state_on}
 use Rattle.session_run.specs.Steps.{HasStepCause, HasStepped, IsShownAs, answer_of_fault}
-use Rattle.session_run.specs.Turns.{HasLog, Version, answered_query, if_any, version_on}
+use Rattle.answer_texts.specs.Answered.{if_any}
+use Rattle.answer_texts.specs.Asked.{Held, HasLog, answered_query}
+use Rattle.session_run.specs.Turns.{held_on}
 use Rattle.session_run.proofs.Faults.{blames_stands}
-use Rattle.session_run.proofs.Reading.{read_stepped, read_stopped, read_taken, sound_still, version_still}
-
-pub rose_more : (a b c : ℕ) → a ≤ b → Rose b c → Rose a c
-rose_more a b c more rose = grind arith
+use Rattle.session_run.proofs.Reading.{read_stepped, read_stopped, read_taken, sound_still, held_still}
+use Rattle.outside_io.proofs.Rising.{rose_before}
 
 -- what ends a walk ends the session with the same cause
 pub fault_cause : {Sound : Type 0} (before after : DiskState) (walk : PageFault → Type 0) (why : IndexFault) → HasReadCause walk why → (walk page.Disk → Rose before.faults after.faults) →
@@ -117,21 +118,21 @@ query_stepped {M} s show old new file cursors before mid after c asked found a l
     objects : Holdings
     objects = (state_on old.file before cursors).objects
 
-    logged : IsSoundOn s old.file before → HasLog s (version_on old.file before) (answered_query s c) a.log
-    logged sound = subst (λ (q : Option Query). HasLog s (version_on old.file before) q a.log) (sym answered)
-        (subst (λ (x : Answer). HasLog s (version_on old.file before) (Some asked) x.log) (sym shown.is) (searched.answer sound).least)
+    logged : IsSoundOn s old.file before → HasLog s (held_on old.file before) (answered_query s c) a.log
+    logged sound = subst (λ (q : Option Query). HasLog s (held_on old.file before) q a.log) (sym answered)
+        (subst (λ (x : Answer). HasLog s (held_on old.file before) (Some asked) x.log) (sym shown.is) (searched.answer sound).least)
 
     own_tags : IsSoundOn s old.file before → show ≡ true → shown.tags ≡ tags_of objects (scan_answers s asked objects.points)
     own_tags sound asks =
         shown.objects asks (sound_still s old.file file before mid first sound).0 (record {
           tree = (sound_still s old.file file before mid first sound).1;
-          log = subst (λ (v : Version). IsSoundLog s v.nodes v.live found.log) (sym (version_still old.file file before mid first)) (least_sound s (nodes_on old.file before) old.file.live asked found.log (searched.answer sound).least);
+          log = subst (λ (v : Held). IsSoundLog s v.nodes v.live found.log) (sym (held_still old.file file before mid first)) (least_sound s (nodes_on old.file before) old.file.live asked found.log (searched.answer sound).least);
           hits_are = searched.log.hits_are;
         })
         ∙ (λ i. map (λ h. slice_index_or (tags_still i) h.id 0) ((searched.answer sound).hits i))
       where
         tags_still : tags_on file mid ≡ tags_on old.file before
-        tags_still = ap (λ (v : Version). tags_by_id v.nodes v.live) (version_still old.file file before mid first)
+        tags_still = ap (λ (v : Held). tags_by_id v.nodes v.live) (held_still old.file file before mid first)
 
     same : IsSoundOn s old.file before → text show a.reply ≡ text show (hits_reply objects (scan_answers s asked objects.points))
     same sound = ap (λ (x : Answer). text show x.reply) shown.is
@@ -140,7 +141,7 @@ query_stepped {M} s show old new file cursors before mid after c asked found a l
 -- ---- what was found, with its tags or without
 
 cause_then : {S T : Type 0} (before mid after : DiskState) (why : Stop) → before.faults ≤ mid.faults → (S → T) → HasStepCause T mid after why → HasStepCause S before after why
-cause_then before mid after stop.Disk later kept rose = rose_more before.faults mid.faults after.faults later rose
+cause_then before mid after stop.Disk later kept rose = rose_before before.faults mid.faults after.faults later rose
 cause_then before mid after (stop.Damaged f) later kept cause = (cause.0, λ sound. cause.1 (kept sound))
 cause_then before mid after stop.Memory later kept cause = tt
 cause_then before mid after stop.Sink later kept cause = absurd cause

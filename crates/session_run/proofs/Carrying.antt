@@ -35,7 +35,8 @@ use Rattle.session_run.specs.declared.stop.Stop.TheVariants as stop
 use Rattle.session_run.specs.Pinned.{AllGoThrough, GoesThrough, AreKeptBy, CanGoOn, GoesOn, HoldSame, IsKeptBy, KeepsGuarded, StandFor, StandsFor}
 use Rattle.session_run.specs.Session.{IsAsking, StandsBy, no_cursors, setting_of, state_on}
 use Rattle.session_run.specs.Steps.{HasAdvanced, HasCarriedOut, HasClosed, HasStepCause, HasStepped, IsTaken, plain_answer, written_answer}
-use Rattle.session_run.specs.Turns.{Version, answered_query, version_on}
+use Rattle.answer_texts.specs.Asked.{Held, answered_query}
+use Rattle.session_run.specs.Turns.{held_on}
 use Rattle.session_run.proofs.Opening.{reads_none, unlogged}
 use Rattle.session_run.proofs.Trees.{goes_still}
 use Rattle.session_run.proofs.Reading.{either_reading, read_taken, sound_still}
@@ -171,7 +172,7 @@ still_through old new before after pinned keeps told head through = λ tells.
 -- the file after a turn is sound
 pub sound_after : {M : Type 0} (s : Space) (show : Bool) (old new : OpenFile M) (opened cursors : OpenCursors) (before after : DiskState) (c : Command) (a : Answer) → after.tells ≡ before.tells → IsTrue before.tells →
     IsTaken s show old new opened cursors before after c a → IsSoundOn s new after
-sound_after s show old new opened cursors before after c a told tells taken = (rw told tells, subst (λ (v : Version). IsSoundTree s v.nodes v.live) taken.file taken.is.objects.sound)
+sound_after s show old new opened cursors before after c a told tells taken = (rw told tells, subst (λ (v : Held). IsSoundTree s v.nodes v.live) taken.file taken.is.objects.sound)
 
 -- ---- commands
 
@@ -252,7 +253,7 @@ module _ {M : Type 0} (s : Space) (show : Bool) (old new : OpenIndex M) (pinned0
     through = through;
     taken = λ opened goes. let means = means opened goes in (
       means.0,
-      read_taken s show old new.file opened means.0 before after c (plain_answer meant) None meant lawful alone reads goes.sound means.1.0 (none opened goes) tt (unlogged s (version_on old.file before) unasked) refl
+      read_taken s show old new.file opened means.0 before after c (plain_answer meant) None meant lawful alone reads goes.sound means.1.0 (none opened goes) tt (unlogged s (held_on old.file before) unasked) refl
           (λ asks. absurd (other asks)),
       record { sound = sound_still s old.file new.file before after reads goes.sound; cursors = means.1.1 },
     );

@@ -18,14 +18,16 @@ use Rattle.log_model.proofs.ByScan.{length-points}
 use Rattle.index_core.specs.declared.faults.IndexFault.{IndexFault}
 use Rattle.index_core.specs.declared.faults.IndexFault.TheVariants as fault
 use Rattle.index_core.specs.Answers.{IsSoundOn, points_on, tags_on}
-use Rattle.index_core.specs.Causes.{BlamesNoPage, HasInsertCause, IsPathDamage, IsDamage as IsWalkDamage}
+use Rattle.page_store.specs.Shelf.{IsDamage as IsWalkDamage}
+use Rattle.index_core.specs.Causes.{BlamesNoPage, HasInsertCause, IsPathDamage}
 use Rattle.index_core.specs.Damage.{BlamesDamage}
 use Rattle.index_core.specs.Files.{IsLawfulFile, nodes_on}
 use Rattle.index_core.specs.Index.{OpenIndex, StandsAlone}
 use Rattle.index_core.specs.Writing.{Inserts, HasWritten}
 use Rattle.session_run.specs.Session.{IsDamage, setting_of, state_on}
 use Rattle.session_run.specs.Steps.{HasStepCause, HasStepped, answer_of_fault, written_answer}
-use Rattle.session_run.specs.Turns.{Hinders, answered_query, query_of, version_on, write_of}
+use Rattle.answer_texts.specs.Asked.{answered_query, query_of}
+use Rattle.session_run.specs.Turns.{Hinders, held_on, write_of}
 use Rattle.session_run.proofs.Faults.{result_stands}
 use Rattle.session_run.proofs.Writes.{write_stepped}
 
@@ -128,7 +130,7 @@ module _ {M : Type 0} (s : Space) (show : Bool) (old new : OpenIndex M) (cursors
       room_of pages needed made given at exact over = rw (sym at, sym exact) over
 
       hinders : (pages needed : ℕ) → HasInsertCause s old (record { id = old.file.live.count; tag = tag; point = point }) before after (fault.NoRoom pages needed) → IsSoundOn s old.file before →
-          Hinders s old.file.head (version_on old.file before) refusal.NoRoom (Inserts point tag)
+          Hinders s old.file.head (held_on old.file before) refusal.NoRoom (Inserts point tag)
       hinders pages needed (f, is, asked, cause) sound =
           let exact = (cause.2 sound.0).1 in (length (take asked f.free), room_of pages needed _ (length (take asked f.free)) cause.0 exact cause.1)
 

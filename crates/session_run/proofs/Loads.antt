@@ -23,7 +23,8 @@ use Rattle.index_core.specs.Loading.{HasLoadCause, HasLoadingCause, ids, load_fa
 use Rattle.index_core.specs.Writing.{Loads, HasWritten}
 use Rattle.session_run.specs.Session.{setting_of, state_on}
 use Rattle.session_run.specs.Steps.{HasStepCause, HasStepped, answer_of_fault, written_answer}
-use Rattle.session_run.specs.Turns.{Hinders, answered_query, query_of, version_on, write_of}
+use Rattle.answer_texts.specs.Asked.{answered_query, query_of}
+use Rattle.session_run.specs.Turns.{Hinders, held_on, write_of}
 use Rattle.session_run.proofs.Faults.{result_stands}
 use Rattle.session_run.proofs.Inserts.{count_is, ids_are, walk_damage}
 use Rattle.session_run.proofs.Writes.{write_stepped}
@@ -82,10 +83,10 @@ module _ {M : Type 0} (s : Space) (show : Bool) (old new : OpenIndex M) (cursors
   load_cause fault.Stopped cause none undamaged = absurd (cause none).1
   load_cause fault.Commit cause none undamaged = cause none
 
-  hinders : (pages needed : ℕ) → HasLoadingCause s old new rows labels before after.faults (fault.NoRoom pages needed) → Hinders s old.file.head (version_on old.file before) refusal.NoRoom (Loads rows labels)
+  hinders : (pages needed : ℕ) → HasLoadingCause s old new rows labels before after.faults (fault.NoRoom pages needed) → Hinders s old.file.head (held_on old.file before) refusal.NoRoom (Loads rows labels)
   hinders pages needed cause = given new.free cause
     where
-      given : (free : Option FreePages) → MatchOption free ⊥ (λ f. HasLoadCause s old.file f rows labels (fault.NoRoom pages needed)) → Hinders s old.file.head (version_on old.file before) refusal.NoRoom (Loads rows labels)
+      given : (free : Option FreePages) → MatchOption free ⊥ (λ f. HasLoadCause s old.file f rows labels (fault.NoRoom pages needed)) → Hinders s old.file.head (held_on old.file before) refusal.NoRoom (Loads rows labels)
       given None cause = absurd cause
       given (Some f) (other, at, exact, over) = (length f.free, rw (at, exact) at over)
 
@@ -142,7 +143,7 @@ module _ {M : Type 0} (s : Space) (show : Bool) (old new : OpenIndex M) (cursors
       worn is true n false m false l = let no = rw is at cause (no_fault n m l) in absurd (no.1)
 
       room : (pages needed : ℕ) → result ≡ Err (fault.NoRoom pages needed) → (f : Option IndexFault) → load_fault old (length rows) ≡ f →
-          Hinders s old.file.head (version_on old.file before) refusal.NoRoom (Loads rows labels)
+          Hinders s old.file.head (held_on old.file before) refusal.NoRoom (Loads rows labels)
       room pages needed is None l = hinders pages needed (rw is at cause l)
       room pages needed is (Some why) l = absurd (only why l)
         where

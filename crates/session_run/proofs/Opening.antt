@@ -21,14 +21,15 @@ use Rattle.index_core.specs.Index.{OpenIndex, StandsAlone}
 use Rattle.index_core.specs.Lending.{same_room_by_none}
 use Rattle.session_run.specs.Session.{setting_of, state_on}
 use Rattle.session_run.specs.Steps.{HasStepped, plain_answer}
-use Rattle.session_run.specs.Turns.{HasLog, Version, answered_query, query_of, version_on}
+use Rattle.answer_texts.specs.Asked.{Held, HasLog, answered_query, query_of}
+use Rattle.session_run.specs.Turns.{held_on}
 use Rattle.session_run.proofs.Reading.{read_stepped, read_taken}
 
 -- no call reads nothing
 pub reads_none : {M : Type 0} (file : OpenFile M) (disk : DiskState) → OnlyReads file file disk disk
 reads_none file disk = record { rest = refl; room = same_room_by_none file.kept; same = unchanged_by_none disk; later = omega arith }
 
-pub unlogged : {q : Option Query} (s : Space) (v : Version) → q ≡ None → HasLog s v q None
+pub unlogged : {q : Option Query} (s : Space) (v : Held) → q ≡ None → HasLog s v q None
 unlogged s v none = subst (λ (o : Option Query). HasLog s v o None) (sym none) refl
 
 -- a command that touches no disk
@@ -38,7 +39,7 @@ pub still_stepped : {M : Type 0} (s : Space) (show : Bool) (old : OpenIndex M) (
     HasStepped s show old old opened cursors disk disk c (Ok (plain_answer meant))
 still_stepped s show old opened cursors disk c meant lawful alone going tagged unasked none meaning =
     read_stepped s show old old opened cursors disk disk c (plain_answer meant) lawful alone going (reads_none old.file disk) tt tagged
-    (λ sound. read_taken s show old old.file opened cursors disk disk c (plain_answer meant) None meant lawful alone (reads_none old.file disk) sound (meaning sound) none tt (unlogged s (version_on old.file disk) unasked) refl (λ asks. omega arith))
+    (λ sound. read_taken s show old old.file opened cursors disk disk c (plain_answer meant) None meant lawful alone (reads_none old.file disk) sound (meaning sound) none tt (unlogged s (held_on old.file disk) unasked) refl (λ asks. omega arith))
 
 -- ---- commands that touch no disk
 

@@ -22,21 +22,23 @@ use Rattle.session_run.specs.declared.answer.Answer.{Answer}
 use Rattle.session_run.specs.declared.stop.Stop.{Stop}
 use Rattle.session_run.specs.Session.{HoldsState, IsAsking, StandsBy, most_read, setting_of, state_on}
 use Rattle.session_run.specs.Steps.{HasStepCause, HasStepped, HoldsOne, IsTaken}
-use Rattle.session_run.specs.Turns.{HasLog, IsHindrance, IsVersionAfter, Version, answered_query, if_any, version_on}
+use Rattle.answer_texts.specs.Answered.{if_any}
+use Rattle.answer_texts.specs.Asked.{Held, HasLog, answered_query}
+use Rattle.session_run.specs.Turns.{IsHindrance, IsVersionAfter, held_on}
 
 -- the objects of a sound file
 pub objects_on : {M : Type 0} (s : Space) (file : OpenFile M) (disk : DiskState) → IsSoundOn s file disk → HasObjects s file disk (points_on file disk) (tags_on file disk)
 objects_on s file disk sound = record { tells = sound.0; sound = sound.1; points_are = refl; tags_are = refl }
 
 -- a call that only reads leaves what the file holds
-pub version_still : {M : Type 0} (old new : OpenFile M) (before after : DiskState) → OnlyReads old new before after → version_on new after ≡ version_on old before
-version_still {M} old new before after reads =
-    ap (λ (file : OpenFile M). version_on file after) reads.rest
-    ∙ ap (λ (bytes : List ℕ). (let v : Version = record { nodes = nodes_of (reading old.head.dim old.live.pages bytes); live = old.live } in v)) reads.same.same_bytes
+pub held_still : {M : Type 0} (old new : OpenFile M) (before after : DiskState) → OnlyReads old new before after → held_on new after ≡ held_on old before
+held_still {M} old new before after reads =
+    ap (λ (file : OpenFile M). held_on file after) reads.rest
+    ∙ ap (λ (bytes : List ℕ). (let v : Held = record { nodes = nodes_of (reading old.head.dim old.live.pages bytes); live = old.live } in v)) reads.same.same_bytes
 
 pub state_still : {M : Type 0} (old new : OpenFile M) (before after : DiskState) (cursors : OpenCursors) → OnlyReads old new before after → state_on new after cursors ≡ state_on old before cursors
 state_still old new before after cursors reads =
-    ap (λ (v : Version). with_cursors (record { points = points_by_id v.nodes v.live; tags = tags_by_id v.nodes v.live }) cursors) (version_still old new before after reads)
+    ap (λ (v : Held). with_cursors (record { points = points_by_id v.nodes v.live; tags = tags_by_id v.nodes v.live }) cursors) (held_still old new before after reads)
 
 pub sound_still : {M : Type 0} (s : Space) (old new : OpenFile M) (before after : DiskState) → OnlyReads old new before after → IsSoundOn s old before → IsSoundOn s new after
 sound_still s old new before after reads sound =
@@ -55,15 +57,15 @@ either_reading s index new opened before after other lawful alone reads sound =
 pub read_taken : {M : Type 0} (s : Space) (show : Bool) (index : OpenIndex M) (new : OpenFile M) (opened cursors : OpenCursors) (before after : DiskState) (c : Command) (a : Answer) (why : Option Refusal) (meant : Reply) →
     IsLawfulFile s.words index.file → StandsAlone index before → OnlyReads index.file new before after → IsSoundOn s index.file before →
     hindered why (state_on index.file before opened) (step (setting_of s index.file) (state_on index.file before opened) c) ≡ record { reply = meant; state = state_on index.file before cursors } →
-    accepts meant ≡ false → IsHindrance s index.file.head (version_on index.file before) c why → HasLog s (version_on index.file before) (answered_query s c) a.log → text show a.reply ≡ text show meant →
+    accepts meant ≡ false → IsHindrance s index.file.head (held_on index.file before) c why → HasLog s (held_on index.file before) (answered_query s c) a.log → text show a.reply ≡ text show meant →
     (IsAsking c → after.reads ≤ before.reads + most_read show (if_any a.log)) → IsTaken s show index.file new opened cursors before after c a
 read_taken s show index new opened cursors before after c a why meant lawful alone reads sound meaning none hindrance logged same few = let old = index.file in record {
-  turn = record { command = c; why = why; reply = meant; log = a.log; state = state_on new after cursors; file = version_on new after };
+  turn = record { answered = record { command = c; reply = meant; log = a.log }; why = why; state = state_on new after cursors; file = held_on new after };
   is = record {
     meaning = meaning ∙ ap (λ (state : State). (let done : Step = record { reply = meant; state = state } in done)) (sym (state_still old new before after cursors reads));
     hindrance = hindrance;
     logged = logged;
-    after = subst (λ (b : Bool). IsVersionAfter s old.head (version_on old before) c b (version_on new after)) (sym none) (version_still old new before after reads);
+    after = subst (λ (b : Bool). IsVersionAfter s old.head (held_on old before) c b (held_on new after)) (sym none) (held_still old new before after reads);
     objects = record { sound = (sound_still s old new before after reads sound).1; points_are = refl; tags_are = refl };
   };
   command = refl;

@@ -14,10 +14,11 @@ use Rattle.rows_text.specs.declared.command.Command.{Command}
 use Rattle.rows_text.specs.Meaning.{Setting, State, step}
 use Rattle.rows_text.specs.Texts.{text}
 use Rattle.plain_scan.specs.OpenCursors.{OpenCursors}
-use Rattle.plain_scan.specs.Written.{IsFrontOf}
-use Rattle.plain_scan.proofs.WrittenLemmas.{front_appended}
 use Rattle.log_model.specs.declared.logs.Log.{Log}
-use Rattle.prune_log.specs.Spelling.{frame_bytes, log_bytes}
+use Rattle.answer_texts.specs.Answered.{commands_of, framed, if_any, logs_of, texts_of}
+use Rattle.answer_texts.specs.Asked.{Held}
+use Rattle.answer_texts.specs.Put.{AreCut}
+use Rattle.answer_texts.proofs.Behind.{cut_behind, framed_both}
 use Rattle.index_core.specs.Answers.{IsSoundOn}
 use Rattle.index_core.specs.Files.{OpenFile, IsLawfulFile}
 use Rattle.index_core.specs.Index.{OpenIndex, StandsAlone}
@@ -29,12 +30,12 @@ use Rattle.session_run.specs.declared.stop.Stop.TheVariants as stop
 use Rattle.session_run.specs.Pinned.{GoesOn, StandsFor}
 use Rattle.session_run.specs.Session.{Ends, Grew, HasRun, HasStopCause, HoldsNext, HoldsSome, HoldsState, IsAsking, IsCutShort, most_read, no_cursors, records_in, setting_of, state_on}
 use Rattle.session_run.specs.Steps.{HasTurned, HoldsEither, HoldsOne, IsPartlyPut, IsPut, IsStoppedAt}
-use Rattle.session_run.specs.Turns.{AreTurns, IsTurn, Turn, Version, commands_of, file_after, framed, if_any, logs_of, state_after, texts_of, version_on}
-use Rattle.session_run.proofs.Asking.{rose_more}
+use Rattle.session_run.specs.Turns.{AreTurns, IsTurn, Turn, answers_of, file_after, state_after, held_on}
 use Rattle.session_run.proofs.Reading.{objects_on}
+use Rattle.outside_io.proofs.Rising.{rose_before}
 
 -- ---- one turn more at the end
-are_more : (setting : Setting) (head : Head) (state : State) (file : Version) (turns : List Turn) (t : Turn) → AreTurns setting head state file turns →
+are_more : (setting : Setting) (head : Head) (state : State) (file : Held) (turns : List Turn) (t : Turn) → AreTurns setting head state file turns →
     IsTurn setting head (state_after state turns) (file_after file turns) t → AreTurns setting head state file (turns ++ t ∷ [])
 are_more setting head state file [] t are is = (is, tt)
 are_more setting head state file (u ∷ turns) t are is = (are.0, are_more setting head u.state u.file turns t are.1 is)
@@ -43,25 +44,21 @@ state_more : (state : State) (turns : List Turn) (t : Turn) → state_after stat
 state_more state [] t = refl
 state_more state (u ∷ turns) t = state_more u.state turns t
 
-file_more : (file : Version) (turns : List Turn) (t : Turn) → file_after file (turns ++ t ∷ []) ≡ t.file
+file_more : (file : Held) (turns : List Turn) (t : Turn) → file_after file (turns ++ t ∷ []) ≡ t.file
 file_more file [] t = refl
 file_more file (u ∷ turns) t = file_more u.file turns t
 
-commands_more : (turns : List Turn) (t : Turn) (rest : List Command) → commands_of (turns ++ t ∷ []) ++ rest ≡ commands_of turns ++ t.command ∷ rest
+commands_more : (turns : List Turn) (t : Turn) (rest : List Command) → commands_of (answers_of (turns ++ t ∷ [])) ++ rest ≡ commands_of (answers_of turns) ++ t.answered.command ∷ rest
 commands_more [] t rest = refl
-commands_more (u ∷ turns) t rest = ap (λ (l : List Command). u.command ∷ l) (commands_more turns t rest)
+commands_more (u ∷ turns) t rest = ap (λ (l : List Command). u.answered.command ∷ l) (commands_more turns t rest)
 
-texts_more : (show : Bool) (turns : List Turn) (t : Turn) → concat (texts_of show (turns ++ t ∷ [])) ≡ concat (texts_of show turns) ++ text show t.reply
-texts_more show [] t = append-nil (text show t.reply)
-texts_more show (u ∷ turns) t = ap (λ (l : List ℕ). text show u.reply ++ l) (texts_more show turns t) ∙ sym (append_assoc (text show u.reply) (concat (texts_of show turns)) (text show t.reply))
+texts_more : (show : Bool) (turns : List Turn) (t : Turn) → concat (texts_of show (answers_of (turns ++ t ∷ []))) ≡ concat (texts_of show (answers_of turns)) ++ text show t.answered.reply
+texts_more show [] t = append-nil (text show t.answered.reply)
+texts_more show (u ∷ turns) t = ap (λ (l : List ℕ). text show u.answered.reply ++ l) (texts_more show turns t) ∙ sym (append_assoc (text show u.answered.reply) (concat (texts_of show (answers_of turns))) (text show t.answered.reply))
 
-framed_both : (first second : List Log) → framed (first ++ second) ≡ framed first ++ framed second
-framed_both [] second = refl
-framed_both (log ∷ first) second = ap (λ (l : List ℕ). frame_bytes (log_bytes log) ++ l) (framed_both first second) ∙ sym (append_assoc (frame_bytes (log_bytes log)) (framed first) (framed second))
-
-logs_more : (turns : List Turn) (t : Turn) → logs_of (turns ++ t ∷ []) ≡ logs_of turns ++ if_any t.log
-logs_more [] t = append-nil (if_any t.log)
-logs_more (u ∷ turns) t = ap (λ (l : List Log). if_any u.log ++ l) (logs_more turns t) ∙ sym (append_assoc (if_any u.log) (logs_of turns) (if_any t.log))
+logs_more : (turns : List Turn) (t : Turn) → logs_of (answers_of (turns ++ t ∷ [])) ≡ logs_of (answers_of turns) ++ if_any t.answered.log
+logs_more [] t = append-nil (if_any t.answered.log)
+logs_more (u ∷ turns) t = ap (λ (l : List Log). if_any u.answered.log ++ l) (logs_more turns t) ∙ sym (append_assoc (if_any u.answered.log) (logs_of (answers_of turns)) (if_any t.answered.log))
 
 holds_more : (setting : Setting) (head : Head) (state : State) (turns : List Turn) (t : Turn) (image : List ℕ) → HoldsSome setting head state turns image → HoldsSome setting head state (turns ++ t ∷ []) image
 holds_more setting head state [] t image holds = inl holds
@@ -85,7 +82,7 @@ read_more : (show : Bool) (first second : List Log) (before mid after : ℕ) →
 read_more true first second before mid after one two = let both = records_both first second in omega (arith, both, one, two)
 read_more false first second before mid after one two = let both = records_both first second in omega (arith, both, one, two)
 
-asks_both : (turns : List Turn) (t : Turn) → AllByRecursion IsAsking (commands_of (turns ++ t ∷ [])) → AllByRecursion IsAsking (commands_of turns) × IsAsking t.command
+asks_both : (turns : List Turn) (t : Turn) → AllByRecursion IsAsking (commands_of (answers_of (turns ++ t ∷ []))) → AllByRecursion IsAsking (commands_of (answers_of turns)) × IsAsking t.answered.command
 asks_both [] t asks = (tt, asks.0)
 asks_both (u ∷ turns) t asks = let more = asks_both turns t asks.1 in ((asks.0, more.0), more.1)
 
@@ -97,22 +94,22 @@ module _ {M : Type 0} (s : Space) (show : Bool) (old : OpenIndex M) (disk0 : Dis
   abbrev pub state0 : State
   state0 = state_on old.file disk0 no_cursors
 
-  abbrev pub file0 : Version
-  file0 = version_on old.file disk0
+  abbrev pub file0 : Held
+  file0 = held_on old.file disk0
 
   -- the first commands are done, each of them a turn, and these are the others
   pub record HasDone (new : OpenIndex M) (pinned : PinnedCursors) (disk1 : DiskState) (rest : List Command) (out1 log1 : SinkState) (acknowledged : ℕ) : Type 0 where
     pub turns : List Turn
     pub cursors : OpenCursors
-    pub whole : commands ≡ commands_of turns ++ rest
+    pub whole : commands ≡ commands_of (answers_of turns) ++ rest
     pub are : AreTurns setting old.file.head state0 file0 turns
     pub state : state_after state0 turns ≡ state_on new.file disk1 cursors
-    pub file : file_after file0 turns ≡ version_on new.file disk1
+    pub file : file_after file0 turns ≡ held_on new.file disk1
     pub count : acknowledged ≡ length turns
-    pub written : Appends out0.written out1.written (concat (texts_of show turns))
-    pub logged : Appends log0.written log1.written (framed (logs_of turns))
+    pub written : Appends out0.written out1.written (concat (texts_of show (answers_of turns)))
+    pub logged : Appends log0.written log1.written (framed (logs_of (answers_of turns)))
     pub goes : GoesOn s new disk1 pinned cursors
-    pub reads : AllByRecursion IsAsking (commands_of turns) → disk1.reads ≤ disk0.reads + most_read show (logs_of turns)
+    pub reads : AllByRecursion IsAsking (commands_of (answers_of turns)) → disk1.reads ≤ disk0.reads + most_read show (logs_of (answers_of turns))
     pub moments : EachImage disk0 disk1 (HoldsSome setting old.file.head state0 turns)
 
   pub begun : (pinned : PinnedCursors) → pinned.cursors.items ≡ [] → pinned.next ≡ 0 → IsLawfulFile s.words old.file → StandsAlone old disk0 → IsSoundOn s old.file disk0 →
@@ -142,9 +139,9 @@ module _ {M : Type 0} (s : Space) (show : Bool) (old : OpenIndex M) (disk0 : Dis
     cursors = so_far.cursors
 
     -- a turn is one of the session's
-    turn_is : (t : Turn) → IsTurn (setting_of s mid.file) mid.file.head (state_on mid.file disk1 cursors) (version_on mid.file disk1) t →
+    turn_is : (t : Turn) → IsTurn (setting_of s mid.file) mid.file.head (state_on mid.file disk1 cursors) (held_on mid.file disk1) t →
         IsTurn setting old.file.head (state_after state0 so_far.turns) (file_after file0 so_far.turns) t
-    turn_is t is = rw (so_far.state, so_far.file) (subst (λ (h : Head). IsTurn (record { space = s; limit = h.limit }) h (state_on mid.file disk1 cursors) (version_on mid.file disk1) t) same_head is)
+    turn_is t is = rw (so_far.state, so_far.file) (subst (λ (h : Head). IsTurn (record { space = s; limit = h.limit }) h (state_on mid.file disk1 cursors) (held_on mid.file disk1) t) same_head is)
 
     first_is : (image : List ℕ) → HoldsState s mid.file.head (state_on mid.file disk1 cursors) image → HoldsState s old.file.head (state_after state0 so_far.turns) image
     first_is image holds = subst (λ (state : State). HoldsState s old.file.head state image) (sym so_far.state) (subst (λ (h : Head). HoldsState s h (state_on mid.file disk1 cursors) image) same_head holds)
@@ -154,18 +151,18 @@ module _ {M : Type 0} (s : Space) (show : Bool) (old : OpenIndex M) (disk0 : Dis
     one_more new after opens disk2 out2 log2 put goes = record {
       turns = so_far.turns ++ put.turn ∷ [];
       cursors = opens;
-      whole = so_far.whole ∙ ap (λ (d : Command). commands_of so_far.turns ++ d ∷ rest) (sym put.command) ∙ sym (commands_more so_far.turns put.turn rest);
+      whole = so_far.whole ∙ ap (λ (d : Command). commands_of (answers_of so_far.turns) ++ d ∷ rest) (sym put.command) ∙ sym (commands_more so_far.turns put.turn rest);
       are = are_more setting old.file.head state0 file0 so_far.turns put.turn so_far.are (turn_is put.turn put.is);
       state = state_more state0 so_far.turns put.turn ∙ put.state;
       file = file_more file0 so_far.turns put.turn ∙ put.file;
       count = let n = length-append so_far.turns (put.turn ∷ []) in omega (arith, so_far.count, n);
       written = rw (texts_more show so_far.turns put.turn) (Appends-trans out0.written out1.written out2.written _ _ so_far.written put.written);
-      logged = rw (logs_more so_far.turns put.turn, framed_both (logs_of so_far.turns) (if_any put.turn.log)) (Appends-trans log0.written log1.written log2.written _ _ so_far.logged put.logged);
+      logged = rw (logs_more so_far.turns put.turn, framed_both (logs_of (answers_of so_far.turns)) (if_any put.turn.answered.log)) (Appends-trans log0.written log1.written log2.written _ _ so_far.logged put.logged);
       goes = goes;
       reads = λ asks.
           let both = asks_both so_far.turns put.turn asks in
           rw (logs_more so_far.turns put.turn)
-          (read_more show (logs_of so_far.turns) (if_any put.turn.log) disk0.reads disk1.reads disk2.reads (so_far.reads both.0) (put.reads (subst IsAsking put.command both.1)));
+          (read_more show (logs_of (answers_of so_far.turns)) (if_any put.turn.answered.log) disk0.reads disk1.reads disk2.reads (so_far.reads both.0) (put.reads (subst IsAsking put.command both.1)));
       moments = joined disk0 disk1 disk2 (HoldsSome setting old.file.head state0 (so_far.turns ++ put.turn ∷ []))
           (weakened disk0 disk1 (HoldsSome setting old.file.head state0 so_far.turns) (HoldsSome setting old.file.head state0 (so_far.turns ++ put.turn ∷ [])) so_far.moments
           (λ image holds. holds_more setting old.file.head state0 so_far.turns put.turn image holds))
@@ -185,7 +182,7 @@ module _ {M : Type 0} (s : Space) (show : Bool) (old : OpenIndex M) (disk0 : Dis
     -- it ends at a fault
     pub stopped : (new : OpenIndex M) (disk2 : DiskState) (out2 log2 : SinkState) (why : Stop) → EachImage disk1 disk2 (HoldsEither s mid.file disk1 cursors c) →
         IsStoppedAt s show mid.file cursors disk1 c out1 out2 log1 log2 why →
-        HasRun setting old.file.head show commands state0 file0 disk0 disk2 out0 out2 log0 log2 acknowledged (Some why) (version_on new.file disk2)
+        HasRun setting old.file.head show commands state0 file0 disk0 disk2 out0 out2 log0 log2 acknowledged (Some why) (held_on new.file disk2)
     stopped new disk2 out2 log2 why moments at = record {
       turns = so_far.turns;
       more = c ∷ rest;
@@ -210,42 +207,27 @@ module _ {M : Type 0} (s : Space) (show : Bool) (old : OpenIndex M) (disk0 : Dis
       where
         Puts : Type 0
         Puts = (bytes : List ℕ) × (log_bytes : List ℕ) × Ends setting old.file.head show (state_after state0 so_far.turns) (file_after file0 so_far.turns) (c ∷ rest) (Some why) bytes log_bytes
-            × Appends out0.written out2.written (concat (texts_of show so_far.turns) ++ bytes) × Appends log0.written log2.written (framed (logs_of so_far.turns) ++ log_bytes)
+            × Appends out0.written out2.written (concat (texts_of show (answers_of so_far.turns)) ++ bytes) × Appends log0.written log2.written (framed (logs_of (answers_of so_far.turns)) ++ log_bytes)
 
         silent : Ends setting old.file.head show (state_after state0 so_far.turns) (file_after file0 so_far.turns) (c ∷ rest) (Some why) [] [] → (out2 ≡ out1) × (log2 ≡ log1) → Puts
         silent ends same = (
           [],
           [],
           ends,
-          rw (same.0, append-nil (concat (texts_of show so_far.turns))) so_far.written,
-          rw (same.1, append-nil (framed (logs_of so_far.turns))) so_far.logged,
+          rw (same.0, append-nil (concat (texts_of show (answers_of so_far.turns)))) so_far.written,
+          rw (same.1, append-nil (framed (logs_of (answers_of so_far.turns)))) so_far.logged,
         )
 
         puts : (end : Stop) → why ≡ end → IsStoppedAt s show mid.file cursors disk1 c out1 out2 log1 log2 end → Puts
         puts stop.Disk is same = silent (rw is (refl, refl)) same
         puts (stop.Damaged page) is same = silent (rw is (refl, refl)) same
         puts stop.Memory is same = silent (rw is (refl, refl)) same
-        puts stop.Sink is part = elim part.cut [
-          | inl logged ↦
-              let front = front_appended log0.written log1.written log2.written (framed (logs_of so_far.turns)) (framed (if_any part.turn.log)) so_far.logged logged.1 in (
-                [],
-                front.0,
-                rw is (cut_short part [] front.0 (inl (refl, front.1))),
-                rw (logged.0, append-nil (concat (texts_of show so_far.turns))) so_far.written,
-                front.2,
-              )
-          | inr replied ↦
-              let front = front_appended out0.written out1.written out2.written (concat (texts_of show so_far.turns)) (text show part.turn.reply) so_far.written replied.0 in (
-                front.0,
-                framed (if_any part.turn.log),
-                rw is (cut_short part front.0 (framed (if_any part.turn.log)) (inr (front.1, refl))),
-                front.2,
-                Appends-trans log0.written log1.written log2.written _ _ so_far.logged replied.1,
-              )
-        ]
+        puts stop.Sink is part =
+            let behind = cut_behind (concat (texts_of show (answers_of so_far.turns))) (framed (logs_of (answers_of so_far.turns))) (text show part.turn.answered.reply) (framed (if_any part.turn.answered.log)) out0 out1 out2 log0 log1 log2 so_far.written so_far.logged part.cut in
+            (behind.rest, behind.log_rest, rw is (cut_short part behind.rest behind.log_rest behind.cut), behind.written, behind.logged)
           where
             cut_short : (part : IsPartlyPut s show mid.file cursors disk1 c out1 out2 log1 log2) (bytes log_bytes : List ℕ) →
-                ((bytes ≡ []) × IsFrontOf log_bytes (framed (if_any part.turn.log))) ⊎ (IsFrontOf bytes (text show part.turn.reply) × (log_bytes ≡ framed (if_any part.turn.log))) →
+                AreCut (text show part.turn.answered.reply) (framed (if_any part.turn.answered.log)) bytes log_bytes →
                 IsCutShort setting old.file.head show (state_after state0 so_far.turns) (file_after file0 so_far.turns) (c ∷ rest) bytes log_bytes
             cut_short part bytes log_bytes cut = record {
               turn = part.turn;
@@ -258,7 +240,7 @@ module _ {M : Type 0} (s : Space) (show : Bool) (old : OpenIndex M) (disk0 : Dis
   -- no command is left
   pub finished : (new closed : OpenIndex M) (pinned : PinnedCursors) (disk1 : DiskState) (out1 log1 : SinkState) (acknowledged : ℕ) → new.file.head ≡ old.file.head → closed.file ≡ new.file → IsLawfulFile s.words new.file →
       StandsAlone new disk1 → HasDone new pinned disk1 [] out1 log1 acknowledged →
-      HasRun setting old.file.head show commands state0 file0 disk0 disk1 out0 out1 log0 log1 acknowledged None (version_on closed.file disk1)
+      HasRun setting old.file.head show commands state0 file0 disk0 disk1 out0 out1 log0 log1 acknowledged None (held_on closed.file disk1)
   finished new closed pinned disk1 out1 log1 acknowledged same_head same_file lawful alone done = record {
     turns = done.turns;
     more = [];
@@ -268,10 +250,10 @@ module _ {M : Type 0} (s : Space) (show : Bool) (old : OpenIndex M) (disk0 : Dis
     are = done.are;
     count = done.count;
     ends = (refl, refl, refl);
-    written = rw (append-nil (concat (texts_of show done.turns))) done.written;
-    logged = rw (append-nil (framed (logs_of done.turns))) done.logged;
-    last = λ none. ap (λ (f : OpenFile M). version_on f disk1) same_file ∙ sym done.file;
-    reads = λ none asks. done.reads (subst (AllByRecursion IsAsking) (done.whole ∙ append-nil (commands_of done.turns)) asks);
+    written = rw (append-nil (concat (texts_of show (answers_of done.turns)))) done.written;
+    logged = rw (append-nil (framed (logs_of (answers_of done.turns)))) done.logged;
+    last = λ none. ap (λ (f : OpenFile M). held_on f disk1) same_file ∙ sym done.file;
+    reads = λ none asks. done.reads (subst (AllByRecursion IsAsking) (done.whole ∙ append-nil (commands_of (answers_of done.turns))) asks);
     moments = weakened disk0 disk1 (HoldsSome setting old.file.head state0 done.turns) _ done.moments (λ image holds. inl holds);
     remains = λ image left. inl (subst (λ (state : State). HoldsState s old.file.head state image) (sym done.state)
         (subst (λ (h : Head). HoldsState s h (state_on new.file disk1 done.cursors) image) same_head
@@ -283,10 +265,10 @@ module _ {M : Type 0} (s : Space) (show : Bool) (old : OpenIndex M) (disk0 : Dis
 pub cause_since : {Sound Then : Type 0} (disk0 disk1 disk2 : DiskState) (out0 out1 out2 log0 log1 log2 : SinkState) (why : Stop) → disk0.faults ≤ disk1.faults → out0.faults ≤ out1.faults → log0.faults ≤ log1.faults →
     (Sound → Then) → HasStopCause Then disk1 disk2 out1 out2 log1 log2 why → HasStopCause Sound disk0 disk2 out0 out2 log0 log2 why
 cause_since disk0 disk1 disk2 out0 out1 out2 log0 log1 log2 stop.Sink later out_later log_later kept cause = elim cause [
-  | inl rose ↦ inl (rose_more _ _ _ out_later rose)
-  | inr rose ↦ inr (rose_more _ _ _ log_later rose)
+  | inl rose ↦ inl (rose_before _ _ _ out_later rose)
+  | inr rose ↦ inr (rose_before _ _ _ log_later rose)
 ]
-cause_since disk0 disk1 disk2 out0 out1 out2 log0 log1 log2 stop.Disk later out_later log_later kept cause = rose_more _ _ _ later cause
+cause_since disk0 disk1 disk2 out0 out1 out2 log0 log1 log2 stop.Disk later out_later log_later kept cause = rose_before _ _ _ later cause
 cause_since disk0 disk1 disk2 out0 out1 out2 log0 log1 log2 (stop.Damaged page) later out_later log_later kept cause = (cause.0, λ sound. cause.1 (kept sound))
 cause_since disk0 disk1 disk2 out0 out1 out2 log0 log1 log2 stop.Memory later out_later log_later kept cause = tt
 

@@ -1,13 +1,12 @@
 -- Cursors go through trees that stand, on whatever file.
-use Rattle.std.proofs.Common.{◌≡◌, ℕ, suc, ◌+◌, ◌≤◌, ◌<◌, List, [], ◌∷◌, ◌++◌, inl, inr, length, refl, sym, ap, subst, ◌∙◌, arith, Option, Some, None, IsSome, Err}
+use Rattle.std.proofs.Common.{◌≡◌, ℕ, ◌+◌, ◌≤◌, ◌<◌, List, [], ◌∷◌, ◌++◌, inl, inr, refl, sym, ap, subst, ◌∙◌, arith, Option, Some, None, IsSome, Err}
 use Rattle.std.specs.Prelude.{IsTrue, MatchOption, map}
-use Rattle.std.specs.List.{AllByRecursion, flat_map}
+use Rattle.std.specs.List.{AllByRecursion}
 use Rattle.metric_laws.specs.Lists.{IsIn}
 use Rattle.metric_laws.specs.Space.{Space}
 use Rattle.metric_laws.proofs.Lists.{all_in, map-in}
 use Rattle.disk_model.specs.Disk.{DiskState}
 use Rattle.node_page.specs.Opening.{page_of}
-use Rattle.tree_shape.specs.declared.entry.InnerEntry.{InnerEntry}
 use Rattle.tree_shape.specs.declared.entry.Node.{Node}
 use Rattle.tree_shape.specs.declared.live.Live.{Live}
 use Rattle.tree_shape.specs.Tree.{Nodes, IsNodePage, inner_entries, times}
@@ -17,9 +16,9 @@ use Rattle.page_store.specs.Reached.{IsReached, StandsOnPages, named_in}
 use Rattle.page_store.specs.Reached.IsReached.{at_root, by_child}
 use Rattle.page_store.specs.Reading.{node_or_none, nodes_of, reading}
 use Rattle.page_store.proofs.Named.{fewer_named}
-use Rattle.page_store.proofs.Standing.{all_each, in_times, times_in}
+use Rattle.page_store.proofs.Standing.{all_each}
 use Rattle.page_store.proofs.Whole.{stand_on_pages, stands_named}
-use Rattle.nearest_search.specs.Walks.{HasOpened, OpensBefore, WalksTo, named_of}
+use Rattle.nearest_search.specs.Walks.{OpensBefore, WalksTo, named_of}
 use Rattle.free_pages.specs.Commits.{IsGuarded}
 use Rattle.free_pages.specs.Keeping.{FreePages}
 use Rattle.pin_cursor.specs.declared.waiting.Subtree.{Subtree}

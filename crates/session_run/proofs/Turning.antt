@@ -1,6 +1,5 @@
 -- A command whose log and reply are written.
-use Rattle.std.proofs.Common.{◌≡◌, ◌⊎◌, ℕ, ◌≤◌, Bool, true, false, List, [], inl, inr, refl, sym, ap, subst, ◌∙◌, arith, Option, Some, None, Result, Ok, Err}
-use Rattle.std.specs.Prelude.{OnOk, OnErr, IfErr}
+use Rattle.std.proofs.Common.{◌≡◌, ◌⊎◌, ℕ, ◌≤◌, Bool, true, false, List, [], inl, inr, refl, sym, ap, subst, ◌∙◌, arith, Option, Some, None, Ok, Err}
 use Rattle.std.specs.Io.KnownBytes.{Appends}
 use Rattle.std.proofs.KnownBytes.{Appends-nil}
 use Rattle.outside_io.specs.Bytes.{AppendsPrefix}
@@ -15,6 +14,8 @@ use Rattle.rows_text.specs.Meaning.{State, Step, accepts, hindered, refused, ste
 use Rattle.rows_text.specs.Texts.{text}
 use Rattle.plain_scan.specs.OpenCursors.{OpenCursors}
 use Rattle.log_model.specs.declared.logs.Log.{Log}
+use Rattle.answer_texts.specs.Answered.{framed, if_any}
+use Rattle.answer_texts.specs.Put.{IsCut}
 use Rattle.index_core.specs.Index.{OpenIndex}
 use Rattle.session_run.specs.declared.answer.Answer.{Answer}
 use Rattle.session_run.specs.declared.pinned.PinnedCursors.{PinnedCursors}
@@ -22,8 +23,7 @@ use Rattle.session_run.specs.declared.stop.Stop.{Stop}
 use Rattle.session_run.specs.declared.stop.Stop.TheVariants as stop
 use Rattle.session_run.specs.Pinned.{CanGoOn}
 use Rattle.session_run.specs.Session.{Grew, HasStopCause, HoldsState, setting_of, state_on}
-use Rattle.session_run.specs.Steps.{HasCarriedOut, HasStepCause, HasTurned, HoldsEither, HoldsOne, IsCut, IsStoppedAt, IsTaken}
-use Rattle.session_run.specs.Turns.{framed, if_any}
+use Rattle.session_run.specs.Steps.{HasCarriedOut, HasStepCause, HasTurned, HoldsEither, HoldsOne, IsStoppedAt, IsTaken}
 
 -- a step has the state that is meant, or the one before
 either_state : (why : Option Refusal) (state : State) (done meant : Step) → hindered why state done ≡ meant → (meant.state ≡ done.state) ⊎ (meant.state ≡ state)
@@ -53,7 +53,7 @@ module _ {M : Type 0} (s : Space) (show : Bool) (old new : OpenIndex M) (pinned0
   taken_moments opened cursors a taken =
       weakened before after (HoldsOne s old.file.head (state_on old.file before opened) taken.turn.state) (HoldsEither s old.file before opened c) taken.moments (λ image holds. elim holds [
         | inl was ↦ inl was
-        | inr now ↦ elim (either_state taken.turn.why (state_on old.file before opened) (step (setting_of s old.file) (state_on old.file before opened) taken.turn.command) _ taken.is.meaning) [
+        | inr now ↦ elim (either_state taken.turn.why (state_on old.file before opened) (step (setting_of s old.file) (state_on old.file before opened) taken.turn.answered.command) _ taken.is.meaning) [
           | inl same ↦ inr (subst (λ (d : Command). HoldsState s old.file.head (step (setting_of s old.file) (state_on old.file before opened) d).state image) taken.command
               (subst (λ (state : State). HoldsState s old.file.head state image) same now))
           | inr same ↦ inl (subst (λ (state : State). HoldsState s old.file.head state image) same now)
@@ -178,18 +178,8 @@ module _ {M : Type 0} (s : Space) (show : Bool) (old new : OpenIndex M) (pinned0
       turn = taken.turn;
       is = taken.is;
       command = taken.command;
-      cut = subst (λ (bytes : List ℕ). IsCut out0 out1 log0 log1 bytes (framed (if_any taken.turn.log))) (is_reply ∙ taken.same_text)
+      cut = subst (λ (bytes : List ℕ). IsCut out0 out1 log0 log1 bytes (framed (if_any taken.turn.answered.log))) (is_reply ∙ taken.same_text)
           (subst (λ (bytes : List ℕ). IsCut out0 out1 log0 log1 reply bytes) (is_frame ∙ ap (λ (log : Option Log). framed (if_any log)) (sym taken.log)) cut);
     };
     moments = λ opened goes. let taken = did.taken opened goes in taken_moments opened taken.0 a taken.1;
   }
-
-  -- what was put
-  pub turned_by : (a : Answer) (reply frame : List ℕ) (out0 out1 log0 log1 : SinkState) (result : Result (Unit {0}) Stop) → HasCarriedOut s show old new pinned0 pinned1 before after c (Ok a) → reply ≡ text show a.reply →
-      frame ≡ framed (if_any a.log) → OnOk result (Appends out0.written out1.written reply) → OnOk result (Appends log0.written log1.written frame) → OnErr result (IsCut out0 out1 log0 log1 reply frame) →
-      IfErr result (λ why. why ≡ stop.Sink) → OnErr result (Rose out0.faults out1.faults ⊎ Rose log0.faults log1.faults) → out0.faults ≤ out1.faults → log0.faults ≤ log1.faults →
-      HasTurned s show old new pinned0 pinned1 before after c out0 out1 log0 log1 result
-  turned_by a reply frame out0 out1 log0 log1 (Ok done) did is_reply is_frame put framed_put cut sink rose out_later log_later =
-      turned a reply frame out0 out1 log0 log1 did is_reply is_frame put framed_put out_later log_later
-  turned_by a reply frame out0 out1 log0 log1 (Err why) did is_reply is_frame put framed_put cut sink rose out_later log_later =
-      rw sink (turned_cut a reply frame out0 out1 log0 log1 did is_reply is_frame cut out_later log_later rose)

@@ -13,6 +13,7 @@ use Rattle.rows_text.specs.declared.reply.Reply.{Reply}
 use Rattle.rows_text.specs.declared.reply.Reply.TheVariants as reply
 use Rattle.rows_text.specs.Meaning.{State, Step, accepts, hindered, step, TagsAre}
 use Rattle.plain_scan.specs.OpenCursors.{OpenCursors, with_cursors}
+use Rattle.answer_texts.specs.Asked.{HasLog, answered_query}
 use Rattle.index_core.specs.declared.faults.IndexFault.{IndexFault}
 use Rattle.index_core.specs.declared.faults.IndexFault.TheVariants as fault
 use Rattle.index_core.specs.Answers.{IsSoundOn, points_on, tags_on}
@@ -23,7 +24,7 @@ use Rattle.session_run.specs.declared.stop.Stop.{Stop}
 use Rattle.session_run.specs.declared.stop.Stop.TheVariants as stop
 use Rattle.session_run.specs.Session.{IsAsking, StandsBy, setting_of, state_on}
 use Rattle.session_run.specs.Steps.{HasStepCause, HasStepped, HoldsOne, IsTaken, answer_of_fault, plain_answer, written_answer}
-use Rattle.session_run.specs.Turns.{HasLog, Hinders, IsHindrance, IsNextVersion, IsVersionAfter, answered_query, version_on, write_of}
+use Rattle.session_run.specs.Turns.{Hinders, IsHindrance, IsNextVersion, IsVersionAfter, held_on, write_of}
 use Rattle.session_run.proofs.Reading.{objects_on, read_stepped, read_stopped, read_taken}
 
 -- a refusal leaves the file as a call that only reads does
@@ -62,7 +63,7 @@ pub record IsWriteOf {M : Type 0} (s : Space) (old : OpenIndex M) (cursors : Ope
   pub full : result ≡ Err fault.Full → step (setting_of s old.file) (state_on old.file before cursors) c ≡ record { reply = reply.Refused refusal.Full; state = state_on old.file before cursors }
   pub filled : result ≡ Err fault.NotEmpty → step (setting_of s old.file) (state_on old.file before cursors) c ≡ record { reply = reply.Refused refusal.NotEmpty; state = state_on old.file before cursors }
   pub worn : result ≡ Err fault.Worn → old.file.live.generation ≡ 2 ^ 48 - 1
-  pub room : (pages needed : ℕ) → result ≡ Err (fault.NoRoom pages needed) → IsSoundOn s old.file before → Hinders s old.file.head (version_on old.file before) refusal.NoRoom write
+  pub room : (pages needed : ℕ) → result ≡ Err (fault.NoRoom pages needed) → IsSoundOn s old.file before → Hinders s old.file.head (held_on old.file before) refusal.NoRoom write
   pub cause : IfErr result (λ why. IfErr (answer_of_fault why) (HasStepCause (IsSoundOn s old.file before) before after))
   pub stands : IfErr result (λ why. IfErr (answer_of_fault why) (StandsBy old.file.head after))
   pub accepts_says : (n : ℕ) → accepts (says n) ≡ true
@@ -111,16 +112,16 @@ module _ {M : Type 0} (s : Space) (show : Bool) (old new : OpenIndex M) (cursors
 
       taken : IsSoundOn s old.file before → IsTaken s show old.file new.file cursors cursors before after c (plain_answer (says n))
       taken sound = record {
-        turn = record { command = c; why = None; reply = says n; log = None; state = state_on new.file after cursors; file = version_on new.file after };
+        turn = record { answered = record { command = c; reply = says n; log = None }; why = None; state = state_on new.file after cursors; file = held_on new.file after };
         is = record {
           meaning = meant ∙ (λ i. record {
             reply = says (sym written.answer i);
             state = with_cursors (record { points = sym has.points_are i; tags = sym has.tags_are i }) cursors;
           });
           hindrance = tt;
-          logged = subst (λ (q : Option Query). HasLog s (version_on old.file before) q None) (sym of.unasked) refl;
-          after = subst (λ (b : Bool). IsVersionAfter s old.file.head (version_on old.file before) c b (version_on new.file after)) (sym (of.accepts_says n))
-              (subst (λ (w : Option Write). MatchOption w ⊥ (IsNextVersion s old.file.head (version_on old.file before) (version_on new.file after))) (sym of.writes) (record {
+          logged = subst (λ (q : Option Query). HasLog s (held_on old.file before) q None) (sym of.unasked) refl;
+          after = subst (λ (b : Bool). IsVersionAfter s old.file.head (held_on old.file before) c b (held_on new.file after)) (sym (of.accepts_says n))
+              (subst (λ (w : Option Write). MatchOption w ⊥ (IsNextVersion s old.file.head (held_on old.file before) (held_on new.file after))) (sym of.writes) (record {
                 generation = ap (λ (i : OpenIndex M). i.file.live.generation) written.next.is ∙ written.next.generation;
                 tree = written.tree _ _ (objects_on s old.file before sound);
               }));
@@ -138,13 +139,13 @@ module _ {M : Type 0} (s : Space) (show : Bool) (old new : OpenIndex M) (cursors
           has : HasObjects s new.file after (points_after write (points_on old.file before)) (tags_after write (tags_on old.file before))
           has = written.objects _ _ (objects_on s old.file before sound)
 
-  unlogged : answered_query s c ≡ None → HasLog s (version_on old.file before) (answered_query s c) None
-  unlogged none = subst (λ (q : Option Query). HasLog s (version_on old.file before) q None) (sym none) refl
+  unlogged : answered_query s c ≡ None → HasLog s (held_on old.file before) (answered_query s c) None
+  unlogged none = subst (λ (q : Option Query). HasLog s (held_on old.file before) q None) (sym none) refl
 
   -- it is refused, and nothing changes
   refused : (why : IndexFault) (r : Refusal) (hindrance : Option Refusal) → why ≢ fault.Commit → HasWritten s write old new before after (Err why) → IsWriteOf s old cursors before after c write says (Err why) →
       hindered hindrance (state_on old.file before cursors) (step (setting_of s old.file) (state_on old.file before cursors) c) ≡ record { reply = reply.Refused r; state = state_on old.file before cursors } →
-      (IsSoundOn s old.file before → IsHindrance s old.file.head (version_on old.file before) c hindrance) →
+      (IsSoundOn s old.file before → IsHindrance s old.file.head (held_on old.file before) c hindrance) →
       HasStepped s show old new cursors cursors before after c (Ok (plain_answer (reply.Refused r)))
   refused why r hindrance other written of meaning hinders =
       read_stepped s show old new cursors cursors before after c (plain_answer (reply.Refused r)) lawful alone (ap (λ (i : OpenIndex M). i.stopped) (written.refused other).is ∙ going) reads
@@ -185,9 +186,9 @@ module _ {M : Type 0} (s : Space) (show : Bool) (old new : OpenIndex M) (cursors
     moments = λ sound. either (Err fault.Commit) written (step (setting_of s old.file) (state_on old.file before cursors) c).state (meant_written (of.accepting (λ e. absurd (cc)) (λ e. absurd (cc)))) sound;
   }
 
-  hindrance_is : (why : Refusal) → write_of old.file.live.count c ≡ Some write → Hinders s old.file.head (version_on old.file before) why write →
-      IsHindrance s old.file.head (version_on old.file before) c (Some why)
-  hindrance_is why writes hinders = subst (λ (w : Option Write). MatchOption w ⊥ (Hinders s old.file.head (version_on old.file before) why)) (sym writes) hinders
+  hindrance_is : (why : Refusal) → write_of old.file.live.count c ≡ Some write → Hinders s old.file.head (held_on old.file before) why write →
+      IsHindrance s old.file.head (held_on old.file before) c (Some why)
+  hindrance_is why writes hinders = subst (λ (w : Option Write). MatchOption w ⊥ (Hinders s old.file.head (held_on old.file before) why)) (sym writes) hinders
 
   -- a write, whatever came of it
   pub write_stepped : (result : Result ℕ IndexFault) → HasWritten s write old new before after result → IsWriteOf s old cursors before after c write says result →

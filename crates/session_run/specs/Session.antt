@@ -15,16 +15,18 @@ use Rattle.rows_text.specs.declared.command.Command.TheVariants as command
 use Rattle.rows_text.specs.Meaning.{Setting, State, step}
 use Rattle.rows_text.specs.Texts.{text}
 use Rattle.plain_scan.specs.OpenCursors.{OpenCursors, with_cursors}
-use Rattle.plain_scan.specs.Written.{IsFrontOf}
 use Rattle.log_model.specs.declared.logs.Log.{Log}
 use Rattle.tree_shape.specs.declared.live.Live.{Live}
+use Rattle.answer_texts.specs.Answered.{commands_of, framed, if_any, logs_of, texts_of}
+use Rattle.answer_texts.specs.Asked.{Held}
+use Rattle.answer_texts.specs.Put.{AreCut}
 use Rattle.index_core.specs.Answers.{points_on, tags_on}
 use Rattle.index_core.specs.Damage.{IsDamageOf}
 use Rattle.index_core.specs.Files.{OpenFile}
 use Rattle.index_core.specs.Writing.{HoldsObjects}
 use Rattle.session_run.specs.declared.stop.Stop.{Stop}
 use Rattle.session_run.specs.declared.stop.Stop.TheVariants as stop
-use Rattle.session_run.specs.Turns.{Turn, Version, AreTurns, IsTurn, commands_of, file_after, framed, if_any, logs_of, state_after, texts_of}
+use Rattle.session_run.specs.Turns.{Turn, AreTurns, IsTurn, answers_of, file_after, state_after}
 
 -- the points of the index's space, and how many objects it may have
 abbrev pub setting_of : {M : Type 0} → Space → OpenFile M → Setting
@@ -58,16 +60,17 @@ HoldsSome setting head state (t ∷ turns) image = HoldsState setting.space head
 
 -- The command after the acknowledged ones was carried out, and a front of its log's frame was put; or all of the frame, and a front of
 -- its reply.
-pub record IsCutShort (setting : Setting) (head : Head) (show : Bool) (state : State) (file : Version) (more : List Command) (rest log_rest : List ℕ) : Type 0 where
+pub record IsCutShort (setting : Setting) (head : Head) (show : Bool) (state : State) (file : Held) (more : List Command)
+    (rest log_rest : List ℕ) : Type 0 where
   pub turn : Turn
   pub others : List Command
   pub is : IsTurn setting head state file turn
-  pub next : more ≡ turn.command ∷ others
-  pub cut : ((rest ≡ []) × IsFrontOf log_rest (framed (if_any turn.log))) ⊎ (IsFrontOf rest (text show turn.reply) × (log_rest ≡ framed (if_any turn.log)))
+  pub next : more ≡ turn.answered.command ∷ others
+  pub cut : AreCut (text show turn.answered.reply) (framed (if_any turn.answered.log)) rest log_rest
 
 -- how a session ends after the acknowledged commands: with no command left; or an output failed in the next command's frame or reply;
 -- or it was stopped before anything of them was put
-abbrev pub Ends : Setting → Head → Bool → State → Version → List Command → Option Stop → List ℕ → List ℕ → Type 0
+abbrev pub Ends : Setting → Head → Bool → State → Held → List Command → Option Stop → List ℕ → List ℕ → Type 0
 Ends setting head show state file more None rest log_rest = (more ≡ []) × (rest ≡ []) × (log_rest ≡ [])
 Ends setting head show state file more (Some stop.Sink) rest log_rest = IsCutShort setting head show state file more rest log_rest
 Ends setting head show state file more (Some why) rest log_rest = (rest ≡ []) × (log_rest ≡ [])
@@ -98,20 +101,20 @@ most_read show logs = if show then 2 * records_in logs else records_in logs
 -- What a session of these commands does on a sound file. The first commands are acknowledged: each is a turn, whose reply is put
 -- whole, and before it the frame of its log. At every moment a crash leaves the objects after some of them, or after one command
 -- more; at the end those after all acknowledged ones, or after one command more. Where all only ask, few pages were read.
-pub record HasRun (setting : Setting) (head : Head) (show : Bool) (commands : List Command) (state : State) (file : Version)
-    (disk0 disk1 : DiskState) (out0 out1 log0 log1 : SinkState) (acknowledged : ℕ) (stopped : Option Stop) (left : Version) : Type 0 where
+pub record HasRun (setting : Setting) (head : Head) (show : Bool) (commands : List Command) (state : State) (file : Held)
+    (disk0 disk1 : DiskState) (out0 out1 log0 log1 : SinkState) (acknowledged : ℕ) (stopped : Option Stop) (left : Held) : Type 0 where
   pub turns : List Turn
   pub more : List Command
   pub rest : List ℕ
   pub log_rest : List ℕ
-  pub whole : commands ≡ commands_of turns ++ more
+  pub whole : commands ≡ commands_of (answers_of turns) ++ more
   pub are : AreTurns setting head state file turns
   pub count : acknowledged ≡ length turns
   pub ends : Ends setting head show (state_after state turns) (file_after file turns) more stopped rest log_rest
-  pub written : Appends out0.written out1.written (concat (texts_of show turns) ++ rest)
-  pub logged : Appends log0.written log1.written (framed (logs_of turns) ++ log_rest)
+  pub written : Appends out0.written out1.written (concat (texts_of show (answers_of turns)) ++ rest)
+  pub logged : Appends log0.written log1.written (framed (logs_of (answers_of turns)) ++ log_rest)
   pub last : stopped ≡ None → left ≡ file_after file turns
-  pub reads : stopped ≡ None → AllByRecursion IsAsking commands → disk1.reads ≤ disk0.reads + most_read show (logs_of turns)
+  pub reads : stopped ≡ None → AllByRecursion IsAsking commands → disk1.reads ≤ disk0.reads + most_read show (logs_of (answers_of turns))
   pub moments : EachImage disk0 disk1 (λ image. HoldsSome setting head state turns image ⊎ HoldsNext setting head (state_after state turns) more image)
   pub remains : (image : List ℕ) → MayLeave disk1 image →
       HoldsState setting.space head (state_after state turns) image ⊎ HoldsNext setting head (state_after state turns) more image

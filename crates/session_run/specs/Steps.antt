@@ -2,7 +2,6 @@
 use Rattle.std.specs.Prelude.{◌≡◌, ◌⊎◌, ℕ, ◌+◌, ◌≤◌, List, length, Bool, true, false, IsTrue, Some, None, MatchOption, Result, Ok, Err, IfOk, IfErr, OnOk, OnErr}
 use Rattle.metric_laws.specs.Space.{Space}
 use Rattle.std.specs.Io.KnownBytes.{Appends}
-use Rattle.outside_io.specs.Bytes.{AppendsPrefix}
 use Rattle.outside_io.specs.Causes.{Rose}
 use Rattle.outside_io.specs.Sinks.{SinkState}
 use Rattle.disk_model.specs.Disk.{DiskState, EachImage}
@@ -19,6 +18,8 @@ use Rattle.page_store.specs.declared.pages.PageFault.TheVariants as page
 use Rattle.log_model.specs.declared.logs.Found.{Found}
 use Rattle.log_model.specs.Grammar.{IsLawfulLog}
 use Rattle.hit_tags.specs.Tags.{IsShown, object_tags}
+use Rattle.answer_texts.specs.Answered.{framed, if_any}
+use Rattle.answer_texts.specs.Put.{IsCut}
 use Rattle.index_core.specs.Answers.{IsSoundOn}
 use Rattle.index_core.specs.Files.{OpenFile, nodes_on}
 use Rattle.index_core.specs.Index.{OpenIndex}
@@ -28,7 +29,7 @@ use Rattle.session_run.specs.declared.answer.Answer.{Answer}
 use Rattle.session_run.specs.declared.pinned.PinnedCursors.{PinnedCursors}
 use Rattle.session_run.specs.declared.stop.Stop.{Stop}
 use Rattle.session_run.specs.declared.stop.Stop.TheVariants as stop
-use Rattle.session_run.specs.Turns.{Turn, IsTurn, framed, if_any, version_on}
+use Rattle.session_run.specs.Turns.{Turn, IsTurn, held_on}
 use Rattle.session_run.specs.Pinned.{AllGoThrough, AreKeptBy, CanGoOn, GoesOn, StandFor}
 use Rattle.session_run.specs.Session.{Grew, HasStopCause, HoldsState, IsAsking, IsDamage, StandsBy, most_read, setting_of, state_on}
 
@@ -72,24 +73,27 @@ HoldsOne s head first second image = HoldsState s head first image ⊎ HoldsStat
 
 -- the objects from before a command, or those after it
 abbrev pub HoldsEither : {M : Type 0} → Space → OpenFile M → DiskState → OpenCursors → Command → List ℕ → Type 0
-HoldsEither s file disk cursors c image = HoldsOne s file.head (state_on file disk cursors) (step (setting_of s file) (state_on file disk cursors) c).state image
+HoldsEither s file disk cursors c image = HoldsOne s file.head (state_on file disk cursors)
+    (step (setting_of s file) (state_on file disk cursors) c).state image
 
 -- What a command did on a sound file is a turn, whose reply has the text of the answer's; a crash within it leaves the objects before
 -- or after.
-pub record IsTaken {M : Type 0} (s : Space) (show : Bool) (old new : OpenFile M) (opened cursors : OpenCursors) (before after : DiskState) (c : Command) (answer : Answer) : Type 0 where
+pub record IsTaken {M : Type 0} (s : Space) (show : Bool) (old new : OpenFile M) (opened cursors : OpenCursors)
+    (before after : DiskState) (c : Command) (answer : Answer) : Type 0 where
   pub turn : Turn
-  pub is : IsTurn (setting_of s old) old.head (state_on old before opened) (version_on old before) turn
-  pub command : turn.command ≡ c
+  pub is : IsTurn (setting_of s old) old.head (state_on old before opened) (held_on old before) turn
+  pub command : turn.answered.command ≡ c
   pub state : turn.state ≡ state_on new after cursors
-  pub file : turn.file ≡ version_on new after
-  pub log : turn.log ≡ answer.log
-  pub same_text : text show answer.reply ≡ text show turn.reply
+  pub file : turn.file ≡ held_on new after
+  pub log : turn.answered.log ≡ answer.log
+  pub same_text : text show answer.reply ≡ text show turn.answered.reply
   pub moments : EachImage before after (HoldsOne s old.head (state_on old before opened) turn.state)
-  pub reads : IsAsking c → after.reads ≤ before.reads + most_read show (if_any turn.log)
+  pub reads : IsAsking c → after.reads ≤ before.reads + most_read show (if_any turn.answered.log)
 
 -- What one command does, where these are the cursors. On a sound file it is a turn; where it ends the session, a crash leaves the
 -- objects before or after.
-pub record HasStepped {M : Type 0} (s : Space) (show : Bool) (old new : OpenIndex M) (opened cursors : OpenCursors) (before after : DiskState) (c : Command) (result : Result Answer Stop) : Type 0 where
+pub record HasStepped {M : Type 0} (s : Space) (show : Bool) (old new : OpenIndex M) (opened cursors : OpenCursors)
+    (before after : DiskState) (c : Command) (result : Result Answer Stop) : Type 0 where
   pub going : OnOk result (new.stopped ≡ false)
   pub head : OnOk result (new.file.head ≡ old.file.head)
   pub metric : OnOk result (new.file.metric ≡ old.file.metric)
@@ -104,7 +108,8 @@ pub record HasStepped {M : Type 0} (s : Space) (show : Bool) (old new : OpenInde
 
 -- What one command does. On a sound file, where the open cursors stand for some, it is a turn of these, and afterwards the open
 -- cursors stand for those after it; where it ends the session, a crash leaves the objects before or after.
-pub record HasCarriedOut {M : Type 0} (s : Space) (show : Bool) (old new : OpenIndex M) (pinned0 pinned1 : PinnedCursors) (before after : DiskState) (c : Command) (result : Result Answer Stop) : Type 0 where
+pub record HasCarriedOut {M : Type 0} (s : Space) (show : Bool) (old new : OpenIndex M) (pinned0 pinned1 : PinnedCursors)
+    (before after : DiskState) (c : Command) (result : Result Answer Stop) : Type 0 where
   pub going : OnOk result (new.stopped ≡ false)
   pub head : OnOk result (new.file.head ≡ old.file.head)
   pub metric : OnOk result (new.file.metric ≡ old.file.metric)
@@ -122,17 +127,26 @@ pub record HasCarriedOut {M : Type 0} (s : Space) (show : Bool) (old new : OpenI
   pub moments : (opened : OpenCursors) → GoesOn s old before pinned0 opened → OnErr result (EachImage before after (HoldsEither s old.file before opened c))
 
 -- the reply has the next n hits of the cursor of this number, and the open cursors stand for those after it
-pub record HasAdvanced {M : Type 0} (s : Space) (index : OpenIndex M) (bytes : List ℕ) (pinned : PinnedCursors) (opened : OpenCursors) (number n : ℕ) (r : Reply) : Type 0 where
+pub record HasAdvanced {M : Type 0} (s : Space) (index : OpenIndex M) (bytes : List ℕ) (pinned : PinnedCursors)
+    (opened : OpenCursors) (number n : ℕ) (r : Reply) : Type 0 where
   pub cursors : OpenCursors
   pub stand : StandFor s index bytes pinned cursors
   pub meaning : (objects : Holdings) →
-      next_from (with_cursors objects opened) number n (cursor_named number (with_cursors objects opened)) ≡ record { reply = r; state = with_cursors objects cursors }
+      next_from (with_cursors objects opened) number n (cursor_named number (with_cursors objects opened)) ≡ record {
+        reply = r;
+        state = with_cursors objects cursors;
+      }
 
 -- the cursor of this number is closed, if there is one, and the open cursors stand for the others
-pub record HasClosed {M : Type 0} (s : Space) (index : OpenIndex M) (bytes : List ℕ) (pinned : PinnedCursors) (opened : OpenCursors) (number : ℕ) (r : Reply) : Type 0 where
+pub record HasClosed {M : Type 0} (s : Space) (index : OpenIndex M) (bytes : List ℕ) (pinned : PinnedCursors)
+    (opened : OpenCursors) (number : ℕ) (r : Reply) : Type 0 where
   pub cursors : OpenCursors
   pub stand : StandFor s index bytes pinned cursors
-  pub meaning : (objects : Holdings) → close_from (with_cursors objects opened) number (cursor_named number (with_cursors objects opened)) ≡ record { reply = r; state = with_cursors objects cursors }
+  pub meaning : (objects : Holdings) →
+      close_from (with_cursors objects opened) number (cursor_named number (with_cursors objects opened)) ≡ record {
+        reply = r;
+        state = with_cursors objects cursors;
+      }
 
 -- what was found is answered with its tags, where they are shown, and with its log
 pub record IsShownAs {M : Type 0} (s : Space) (show : Bool) (file : OpenFile M) (found : Found) (disk : DiskState) (answer : Answer) : Type 0 where
@@ -145,30 +159,26 @@ pub record IsShownAs {M : Type 0} (s : Space) (show : Bool) (file : OpenFile M) 
 pub record IsPut {M : Type 0} (s : Space) (show : Bool) (old new : OpenFile M) (opened cursors : OpenCursors) (before after : DiskState) (c : Command)
     (out0 out1 log0 log1 : SinkState) : Type 0 where
   pub turn : Turn
-  pub is : IsTurn (setting_of s old) old.head (state_on old before opened) (version_on old before) turn
-  pub command : turn.command ≡ c
+  pub is : IsTurn (setting_of s old) old.head (state_on old before opened) (held_on old before) turn
+  pub command : turn.answered.command ≡ c
   pub state : turn.state ≡ state_on new after cursors
-  pub file : turn.file ≡ version_on new after
-  pub written : Appends out0.written out1.written (text show turn.reply)
-  pub logged : Appends log0.written log1.written (framed (if_any turn.log))
+  pub file : turn.file ≡ held_on new after
+  pub written : Appends out0.written out1.written (text show turn.answered.reply)
+  pub logged : Appends log0.written log1.written (framed (if_any turn.answered.log))
   pub moments : EachImage before after (HoldsOne s old.head (state_on old before opened) turn.state)
-  pub reads : IsAsking c → after.reads ≤ before.reads + most_read show (if_any turn.log)
-
--- what was put of a reply with this text and of a log with this frame: a front of the frame, or the frame and a front of the text
-abbrev pub IsCut : SinkState → SinkState → SinkState → SinkState → List ℕ → List ℕ → Type 0
-IsCut out0 out1 log0 log1 reply frame =
-    ((out1 ≡ out0) × AppendsPrefix log0.written log1.written frame) ⊎ (AppendsPrefix out0.written out1.written reply × Appends log0.written log1.written frame)
+  pub reads : IsAsking c → after.reads ≤ before.reads + most_read show (if_any turn.answered.log)
 
 -- a turn was put in part
 pub record IsPartlyPut {M : Type 0} (s : Space) (show : Bool) (old : OpenFile M) (opened : OpenCursors) (before : DiskState) (c : Command)
     (out0 out1 log0 log1 : SinkState) : Type 0 where
   pub turn : Turn
-  pub is : IsTurn (setting_of s old) old.head (state_on old before opened) (version_on old before) turn
-  pub command : turn.command ≡ c
-  pub cut : IsCut out0 out1 log0 log1 (text show turn.reply) (framed (if_any turn.log))
+  pub is : IsTurn (setting_of s old) old.head (state_on old before opened) (held_on old before) turn
+  pub command : turn.answered.command ≡ c
+  pub cut : IsCut out0 out1 log0 log1 (text show turn.answered.reply) (framed (if_any turn.answered.log))
 
 -- what stands on the outputs after a command at which the session stops
-abbrev pub IsStoppedAt : {M : Type 0} → Space → Bool → OpenFile M → OpenCursors → DiskState → Command → SinkState → SinkState → SinkState → SinkState → Stop → Type 0
+abbrev pub IsStoppedAt : {M : Type 0} → Space → Bool → OpenFile M → OpenCursors → DiskState → Command → SinkState → SinkState →
+    SinkState → SinkState → Stop → Type 0
 IsStoppedAt s show old opened before c out0 out1 log0 log1 stop.Sink = IsPartlyPut s show old opened before c out0 out1 log0 log1
 IsStoppedAt s show old opened before c out0 out1 log0 log1 why = (out1 ≡ out0) × (log1 ≡ log0)
 
@@ -190,6 +200,7 @@ pub record HasTurned {M : Type 0} (s : Space) (show : Bool) (old new : OpenIndex
   pub stands : AllGoThrough old before pinned0 → IfErr result (StandsBy old.file.head after)
   pub through : AllGoThrough old before pinned0 → OnOk result (AllGoThrough new after pinned1)
   pub put : (opened : OpenCursors) → GoesOn s old before pinned0 opened →
-      OnOk result ((cursors : OpenCursors) × IsPut s show old.file new.file opened cursors before after c out0 out1 log0 log1 × GoesOn s new after pinned1 cursors)
+      OnOk result ((cursors : OpenCursors) × IsPut s show old.file new.file opened cursors before after c out0 out1 log0 log1
+      × GoesOn s new after pinned1 cursors)
   pub stopped : (opened : OpenCursors) → GoesOn s old before pinned0 opened → IfErr result (IsStoppedAt s show old.file opened before c out0 out1 log0 log1)
   pub moments : (opened : OpenCursors) → GoesOn s old before pinned0 opened → OnErr result (EachImage before after (HoldsEither s old.file before opened c))

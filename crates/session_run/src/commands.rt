@@ -35,7 +35,8 @@ fn execute<R: Threads + Sync, M: Metric, D: Disk>(
     requires readable { IsReadable (M.space index.old.file.metric).words command.now }
     requires points { IsTrue (has_points_of (M.space index.old.file.metric) command.now) }
     ensures stands { MayGoOn index.new (D.state disk.new) }
-    ensures done { HasCarriedOut (M.space index.old.file.metric) show index.old index.new cursors.old cursors.new (D.state disk.old) (D.state disk.new) command.now result }
+    ensures done { HasCarriedOut (M.space index.old.file.metric) show index.old index.new cursors.old cursors.new
+        (D.state disk.old) (D.state disk.new) command.now result }
 {
     index.is_lawful();
     match command {
@@ -76,7 +77,8 @@ pub fn step<R: Threads + Sync, M: Metric, D: Disk>(
     requires kept { AreKeptBy (M.space index.old.file.metric) index.old cursors.old }
     requires readable { IsReadable (M.space index.old.file.metric).words command.now }
     ensures stands { MayGoOn index.new (D.state disk.new) }
-    ensures done { HasCarriedOut (M.space index.old.file.metric) show index.old index.new cursors.old cursors.new (D.state disk.old) (D.state disk.new) command.now result }
+    ensures done { HasCarriedOut (M.space index.old.file.metric) show index.old index.new cursors.old cursors.new
+        (D.state disk.old) (D.state disk.new) command.now result }
 {
     index.is_lawful();
     if !has_points_of(&index.metric(), command) {

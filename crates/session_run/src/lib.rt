@@ -12,8 +12,5 @@ mod stop;
 pub use running::{Ended, session};
 pub use stop::Stop;
 
-/// Want of memory.
-pub type Memory = std::alloc::AllocError;
-
 #[cfg(test)]
 mod tests;

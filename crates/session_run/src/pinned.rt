@@ -73,15 +73,20 @@ fn step_cursor<M: Metric, D: Disk>(
     ensures point { cursor.new.point ≡ cursor.old.point }
     ensures given { IfOk result (λ stepped. cursor.new.given ≡ cursor.old.given + length stepped.hits) }
     ensures each { IfOk result (λ stepped. length stepped.tags ≡ length stepped.hits) }
-    ensures walks { IfOk result (λ _. IsTrue (D.state disk.old).tells → IsWalked (nodes_of (reading index.now.file.head.dim cursor.old.live.pages (D.state disk.old).bytes)) cursor.old →
+    ensures walks { IfOk result (λ _. IsTrue (D.state disk.old).tells →
+        IsWalked (nodes_of (reading index.now.file.head.dim cursor.old.live.pages (D.state disk.old).bytes)) cursor.old →
         IsWalked (nodes_of (reading index.now.file.head.dim cursor.old.live.pages (D.state disk.old).bytes)) cursor.new) }
     ensures unchanged { OnErr result (cursor.new ≡ cursor.old) }
-    ensures gives { IfOk result (λ stepped. (nodes : Nodes) → IsTrue (D.state disk.old).tells → IsSoundTree (M.space index.now.file.metric) nodes cursor.old.live →
+    ensures gives { IfOk result (λ stepped. (nodes : Nodes) → IsTrue (D.state disk.old).tells →
+        IsSoundTree (M.space index.now.file.metric) nodes cursor.old.live →
         HoldsTree index.now.file.head.dim nodes cursor.old.live (D.state disk.old).bytes → IsCursorOn (M.space index.now.file.metric) nodes cursor.old →
         GivesNext (M.space index.now.file.metric) nodes cursor.old cursor.new n stepped.hits stepped.tags) }
-    ensures sound { IfErr result (λ fault. (nodes : Nodes) → IsTrue (D.state disk.old).tells → IsSoundTree (M.space index.now.file.metric) nodes cursor.old.live →
-        HoldsTree index.now.file.head.dim nodes cursor.old.live (D.state disk.old).bytes → IsCursorOn (M.space index.now.file.metric) nodes cursor.old → IsPassing fault) }
-    ensures cause { IfErr result (λ fault. (asked : ℕ) × HasPageCause cursor.old (disk_shelf false index.now.file.head.dim cursor.old.live.pages (D.state disk.old) 0)
+    ensures sound { IfErr result (λ fault. (nodes : Nodes) → IsTrue (D.state disk.old).tells →
+        IsSoundTree (M.space index.now.file.metric) nodes cursor.old.live →
+        HoldsTree index.now.file.head.dim nodes cursor.old.live (D.state disk.old).bytes →
+        IsCursorOn (M.space index.now.file.metric) nodes cursor.old → IsPassing fault) }
+    ensures cause { IfErr result (λ fault. (asked : ℕ)
+        × HasPageCause cursor.old (disk_shelf false index.now.file.head.dim cursor.old.live.pages (D.state disk.old) 0)
         (disk_shelf false index.now.file.head.dim cursor.old.live.pages (D.state disk.new) asked) fault) }
 {
     index.is_lawful();
@@ -185,7 +190,8 @@ impl PinnedCursors {
         requires numbers { self.old.next + 1 < 2 ^ 32 }
         requires kept { AreKeptBy (M.space index.old.file.metric) index.old self.old }
         ensures stands { MayGoOn index.new (D.state disk.new) }
-        ensures done { HasCarriedOut (M.space index.old.file.metric) show index.old index.new self.old self.new (D.state disk.old) (D.state disk.new) (command.Cursor q.now) result }
+        ensures done { HasCarriedOut (M.space index.old.file.metric) show index.old index.new self.old self.new (D.state disk.old)
+            (D.state disk.new) (command.Cursor q.now) result }
     {
         index.is_lawful();
         sound_trees_are_whole();
@@ -228,9 +234,11 @@ impl PinnedCursors {
         ensures kept { AreKeptBy (M.space index.now.file.metric) index.now self.new }
         ensures next { self.new.next ≡ self.old.next }
         ensures tagged { IfOk result TagsAre }
-        ensures advanced { IfOk result (λ reply. (opened : OpenCursors) → IsTrue (D.state disk.old).tells → StandFor (M.space index.now.file.metric) index.now (D.state disk.old).bytes self.old opened →
+        ensures advanced { IfOk result (λ reply. (opened : OpenCursors) → IsTrue (D.state disk.old).tells →
+            StandFor (M.space index.now.file.metric) index.now (D.state disk.old).bytes self.old opened →
             HasAdvanced (M.space index.now.file.metric) index.now (D.state disk.new).bytes self.new opened number n reply) }
-        ensures cause { IfErr result (HasStepCause (CanGoOn (M.space index.now.file.metric) index.now (D.state disk.old) self.old) (D.state disk.old) (D.state disk.new)) }
+        ensures cause { IfErr result (HasStepCause (CanGoOn (M.space index.now.file.metric) index.now (D.state disk.old) self.old)
+            (D.state disk.old) (D.state disk.new)) }
         ensures damage { IfErr result (λ why. AllGoThrough index.now (D.state disk.old) self.old → StandsBy index.now.file.head (D.state disk.new) why) }
         ensures through { OnOk result (AllGoThrough index.now (D.state disk.old) self.old → AllGoThrough index.now (D.state disk.new) self.new) }
     {
@@ -278,7 +286,8 @@ impl PinnedCursors {
         ensures next { self.new.next ≡ self.old.next }
         ensures tagged { TagsAre result }
         ensures beside { (nodes : Nodes) → LiesBesideTree nodes index.old → LiesBesideTree nodes index.new }
-        ensures through { (bytes : List ℕ) → AllByRecursion (GoesThrough index.old bytes) self.old.cursors.items → AllByRecursion (GoesThrough index.new bytes) self.new.cursors.items }
+        ensures through { (bytes : List ℕ) → AllByRecursion (GoesThrough index.old bytes) self.old.cursors.items →
+            AllByRecursion (GoesThrough index.new bytes) self.new.cursors.items }
         ensures closed { (bytes : List ℕ) (opened : OpenCursors) → StandFor (M.space index.old.file.metric) index.old bytes self.old opened →
             HasClosed (M.space index.old.file.metric) index.new bytes self.new opened number result }
     {

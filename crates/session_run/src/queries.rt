@@ -31,7 +31,8 @@ fn found_answer<M: Metric, D: Disk>(
     ensures reads { OnlyReads index.old.file index.new.file (D.state disk.old) (D.state disk.new) }
     ensures rest { index.new ≡ record index.old { file = index.new.file } }
     ensures answer { IfOk result (IsShownAs (M.space index.old.file.metric) show index.old.file found (D.state disk.old)) }
-    ensures cause { IfErr result (HasStepCause (IsSoundOn (M.space index.old.file.metric) index.old.file (D.state disk.old)) (D.state disk.old) (D.state disk.new)) }
+    ensures cause { IfErr result (HasStepCause (IsSoundOn (M.space index.old.file.metric) index.old.file (D.state disk.old))
+        (D.state disk.old) (D.state disk.new)) }
     ensures damage { IfErr result (StandsBy index.old.file.head (D.state disk.new)) }
     ensures few { (D.state disk.new).reads ≤ (D.state disk.old).reads + (if show then length found.log.records else 0) }
 {
@@ -67,7 +68,8 @@ pub fn range<M: Metric, D: Disk>(
     ensures reads { OnlyReads index.old.file index.new.file (D.state disk.old) (D.state disk.new) }
     ensures rest { index.new ≡ record index.old { file = index.new.file } }
     ensures stepped { (cursors : OpenCursors) →
-        HasStepped (M.space index.old.file.metric) show index.old index.new cursors cursors (D.state disk.old) (D.state disk.new) (command.Range r q.now) result }
+        HasStepped (M.space index.old.file.metric) show index.old index.new cursors cursors (D.state disk.old) (D.state disk.new)
+        (command.Range r q.now) result }
 {
     index.is_lawful();
     match index.range(alloc, disk, q.as_slice(), r) {
@@ -93,7 +95,8 @@ pub fn nearest<M: Metric, D: Disk>(
     ensures reads { OnlyReads index.old.file index.new.file (D.state disk.old) (D.state disk.new) }
     ensures rest { index.new ≡ record index.old { file = index.new.file } }
     ensures stepped { (cursors : OpenCursors) →
-        HasStepped (M.space index.old.file.metric) show index.old index.new cursors cursors (D.state disk.old) (D.state disk.new) (command.Nearest k q.now) result }
+        HasStepped (M.space index.old.file.metric) show index.old index.new cursors cursors (D.state disk.old) (D.state disk.new)
+        (command.Nearest k q.now) result }
 {
     index.is_lawful();
     match index.nearest(alloc, disk, q.as_slice(), k) {

@@ -1,28 +1,21 @@
-ghost use Rattle.std.specs.Prelude.{◌≡◌, ◌≤◌, ◌<◌, ◌+◌, ◌^◌, ◌⊎◌, length, false, true, All, IfOk, IfErr, OnOk, OnErr, MatchOption, None};
-ghost use Rattle.std.specs.Io.KnownBytes.{Appends};
-ghost use Rattle.outside_io.specs.Causes.{Rose};
-ghost use Rattle.rows_text.specs.Meaning.{TagsAre};
+ghost use Rattle.std.specs.Prelude.{◌≡◌, ◌≤◌, ◌<◌, ◌+◌, ◌^◌, length, false, All, MatchOption, None};
 ghost use Rattle.rows_text.specs.Readable.{IsReadable};
-ghost use Rattle.rows_text.specs.Texts.{text};
-ghost use Rattle.log_model.specs.Grammar.{IsLawfulLog};
 ghost use Rattle.index_core.specs.Answers.{IsSoundOn};
 ghost use Rattle.index_core.specs.Index.{MayGoOn};
 ghost use Rattle.session_run.specs.Pinned.{AreKeptBy};
 ghost use Rattle.session_run.specs.Session.{Grew, HasRun, HasStopCause, StandsBy, no_cursors, setting_of, state_on};
-ghost use Rattle.session_run.specs.Steps.{HasTurned, IsCut};
-ghost use Rattle.session_run.specs.Turns.{framed, if_any, version_on};
+ghost use Rattle.session_run.specs.Steps.{HasTurned};
+ghost use Rattle.session_run.specs.Turns.{held_on};
 
-use crate::Memory;
-use crate::answer::Answer;
 use crate::commands::step;
 use crate::pinned::PinnedCursors;
 use crate::stop::Stop;
+use answer_texts::texts_of;
 use disk_model::Disk;
 use index_core::Index;
 use metric_laws::Metric;
 use outside_io::Sink;
-use prune_log::{encode_log, frame};
-use rows_text::{Command, reply_text};
+use rows_text::Command;
 use std::alloc::Global;
 use std::thread::Threads;
 
@@ -34,51 +27,6 @@ pub struct Ended {
 
     /// Why it ended before its script did.
     pub stopped: Option<Stop>,
-}
-
-// What is written for a command: the text of its reply, and the frame of its log, which is empty where there is none.
-#[derive(Drop)]
-struct Texts {
-    reply: Vec<u8>,
-    frame: Vec<u8>,
-}
-
-fn texts_of(alloc: Global, answer: &Answer, show: bool) -> Result<Texts, Memory>
-    requires spelled { MatchOption answer.now.log (Unit {0}) IsLawfulLog }
-    requires tagged { show ≡ true → TagsAre answer.now.reply }
-    ensures reply { IfOk result (λ texts. texts.reply.items ≡ text show answer.now.reply) }
-    ensures frame { IfOk result (λ texts. texts.frame.items ≡ framed (if_any answer.now.log)) }
-{
-    let mut reply = Vec::new(alloc);
-    reply_text(&answer.reply, show, &mut reply)?;
-    let mut framed = Vec::new(alloc);
-    if let Some(log) = &answer.log {
-        let bytes = encode_log(alloc, log)?;
-        frame(&bytes, &mut framed)?;
-    }
-    Ok(Texts {
-        reply,
-        frame: framed,
-    })
-}
-
-// Puts the frame of a log, where there is one, and then the text of the reply.
-fn put_texts<K: Sink, T: Sink>(texts: &Texts, out: &mut K, log_out: &mut T) -> Result<(), Stop>
-    ensures reply { OnOk result (Appends (K.state out.old).written (K.state out.new).written texts.now.reply.items) }
-    ensures frame { OnOk result (Appends (T.state log_out.old).written (T.state log_out.new).written texts.now.frame.items) }
-    ensures cut { OnErr result (IsCut (K.state out.old) (K.state out.new) (T.state log_out.old) (T.state log_out.new) texts.now.reply.items texts.now.frame.items) }
-    ensures sink { IfErr result (λ why. why ≡ Stop.Sink) }
-    ensures rose { OnErr result (Rose (K.state out.old).faults (K.state out.new).faults ⊎ Rose (T.state log_out.old).faults (T.state log_out.new).faults) }
-    ensures later { (K.state out.old).faults ≤ (K.state out.new).faults }
-    ensures log_later { (T.state log_out.old).faults ≤ (T.state log_out.new).faults }
-{
-    if !texts.frame.is_empty() && log_out.put(&texts.frame).is_err() {
-        return Err(Stop::Sink);
-    }
-    match out.put(&texts.reply) {
-        Ok(()) => Ok(()),
-        Err(_) => Err(Stop::Sink),
-    }
 }
 
 // Does one command, and writes the frame of its log and its reply.
@@ -99,7 +47,8 @@ fn turn<R: Threads + Sync, M: Metric, D: Disk, K: Sink, T: Sink>(
     requires kept { AreKeptBy (M.space index.old.file.metric) index.old cursors.old }
     requires readable { IsReadable (M.space index.old.file.metric).words command.now }
     ensures stands { MayGoOn index.new (D.state disk.new) }
-    ensures turned { HasTurned (M.space index.old.file.metric) show index.old index.new cursors.old cursors.new (D.state disk.old) (D.state disk.new) command.now
+    ensures turned { HasTurned (M.space index.old.file.metric) show index.old index.new cursors.old cursors.new (D.state disk.old)
+        (D.state disk.new) command.now
         (K.state out.old) (K.state out.new) (T.state log_out.old) (T.state log_out.new) result }
 {
     index.is_lawful();
@@ -107,11 +56,13 @@ fn turn<R: Threads + Sync, M: Metric, D: Disk, K: Sink, T: Sink>(
         Ok(answer) => answer,
         Err(why) => return Err(why),
     };
-    let texts = match texts_of(alloc, &answer, show) {
-        Ok(texts) => texts,
-        Err(_) => return Err(Stop::Memory),
+    let Ok(texts) = texts_of(alloc, &answer.reply, &answer.log, show) else {
+        return Err(Stop::Memory);
     };
-    put_texts(&texts, out, log_out)
+    match texts.put(out, log_out) {
+        Ok(()) => Ok(()),
+        Err(_) => Err(Stop::Sink),
+    }
 }
 
 /// Does each command of a script in turn on an index, and writes its reply to `out`, in one put and after its commit. A query
@@ -141,9 +92,9 @@ pub fn session<R: Threads + Sync, M: Metric, D: Disk, K: Sink, T: Sink>(
     ensures stands { MayGoOn index.new (D.state disk.new) }
     ensures run { IsSoundOn (M.space index.old.file.metric) index.old.file (D.state disk.old) →
         HasRun (setting_of (M.space index.old.file.metric) index.old.file) index.old.file.head show commands.now
-        (state_on index.old.file (D.state disk.old) no_cursors) (version_on index.old.file (D.state disk.old))
+        (state_on index.old.file (D.state disk.old) no_cursors) (held_on index.old.file (D.state disk.old))
         (D.state disk.old) (D.state disk.new) (K.state out.old) (K.state out.new) (T.state log_out.old) (T.state log_out.new)
-        result.acknowledged result.stopped (version_on index.new.file (D.state disk.new)) }
+        result.acknowledged result.stopped (held_on index.new.file (D.state disk.new)) }
     ensures going { result.stopped ≡ None → index.new.stopped ≡ false }
     ensures head { result.stopped ≡ None → index.new.file.head ≡ index.old.file.head }
     ensures cause { MatchOption result.stopped (Unit {0}) (HasStopCause (IsSoundOn (M.space index.old.file.metric) index.old.file (D.state disk.old))

@@ -42,7 +42,8 @@ IsOldPage live p = (p ≡ 0) ⊎ IsWithin live.pages p
 -- it had the same in each.
 abbrev pub KeepsOthers : Live → List StagedNode → DiskState → List ℕ → Type 0
 KeepsOthers live staged start file =
-    (p : ℕ) (bytes : List ℕ) → IsOldPage live p → IsNotStaged staged p → ((image : List ℕ) → MayLeave start image → page_of image p ≡ bytes) → page_of file p ≡ bytes
+    (p : ℕ) (bytes : List ℕ) → IsOldPage live p → IsNotStaged staged p →
+    ((image : List ℕ) → MayLeave start image → page_of image p ≡ bytes) → page_of file p ≡ bytes
 
 -- no longer than the next tree's pages and the longest file at the start
 abbrev pub IsNoLonger : Live → DiskState → List ℕ → Type 0
@@ -94,7 +95,8 @@ IsFromRewritten staged start file = (image : List ℕ) × MayLeave start image �
 -- the file is an image of the start, or one in which this place, which read open where the disk tells its bytes, was
 -- written
 abbrev pub IsFromClosed : ℕ → DiskState → List ℕ → Type 0
-IsFromClosed gate start file = (image : List ℕ) × MayLeave start image × ((file ≡ image) ⊎ ((IsTrue start.tells → slice_index start.bytes gate ≡ 165) × Torn gate 1 image file))
+IsFromClosed gate start file = (image : List ℕ) × MayLeave start image
+    × ((file ≡ image) ⊎ ((IsTrue start.tells → slice_index start.bytes gate ≡ 165) × Torn gate 1 image file))
 
 -- a slot's page has these fields behind its gate
 pub record HasFields (page : List ℕ) (live : Live) : Type 0 where
@@ -107,7 +109,8 @@ pub record HasFields (page : List ℕ) (live : Live) : Type 0 where
 
 -- no longer than the slots, the staged pages and the longest file at the start
 abbrev pub StaysWithin : List StagedNode → DiskState → List ℕ → Type 0
-StaysWithin staged start file = (most : ℕ) → 12288 ≤ most → HasRoom staged most → ((image : List ℕ) → MayLeave start image → length image ≤ most) → length file ≤ most
+StaysWithin staged start file = (most : ℕ) → 12288 ≤ most → HasRoom staged most →
+    ((image : List ℕ) → MayLeave start image → length image ≤ most) → length file ≤ most
 
 -- as before the commit
 pub record IsKept (dim : ℕ) (live : Live) (staged : List StagedNode) (start : DiskState) (file : List ℕ) : Type 0 where

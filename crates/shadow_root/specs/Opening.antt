@@ -33,7 +33,8 @@ HasOpenCause old new Slot = IsTrue old.tells → open_fault old.bytes ≡ Some B
 -- the side of the live slot, by what is open and the generations
 abbrev pub side_of : Bool → Bool → ℕ → ℕ → Result Side OpenFault
 side_of o0 o1 g0 g1 =
-    if not o0 && not o1 then Err Unfinished else (if o0 && o1 && (g0 == g1) then Err TwoRoots else Ok (if o0 && (not o1 || nat_lt g1 g0) then First else Second))
+    if not o0 && not o1 then Err Unfinished
+    else (if o0 && o1 && (g0 == g1) then Err TwoRoots else Ok (if o0 && (not o1 || nat_lt g1 g0) then First else Second))
 
 -- the number of a side
 abbrev pub number_of : Side → ℕ

@@ -36,8 +36,10 @@ abbrev pub KeepsBytes : Live → List StagedNode → List ℕ → List ℕ → T
 KeepsBytes t staged old file = (page : ℕ) → IsOldPage t page → IsNotStaged staged page → page_of file page ≡ page_of old page
 
 -- a commit that began on a disk that left one file keeps the bytes of that file
-pub alone_keeps : (t : Live) (staged : List StagedNode) (start : DiskState) (file : List ℕ) → LeavesOnly start start.bytes → KeepsOthers t staged start file → KeepsBytes t staged start.bytes file
-alone_keeps t staged start file only others page old none = others page (page_of start.bytes page) old none (λ image left. ap (λ (bytes : List ℕ). page_of bytes page) (only image left))
+pub alone_keeps : (t : Live) (staged : List StagedNode) (start : DiskState) (file : List ℕ) → LeavesOnly start start.bytes →
+    KeepsOthers t staged start file → KeepsBytes t staged start.bytes file
+alone_keeps t staged start file only others page old none = others page (page_of start.bytes page) old none (λ image left.
+    ap (λ (bytes : List ℕ). page_of bytes page) (only image left))
 
 -- in a file with the staged nodes in place, and with the other pages as they were, the staged nodes are written over the old file
 abbrev pub InPlaceIsWritten : Type 0
@@ -49,7 +51,8 @@ InPlaceIsWritten =
 -- a file that opens to the next live slot and has the old page 0 has the old head
 abbrev pub CommitsKeepHead : Type 0
 CommitsKeepHead =
-    (dim : ℕ) (head : Head) (t next : Live) (staged : List StagedNode) (old file : List ℕ) → OpensTo old head t → IsStagedFor dim t next staged → KeepsBytes t staged old file → HasLive next file →
+    (dim : ℕ) (head : Head) (t next : Live) (staged : List StagedNode) (old file : List ℕ) → OpensTo old head t →
+    IsStagedFor dim t next staged → KeepsBytes t staged old file → HasLive next file →
     OpensTo file head next
 
 -- the tree is sound, and these are its points and tags in order of id

@@ -26,8 +26,10 @@ const FIRST: Live = Live {
 fn write_page<D: Disk>(disk: &mut D, number: u32, page: &[u8; 4096]) -> Result<(), Failed>
     requires { number < 2 ^ 24 }
     ensures page { OnOk result (IsTrue (D.state disk.old).tells → page_of (D.state disk.new).bytes number ≡ page.now) }
-    ensures others { OnOk result (IsTrue (D.state disk.old).tells → (q : ℕ) → q ≢ number → page_of (D.state disk.new).bytes q ≡ page_of (D.state disk.old).bytes q) }
-    ensures size { OnOk result (IsTrue (D.state disk.old).tells → length (D.state disk.new).bytes ≡ max (length (D.state disk.old).bytes) (4096 * number + 4096)) }
+    ensures others { OnOk result (IsTrue (D.state disk.old).tells → (q : ℕ) → q ≢ number →
+        page_of (D.state disk.new).bytes q ≡ page_of (D.state disk.old).bytes q) }
+    ensures size { OnOk result (IsTrue (D.state disk.old).tells →
+        length (D.state disk.new).bytes ≡ max (length (D.state disk.old).bytes) (4096 * number + 4096)) }
     ensures tells { (D.state disk.new).tells ≡ (D.state disk.old).tells }
     ensures reads { (D.state disk.new).reads ≡ (D.state disk.old).reads }
     ensures cause { HasCause (D.state disk.old).faults (D.state disk.new).faults result }

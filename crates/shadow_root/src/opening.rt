@@ -79,7 +79,8 @@ fn is_lawful(limit: u32, size: u64, live: &Live) -> bool
 fn live_in(page: &[u8; 4096], side: u8, limit: u32, size: u64) -> Result<Live, OpenFault>
     ensures spelled { IfOk result (λ live. (slot : Slot) × SpellsSlot page.now slot × (live ≡ live_at side slot)) }
     ensures lawful { IfOk result (IsLawfulLive limit size) }
-    ensures fault { IfErr result (λ fault. (fault ≡ OpenFault.Slot) × ((is_clear page.now && is_lawful_live limit size (live_at side (slot_of page.now))) ≡ false)) }
+    ensures fault { IfErr result (λ fault. (fault ≡ OpenFault.Slot)
+        × ((is_clear page.now && is_lawful_live limit size (live_at side (slot_of page.now))) ≡ false)) }
 {
     let slot = match decode_slot(page) {
         Some(slot) => slot,
@@ -116,7 +117,8 @@ fn live_of(
 fn read_live<D: Disk>(disk: &mut D, limit: u32, size: u64) -> Result<Live, OpenFault>
     ensures lawful { IfOk result (IsLawfulLive limit size) }
     ensures side { IfOk result (λ live. live.side ≤ 1) }
-    ensures ok { IfOk result (λ live. IsTrue (D.state disk.old).tells → IsOf limit size (D.state disk.old).bytes → LeadsTo limit size live (D.state disk.old).bytes) }
+    ensures ok { IfOk result (λ live. IsTrue (D.state disk.old).tells → IsOf limit size (D.state disk.old).bytes →
+        LeadsTo limit size live (D.state disk.old).bytes) }
     ensures fault { IfErr result (HasSlotCause limit size (D.state disk.old) (D.state disk.new)) }
     ensures same { IsUnchanged (D.state disk.old) (D.state disk.new) }
     ensures reads { (D.state disk.new).reads ≤ (D.state disk.old).reads + 2 }

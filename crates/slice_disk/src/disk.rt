@@ -1,7 +1,8 @@
 ghost use Rattle.std.specs.Prelude.{◌≡◌, ◌+◌, ◌^◌, ◌≤◌, length, slice_index, EachIndex, IsErr};
 ghost use Rattle.outside_io.specs.Causes.{HasCause};
 
-use disk_model::{Disk, Failed};
+use disk_model::{Disk, Failed, SharedDisk};
+use std::alloc::Global;
 
 /// The bytes of a file in memory, as a disk. A read past their end gives 0. Writes and syncs fail, and leave the bytes as
 /// they are.
@@ -76,5 +77,11 @@ impl Disk for SliceDisk<'_> {
 
     fn sync(&mut self) -> Result<(), Failed> {
         self.refuse()
+    }
+}
+
+impl SharedDisk for SliceDisk<'_> {
+    fn reader(&self, _alloc: Global) -> Option<Self> {
+        Some(SliceDisk::new(self.bytes))
     }
 }

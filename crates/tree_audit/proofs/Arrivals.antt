@@ -1,12 +1,11 @@
 -- What a walk tells of a page to which it comes.
-use Rattle.std.proofs.Common.{◌≡◌, ◌≢◌, ℕ, zero, suc, ◌+◌, ◌<◌, ◌≤◌, ◌==◌, ◌&&◌, not, nat_le, Bool, true, false, List, [], ◌∷◌, ◌++◌, length, drop, Result, Ok, Err, IfErr, IsTrue, min, ◌-◌, ◌^◌, if◌then◌else◌, refl, sym, ◌∙◌, ap, subst, arith}
+use Rattle.std.proofs.Common.{◌≡◌, ◌≢◌, ℕ, zero, suc, ◌≤◌, ◌==◌, not, Bool, true, false, List, length, Result, Ok, Err, IfErr, IsTrue, refl, sym, ◌∙◌, ap, subst, arith}
 use Rattle.std.proofs.lemmas.Bool.{true≢false}
 use Rattle.std.proofs.lemmas.Bool.Decides.{nat_tests}
 use Rattle.outside_io.specs.Causes.{Rose}
 use Rattle.metric_laws.specs.Space.{Space}
 use Rattle.tree_shape.specs.declared.entry.LeafEntry.{LeafEntry}
-use Rattle.tree_shape.specs.declared.entry.Node.{Node}
-use Rattle.tree_shape.specs.declared.entry.Node.TheVariants.{Leaf, Inner}
+use Rattle.tree_shape.specs.declared.entry.Node.TheVariants.{Leaf}
 use Rattle.tree_shape.specs.Tree.{times}
 use Rattle.page_store.specs.Reading.{Read}
 use Rattle.page_store.specs.Shelf.{Shelf}
@@ -15,7 +14,7 @@ use Rattle.page_store.specs.declared.pages.PageFault.TheVariants.{Disk, Bad, Out
 use Rattle.tree_audit.specs.declared.faults.AuditFault.{AuditFault}
 use Rattle.tree_audit.specs.declared.faults.AuditFault.TheVariants.{Page, Fill, Twice, Unfit, ParentDistance, Radius, Id, Count, Memory}
 use Rattle.tree_audit.specs.declared.walking.Step.{Step}
-use Rattle.tree_audit.specs.Audited.{Seen, and_then, each_entry, check_object, last_point, is_filled, arrived, audited_at, IsWalkFault}
+use Rattle.tree_audit.specs.Audited.{Seen, each_entry, check_object, last_point, is_filled, arrived, audited_at, IsWalkFault}
 use Rattle.tree_audit.specs.Visits.{leaf_told, IsEntryFault, IsOpenFault}
 
 -- ---- faults that go up

@@ -1,15 +1,14 @@
 -- Faults of entries in turn.
-use Rattle.std.proofs.Common.{◌≡◌, ℕ, ◌+◌, ◌<◌, ◌==◌, ◌&&◌, nat_lt, Bool, true, false, List, [], ◌∷◌, ◌++◌, length, drop, Option, Result, Ok, Err, if◌then◌else◌, refl, sym, ◌∙◌, ap, subst}
+use Rattle.std.proofs.Common.{◌≡◌, ℕ, ◌==◌, ◌&&◌, nat_lt, true, List, [], ◌∷◌, ◌++◌, Option, Result, Ok, Err, if◌then◌else◌, refl, subst}
 use Rattle.std.proofs.Common.{arith}
 use Rattle.std.proofs.lemmas.Bool.Decides.{nat_tests}
 use Rattle.metric_laws.specs.Space.{Space}
 use Rattle.tree_shape.specs.declared.entry.LeafEntry.{LeafEntry}
 use Rattle.tree_shape.specs.Tree.{times, parent_distance}
-use Rattle.page_store.specs.declared.pages.PageFault.{PageFault}
 use Rattle.tree_audit.specs.declared.faults.AuditFault.{AuditFault}
 use Rattle.tree_audit.specs.declared.faults.AuditFault.TheVariants.{Page, Fill, Twice, Unfit, ParentDistance, Radius, Id, Count, Memory}
 use Rattle.tree_audit.specs.declared.walking.Step.{Step}
-use Rattle.tree_audit.specs.Audited.{Seen, and_then, each_entry, first_outside, if_inside, check_object}
+use Rattle.tree_audit.specs.Audited.{Seen, and_then, first_outside, if_inside, check_object}
 use Rattle.tree_audit.specs.Visits.{IsEntryFault}
 
 pub told_same : (told told2 : Result Seen AuditFault) (v : AuditFault) → told ≡ told2 → IsEntryFault told v → IsEntryFault told2 v

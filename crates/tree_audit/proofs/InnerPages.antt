@@ -1,17 +1,14 @@
 -- What the audit does at an inner page.
-use Rattle.std.proofs.Common.{◌≡◌, ◌≢◌, ℕ, zero, suc, ◌+◌, ◌-◌, ◌<◌, ◌≤◌, ◌⊎◌, Bool, true, false, List, [], ◌∷◌, ◌++◌, refl, sym, ap, arith, ◌∙◌, Result, Ok, Err, length, sub-one}
-use Rattle.std.specs.Prelude
-use Rattle.std.specs.Prelude.{nat_le, ◌==◌, ◌&&◌}
+use Rattle.std.proofs.Common.{◌≡◌, ◌≢◌, ℕ, zero, suc, ◌-◌, true, false, List, [], ◌∷◌, ◌++◌, refl, sym, ap, arith, Ok, Err, length}
+use Rattle.std.specs.Prelude.{◌==◌, ◌&&◌}
 use Rattle.std.proofs.lemmas.Bool.Decides.{nat_tests}
 use Rattle.metric_laws.specs.Space.{Space}
 use Rattle.tree_shape.specs.declared.entry.InnerEntry.{InnerEntry}
-use Rattle.tree_shape.specs.declared.entry.Node.{Node}
-use Rattle.tree_shape.specs.declared.entry.Node.TheVariants.{Leaf, Inner}
-use Rattle.tree_shape.specs.Fill.{most_for, least_for}
+use Rattle.tree_shape.specs.declared.entry.Node.TheVariants.{Inner}
+use Rattle.tree_shape.specs.Fill.{least_for}
 use Rattle.tree_shape.specs.Tree.{times}
 use Rattle.page_store.specs.Reading.{Read}
 use Rattle.tree_audit.specs.declared.walking.Step.{Step}
-use Rattle.tree_audit.specs.declared.faults.AuditFault.{AuditFault}
 use Rattle.tree_audit.specs.declared.faults.AuditFault.TheVariants.{Fill}
 use Rattle.tree_audit.specs.Audited.{step, Seen, each_entry, last_point, check_entry, is_filled, arrived, audited_at}
 

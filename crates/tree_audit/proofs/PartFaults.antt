@@ -1,5 +1,5 @@
 -- Faults of a part of the walk.
-use Rattle.std.proofs.Common.{◌≡◌, Result, Ok, Err, subst}
+use Rattle.std.proofs.Common.{◌≡◌, Result, subst}
 use Rattle.std.specs.Prelude.{IfErr}
 use Rattle.page_store.specs.Shelf.{Shelf}
 use Rattle.tree_audit.specs.declared.faults.AuditFault.{AuditFault}

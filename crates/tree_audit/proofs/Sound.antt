@@ -1,5 +1,5 @@
 -- An audit without a fault is of a sound tree.
-use Rattle.std.proofs.Common.{◌≡◌, ℕ, zero, suc, ◌+◌, ◌<◌, ◌≤◌, ◌⊎◌, Bool, true, false, List, [], ◌∷◌, ◌++◌, refl, sym, ap, inl, inr, arith, ◌∙◌, Option, Some, None, Result, Ok, Err, append_assoc, subst, length}
+use Rattle.std.proofs.Common.{◌≡◌, ℕ, zero, suc, ◌<◌, ◌≤◌, Bool, true, false, List, [], ◌∷◌, ◌++◌, refl, sym, ap, arith, ◌∙◌, Option, Some, None, Result, Ok, Err, append_assoc, subst, length}
 use Rattle.std.specs.Prelude.{IsTrue, map, slice_get, ◌-◌, nat_le, nat_lt, if◌then◌else◌, ◌==◌, ◌&&◌}
 use Rattle.std.specs.List.{AllByRecursion, flat_map}
 use Rattle.std.proofs.lemmas.Bool.Decides.{nat_tests}
@@ -13,15 +13,15 @@ use Rattle.tree_shape.specs.declared.entry.Node.{Node}
 use Rattle.tree_shape.specs.declared.entry.Node.TheVariants.{Leaf, Inner}
 use Rattle.tree_shape.specs.declared.live.Live.{Live}
 use Rattle.tree_shape.specs.Fill.{most_for, least_for, root_least, IsFilled}
-use Rattle.tree_shape.specs.Tree.{Nodes, times, parent_distance, objects_at, pages_at, IsSoundAt, IsSoundObject, IsSoundEntry, Covers, leaf_entries, inner_entries, objects, IsNodePage, IsSoundTree}
+use Rattle.tree_shape.specs.Tree.{times, parent_distance, objects_at, pages_at, IsSoundAt, IsSoundObject, IsSoundEntry, objects, IsNodePage, IsSoundTree}
 use Rattle.tree_shape.proofs.Counting.{times-append, each_once, each_once_back}
 use Rattle.page_store.specs.declared.pages.PageFault.{PageFault}
 use Rattle.page_store.specs.Reading.{Read, nodes_of, node_or_none}
 use Rattle.tree_audit.specs.declared.faults.AuditFault.{AuditFault}
-use Rattle.tree_audit.specs.declared.faults.AuditFault.TheVariants.{Page, Fill, Twice, Unfit, ParentDistance, Radius, Id, Count}
+use Rattle.tree_audit.specs.declared.faults.AuditFault.TheVariants.{Count}
 use Rattle.tree_audit.specs.declared.walking.Step.{Step}
 use Rattle.tree_audit.specs.Laws.{HasNodesWithin}
-use Rattle.tree_audit.specs.Audited.{step, point_of_step, Seen, and_then, each_entry, last_point, first_outside, if_inside, check_object, check_entry, is_filled, arrived, after_node, on_arrival, leaf_node, inner_node, audited_at, after_walk, audit_fault}
+use Rattle.tree_audit.specs.Audited.{step, point_of_step, Seen, each_entry, last_point, first_outside, if_inside, check_object, check_entry, is_filled, arrived, after_node, on_arrival, leaf_node, inner_node, audited_at, after_walk, audit_fault}
 use Rattle.tree_audit.proofs.Folds.{Once, OnceSeen, grown, Passed, each_passes, passes_each}
 
 ok_from_some : (o : Result Node PageFault) (node : Node) → node_or_none o ≡ Some node → o ≡ Ok node

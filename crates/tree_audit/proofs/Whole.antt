@@ -1,5 +1,5 @@
 -- A tree whose parts were walked apart.
-use Rattle.std.proofs.Common.{◌≡◌, ℕ, zero, suc, ◌+◌, ◌-◌, ◌<◌, ◌≤◌, Bool, true, false, List, [], ◌∷◌, ◌++◌, refl, sym, ap, arith, ◌∙◌, Option, Some, None, Result, Ok, Err, append_assoc, subst, length, take, drop, get_or}
+use Rattle.std.proofs.Common.{◌≡◌, ℕ, zero, suc, ◌+◌, ◌-◌, ◌<◌, ◌≤◌, true, false, List, [], ◌∷◌, ◌++◌, refl, sym, ap, arith, ◌∙◌, Some, None, Ok, append_assoc, subst, length, take, drop, get_or}
 use Rattle.std.specs.Prelude.{◌==◌, ◌&&◌, nat_lt}
 use Rattle.std.specs.List.{AllByRecursion, flat_map}
 use Rattle.std.proofs.lemmas.List.{append-nil, take_more, take-append-drop}
@@ -14,7 +14,6 @@ use Rattle.tree_shape.specs.Tree.{parent_distance, objects_at, pages_at, times}
 use Rattle.tree_shape.proofs.Counting.{times-append}
 use Rattle.tree_audit.specs.Met.{AreNew, Numbers}
 use Rattle.page_store.specs.Reading.{Read, nodes_of, node_or_none}
-use Rattle.tree_audit.specs.declared.faults.AuditFault.{AuditFault}
 use Rattle.tree_audit.specs.declared.parts.Part.{Part}
 use Rattle.tree_audit.specs.Audited.{Seen, step, check_entry, audited_at, after_walk, audit_fault}
 use Rattle.tree_audit.specs.Parts.{met_in, part_told, pages_met, ids_met, AreWalked, AreApart}

@@ -13,4 +13,5 @@ HasNodesWithin read pages = (page : ℕ) (node : Node) → read page ≡ Ok node
 
 -- a tree has no fault exactly where it is sound
 abbrev pub AuditFaultsAreUnsoundness : Type 0
-AuditFaultsAreUnsoundness = (s : Space) (read : Read) (live : Live) → HasNodesWithin read live.pages → (audit_fault s read live ≡ None) ↔ IsSoundTree s (nodes_of read) live
+AuditFaultsAreUnsoundness = (s : Space) (read : Read) (live : Live) → HasNodesWithin read live.pages →
+    (audit_fault s read live ≡ None) ↔ IsSoundTree s (nodes_of read) live

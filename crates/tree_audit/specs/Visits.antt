@@ -7,8 +7,7 @@ use Rattle.tree_shape.specs.declared.entry.LeafEntry.{LeafEntry}
 use Rattle.tree_shape.specs.declared.entry.InnerEntry.{InnerEntry}
 use Rattle.page_store.specs.Reading.{Read}
 use Rattle.page_store.specs.Shelf.{Shelf}
-use Rattle.page_store.specs.declared.pages.PageFault.{PageFault}
-use Rattle.page_store.specs.declared.pages.PageFault.TheVariants.{Disk, Bad, Outside, Memory as NoRoom, Repeats, Level}
+use Rattle.page_store.specs.declared.pages.PageFault.TheVariants.{Disk, Bad, Outside}
 use Rattle.tree_audit.specs.declared.faults.AuditFault.{AuditFault}
 use Rattle.tree_audit.specs.declared.faults.AuditFault.TheVariants.{Page, Fill, Memory}
 use Rattle.tree_audit.specs.declared.walking.Visits.{Visits}

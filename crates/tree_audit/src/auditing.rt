@@ -64,8 +64,10 @@ pub fn audit<P: Pages, R: Ruler>(
     // It is sound exactly where no fault stands.
     ensures ok { IfOk result (λ a. IsTrue (P.shelf pages.old).tells → audit_fault (R.M.space (R.metric ruler.old)) (P.shelf pages.old).read live.now ≡ None) }
     ensures objects { IfOk result (λ a. a.objects ≡ live.now.count) }
-    ensures nodes { IfOk result (λ a. IsTrue (P.shelf pages.old).tells → a.nodes ≡ length (pages_at (nodes_of (P.shelf pages.old).read) live.now.height live.now.root)) }
-    ensures err { IfErr result (HasAuditCause (P.shelf pages.old) (P.shelf pages.new) (audit_fault (R.M.space (R.metric ruler.old)) (P.shelf pages.old).read live.now)) }
+    ensures nodes { IfOk result (λ a. IsTrue (P.shelf pages.old).tells →
+        a.nodes ≡ length (pages_at (nodes_of (P.shelf pages.old).read) live.now.height live.now.root)) }
+    ensures err { IfErr result (HasAuditCause (P.shelf pages.old) (P.shelf pages.new)
+        (audit_fault (R.M.space (R.metric ruler.old)) (P.shelf pages.old).read live.now)) }
     ensures asked { IfOk result (λ a. (P.shelf pages.new).asked ≤ (P.shelf pages.old).asked + a.nodes) }
     ensures reads { IfOk result (λ a. (P.shelf pages.new).reads ≤ (P.shelf pages.old).reads + a.nodes) }
     // Whatever the result, at most as many pages were asked for, and read, as the file has; one where it has none.

@@ -12,11 +12,11 @@ ghost use Rattle.tree_audit.specs.Visits.{seen_of, entry_told};
 use crate::AuditFault;
 use crate::auditing::{Audited, visits_for};
 use crate::met::Met;
-use crate::walking::{Spot, Visits, audit_entry, step_to, walk};
+use crate::walking::{Spot, Visits, step_down, walk};
 use metric_laws::Ruler;
 use page_store::{Memory, Pages};
 use std::alloc::Global;
-use tree_shape::{InnerEntry, Live, fill};
+use tree_shape::{InnerEntry, Live};
 
 /// What the walk of one part of a tree met, in the order of meeting.
 #[derive(Debug, Drop)]
@@ -48,30 +48,20 @@ fn walk_entry<P: Pages, R: Ruler>(
     ensures same { HoldsSame (P.shelf pages.old) (P.shelf pages.new) }
     ensures keeps { P.keeps pages.old pages.new }
     ensures ok { OnOk result (IsTrue (P.shelf pages.old).tells
-        → entry_told (R.M.space (R.metric ruler.old)) (P.shelf pages.old).read visits.old.ids.limit root.now.level [] root.now.page place entry.now (seen_of visits.old) ≡ Ok (seen_of visits.new)) }
+        → entry_told (R.M.space (R.metric ruler.old)) (P.shelf pages.old).read visits.old.ids.limit root.now.level [] root.now.page
+        place entry.now (seen_of visits.old) ≡ Ok (seen_of visits.new)) }
     ensures err { IfErr result (IsWalkFault (P.shelf pages.old) (P.shelf pages.new)
-        (entry_told (R.M.space (R.metric ruler.old)) (P.shelf pages.old).read visits.old.ids.limit root.now.level [] root.now.page place entry.now (seen_of visits.old))) }
+        (entry_told (R.M.space (R.metric ruler.old)) (P.shelf pages.old).read visits.old.ids.limit root.now.level [] root.now.page
+        place entry.now (seen_of visits.old))) }
     ensures pages_limit { visits.new.pages.limit ≡ visits.old.pages.limit }
     ensures fewer { AreFewer visits.new.pages }
     ensures asked { (P.shelf pages.new).asked + length visits.old.pages.met ≤ (P.shelf pages.old).asked + length visits.new.pages.met + 1 }
     ensures reads { (P.shelf pages.new).reads + length visits.old.pages.met ≤ (P.shelf pages.old).reads + length visits.new.pages.met + 1 }
 {
     let mut path = Vec::new(alloc);
-    if let Err(fault) = audit_entry(ruler, path.as_slice(), root.page, place, entry) {
-        return Err(fault);
-    }
-    let step = match step_to(alloc, root.page, place, entry) {
-        Ok(step) => step,
-        Err(_) => return Err(AuditFault::Memory),
-    };
-    if path.push(step).is_err() {
-        return Err(AuditFault::Memory);
-    }
-    let child = Spot {
-        page: entry.child,
-        level: root.level - 1,
-        least: fill(root.dim).least,
-        dim: root.dim,
+    let child = match step_down(alloc, ruler, &mut path, root, place, entry) {
+        Ok(child) => child,
+        Err(fault) => return Err(fault),
     };
     walk(alloc, pages, ruler, visits, &mut path, child)
 }
@@ -96,8 +86,10 @@ pub fn audit_part<P: Pages, R: Ruler>(
     ensures metric { R.metric ruler.new ≡ R.metric ruler.old }
     ensures same { HoldsSame (P.shelf pages.old) (P.shelf pages.new) }
     ensures keeps { P.keeps pages.old pages.new }
-    ensures ok { IfOk result (λ part. IsTrue (P.shelf pages.old).tells → part_told (R.M.space (R.metric ruler.old)) (P.shelf pages.old).read live.now place entry.now ≡ Ok (met_in part)) }
-    ensures err { IfErr result (IsWalkFault (P.shelf pages.old) (P.shelf pages.new) (part_told (R.M.space (R.metric ruler.old)) (P.shelf pages.old).read live.now place entry.now)) }
+    ensures ok { IfOk result (λ part. IsTrue (P.shelf pages.old).tells →
+        part_told (R.M.space (R.metric ruler.old)) (P.shelf pages.old).read live.now place entry.now ≡ Ok (met_in part)) }
+    ensures err { IfErr result (IsWalkFault (P.shelf pages.old) (P.shelf pages.new)
+        (part_told (R.M.space (R.metric ruler.old)) (P.shelf pages.old).read live.now place entry.now)) }
     ensures all_asked { (P.shelf pages.new).asked ≤ (P.shelf pages.old).asked + max 1 live.now.pages }
     ensures all_reads { (P.shelf pages.new).reads ≤ (P.shelf pages.old).reads + max 1 live.now.pages }
 {

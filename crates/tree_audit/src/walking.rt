@@ -1,7 +1,7 @@
 // The walk of an audit.
-ghost use Rattle.std.specs.Prelude.{◌≡◌, ◌≢◌, ◌⊎◌, ℕ, List, [], ◌∷◌, ◌++◌, ◌+◌, ◌≤◌, ◌<◌, ◌^◌, ◌==◌, ◌&&◌, nat_le, length, Option, None, Result, Ok, Err, IsTrue, IfOk, OnOk, OnErr, IfErr};
+ghost use Rattle.std.specs.Prelude.{◌≡◌, ◌≢◌, ◌⊎◌, ℕ, List, [], ◌∷◌, ◌++◌, ◌+◌, ◌-◌, ◌≤◌, ◌<◌, ◌^◌, ◌==◌, ◌&&◌, nat_le, length, Option, None, Result, Ok, Err, IsTrue, IfOk, OnOk, OnErr, IfErr};
 ghost use Rattle.metric_laws.specs.Counts.{next_count};
-ghost use Rattle.tree_shape.specs.Fill.{most_for};
+ghost use Rattle.tree_shape.specs.Fill.{least_for, most_for};
 ghost use Rattle.metric_laws.specs.Space.{Space};
 ghost use Rattle.tree_shape.specs.Tree.{parent_distance, times};
 ghost use Rattle.tree_audit.specs.declared.walking.Step.{Step};
@@ -72,7 +72,8 @@ fn audit_inside<R: Ruler>(
 ) -> Result<(), AuditFault>
     ensures same { R.metric ruler.new ≡ R.metric ruler.old }
     ensures ok { OnOk result (first_outside (R.M.space (R.metric ruler.old)) path.now p.now ≡ None) }
-    ensures err { IfErr result (λ v. (rest : Result Seen AuditFault) → IsEntryFault (if_inside (first_outside (R.M.space (R.metric ruler.old)) path.now p.now) id rest) v) }
+    ensures err { IfErr result (λ v. (rest : Result Seen AuditFault) →
+        IsEntryFault (if_inside (first_outside (R.M.space (R.metric ruler.old)) path.now p.now) id rest) v) }
 {
     for i in 0..path.len() {
         let step = &path[i];
@@ -94,9 +95,13 @@ fn audit_object<R: Ruler>(
 ) -> Result<(), AuditFault>
     ensures same { R.metric ruler.new ≡ R.metric ruler.old }
     ensures limit { ids.new.limit ≡ ids.old.limit }
-    ensures ok { OnOk result ((ps : List ℕ) → check_object (R.M.space (R.metric ruler.old)) ids.old.limit (last_point path.now) path.now page place object.now (record { pages = ps; ids = ids.old.met })
+    ensures ok { OnOk result ((ps : List ℕ) →
+        check_object (R.M.space (R.metric ruler.old)) ids.old.limit (last_point path.now) path.now page place object.now
+        (record { pages = ps; ids = ids.old.met })
         ≡ Ok (record { pages = ps; ids = ids.new.met })) }
-    ensures err { IfErr result (λ v. (ps : List ℕ) → IsEntryFault (check_object (R.M.space (R.metric ruler.old)) ids.old.limit (last_point path.now) path.now page place object.now (record { pages = ps; ids = ids.old.met })) v) }
+    ensures err { IfErr result (λ v. (ps : List ℕ) →
+        IsEntryFault (check_object (R.M.space (R.metric ruler.old)) ids.old.limit (last_point path.now) path.now page place
+        object.now (record { pages = ps; ids = ids.old.met })) v) }
 {
     let point = object.point.as_slice();
     if !ruler.fits(point) {
@@ -128,9 +133,13 @@ fn audit_objects<R: Ruler>(
     requires { length objects.now < 2 ^ 32 }
     ensures same { R.metric ruler.new ≡ R.metric ruler.old }
     ensures limit { ids.new.limit ≡ ids.old.limit }
-    ensures ok { OnOk result ((ps : List ℕ) → each_entry (check_object (R.M.space (R.metric ruler.old)) ids.old.limit (last_point path.now) path.now page) 0 objects.now (record { pages = ps; ids = ids.old.met })
+    ensures ok { OnOk result ((ps : List ℕ) →
+        each_entry (check_object (R.M.space (R.metric ruler.old)) ids.old.limit (last_point path.now) path.now page) 0 objects.now
+        (record { pages = ps; ids = ids.old.met })
         ≡ Ok (record { pages = ps; ids = ids.new.met })) }
-    ensures err { IfErr result (λ v. (ps : List ℕ) → IsEntryFault (each_entry (check_object (R.M.space (R.metric ruler.old)) ids.old.limit (last_point path.now) path.now page) 0 objects.now (record { pages = ps; ids = ids.old.met })) v) }
+    ensures err { IfErr result (λ v. (ps : List ℕ) →
+        IsEntryFault (each_entry (check_object (R.M.space (R.metric ruler.old)) ids.old.limit (last_point path.now) path.now page)
+        0 objects.now (record { pages = ps; ids = ids.old.met })) v) }
 {
     for i in 0..objects.len() {
         if let Err(fault) = audit_object(ruler, path, page, i as u32, &objects[i], ids) {
@@ -140,8 +149,8 @@ fn audit_objects<R: Ruler>(
     Ok(())
 }
 
-/// An entry of an inner node, before its child.
-pub fn audit_entry<R: Ruler>(
+// An entry of an inner node, before its child.
+fn audit_entry<R: Ruler>(
     ruler: &mut R,
     path: &[Step],
     page: u32,
@@ -149,8 +158,10 @@ pub fn audit_entry<R: Ruler>(
     entry: &InnerEntry,
 ) -> Result<(), AuditFault>
     ensures same { R.metric ruler.new ≡ R.metric ruler.old }
-    ensures ok { OnOk result ((rest : Result Seen AuditFault) → check_entry (R.M.space (R.metric ruler.old)) (last_point path.now) page place entry.now rest ≡ rest) }
-    ensures err { IfErr result (λ v. (rest : Result Seen AuditFault) → IsEntryFault (check_entry (R.M.space (R.metric ruler.old)) (last_point path.now) page place entry.now rest) v) }
+    ensures ok { OnOk result ((rest : Result Seen AuditFault) →
+        check_entry (R.M.space (R.metric ruler.old)) (last_point path.now) page place entry.now rest ≡ rest) }
+    ensures err { IfErr result (λ v. (rest : Result Seen AuditFault) →
+        IsEntryFault (check_entry (R.M.space (R.metric ruler.old)) (last_point path.now) page place entry.now rest) v) }
 {
     let point = entry.point.as_slice();
     if !ruler.fits(point) {
@@ -201,9 +212,13 @@ fn audit_leaf<R: Ruler>(
     requires count { length objects.now < 2 ^ 32 }
     ensures same { R.metric ruler.new ≡ R.metric ruler.old }
     ensures limit { ids.new.limit ≡ ids.old.limit }
-    ensures ok { OnOk result ((ps : List ℕ) → leaf_told (R.M.space (R.metric ruler.old)) ids.old.limit at.now.level at.now.least path.now at.now.page objects.now (record { pages = ps; ids = ids.old.met })
+    ensures ok { OnOk result ((ps : List ℕ) →
+        leaf_told (R.M.space (R.metric ruler.old)) ids.old.limit at.now.level at.now.least path.now at.now.page objects.now
+        (record { pages = ps; ids = ids.old.met })
         ≡ Ok (record { pages = ps; ids = ids.new.met })) }
-    ensures err { IfErr result (λ v. (ps : List ℕ) → IsEntryFault (leaf_told (R.M.space (R.metric ruler.old)) ids.old.limit at.now.level at.now.least path.now at.now.page objects.now (record { pages = ps; ids = ids.old.met })) v) }
+    ensures err { IfErr result (λ v. (ps : List ℕ) →
+        IsEntryFault (leaf_told (R.M.space (R.metric ruler.old)) ids.old.limit at.now.level at.now.least path.now at.now.page
+        objects.now (record { pages = ps; ids = ids.old.met })) v) }
 {
     if at.level != 0 || !is_filled(at, objects.len()) {
         return Err(AuditFault::Fill(at.page));
@@ -227,7 +242,8 @@ fn arrive<P: Pages>(
     ensures fewer { AreFewer seen.new }
     ensures unseen { OnErr result (seen.new ≡ seen.old) }
     ensures err { IfErr result (λ v. (s : Space) (count h least : ℕ) (path : List Step) (ids : List ℕ)
-        → IsWalkFault (P.shelf pages.old) (P.shelf pages.new) (audited_at s (P.shelf pages.old).read count h least path page (record { pages = seen.old.met; ids = ids })) v) }
+        → IsWalkFault (P.shelf pages.old) (P.shelf pages.new) (audited_at s (P.shelf pages.old).read count h least path page
+        (record { pages = seen.old.met; ids = ids })) v) }
     ensures same { HoldsSame (P.shelf pages.old) (P.shelf pages.new) }
     ensures asked { (P.shelf pages.new).asked ≤ (P.shelf pages.old).asked + 1 }
     ensures reads { (P.shelf pages.new).reads ≤ (P.shelf pages.old).reads + 1 }
@@ -246,8 +262,8 @@ fn arrive<P: Pages>(
     Ok(node)
 }
 
-/// The step to a child.
-pub fn step_to(alloc: Global, page: u32, place: u32, entry: &InnerEntry) -> Result<Step, Memory>
+// The step to a child.
+fn step_to(alloc: Global, page: u32, place: u32, entry: &InnerEntry) -> Result<Step, Memory>
     ensures { IfOk result (λ t. t ≡ step page place entry.now) }
 {
     Ok(Step {
@@ -255,6 +271,47 @@ pub fn step_to(alloc: Global, page: u32, place: u32, entry: &InnerEntry) -> Resu
         place,
         radius: entry.radius,
         point: Point::new(alloc, entry.point.as_slice())?,
+    })
+}
+
+/// Goes down to the child of an entry, which is audited before: the step to it stands last on the path.
+pub fn step_down<R: Ruler>(
+    alloc: Global,
+    ruler: &mut R,
+    path: &mut Vec<Step>,
+    at: &Spot,
+    place: u32,
+    entry: &InnerEntry,
+) -> Result<Spot, AuditFault>
+    requires some { 1 ≤ at.now.dim }
+    requires few { at.now.dim ≤ 64 }
+    requires above { 1 ≤ at.now.level }
+    ensures same { R.metric ruler.new ≡ R.metric ruler.old }
+    ensures path { OnOk result (path.new.items ≡ path.old.items ++ step at.now.page place entry.now ∷ []) }
+    ensures page { IfOk result (λ child. child.page ≡ entry.now.child) }
+    ensures level { IfOk result (λ child. child.level ≡ at.now.level - 1) }
+    ensures least { IfOk result (λ child. child.least ≡ least_for at.now.dim) }
+    ensures dim { IfOk result (λ child. child.dim ≡ at.now.dim) }
+    ensures ok { OnOk result ((rest : Result Seen AuditFault) →
+        check_entry (R.M.space (R.metric ruler.old)) (last_point path.old.items) at.now.page place entry.now rest ≡ rest) }
+    ensures err { IfErr result (λ v. (rest : Result Seen AuditFault) →
+        IsEntryFault (check_entry (R.M.space (R.metric ruler.old)) (last_point path.old.items) at.now.page place entry.now rest) v) }
+{
+    if let Err(fault) = audit_entry(ruler, path.as_slice(), at.page, place, entry) {
+        return Err(fault);
+    }
+    let step = match step_to(alloc, at.page, place, entry) {
+        Ok(step) => step,
+        Err(_) => return Err(AuditFault::Memory),
+    };
+    if path.push(step).is_err() {
+        return Err(AuditFault::Memory);
+    }
+    Ok(Spot {
+        page: entry.child,
+        level: at.level - 1,
+        least: fill(at.dim).least,
+        dim: at.dim,
     })
 }
 
@@ -289,9 +346,11 @@ pub fn walk<P: Pages, R: Ruler>(
     ensures ids_limit { visits.new.ids.limit ≡ visits.old.ids.limit }
     ensures path { OnOk result (path.new.items ≡ path.old.items) }
     ensures ok { OnOk result (IsTrue (P.shelf pages.old).tells
-        → audited_at (R.M.space (R.metric ruler.old)) (P.shelf pages.old).read visits.old.ids.limit at.level at.least path.old.items at.page (seen_of visits.old) ≡ Ok (seen_of visits.new)) }
+        → audited_at (R.M.space (R.metric ruler.old)) (P.shelf pages.old).read visits.old.ids.limit at.level at.least
+        path.old.items at.page (seen_of visits.old) ≡ Ok (seen_of visits.new)) }
     ensures err { IfErr result (IsWalkFault (P.shelf pages.old) (P.shelf pages.new)
-        (audited_at (R.M.space (R.metric ruler.old)) (P.shelf pages.old).read visits.old.ids.limit at.level at.least path.old.items at.page (seen_of visits.old))) }
+        (audited_at (R.M.space (R.metric ruler.old)) (P.shelf pages.old).read visits.old.ids.limit at.level at.least path.old.items
+        at.page (seen_of visits.old))) }
     ensures asked { OnOk result ((P.shelf pages.new).asked + length visits.old.pages.met ≤ (P.shelf pages.old).asked + length visits.new.pages.met) }
     ensures reads { OnOk result ((P.shelf pages.new).reads + length visits.old.pages.met ≤ (P.shelf pages.old).reads + length visits.new.pages.met) }
     ensures fewer { AreFewer visits.new.pages }
@@ -323,22 +382,9 @@ pub fn walk<P: Pages, R: Ruler>(
         return Err(AuditFault::Fill(at.page));
     }
     for place in 0..entries.len() {
-        let entry = &entries[place];
-        if let Err(fault) = audit_entry(ruler, path.as_slice(), at.page, place as u32, entry) {
-            return Err(fault);
-        }
-        let step = match step_to(alloc, at.page, place as u32, entry) {
-            Ok(step) => step,
-            Err(_) => return Err(AuditFault::Memory),
-        };
-        if path.push(step).is_err() {
-            return Err(AuditFault::Memory);
-        }
-        let child = Spot {
-            page: entry.child,
-            level: at.level - 1,
-            least: fill(at.dim).least,
-            dim: at.dim,
+        let child = match step_down(alloc, ruler, path, &at, place as u32, &entries[place]) {
+            Ok(child) => child,
+            Err(fault) => return Err(fault),
         };
         if let Err(fault) = walk(alloc, pages, ruler, visits, path, child) {
             return Err(fault);

@@ -1,16 +1,16 @@
 -- At its turn an object is put into the nearest group with room, and the seeds stay in their own.
-use Rattle.std.proofs.Common.{◌≡◌, ℕ, zero, suc, ◌+◌, ◌-◌, ◌*◌, ◌/◌, ◌<◌, ◌≤◌, ◌⊎◌, inl, inr, Bool, true, false, List, [], ◌∷◌, refl, sym, ap, ◌∙◌, arith, length, get_or, subst, Option, Some, None}
-use Rattle.std.specs.Prelude.{◌==◌, if◌then◌else◌, nat_lt, not, ◌&&◌, replicate}
+use Rattle.std.proofs.Common.{◌≡◌, ℕ, zero, suc, ◌+◌, ◌-◌, ◌*◌, ◌/◌, ◌<◌, ◌≤◌, inl, inr, Bool, true, false, List, [], ◌∷◌, refl, sym, ap, ◌∙◌, arith, length, get_or, subst, Option, Some, None}
+use Rattle.std.specs.Prelude.{◌==◌, if◌then◌else◌, nat_lt, replicate}
 use Rattle.std.specs.List.{AllByRecursion}
 use Rattle.std.proofs.Math.ListN.{set}
 use Rattle.std.proofs.lemmas.Bool.Decides.{nat_tests}
 use Rattle.std.proofs.lemmas.Bool.{cases_eq}
 use Rattle.std.proofs.lemmas.List.{get_or-set_other}
 use Rattle.tree_growth.specs.declared.rules.Member.{Member}
-use Rattle.tree_growth.specs.Groups.{Far, nearer, nearest_from, chosen, counted, one_more, placed_from, seeds_from, seed_of, member_of, in_group, is_candidate, candidate_from, moved_to, received, filled_from, grouped}
+use Rattle.tree_growth.specs.Groups.{Far, nearer, nearest_from, chosen, counted, one_more, placed_from, seeds_from, seed_of, member_of, in_group, is_candidate, candidate_from, moved_to, received, filled_from}
 use Rattle.tree_growth.specs.Nearest.{placed, put_before, TakesNearest, ObjectsTakeNearest, SeedsStay}
 use Rattle.tree_growth.proofs.Loaded.{placed_low}
-use Rattle.tree_growth.proofs.Sized.{one_if, nearer_cases, nearest_some, nearest_none, HasRoom, Ascends, ascends_fit, total, total_full, total_more, length_more, get_more, candidate_some, IsFound, seeds_ascend, length_seeds, ones_long, ones_total, ones_at}
+use Rattle.tree_growth.proofs.Sized.{nearest_some, nearest_none, HasRoom, Ascends, ascends_fit, total, total_full, total_more, length_more, get_more, candidate_some, IsFound, seeds_ascend, length_seeds, ones_long, ones_total, ones_at}
 
 -- no further, and at an equal distance of no greater number
 abbrev NotAfter : ℕ × ℕ → ℕ × ℕ → Type 0

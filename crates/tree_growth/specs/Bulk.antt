@@ -38,7 +38,8 @@ groups_from a (s ∷ seeds) set ps = record { seed = slice_index set s; members 
 -- g groups of a set at a level above 0
 abbrev pub groups_by : Load → ℕ → ℕ → List ℕ → List Group
 groups_by l g h set =
-    groups_from 0 (seeds_from (length set) g 0 g) set (grouped (entry (table_of l set (seeds_from (length set) g 0 g))) (l.least ^ h) (l.most ^ h) g (length set))
+    groups_from 0 (seeds_from (length set) g 0 g) set (grouped (entry (table_of l set (seeds_from (length set) g 0 g)))
+    (l.least ^ h) (l.most ^ h) g (length set))
 
 -- the groups of a set, which holds places of the rows, at a level above 0
 abbrev pub groups_at : Load → Bool → ℕ → List ℕ → List Group
@@ -53,7 +54,11 @@ radius_of l seed (k ∷ ks) = max (l.space.dist (point_of l k) seed) (radius_of 
 abbrev pub built_at : Load → Bool → (h : ℕ) → List ℕ → Plain h
 built_at l is_root zero set = map (object_at l) set
 built_at l is_root (suc h) set =
-    map (λ p. record { point = point_of l p.seed; radius = radius_of l (point_of l p.seed) p.members; below = built_at l false h p.members }) (groups_at l is_root (suc h) set)
+    map (λ p. record {
+      point = point_of l p.seed;
+      radius = radius_of l (point_of l p.seed) p.members;
+      below = built_at l false h p.members;
+    }) (groups_at l is_root (suc h) set)
 
 -- the least height, from this one on, of a tree that has room for n objects
 abbrev pub height_from : ℕ → ℕ → ℕ → ℕ → ℕ

@@ -59,7 +59,8 @@ placed_from far room k [] i counts (suc left) =
     member_of (chosen (nearest_from far room k 0 None counts)) ∷ placed_from far room (k + 1) [] i (counted (nearest_from far room k 0 None counts) counts) left
 placed_from far room k (s ∷ seeds) i counts (suc left) =
     if s == k then seed_of i ∷ placed_from far room (k + 1) seeds (i + 1) counts left
-    else member_of (chosen (nearest_from far room k 0 None counts)) ∷ placed_from far room (k + 1) (s ∷ seeds) i (counted (nearest_from far room k 0 None counts) counts) left
+    else member_of (chosen (nearest_from far room k 0 None counts)) ∷ placed_from far room (k + 1) (s ∷ seeds) i
+    (counted (nearest_from far room k 0 None counts) counts) left
 
 -- the number of objects in a group
 abbrev pub in_group : ℕ → List Member → ℕ
@@ -113,4 +114,5 @@ pub record AreSized (least room g n : ℕ) (ps : List Member) : Type 0 where
 
 -- where g groups can have so many objects each, they do
 abbrev pub GroupsAreSized : Type 0
-GroupsAreSized = (far : Far) (least room g n : ℕ) → 0 < least → least ≤ room → 0 < g → g * least ≤ n → n ≤ g * room → AreSized least room g n (grouped far least room g n)
+GroupsAreSized = (far : Far) (least room g n : ℕ) → 0 < least → least ≤ room → 0 < g → g * least ≤ n → n ≤ g * room →
+    AreSized least room g n (grouped far least room g n)

@@ -74,7 +74,8 @@ branch b x = record { point = b.0; radius = b.1; below = x }
 abbrev pub fit : {X : Type 0} → Rules → (X → Ball) → List X → Grown (List X)
 fit R ball xs =
     if nat_le (length xs) R.most then One xs
-    else Two (branch (R.split (map ball xs)).first (taken (R.split (map ball xs)).mask xs)) (branch (R.split (map ball xs)).second (left (R.split (map ball xs)).mask xs))
+    else Two (branch (R.split (map ball xs)).first (taken (R.split (map ball xs)).mask xs))
+    (branch (R.split (map ball xs)).second (left (R.split (map ball xs)).mask xs))
 
 -- a branch whose subtree has grown: its radius reaches the new point; of two halves the first takes its place, and the
 -- second is appended

@@ -31,4 +31,5 @@ ObjectsTakeNearest =
 
 -- the i-th seed is in group i, also after the small groups were filled up
 abbrev pub SeedsStay : Type 0
-SeedsStay = (far : Far) (least room g n : ℕ) → 0 < g → g ≤ n → (i : ℕ) → i < g → slice_index_or (grouped far least room g n) (i * n / g) (member_of 0) ≡ seed_of i
+SeedsStay = (far : Far) (least room g n : ℕ) → 0 < g → g ≤ n → (i : ℕ) → i < g →
+    slice_index_or (grouped far least room g n) (i * n / g) (member_of 0) ≡ seed_of i

@@ -18,4 +18,5 @@ InsertionKeepsSound =
 
 -- a bulk load of points that fit makes a sound tree
 abbrev pub LoadIsSound : Type 0
-LoadIsSound = (s : Space) → IsSpace s → (rows : List (List ℕ)) (tags : List ℕ) → AllByRecursion (λ p. IsTrue (s.fits p)) rows → IsSoundTall s (built s rows tags)
+LoadIsSound = (s : Space) → IsSpace s → (rows : List (List ℕ)) (tags : List ℕ) → AllByRecursion (λ p. IsTrue (s.fits p)) rows →
+    IsSoundTall s (built s rows tags)

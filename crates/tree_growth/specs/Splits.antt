@@ -26,7 +26,8 @@ pub record IsFairPartition (n a b least : ℕ) (sides : List Side) : Type 0 wher
 
 abbrev pub PartitionIsFair : Type 0
 PartitionIsFair =
-    (t : Table) (a b split least : ℕ) → a < size t → b < size t → a ≢ b → 1 ≤ least → 2 * least ≤ size t → IsFairPartition (size t) a b least (partitioned t a b split least)
+    (t : Table) (a b split least : ℕ) → a < size t → b < size t → a ≢ b → 1 ≤ least → 2 * least ≤ size t →
+    IsFairPartition (size t) a b least (partitioned t a b split least)
 
 -- a row of a node's table has the distances to one entry's point
 abbrev pub RowHasDistances : Type 0

@@ -1,19 +1,15 @@
 -- The shape of a tree, node by node.
-use Rattle.std.specs.Prelude.{◌≡◌, ◌≢◌, ℕ, zero, suc, ◌+◌, ◌≤◌, ◌<◌, false, Err, List, [], ◌∷◌, ◌++◌, map, length, Option, Some, None, IsTrue}
+use Rattle.std.specs.Prelude.{◌≡◌, ℕ, zero, suc, ◌+◌, ◌≤◌, List, [], ◌∷◌, ◌++◌, map, length, Option, Some, None, IsTrue}
 use Rattle.std.specs.List.{AllByRecursion, flat_map}
 use Rattle.metric_laws.specs.Space.{Space}
-use Rattle.outside_io.specs.Causes.{Rose}
 use Rattle.tree_shape.specs.declared.live.Live.{Live}
 use Rattle.tree_shape.specs.declared.entry.InnerEntry.{InnerEntry}
 use Rattle.tree_shape.specs.declared.entry.Node.{Node}
 use Rattle.tree_shape.specs.declared.entry.Node.TheVariants.{Leaf, Inner}
 use Rattle.tree_shape.specs.Tree.{Nodes, IsSoundAt, IsSoundTree, inner_entries}
-use Rattle.node_page.specs.declared.node.NodeFault.TheVariants.{Memory as NodeMemory}
-use Rattle.page_store.specs.declared.pages.PageFault.{PageFault}
-use Rattle.page_store.specs.declared.pages.PageFault.TheVariants.{Disk, Bad, Outside, Memory, Repeats, Level}
-use Rattle.page_store.specs.Reading.{IsWithin, is_within, nodes_of}
+use Rattle.page_store.specs.Reading.{nodes_of}
 use Rattle.page_store.specs.Shelf.{Shelf, HoldsSame, IsNodeOf}
-use Rattle.log_model.specs.Counts.{count_up}
+use Rattle.metric_laws.specs.Counts.{count_up}
 use Rattle.tree_outline.specs.declared.outline.Shape.{Shape}
 use Rattle.tree_outline.specs.declared.outline.ShapeLine.{ShapeLine}
 use Rattle.tree_outline.specs.declared.outline.Named.{Named}
@@ -43,37 +39,13 @@ lines_at nodes (suc h) n = lines_of n (nodes n.page) ++ flat_map (λ e. lines_at
 abbrev pub tree_lines : Nodes → Live → List ShapeLine
 tree_lines nodes t = lines_at nodes t.height (root_named t.root)
 
--- A walk in pre-order, which opens each node before those that it names, has drawn these lines and has still to open these
--- nodes.
+-- The walk by child numbers, as the lines that it draws: it has drawn these, and has still to open these nodes. The pages that
+-- it opened make a walk of page_store (`Tours`).
 abbrev pub DrawsTo : Nodes → List Named → List ShapeLine → List Named → Type 0
 DrawsTo nodes ns [] left = left ≡ ns
 DrawsTo nodes [] (l ∷ ls) left = ⊥
 DrawsTo nodes (n ∷ ns) (l ∷ ls) left =
     (node : Node) × (nodes n.page ≡ Some node) × (l ≡ line_of n node) × DrawsTo nodes (map named_by (inner_entries (Some node)) ++ ns) ls left
-
--- the walk of the tree opens so many nodes and then comes to this page
-pub record ComesTo (nodes : Nodes) (root opened page : ℕ) : Type 0 where
-  pub lines : List ShapeLine
-  pub next : Named
-  pub rest : List Named
-  pub walk : DrawsTo nodes (root_named root ∷ []) lines (next ∷ rest)
-  pub is : next.page ≡ page
-  pub count : length lines ≡ opened
-
--- the same, where it has opened fewer nodes than there are pages
-abbrev pub ComesInside : Nodes → Live → ℕ → Type 0
-ComesInside nodes t page = (opened : ℕ) × (opened < t.pages) × ComesTo nodes t.root opened page
-
--- why the walk stopped: the disk failed or memory ran out; or it came to a page that holds no node, or that is none of the
--- file's; or it has opened as many nodes as there are pages, and comes to this page besides
-abbrev pub HasShapeCause : Live → Shelf → Shelf → PageFault → Type 0
-HasShapeCause t old new Disk = Rose old.faults new.faults
-HasShapeCause t old new Memory = Unit {0}
-HasShapeCause t old new (Bad page fault) =
-    (fault ≢ NodeMemory) × IsWithin old.pages page × (IsTrue old.tells → (old.read page ≡ Err (Bad page fault)) × ComesInside (nodes_of old.read) t page)
-HasShapeCause t old new (Outside page) = (is_within old.pages page ≡ false) × (IsTrue old.tells → (old.read page ≡ Err (Outside page)) × ComesInside (nodes_of old.read) t page)
-HasShapeCause t old new (Repeats page) = (new.asked ≡ count_up old.asked t.pages) × (IsTrue old.tells → ComesTo (nodes_of old.read) t.root t.pages page)
-HasShapeCause t old new (Level page) = ⊥
 
 -- what a shape says besides its lines
 pub record IsCounted (t : Live) (shape : Shape) : Type 0 where

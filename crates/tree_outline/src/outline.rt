@@ -1,12 +1,13 @@
 // The shape of a tree, by a walk in pre-order.
 ghost use Rattle.std.specs.Prelude.{◌≡◌, ◌≤◌, ◌+◌, ◌++◌, [], ◌∷◌, map, length, reverse, Some, IsTrue, IfOk, IfErr, OnOk};
-ghost use Rattle.metric_laws.specs.Counts.{next_count};
+ghost use Rattle.metric_laws.specs.Counts.{next_count, count_up};
 ghost use Rattle.metric_laws.specs.Space.{Space};
 ghost use Rattle.tree_shape.specs.Tree.{IsSoundTree, inner_entries};
 ghost use Rattle.page_store.specs.Reading.{nodes_of};
 ghost use Rattle.page_store.specs.Shelf.{HoldsSame, HasPageCause, IsPassing};
-ghost use Rattle.log_model.specs.Counts.{count_up, entry_count};
-ghost use Rattle.tree_outline.specs.Shapes.{root_named, named_by, line_of, tree_lines, DrawsTo, HasShapeCause, IsCounted, IsDrawn};
+ghost use Rattle.page_store.specs.Tours.{HasTourCause};
+ghost use Rattle.log_model.specs.Counts.{entry_count};
+ghost use Rattle.tree_outline.specs.Shapes.{root_named, named_by, line_of, tree_lines, DrawsTo, IsCounted, IsDrawn};
 
 use metric_laws::{Listed, Point};
 use page_store::{Memory, PageFault, Pages};
@@ -130,9 +131,11 @@ pub fn shape_of<P: Pages>(alloc: Global, pages: &mut P, live: &Live) -> Result<S
     ensures reads { IfOk result (λ shape. (P.shelf pages.new).reads ≤ (P.shelf pages.old).reads + length shape.lines) }
     ensures lines { IfOk result (λ shape. IsTrue (P.shelf pages.old).tells → (s : Space) → IsSoundTree s (nodes_of (P.shelf pages.old).read) live.now →
         shape.lines ≡ tree_lines (nodes_of (P.shelf pages.old).read) live.now) }
-    ensures walk { IfOk result (λ shape. IsTrue (P.shelf pages.old).tells → DrawsTo (nodes_of (P.shelf pages.old).read) (root_named live.now.root ∷ []) shape.lines []) }
-    ensures cause { IfErr result (HasShapeCause live.now (P.shelf pages.old) (P.shelf pages.new)) }
-    ensures sound { IfErr result (λ fault. IsTrue (P.shelf pages.old).tells → (s : Space) → IsSoundTree s (nodes_of (P.shelf pages.old).read) live.now → IsPassing fault) }
+    ensures walk { IfOk result (λ shape. IsTrue (P.shelf pages.old).tells →
+        DrawsTo (nodes_of (P.shelf pages.old).read) (root_named live.now.root ∷ []) shape.lines []) }
+    ensures cause { IfErr result (HasTourCause live.now (P.shelf pages.old) (P.shelf pages.new)) }
+    ensures sound { IfErr result (λ fault. IsTrue (P.shelf pages.old).tells → (s : Space) →
+        IsSoundTree s (nodes_of (P.shelf pages.old).read) live.now → IsPassing fault) }
 {
     let mut lines = Vec::new(alloc);
     let Ok(mut coming) = vec![in alloc;

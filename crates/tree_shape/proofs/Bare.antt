@@ -1,14 +1,14 @@
 -- A sound tree on pages is sound without them.
-use Rattle.std.proofs.Common.{ℕ, zero, suc, ◌<◌, ◌≤◌, List, [], ◌∷◌, sym, arith, length, subst, Option, Some}
+use Rattle.std.proofs.Common.{ℕ, zero, suc, ◌≤◌, List, [], ◌∷◌, sym, length, subst, Option, Some}
 use Rattle.std.specs.Prelude.{map, IsTrue}
 use Rattle.std.specs.List.{AllByRecursion}
 use Rattle.std.proofs.lemmas.List.{length-map}
 use Rattle.metric_laws.specs.Space.{Space}
 use Rattle.tree_shape.specs.declared.entry.InnerEntry.{InnerEntry}
-use Rattle.tree_shape.specs.Fill.{IsFilled, least_for, root_least}
+use Rattle.tree_shape.specs.Fill.{IsFilled, least_for}
 use Rattle.tree_shape.specs.Tree.{Nodes, IsSoundAt, IsSoundObject, IsSoundEntry, objects_at}
-use Rattle.tree_shape.specs.Plain.{Object, Branch, Plain, Tall, object_of, tree_at}
-use Rattle.tree_shape.specs.Sound.{ObjectFits, BranchCovers, IsSoundPlain, IsSoundTall}
+use Rattle.tree_shape.specs.Plain.{Object, Branch, Plain, object_of, tree_at}
+use Rattle.tree_shape.specs.Sound.{ObjectFits, BranchCovers, IsSoundPlain}
 use Rattle.tree_shape.proofs.Reading.{same_objects}
 
 pub all_mapped : {X Y : Type 0} (P : X → Type 0) (Q : Y → Type 0) (f : X → Y) (xs : List X) → ((x : X) → P x → Q (f x)) → AllByRecursion P xs → AllByRecursion Q (map f xs)

@@ -27,4 +27,5 @@ IsSoundTall s t = IsSoundPlain s t.height (root_least t.height) t.tree
 -- a tree that is sound on its pages is sound without them
 abbrev pub SoundWithoutPages : Type 0
 SoundWithoutPages =
-    (s : Space) (nodes : Nodes) (h least : ℕ) (above : Option (List ℕ)) (page : ℕ) → IsSoundAt s nodes h least above page → IsSoundPlain s h least (tree_at nodes h page)
+    (s : Space) (nodes : Nodes) (h least : ℕ) (above : Option (List ℕ)) (page : ℕ) → IsSoundAt s nodes h least above page →
+    IsSoundPlain s h least (tree_at nodes h page)

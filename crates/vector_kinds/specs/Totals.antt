@@ -41,7 +41,8 @@ total_apart g is (x ∷ a) (y ∷ b) long none =
     let there : a ≡ b = total_apart g is a b (omega arith) (omega arith) in
     λ i. here i ∷ there i
 
-pub total_triangle : (g : ℕ → ℕ → ℕ) → IsPlaceDistance g → (a b c : List ℕ) → length a ≡ length b → length b ≡ length c → total g a c ≤ total g a b + total g b c
+pub total_triangle : (g : ℕ → ℕ → ℕ) → IsPlaceDistance g → (a b c : List ℕ) → length a ≡ length b → length b ≡ length c →
+    total g a c ≤ total g a b + total g b c
 total_triangle g is [] b c first second = omega arith
 total_triangle g is (x ∷ a) [] c first second = absurd (omega arith)
 total_triangle g is (x ∷ a) (y ∷ b) [] first second = absurd (omega arith)

@@ -29,13 +29,19 @@ front at file = take at (file ++ replicate at 0)
 
 length-front : (at : ℕ) (file : List ℕ) → length (front at file) ≡ at
 unfolding front
-length-front at file = omega (arith, length-take at (file ++ replicate at 0), length-append file (replicate at 0), length-replicate at (let zero : ℕ = 0 in zero))
+length-front at file = omega (
+  arith,
+  length-take at (file ++ replicate at 0),
+  length-append file (replicate at 0),
+  length-replicate at (let zero : ℕ = 0 in zero),
+)
 
 place-front : (at : ℕ) (file : List ℕ) (i : ℕ) → i < at → slice_index (front at file) i ≡ slice_index file i
 unfolding front
 place-front at file i below = get_or-take at (file ++ replicate at 0) i 0 below ∙ elim (cases_lt i (length file)) [
   | inl within ↦ get_or_append_left file (replicate at 0) 0 i within
-  | inr past ↦ get_or-append_right file (replicate at 0) (length file) i 0 refl past ∙ get_or-replicate at (i - length file) 0 0 (omega arith) ∙ sym (get_or_past file i 0 past)
+  | inr past ↦ get_or-append_right file (replicate at 0) (length file) i 0 refl past ∙ get_or-replicate at (i - length file) 0 0
+      (omega arith) ∙ sym (get_or_past file i 0 past)
 ]
 
 -- the part with the bytes, and the part after them
@@ -53,10 +59,12 @@ unfolding overwritten front
 overwritten-written at bytes file = record {
   size = length-overwritten at bytes file;
   inside = λ i within.
-      get_or_append_left (front at file ++ bytes) tail 0 (at + i) (omega (arith, size)) ∙ get_or-append_right (front at file) bytes at (at + i) 0 (length-front at file) (omega arith)
+      get_or_append_left (front at file ++ bytes) tail 0 (at + i) (omega (arith, size))
+      ∙ get_or-append_right (front at file) bytes at (at + i) 0 (length-front at file) (omega arith)
       ∙ ap (λ (k : ℕ). slice_index bytes k) (omega arith);
   below = λ i lt.
-      get_or_append_left (front at file ++ bytes) tail 0 i (omega (arith, size)) ∙ get_or_append_left (front at file) bytes 0 i (omega (arith, length-front at file))
+      get_or_append_left (front at file ++ bytes) tail 0 i (omega (arith, size)) ∙ get_or_append_left (front at file) bytes 0 i
+      (omega (arith, length-front at file))
       ∙ place-front at file i lt;
   above = λ i le.
       get_or-append_right (front at file ++ bytes) tail (at + length bytes) i 0 size le ∙ get_or-drop (at + length bytes) file (i - (at + length bytes)) 0

@@ -23,7 +23,8 @@ pub closed_at_rest : (file : List ℕ) (i : ℕ) → i < length file → is_open
 unfolding is_open is_within
 closed_at_rest file i below = grind (arith, nat_tests)
 
-pub open_inside : (kept : Kept) (at : ℕ) (bytes : List ℕ) (done : Bool) (i : ℕ) → at ≤ i → i < at + length bytes → is_open (after kept (write at bytes done)) i ≡ true
+pub open_inside : (kept : Kept) (at : ℕ) (bytes : List ℕ) (done : Bool) (i : ℕ) → at ≤ i → i < at + length bytes →
+    is_open (after kept (write at bytes done)) i ≡ true
 unfolding is_open is_within
 open_inside kept at bytes done i le lt = grind (arith, nat_tests)
 
@@ -31,15 +32,18 @@ pub same_below : (kept : Kept) (at : ℕ) (bytes : List ℕ) (done : Bool) (i : 
 unfolding is_open is_within
 same_below kept at bytes done i lt = grind (arith, nat_tests)
 
-pub same_above : (kept : Kept) (at : ℕ) (bytes : List ℕ) (done : Bool) (i : ℕ) → at + length bytes ≤ i → is_open (after kept (write at bytes done)) i ≡ is_open kept i
+pub same_above : (kept : Kept) (at : ℕ) (bytes : List ℕ) (done : Bool) (i : ℕ) → at + length bytes ≤ i →
+    is_open (after kept (write at bytes done)) i ≡ is_open kept i
 unfolding is_open is_within
 same_above kept at bytes done i le = grind (arith, nat_tests)
 
-pub closed_before : (kept : Kept) (at : ℕ) (bytes : List ℕ) (done : Bool) (i : ℕ) → is_open (after kept (write at bytes done)) i ≡ false → is_open kept i ≡ false
+pub closed_before : (kept : Kept) (at : ℕ) (bytes : List ℕ) (done : Bool) (i : ℕ) →
+    is_open (after kept (write at bytes done)) i ≡ false → is_open kept i ≡ false
 unfolding is_open is_within
 closed_before kept at bytes done i closed = grind (arith, nat_tests)
 
-pub closed_outside : (kept : Kept) (at : ℕ) (bytes : List ℕ) (done : Bool) (i : ℕ) → is_open (after kept (write at bytes done)) i ≡ false → (i < at) ⊎ (at + length bytes ≤ i)
+pub closed_outside : (kept : Kept) (at : ℕ) (bytes : List ℕ) (done : Bool) (i : ℕ) →
+    is_open (after kept (write at bytes done)) i ≡ false → (i < at) ⊎ (at + length bytes ≤ i)
 unfolding is_open is_within
 closed_outside kept at bytes done i closed = grind (arith, nat_tests)
 
@@ -56,7 +60,8 @@ reads_on kept (write at bytes true) is =
     record {
       no_shorter = omega (arith, is.no_shorter, read.size);
       no_longer = omega (arith, is.no_longer, read.size, length-overwritten at bytes kept.last);
-      others = λ i closed. ⊎_elim (λ lt. read.below i lt) (λ le. read.above i le) (closed_outside kept at bytes true i closed) ∙ is.others i (closed_before kept at bytes true i closed);
+      others = λ i closed. ⊎_elim (λ lt. read.below i lt) (λ le. read.above i le) (closed_outside kept at bytes true i closed)
+          ∙ is.others i (closed_before kept at bytes true i closed);
     }
 reads_on kept (write at bytes false) is = record {
   no_shorter = is.no_shorter;
@@ -73,19 +78,24 @@ read_is_image kept (noted ∷ past) is = read_is_image (after kept noted.call) p
 
 pub left_now : (first : List ℕ) (past : List Noted) (image : List ℕ) → LeftAt first past (length past) image → IsImage (replayed (at_rest first) past) image
 unfolding LeftAt
-left_now first past image (inl left) = subst (λ (done : List Noted). IsImage (replayed (at_rest first) done) image) (take_all (length past) past (omega arith)) left
-left_now first past image (inr left) = subst (λ (done : List Noted). IsImage (replayed (at_rest first) done) image) (take_all (length past + 1) past (omega arith)) left
+left_now first past image (inl left) = subst (λ (done : List Noted). IsImage (replayed (at_rest first) done) image)
+    (take_all (length past) past (omega arith)) left
+left_now first past image (inr left) = subst (λ (done : List Noted). IsImage (replayed (at_rest first) done) image)
+    (take_all (length past + 1) past (omega arith)) left
 
 pub now_left : (first : List ℕ) (past : List Noted) (image : List ℕ) → IsImage (replayed (at_rest first) past) image → LeftAt first past (length past) image
 unfolding LeftAt
-now_left first past image is = inl (subst (λ (done : List Noted). IsImage (replayed (at_rest first) done) image) (sym (take_all (length past) past (omega arith))) is)
+now_left first past image is =
+    inl (subst (λ (done : List Noted). IsImage (replayed (at_rest first) done) image)
+    (sym (take_all (length past) past (omega arith))) is)
 
 -- ---- the laws of the trait
 
 pub read_may_be_left : (disk : SimulatedDisk) → MayLeave (memory_state disk) (memory_state disk).bytes
 read_may_be_left disk = now_left disk.first disk.past (kept_by disk).read (read_is_image (at_rest disk.first) disk.past (rests disk.first))
 
-mixed : (kept : Kept) (one other : List ℕ) (i : ℕ) → IsImage kept one → IsImage kept other → i < length one → i < length other → IsImage kept (set one i (slice_index other i))
+mixed : (kept : Kept) (one other : List ℕ) (i : ℕ) → IsImage kept one → IsImage kept other → i < length one → i < length other →
+    IsImage kept (set one i (slice_index other i))
 mixed kept one other i is_one is_other below_one below_other =
     let same : length (set one i (slice_index other i)) ≡ length one = length-set one i (slice_index other i) in
     record {
@@ -102,7 +112,8 @@ mixed kept one other i is_one is_other below_one below_other =
         ap (λ (k : ℕ). slice_index (set one i (slice_index other i)) k) here ∙ get_or-set_same one i (slice_index other i) 0 below_one
         ∙ ap (λ (k : ℕ). slice_index other k) (sym here) ∙ is_other.others j closed
 
-pub places_mix : (disk : SimulatedDisk) (one other : List ℕ) (i : ℕ) → MayLeave (memory_state disk) one → MayLeave (memory_state disk) other → i < length one → i < length other
+pub places_mix : (disk : SimulatedDisk) (one other : List ℕ) (i : ℕ) → MayLeave (memory_state disk) one →
+    MayLeave (memory_state disk) other → i < length one → i < length other
     → MayLeave (memory_state disk) (set one i (slice_index other i))
 places_mix disk one other i left_one left_other below_one below_other =
     now_left disk.first disk.past (set one i (slice_index other i))

@@ -1,4 +1,4 @@
-use Rattle.std.proofs.Common.{◌≡◌, ◌<◌, ◌∙◌, length, length-set, sym, arith}
+use Rattle.std.proofs.Common.{◌<◌, ◌∙◌, length, length-set, sym, arith}
 use Rattle.batch_run.specs.Dealing.{Rounds}
 use Rattle.batch_run.proofs.Seats.{left_on, done_on}
 use Rattle.batch_run.proofs.dealing.in_order.Goals as goal

@@ -1,4 +1,4 @@
-use Rattle.std.proofs.Common.{◌≡◌, ℕ, ◌<◌, ◌≤◌, length, slice_get}
+use Rattle.std.proofs.Common.{◌≡◌, ℕ, ◌≤◌, length, slice_get}
 use Rattle.batch_run.specs.Dealing.{AreInOrder, place_of}
 use Rattle.batch_run.proofs.dealing.in_order.Given as goal
 

@@ -1,4 +1,4 @@
-use Rattle.std.proofs.Common.{◌≡◌, ◌*◌, ◌∙◌, ℕ, length, Ok, arith}
+use Rattle.std.proofs.Common.{arith}
 use Rattle.batch_run.specs.Dealing.{Rounds}
 use Rattle.batch_run.proofs.Seats.{some_seated, ordered_meet}
 use Rattle.batch_run.proofs.dealing.share_evenly.Goals as goal

@@ -1,10 +1,11 @@
 use Rattle.std.proofs.Common.{arith}
 use Rattle.disk_model.specs.Moments.{then_unchanged}
 use Rattle.file_jobs.proofs.Statuses.{neither}
-use Rattle.file_jobs.proofs.Ends.{rose_before, none_of_three}
+use Rattle.file_jobs.proofs.Ends.{none_of_three}
 use Rattle.file_jobs.proofs.Shaped.{shape_before, damage_before, stop_rose}
 use Rattle.file_jobs.proofs.Unsound.{no_index_unsound, damaged_unsound}
 use Rattle.file_jobs.proofs.shaping.shape_index.Goals as goal
+use Rattle.outside_io.proofs.Rising.{rose_before}
 
 pub returns-in-Err-clause-shapes : goal.returns-in-Err-clause-shapes
 returns-in-Err-clause-shapes g c =

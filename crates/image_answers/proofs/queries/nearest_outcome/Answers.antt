@@ -1,8 +1,6 @@
-use Rattle.std.proofs.Common.{◌≡◌, ◌∙◌, refl, sym}
-use Rattle.page_store.specs.Shelf.{Shelf}
+use Rattle.std.proofs.Common.{◌∙◌, refl, sym}
 use Rattle.page_store.specs.Shelves.{image_shelf}
-use Rattle.image_answers.specs.Outcomes.{pages_asked}
-use Rattle.image_answers.proofs.Asking.{nearest_found, nearest_fault}
+use Rattle.image_answers.proofs.Asking.{nearest_found, nearest_fault, nearest_marked}
 use Rattle.image_answers.proofs.queries.nearest_outcome.Goals as goal
 
 pub returns-in-Ok : goal.returns-in-Ok
@@ -27,3 +25,16 @@ returns-in-Err g c =
     (λ i. image_shelf (c.pages_of-pages.ensures.dim i) (c.pages_of-pages.ensures.pages i) (c.pages_of-pages.ensures.bytes i) (c.pages_of-pages.ensures.asked i))
     (λ i. image_shelf (dim i) (pages i) (bytes i) c.nearest.new.pages.asked)
     c.args.k c.in-Err.fault c.in-Err.ensures.cause (rw c.new-ruler.ensures.metric at c.in-Err.ensures.sound))
+
+pub tagged-requires : goal.tagged-requires
+tagged-requires g c =
+    let s = g.M.Metric.space c.args.metric in
+    let dim = c.in-Ok.ensures.same.dim ∙ c.pages_of-pages.ensures.dim in
+    let pages = c.in-Ok.ensures.same.pages ∙ c.pages_of-pages.ensures.pages in
+    let bytes = c.in-Ok.ensures.keeps ∙ c.pages_of-pages.ensures.bytes in
+    record {
+      marked = nearest_marked s c.args.live.now c.args.image.now c.args.q.now (rw (← c.as_slice.ensures) (sym c.fits.ensures ∙ c.if-not-fits.false)) _ _ c.nearest.new.pages.asked
+          (λ i. image_shelf (c.pages_of-pages.ensures.dim i) (c.pages_of-pages.ensures.pages i) (c.pages_of-pages.ensures.bytes i) (c.pages_of-pages.ensures.asked i))
+          (λ i. image_shelf (dim i) (pages i) (bytes i) c.nearest.new.pages.asked)
+          c.args.k c.in-Ok.found (rw (c.new-ruler.ensures.metric, c.as_slice-2.ensures) at c.in-Ok.ensures.front);
+    }

@@ -1,4 +1,4 @@
-use Rattle.std.proofs.Common.{◌∙◌, ap, length, sym, inl, refl, arith}
+use Rattle.std.proofs.Common.{◌∙◌, ap, length, inl, refl, arith}
 use Rattle.image_answers.proofs.queries.tagged.Goals as goal
 
 pub returns-in-Ok : goal.returns-in-Ok

@@ -1,4 +1,4 @@
-use Rattle.index_core.specs.Still.{stands_still}
+use Rattle.index_core.proofs.Still.{stands_still}
 use Rattle.index_core.proofs.tests.look_aside.Goals as goal
 
 pub returns : goal.returns

@@ -1,22 +1,17 @@
-use Rattle.std.proofs.Common.{arith}
-use Rattle.join_jobs.proofs.Ending.{early_memory, unchanged}
+use Rattle.disk_model.specs.Disk.{IsUnchanged}
+use Rattle.page_store.specs.Kept.{unchanged_by_none}
+use Rattle.file_jobs.proofs.logs.Ends.{judged_late, read_all, read_none}
 use Rattle.join_jobs.proofs.jobs.judge_logs.Goals as goal
 
-pub returns-in-Err-Memory-clause-judges : goal.returns-in-Err-Memory-clause-judges
-returns-in-Err-Memory-clause-judges g c =
-    let took = c.in-Err-Memory.ensures.too_long in
-    let ended = c.end_with-in-Err-Memory in
-    let eight = ended.ensures.status in
+pub returns-in-Ok-clause-judges : goal.returns-in-Ok-clause-judges
+returns-in-Ok-clause-judges g c =
+    let first = c.in-Ok.ensures in
+    let told = c.judge_indexes.ensures in
+    read_all _ _ _ _ told.judges.unchanged c.in-Ok.bytes.items _ _ c.judge_indexes.result.0 first.takes told.statuses (rw (first.silent, c.deref.ensures.value) at told.judges)
+
+pub returns-in-Err-clause-judges : goal.returns-in-Err-clause-judges
+returns-in-Err-clause-judges g c =
     let index = g.D.Disk.state c.args.index.now in
     let other = g.E.Disk.state c.args.other.now in
-    record {
-      bytes = took.bytes;
-      taken = took.taken;
-      few = took.few;
-      long = (λ is. absurd (omega (arith, eight, is)), λ more. cc (took.long.1 more));
-      all = λ a b not_eight. absurd (not_eight eight);
-      judges = λ a b. early_memory c.args.report index other took.bytes (g.K.Sink.state c.args.out.now) (g.K.Sink.state ended.new.out) ended.result.0 eight ended.ensures.line;
-      unchanged = (unchanged index, unchanged other);
-      input_line = λ is. absurd (omega (arith, eight, is));
-      long_line = λ is. absurd (omega (arith, eight, is));
-    }
+    let same : IsUnchanged index index × IsUnchanged other other = (unchanged_by_none index, unchanged_by_none other) in
+    read_none _ _ _ _ same _ _ c.in-Err.status.0 c.in-Err.ensures.unread (λ bytes is line. judged_late _ _ _ _ same _ _ c.in-Err.status.0 is line)

@@ -4,9 +4,10 @@ use Rattle.tree_shape.specs.Tree.{IsSoundTree}
 use Rattle.log_model.specs.declared.logs.JoinLog.{JoinLog}
 use Rattle.join_jobs.specs.Trees.{space_of, read_of, tree_nodes, judge_of}
 use Rattle.join_jobs.specs.Laws.{IsCompleteLog}
-use Rattle.join_jobs.proofs.Within.{nodes_within}
+use Rattle.file_jobs.proofs.logs.Within.{nodes_within}
 use Rattle.join_jobs.proofs.Spaces.{one_space}
-use Rattle.join_jobs.proofs.Showing.{show_logs}
+use Rattle.file_jobs.proofs.logs.Showing.{show_logs}
+use Rattle.join_jobs.specs.Lines.{join_words}
 use Rattle.join_jobs.proofs.laws.faultless_is_complete.Goals as goal
 
 pub returns : goal.returns
@@ -14,8 +15,8 @@ returns c left right opened other_opened =
     let s = space_of left in
     let judged : (log : JoinLog) → _ = λ log. c.join_faults_are_unsoundness.ensures s (read_of left) (read_of right) left.live right.live log in
     record {
-      left_sound = c.audit_faults_are_unsoundness.ensures s (read_of left) left.live (nodes_within left);
-      right_sound = c.audit_faults_are_unsoundness.ensures (space_of right) (read_of right) right.live (nodes_within right);
+      left_sound = c.audit_faults_are_unsoundness.ensures s (read_of left) left.live (nodes_within left.head.dim left.live.pages left.file);
+      right_sound = c.audit_faults_are_unsoundness.ensures (space_of right) (read_of right) right.live (nodes_within right.head.dim right.live.pages right.file);
       says_true = λ one sound other_sound.
           let right_sound : IsSoundTree s (tree_nodes right) right.live = subst (λ (x : Space). IsSoundTree x (tree_nodes right) right.live) (one_space left.head right.head one) other_sound in
           let complete : (log : JoinLog) → judge_of left right log ≡ None → IsCompleteLog left right log = λ log none. record {
@@ -24,6 +25,6 @@ returns c left right opened other_opened =
           } in
           record {
             faultless = λ log. (complete log, λ whole. (judged log).1 whole.sound);
-            shown = show_logs left right complete;
+            shown = show_logs join_words (judge_of left right) (IsCompleteLog left right) complete;
           };
     }

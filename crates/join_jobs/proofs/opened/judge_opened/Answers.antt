@@ -1,19 +1,23 @@
-use Rattle.std.proofs.Common.{◌≡◌, Bool, ap, refl, subst, ◌++◌}
-use Rattle.std.specs.Prelude.{IsTrue, IfOk}
+use Rattle.std.proofs.Common.{◌≡◌, ap, refl, sym, subst}
+use Rattle.std.specs.Prelude.{IsTrue}
+use Rattle.std.proofs.lemmas.Result.{IfOk-weaker}
 use Rattle.metric_mix.specs.MixSpaces.{mix_space}
 use Rattle.metric_mix.specs.MixKinds.{mix_kind, mix_dim}
+use Rattle.outside_io.specs.declared.status.Status.{Status}
 use Rattle.page_store.specs.Reading.{reading_in, version_of}
 use Rattle.log_verify.specs.JoinJudged.{join_fault}
 use Rattle.prune_log.specs.Reading.{join_log_at, frames_at}
-use Rattle.join_jobs.specs.Lines.{Judge, on_logs, opening_text}
+use Rattle.file_jobs.specs.Logs.Jobs.{Puts, stop_of}
+use Rattle.file_jobs.specs.Logs.Sayings.{on_logs}
+use Rattle.join_jobs.specs.Lines.{Judge, join_words}
 use Rattle.join_jobs.specs.Trees.{tree_of, judge_of}
 use Rattle.join_jobs.proofs.opened.judge_opened.Goals as goal
 
-pub returns-clause-text : goal.returns-clause-text
-returns-clause-text g c =
+pub returns-clause-puts : goal.returns-clause-puts
+returns-clause-puts g c t u =
     let p = c.new-left_pages.result in
     let q = c.new-right_pages.result in
-    let m = c.space_of.result in
+    let m = c.space_of-space.result in
     let dp = g.D.Disk.state p.disk.now in
     let dq = g.E.Disk.state q.disk.now in
     let l = c.args.trees.now.left in
@@ -22,16 +26,17 @@ returns-clause-text g c =
     let e = g.E.Disk.state c.args.other.now in
     let judge = join_fault (mix_space (mix_kind m) (mix_dim m)) (reading_in (version_of p.first_version) p.dim p.pages dp.bytes) (reading_in (version_of q.first_version) q.dim q.pages dq.bytes) l.1 r.1 in
     let told : judge ≡ judge_of (tree_of d l) (tree_of e r) =
-    rw (c.new-left_pages.ensures.version, c.new-left_pages.ensures.dim, c.new-left_pages.ensures.pages, c.new-left_pages.ensures.same, c.new-right_pages.ensures.version, c.new-right_pages.ensures.dim, c.new-right_pages.ensures.pages, c.new-right_pages.ensures.same, c.space_of.ensures.kind, c.space_of.ensures.dim) refl in
-    subst (λ (t : Bool). IfOk c.judge_bytes.result (λ said. IsTrue t → IsTrue e.tells → said.text.items ≡ opening_text c.args.report ++ (on_logs c.args.report (judge_of (tree_of d l) (tree_of e r)) (frames_at join_log_at c.args.bytes.now)).text)) (ap (λ x. (g.D.Disk.state x).tells) c.new-left_pages.ensures.same)
-    (subst (λ (t : Bool). IfOk c.judge_bytes.result (λ said. IsTrue dp.tells → IsTrue t → said.text.items ≡ opening_text c.args.report ++ (on_logs c.args.report (judge_of (tree_of d l) (tree_of e r)) (frames_at join_log_at c.args.bytes.now)).text)) (ap (λ x. (g.E.Disk.state x).tells) c.new-right_pages.ensures.same)
-    (subst (λ (j : Judge). IfOk c.judge_bytes.result (λ said. IsTrue dp.tells → IsTrue dq.tells → said.text.items ≡ opening_text c.args.report ++ (on_logs c.args.report j (frames_at join_log_at c.args.bytes.now)).text)) told c.judge_bytes.ensures.text))
+    rw (c.new-left_pages.ensures.version, c.new-left_pages.ensures.dim, c.new-left_pages.ensures.pages, c.new-left_pages.ensures.same, c.new-right_pages.ensures.version, c.new-right_pages.ensures.dim, c.new-right_pages.ensures.pages, c.new-right_pages.ensures.same, c.space_of-space.ensures.kind, c.space_of-space.ensures.dim) refl in
+    let tells : dp.tells ≡ d.tells = ap (λ x. (g.D.Disk.state x).tells) c.new-left_pages.ensures.same in
+    let other_tells : dq.tells ≡ e.tells = ap (λ x. (g.E.Disk.state x).tells) c.new-right_pages.ensures.same in
+    subst (λ (j : Judge). Puts (on_logs join_words c.args.docket.now.report j (frames_at join_log_at c.args.docket.now.bytes.now)).texts (g.K.Sink.state c.args.out.now).written (g.K.Sink.state c.judge_bytes.new.out).written (stop_of c.judge_bytes.result)) told
+    (c.judge_bytes.ensures.puts (subst IsTrue (sym tells) t, subst IsTrue (sym other_tells) u))
 
-pub returns-clause-good : goal.returns-clause-good
-returns-clause-good g c =
+pub returns-clause-status : goal.returns-clause-status
+returns-clause-status g c =
     let p = c.new-left_pages.result in
     let q = c.new-right_pages.result in
-    let m = c.space_of.result in
+    let m = c.space_of-space.result in
     let dp = g.D.Disk.state p.disk.now in
     let dq = g.E.Disk.state q.disk.now in
     let l = c.args.trees.now.left in
@@ -40,7 +45,10 @@ returns-clause-good g c =
     let e = g.E.Disk.state c.args.other.now in
     let judge = join_fault (mix_space (mix_kind m) (mix_dim m)) (reading_in (version_of p.first_version) p.dim p.pages dp.bytes) (reading_in (version_of q.first_version) q.dim q.pages dq.bytes) l.1 r.1 in
     let told : judge ≡ judge_of (tree_of d l) (tree_of e r) =
-    rw (c.new-left_pages.ensures.version, c.new-left_pages.ensures.dim, c.new-left_pages.ensures.pages, c.new-left_pages.ensures.same, c.new-right_pages.ensures.version, c.new-right_pages.ensures.dim, c.new-right_pages.ensures.pages, c.new-right_pages.ensures.same, c.space_of.ensures.kind, c.space_of.ensures.dim) refl in
-    subst (λ (t : Bool). IfOk c.judge_bytes.result (λ said. IsTrue t → IsTrue e.tells → said.good ≡ (on_logs c.args.report (judge_of (tree_of d l) (tree_of e r)) (frames_at join_log_at c.args.bytes.now)).good)) (ap (λ x. (g.D.Disk.state x).tells) c.new-left_pages.ensures.same)
-    (subst (λ (t : Bool). IfOk c.judge_bytes.result (λ said. IsTrue dp.tells → IsTrue t → said.good ≡ (on_logs c.args.report (judge_of (tree_of d l) (tree_of e r)) (frames_at join_log_at c.args.bytes.now)).good)) (ap (λ x. (g.E.Disk.state x).tells) c.new-right_pages.ensures.same)
-    (subst (λ (j : Judge). IfOk c.judge_bytes.result (λ said. IsTrue dp.tells → IsTrue dq.tells → said.good ≡ (on_logs c.args.report j (frames_at join_log_at c.args.bytes.now)).good)) told c.judge_bytes.ensures.good))
+    rw (c.new-left_pages.ensures.version, c.new-left_pages.ensures.dim, c.new-left_pages.ensures.pages, c.new-left_pages.ensures.same, c.new-right_pages.ensures.version, c.new-right_pages.ensures.dim, c.new-right_pages.ensures.pages, c.new-right_pages.ensures.same, c.space_of-space.ensures.kind, c.space_of-space.ensures.dim) refl in
+    let tells : dp.tells ≡ d.tells = ap (λ x. (g.D.Disk.state x).tells) c.new-left_pages.ensures.same in
+    let other_tells : dq.tells ≡ e.tells = ap (λ x. (g.E.Disk.state x).tells) c.new-right_pages.ensures.same in
+    IfOk-weaker c.judge_bytes.result (λ (s : Status). IsTrue dp.tells × IsTrue dq.tells → s.0 ≡ (on_logs join_words c.args.docket.now.report judge (frames_at join_log_at c.args.docket.now.bytes.now)).status) _
+    (λ (s : Status) is t u. subst (λ (j : Judge). s.0 ≡ (on_logs join_words c.args.docket.now.report j (frames_at join_log_at c.args.docket.now.bytes.now)).status) told
+    (is (subst IsTrue (sym tells) t, subst IsTrue (sym other_tells) u)))
+    c.judge_bytes.ensures.status

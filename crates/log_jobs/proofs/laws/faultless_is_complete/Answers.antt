@@ -1,10 +1,13 @@
 use Rattle.std.proofs.Common.{◌≡◌, None}
 use Rattle.page_store.specs.Reading.{nodes_of}
 use Rattle.log_model.specs.declared.logs.Log.{Log}
-use Rattle.log_jobs.specs.Jobs.{space_of, read_of, judge_of}
+use Rattle.file_jobs.specs.Spaces.{space_of}
+use Rattle.file_jobs.specs.Logs.Files.{read_of}
+use Rattle.log_jobs.specs.Jobs.{judge_of}
 use Rattle.log_jobs.specs.Laws.{IsCompleteLog}
-use Rattle.log_jobs.proofs.Within.{nodes_within}
-use Rattle.log_jobs.proofs.Showing.{show_logs}
+use Rattle.file_jobs.proofs.logs.Within.{nodes_within}
+use Rattle.file_jobs.proofs.logs.Showing.{show_logs}
+use Rattle.log_jobs.specs.Lines.{log_words}
 use Rattle.log_jobs.proofs.laws.faultless_is_complete.Goals as goal
 
 pub returns : goal.returns
@@ -19,6 +22,6 @@ returns c file head live opens =
           } in
           record {
             faultless = λ log. (complete log, λ whole. (c.faults_are_unsoundness.ensures s read live log).1 whole.sound);
-            shown = show_logs file head live complete;
+            shown = show_logs log_words (judge_of file head live) (IsCompleteLog file head live) complete;
           },
     )

@@ -1,41 +1,76 @@
-use Rattle.std.proofs.Common.{rules, ◌≡◌, List, ℕ, None, ◌∙◌, sym, ap, subst}
-use Rattle.std.specs.Prelude.{IsTrue}
-use Rattle.std.proofs.lemmas.Result.{err_from_is_err_and}
+use Rattle.std.proofs.Common.{rules, ◌≡◌, ◌∙◌, true, false, List, ℕ, sym, subst}
+use Rattle.std.specs.Prelude.{IsTrue, codes}
+use Rattle.std.proofs.lemmas.Result.{IfOk-weaker, err_from_is_err_and}
+use Rattle.outside_io.specs.declared.status.Status.{Status}
+use Rattle.tree_shape.specs.declared.live.Live.{Live}
+use Rattle.node_page.specs.declared.head.Head.{Head}
 use Rattle.prune_log.specs.Reading.{log_at, frames_at}
-use Rattle.log_jobs.specs.declared.report.Report.TheVariants as report
-use Rattle.log_jobs.specs.Lines.{file_text, on_logs}
-use Rattle.log_jobs.specs.Jobs.{Puts, judge_of, stop_of}
-use Rattle.log_jobs.proofs.Putting.{memory_put, none_put}
-use Rattle.log_jobs.proofs.Ending.{file_stopped, file_then, rose_before}
+use Rattle.file_jobs.specs.declared.logs.report.Report.TheVariants as report
+use Rattle.file_jobs.specs.Logs.Files.{fault_of}
+use Rattle.file_jobs.specs.Logs.Jobs.{Puts, stop_of}
+use Rattle.file_jobs.specs.Logs.Sayings.{Saying, on_logs}
+use Rattle.file_jobs.proofs.logs.Audits.{file_stopped, file_unsound, unsound_status, file_then, sound_status}
+use Rattle.log_jobs.specs.Lines.{log_words}
+use Rattle.log_jobs.specs.Jobs.{judge_of}
 use Rattle.log_jobs.proofs.opened.check_opened.Goals as goal
+use Rattle.outside_io.proofs.Rising.{rose_before}
 
-pub returns-in_err-fault-clause-puts : goal.returns-in_err-fault-clause-puts
-returns-in_err-fault-clause-puts g c tells =
+-- what is said of the file's logs
+abbrev said_on : List ℕ → Head → Live → List ℕ → Saying
+said_on file head live bytes = on_logs log_words report.Answers (judge_of file head live) (frames_at log_at bytes)
+
+pub returns-in_err-sound-clause-puts : goal.returns-in_err-sound-clause-puts
+returns-in_err-sound-clause-puts g c tells =
     let p = err_from_is_err_and c.from_residual.result c.from_residual.ensures.1 in
-    rw (p.1, p.2) (none_put _ _ c.in_err-fault.field-0.0 c.in_err-fault.ensures.not_sink)
+    let file = (g.D.Disk.state c.args.index.now).bytes in
+    let head = c.args.opened.now.0 in
+    let live = c.args.opened.now.1 in
+    rw (p.1, p.2) (file_stopped (codes "file") (fault_of file head live) (said_on file head live c.args.bytes.now) _ _ c.in_err-sound.field-0.0 (c.in_err-sound.ensures.puts tells))
 
-pub returns-in_err-text-clause-puts : goal.returns-in_err-text-clause-puts
-returns-in_err-text-clause-puts g c tells =
-    let p = err_from_is_err_and c.from_residual-in_err-text.result c.from_residual-in_err-text.ensures.1 in
-    rw (p.1, p.2) (memory_put _ _)
+pub returns-then-not-sound-clause-puts : goal.returns-then-not-sound-clause-puts
+returns-then-not-sound-clause-puts g c tells =
+    let no : c.in_ok-sound.sound ≡ false = search rules in
+    let file = (g.D.Disk.state c.args.index.now).bytes in
+    let head = c.args.opened.now.0 in
+    let live = c.args.opened.now.1 in
+    file_unsound (codes "file") (fault_of file head live) (said_on file head live c.args.bytes.now) _ _ (sym (c.in_ok-sound.ensures.sound tells) ∙ no) (c.in_ok-sound.ensures.puts tells)
 
-pub returns-in_err-put-clause-puts : goal.returns-in_err-put-clause-puts
-returns-in_err-put-clause-puts g c tells =
-    let p = err_from_is_err_and c.from_residual-in_err-put.result c.from_residual-in_err-put.ensures.1 in
-    rw (p.1, p.2)
-    (file_stopped _ c.in_ok-fault.fault _ c.deref.result.now _ _ c.in_err-put.field-0.0 (c.in_ok-fault.ensures.told tells) (c.deref.ensures.value ∙ c.in_ok-text.ensures) c.in_err-put.ensures.puts)
+pub returns-then-not-sound-clause-status : goal.returns-then-not-sound-clause-status
+returns-then-not-sound-clause-status g c tells =
+    let no : c.in_ok-sound.sound ≡ false = search rules in
+    let file = (g.D.Disk.state c.args.index.now).bytes in
+    let head = c.args.opened.now.0 in
+    let live = c.args.opened.now.1 in
+    sym (unsound_status (codes "file") (fault_of file head live) (said_on file head live c.args.bytes.now) (sym (c.in_ok-sound.ensures.sound tells) ∙ no))
 
 pub returns-clause-puts : goal.returns-clause-puts
 returns-clause-puts g c tells =
-    let d0 = g.D.Disk.state c.args.index.now in
-    let d1 = g.D.Disk.state c.audit_file.new.index in
-    let same = c.in_ok-fault.ensures.same in
-    let w1 = (g.K.Sink.state c.put.new.out).written in
+    let same = c.in_ok-sound.ensures.same in
+    let file = (g.D.Disk.state c.args.index.now).bytes in
+    let head = c.args.opened.now.0 in
+    let live = c.args.opened.now.1 in
+    let bytes = c.args.bytes.now in
+    let w0 = (g.K.Sink.state c.args.out.now).written in
+    let w1 = (g.K.Sink.state c.put_audit.new.out).written in
     let w2 = (g.K.Sink.state c.judge_opened.new.out).written in
-    let none : c.in_ok-fault.fault ≡ None = search rules in
-    let rest = subst (λ (file : List ℕ). Puts (on_logs report.Answers (judge_of file c.args.opened.now.0 c.args.opened.now.1) (frames_at log_at c.args.bytes.now)).texts w1 w2 (stop_of c.judge_opened.result)) same.same_bytes
+    let yes : c.in_ok-sound.sound ≡ true = search rules in
+    let rest = subst (λ (x : List ℕ). Puts (said_on x head live bytes).texts w1 w2 (stop_of c.judge_opened.result)) same.same_bytes
     (c.judge_opened.ensures.puts (subst IsTrue (sym same.same_tells) tells)) in
-    file_then _ _ c.deref.result.now _ w1 w2 _ (c.in_ok-fault.ensures.told tells ∙ none) (c.deref.ensures.value ∙ c.in_ok-text.ensures ∙ ap file_text none) c.in_ok-put.ensures.puts rest
+    file_then (codes "file") (fault_of file head live) (said_on file head live bytes) w0 w1 w2 (stop_of c.judge_opened.result) (sym (c.in_ok-sound.ensures.sound tells) ∙ yes) (c.in_ok-sound.ensures.puts tells) rest
+
+pub returns-clause-status : goal.returns-clause-status
+returns-clause-status g c =
+    let same = c.in_ok-sound.ensures.same in
+    let head = c.args.opened.now.0 in
+    let live = c.args.opened.now.1 in
+    let bytes = c.args.bytes.now in
+    let d0 = g.D.Disk.state c.args.index.now in
+    let d1 = g.D.Disk.state c.put_audit.new.disk in
+    let yes : c.in_ok-sound.sound ≡ true = search rules in
+    IfOk-weaker c.judge_opened.result (λ (s : Status). IsTrue d1.tells → s.0 ≡ (said_on d1.bytes head live bytes).status) _
+    (λ (s : Status) is tells. subst (λ (x : List ℕ). s.0 ≡ (said_on x head live bytes).status) same.same_bytes (is (subst IsTrue (sym same.same_tells) tells))
+    ∙ sym (sound_status (codes "file") (fault_of d0.bytes head live) (said_on d0.bytes head live bytes) (sym (c.in_ok-sound.ensures.sound tells) ∙ yes)))
+    c.judge_opened.ensures.status
 
 pub returns-clause-disk : goal.returns-clause-disk
-returns-clause-disk g c is = rose_before _ (g.D.Disk.state c.audit_file.new.index).faults _ c.in_ok-fault.ensures.later (c.judge_opened.ensures.disk is)
+returns-clause-disk g c is = rose_before _ (g.D.Disk.state c.put_audit.new.disk).faults _ c.in_ok-sound.ensures.later (c.judge_opened.ensures.disk is)

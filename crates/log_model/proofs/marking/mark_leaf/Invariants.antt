@@ -1,5 +1,6 @@
 use Rattle.std.proofs.Common.{◌≡◌, ◌++◌, drop}
-use Rattle.log_model.specs.Counts.{count_up, measured_by}
+use Rattle.metric_laws.specs.Counts.{count_up}
+use Rattle.log_model.specs.Counts.{measured_by}
 use Rattle.log_model.specs.Walk.{leaf_marks, leaf_hits, search_at}
 use Rattle.log_model.proofs.marking.mark_leaf.Given as goal
 

@@ -1,5 +1,6 @@
 use Rattle.std.proofs.Common.{◌≡◌, ◌++◌, map, drop, take}
-use Rattle.log_model.specs.Counts.{count_up, measured_by}
+use Rattle.metric_laws.specs.Counts.{count_up}
+use Rattle.log_model.specs.Counts.{measured_by}
 use Rattle.log_model.specs.Walk.{allows_object, near_ones, hit_of, search_at}
 use Rattle.log_verify.specs.Judged.{first_wrong}
 use Rattle.log_verify.proofs.checking.check_leaf.Given as goal

@@ -5,7 +5,7 @@ use Rattle.log_model.specs.declared.marks.Mark.TheVariants.{Skip}
 use Rattle.log_model.specs.declared.pairs.JoinNeed.{JoinNeed}
 use Rattle.log_model.specs.JoinWalk.{allows_entry, with_entry, subtree_entry}
 use Rattle.log_model.specs.JoinSteps.{search_within}
-use Rattle.log_verify.proofs.Counting.{next_upto, marks_upto, upto_none}
+use Rattle.log_verify.proofs.Counting.{next_upto, marks_upto}
 use Rattle.log_verify.proofs.OneMark.{mark_is, not_false}
 use Rattle.log_verify.proofs.JoinMarks.{hits_next, needs_next, left_mapped}
 use Rattle.log_verify.proofs.join_checking.check_inner.Goals as goal

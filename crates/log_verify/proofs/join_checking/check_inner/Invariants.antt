@@ -1,5 +1,6 @@
 use Rattle.std.proofs.Common.{◌≡◌, ◌++◌, map, drop, take}
-use Rattle.log_model.specs.Counts.{measured_by, CountsUpTo}
+use Rattle.metric_laws.specs.Counts.{CountsUpTo}
+use Rattle.log_model.specs.Counts.{measured_by}
 use Rattle.log_model.specs.Walk.{near_ones}
 use Rattle.log_model.specs.JoinWalk.{allows_entry, with_entry, subtree_entry}
 use Rattle.log_model.specs.JoinSteps.{search_within, hits_among, needs_among}

@@ -1,7 +1,8 @@
 use Rattle.std.proofs.Common.{◌≡◌, reverse, drop, take}
 use Rattle.std.specs.Prelude.{IsTrue}
 use Rattle.page_store.specs.Shelf.{HoldsSame}
-use Rattle.log_model.specs.Counts.{join_measured, CountsUpTo}
+use Rattle.metric_laws.specs.Counts.{CountsUpTo}
+use Rattle.log_model.specs.Counts.{join_measured}
 use Rattle.log_model.specs.JoinSteps.{search_within}
 use Rattle.log_verify.specs.Causes.{AskBothUpTo}
 use Rattle.log_verify.specs.JoinJudged.{join_walked}

@@ -1,7 +1,8 @@
 use Rattle.std.proofs.Common.{◌≡◌, ◌+◌, ◌≤◌, [], ◌∷◌, reverse, drop, take}
 use Rattle.std.specs.Prelude.{IsTrue}
 use Rattle.page_store.specs.Shelf.{HoldsSame}
-use Rattle.log_model.specs.Counts.{count_up, measured}
+use Rattle.metric_laws.specs.Counts.{count_up}
+use Rattle.log_model.specs.Counts.{measured}
 use Rattle.log_model.specs.Walk.{search_at, root_need}
 use Rattle.log_verify.specs.Judged.{walked}
 use Rattle.log_verify.proofs.walking.walk_records.Given as goal

@@ -1,4 +1,4 @@
-use Rattle.std.proofs.Common.{◌≡◌, ◌∙◌, ◌∷◌, [], ℕ, List, arith, length, sym, ap, subst, refl, reverse}
+use Rattle.std.proofs.Common.{◌≡◌, ◌∷◌, [], ℕ, List, arith, subst, reverse}
 use Rattle.std.proofs.lemmas.Grind.{common_steps}
 use Rattle.making_jobs.proofs.Walked.{IsCollecting, begins, disk_rose, ends, goes_on, has_room, passes}
 use Rattle.making_jobs.proofs.collecting.collect.Goals as goal

@@ -1,5 +1,3 @@
-use Rattle.std.proofs.Common.{ap, sym, subst}
-use Rattle.node_page.specs.declared.head.Head.{Head}
 use Rattle.making_jobs.proofs.Migrated.{filled_fills, unfilled_fills}
 use Rattle.making_jobs.proofs.migrating.move_objects.Goals as goal
 

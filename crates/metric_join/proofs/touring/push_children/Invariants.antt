@@ -1,5 +1,5 @@
 use Rattle.std.proofs.Common.{◌≡◌, ◌++◌, map, reverse}
-use Rattle.metric_join.specs.Tours.{children}
+use Rattle.page_store.specs.Tours.{children}
 use Rattle.metric_join.proofs.touring.push_children.Given as goal
 
 -- what isn't on the stack yet comes before what is

@@ -5,9 +5,9 @@ use Rattle.log_model.specs.JoinWalk.{JoinSearch}
 use Rattle.log_model.specs.JoinSteps.{search_within}
 use Rattle.metric_join.specs.declared.walking.Waiting.{Waiting}
 use Rattle.metric_join.specs.Steps.{IsUnderWay}
-use Rattle.metric_join.proofs.Course.{same_trans}
 use Rattle.metric_join.proofs.Stops.{on_with, stops_with}
 use Rattle.metric_join.proofs.walking.walk_pairs.Goals as goal
+use Rattle.page_store.proofs.Held.{holds_both}
 
 pub returns-in_err-open_pair-clause-cause : goal.returns-in_err-open_pair-clause-cause
 returns-in_err-open_pair-clause-cause g c =
@@ -29,9 +29,9 @@ loop-waiting-preserved g c =
     ap (λ m. search_within (g.R.M.Metric.space m) c.loop-waiting.walk.rho) c.loop-waiting.invariant.metric ∙ ap (search_within (g.R.M.Metric.space (g.R.Ruler.metric c.args.ruler.now))) c.loop-waiting.invariant.rho in
     record {
       metric = c.open_pair.ensures.metric ∙ c.loop-waiting.invariant.metric;
-      left_same = same_trans _ _ _ c.loop-waiting.invariant.left_same c.open_pair.ensures.left_same;
+      left_same = holds_both _ _ _ c.loop-waiting.invariant.left_same c.open_pair.ensures.left_same;
       left_keeps = g.met.P.Pages.keeps_both c.args.left.now c.loop-waiting.left c.open_pair.new.left c.loop-waiting.invariant.left_keeps c.open_pair.ensures.left_keeps;
-      right_same = same_trans _ _ _ c.loop-waiting.invariant.right_same c.open_pair.ensures.right_same;
+      right_same = holds_both _ _ _ c.loop-waiting.invariant.right_same c.open_pair.ensures.right_same;
       right_keeps = g.met.Q.Pages.keeps_both c.args.right.now c.loop-waiting.right c.open_pair.new.right c.loop-waiting.invariant.right_keeps c.open_pair.ensures.right_keeps;
       rho = c.open_pair.ensures.rho ∙ c.loop-waiting.invariant.rho;
       way = λ l r begun.

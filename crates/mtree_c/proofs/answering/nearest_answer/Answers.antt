@@ -1,4 +1,4 @@
-use Rattle.std.proofs.Common.{rules, refl, ◌≡◌, ℕ}
+use Rattle.std.proofs.Common.{refl, ◌≡◌}
 use Rattle.metric_mix.specs.MixKinds.{mix_kind, mix_dim}
 use Rattle.rows_text.specs.declared.command.Command.TheVariants as command
 use Rattle.scan_model.specs.declared.query.Query.TheVariants as query

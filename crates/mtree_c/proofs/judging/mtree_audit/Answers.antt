@@ -1,4 +1,4 @@
-use Rattle.std.proofs.Common.{rules, refl, ap, ◌≡◌, ◌∙◌, List, ℕ}
+use Rattle.std.proofs.Common.{refl, ap, List, ℕ}
 use Rattle.std.specs.Prelude.{Some}
 use Rattle.slice_disk.specs.Held.{held}
 use Rattle.mtree_c.specs.Texts.{IsAuditText}

@@ -1,7 +1,7 @@
-use Rattle.std.proofs.Common.{rules, refl, ap, ◌≡◌, ◌∙◌, List, ℕ}
+use Rattle.std.proofs.Common.{refl, ap, List, ℕ}
 use Rattle.std.specs.Prelude.{Some}
 use Rattle.slice_disk.specs.Held.{held}
-use Rattle.log_jobs.specs.declared.report.Report.TheVariants.{Verdicts}
+use Rattle.file_jobs.specs.declared.logs.report.Report.TheVariants.{Verdicts}
 use Rattle.mtree_c.specs.Texts.{IsLogText}
 use Rattle.mtree_c.proofs.Told.{hands_text, log_text, unmoved}
 use Rattle.mtree_c.proofs.judging.mtree_verify.Goals as goal

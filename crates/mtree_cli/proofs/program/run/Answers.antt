@@ -2,6 +2,7 @@ use Rattle.std.proofs.Common.{inl, sym, subst, arith}
 use Rattle.job_words.specs.Words.{texts_of}
 use Rattle.job_words.specs.Jobs.{job_of}
 use Rattle.job_words.specs.declared.job.Job.TheVariants as job
+use Rattle.file_jobs.specs.declared.logs.report.Report.TheVariants.{Verdicts, Answers}
 use Rattle.mtree_cli.specs.Run.{Does, HasTooManyPages, LeavesAtMemory, PutsLogLast, Task, TakesNoInput, TakesWithin, task_of}
 use Rattle.mtree_cli.proofs.TaskLemmas.{scene, task_is, unchanged, memory_does, memory_status, nothing_taken, input_taken, batch_taken, seal_taken, carried_taken, proofs_taken, logs_taken, logs_rose, join_logs_taken, join_logs_rose, join_rose}
 use Rattle.mtree_cli.proofs.program.run.Goals as goal
@@ -71,11 +72,11 @@ returns-in-Ok-Join-clause-long g c = nothing_taken _ (g.S.Source.left c.args.inp
 
 pub returns-in-Ok-Verify-default-default-Some-clause-long : goal.returns-in-Ok-Verify-default-default-Some-clause-long
 returns-in-Ok-Verify-default-default-Some-clause-long g c =
-    join_logs_taken _ (g.S.Source.left c.args.input.now) _ _ _ _ _ _ _ _ _ c.verify_join_logs.result.0 c.verify_join_logs.ensures.judges
+    join_logs_taken _ (g.S.Source.left c.args.input.now) _ _ Verdicts _ _ _ _ _ _ c.verify_join_logs.result.0 c.verify_join_logs.ensures.judges
 
 pub returns-in-Ok-Check-default-default-Some-clause-long : goal.returns-in-Ok-Check-default-default-Some-clause-long
 returns-in-Ok-Check-default-default-Some-clause-long g c =
-    join_logs_taken _ (g.S.Source.left c.args.input.now) _ _ _ _ _ _ _ _ _ c.check_join_logs.result.0 c.check_join_logs.ensures.judges
+    join_logs_taken _ (g.S.Source.left c.args.input.now) _ _ Answers _ _ _ _ _ _ c.check_join_logs.result.0 c.check_join_logs.ensures.judges
 
 pub returns-in-Ok-Scan-clause-other_same : goal.returns-in-Ok-Scan-clause-other_same
 returns-in-Ok-Scan-clause-other_same g c = unchanged (g.E.Disk.state c.args.other.now)
@@ -120,13 +121,13 @@ pub returns-in-Ok-Verify-default-default-Some-clause-memory : goal.returns-in-Ok
 returns-in-Ok-Verify-default-default-Some-clause-memory g c = λ no is. c.verify_join_logs.ensures.judges.unchanged.0
 
 pub returns-in-Ok-Verify-default-default-Some-clause-either_disk : goal.returns-in-Ok-Verify-default-default-Some-clause-either_disk
-returns-in-Ok-Verify-default-default-Some-clause-either_disk g c = λ is. join_logs_rose _ _ _ _ _ _ _ _ _ c.verify_join_logs.result.0 c.verify_join_logs.ensures.judges is
+returns-in-Ok-Verify-default-default-Some-clause-either_disk g c = λ is. join_logs_rose _ _ Verdicts _ _ _ _ _ _ c.verify_join_logs.result.0 c.verify_join_logs.ensures.judges is
 
 pub returns-in-Ok-Check-default-default-Some-clause-memory : goal.returns-in-Ok-Check-default-default-Some-clause-memory
 returns-in-Ok-Check-default-default-Some-clause-memory g c = λ no is. c.check_join_logs.ensures.judges.unchanged.0
 
 pub returns-in-Ok-Check-default-default-Some-clause-either_disk : goal.returns-in-Ok-Check-default-default-Some-clause-either_disk
-returns-in-Ok-Check-default-default-Some-clause-either_disk g c = λ is. join_logs_rose _ _ _ _ _ _ _ _ _ c.check_join_logs.result.0 c.check_join_logs.ensures.judges is
+returns-in-Ok-Check-default-default-Some-clause-either_disk g c = λ is. join_logs_rose _ _ Answers _ _ _ _ _ _ c.check_join_logs.result.0 c.check_join_logs.ensures.judges is
 
 pub returns-in-Ok-Join-clause-either_disk : goal.returns-in-Ok-Join-clause-either_disk
 returns-in-Ok-Join-clause-either_disk g c = λ is. join_rose _ _ _ _ _ _ _ _ _ c.join_indexes.result.0 c.join_indexes.ensures.joins is

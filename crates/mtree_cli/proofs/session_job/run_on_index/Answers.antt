@@ -1,7 +1,6 @@
 use Rattle.std.proofs.Common.{inl, inr, ap, ◌∙◌, arith}
 use Rattle.metric_mix.specs.MixKinds.{mix_dim, mix_kind}
 use Rattle.metric_mix.specs.declared.mix_space.MixSpace.{MixSpace}
-use Rattle.node_page.specs.declared.head.Head.{Head}
 use Rattle.index_core.specs.Index.{OpenIndex}
 use Rattle.mtree_cli.proofs.Sessions.{head_is, memory_runs, reads_since, refused_of, refused_runs, since_opening, unopened_ends, unopened_runs}
 use Rattle.mtree_cli.proofs.session_job.run_on_index.Goals as goal

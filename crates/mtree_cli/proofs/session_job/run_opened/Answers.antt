@@ -1,10 +1,11 @@
-use Rattle.std.proofs.Common.{ap, ◌∙◌, ℕ, arith}
+use Rattle.std.proofs.Common.{ap, ◌∙◌, ℕ, [], arith}
 use Rattle.metric_mix.specs.MixKinds.{mix_dim, mix_kind}
 use Rattle.metric_mix.specs.MixSpaces.{mix_space}
 use Rattle.rows_text.specs.Script.{script}
 use Rattle.index_core.specs.Answers.{IsSoundOn}
+use Rattle.answer_texts.proofs.Endings.{memory_ends}
 use Rattle.mtree_cli.specs.Session.{LeavesAll, state_in}
-use Rattle.mtree_cli.proofs.Sessions.{few_read, finished, held, is_done, is_stopped, memory_ends, not_done, nothing_left, unread}
+use Rattle.mtree_cli.proofs.Sessions.{few_read, finished, held, is_done, is_stopped, not_done, nothing_left, unread}
 use Rattle.mtree_cli.proofs.session_job.run_opened.Goals as goal
 
 pub returns-in-None-clause-runs : goal.returns-in-None-clause-runs
@@ -31,7 +32,7 @@ returns-in_default-clause-runs g c = λ tells kind dim sound.
     unread c.args.show_tags c.args.bytes.now head live disk.bytes disk disk (g.K.Sink.state c.args.out.now) (g.K.Sink.state c.end_with.new.out) (g.T.Sink.state c.args.log_out.now) _
     (LeavesAll head (state_in head live disk.bytes) disk disk) c.end_with.ensures.line
     (nothing_left head live disk.bytes disk (script head.dim c.args.bytes.now) (held c.args.opened.now disk (mix_dim c.args.opened.now.file.metric) dim c.is_lawful.ensures (c.requires.stands c.requires.going) tells sound))
-    c.end_with.result.0 (λ rest line. memory_ends _ head c.args.show_tags _ _ _ rest _ c.end_with.result.0 c.end_with.ensures.status line) (λ e. absurd (omega (arith, c.end_with.ensures.status)))
+    c.end_with.result.0 (λ rest line. memory_ends _ _ _ rest [] c.end_with.result.0 c.end_with.ensures.status line) (λ e. absurd (omega (arith, c.end_with.ensures.status)))
 
 pub returns-clause-finished : goal.returns-clause-finished
 returns-clause-finished g c =

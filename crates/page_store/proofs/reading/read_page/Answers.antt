@@ -1,6 +1,6 @@
 use Rattle.std.proofs.Common.{◌≡◌, ◌∙◌, ℕ, ◌+◌, ◌*◌, sym, ap, arith, slice_index}
 use Rattle.std.proofs.lemmas.Result.{on_ok_weaker}
-use Rattle.page_store.specs.PageBytes.{page_is}
+use Rattle.page_store.proofs.PageBytes.{page_is}
 use Rattle.page_store.proofs.reading.read_page.Goals as goal
 
 pub returns-clause-read : goal.returns-clause-read

@@ -1,14 +1,14 @@
-use Rattle.std.proofs.Common.{◌≡◌, ℕ, suc, ◌+◌, ◌-◌, ◌≤◌, ◌∷◌, ◌++◌, [], List, length, drop, Result, Ok, Err, IsTrue, Bool, true, false, refl, sym, ◌∙◌, ap, subst, arith}
-use Rattle.std.specs.Prelude.{◌&&◌, ◌==◌, nat_le, if◌then◌else◌}
+use Rattle.std.proofs.Common.{◌≡◌, ℕ, suc, ◌+◌, ◌-◌, ◌∷◌, ◌++◌, [], List, length, drop, Result, Ok, true, false, refl, sym, ◌∙◌, ap, subst, arith}
+use Rattle.std.specs.Prelude.{◌&&◌, ◌==◌}
 use Rattle.std.proofs.Common.{length-append}
 use Rattle.std.proofs.lemmas.Result.{on_ok_weaker}
 use Rattle.std.proofs.Math.Seq.{drop-cons}
-use Rattle.tree_shape.specs.Fill.{most_for, least_for}
+use Rattle.tree_shape.specs.Fill.{least_for}
 use Rattle.tree_shape.specs.declared.entry.InnerEntry.{InnerEntry}
 use Rattle.tree_shape.specs.declared.entry.Node.{Node}
 use Rattle.tree_audit.specs.declared.faults.AuditFault.{AuditFault}
-use Rattle.tree_audit.specs.Audited.{Seen, and_then, each_entry, audited_at, is_filled, step, check_entry, last_point, IsWalkFault}
-use Rattle.tree_audit.specs.Visits.{seen_of, leaf_told, entry_told}
+use Rattle.tree_audit.specs.Audited.{Seen, and_then, each_entry, audited_at, is_filled, step, IsWalkFault}
+use Rattle.tree_audit.specs.Visits.{seen_of, entry_told}
 use Rattle.tree_audit.proofs.Entries.{and_then_fault}
 use Rattle.tree_audit.proofs.InnerPages.{inner_page, inner_zero, inner_fill}
 use Rattle.tree_audit.proofs.Arrivals.{leaf_page, walk_same, walk_if_err, of_entry, of_child}
@@ -74,8 +74,8 @@ loop-place-init g t c =
       reads = omega (arith, length-append c.args.visits.now.pages.met (at.page ∷ []), ap length c.in-Ok.ensures.noted, c.in-Ok.ensures.reads);
     }
 
-pub returns-in-Err-audit_entry-clause-err : goal.returns-in-Err-audit_entry-clause-err
-returns-in-Err-audit_entry-clause-err g t c =
+pub returns-in-Err-step_down-clause-err : goal.returns-in-Err-step_down-clause-err
+returns-in-Err-step_down-clause-err g t c =
     let i = c.loop-place.invariant in
     let at = c.args.at in
     let s = g.R.M.Metric.space (g.R.Ruler.metric c.args.ruler.now) in
@@ -87,11 +87,11 @@ returns-in-Err-audit_entry-clause-err g t c =
     let here : drop c.loop-place.place entries ≡ entry ∷ drop (suc c.loop-place.place) entries =
     drop-cons entries c.loop-place.place entry (omega arith) ∙ ap (λ (e : InnerEntry). e ∷ drop (suc c.loop-place.place) entries) (sym c.index-entries-place.is) in
     let rest : Seen → Result Seen AuditFault = λ after. each_entry check (c.loop-place.place + 1) (drop (suc c.loop-place.place) entries) after in
-    walk_same (g.P.Pages.shelf c.args.pages.now) (g.P.Pages.shelf c.loop-place.pages) (and_then (check c.loop-place.place entry seen) rest) _ c.in-Err-audit_entry.fault
+    walk_same (g.P.Pages.shelf c.args.pages.now) (g.P.Pages.shelf c.loop-place.pages) (and_then (check c.loop-place.place entry seen) rest) _ c.in-Err-step_down.fault
     (λ tells. ap (λ (xs : List InnerEntry). each_entry check c.loop-place.place xs seen) (sym here) ∙ i.left tells)
-    (of_entry (g.P.Pages.shelf c.args.pages.now) (g.P.Pages.shelf c.loop-place.pages) (and_then (check c.loop-place.place entry seen) rest) c.in-Err-audit_entry.fault
-    (and_then_fault (check c.loop-place.place entry seen) rest c.in-Err-audit_entry.fault
-    (rw (← i.metric, ← i.path, ← c.as_slice-in-loop-place.ensures.value) (c.in-Err-audit_entry.ensures.err _))))
+    (of_entry (g.P.Pages.shelf c.args.pages.now) (g.P.Pages.shelf c.loop-place.pages) (and_then (check c.loop-place.place entry seen) rest) c.in-Err-step_down.fault
+    (and_then_fault (check c.loop-place.place entry seen) rest c.in-Err-step_down.fault
+    (rw (← i.metric, ← i.path) (c.in-Err-step_down.ensures.err _))))
 
 pub returns-in-Err-walk-clause-err : goal.returns-in-Err-walk-clause-err
 returns-in-Err-walk-clause-err g t c =
@@ -107,12 +107,11 @@ returns-in-Err-walk-clause-err g t c =
     drop-cons entries c.loop-place.place entry (omega arith) ∙ ap (λ (e : InnerEntry). e ∷ drop (suc c.loop-place.place) entries) (sym c.index-entries-place.is) in
     let rest : Seen → Result Seen AuditFault = λ after. each_entry check (c.loop-place.place + 1) (drop (suc c.loop-place.place) entries) after in
     let child = audited_at s read c.args.visits.now.ids.limit (at.level - 1) (least_for s.words) (c.args.path.now.items ++ step at.page c.loop-place.place entry ∷ []) entry.child seen in
-    let passes : check c.loop-place.place entry seen ≡ child = rw (← i.metric, ← i.path, ← c.as_slice-in-loop-place.ensures.value) (c.in_default.ensures.ok _) in
-    let pushed : c.push.new.self.items ≡ c.loop-place.path.items ++ c.in-Ok-step_to.step ∷ [] = c.push.ensures.items ∙ ap (λ (b : Bool). if b then c.loop-place.path.items ++ c.in-Ok-step_to.step ∷ [] else c.loop-place.path.items) c.if-is_err.ensures.negation in
+    let passes : check c.loop-place.place entry seen ≡ child = rw (← i.metric, ← i.path) (c.in-Ok-step_down.ensures.ok _) in
     walk_same (g.P.Pages.shelf c.args.pages.now) (g.P.Pages.shelf c.walk.new.pages) (and_then child rest) _ c.in-Err-walk.fault
     (λ tells. ap (λ (r : Result Seen AuditFault). and_then r rest) (sym passes) ∙ ap (λ (xs : List InnerEntry). each_entry check c.loop-place.place xs seen) (sym here) ∙ i.left tells)
     (of_child (g.P.Pages.shelf c.args.pages.now) (g.P.Pages.shelf c.loop-place.pages) (g.P.Pages.shelf c.walk.new.pages) child (λ r. and_then r rest) c.in-Err-walk.fault i.same.tells i.same.faults (λ w. refl)
     (subst (λ (n : ℕ). IsWalkFault (g.P.Pages.shelf c.loop-place.pages) (g.P.Pages.shelf c.walk.new.pages)
     (audited_at s read c.args.visits.now.ids.limit (at.level - 1) n (c.args.path.now.items ++ step at.page c.loop-place.place entry ∷ []) entry.child seen) c.in-Err-walk.fault)
-    (c.fill.ensures.least ∙ ap least_for (sym c.requires.words))
-    (rw (← c.in-Ok-step_to.ensures, ← i.path, ← pushed, ← i.same.read, ← i.ids_limit, ← i.metric, ← c.audit_entry.ensures.same) c.in-Err-walk.ensures.err)))
+    (c.in-Ok-step_down.ensures.least ∙ ap least_for (sym c.requires.words))
+    (rw (← c.in-Ok-step_down.ensures.level, ← c.in-Ok-step_down.ensures.page, ← i.path, ← c.in-Ok-step_down.ensures.path, ← i.same.read, ← i.ids_limit, ← i.metric, ← c.step_down.ensures.same) c.in-Err-walk.ensures.err)))

@@ -1,4 +1,4 @@
-use Rattle.std.proofs.Common.{◌≡◌, ℕ, ◌+◌, ◌≤◌, IsTrue, length, drop}
+use Rattle.std.proofs.Common.{◌≡◌, ◌+◌, ◌≤◌, IsTrue, length, drop}
 use Rattle.page_store.specs.Shelf.{HoldsSame}
 use Rattle.tree_audit.specs.Audited.{each_entry, audited_at}
 use Rattle.tree_audit.specs.Met.{AreFewer}

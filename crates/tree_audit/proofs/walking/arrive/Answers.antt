@@ -1,4 +1,4 @@
-use Rattle.std.proofs.Common.{◌≡◌, ℕ, sym, ◌∙◌}
+use Rattle.std.proofs.Common.{sym, ◌∙◌}
 use Rattle.tree_shape.specs.Tree.{times}
 use Rattle.tree_audit.proofs.Arrivals.{zero_met, of_open}
 use Rattle.tree_audit.proofs.walking.arrive.Goals as goal

@@ -1,10 +1,7 @@
-use Rattle.std.proofs.Common.{◌≡◌, ℕ, List, length, Result, Err, sym, ◌∙◌, ap, true}
-use Rattle.std.specs.Prelude.{IfErr, ◌&&◌, nat_le}
+use Rattle.std.proofs.Common.{◌≡◌, ℕ, length, sym, ◌∙◌, ap, true}
+use Rattle.std.specs.Prelude.{◌&&◌, nat_le}
 use Rattle.tree_shape.specs.Fill.{most_for}
-use Rattle.tree_audit.specs.declared.faults.AuditFault.{AuditFault}
-use Rattle.tree_audit.specs.Audited.{Seen, each_entry, check_object, last_point, is_filled}
-use Rattle.tree_audit.specs.Visits.{IsEntryFault}
-use Rattle.tree_audit.proofs.Entries.{told_same}
+use Rattle.tree_audit.specs.Audited.{is_filled}
 use Rattle.tree_audit.proofs.Arrivals.{leaf_told_fine, told_if_err}
 use Rattle.tree_audit.proofs.walking.audit_leaf.Goals as goal
 

@@ -1,6 +1,6 @@
 use Rattle.std.proofs.Common.{◌≡◌, ℕ, List, sym, ◌∙◌, ap}
 use Rattle.tree_shape.specs.Tree.{parent_distance}
-use Rattle.tree_audit.specs.Audited.{last_point, first_outside}
+use Rattle.tree_audit.specs.Audited.{last_point}
 use Rattle.tree_audit.proofs.Entries.{told_same, object_inside}
 use Rattle.tree_audit.proofs.walking.audit_object.Goals as goal
 

@@ -1,4 +1,4 @@
-use Rattle.std.proofs.Common.{◌≡◌, sym, ◌∙◌, ap, List, ℕ, suc, ◌+◌, ◌∷◌, drop, get_or, arith}
+use Rattle.std.proofs.Common.{◌≡◌, sym, ◌∙◌, ap, List, suc, ◌∷◌, drop, arith}
 use Rattle.std.proofs.Math.Seq.{drop-cons}
 use Rattle.tree_shape.specs.declared.entry.LeafEntry.{LeafEntry}
 use Rattle.tree_audit.specs.Audited.{each_entry, check_object, last_point}

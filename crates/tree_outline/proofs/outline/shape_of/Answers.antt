@@ -26,7 +26,7 @@ returns-in-Err-clause-sound g c =
     let stack : reverse c.loop-named.coming.items ≡ c.in-Some.named ∷ reverse c.pop.new.self.items = grind (arith, common_steps, c.in-Some.ensures.items) in
     passes (g.P.Pages.shelf c.args.pages.now) c.args.live.now (g.P.Pages.shelf c.loop-named.pages) c.loop-named.lines.items c.in-Some.named (reverse c.pop.new.self.items)
     (subst (λ (coming : List Named). IsDrawing (g.P.Pages.shelf c.args.pages.now) (g.P.Pages.shelf c.loop-named.pages) c.args.live.now c.loop-named.lines.items coming) stack c.loop-named.invariant.drawing)
-    (g.P.Pages.shelf c.draw.new.pages) c.in-Err.fault c.in-Err.ensures.cause
+    (let n = c.loop-named.invariant.count in let l = c.loop-named.invariant.low in let other = c.if-nodes-live.false in omega arith) (g.P.Pages.shelf c.draw.new.pages) c.in-Err.fault c.in-Err.ensures.cause
 
 pub loop-named-preserved : goal.loop-named-preserved
 loop-named-preserved g c =

@@ -1,5 +1,3 @@
-use Rattle.std.proofs.Common.{arith}
-use Rattle.std.proofs.Math.Nat.{div-lt_iff_lt-mul}
 use Rattle.batch_run.proofs.Seats.{seat_place, seat_within, round_below}
 use Rattle.batch_run.proofs.dealing.Deal.seat.Goals as goal
 

@@ -1,6 +1,6 @@
-use Rattle.std.proofs.Common.{◌≡◌, ℕ, zero, suc, ◌+◌, ◌<◌, ◌≤◌, List, [], ◌∷◌, length, drop, get_or, refl, sym, ap, ◌∙◌, arith, drop-cons, length-drop, Option, Some, None}
+use Rattle.std.proofs.Common.{◌≡◌, ℕ, zero, suc, ◌+◌, ◌<◌, ◌≤◌, List, [], ◌∷◌, length, drop, refl, sym, ap, ◌∙◌, arith, drop-cons, length-drop, Option, Some, None}
 use Rattle.std.specs.Prelude.{IfNone, IfSome}
-use Rattle.free_pages.specs.Keeping.{FreePages, with_left}
+use Rattle.free_pages.specs.Keeping.{FreePages}
 use Rattle.free_pages.specs.Commits.{with_all_left}
 use Rattle.free_pages.proofs.free.Free.settle.Goals as goal
 

@@ -2,7 +2,7 @@ use Rattle.std.proofs.Common.{◌+◌, ◌≤◌, drop}
 use Rattle.std.specs.Prelude.{IsTrue}
 use Rattle.page_store.specs.Reading.{nodes_of}
 use Rattle.page_store.specs.Shelf.{HoldsSame}
-use Rattle.log_model.specs.Counts.{CountsUpTo}
+use Rattle.metric_laws.specs.Counts.{CountsUpTo}
 use Rattle.hit_tags.specs.Steps.{IsUnderWay}
 use Rattle.hit_tags.proofs.walking.Walk.follow_all.Given as goal
 

@@ -1,13 +1,12 @@
-use Rattle.std.proofs.Common.{◌≡◌, ◌≤◌, true, ℕ, refl, sym, ap, subst, ◌∙◌, Option, Some, Ok, Err}
+use Rattle.std.proofs.Common.{refl, sym, ap, subst, ◌∙◌, Some, Ok, Err}
 use Rattle.std.specs.Prelude.{IsTrue}
 use Rattle.disk_model.specs.Disk.{EachImage}
 use Rattle.page_store.specs.Kept.{unchanged_by_none}
-use Rattle.page_store.specs.Reading.{IsWithin}
 use Rattle.shadow_root.specs.Commit.{IsBeforeOrAfter}
 use Rattle.free_pages.specs.Commits.{AreWithin}
 use Rattle.free_pages.specs.Keeping.{FreePages, IsKept}
-use Rattle.index_core.specs.Files.{OpenFile, IsLawfulFile, nodes_on}
-use Rattle.index_core.specs.Index.{OpenIndex, AreSpare, IsLawfulFree}
+use Rattle.index_core.specs.Files.{IsLawfulFile, nodes_on}
+use Rattle.index_core.specs.Index.{OpenIndex, AreSpare}
 use Rattle.index_core.specs.Lending.{same_room_by_none}
 use Rattle.index_core.specs.Writing.{HasWritten, IsCommitted}
 use Rattle.index_core.specs.declared.faults.IndexFault.TheVariants.{Commit, Memory}

@@ -1,4 +1,4 @@
-use Rattle.std.proofs.Common.{◌≡◌, ◌+◌, ◌≤◌, ℕ, refl, sym, ap, subst, ◌∙◌, arith, Some, Err}
+use Rattle.std.proofs.Common.{◌≡◌, ◌+◌, sym, ap, subst, ◌∙◌, arith, Some, Err}
 use Rattle.free_pages.specs.Commits.{AreWithin}
 use Rattle.index_core.specs.Causes.{HasPathCause}
 use Rattle.index_core.specs.Damage.{BlamesDamage}
@@ -6,7 +6,7 @@ use Rattle.index_core.specs.Files.{OpenFile, IsLawfulFile, OnlyReads}
 use Rattle.index_core.specs.Index.{OpenIndex}
 use Rattle.index_core.specs.Writing.{HasWritten, Inserts}
 use Rattle.index_core.specs.declared.faults.IndexFault.{IndexFault}
-use Rattle.index_core.specs.declared.faults.IndexFault.TheVariants.{Commit, Full, Worn}
+use Rattle.index_core.specs.declared.faults.IndexFault.TheVariants.{Full, Worn}
 use Rattle.index_core.proofs.Damaged.{commit_blames, list_blames, moved_blames, path_blames}
 use Rattle.index_core.proofs.Written.{commit_cause, exact_moved, fits_moved, list_is, reads_both, refused_by, refused_here, refused_written, then_written}
 use Rattle.index_core.proofs.index.Index.insert_tagged.Goals as goal

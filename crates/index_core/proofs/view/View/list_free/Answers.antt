@@ -1,4 +1,4 @@
-use Rattle.std.proofs.Common.{◌≡◌, refl, sym, ap, subst, ◌∙◌, rules}
+use Rattle.std.proofs.Common.{sym, ap, subst, rules}
 use Rattle.std.specs.Prelude.{IsTrue}
 use Rattle.tree_shape.specs.Tree.{IsSoundTree}
 use Rattle.page_store.specs.Placing.{live_pages}
@@ -6,12 +6,11 @@ use Rattle.page_store.specs.Reading.{nodes_of}
 use Rattle.page_store.specs.Shelf.{Shelf}
 use Rattle.free_pages.specs.Commits.{AreOutside}
 use Rattle.index_core.specs.Answers.{IsSoundOn}
-use Rattle.index_core.specs.Files.{OpenFile, nodes_on, pages_on}
+use Rattle.index_core.specs.Files.{OpenFile, nodes_on}
 use Rattle.index_core.specs.Index.{AreSpare, IsLawfulFree}
 use Rattle.index_core.specs.Writing.{IsExactFor}
 use Rattle.page_store.specs.Shelves.{disk_shelf}
 use Rattle.page_store.specs.declared.disk_pages.DiskPages.{DiskPages}
-use Rattle.free_pages.specs.Walk.{IsWalkFault, tree_walk}
 use Rattle.index_core.specs.Lending.{lent_shelf}
 use Rattle.index_core.proofs.Listed.{fresh_lawful, fresh_spare, fresh_exact, list_cause}
 use Rattle.index_core.proofs.view.View.list_free.Goals as goal

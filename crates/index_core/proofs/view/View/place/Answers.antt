@@ -1,4 +1,4 @@
-use Rattle.std.proofs.Common.{◌≡◌, ℕ, List, refl, sym, ap, subst, ◌∙◌, take}
+use Rattle.std.proofs.Common.{sym, ap, subst, ◌∙◌, take}
 use Rattle.std.specs.Prelude.{IsTrue}
 use Rattle.tree_shape.specs.Tree.{IsSoundTree}
 use Rattle.page_store.specs.Numbers.{AreNumbers}
@@ -7,7 +7,7 @@ use Rattle.page_store.specs.Reading.{nodes_of}
 use Rattle.page_store.specs.Shelf.{Shelf}
 use Rattle.page_store.specs.Succession.{TakesPlace}
 use Rattle.free_pages.proofs.Commits.{free_numbers}
-use Rattle.index_core.specs.Files.{OpenFile, nodes_on, pages_on}
+use Rattle.index_core.specs.Files.{OpenFile, nodes_on}
 use Rattle.index_core.specs.Writing.{Inserts, IsPlacedFor}
 use Rattle.index_core.proofs.Listed.{free_outside, placed_for}
 use Rattle.index_core.proofs.view.View.place.Goals as goal

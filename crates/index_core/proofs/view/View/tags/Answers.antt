@@ -1,4 +1,4 @@
-use Rattle.std.proofs.Common.{◌≡◌, ap, rules}
+use Rattle.std.proofs.Common.{ap, rules}
 use Rattle.page_store.specs.Shelves.{disk_shelf}
 use Rattle.page_store.specs.declared.disk_pages.DiskPages.{DiskPages}
 use Rattle.index_core.specs.Files.{OpenFile}

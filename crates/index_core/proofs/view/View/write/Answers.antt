@@ -1,10 +1,9 @@
-use Rattle.std.proofs.Common.{◌≡◌, ℕ, ◌*◌, ◌≤◌, refl, sym, ap, subst, ◌∙◌, arith, List, Option}
+use Rattle.std.proofs.Common.{◌≡◌, ℕ, ◌≤◌, sym, ap, subst, ◌∙◌, arith, List, Option}
 use Rattle.std.specs.Prelude.{IsTrue}
 use Rattle.disk_model.specs.Disk.{EachImage}
 use Rattle.shadow_root.specs.Commit.{HasNext, IsBeforeOrAfter, IsReady, IsStagedFor}
 use Rattle.page_cache.specs.Keeping.{Pairs}
 use Rattle.page_store.specs.Staging.{pages_of}
-use Rattle.free_pages.specs.Keeping.{FreePages, IsKept}
 use Rattle.free_pages.specs.Commits.{after_commit}
 use Rattle.index_core.specs.Files.{OpenFile, IsLawfulFile}
 use Rattle.index_core.specs.Writing.{forgotten_of}

@@ -1,5 +1,5 @@
 use Rattle.std.proofs.Common.{refl, sym, ◌∙◌}
-use Rattle.page_store.specs.Answers.{answers_node, answers_fault, answers_outside, not_outside}
+use Rattle.page_store.proofs.Answers.{answers_node, answers_fault, answers_outside, not_outside}
 use Rattle.page_store.specs.Reading.{version_of}
 use Rattle.page_store.specs.Shelves.{disk_shelf}
 use Rattle.page_store.proofs.Results.{holds_at_ok}

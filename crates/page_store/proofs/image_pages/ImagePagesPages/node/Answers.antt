@@ -1,5 +1,5 @@
 use Rattle.std.proofs.Common.{refl, sym, ◌∙◌}
-use Rattle.page_store.specs.Answers.{answers_node, answers_fault, answers_outside, not_outside}
+use Rattle.page_store.proofs.Answers.{answers_node, answers_fault, answers_outside, not_outside}
 use Rattle.node_page.specs.declared.node.Version.TheVariants.{Second}
 use Rattle.page_store.specs.Shelves.{image_shelf}
 use Rattle.page_store.proofs.image_pages.ImagePagesPages.node.Goals as goal

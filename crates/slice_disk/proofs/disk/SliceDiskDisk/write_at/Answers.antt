@@ -1,4 +1,4 @@
-use Rattle.std.proofs.Common.{refl, arith, length}
+use Rattle.std.proofs.Common.{refl, arith}
 use Rattle.slice_disk.proofs.disk.SliceDiskDisk.write_at.Goals as goal
 
 pub returns-clause-torn : goal.returns-clause-torn

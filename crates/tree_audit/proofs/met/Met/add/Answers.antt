@@ -1,5 +1,5 @@
-use Rattle.std.proofs.Common.{sym, ap, ◌∙◌, ◌≡◌, ℕ, ◌<◌, length, set, true, arith}
-use Rattle.tree_audit.specs.Met.{Numbers, AreFewer}
+use Rattle.std.proofs.Common.{ap, ◌≡◌, length, set, true, arith}
+use Rattle.tree_audit.specs.Met.{Numbers}
 use Rattle.tree_shape.specs.Tree.{times}
 use Rattle.tree_audit.proofs.Flags.{flagged_add, fewer_met}
 use Rattle.tree_audit.proofs.met.Met.add.Goals as goal

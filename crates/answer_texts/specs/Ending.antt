@@ -1,0 +1,24 @@
+-- How the run of a script ends, and what then stands on both outputs.
+use Rattle.std.specs.Prelude.{◌≡◌, ◌≢◌, ◌⊎◌, ℕ, List, [], codes}
+use Rattle.rows_text.specs.declared.command.Command.{Command}
+use Rattle.plain_scan.specs.Written.{IsFrontOf}
+use Rattle.answer_texts.specs.Answered.{Answered}
+
+-- a line stands there, or where out failed a front of it
+abbrev pub IsTold : Type 0 → List ℕ → List ℕ → Type 0
+IsTold Failed rest line = (rest ≡ line) ⊎ (IsFrontOf rest line × Failed)
+
+-- What stands on the outputs when a run on a sound file ends with a status: the replies of these commands and the frames of their
+-- logs, and then `rest` and `log_rest`, where `more` are the other commands, of which the next one may be cut short.
+pub record Ends (Failed : Type 0) (IsCutShort : List ℕ → List ℕ → Type 0) (status : ℕ) (answered : List Answered) (more : List Command)
+    (rest log_rest : List ℕ) : Type 0 where
+  pub done : status ≡ 0 → (more ≡ []) × (rest ≡ []) × (log_rest ≡ [])
+  pub input : status ≡ 3 → (answered ≡ []) × IsTold Failed rest (codes "fault input\n")
+  pub output : status ≡ 4 → IsCutShort rest log_rest
+  pub disk : status ≡ 5 → IsTold Failed rest (codes "fault disk\n")
+  pub long : status ≡ 7 → (answered ≡ []) × IsTold Failed rest (codes "fault long\n")
+  pub memory : status ≡ 8 → IsTold Failed rest (codes "fault memory\n")
+  pub unlogged : status ≢ 4 → log_rest ≡ []
+  -- a sound file is an index, and no page of it is damaged
+  pub index : status ≢ 6
+  pub undamaged : status ≢ 9

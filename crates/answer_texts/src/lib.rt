@@ -1,0 +1,72 @@
+//! What is written for a command that was answered: the text of its reply, and the frame of its query's log.
+#![tactic(auto)]
+
+ghost use Rattle.std.specs.Prelude.{◌≡◌, ◌≤◌, ◌⊎◌, true, IfOk, OnOk, OnErr, MatchOption};
+ghost use Rattle.std.specs.Io.KnownBytes.{Appends};
+ghost use Rattle.outside_io.specs.Causes.{Rose};
+ghost use Rattle.rows_text.specs.Meaning.{TagsAre};
+ghost use Rattle.rows_text.specs.Texts.{text};
+ghost use Rattle.log_model.specs.Grammar.{IsLawfulLog};
+ghost use Rattle.answer_texts.specs.Answered.{framed, if_any};
+ghost use Rattle.answer_texts.specs.Put.{IsCut};
+
+use log_model::Log;
+use outside_io::{Failed, Memory, Sink};
+use prune_log::{encode_log, frame};
+use rows_text::{Reply, reply_text};
+use std::alloc::Global;
+
+/// What is written for a command: the text of its reply, and the frame of its log, which is empty where there is none.
+#[derive(Drop)]
+pub struct Texts {
+    reply: Vec<u8>,
+    frame: Vec<u8>,
+}
+
+/// What is written for a command with this reply and this log. A hit is written with its tag where tags are shown.
+pub fn texts_of(
+    alloc: Global,
+    reply: &Reply,
+    log: &Option<Log>,
+    show: bool,
+) -> Result<Texts, Memory>
+    requires spelled { MatchOption log.now (Unit {0}) IsLawfulLog }
+    requires tagged { show ≡ true → TagsAre reply.now }
+    ensures reply { IfOk result (λ texts. texts.reply.items ≡ text show reply.now) }
+    ensures frame { IfOk result (λ texts. texts.frame.items ≡ framed (if_any log.now)) }
+{
+    let mut text = Vec::new(alloc);
+    reply_text(reply, show, &mut text)?;
+    let mut framed = Vec::new(alloc);
+    if let Some(log) = log {
+        let bytes = encode_log(alloc, log)?;
+        frame(&bytes, &mut framed)?;
+    }
+    Ok(Texts {
+        reply: text,
+        frame: framed,
+    })
+}
+
+impl Texts {
+    /// Puts the frame of the log to `log_out`, where there is one, and then the text of the reply to `out`, each in one put. So
+    /// a reply is never there without its log.
+    pub fn put<K: Sink, T: Sink>(&self, out: &mut K, log_out: &mut T) -> Result<(), Failed>
+        ensures reply { OnOk result (Appends (K.state out.old).written (K.state out.new).written self.now.reply.items) }
+        ensures frame { OnOk result (Appends (T.state log_out.old).written (T.state log_out.new).written self.now.frame.items) }
+        ensures cut { OnErr result (IsCut (K.state out.old) (K.state out.new) (T.state log_out.old) (T.state log_out.new)
+            self.now.reply.items self.now.frame.items) }
+        ensures rose { OnErr result (Rose (K.state out.old).faults (K.state out.new).faults
+            ⊎ Rose (T.state log_out.old).faults (T.state log_out.new).faults) }
+        ensures later { (K.state out.old).faults ≤ (K.state out.new).faults }
+        ensures log_later { (T.state log_out.old).faults ≤ (T.state log_out.new).faults }
+    {
+        if !self.frame.is_empty() {
+            log_out.put(&self.frame)?;
+        }
+        out.put(&self.reply)
+    }
+}
+
+#[cfg(test)]
+mod tests;

@@ -1,6 +1,0 @@
-pub mod Puts
-pub mod OneRun
-pub mod Running
-pub mod Opened
-pub mod Whole
-pub mod Audits

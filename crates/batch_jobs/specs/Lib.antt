@@ -1,4 +1,0 @@
-pub mod Turns
-pub mod Batches
-pub mod Putting
-pub mod Laws

@@ -1,0 +1,5 @@
+pub mod Puts
+pub mod OneRun
+pub mod Running
+pub mod Opened
+pub mod Whole

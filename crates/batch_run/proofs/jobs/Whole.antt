@@ -1,0 +1,54 @@
+-- A batch whose script was read, or was not.
+use Rattle.std.proofs.Common.{◌≡◌, ◌≢◌, ℕ, Bool, List, [], refl, subst, arith, Option, Some, None}
+use Rattle.std.specs.Prelude.{codes, IfSome}
+use Rattle.std.specs.Io.KnownBytes.{Consumes, IsAtEnd}
+use Rattle.std.proofs.KnownBytes.{Consumes-all}
+use Rattle.outside_io.specs.Sinks.{SinkState, Tells}
+use Rattle.disk_model.specs.Disk.{DiskState, IsUnchanged, MayLeave}
+use Rattle.disk_model.specs.Moments.{started}
+use Rattle.batch_run.specs.Jobs.Batches.{HasOpened, RunsBatch, RunsScript}
+use Rattle.batch_run.proofs.jobs.Opened.{input_line, long_line, memory_line, not_these}
+
+unchanged_self : (disk : DiskState) → IsUnchanged disk disk
+unchanged_self disk = record { same_tells = refl; same_bytes = refl; same_images = λ image. (λ left. left, λ left. left); time = started disk (MayLeave disk) (λ image left. left) }
+
+always : {A : Type 0} (o : Option A) (P : A → Type 0) → ((x : A) → P x) → IfSome o P
+always None P all = tt
+always (Some x) P all = all x
+
+weaker : {A : Type 0} (o : Option A) (P Q : A → Type 0) → ((x : A) → P x → Q x) → IfSome o P → IfSome o Q
+weaker None P Q step some = tt
+weaker (Some x) P Q step some = step x some
+
+pub whole : (show : Bool) (left0 left1 : Option (List ℕ)) (bytes : List ℕ) (disk0 disk1 : DiskState) (out0 out1 log0 log1 : SinkState) (status : ℕ) → Consumes left0 left1 bytes → IsAtEnd left1 →
+    HasOpened show bytes disk0 disk1 out0 out1 log0 log1 status → RunsBatch show left0 disk0 disk1 out0 out1 log0 log1 status
+whole show left0 left1 bytes disk0 disk1 out0 out1 log0 log1 status took end opened = record {
+  runs = weaker left0 (λ xs. bytes ≡ xs) (λ xs. RunsScript show xs disk0 out0 out1 log0 log1 status)
+      (λ xs same. subst (λ (bs : List ℕ). RunsScript show bs disk0 out0 out1 log0 log1 status) same opened.runs) (Consumes-all left0 left1 bytes [] bytes took end refl);
+  unchanged = opened.unchanged;
+  disk = opened.disk;
+  not_index = opened.not_index;
+  damaged = opened.damaged;
+  large = opened.large;
+}
+
+-- a line is all that was put
+module _ (show : Bool) (input : Option (List ℕ)) (disk : DiskState) (out0 out1 log : SinkState) (status : ℕ) where
+  only_line : (k : ℕ) → status ≡ k → k ≢ 0 → k ≢ 4 → k ≢ 5 → k ≢ 6 → k ≢ 9 → ((bytes : List ℕ) → RunsScript show bytes disk out0 out1 log log status) → RunsBatch show input disk disk out0 out1 log log status
+  only_line k is done cut failed named damaged runs = record {
+    runs = always input (λ bytes. RunsScript show bytes disk out0 out1 log log status) runs;
+    unchanged = unchanged_self disk;
+    disk = λ e. absurd (failed (let same : k ≡ 5 = omega arith in same));
+    not_index = λ e. absurd (named (let same : k ≡ 6 = omega arith in same));
+    damaged = λ e. absurd (damaged (let same : k ≡ 9 = omega arith in same));
+    large = λ tells large these. not_these status k is done cut damaged these;
+  }
+
+  pub input_failed : status ≡ 3 → Tells out0 out1 (codes "fault input\n") → RunsBatch show input disk disk out0 out1 log log status
+  input_failed is told = only_line 3 is (omega arith) (omega arith) (omega arith) (omega arith) (omega arith) (λ bytes. input_line show bytes disk out0 out1 log status is told)
+
+  pub too_long : status ≡ 7 → Tells out0 out1 (codes "fault long\n") → RunsBatch show input disk disk out0 out1 log log status
+  too_long is told = only_line 7 is (omega arith) (omega arith) (omega arith) (omega arith) (omega arith) (λ bytes. long_line show bytes disk out0 out1 log status is told)
+
+  pub out_of_memory : status ≡ 8 → Tells out0 out1 (codes "fault memory\n") → RunsBatch show input disk disk out0 out1 log log status
+  out_of_memory is told = only_line 8 is (omega arith) (omega arith) (omega arith) (omega arith) (omega arith) (λ bytes. memory_line show bytes disk out0 out1 log status is told)

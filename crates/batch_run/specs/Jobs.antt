@@ -1,0 +1,4 @@
+pub mod Preparing
+pub mod Batches
+pub mod Putting
+pub mod Laws

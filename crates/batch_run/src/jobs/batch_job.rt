@@ -1,0 +1,182 @@
+// The job `batch`: a script on an index that is read into memory.
+ghost use Rattle.std.specs.Prelude.{◌≡◌, ◌⊎◌, ◌≤◌, ◌^◌, codes, length};
+ghost use Rattle.std.specs.Io.KnownBytes.{IsAtEnd};
+ghost use Rattle.outside_io.specs.Causes.{Rose};
+ghost use Rattle.outside_io.specs.Sinks.{Tells};
+ghost use Rattle.tree_shape.specs.Tree.{IsSoundTree};
+ghost use Rattle.node_page.specs.Heads.{IsLawfulHead};
+ghost use Rattle.page_store.specs.Files.{nodes_in};
+ghost use Rattle.answer_texts.specs.Asked.{held_in};
+ghost use Rattle.file_jobs.specs.Spaces.{space_of};
+ghost use Rattle.batch_run.specs.Jobs.Batches.{HasFinished, HasOpened, IsBatchStatus, IsTooLong, RunsBatch, RunsOn};
+ghost use Rattle.batch_run.specs.Jobs.Putting.{HasEnded};
+
+use crate::jobs::preparing::{Manner, prepare_all};
+use crate::jobs::putting::put_all;
+use crate::jobs::stop::Stop;
+use crate::laws::images_hold_the_file;
+use crate::{ImageFault, read_image};
+use disk_model::Disk;
+use file_jobs::{FAULT_DISK, FAULT_MEMORY, end_at_page, end_with, open_index, space_of};
+use metric_laws::Metric;
+use node_page::Head;
+use node_page::laws::{fault_is_not_open, one_live_slot};
+use outside_io::{ReadAll, Sink, Source, Status, read_all};
+use rows_text::read_script;
+use std::alloc::Global;
+use std::thread::Threads;
+use tree_shape::Live;
+
+/// The most bytes of a script.
+const MOST_INPUT: u64 = 1 << 26;
+
+/// The line of an input or an index that is too long.
+const FAULT_LONG: &[u8] = b"fault long\n";
+
+// Ends a batch that stopped for this reason.
+fn end_stopped<K: Sink>(alloc: Global, why: Stop, out: &mut K) -> Status
+    ensures ended { HasEnded why (K.state out.old) (K.state out.new) result.0 }
+    ensures later { (K.state out.old).faults ≤ (K.state out.new).faults }
+{
+    match why {
+        Stop::Sink => Status(4),
+        Stop::Damaged(fault) => end_at_page(alloc, fault, out),
+    }
+}
+
+// What is to be done with an index.
+#[derive(Clone, Copy)]
+struct Task<'a> {
+    // The bytes of the script.
+    bytes: &'a [u8],
+    // How its commands are answered.
+    manner: Manner,
+}
+
+// Does a task on an image of the index.
+fn run_on_image<R: Threads + Sync, K: Sink, T: Sink>(
+    rt: &R,
+    alloc: Global,
+    image: &[u8],
+    head: &Head,
+    live: &Live,
+    task: &Task<'_>,
+    out: &mut K,
+    log_out: &mut T,
+) -> Status
+    requires head { IsLawfulHead head.now }
+    requires pages { live.now.pages ≤ 2 ^ 24 }
+    requires some { 1 ≤ task.now.manner.workers }
+    requires many { task.now.manner.workers ≤ 64 }
+    requires few { length task.now.bytes.now ≤ 2 ^ 26 }
+    ensures runs { IsSoundTree (space_of head.now) (nodes_in head.now.dim live.now image.now) live.now →
+        RunsOn task.now.manner.show_tags task.now.bytes.now (space_of head.now) (held_in head.now.dim live.now image.now)
+        (K.state out.old) (K.state out.new) (T.state log_out.old) (T.state log_out.new) result.0 }
+    ensures finished { HasFinished (space_of head.now) live.now image.now (K.state out.old) (K.state out.new) (T.state log_out.old)
+        (T.state log_out.new) result.0 }
+    ensures later { (K.state out.old).faults ≤ (K.state out.new).faults }
+    ensures log_later { (T.state log_out.old).faults ≤ (T.state log_out.new).faults }
+{
+    let space = space_of(head);
+    let Ok(commands) = read_script(alloc, task.bytes, space.words()) else {
+        return end_with(out, FAULT_MEMORY, 8);
+    };
+    let Ok(prepared) = prepare_all(rt, alloc, image, space, live, &commands, task.manner) else {
+        return end_with(out, FAULT_MEMORY, 8);
+    };
+    match put_all(&prepared, out, log_out) {
+        Ok(()) => Status(0),
+        Err(why) => end_stopped(alloc, why, out),
+    }
+}
+
+// Ends a batch whose index was not read into memory.
+fn end_unread<K: Sink>(fault: ImageFault, out: &mut K) -> Status
+    ensures long { result.0 ≡ 7 → (fault ≡ ImageFault.TooLong) × Tells (K.state out.old) (K.state out.new) (codes "fault long\n") }
+    ensures disk { result.0 ≡ 5 → (fault ≡ ImageFault.Disk) × Tells (K.state out.old) (K.state out.new) (codes "fault disk\n") }
+    ensures memory { result.0 ≡ 8 → Tells (K.state out.old) (K.state out.new) (codes "fault memory\n") }
+    ensures statuses { (result.0 ≡ 5) ⊎ ((result.0 ≡ 7) ⊎ (result.0 ≡ 8)) }
+    ensures later { (K.state out.old).faults ≤ (K.state out.new).faults }
+{
+    match fault {
+        ImageFault::TooLong => end_with(out, FAULT_LONG, 7),
+        ImageFault::Disk => end_with(out, FAULT_DISK, 5),
+        ImageFault::Memory => end_with(out, FAULT_MEMORY, 8),
+    }
+}
+
+// Opens the index, reads it into memory, and does a task on it.
+fn run_on_index<R: Threads + Sync, D: Disk, K: Sink, T: Sink>(
+    rt: &R,
+    alloc: Global,
+    index: &mut D,
+    task: &Task<'_>,
+    out: &mut K,
+    log_out: &mut T,
+) -> Status
+    requires some { 1 ≤ task.now.manner.workers }
+    requires many { task.now.manner.workers ≤ 64 }
+    requires few { length task.now.bytes.now ≤ 2 ^ 26 }
+    ensures opened { HasOpened task.now.manner.show_tags task.now.bytes.now (D.state index.old) (D.state index.new) (K.state out.old)
+        (K.state out.new) (T.state log_out.old) (T.state log_out.new) result.0 }
+    ensures later { (K.state out.old).faults ≤ (K.state out.new).faults }
+    ensures log_later { (T.state log_out.old).faults ≤ (T.state log_out.new).faults }
+{
+    fault_is_not_open();
+    one_live_slot();
+    images_hold_the_file();
+    let (head, live) = match open_index(index, out) {
+        Ok(opened) => opened,
+        Err(status) => return status,
+    };
+    let image = match read_image(alloc, index, live.pages) {
+        Ok(image) => image,
+        Err(fault) => return end_unread(fault, out),
+    };
+    run_on_image(rt, alloc, &image, &head, &live, task, out, log_out)
+}
+
+/// Runs the script of `input` on the index, which is read into memory and not changed, by so many threads, 1 to 64. Each reply
+/// is written to `out`, and before it the log of a query to `log_out`, all in the order of the commands. A command that would
+/// change something, or use a cursor, is refused as read-only.
+///
+/// Status 3: the input could not be read; 4: a reply or a log could not be written; 5: the disk failed; 6: the file is no index
+/// of version 2; 7: the input is longer than 2 ^ 26 bytes, or the index has more than 262144 pages; 8: want of memory; 9: a
+/// search came to a damaged page of a file that is not sound.
+pub fn run_batch<R: Threads + Sync, D: Disk, S: Source, K: Sink, T: Sink>(
+    rt: &R,
+    alloc: Global,
+    index: &mut D,
+    workers: usize,
+    show_tags: bool,
+    input: &mut S,
+    out: &mut K,
+    log_out: &mut T,
+) -> Status
+    requires some { 1 ≤ workers }
+    requires many { workers ≤ 64 }
+    ensures runs { RunsBatch show_tags (S.left input.old) (D.state index.old) (D.state index.new) (K.state out.old)
+        (K.state out.new) (T.state log_out.old) (T.state log_out.new) result.0 }
+    ensures statuses { IsBatchStatus result.0 }
+    // A failed read or write is told only where the object's count of faults rose.
+    ensures input { result.0 ≡ 3 → Rose (S.faults input.old) (S.faults input.new) }
+    ensures output { result.0 ≡ 4 → Rose (K.state out.old).faults (K.state out.new).faults ⊎ Rose (T.state log_out.old).faults (T.state log_out.new).faults }
+    ensures long { IsTooLong (S.left input.old) (S.left input.new) (D.state index.old) result.0 }
+    // A batch that is done has taken all input.
+    ensures end { result.0 ≡ 0 → IsAtEnd (S.left input.new) }
+    ensures counts { (S.faults input.old ≤ S.faults input.new) × ((K.state out.old).faults ≤ (K.state out.new).faults)
+        × ((T.state log_out.old).faults ≤ (T.state log_out.new).faults) }
+{
+    match read_all(alloc, input, MOST_INPUT) {
+        Ok(bytes) => {
+            let task = Task {
+                bytes: &bytes,
+                manner: Manner { show_tags, workers },
+            };
+            run_on_index(rt, alloc, index, &task, out, log_out)
+        }
+        Err(ReadAll::Fault) => end_with(out, b"fault input\n", 3),
+        Err(ReadAll::TooLong) => end_with(out, FAULT_LONG, 7),
+        Err(ReadAll::Memory) => end_with(out, FAULT_MEMORY, 8),
+    }
+}

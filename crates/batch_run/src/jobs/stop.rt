@@ -1,0 +1,11 @@
+use page_store::PageFault;
+
+/// Why a batch ended before its script did.
+#[derive(Clone, Copy, Debug, PartialEq, Eq)]
+pub enum Stop {
+    /// A reply or a log could not be written.
+    Sink,
+
+    /// The search of a query came to a damaged page. It never does on a sound index.
+    Damaged(PageFault),
+}

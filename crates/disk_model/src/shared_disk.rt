@@ -1,0 +1,12 @@
+ghost use Rattle.std.specs.Prelude.{IfSome};
+ghost use Rattle.disk_model.specs.Shared.{ReadsSame};
+
+use crate::Disk;
+use std::alloc::Global;
+
+/// A disk that several threads can read at once, each through a reader of its own.
+pub trait SharedDisk: Disk + Drop + Sync {
+    /// Another reader of the same file, which counts its own reads and faults. `None` where there is none to be had.
+    fn reader(&self, alloc: Global) -> Option<Self>
+        ensures same { IfSome result (λ reader. ReadsSame (Self.state self.now) (Self.state reader)) };
+}

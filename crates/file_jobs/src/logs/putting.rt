@@ -1,0 +1,52 @@
+// What a job puts.
+ghost use Rattle.std.specs.Prelude.{◌≡◌, ◌≤◌, ◌∷◌, [], IfOk, IsErrOf};
+ghost use Rattle.outside_io.specs.Causes.{Rose};
+ghost use Rattle.file_jobs.specs.Logs.Jobs.{Puts, stop_of};
+ghost use Rattle.file_jobs.specs.Logs.Sayings.{end_text, file_text};
+
+use crate::logs::Report;
+use crate::logs::stop::Stop;
+use crate::rejected_text;
+use outside_io::{Memory, Sink};
+use std::alloc::Global;
+use tree_audit::AuditFault;
+
+/// Puts a text.
+pub fn put<K: Sink>(out: &mut K, text: &[u8]) -> Result<(), Stop>
+    ensures puts { Puts (text.now ∷ []) (K.state out.old).written (K.state out.new).written (stop_of result) }
+    ensures later { (K.state out.old).faults ≤ (K.state out.new).faults }
+    ensures output { IsErrOf result Stop.Sink → Rose (K.state out.old).faults (K.state out.new).faults }
+    ensures not_disk { IsErrOf result Stop.Disk → ⊥ }
+{
+    match out.put(text) {
+        Ok(()) => Ok(()),
+        Err(_) => Err(Stop::Sink),
+    }
+}
+
+/// The line behind all frames.
+pub fn end_text(report: Report, sound: bool) -> &'static [u8]
+    ensures { result.now ≡ end_text report sound }
+{
+    match (sound, report) {
+        (false, _) => b"log rejected\n",
+        (true, Report::Verdicts) => b"log accepted, file not audited\n",
+        (true, Report::Answers) => b"log complete\n",
+    }
+}
+
+/// The line on a file of this name with this first fault, or with none.
+pub fn file_text(alloc: Global, name: &[u8], fault: Option<AuditFault>) -> Result<Vec<u8>, Memory>
+    ensures { IfOk result (λ text. text.items ≡ file_text name.now fault) }
+{
+    let mut text = Vec::new(alloc);
+    text.extend_from_slice(name)?;
+    match fault {
+        None => text.extend_from_slice(b" sound\n")?,
+        Some(why) => {
+            text.extend_from_slice(b" ")?;
+            text.extend_from_slice(&rejected_text(alloc, why)?)?;
+        }
+    }
+    Ok(text)
+}

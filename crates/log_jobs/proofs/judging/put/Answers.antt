@@ -1,8 +1,0 @@
-use Rattle.log_jobs.proofs.Putting.{whole_put, cut_put}
-use Rattle.log_jobs.proofs.judging.put.Goals as goal
-
-pub returns-in-Ok-clause-puts : goal.returns-in-Ok-clause-puts
-returns-in-Ok-clause-puts g c = whole_put _ _ c.args.text.now c.in-Ok.ensures.ok
-
-pub returns-in-Err-clause-puts : goal.returns-in-Err-clause-puts
-returns-in-Err-clause-puts g c = cut_put _ _ c.args.text.now c.in-Err.ensures.err

@@ -1,0 +1,65 @@
+-- The walk of a tree by child numbers, which opens each node before those that it names.
+use Rattle.std.specs.Prelude.{◌≡◌, ◌≢◌, ℕ, ◌<◌, ◌≤◌, false, IsTrue, List, [], ◌∷◌, ◌++◌, map, length, Some, Err}
+use Rattle.metric_laws.specs.Counts.{next_count, count_up}
+use Rattle.outside_io.specs.Causes.{Rose}
+use Rattle.tree_shape.specs.declared.live.Live.{Live}
+use Rattle.tree_shape.specs.declared.entry.Node.{Node}
+use Rattle.tree_shape.specs.declared.entry.Node.TheVariants.{Leaf, Inner}
+use Rattle.tree_shape.specs.Tree.{Nodes}
+use Rattle.node_page.specs.declared.node.NodeFault.TheVariants.{Memory as NodeMemory}
+use Rattle.page_store.specs.declared.pages.PageFault.{PageFault}
+use Rattle.page_store.specs.declared.pages.PageFault.TheVariants.{Disk, Bad, Outside, Memory, Repeats, Level}
+use Rattle.page_store.specs.Reading.{IsWithin, is_within, nodes_of}
+use Rattle.page_store.specs.Shelf.{Shelf, IsNodeOf}
+
+-- the pages that a node names
+abbrev pub children : Node → List ℕ
+children (Leaf es) = []
+children (Inner level es) = map (λ e. e.child) es
+
+-- the walk that has these pages to open has opened these, each before those that it names, and has these still to open
+abbrev pub Tours : Nodes → List ℕ → List ℕ → List ℕ → Type 0
+Tours nodes pages [] left = left ≡ pages
+Tours nodes [] (o ∷ os) left = ⊥
+Tours nodes (p ∷ ps) (o ∷ os) left = (node : Node) × (nodes p ≡ Some node) × (o ≡ p) × Tours nodes (children node ++ ps) os left
+
+-- the walk from a page is whole, and opens at most so many
+pub record IsWhole (nodes : Nodes) (page most : ℕ) : Type 0 where
+  pub pages : List ℕ
+  pub walk : Tours nodes (page ∷ []) pages []
+  pub few : length pages ≤ most
+
+-- the walk of the live tree is whole and opens no more pages than there are
+abbrev pub IsToured : Nodes → Live → Type 0
+IsToured nodes live = IsWhole nodes live.root live.pages
+
+-- the walk from a root opens so many pages and then names this one
+pub record Names (nodes : Nodes) (root opened page : ℕ) : Type 0 where
+  pub before : List ℕ
+  pub rest : List ℕ
+  pub walk : Tours nodes (root ∷ []) before (page ∷ rest)
+  pub count : length before ≡ opened
+
+-- the same, where it has opened fewer pages than there are
+abbrev pub NamesInside : Nodes → Live → ℕ → Type 0
+NamesInside nodes live page = (opened : ℕ) × (opened < live.pages) × Names nodes live.root opened page
+
+-- a page was asked for once, and the pages that its node names come before those that were left
+pub record OpensPage (old new : Shelf) (page : ℕ) (left after : List ℕ) : Type 0 where
+  pub node : Node
+  pub is : IsNodeOf old page node
+  pub asked : new.asked ≡ next_count old.asked
+  pub pushed : after ≡ children node ++ left
+
+-- why the walk of the live tree stops: the disk failed or memory ran out; or it names a page that holds no node, or that is none
+-- of the file's; or it has opened as many pages as there are, and names this one besides
+abbrev pub HasTourCause : Live → Shelf → Shelf → PageFault → Type 0
+HasTourCause live old new Disk = Rose old.faults new.faults
+HasTourCause live old new Memory = Unit {0}
+HasTourCause live old new (Bad page fault) = (fault ≢ NodeMemory) × IsWithin old.pages page
+    × (IsTrue old.tells → (old.read page ≡ Err (Bad page fault)) × NamesInside (nodes_of old.read) live page)
+HasTourCause live old new (Outside page) = (is_within old.pages page ≡ false)
+    × (IsTrue old.tells → (old.read page ≡ Err (Outside page)) × NamesInside (nodes_of old.read) live page)
+HasTourCause live old new (Repeats page) =
+    (new.asked ≡ count_up old.asked live.pages) × (IsTrue old.tells → Names (nodes_of old.read) live.root live.pages page)
+HasTourCause live old new (Level page) = ⊥
