@@ -5,7 +5,7 @@ use Rattle.std.proofs.KnownBytes.{Appends-trans}
 use Rattle.std.proofs.lemmas.List.{append-nil}
 use Rattle.outside_io.specs.Bytes.{AppendsPrefix}
 use Rattle.outside_io.specs.Sinks.{SinkState}
-use Rattle.plain_scan.proofs.WrittenLemmas.{front_appended}
+use Rattle.plain_scan.proofs.Published.{front_appended}
 use Rattle.log_model.specs.declared.logs.Log.{Log}
 use Rattle.prune_log.specs.Spelling.{frame_bytes, log_bytes}
 use Rattle.answer_texts.specs.Answered.{framed}

@@ -6,7 +6,7 @@ use Rattle.rows_text.specs.declared.reply.Reply.TheVariants as reply
 use Rattle.tree_shape.specs.declared.live.Live.{Live}
 use Rattle.tree_shape.specs.Tree.{objects}
 use Rattle.page_store.specs.Files.{nodes_in, points_in}
-use Rattle.log_model.proofs.ByScan.{length-points}
+use Rattle.log_model.proofs.Published.{length-points}
 use Rattle.image_answers.specs.declared.outcome.Outcome.TheVariants as outcome
 use Rattle.image_answers.specs.Outcomes.{IsOutcomeOf}
 

@@ -5,7 +5,7 @@ use Rattle.std.proofs.lemmas.Bool.Decides.{nat_tests}
 use Rattle.node_page.specs.declared.node.Version.TheVariants.{Second}
 use Rattle.node_page.specs.Nodes.{fault_in, node_in}
 use Rattle.node_page.specs.Opening.{page_of}
-use Rattle.page_store.proofs.PageBytes.{same_page}
+use Rattle.page_store.proofs.Published.{same_page}
 use Rattle.page_store.specs.Reading.{is_within, judged, reading, reading_in}
 use Rattle.batch_run.specs.Images.{IsImageOf}
 

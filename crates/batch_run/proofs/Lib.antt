@@ -2,3 +2,4 @@ pub mod Holding
 pub mod Seats
 pub mod Counting
 pub mod Parts
+pub mod Published

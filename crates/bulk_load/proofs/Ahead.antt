@@ -7,7 +7,7 @@ use Rattle.std.proofs.lemmas.Bool.Decides.{nat_tests}
 use Rattle.metric_laws.specs.Space.{Space}
 use Rattle.tree_growth.specs.Bulk.{row_of}
 use Rattle.tree_growth.specs.Groups.{Far, entry, nearer, nearest_from, counted, one_more}
-use Rattle.tree_growth.proofs.Sized.{nearest_some, length_more}
+use Rattle.tree_growth.proofs.Published.{nearest_some, length_more}
 use Rattle.bulk_load.specs.Candidates.{NotAfter}
 use Rattle.bulk_load.specs.Measured.{points_of, measured}
 use Rattle.bulk_load.specs.Hints.{IsHint, AreHints, HaveGrown}

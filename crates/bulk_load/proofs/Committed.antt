@@ -10,14 +10,13 @@ use Rattle.tree_shape.specs.declared.filling.Bounds.{Bounds}
 use Rattle.tree_growth.specs.declared.rules.Group.{Group}
 use Rattle.tree_shape.specs.Fill.{most_for, least_for}
 use Rattle.tree_growth.specs.Bulk.{Load, built_of, groups_at, places}
-use Rattle.tree_growth.proofs.LoadSound.{places_long}
+use Rattle.tree_growth.proofs.Published.{places_long}
 use Rattle.node_page.specs.Heads.{IsLawfulHead}
 use Rattle.node_page.specs.Nodes.{IsLawfulNode}
 use Rattle.node_page.specs.declared.head.Head.{Head}
 use Rattle.page_store.specs.declared.staging.StagedNode.{StagedNode}
 use Rattle.page_store.specs.Numbers.{numbered}
-use Rattle.page_store.proofs.Given.{numbered_long}
-use Rattle.page_store.proofs.Giving.{limit_small}
+use Rattle.page_store.proofs.Published.{numbered_long, limit_small}
 use Rattle.bulk_load.specs.Causes.{node_count}
 use Rattle.bulk_load.specs.Postorder.{subtrees_of, is_top, last_of, below_groups, group_entries, nodes_at}
 use Rattle.bulk_load.specs.Groupable.{load_of}

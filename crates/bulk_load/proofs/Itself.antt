@@ -7,15 +7,13 @@ use Rattle.tree_shape.specs.declared.entry.Node.TheVariants.{Inner}
 use Rattle.tree_growth.specs.declared.rules.Group.{Group}
 use Rattle.tree_shape.specs.Tree.{times}
 use Rattle.tree_growth.specs.Bulk.{Load, groups_at, places}
-use Rattle.tree_shape.proofs.Counting.{times-append}
+use Rattle.tree_shape.proofs.Published.{times-append}
 use Rattle.page_store.specs.declared.staging.Placed.{Placed}
 use Rattle.page_store.specs.declared.staging.StagedNode.{StagedNode}
 use Rattle.page_store.specs.Numbers.{numbered}
 use Rattle.page_store.specs.Staging.{pages_of}
 use Rattle.page_store.specs.Succession.{StandsByItself, named_by}
-use Rattle.page_store.proofs.Given.{given_in, pages_numbered}
-use Rattle.page_store.proofs.Named.{named_numbered, names_more, names_of}
-use Rattle.page_store.proofs.Standing.{pages_append, pages_from}
+use Rattle.page_store.proofs.Published.{given_in, pages_numbered, named_numbered, names_more, names_of, pages_append, pages_from}
 use Rattle.bulk_load.specs.Postorder.{is_top, last_of, below_groups, group_entries, nodes_at}
 use Rattle.bulk_load.specs.Sets.{top_nodes}
 use Rattle.bulk_load.proofs.Committed.{root_given}

@@ -3,13 +3,13 @@ use Rattle.std.proofs.Common.{◌≡◌, ℕ, zero, suc, ◌+◌, ◌<◌, ◌�
 use Rattle.std.specs.Prelude.{if◌then◌else◌, ◌==◌, nat_lt, slice_index_or}
 use Rattle.std.specs.List.{AllByRecursion}
 use Rattle.std.proofs.lemmas.Bool.Decides.{nat_tests}
-use Rattle.metric_laws.proofs.Lists.{all_in, map-in}
+use Rattle.metric_laws.proofs.Published.{all_in, map-in}
 use Rattle.tree_shape.specs.declared.entry.LeafEntry.{LeafEntry}
 use Rattle.tree_shape.specs.Tree.{point_of, points_from, tag_of, tags_from}
 use Rattle.tree_shape.specs.Plain.{Object, object_of}
 use Rattle.tree_growth.specs.Bulk.{Load, object_at, places_from}
-use Rattle.tree_shape.proofs.ById.{object_of as object_with, point_of-in}
-use Rattle.page_store.proofs.Ids.{tally, AreCounted, once_counted, there_counted, tag_of-in}
+use Rattle.tree_shape.proofs.Published.{object_of as object_with, point_of-in}
+use Rattle.page_store.proofs.Published.{tally, AreCounted, once_counted, there_counted, tag_of-in}
 
 -- the ids of rows in order
 before : (l : Load) (id k n : ℕ) → id < k → tally id (map (object_at l) (places_from k n)) ≡ 0

@@ -3,7 +3,7 @@ use Rattle.std.proofs.Common.{◌≡◌, ℕ, zero, suc, ◌+◌, ◌^◌, ◌<�
 use Rattle.std.specs.Prelude.{Option, Some, None, IfSome, IsTrue}
 use Rattle.std.specs.List.{AllByRecursion}
 use Rattle.metric_laws.specs.Space.{IsSpace, bound}
-use Rattle.metric_laws.proofs.Lists.{all_append, length_map}
+use Rattle.metric_laws.proofs.Published.{all_append, length_map}
 use Rattle.tree_shape.specs.declared.entry.LeafEntry.{LeafEntry}
 use Rattle.tree_shape.specs.declared.entry.InnerEntry.{InnerEntry}
 use Rattle.tree_shape.specs.declared.entry.Node.{Node}
@@ -11,7 +11,7 @@ use Rattle.tree_shape.specs.declared.entry.Node.TheVariants.{Inner}
 use Rattle.tree_growth.specs.declared.rules.Group.{Group}
 use Rattle.tree_shape.specs.Tree.{parent_distance}
 use Rattle.tree_growth.specs.Bulk.{Load, point_of, radius_of, groups_at}
-use Rattle.tree_growth.proofs.LoadSound.{point_at_place, power_one}
+use Rattle.tree_growth.proofs.Published.{point_at_place, power_one}
 use Rattle.node_page.specs.Nodes.{IsLawfulNode}
 use Rattle.bulk_load.specs.Sets.{IsLawfulLoad, IsSetFor, IsGroupFor}
 use Rattle.bulk_load.specs.Postorder.{is_top, seed_point, leaf_entry, below_groups, group_entries, nodes_at}

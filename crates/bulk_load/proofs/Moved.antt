@@ -9,7 +9,7 @@ use Rattle.std.proofs.Math.ListN.{set}
 use Rattle.std.proofs.lemmas.List.{map-append, drop_more, drop-set-lt}
 use Rattle.std.proofs.lemmas.List.Elements.{All-from_recursion}
 use Rattle.metric_laws.specs.Space.{IsSpace}
-use Rattle.metric_laws.proofs.Lists.{all_append, all_weaker, length_map}
+use Rattle.metric_laws.proofs.Published.{all_append, all_weaker, length_map}
 use Rattle.tree_shape.specs.declared.entry.InnerEntry.{InnerEntry}
 use Rattle.tree_shape.specs.declared.entry.Node.{Node}
 use Rattle.tree_shape.specs.declared.entry.Node.TheVariants.{Leaf, Inner}

@@ -8,7 +8,7 @@ use Rattle.std.proofs.Common.{◌≢◌}
 use Rattle.std.proofs.lemmas.Bool.Decides.{nat_tests}
 use Rattle.tree_growth.specs.declared.rules.Member.{Member}
 use Rattle.tree_growth.specs.Groups.{Far, in_group, is_candidate, member_of, received, filled_from}
-use Rattle.tree_growth.proofs.Sized.{one_if, in_group-set}
+use Rattle.tree_growth.proofs.Published.{one_if, in_group-set}
 use Rattle.bulk_load.specs.Candidates.{AreCounts}
 
 in_group-append : (a : ℕ) (ps : List Member) (p : Member) → in_group a (ps ++ p ∷ []) ≡ in_group a ps + (if p.group == a then 1 else 0)

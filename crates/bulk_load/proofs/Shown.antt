@@ -9,9 +9,8 @@ use Rattle.tree_growth.specs.declared.rules.Group.{Group}
 use Rattle.tree_shape.specs.Tree.{Nodes, leaf_entries, inner_entries, pages_at, times, parent_distance}
 use Rattle.tree_shape.specs.Plain.{Object, Branch, Plain, Tall, object_of, tree_at}
 use Rattle.tree_growth.specs.Bulk.{Load, point_of, object_at, radius_of, groups_at, built_at}
-use Rattle.tree_shape.proofs.Counting.{times-append}
-use Rattle.page_store.proofs.Standing.{HoldsFrom, holds_append, pages_from, pages_append, trees_from, trees_append}
-use Rattle.page_store.proofs.Stored.{branch_at, below_in, IsStoredAt, IsStoredEntry}
+use Rattle.tree_shape.proofs.Published.{times-append}
+use Rattle.page_store.proofs.Published.{HoldsFrom, holds_append, pages_from, pages_append, trees_from, trees_append, branch_at, below_in, IsStoredAt, IsStoredEntry}
 use Rattle.bulk_load.specs.Postorder.{subtrees, is_top, seed_point, leaf_entry, last_of, below_groups, group_entries, nodes_at}
 
 pub last_is : (number : ℕ → ℕ) (i : ℕ) (xs : List Node) (x : Node) → last_of number i (xs ++ x ∷ []) ≡ number (i + length xs)

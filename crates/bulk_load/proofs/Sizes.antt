@@ -7,9 +7,8 @@ use Rattle.std.proofs.Math.Nat.{pow-le-pow_left, pow-le-pow_right, one-le-pow}
 use Rattle.tree_shape.specs.declared.filling.Bounds.{Bounds}
 use Rattle.tree_shape.specs.Fill.{least_for}
 use Rattle.tree_growth.specs.Groups.{group_count}
-use Rattle.tree_shape.proofs.Height.{three_at_least}
-use Rattle.tree_growth.proofs.Loaded.{some_group}
-use Rattle.tree_growth.proofs.LoadSound.{group_most}
+use Rattle.tree_shape.proofs.Published.{three_at_least}
+use Rattle.tree_growth.proofs.Published.{some_group, group_most}
 use Rattle.bulk_load.specs.Groupable.{IsFill, IsSized}
 
 -- numbers that rise by their places are as many as there is room below their bound

@@ -6,7 +6,7 @@ use Rattle.std.specs.List.Sorted.{IsStrictlyIncreasing}
 use Rattle.std.proofs.Math.Nat.{pow-suc, pow-zero, mul-le-mul_left}
 use Rattle.std.proofs.Math.Pow.{pow_mono}
 use Rattle.metric_laws.specs.Space.{Space, IsSpace}
-use Rattle.metric_laws.proofs.Lists.{all_both, all_weaker}
+use Rattle.metric_laws.proofs.Published.{all_both, all_weaker}
 use Rattle.tree_shape.specs.declared.entry.Node.{Node}
 use Rattle.tree_shape.specs.declared.entry.Node.TheVariants.{Inner}
 use Rattle.tree_growth.specs.declared.rules.Group.{Group}
@@ -15,13 +15,10 @@ use Rattle.tree_shape.specs.Fill.{most_for, least_for}
 use Rattle.tree_growth.specs.Groups.{group_count, members_from, seeds_from, grouped, entry}
 use Rattle.tree_shape.specs.Plain.{Object, Branch, Plain, Tall}
 use Rattle.tree_growth.specs.Bulk.{Load, table_of, groups_from, groups_at, built_at, height_of, places, places_from}
-use Rattle.tree_growth.proofs.Fitting.{Fits, count_fits, powers_wide}
-use Rattle.tree_shape.proofs.Height.{three_at_least}
-use Rattle.tree_growth.proofs.Sized.{length_seeds}
-use Rattle.tree_growth.proofs.Loaded.{power_some, weigh, weigh_all, weight_of, groups_at_weigh}
-use Rattle.tree_growth.proofs.LoadSound.{load, four_times, IsGood, groups_good, groups_long, group_most, group_least, grows, height_is, places_long, places_low}
+use Rattle.tree_growth.proofs.Published.{Fits, count_fits, powers_wide, length_seeds, power_some, weigh, weigh_all, weight_of, groups_at_weigh, load, four_times, IsGood, groups_good, groups_long, group_most, group_least, grows, height_is, places_long, places_low}
+use Rattle.tree_shape.proofs.Published.{three_at_least}
 use Rattle.page_store.specs.Numbers.{Ascends}
-use Rattle.page_store.proofs.Given.{next_at, lower_or}
+use Rattle.page_store.proofs.Published.{next_at, lower_or}
 use Rattle.bulk_load.specs.Sets.{IsLawfulLoad, IsSetFor, IsGroupFor}
 use Rattle.bulk_load.specs.Postorder.{subtrees, is_top, below_groups, group_entries, nodes_at}
 use Rattle.bulk_load.proofs.Shown.{group_branch}

@@ -9,10 +9,10 @@ use Rattle.std.proofs.lemmas.List.{get_or-set_other, get_or-set_same}
 use Rattle.std.proofs.lemmas.List.Sorted.{Contains-permutation, All-permutation}
 use Rattle.std.proofs.lemmas.List.Elements.{All-from_recursion, recursion_from_All}
 use Rattle.metric_laws.specs.Lists.{IsIn}
-use Rattle.metric_laws.proofs.Lists.{all_weaker, all_in}
+use Rattle.metric_laws.proofs.Published.{all_weaker, all_in}
 use Rattle.tree_growth.specs.declared.rules.Member.{Member}
 use Rattle.tree_growth.specs.Groups.{Far, nearer, member_of, in_group, is_candidate, candidate_from, moved_to, received}
-use Rattle.tree_growth.proofs.Sized.{one_if, in_group-set, length_set}
+use Rattle.tree_growth.proofs.Published.{one_if, in_group-set, length_set}
 use Rattle.bulk_load.specs.Candidates.{candidates_from, is_nearer, NotAfter}
 use Rattle.bulk_load.proofs.Received.{more_than}
 

@@ -5,7 +5,7 @@ use Rattle.std.specs.Prelude.{count_by, Some, None, if◌then◌else◌, nat_lt}
 use Rattle.std.specs.List.{AllByRecursion}
 use Rattle.metric_laws.specs.Space.{IsSpace}
 use Rattle.metric_laws.specs.Lists.{IsIn}
-use Rattle.metric_laws.proofs.Lists.{all_in}
+use Rattle.metric_laws.proofs.Published.{all_in}
 use Rattle.tree_shape.specs.declared.live.Live.{Live}
 use Rattle.tree_shape.specs.declared.entry.Node.{Node}
 use Rattle.tree_shape.specs.Fill.{root_least}
@@ -13,20 +13,14 @@ use Rattle.tree_shape.specs.Tree.{Nodes, pages_at, times, objects, IsNodePage, I
 use Rattle.tree_shape.specs.Plain.{Tall, objects_of, object_of, tree_at, tree_of}
 use Rattle.tree_shape.specs.Sound.{IsSoundTall}
 use Rattle.tree_growth.specs.Bulk.{Load, object_at, built_at, built_of, built, places}
-use Rattle.tree_shape.proofs.Height.{height_is_small}
-use Rattle.tree_growth.proofs.Loaded.{load_keeps_objects}
-use Rattle.tree_growth.proofs.LoadSound.{load_is_sound, built_all}
-use Rattle.tree_shape.proofs.Reading.{same_objects}
+use Rattle.tree_shape.proofs.Published.{height_is_small, same_objects}
+use Rattle.tree_growth.proofs.Published.{load_keeps_objects, load_is_sound, built_all}
 use Rattle.page_store.specs.declared.staging.StagedNode.{StagedNode}
 use Rattle.page_store.specs.declared.staging.Placed.{Placed}
 use Rattle.page_store.specs.Numbers.{number_at, numbered, AreNumbers}
 use Rattle.page_store.specs.Placing.{live_pages, AreOutside, staged_tree}
 use Rattle.page_store.specs.Staging.{pages_of}
-use Rattle.page_store.proofs.Standing.{HoldsFrom, pages_from, trees_from, trees_numbered, stand_holds, in_times, times_in, all_each}
-use Rattle.page_store.proofs.Given.{number_up, number_within, given_once, pages_numbered}
-use Rattle.page_store.proofs.Giving.{given_out, given_apart, given_each}
-use Rattle.page_store.proofs.Stored.{IsStoredAt, sound_of_stored}
-use Rattle.page_store.proofs.Ids.{with_id, tally_ids, tally_count, AreCounted}
+use Rattle.page_store.proofs.Published.{HoldsFrom, pages_from, trees_from, trees_numbered, stand_holds, in_times, times_in, all_each, number_up, number_within, given_once, pages_numbered, given_out, given_apart, given_each, IsStoredAt, sound_of_stored, with_id, tally_ids, tally_count, AreCounted}
 use Rattle.bulk_load.specs.Sets.{top_height, top_nodes, IsLawfulLoad}
 use Rattle.bulk_load.specs.Postorder.{subtrees_of, last_of}
 use Rattle.bulk_load.specs.Loaded.{Stand, LeavesOld, HasLoaded}

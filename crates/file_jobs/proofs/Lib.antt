@@ -6,3 +6,4 @@ pub mod Ends
 pub mod Shaped
 pub mod Unsound
 mod Joined
+pub mod Published

@@ -3,7 +3,7 @@ use Rattle.std.proofs.Common.{◌≡◌, ◌≢◌, ℕ, zero, suc, ◌+◌, ◌
 use Rattle.std.specs.Prelude.{◌==◌, nat_lt, not, map, filter, take, if◌then◌else◌}
 use Rattle.std.specs.List.{AllByRecursion, range_with_len}
 use Rattle.std.proofs.lemmas.Bool.Decides.{nat_tests}
-use Rattle.metric_laws.proofs.Lists.{all_weaker, all_filter}
+use Rattle.metric_laws.proofs.Published.{all_weaker, all_filter}
 use Rattle.tree_shape.specs.Tree.{times}
 use Rattle.page_store.specs.Numbers.{Ascends, AreNumbers}
 use Rattle.page_store.specs.Reading.{IsWithin}

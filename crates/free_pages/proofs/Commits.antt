@@ -6,13 +6,12 @@ use Rattle.std.proofs.lemmas.Bool.{cases_lt}
 use Rattle.std.proofs.lemmas.Bool.Decides.{nat_tests}
 use Rattle.std.proofs.lemmas.List.{get_or-take, length-take}
 use Rattle.metric_laws.specs.Lists.{IsIn}
-use Rattle.metric_laws.proofs.Lists.{all_in, in-append_left, in-map, map-in}
+use Rattle.metric_laws.proofs.Published.{all_in, in-append_left, in-map, map-in}
 use Rattle.tree_shape.specs.Tree.{times}
 use Rattle.page_store.specs.Numbers.{Ascends, AreNumbers, number_at}
 use Rattle.page_store.specs.Reading.{IsWithin}
 use Rattle.page_store.specs.Staging.{pages_of}
-use Rattle.page_store.proofs.Given.{number_in, number_out}
-use Rattle.page_store.proofs.Following.{placements_new}
+use Rattle.page_store.proofs.Published.{number_in, number_out, placements_new}
 use Rattle.free_pages.specs.declared.held.Held.{Held}
 use Rattle.free_pages.specs.Keeping.{FreePages, IsFreeOrHeld, IsKept, is_kept, is_pinned_below, put_by, with_left, with_page, without_pin}
 use Rattle.free_pages.specs.Commits.{with_all_left, after_commit, FreePagesAreNumbers, PlacementsExchange, CommitsKeepWithin, CommitsKeepBeside, CommitsKeepOutside, IsGuarded, PinsGuard}

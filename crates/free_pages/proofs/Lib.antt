@@ -12,3 +12,4 @@ mod Steps
 mod Toured
 mod Whole
 mod WholeWalk
+pub mod Published

@@ -5,7 +5,7 @@ use Rattle.std.specs.List.{range_with_len}
 use Rattle.std.proofs.lemmas.Bool.{cases_lt}
 use Rattle.std.proofs.lemmas.Bool.Decides.{nat_tests}
 use Rattle.metric_laws.specs.Lists.{IsIn}
-use Rattle.metric_laws.proofs.Lists.{all_in}
+use Rattle.metric_laws.proofs.Published.{all_in}
 use Rattle.tree_shape.specs.Tree.{times}
 use Rattle.free_pages.specs.declared.held.Held.{Held}
 use Rattle.free_pages.specs.Keeping.{FreePages, IsFreeOrHeld, IsKept, held_pages, is_among, is_kept, is_pinned_below, put_by, released, still_held, with_free, with_held, with_left, with_page, with_pages}

@@ -7,7 +7,7 @@ use Rattle.std.proofs.lemmas.Bool.Decides.{nat_tests}
 use Rattle.std.proofs.lemmas.List.{append-nil, map-append}
 use Rattle.std.proofs.lemmas.List.Elements.{filter-append, filter_agree}
 use Rattle.std.proofs.lemmas.List.Folds.{list_any-append}
-use Rattle.metric_laws.proofs.Lists.{all_weaker, all_filter}
+use Rattle.metric_laws.proofs.Published.{all_weaker, all_filter}
 use Rattle.tree_shape.specs.Tree.{times}
 use Rattle.page_store.specs.Numbers.{Ascends}
 use Rattle.free_pages.specs.declared.held.Held.{Held}

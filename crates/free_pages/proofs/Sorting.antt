@@ -7,9 +7,9 @@ use Rattle.std.proofs.lemmas.Bool.{cases_lt, cases_eq}
 use Rattle.std.proofs.lemmas.Bool.Decides.{nat_tests}
 use Rattle.std.proofs.lemmas.List.Sorted.{sum_by-IsPermutation}
 use Rattle.std.proofs.lemmas.List.Sums.{sum_by-cons}
-use Rattle.metric_laws.proofs.Lists.{all_filter}
+use Rattle.metric_laws.proofs.Published.{all_filter}
 use Rattle.tree_shape.specs.Tree.{times}
-use Rattle.tree_shape.proofs.Counting.{times-append, counted}
+use Rattle.tree_shape.proofs.Published.{times-append, counted}
 use Rattle.page_store.specs.Numbers.{Ascends}
 use Rattle.free_pages.specs.declared.held.Held.{Held}
 use Rattle.free_pages.specs.Keeping.{held_pages, with_page, with_pages}

@@ -5,12 +5,12 @@ use Rattle.std.specs.List.{AllByRecursion}
 use Rattle.std.proofs.lemmas.Bool.{cases_lt, cases_eq}
 use Rattle.std.proofs.lemmas.Bool.Decides.{nat_tests}
 use Rattle.std.proofs.lemmas.List.{length-set, get_or-set_same, get_or-set_other, get_or-replicate, get_or_past, length-replicate}
-use Rattle.metric_laws.proofs.Lists.{all_weaker, all_append}
+use Rattle.metric_laws.proofs.Published.{all_weaker, all_append}
 use Rattle.outside_io.specs.Causes.{Rose}
 use Rattle.tree_shape.specs.declared.entry.Node.{Node}
 use Rattle.tree_shape.specs.declared.live.Live.{Live}
 use Rattle.tree_shape.specs.Tree.{times}
-use Rattle.tree_shape.proofs.Counting.{times-append, times-in, few}
+use Rattle.tree_shape.proofs.Published.{times-append, times-past, few}
 use Rattle.page_store.specs.declared.pages.PageFault.{PageFault}
 use Rattle.page_store.specs.declared.pages.PageFault.TheVariants.{Disk, Bad, Outside, Memory, Repeats, Level}
 use Rattle.page_store.specs.Reading.{Read, IsWithin, is_within}
@@ -84,7 +84,7 @@ fewer_opened flags opened flagged some =
 pub unflagged : (flags : List Bool) (opened : List ℕ) (n : ℕ) → AreOpened flags opened → slice_index_or flags n false ≡ false → times n opened ≡ 0
 unflagged flags opened n flagged unset = elim (cases_lt n (length flags)) [
   | inl lt ↦ none (times n opened) (sym (flagged.told n lt) ∙ unset)
-  | inr past ↦ times-in opened n (length flags) (below flags opened flagged) past
+  | inr past ↦ times-past opened n (length flags) (below flags opened flagged) past
 ]
   where
     none : (m : ℕ) → not (m == 0) ≡ false → m ≡ 0

@@ -8,7 +8,7 @@ use Rattle.page_store.specs.declared.pages.PageFault.{PageFault}
 use Rattle.page_store.specs.declared.pages.PageFault.TheVariants.{Repeats}
 use Rattle.page_store.specs.Reading.{Read, nodes_of, node_or_none}
 use Rattle.page_store.specs.Tours.{children, Tours, Names}
-use Rattle.page_store.proofs.Touring.{tours_more}
+use Rattle.page_store.proofs.Published.{tours_more}
 use Rattle.free_pages.specs.Laws.{WalksAreTours}
 use Rattle.free_pages.specs.Walk.{on_children, walked}
 use Rattle.free_pages.proofs.Whole.{walked_keeps}

@@ -4,13 +4,13 @@ use Rattle.std.specs.Prelude.{◌==◌, map, if◌then◌else◌}
 use Rattle.std.specs.List.{AllByRecursion}
 use Rattle.std.proofs.lemmas.Bool.Decides.{nat_tests}
 use Rattle.metric_laws.specs.Lists.{IsIn}
-use Rattle.metric_laws.proofs.Lists.{all_in, all_append, flat_map-append}
+use Rattle.metric_laws.proofs.Published.{all_in, all_append, flat_map-append}
 use Rattle.tree_shape.specs.declared.entry.InnerEntry.{InnerEntry}
 use Rattle.tree_shape.specs.declared.entry.Node.{Node}
 use Rattle.tree_shape.specs.declared.entry.Node.TheVariants.{Leaf, Inner}
 use Rattle.tree_shape.specs.declared.live.Live.{Live}
 use Rattle.tree_shape.specs.Tree.{Nodes, IsNodePage, inner_entries, times}
-use Rattle.tree_shape.proofs.Counting.{times-append, counted}
+use Rattle.tree_shape.proofs.Published.{times-append, counted}
 use Rattle.page_store.specs.declared.pages.PageFault.{PageFault}
 use Rattle.page_store.specs.declared.pages.PageFault.TheVariants.{Repeats}
 use Rattle.page_store.specs.Reading.{Read, nodes_of, node_or_none}

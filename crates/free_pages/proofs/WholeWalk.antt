@@ -4,11 +4,11 @@ use Rattle.std.specs.Prelude.{◌==◌, if◌then◌else◌}
 use Rattle.std.specs.List.{AllByRecursion}
 use Rattle.std.proofs.lemmas.Bool.Decides.{nat_tests}
 use Rattle.metric_laws.specs.Lists.{IsIn}
-use Rattle.metric_laws.proofs.Lists.{all_in}
+use Rattle.metric_laws.proofs.Published.{all_in}
 use Rattle.tree_shape.specs.declared.entry.Node.{Node}
 use Rattle.tree_shape.specs.declared.live.Live.{Live}
 use Rattle.tree_shape.specs.Tree.{Nodes, IsNodePage, times}
-use Rattle.tree_shape.proofs.Counting.{times-append, counted, few}
+use Rattle.tree_shape.proofs.Published.{times-append, counted, few}
 use Rattle.page_store.specs.declared.pages.PageFault.{PageFault}
 use Rattle.page_store.specs.Reading.{Read, nodes_of, node_or_none}
 use Rattle.free_pages.specs.Keeping.{without_pin}

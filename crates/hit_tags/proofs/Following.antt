@@ -18,7 +18,7 @@ use Rattle.log_model.specs.declared.marks.Mark.TheVariants.{Skip, Far, Near}
 use Rattle.log_model.specs.declared.marks.Record.{Record}
 use Rattle.log_model.specs.Walk.{near_ones}
 use Rattle.log_model.specs.Counts.{entry_count}
-use Rattle.log_model.proofs.Reached.{count_up_both}
+use Rattle.log_model.proofs.Published.{count_up_both}
 use Rattle.hit_tags.specs.declared.walking.Walk.{Walk}
 use Rattle.hit_tags.specs.Met.{near_objects, near_pages, marked_node, met, ComesTo, AreMarked, IsNoneNear}
 use Rattle.hit_tags.specs.Tags.{HasTagsCause}

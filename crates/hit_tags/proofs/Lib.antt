@@ -1,3 +1,4 @@
 pub mod Taking
 pub mod Following
 pub mod Showing
+pub mod Published

@@ -6,7 +6,7 @@ use Rattle.std.proofs.lemmas.Slice.Zip.{AllZip-long}
 use Rattle.std.proofs.lemmas.Bool.Decides.{nat_tests}
 use Rattle.metric_laws.specs.Lists.{IsIn}
 use Rattle.metric_laws.specs.Space.{Space}
-use Rattle.metric_laws.proofs.Lists.{all_append, all_flat_map, all_in, flat_map-append, flat_map-map, map-in, in-map}
+use Rattle.metric_laws.proofs.Published.{all_append, all_flat_map, all_in, flat_map-append, flat_map-map, map-in, in-map}
 use Rattle.scan_model.specs.declared.hit.Hit.{Hit}
 use Rattle.scan_model.specs.declared.query.Query.{Query}
 use Rattle.scan_model.specs.declared.query.Query.TheVariants.{Range, Nearest}
@@ -17,8 +17,8 @@ use Rattle.tree_shape.specs.declared.entry.Node.TheVariants.{Leaf, Inner}
 use Rattle.tree_shape.specs.declared.live.Live.{Live}
 use Rattle.tree_shape.specs.Fill.{root_least}
 use Rattle.tree_shape.specs.Tree.{Nodes, IsSoundAt, IsSoundTree, objects, objects_at, times, tag_of, tags_from, tags_by_id}
-use Rattle.tree_shape.proofs.ById.{ids_of, times-in}
-use Rattle.page_store.proofs.Ids.{tag_of-in, once_counted}
+use Rattle.tree_shape.proofs.Published.{ids_of, times-in}
+use Rattle.page_store.proofs.Published.{tag_of-in, once_counted}
 use Rattle.page_store.specs.declared.pages.PageFault.{PageFault}
 use Rattle.page_store.specs.declared.pages.PageFault.TheVariants.{Disk, Bad, Outside, Memory, Repeats, Level}
 use Rattle.page_store.specs.Reading.{nodes_of, node_or_none}
@@ -32,9 +32,7 @@ use Rattle.log_model.specs.Counts.{entry_count}
 use Rattle.log_model.specs.InOrder.{in_order, hit_before}
 use Rattle.log_model.specs.Walk.{Search, WalksBy, AreAllowed, allows_object, allows_subtree, near_ones, needs_of, need_of, hits_of, hit_of, root_need}
 use Rattle.log_model.specs.Sound.{selected, search_for}
-use Rattle.log_model.proofs.Order.{in-in_order}
-use Rattle.log_model.proofs.Orders.{hit_order}
-use Rattle.log_model.proofs.Walk.{Spot, IsSoundSpot, spot_of, objects_of, near_of_sound, same_node, map-append}
+use Rattle.log_model.proofs.Published.{in-in_order, hit_order, Spot, IsSoundSpot, spot_of, objects_of, near_of_sound, same_node, map-append}
 use Rattle.hit_tags.specs.Met.{near_objects, near_pages, with_marks, marked_node, met_from, met, ComesTo}
 use Rattle.hit_tags.specs.Tags.{tags_among, IsOwnTag, met_tags, object_tags, IsShown, HasTagsCause}
 use Rattle.hit_tags.proofs.Following.{marks_node, met_none}

@@ -30,12 +30,10 @@ use Rattle.log_model.specs.declared.marks.Need.{Need}
 use Rattle.log_model.specs.Laws.{scan_answers}
 use Rattle.log_model.specs.Sound.{IsLeastLog, IsLogOf, search_for}
 use Rattle.log_model.specs.Walk.{Rule, Search, AreLeast, ReachesBy, WalksBy, near_ones, need_of, needs_of, root_need, search_at}
-use Rattle.log_model.proofs.Lawful.{marks_long}
-use Rattle.log_model.proofs.LeastLog.{least_sound}
+use Rattle.log_model.proofs.Published.{marks_long, least_sound}
 use Rattle.hit_tags.specs.Met.{AreMarked, ComesTo, near_pages}
 use Rattle.hit_tags.specs.Tags.{HasTagsCause, met_tags}
-use Rattle.hit_tags.proofs.Following.{marks_node}
-use Rattle.hit_tags.proofs.Showing.{marked_is}
+use Rattle.hit_tags.proofs.Published.{marks_node, marked_is}
 use Rattle.answer_texts.specs.Asked.{Held, HasLog, answered_query, held_in, state_of}
 use Rattle.image_answers.specs.declared.outcome.Outcome.{Outcome}
 use Rattle.image_answers.specs.declared.outcome.Outcome.TheVariants as outcome

@@ -4,7 +4,7 @@ use Rattle.std.specs.Prelude.{IsSome, ◌==◌}
 use Rattle.std.specs.List.{AllByRecursion}
 use Rattle.std.proofs.lemmas.Bool.Decides.{nat_tests}
 use Rattle.metric_laws.specs.Lists.{IsIn}
-use Rattle.metric_laws.proofs.Lists.{all_append, all_in, in-append, in-filter}
+use Rattle.metric_laws.proofs.Published.{all_append, all_in, in-append, in-filter}
 use Rattle.disk_model.specs.Disk.{DiskState, LeavesOnly}
 use Rattle.tree_shape.specs.declared.live.Live.{Live}
 use Rattle.tree_shape.specs.declared.entry.Node.{Node}
@@ -21,16 +21,14 @@ use Rattle.page_store.specs.Reached.{StandsOnPages}
 use Rattle.page_store.specs.Reading.{IsWithin, node_or_none}
 use Rattle.page_store.specs.Staging.{pages_of, staged_for}
 use Rattle.page_store.specs.Succession.{IsWritten, ShareNone, without}
-use Rattle.page_store.proofs.Following.{placements_new, go_on, new_stands}
-use Rattle.page_store.proofs.Whole.{stand_on_pages}
+use Rattle.page_store.proofs.Published.{placements_new, go_on, new_stands, stand_on_pages, all_each, in_times as times_from_in}
 use Rattle.shadow_root.specs.Commit.{IsReady, IsStagedFor, IsInPlace, KeepsTree}
 use Rattle.shadow_root.specs.Live.{IsSuccessor}
 use Rattle.shadow_root.specs.Placements.{KeepsBytes}
-use Rattle.shadow_root.proofs.Beside.{in_place_is_written, new_is_beside, placements_can_follow}
+use Rattle.shadow_root.proofs.Published.{in_place_is_written, new_is_beside, placements_can_follow}
 use Rattle.free_pages.specs.Keeping.{FreePages, IsKept}
 use Rattle.free_pages.specs.Commits.{after_commit, AreWithin, LiesBeside, IsExchange}
-use Rattle.free_pages.proofs.Commits.{free_numbers, placements_exchange, keep_within, keep_beside}
-use Rattle.page_store.proofs.Standing.{all_each, in_times as times_from_in}
+use Rattle.free_pages.proofs.Published.{free_numbers, placements_exchange, keep_within, keep_beside}
 use Rattle.index_core.specs.Index.{AreSpare}
 use Rattle.index_core.specs.Writing.{Follows}
 

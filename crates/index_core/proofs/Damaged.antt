@@ -4,7 +4,7 @@ use Rattle.std.specs.Prelude.{IsTrue, ◌==◌, ◌&&◌, min, nat_le, nat_lt, i
 use Rattle.std.proofs.lemmas.Bool.Decides.{nat_tests}
 use Rattle.metric_laws.specs.Lists.{IsIn}
 use Rattle.metric_laws.specs.Space.{Space, bound}
-use Rattle.metric_laws.proofs.Lists.{in-append, in-map, length_map}
+use Rattle.metric_laws.proofs.Published.{in-append, in-map, length_map}
 use Rattle.disk_model.specs.Disk.{DiskState}
 use Rattle.scan_model.specs.declared.hit.Hit.{Hit}
 use Rattle.tree_shape.specs.declared.live.Live.{Live}
@@ -14,22 +14,21 @@ use Rattle.tree_shape.specs.declared.entry.Node.TheVariants.{Leaf, Inner}
 use Rattle.tree_shape.specs.Fill.{most_for}
 use Rattle.tree_shape.specs.Plain.{Object, Branch, tree_at}
 use Rattle.tree_shape.specs.Tree.{Nodes, inner_entries, times}
-use Rattle.tree_shape.proofs.Counting.{times-append}
+use Rattle.tree_shape.proofs.Published.{times-append}
 use Rattle.tree_growth.specs.Dealing.{Ball}
 use Rattle.tree_growth.specs.Insertion.{Grown, One, Two, Rules, branch_ball, chosen, fit, grown_at, inserted, with_grown}
-use Rattle.tree_growth.proofs.Added.{chosen_low}
+use Rattle.tree_growth.proofs.Published.{chosen_low}
 use Rattle.node_page.specs.declared.node.NodeFault.{NodeFault}
 use Rattle.node_page.specs.declared.node.Version.TheVariants.{Second}
 use Rattle.node_page.specs.Nodes.{IsLawfulNode, fault_in, node_in}
 use Rattle.node_page.specs.Opening.{page_of}
-use Rattle.node_page.proofs.NodeLaws.{lawful_by_spells, spells_by_none}
+use Rattle.node_page.proofs.Published.{lawful_by_spells, spells_by_none}
 use Rattle.page_store.specs.declared.pages.PageFault.{PageFault}
 use Rattle.page_store.specs.declared.pages.PageFault.TheVariants.{Disk, Bad, Outside, Memory, Repeats, Level}
 use Rattle.page_store.specs.Reached.{IsReached}
 use Rattle.page_store.specs.Reached.IsReached.{at_root, by_child}
 use Rattle.page_store.specs.Reading.{IsWithin, is_within, judged, node_or_none, nodes_of, reading, reading_in}
-use Rattle.page_store.proofs.Standing.{in_get, in_times, times_in}
-use Rattle.page_store.proofs.Stored.{branch_at}
+use Rattle.page_store.proofs.Published.{in_get, in_times, times_in, branch_at}
 use Rattle.log_model.specs.declared.logs.Found.{Found}
 use Rattle.log_model.specs.declared.marks.Mark.{Mark}
 use Rattle.log_model.specs.declared.marks.Mark.TheVariants.{Skip, Far, Near}
@@ -48,7 +47,7 @@ use Rattle.page_store.specs.Tours.{children}
 use Rattle.free_pages.specs.Walk.{on_children, tree_walk, walked}
 use Rattle.insert_path.specs.Placing.{is_split, or_level, place_fault}
 use Rattle.insert_path.specs.Walk.{chosen_child, inner_ball, inner_fault, leaf_fault, walk_fault}
-use Rattle.insert_path.proofs.Level.{child_page}
+use Rattle.insert_path.proofs.Published.{child_page}
 use Rattle.index_core.specs.declared.faults.IndexFault.{IndexFault}
 use Rattle.index_core.specs.declared.faults.IndexFault.TheVariants as fault
 use Rattle.index_core.specs.Answers.{HasRangeCause, HasReachCause, HasTagCause}

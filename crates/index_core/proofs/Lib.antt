@@ -10,3 +10,4 @@ pub mod Tagged
 pub mod Loaded
 pub mod Pinned
 pub mod Damaged
+pub mod Published

@@ -4,7 +4,7 @@ use Rattle.std.specs.Prelude.{IsTrue, IsSome, ◌==◌, if◌then◌else◌}
 use Rattle.std.specs.List.{AllByRecursion}
 use Rattle.metric_laws.specs.Lists.{IsIn}
 use Rattle.metric_laws.specs.Space.{Space}
-use Rattle.metric_laws.proofs.Lists.{all_append, all_in}
+use Rattle.metric_laws.proofs.Published.{all_append, all_in}
 use Rattle.tree_shape.specs.declared.live.Live.{Live}
 use Rattle.tree_shape.specs.declared.entry.Node.{Node}
 use Rattle.tree_shape.specs.Tree.{Nodes, IsSoundTree, times}
@@ -16,13 +16,12 @@ use Rattle.page_store.specs.Placing.{AreOutside as AreBeside, IsOver, live_pages
 use Rattle.page_store.specs.Staging.{pages_of}
 use Rattle.page_store.specs.Reading.{Read, node_or_none, nodes_of}
 use Rattle.page_store.specs.Shelf.{Shelf}
-use Rattle.page_store.proofs.Standing.{times_in}
-use Rattle.page_store.proofs.Whole.{sound_is_whole, stand_on_pages}
+use Rattle.page_store.proofs.Published.{times_in, sound_is_whole, stand_on_pages}
 use Rattle.insert_path.specs.Placing.{HasInserted}
 use Rattle.free_pages.specs.Keeping.{FreePages, IsFreeOrHeld, held_pages}
 use Rattle.free_pages.specs.Commits.{AreOutside}
 use Rattle.free_pages.specs.Free.{AreOutsideTree, IsFresh}
-use Rattle.free_pages.proofs.Members.{outside_is}
+use Rattle.free_pages.proofs.Published.{outside_is}
 use Rattle.disk_model.specs.Disk.{DiskState}
 use Rattle.outside_io.specs.Causes.{Rose}
 use Rattle.page_store.specs.declared.pages.PageFault.{PageFault}

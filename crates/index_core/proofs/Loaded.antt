@@ -7,7 +7,7 @@ use Rattle.disk_model.specs.Disk.{DiskState, LeavesOnly}
 use Rattle.metric_laws.specs.Space.{Space}
 use Rattle.tree_shape.specs.declared.live.Live.{Live}
 use Rattle.tree_shape.specs.Tree.{Nodes, IsSoundTree, pages_at, times}
-use Rattle.tree_shape.proofs.Height.{height_is_small, power_rises}
+use Rattle.tree_shape.proofs.Published.{height_is_small, power_rises}
 use Rattle.node_page.specs.declared.head.Head.{Head}
 use Rattle.page_store.specs.declared.staging.Placed.{Placed}
 use Rattle.page_store.specs.Placing.{AreOutside as AreBeside, live_pages}

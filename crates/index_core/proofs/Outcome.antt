@@ -4,7 +4,7 @@ use Rattle.std.specs.Prelude.{IsTrue}
 use Rattle.std.specs.List.{AllByRecursion}
 use Rattle.metric_laws.specs.Lists.{IsIn}
 use Rattle.metric_laws.specs.Space.{Space}
-use Rattle.metric_laws.proofs.Lists.{all_in, all_weaker}
+use Rattle.metric_laws.proofs.Published.{all_in, all_weaker}
 use Rattle.outside_io.specs.Causes.{Rose}
 use Rattle.disk_model.specs.Disk.{DiskState, MayLeave, LeavesOnly, EachImage}
 use Rattle.disk_model.specs.Moments.{weakened}
@@ -21,11 +21,10 @@ use Rattle.page_store.specs.Staging.{pages_of}
 use Rattle.page_store.specs.Succession.{IsWritten}
 use Rattle.shadow_root.specs.Commit.{IsBeforeOrAfter, IsNotStaged, IsStagedAs}
 use Rattle.shadow_root.specs.Placements.{IsFileOf, IsTreeOf, KeepsBytes, alone_keeps}
-use Rattle.shadow_root.proofs.Beside.{in_place_is_written}
-use Rattle.shadow_root.proofs.Lists.{commits_keep_lists}
+use Rattle.shadow_root.proofs.Published.{in_place_is_written, commits_keep_lists}
 use Rattle.free_pages.specs.Keeping.{FreePages, IsKept, with_left}
 use Rattle.free_pages.specs.Commits.{with_all_left, AreOutside, AreWithin, IsExchange, IsGuarded}
-use Rattle.free_pages.proofs.Commits.{keep_outside, guard, pins_left}
+use Rattle.free_pages.proofs.Published.{keep_outside, guard, pins_left}
 use Rattle.index_core.specs.declared.faults.IndexFault.TheVariants.{Commit}
 use Rattle.index_core.specs.Files.{OpenFile, StandsOn, IsLawfulFile, nodes_on}
 use Rattle.index_core.specs.Index.{OpenIndex, AreSpare, IsLawfulFree}

@@ -3,17 +3,16 @@ use Rattle.std.proofs.Common.{◌≡◌, ℕ, ◌≤◌, Bool, true, false, List
 use Rattle.std.specs.Prelude.{IsTrue, MatchOption, ◌↔◌, ◌==◌, if◌then◌else◌, OnOk, OnErr}
 use Rattle.std.specs.List.{AllByRecursion}
 use Rattle.metric_laws.specs.Lists.{IsIn}
-use Rattle.metric_laws.proofs.Lists.{all_append, all_in, all_weaker, in-append_right}
+use Rattle.metric_laws.proofs.Published.{all_append, all_in, all_weaker, in-append_right}
 use Rattle.disk_model.specs.Disk.{DiskState}
 use Rattle.tree_shape.specs.declared.live.Live.{Live}
 use Rattle.tree_shape.specs.Tree.{Nodes, IsNodePage}
 use Rattle.page_store.specs.Reached.{IsReached}
 use Rattle.page_store.specs.Reading.{IsWithin}
-use Rattle.page_store.proofs.Whole.{stand_on_pages}
+use Rattle.page_store.proofs.Published.{stand_on_pages}
 use Rattle.free_pages.specs.Commits.{AreOutside, IsGuarded}
 use Rattle.free_pages.specs.Keeping.{FreePages, IsFreeOrHeld, without_pin}
-use Rattle.free_pages.proofs.Commits.{guard}
-use Rattle.free_pages.proofs.Members.{pins_keep}
+use Rattle.free_pages.proofs.Published.{guard, pins_keep}
 use Rattle.index_core.specs.Files.{OpenFile, StandsOn, OnlyReads, nodes_on}
 use Rattle.index_core.specs.Index.{OpenIndex, AreSpare, IsLawfulFree, StandsAlone}
 use Rattle.index_core.specs.Pinning.{AreReached, LiesBesideTree, LiesOutside, pinned, unpinned}

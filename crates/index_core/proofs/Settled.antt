@@ -5,12 +5,12 @@ use Rattle.disk_model.specs.Disk.{DiskState, MayLeave, LeavesOnly, EachImage}
 use Rattle.node_page.specs.Opening.{OpensTo}
 use Rattle.page_store.specs.declared.staging.Placed.{Placed}
 use Rattle.page_store.specs.Staging.{pages_of}
-use Rattle.page_cache.proofs.Agreement.{agreement_lasts}
+use Rattle.page_cache.proofs.Published.{agreement_lasts}
 use Rattle.page_cache.specs.Laws.{ForgettingKeepsAgreement, GrowsTo}
 use Rattle.shadow_root.specs.Commit.{IsBeforeOrAfter, HasNext, IsReady, IsStagedFor}
 use Rattle.shadow_root.specs.Live.{IsSuccessor}
 use Rattle.shadow_root.specs.Placements.{KeepsBytes, alone_keeps}
-use Rattle.shadow_root.proofs.Lists.{commits_keep_head}
+use Rattle.shadow_root.proofs.Published.{commits_keep_head}
 use Rattle.free_pages.specs.Keeping.{FreePages, IsKept}
 use Rattle.free_pages.specs.Commits.{after_commit, AreWithin}
 use Rattle.index_core.specs.Files.{OpenFile, StandsOn, IsLawfulFile, nodes_on, pages_on}

@@ -24,7 +24,7 @@ use Rattle.index_core.specs.Files.{OpenFile, StandsOn, OnlyReads, IsLawfulFile, 
 use Rattle.index_core.specs.Index.{OpenIndex}
 use Rattle.index_core.specs.Lending.{same_room_by_none, same_room_by_both}
 use Rattle.index_core.specs.Writing.{Write, added_by, answer_to, points_after, tags_after, tree_after, HasObjects, HoldsObjects, LeavesEither, IsExact, IsExactFor, IsNext, IsPlacedFor, IsRefused, GuardsPages, KeepsPages, HasWritten}
-use Rattle.outside_io.proofs.Rising.{rose_before}
+use Rattle.outside_io.proofs.Published.{rose_before}
 
 -- the file of an index on a disk that tells, with these objects
 pub holds : {M : Type 0} (s : Space) (file : OpenFile M) (disk : DiskState) (points : List (List ℕ)) (tags : List ℕ) → IsLawfulFile s.words file → StandsOn file disk →

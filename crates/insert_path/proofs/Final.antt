@@ -7,7 +7,7 @@ use Rattle.tree_shape.specs.declared.live.Live.{Live}
 use Rattle.tree_shape.specs.declared.entry.Node.{Node}
 use Rattle.tree_shape.specs.Fill.{most_for, least_for}
 use Rattle.tree_shape.specs.Plain.{tree_at, tree_of}
-use Rattle.tree_shape.proofs.Height.{three_at_least}
+use Rattle.tree_shape.proofs.Published.{three_at_least}
 use Rattle.tree_growth.specs.Insertion.{Rules, rules, rules_for, inserted}
 use Rattle.node_page.specs.Heads.{IsLawfulHead}
 use Rattle.node_page.specs.Nodes.{IsLawfulNode}
@@ -15,7 +15,7 @@ use Rattle.node_page.specs.declared.head.Head.{Head}
 use Rattle.page_store.specs.declared.staging.Placed.{Placed}
 use Rattle.page_store.specs.Shelf.{Shelf}
 use Rattle.page_store.specs.Reading.{nodes_of}
-use Rattle.page_store.proofs.Giving.{limit_small}
+use Rattle.page_store.proofs.Published.{limit_small, numbered_long}
 use Rattle.insert_path.specs.declared.faults.PlaceFault.TheVariants.{NoRoom}
 use Rattle.insert_path.specs.declared.grew.Grew.{Grew}
 use Rattle.insert_path.specs.declared.grew.Grew.TheVariants.{One, Two}
@@ -30,7 +30,6 @@ use Rattle.insert_path.proofs.Writable.{descends_writable}
 use Rattle.page_store.specs.declared.settling.RoomFault.TheVariants.{NoRoom as Room}
 use Rattle.page_store.specs.Placing.{HasRoomCause}
 use Rattle.page_store.specs.Numbers.{numbered}
-use Rattle.page_store.proofs.Given.{numbered_long}
 
 pub count_small : (head : Head) (count : ℕ) → IsLawfulHead head → count ≤ head.limit → count ≢ head.limit → count < 2 ^ 24
 count_small head count lawful most other = let l = limit_small head.limit lawful.limit in omega (arith, l, most, other)

@@ -2,7 +2,7 @@
 use Rattle.std.proofs.Common.{◌≡◌, ℕ, zero, suc, ◌+◌, ◌<◌, ◌≤◌, true, false, List, [], ◌∷◌, ◌++◌, refl, sym, ap, ◌∙◌, arith, length, map, subst, get_or, inl, inr}
 use Rattle.std.specs.Prelude.{Option, Some, max, nat_le, slice_index_or}
 use Rattle.std.proofs.lemmas.Bool.Decides.{nat_tests}
-use Rattle.metric_laws.proofs.Lists.{length_map}
+use Rattle.metric_laws.proofs.Published.{length_map}
 use Rattle.metric_laws.specs.Space.{Space}
 use Rattle.metric_laws.specs.Lists.{IsIn}
 use Rattle.tree_shape.specs.declared.entry.LeafEntry.{LeafEntry}
@@ -13,18 +13,17 @@ use Rattle.tree_shape.specs.Tree.{Nodes, leaf_entries, inner_entries, pages_at}
 use Rattle.tree_shape.specs.Plain.{Object, Branch, Plain, object_of, tree_at}
 use Rattle.tree_growth.specs.Dealing.{Ball, split_of}
 use Rattle.tree_growth.specs.Insertion.{Grown, One as Whole, Two as Halves2, taken, left, branch, fit, object_ball, branch_ball, with_grown, grown_at}
-use Rattle.tree_growth.proofs.Kept.{taken_map, left_map}
-use Rattle.tree_shape.proofs.Within.{Agree, child_agrees}
+use Rattle.tree_growth.proofs.Published.{taken_map, left_map}
+use Rattle.tree_shape.proofs.Published.{Agree, child_agrees}
 use Rattle.promote_split.specs.declared.halves.Half.{Half}
 use Rattle.promote_split.specs.declared.halves.Halves.{Halves}
 use Rattle.promote_split.specs.Halves.{IsHalf, IsSplit}
-use Rattle.page_store.proofs.Stored.{branch_at}
+use Rattle.page_store.proofs.Published.{branch_at, HoldsFrom, holds_after, in_get}
 use Rattle.insert_path.specs.declared.grew.Stem.{Stem}
 use Rattle.insert_path.specs.declared.grew.Grew.{Grew}
 use Rattle.insert_path.specs.declared.grew.Grew.TheVariants.{One, Two}
 use Rattle.insert_path.specs.Walk.{inner_ball}
 use Rattle.insert_path.specs.Descent.{Plan, rules_of, leaf_ball, leaf_with, inner_with, stem_of, entry_of, with_child, regrown, IsStaged}
-use Rattle.page_store.proofs.Standing.{HoldsFrom, holds_after, in_get}
 
 abbrev pub stem_branch : Nodes → (h : ℕ) → Stem → Branch (Plain h)
 stem_branch new h c = record { point = c.point; radius = c.radius; below = tree_at new h c.page }

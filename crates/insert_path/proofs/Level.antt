@@ -4,7 +4,7 @@ use Rattle.std.specs.Prelude.{Option, Some, Ok, Err, IsTrue, ◌==◌, if◌then
 use Rattle.std.specs.List.{AllByRecursion}
 use Rattle.std.proofs.lemmas.Bool.Decides.{nat_tests}
 use Rattle.metric_laws.specs.Space.{Space, bound}
-use Rattle.metric_laws.proofs.Lists.{all_weaker}
+use Rattle.metric_laws.proofs.Published.{all_weaker}
 use Rattle.tree_shape.specs.declared.entry.LeafEntry.{LeafEntry}
 use Rattle.tree_shape.specs.declared.entry.InnerEntry.{InnerEntry}
 use Rattle.tree_shape.specs.declared.entry.Node.{Node}
@@ -14,7 +14,7 @@ use Rattle.tree_shape.specs.Tree.{parent_distance}
 use Rattle.tree_shape.specs.Plain.{Object}
 use Rattle.tree_growth.specs.Dealing.{Ball}
 use Rattle.tree_growth.specs.Insertion.{chosen}
-use Rattle.tree_growth.proofs.Lawful.{get_map}
+use Rattle.tree_growth.proofs.Published.{get_map}
 use Rattle.node_page.specs.Nodes.{IsLawfulNode}
 use Rattle.promote_split.specs.declared.promoting.Policy.{Policy}
 use Rattle.page_store.specs.declared.pages.PageFault.{PageFault}

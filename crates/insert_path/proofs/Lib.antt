@@ -14,3 +14,4 @@ pub mod Final
 pub mod Tested
 pub mod Undamaged
 pub mod Replaced
+pub mod Published

@@ -1,17 +1,17 @@
 -- The objects of a tree with one object more, in order of id.
-use Rattle.page_store.proofs.Ids.{AreCounted, none_counted, once_counted, tag_of-in, tally_count, tally_ids, there_counted, with_id}
+use Rattle.page_store.proofs.Published.{AreCounted, none_counted, once_counted, tag_of-in, tally_count, tally_ids, there_counted, with_id}
 use Rattle.std.proofs.Common.{◌≡◌, ◌≢◌, ◌⊎◌, ℕ, zero, suc, ◌+◌, ◌<◌, ◌≤◌, Bool, true, false, List, [], ◌∷◌, ◌++◌, refl, sym, ap, ◌∙◌, arith, map, inl, inr}
 use Rattle.std.specs.Prelude.{if◌then◌else◌, ◌==◌, nat_lt, count_by}
 use Rattle.std.specs.List.{AllByRecursion}
 use Rattle.std.proofs.lemmas.Bool.Decides.{nat_tests}
 use Rattle.metric_laws.specs.Lists.{IsIn}
-use Rattle.metric_laws.proofs.Lists.{all_append, all_in, in-map, map-in}
+use Rattle.metric_laws.proofs.Published.{all_append, all_in, in-map, map-in}
 use Rattle.tree_shape.specs.declared.entry.LeafEntry.{LeafEntry}
 use Rattle.tree_shape.specs.Tree.{times, point_of, points_from, tag_of, tags_from}
 use Rattle.tree_shape.specs.Plain.{Object, Plain, Tall, objects_in, objects_of, object_of}
 use Rattle.tree_growth.specs.Insertion.{Rules, Grown, One, Two, inserted, new_root, placed_by}
-use Rattle.tree_growth.proofs.Kept.{GrownAll, inserted_all}
-use Rattle.tree_shape.proofs.ById.{ids_of, times-in, object_of as object_with, point_of-in}
+use Rattle.tree_growth.proofs.Published.{GrownAll, inserted_all}
+use Rattle.tree_shape.proofs.Published.{ids_of, times-in, object_of as object_with, point_of-in}
 
 -- as many of an id as the rules say
 pub ids_more : (id count : ℕ) (o : Object) (old new : List LeafEntry) → o.id ≡ count → times id (ids_of old) ≡ (if nat_lt id count then 1 else 0) →

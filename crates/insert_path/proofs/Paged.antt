@@ -3,7 +3,7 @@ use Rattle.std.proofs.Common.{◌≡◌, ◌⊎◌, ℕ, zero, suc, ◌+◌, ◌
 use Rattle.std.specs.Prelude.{Option, Some, IsTrue}
 use Rattle.std.specs.List.{flat_map}
 use Rattle.metric_laws.specs.Lists.{IsIn}
-use Rattle.metric_laws.proofs.Lists.{flat_map-append, in-append}
+use Rattle.metric_laws.proofs.Published.{flat_map-append, in-append}
 use Rattle.tree_shape.specs.declared.entry.LeafEntry.{LeafEntry}
 use Rattle.tree_shape.specs.declared.entry.InnerEntry.{InnerEntry}
 use Rattle.tree_shape.specs.declared.entry.Node.{Node}
@@ -11,20 +11,18 @@ use Rattle.tree_shape.specs.declared.entry.Node.TheVariants.{Leaf, Inner}
 use Rattle.tree_shape.specs.Tree.{Nodes, inner_entries, pages_at, times, parent_distance}
 use Rattle.tree_growth.specs.Dealing.{Ball, split_of}
 use Rattle.tree_growth.specs.Insertion.{taken, left, chosen}
-use Rattle.tree_shape.proofs.Counting.{times-append}
-use Rattle.tree_shape.proofs.Within.{Agree, same_pages, flat_map_agree, in-flat_map}
+use Rattle.tree_shape.proofs.Published.{times-append, Agree, same_pages, flat_map_agree, in-flat_map}
 use Rattle.promote_split.specs.declared.halves.Half.{Half}
 use Rattle.promote_split.specs.Halves.{IsHalf}
 use Rattle.page_store.specs.Shelf.{Shelf}
 use Rattle.page_store.specs.Reading.{nodes_of}
-use Rattle.page_store.proofs.Stored.{below_in}
+use Rattle.page_store.proofs.Published.{below_in, HoldsFrom, holds_after, pages_from, pages_more}
 use Rattle.insert_path.specs.declared.grew.Grew.{Grew}
 use Rattle.insert_path.specs.declared.grew.Grew.TheVariants.{One, Two}
 use Rattle.insert_path.specs.Walk.{inner_ball}
 use Rattle.insert_path.specs.Descent.{Plan, leaf_ball, leaf_with, inner_with, new_entry, entry_of, regrown, IsStaged, Descends}
 use Rattle.insert_path.proofs.Holding.{holds_staged, agree_below, chosen_in}
 use Rattle.insert_path.proofs.Walked.{told_node}
-use Rattle.page_store.proofs.Standing.{HoldsFrom, holds_after, pages_from, pages_more}
 
 -- the pages of what has grown
 abbrev pub grown_pages : Nodes → ℕ → Grew → List ℕ

@@ -4,13 +4,13 @@ use Rattle.std.specs.Prelude.{Option, Some, None, IsTrue, ◌==◌, if◌then◌
 use Rattle.std.specs.List.{AllByRecursion, flat_map}
 use Rattle.std.proofs.lemmas.Bool.Decides.{nat_tests}
 use Rattle.metric_laws.specs.Lists.{IsIn}
-use Rattle.metric_laws.proofs.Lists.{all_append, flat_map-append}
+use Rattle.metric_laws.proofs.Published.{all_append, flat_map-append}
 use Rattle.tree_shape.specs.declared.entry.InnerEntry.{InnerEntry}
 use Rattle.tree_shape.specs.declared.entry.Node.{Node}
 use Rattle.tree_shape.specs.declared.entry.Node.TheVariants.{Leaf, Inner}
 use Rattle.tree_shape.specs.declared.live.Live.{Live}
 use Rattle.tree_shape.specs.Tree.{Nodes, inner_entries, times, parent_distance}
-use Rattle.tree_shape.proofs.Counting.{times-append}
+use Rattle.tree_shape.proofs.Published.{times-append}
 use Rattle.tree_growth.specs.Dealing.{Ball, split_of}
 use Rattle.tree_growth.specs.Insertion.{taken, left, chosen}
 use Rattle.promote_split.specs.declared.halves.Half.{Half}
@@ -25,9 +25,7 @@ use Rattle.page_store.specs.Reading.{IsWithin, nodes_of}
 use Rattle.page_store.specs.Shelf.{Shelf}
 use Rattle.page_store.specs.Staging.{pages_of}
 use Rattle.page_store.specs.Succession.{TakesPlace, named_by}
-use Rattle.page_store.proofs.Given.{given_in, pages_numbered}
-use Rattle.page_store.proofs.Named.{in_node, named_numbered, names_more, names_of}
-use Rattle.page_store.proofs.Standing.{pages_from, pages_more}
+use Rattle.page_store.proofs.Published.{given_in, pages_numbered, in_node, named_numbered, names_more, names_of, pages_from, pages_more}
 use Rattle.insert_path.specs.declared.grew.Grew.{Grew}
 use Rattle.insert_path.specs.declared.grew.Grew.TheVariants.{One, Two}
 use Rattle.insert_path.specs.Walk.{inner_ball}

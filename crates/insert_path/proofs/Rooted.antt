@@ -4,7 +4,7 @@ use Rattle.std.specs.Prelude.{Option, Some, None, IsTrue, ◌==◌, ◌&&◌}
 use Rattle.std.specs.List.{AllByRecursion, flat_map}
 use Rattle.std.proofs.lemmas.Bool.Decides.{nat_tests}
 use Rattle.metric_laws.specs.Space.{Space}
-use Rattle.metric_laws.proofs.Lists.{all_append}
+use Rattle.metric_laws.proofs.Published.{all_append}
 use Rattle.tree_shape.specs.declared.live.Live.{Live}
 use Rattle.tree_shape.specs.declared.entry.Node.{Node}
 use Rattle.tree_shape.specs.declared.entry.Node.TheVariants.{Inner}
@@ -13,12 +13,12 @@ use Rattle.tree_shape.specs.Fill.{most_for}
 use Rattle.tree_shape.specs.Tree.{Nodes, inner_entries, pages_at, times}
 use Rattle.tree_shape.specs.Plain.{Plain, Tall, Branch, tree_at}
 use Rattle.tree_growth.specs.Insertion.{Grown, One as Whole, Two as Halves2, inserted, new_root}
-use Rattle.tree_shape.proofs.Counting.{times-append}
+use Rattle.tree_shape.proofs.Published.{times-append}
 use Rattle.node_page.specs.Nodes.{IsLawfulNode}
 use Rattle.page_store.specs.declared.pages.PageFault.{PageFault}
 use Rattle.page_store.specs.Reading.{nodes_of}
 use Rattle.page_store.specs.Shelf.{Shelf}
-use Rattle.page_store.proofs.Stored.{IsStoredAt, branch_at}
+use Rattle.page_store.proofs.Published.{IsStoredAt, branch_at, HoldsFrom, holds_after, trees_from, trees_more, pages_from, pages_more}
 use Rattle.insert_path.specs.declared.faults.PlaceFault.{PlaceFault}
 use Rattle.insert_path.specs.declared.faults.PlaceFault.TheVariants.{Page, Full, NoRoom, Worn, Memory}
 use Rattle.insert_path.specs.declared.grew.Stem.{Stem}
@@ -35,7 +35,6 @@ use Rattle.insert_path.proofs.Walked.{descends_parity, descends_faultless}
 use Rattle.insert_path.proofs.Stored.{GrownStored}
 use Rattle.insert_path.proofs.Paged.{grown_pages}
 use Rattle.insert_path.proofs.Writable.{IsLong}
-use Rattle.page_store.proofs.Standing.{HoldsFrom, holds_after, trees_from, trees_more, pages_from, pages_more}
 
 -- no new root: the insertion's fault is the root's
 pub root_cause : (P : Plan) (old new : Shelf) (t : Live) (l0 l1 : List ℕ) (before nodes : List Node) (g : Grew) (f : PlaceFault) → Descends P old t.height t.root None l0 before l1 nodes g → HasRootCause t g f →

@@ -1,13 +1,13 @@
 -- Steps of the choice.
 use Rattle.std.proofs.Common.{◌≡◌, ℕ, ◌<◌, Bool, true, false, cond, List, ◌∷◌, refl, arith, length, map}
 use Rattle.std.specs.Prelude.{filter, Option, Some, None, if◌then◌else◌}
-use Rattle.metric_laws.proofs.Lists.{length_map}
+use Rattle.metric_laws.proofs.Published.{length_map}
 use Rattle.metric_laws.specs.Space.{Space}
 use Rattle.tree_shape.specs.declared.entry.InnerEntry.{InnerEntry}
 use Rattle.tree_growth.specs.declared.rules.Aim.{Aim}
 use Rattle.tree_growth.specs.Dealing.{first_least}
 use Rattle.tree_growth.specs.Insertion.{aims, chosen, excess, is_inside, is_outside, or_else, place_of}
-use Rattle.tree_growth.proofs.Added.{chosen_low}
+use Rattle.tree_growth.proofs.Published.{chosen_low}
 use Rattle.promote_split.specs.Steps.{kept, kept_if, later}
 use Rattle.insert_path.specs.Walk.{inner_ball}
 

@@ -3,7 +3,7 @@ use Rattle.std.proofs.Common.{◌≡◌, ℕ, zero, suc, ◌<◌, List, [], ◌�
 use Rattle.std.specs.Prelude.{Option, Some, IsTrue}
 use Rattle.std.specs.List.{AllByRecursion}
 use Rattle.metric_laws.specs.Space.{Space}
-use Rattle.metric_laws.proofs.Lists.{all_append, all_weaker, all_in}
+use Rattle.metric_laws.proofs.Published.{all_append, all_weaker, all_in}
 use Rattle.tree_shape.specs.declared.entry.LeafEntry.{LeafEntry}
 use Rattle.tree_shape.specs.declared.entry.InnerEntry.{InnerEntry}
 use Rattle.tree_shape.specs.declared.entry.Node.{Node}
@@ -12,20 +12,19 @@ use Rattle.tree_shape.specs.Fill.{least_for}
 use Rattle.tree_shape.specs.Tree.{Nodes, leaf_entries, inner_entries, pages_at, objects_at, parent_distance, IsSoundObject, IsSoundEntry, IsSoundAt}
 use Rattle.tree_growth.specs.Dealing.{Ball, split_of}
 use Rattle.tree_growth.specs.Insertion.{taken, left, chosen}
-use Rattle.tree_growth.proofs.Kept.{all_taken, all_left}
-use Rattle.tree_shape.proofs.Within.{Agree, all_within}
+use Rattle.tree_growth.proofs.Published.{all_taken, all_left}
+use Rattle.tree_shape.proofs.Published.{Agree, all_within}
 use Rattle.promote_split.specs.declared.halves.Half.{Half}
 use Rattle.promote_split.specs.Halves.{IsHalf}
 use Rattle.page_store.specs.Shelf.{Shelf}
 use Rattle.page_store.specs.Reading.{nodes_of}
-use Rattle.page_store.proofs.Stored.{IsStoredAt, IsStoredEntry}
+use Rattle.page_store.proofs.Published.{IsStoredAt, IsStoredEntry, HoldsFrom}
 use Rattle.insert_path.specs.declared.grew.Grew.{Grew}
 use Rattle.insert_path.specs.declared.grew.Grew.TheVariants.{One, Two}
 use Rattle.insert_path.specs.Walk.{inner_ball}
 use Rattle.insert_path.specs.Descent.{Plan, leaf_ball, leaf_with, inner_with, new_entry, entry_of, regrown, IsStaged, Descends}
 use Rattle.insert_path.proofs.Holding.{by_staged, holds_staged, agree_below, chosen_in}
 use Rattle.insert_path.proofs.Walked.{told_node}
-use Rattle.page_store.proofs.Standing.{HoldsFrom}
 
 abbrev pub GrownStored : Space → Nodes → ℕ → Option (List ℕ) → Grew → Type 0
 GrownStored s nodes h above (One page) = IsStoredAt s nodes h above page

@@ -4,7 +4,7 @@ use Rattle.std.specs.Prelude.{◌↔◌, Some, None, IsTrue, if◌then◌else◌
 use Rattle.std.specs.List.{AllByRecursion}
 use Rattle.metric_laws.specs.Space.{IsSpace}
 use Rattle.metric_laws.specs.Lists.{IsIn}
-use Rattle.metric_laws.proofs.Lists.{all_in}
+use Rattle.metric_laws.proofs.Published.{all_in}
 use Rattle.tree_shape.specs.declared.live.Live.{Live}
 use Rattle.tree_shape.specs.declared.entry.Node.{Node}
 use Rattle.tree_shape.specs.Fill.{root_least}
@@ -12,19 +12,14 @@ use Rattle.tree_shape.specs.Tree.{Nodes, pages_at, times, objects, IsNodePage, I
 use Rattle.tree_shape.specs.Plain.{Object, Plain, Tall, objects_of, object_of, tree_at, tree_of}
 use Rattle.tree_shape.specs.Sound.{ObjectFits, IsSoundTall}
 use Rattle.tree_growth.specs.Insertion.{Rules, Grown, new_root, rules, placed_by}
-use Rattle.tree_growth.proofs.Added.{insertion_adds_one}
-use Rattle.tree_shape.proofs.Bare.{sound_without_pages}
-use Rattle.tree_growth.proofs.Entries.{sound_has_entries}
-use Rattle.tree_growth.proofs.Lawful.{insertion_keeps_sound}
-use Rattle.tree_shape.proofs.Reading.{same_objects}
-use Rattle.tree_shape.proofs.Within.{Agree}
+use Rattle.tree_growth.proofs.Published.{insertion_adds_one, sound_has_entries, insertion_keeps_sound}
+use Rattle.tree_shape.proofs.Published.{sound_without_pages, same_objects, Agree}
 use Rattle.page_store.specs.declared.staging.StagedNode.{StagedNode}
 use Rattle.page_store.specs.declared.staging.Placed.{Placed}
 use Rattle.page_store.specs.Shelf.{Shelf}
 use Rattle.page_store.specs.Reading.{nodes_of}
 use Rattle.page_store.specs.Staging.{pages_of, staged_for}
-use Rattle.page_store.proofs.Stored.{IsStoredAt, sound_of_stored}
-use Rattle.page_store.proofs.Ids.{AreCounted, with_id}
+use Rattle.page_store.proofs.Published.{IsStoredAt, sound_of_stored, AreCounted, with_id, HoldsFrom, trees_from, pages_from, stand_holds, trees_numbered, in_times, times_in, all_each, lower_or, given_once, free_none, pages_numbered, given_free, given_apart, given_each}
 use Rattle.insert_path.specs.Placing.{fresh, fresh_root, fresh_of, HasInserted}
 use Rattle.insert_path.specs.Descent.{Plan, rules_of, Walks}
 use Rattle.insert_path.proofs.Holding.{grown_tree}
@@ -35,9 +30,6 @@ use Rattle.insert_path.proofs.Rooted.{tall, root_holds, root_tree, root_stored, 
 use Rattle.insert_path.proofs.Listing.{ids_more, placed_all, old_one, new_one, points_more, tags_more}
 use Rattle.page_store.specs.Placing.{live_pages, staged_tree, IsOver}
 use Rattle.page_store.specs.Numbers.{numbered}
-use Rattle.page_store.proofs.Standing.{HoldsFrom, trees_from, pages_from, stand_holds, trees_numbered, in_times, times_in, all_each}
-use Rattle.page_store.proofs.Given.{lower_or, given_once, free_none, pages_numbered}
-use Rattle.page_store.proofs.Giving.{given_free, given_apart, given_each}
 
 module _ (P : Plan) (shelf : Shelf) (tells : IsTrue shelf.tells) (t : Live) (left : List ℕ) (nodes : List Node) (root height : ℕ) (walks : Walks P shelf t left nodes root height) (new : Nodes)
     (holds : HoldsFrom new P.number 0 nodes) (agree : Agree (nodes_of shelf.read) new (live_pages (nodes_of shelf.read) t)) where

@@ -6,7 +6,7 @@ use Rattle.std.proofs.Math.Nat.{mul-le-mul_right, pow-succ'}
 use Rattle.std.proofs.lemmas.List.Recursion.{is_count_by}
 use Rattle.std.proofs.lemmas.Bool.Decides.{nat_tests}
 use Rattle.metric_laws.specs.Space.{Space, IsSpace}
-use Rattle.metric_laws.proofs.Lists.{all_in, all_weaker, length_map}
+use Rattle.metric_laws.proofs.Published.{all_in, all_weaker, length_map}
 use Rattle.tree_shape.specs.declared.live.Live.{Live}
 use Rattle.tree_shape.specs.declared.entry.Node.{Node}
 use Rattle.tree_shape.specs.declared.entry.Node.TheVariants.{Leaf, Inner}
@@ -16,13 +16,8 @@ use Rattle.tree_shape.specs.Tree.{Nodes, objects, objects_at, IsSoundAt, IsSound
 use Rattle.tree_shape.specs.Plain.{Object, Branch, Plain, object_of, objects_in, objects_of, tree_at, tree_of}
 use Rattle.tree_shape.specs.Sound.{ObjectFits, BranchCovers, IsSoundPlain, IsSoundTall}
 use Rattle.tree_growth.specs.Insertion.{Grown, One, Two, inserted, chosen, new_root, placed, rules}
-use Rattle.tree_growth.proofs.Added.{chosen_low, insertion_adds_one}
-use Rattle.tree_shape.proofs.Bare.{sound_without_pages}
-use Rattle.tree_growth.proofs.Entries.{sound_has_entries}
-use Rattle.tree_shape.proofs.Counting.{each_once_back}
-use Rattle.tree_shape.proofs.Height.{three_at_least, flat_long, not_higher}
-use Rattle.tree_growth.proofs.Lawful.{insertion_keeps_sound}
-use Rattle.tree_shape.proofs.Reading.{same_objects}
+use Rattle.tree_growth.proofs.Published.{chosen_low, insertion_adds_one, sound_has_entries, insertion_keeps_sound}
+use Rattle.tree_shape.proofs.Published.{sound_without_pages, each_once_back, three_at_least, flat_long, not_higher, same_objects}
 use Rattle.page_store.specs.declared.pages.PageFault.{PageFault}
 use Rattle.page_store.specs.declared.pages.PageFault.TheVariants.{Disk, Bad, Outside, Memory, Repeats, Level}
 use Rattle.page_store.specs.Shelf.{Shelf}
@@ -33,7 +28,7 @@ use Rattle.insert_path.specs.Walk.{inner_ball, chosen_child, walk_fault, leaf_fa
 use Rattle.insert_path.specs.Causes.{HasTreeCause, IsUndamaged}
 use Rattle.insert_path.specs.Placing.{place_fault, or_level, is_split}
 use Rattle.insert_path.proofs.Level.{child_page}
-use Rattle.page_store.proofs.Standing.{in_get}
+use Rattle.page_store.proofs.Published.{in_get}
 
 ok_of : (r : Result Node PageFault) (n : Node) → node_or_none r ≡ Some n → r ≡ Ok n
 ok_of (Ok m) n is = cc

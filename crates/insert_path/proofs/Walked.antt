@@ -2,7 +2,7 @@
 use Rattle.std.proofs.Common.{◌≡◌, ℕ, zero, suc, ◌+◌, ◌<◌, Bool, true, false, not, List, [], ◌∷◌, ◌++◌, refl, sym, ap, ◌∙◌, arith, length, map, get_or, inl, inr, append_assoc, length-append}
 use Rattle.std.specs.Prelude.{Option, Some, None, Ok, IsTrue, nat_le, if◌then◌else◌, ◌==◌}
 use Rattle.std.proofs.lemmas.Bool.Decides.{nat_tests}
-use Rattle.metric_laws.proofs.Lists.{length_map}
+use Rattle.metric_laws.proofs.Published.{length_map}
 use Rattle.tree_shape.specs.declared.entry.InnerEntry.{InnerEntry}
 use Rattle.tree_shape.specs.declared.entry.Node.{Node}
 use Rattle.tree_shape.specs.declared.entry.Node.TheVariants.{Leaf, Inner}
@@ -10,11 +10,11 @@ use Rattle.tree_shape.specs.Tree.{Nodes, leaf_entries, inner_entries, pages_at, 
 use Rattle.tree_shape.specs.Plain.{Branch, Plain, Tall, object_of, tree_at}
 use Rattle.tree_growth.specs.Dealing.{Ball}
 use Rattle.tree_growth.specs.Insertion.{Rules, Grown, One as Whole, Two as Halves2, fit, object_ball, branch_ball, with_grown, grown_at, inserted, chosen}
-use Rattle.tree_shape.proofs.Within.{Agree}
+use Rattle.tree_shape.proofs.Published.{Agree}
 use Rattle.page_store.specs.declared.pages.PageFault.TheVariants.{Level}
 use Rattle.page_store.specs.Shelf.{Shelf}
 use Rattle.page_store.specs.Reading.{nodes_of, node_or_none}
-use Rattle.page_store.proofs.Stored.{branch_at}
+use Rattle.page_store.proofs.Published.{branch_at, HoldsFrom, trees_from, trees_more}
 use Rattle.insert_path.specs.declared.grew.Grew.{Grew}
 use Rattle.insert_path.specs.declared.grew.Grew.TheVariants.{One, Two}
 use Rattle.insert_path.specs.Walk.{inner_ball, chosen_child, walk_fault, leaf_fault, inner_fault}
@@ -23,7 +23,6 @@ use Rattle.insert_path.specs.Descent.{Plan, rules_of, leaf_ball, leaf_with, inne
 use Rattle.insert_path.proofs.Level.{child_page}
 use Rattle.insert_path.proofs.Holding.{grown_tree, holds_staged, inner_balls, leaf_shown, inner_shown, regrown_shown, tree_same, map_more, agree_below, chosen_in}
 use Rattle.page_store.specs.Placing.{level_of}
-use Rattle.page_store.proofs.Standing.{HoldsFrom, trees_from, trees_more}
 
 -- a descent's nodes stand behind the earlier ones
 pub holds_descends : (P : Plan) (shelf : Shelf) (file : Nodes) (h page : ℕ) (above : Option (List ℕ)) (l0 : List ℕ) (old : List Node) (l1 : List ℕ) (new : List Node) (g : Grew) →

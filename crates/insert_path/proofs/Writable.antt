@@ -3,7 +3,7 @@ use Rattle.std.proofs.Common.{◌≡◌, ℕ, zero, suc, ◌+◌, ◌<◌, ◌�
 use Rattle.std.specs.Prelude.{Option, Some}
 use Rattle.std.specs.List.{AllByRecursion}
 use Rattle.metric_laws.specs.Space.{Space, bound}
-use Rattle.metric_laws.proofs.Lists.{all_append, all_weaker, length_map}
+use Rattle.metric_laws.proofs.Published.{all_append, all_weaker, length_map}
 use Rattle.tree_shape.specs.declared.entry.LeafEntry.{LeafEntry}
 use Rattle.tree_shape.specs.declared.entry.InnerEntry.{InnerEntry}
 use Rattle.tree_shape.specs.declared.entry.Node.{Node}
@@ -12,8 +12,7 @@ use Rattle.tree_shape.specs.Fill.{most_for}
 use Rattle.tree_shape.specs.Tree.{parent_distance}
 use Rattle.tree_growth.specs.Dealing.{Ball, size, table_of, promoted, point_at, split_of, IsPair}
 use Rattle.tree_growth.specs.Insertion.{taken, left, chosen}
-use Rattle.tree_growth.proofs.Kept.{all_taken, all_left}
-use Rattle.tree_growth.proofs.Lawful.{promoted_pair}
+use Rattle.tree_growth.proofs.Published.{all_taken, all_left, promoted_pair}
 use Rattle.node_page.specs.Nodes.{IsLawfulNode}
 use Rattle.promote_split.specs.declared.halves.Half.{Half}
 use Rattle.promote_split.specs.declared.halves.Halves.{Halves}

@@ -13,12 +13,12 @@ use Rattle.log_model.specs.declared.logs.JoinLog.{JoinLog}
 use Rattle.metric_join.specs.declared.faults.JoinFault.{JoinFault}
 use Rattle.metric_join.specs.declared.faults.JoinFault.TheVariants as join
 use Rattle.file_jobs.specs.Jobs.{Refuses as RefusesFile}
-use Rattle.file_jobs.proofs.logs.Ends.{of_two, of_three}
+use Rattle.file_jobs.proofs.Published.{of_two, of_three}
 use Rattle.join_jobs.specs.declared.opened.Trees.{Trees}
 use Rattle.join_jobs.specs.Lines.{spaces_text}
 use Rattle.join_jobs.specs.Trees.{Tree, tree_of, IsOpened, is_one_space}
 use Rattle.join_jobs.specs.Jobs.{EitherRose, Refuses, OnTrees, Joins, PutsJoin, CutsJoin, IsJoinOf, HaveOtherSpaces, HasRefusal, HasDamage, EndsRefused, IsDiskFault, IsDamage, AreDamaged}
-use Rattle.outside_io.proofs.Rising.{rose_before}
+use Rattle.outside_io.proofs.Published.{rose_before}
 
 -- ---- what opening both files tells
 

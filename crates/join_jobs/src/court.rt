@@ -62,7 +62,7 @@ impl<P: Pages, Q: Pages> Court for JoinCourt<'_, '_, P, Q> {
 
     ghost use Rattle.std.proofs.Common.{◌∙◌, ⊎_elim, inl, inr, refl};
     ghost use Rattle.std.proofs.Math.Nat.{le_refl, le_trans};
-    ghost use Rattle.outside_io.proofs.Rising.{rose_before};
+    ghost use Rattle.outside_io.proofs.Published.{rose_before};
 
     ghost keeps_none = { λ c. (
       refl,

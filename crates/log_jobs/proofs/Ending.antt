@@ -12,7 +12,7 @@ use Rattle.file_jobs.specs.declared.logs.stop.Stop.{Stop}
 use Rattle.file_jobs.specs.Logs.Files.{fault_of}
 use Rattle.file_jobs.specs.Logs.Sayings.{Saying}
 use Rattle.file_jobs.specs.Logs.Jobs.{Puts, Stops, Writes}
-use Rattle.file_jobs.proofs.logs.Ends.{said_all, said_some}
+use Rattle.file_jobs.proofs.Published.{said_all, said_some}
 use Rattle.log_jobs.specs.Lines.{saying}
 use Rattle.log_jobs.specs.Jobs.{WritesOn, judge_of}
 

@@ -51,7 +51,7 @@ impl<P: Pages> Court for LogCourt<'_, P> {
 
     ghost use Rattle.std.proofs.Common.{◌∙◌, refl};
     ghost use Rattle.std.proofs.Math.Nat.{le_refl, le_trans};
-    ghost use Rattle.outside_io.proofs.Rising.{rose_before};
+    ghost use Rattle.outside_io.proofs.Published.{rose_before};
 
     ghost keeps_none = { λ c. (refl, le_refl (P.shelf c.pages.now).faults, P.keeps_none c.pages.now) };
 

@@ -5,16 +5,16 @@ use Rattle.std.specs.List.{AllByRecursion}
 use Rattle.std.proofs.lemmas.Bool.Decides.{nat_tests}
 use Rattle.metric_laws.specs.Space.{Space, IsSpace, bound}
 use Rattle.metric_laws.specs.Lists.{IsIn}
-use Rattle.metric_laws.proofs.Lists.{in-filter, filter-in, in-map, map-in, all_in}
+use Rattle.metric_laws.proofs.Published.{in-filter, filter-in, in-map, map-in, all_in}
 use Rattle.scan_model.specs.declared.hit.Hit.{Hit}
 use Rattle.scan_model.specs.declared.query.Query.{Query}
 use Rattle.scan_model.specs.declared.query.Query.TheVariants.{Range, Nearest}
 use Rattle.scan_model.specs.Scan.{range_hits, nearest_hits, is_within}
 use Rattle.scan_model.specs.Laws.{IsRangeAnswer}
-use Rattle.scan_model.proofs.RangeLaw.{range_answers}
+use Rattle.scan_model.proofs.Published.{range_answers}
 use Rattle.tree_shape.specs.declared.entry.LeafEntry.{LeafEntry}
 use Rattle.tree_shape.specs.Tree.{times, point_of, points_from}
-use Rattle.tree_shape.proofs.ById.{ids_of, times-in, object_of, point_of-in}
+use Rattle.tree_shape.proofs.Published.{ids_of, times-in, object_of, point_of-in}
 use Rattle.log_model.specs.Grammar.{query_point}
 use Rattle.log_model.specs.InOrder.{in_order, hit_before}
 use Rattle.log_model.specs.Walk.{Search, search_at, away, hit_of}

@@ -6,7 +6,7 @@ use Rattle.std.specs.Option.{option_map_or}
 use Rattle.std.proofs.lemmas.Bool.Decides.{nat_tests}
 use Rattle.metric_laws.specs.Space.{bound}
 use Rattle.metric_laws.specs.Lists.{IsIn}
-use Rattle.metric_laws.proofs.Lists.{filter_none, filter_all, all_weaker, all_in}
+use Rattle.metric_laws.proofs.Published.{filter_none, filter_all, all_weaker, all_in}
 use Rattle.scan_model.specs.declared.hit.Hit.{Hit}
 use Rattle.scan_model.specs.Scan.{is_within}
 use Rattle.scan_model.specs.Laws.{Ascends}

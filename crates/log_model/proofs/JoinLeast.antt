@@ -5,7 +5,7 @@ use Rattle.std.specs.List.{AllByRecursion}
 use Rattle.std.proofs.lemmas.Bool.Decides.{nat_tests}
 use Rattle.metric_laws.specs.Space.{Space, IsSpace}
 use Rattle.metric_laws.specs.Pruning.{pair_rules_out}
-use Rattle.metric_laws.proofs.Lists.{all_both}
+use Rattle.metric_laws.proofs.Published.{all_both}
 use Rattle.scan_model.specs.declared.hit.Pair.{Pair}
 use Rattle.scan_model.specs.Join.{join_pairs}
 use Rattle.tree_shape.specs.declared.live.Live.{Live}

@@ -4,16 +4,16 @@ use Rattle.std.specs.Prelude.{IsTrue, map}
 use Rattle.std.specs.List.{AllByRecursion}
 use Rattle.metric_laws.specs.Space.{Space, IsSpace, bound}
 use Rattle.metric_laws.specs.Lists.{IsIn}
-use Rattle.metric_laws.proofs.Lists.{all_in, in-map, map-in}
+use Rattle.metric_laws.proofs.Published.{all_in, in-map, map-in}
 use Rattle.scan_model.specs.declared.hit.Pair.{Pair}
 use Rattle.scan_model.specs.Join.{join_pairs}
 use Rattle.scan_model.specs.Laws.{IsJoinAnswer}
-use Rattle.scan_model.proofs.JoinLaw.{join_answers}
+use Rattle.scan_model.proofs.Published.{join_answers}
 use Rattle.tree_shape.specs.declared.live.Live.{Live}
 use Rattle.tree_shape.specs.declared.entry.LeafEntry.{LeafEntry}
 use Rattle.tree_shape.specs.Fill.{root_least}
 use Rattle.tree_shape.specs.Tree.{Nodes, IsSoundTree, objects, points_from, points_by_id}
-use Rattle.tree_shape.proofs.Within.{objects_fit}
+use Rattle.tree_shape.proofs.Published.{objects_fit}
 use Rattle.log_model.specs.InOrder.{in_order, pair_before}
 use Rattle.log_model.specs.SoundJoin.{join_at, root_pair}
 use Rattle.log_model.specs.Laws.{SoundJoinLogsAreComplete}

@@ -4,7 +4,7 @@ use Rattle.std.specs.Prelude.{IsTrue, map}
 use Rattle.std.specs.List.{AllByRecursion}
 use Rattle.std.proofs.lemmas.List.{append-nil}
 use Rattle.metric_laws.specs.Space.{Space, IsSpace}
-use Rattle.metric_laws.proofs.Lists.{all_weaker}
+use Rattle.metric_laws.proofs.Published.{all_weaker}
 use Rattle.scan_model.specs.declared.hit.Hit.{Hit}
 use Rattle.scan_model.specs.declared.query.Query.{Query}
 use Rattle.tree_shape.specs.declared.live.Live.{Live}
@@ -13,7 +13,7 @@ use Rattle.tree_shape.specs.declared.entry.Node.{Node}
 use Rattle.tree_shape.specs.declared.entry.Node.TheVariants.{Leaf, Inner}
 use Rattle.tree_shape.specs.Fill.{least_for, root_least}
 use Rattle.tree_shape.specs.Tree.{Nodes, IsSoundAt, IsSoundTree, objects, points_by_id}
-use Rattle.tree_shape.proofs.Within.{SoundSubtree, objects_fit}
+use Rattle.tree_shape.proofs.Published.{SoundSubtree, objects_fit}
 use Rattle.log_model.specs.declared.logs.Log.{Log}
 use Rattle.log_model.specs.declared.marks.Mark.{Mark}
 use Rattle.log_model.specs.declared.marks.Mark.TheVariants.{Skip, Far, Near}

@@ -15,3 +15,4 @@ pub mod Examples
 pub mod OneEntry
 pub mod Reached
 pub mod Lawful
+pub mod Published

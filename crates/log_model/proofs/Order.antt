@@ -3,7 +3,7 @@ use Rattle.std.proofs.Common.{◌≡◌, ◌⊎◌, Bool, true, false, cond, Lis
 use Rattle.std.specs.Prelude.{IsTrue, if◌then◌else◌, filter}
 use Rattle.std.specs.List.{AllByRecursion}
 use Rattle.metric_laws.specs.Lists.{IsIn}
-use Rattle.metric_laws.proofs.Lists.{in-filter}
+use Rattle.metric_laws.proofs.Published.{in-filter}
 use Rattle.scan_model.specs.Laws.{Ascends}
 use Rattle.log_model.specs.InOrder.{put_once, in_order}
 

@@ -2,7 +2,7 @@
 use Rattle.std.proofs.Common.{◌≡◌, false, List, [], ◌∷◌, arith}
 use Rattle.std.specs.Prelude.{IsTrue}
 use Rattle.std.proofs.lemmas.Bool.Decides.{nat_tests}
-use Rattle.metric_laws.proofs.Lists.{all_weaker}
+use Rattle.metric_laws.proofs.Published.{all_weaker}
 use Rattle.scan_model.specs.declared.hit.Hit.{Hit}
 use Rattle.scan_model.specs.declared.hit.Pair.{Pair}
 use Rattle.scan_model.specs.Laws.{Ascends, HitBefore, PairBefore}

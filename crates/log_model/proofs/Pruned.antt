@@ -5,12 +5,12 @@ use Rattle.std.specs.List.{AllByRecursion, AllZip, flat_map}
 use Rattle.std.proofs.lemmas.Bool.Decides.{nat_tests}
 use Rattle.metric_laws.specs.Space.{Space, IsSpace}
 use Rattle.metric_laws.specs.Pruning.{parent_rules_out, centre_rules_out}
-use Rattle.metric_laws.proofs.Lists.{filter_none, all_weaker, all_both}
+use Rattle.metric_laws.proofs.Published.{filter_none, all_weaker, all_both}
 use Rattle.tree_shape.specs.declared.entry.LeafEntry.{LeafEntry}
 use Rattle.tree_shape.specs.declared.entry.InnerEntry.{InnerEntry}
 use Rattle.tree_shape.specs.Tree.{Nodes, IsSoundObject, objects_at, parent_distance}
 use Rattle.tree_shape.specs.Fill.{least_for}
-use Rattle.tree_shape.proofs.Within.{objects_fit, Fits, SoundSubtree}
+use Rattle.tree_shape.proofs.Published.{objects_fit, Fits, SoundSubtree}
 use Rattle.log_model.specs.declared.marks.Mark.{Mark}
 use Rattle.log_model.specs.declared.marks.Mark.TheVariants.{Skip, Far, Near}
 use Rattle.log_model.specs.Walk.{Search, away, is_skipped, allows_object, allows_subtree, near_ones}
@@ -61,26 +61,26 @@ module _ (f : Search) (axioms : IsSpace f.space) (q_fits : IsTrue (f.space.fits 
       grind (arith, nat_tests)
 
   -- the objects of a leaf that are marked Near are its answers
-  pub leaf_near : (above : Option (List ℕ)) → FitsAbove f.space above → (es : List LeafEntry) (marks : List Mark) →
+  pub leaf_marked_near : (above : Option (List ℕ)) → FitsAbove f.space above → (es : List LeafEntry) (marks : List Mark) →
       AllByRecursion (IsSoundObject f.space above) es → AllZip (λ e m. IsTrue (allows_object f (point_above f above) e m)) es marks →
       near_ones es marks ≡ filter (is_answer f) es
-  leaf_near above fit [] [] sound allowed = refl
-  leaf_near above fit [] (m ∷ ms) sound allowed = absurd allowed
-  leaf_near above fit (e ∷ es) [] sound allowed = absurd allowed
-  leaf_near above fit (e ∷ es) (Skip ∷ ms) sound allowed =
+  leaf_marked_near above fit [] [] sound allowed = refl
+  leaf_marked_near above fit [] (m ∷ ms) sound allowed = absurd allowed
+  leaf_marked_near above fit (e ∷ es) [] sound allowed = absurd allowed
+  leaf_marked_near above fit (e ∷ es) (Skip ∷ ms) sound allowed =
       let no = skipped_far above fit e.point e.point sound.0.point_fits sound.0.point_fits e.parent 0 sound.0.parent_is (at_itself e.point sound.0.point_fits) allowed.0 in
-      rw no (leaf_near above fit es ms sound.1 allowed.1)
+      rw no (leaf_marked_near above fit es ms sound.1 allowed.1)
     where
       at_itself : (p : List ℕ) → IsTrue (f.space.fits p) → f.space.dist p p ≤ 0
       at_itself p fits = let z = axioms.zero_same p fits in omega arith
-  leaf_near above fit (e ∷ es) (Far ∷ ms) sound allowed =
+  leaf_marked_near above fit (e ∷ es) (Far ∷ ms) sound allowed =
       let no = far_off e.point e.point sound.0.point_fits sound.0.point_fits 0 (at_itself e.point sound.0.point_fits) allowed.0 in
-      rw no (leaf_near above fit es ms sound.1 allowed.1)
+      rw no (leaf_marked_near above fit es ms sound.1 allowed.1)
     where
       at_itself : (p : List ℕ) → IsTrue (f.space.fits p) → f.space.dist p p ≤ 0
       at_itself p fits = let z = axioms.zero_same p fits in omega arith
-  leaf_near above fit (e ∷ es) (Near ∷ ms) sound allowed =
-      rw allowed.0 (ap (λ r. e ∷ r) (leaf_near above fit es ms sound.1 allowed.1))
+  leaf_marked_near above fit (e ∷ es) (Near ∷ ms) sound allowed =
+      rw allowed.0 (ap (λ r. e ∷ r) (leaf_marked_near above fit es ms sound.1 allowed.1))
 
   -- the subtrees that are marked Near hold all the answers
   pub inner_near : (nodes : Nodes) (h : ℕ) (above : Option (List ℕ)) → FitsAbove f.space above → (es : List InnerEntry) (marks : List Mark) →

@@ -4,7 +4,7 @@ use Rattle.std.specs.Prelude.{IsTrue, filter, map}
 use Rattle.std.specs.List.{AllByRecursion, flat_map}
 use Rattle.std.proofs.lemmas.List.Elements.{filter-append}
 use Rattle.metric_laws.specs.Space.{Space, IsSpace}
-use Rattle.metric_laws.proofs.Lists.{all_append, flat_map-append, flat_map-map, filter-flat_map}
+use Rattle.metric_laws.proofs.Published.{all_append, flat_map-append, flat_map-map, filter-flat_map}
 use Rattle.scan_model.specs.declared.hit.Hit.{Hit}
 use Rattle.tree_shape.specs.declared.entry.LeafEntry.{LeafEntry}
 use Rattle.tree_shape.specs.declared.entry.InnerEntry.{InnerEntry}
@@ -17,8 +17,8 @@ use Rattle.log_model.specs.declared.marks.Record.{Record}
 use Rattle.log_model.specs.declared.marks.Need.{Need}
 use Rattle.log_model.specs.Walk.{Search, WalksBy, AreAllowed, near_ones, needs_of, hits_of, hit_of, need_of}
 use Rattle.tree_shape.specs.Fill.{least_for}
-use Rattle.tree_shape.proofs.Within.{SoundSubtree}
-use Rattle.log_model.proofs.Pruned.{is_answer, FitsAbove, point_above, leaf_near, inner_near}
+use Rattle.tree_shape.proofs.Published.{SoundSubtree}
+use Rattle.log_model.proofs.Pruned.{is_answer, FitsAbove, point_above, leaf_marked_near, inner_near}
 
 -- a page that the walk needs, with its level, its least count and the routing entries above it
 pub record Spot : Type 0 where
@@ -85,7 +85,7 @@ module _ (f : Search) (axioms : IsSpace f.space) (q_fits : IsTrue (f.space.fits 
       StepAt f nodes (point_above f above) (map (need_at f) ps) marks rs hits (Leaf es) →
       hits ≡ answers_in f (es ++ objects_of nodes ps)
   leaf_step above ps marks rs hits es names sounds objects fit step =
-      let near = leaf_near f axioms q_fits above fit es marks objects step.0 in
+      let near = leaf_marked_near f axioms q_fits above fit es marks objects step.0 in
       let others = names ps step.1.0 sounds step.1.1 in
       let named : hits ≡ map (hit_of f) (filter (is_answer f) es) ++ step.1.0 = rw near at step.1.2 in
       let named2 : hits ≡ answers_in f es ++ answers_in f (objects_of nodes ps) = rw others at named in

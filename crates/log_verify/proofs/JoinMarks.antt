@@ -9,7 +9,7 @@ use Rattle.log_model.specs.declared.pairs.JoinNeed.{JoinNeed}
 use Rattle.log_model.specs.Walk.{near_ones}
 use Rattle.log_model.specs.JoinWalk.{Entry, with_entry}
 use Rattle.log_model.specs.JoinSteps.{paired, hits_among, needs_among}
-use Rattle.log_model.proofs.JoinSteps.{paired_same, hits_append, needs_append}
+use Rattle.log_model.proofs.Published.{paired_same, hits_append, needs_append}
 use Rattle.log_verify.specs.Judged.{first_wrong}
 use Rattle.log_verify.proofs.OneMark.{one_left, one_named, near_same}
 

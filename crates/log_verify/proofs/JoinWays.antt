@@ -13,7 +13,7 @@ use Rattle.log_verify.specs.declared.faults.JoinVerdict.TheVariants.{OtherState,
 use Rattle.log_verify.specs.JoinJudged.{is_of, read_of, join_walked}
 use Rattle.log_verify.specs.Causes.{IsJoinPageVerdict, HasJoinCause}
 use Rattle.log_verify.proofs.Ways.{refusal_kept}
-use Rattle.page_store.proofs.Held.{holds_none}
+use Rattle.page_store.proofs.Published.{holds_none}
 
 refused : (j : JoinSearch) (lr rr : Read) (named : List Pair) (n : JoinNeed) (ns : List JoinNeed) (r : JoinRecord) (rs : List JoinRecord) (i : ℕ) (right : Bool) (fault : PageFault)
     → opens_right n ≡ right → is_of n r ≡ true → read_of lr rr right (page_of (opened n)) ≡ Err fault → join_walked j lr rr named (n ∷ ns) (r ∷ rs) i ≡ Err (Page right fault)

@@ -9,3 +9,4 @@ pub mod JoinMarks
 pub mod JoinWays
 pub mod JoinDifferences
 pub mod JoinVerdicts
+pub mod Published

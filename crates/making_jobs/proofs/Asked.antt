@@ -17,9 +17,8 @@ use Rattle.index_core.specs.Answers.{IsSoundOn, points_on, tags_on}
 use Rattle.index_core.specs.Causes.{MayComeAnytime}
 use Rattle.index_core.specs.Files.{OnlyReads, OpenFile, nodes_on}
 use Rattle.index_core.specs.Writing.{HasObjects}
-use Rattle.index_core.proofs.Written.{has_still, reads_both}
+use Rattle.index_core.proofs.Published.{has_still, reads_both, stands_alone_still, stands_still}
 use Rattle.index_core.specs.Lending.{same_room_by_none}
-use Rattle.index_core.proofs.Still.{stands_alone_still, stands_still}
 use Rattle.index_core.specs.Index.{MayGoOn, OpenIndex}
 use Rattle.making_jobs.specs.declared.asking.Asked.{Asked}
 use Rattle.making_jobs.specs.declared.asking.Tally.{Tally}

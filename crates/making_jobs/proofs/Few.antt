@@ -3,15 +3,13 @@ use Rattle.std.proofs.Common.{◌≡◌, ℕ, zero, suc, ◌+◌, ◌*◌, ◌�
 use Rattle.std.specs.Prelude.{IsTrue, map, count_by}
 use Rattle.std.specs.List.{AllByRecursion, flat_map}
 use Rattle.metric_laws.specs.Space.{Space, IsSpace}
-use Rattle.metric_laws.proofs.Lists.{all_weaker, length_map}
+use Rattle.metric_laws.proofs.Published.{all_weaker, length_map}
 use Rattle.tree_shape.specs.Fill.{least_for, most_for}
 use Rattle.tree_shape.specs.Plain.{Branch, Object, Plain, objects_in, objects_of}
 use Rattle.tree_shape.specs.Sound.{BranchCovers, IsSoundPlain, IsSoundTall}
-use Rattle.tree_shape.proofs.Height.{three_at_least}
+use Rattle.tree_shape.proofs.Published.{three_at_least}
 use Rattle.tree_growth.specs.Bulk.{Load, built, object_at, places, places_from}
-use Rattle.tree_growth.proofs.Added.{tally, tally_is}
-use Rattle.tree_growth.proofs.Loaded.{load_keeps_objects}
-use Rattle.tree_growth.proofs.LoadSound.{load_is_sound}
+use Rattle.tree_growth.proofs.Published.{tally, tally_is, load_keeps_objects, load_is_sound}
 use Rattle.bulk_load.specs.Causes.{node_count}
 use Rattle.bulk_load.specs.Postorder.{subtrees}
 

@@ -15,7 +15,7 @@ use Rattle.metric_mix.specs.declared.mix_space.MixSpace.{MixSpace}
 use Rattle.tree_shape.specs.declared.live.Live.{Live}
 use Rattle.node_page.specs.declared.head.Head.{Head}
 use Rattle.file_jobs.specs.Laws.{HeadsHaveSpaces}
-use Rattle.file_jobs.proofs.Spaces.{space_by_head}
+use Rattle.file_jobs.proofs.Published.{space_by_head}
 use Rattle.node_page.specs.Heads.{IsLawfulHead, is_limit}
 use Rattle.node_page.specs.Laws.{FaultIsNotOpen, OneLiveSlot}
 use Rattle.node_page.specs.Opening.{OpensTo, open_fault}
@@ -39,7 +39,7 @@ use Rattle.making_jobs.specs.declared.filling.FillFault.TheVariants as fill
 use Rattle.file_jobs.specs.Spaces.{space_of}
 use Rattle.making_jobs.specs.Filling.{HasFillCause, HoldsNoneOrAll, IsDiskFault, IsFilled, IsOtherFile, fault_of}
 use Rattle.making_jobs.proofs.Few.{few_nodes}
-use Rattle.outside_io.proofs.Rising.{rose_before}
+use Rattle.outside_io.proofs.Published.{rose_before}
 
 pub limit_by_head : (limit : ℕ) → IsTrue (is_limit limit) → limit ≤ 2 ^ 24
 unfolding is_limit

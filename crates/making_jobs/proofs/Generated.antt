@@ -32,7 +32,7 @@ use Rattle.file_jobs.specs.Spaces.{space_of}
 use Rattle.making_jobs.specs.Filling.{IsFilled}
 use Rattle.making_jobs.specs.Generator.{generated_row}
 use Rattle.making_jobs.specs.Jobs.{Fills, IsFilledSince, IsFull, IsSummary, IsUnfilled, ids_of, points_of, summary}
-use Rattle.outside_io.proofs.Rising.{rose_before}
+use Rattle.outside_io.proofs.Published.{rose_before}
 
 -- ---- a run without memory
 

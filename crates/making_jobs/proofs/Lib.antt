@@ -9,3 +9,4 @@ pub mod Ordered
 pub mod Taken
 pub mod OldFiles
 pub mod Migrated
+pub mod Published

@@ -19,7 +19,7 @@ use Rattle.making_jobs.specs.Jobs.{Fills, IsFillStatus, IsFilledSince, IsUnfille
 use Rattle.making_jobs.specs.Migrating.{IsMigrateStatus, IsOldFile, Migrates, Moves, RefusesNew, RefusesNothing, RefusesOld, migrated_text, renewed}
 use Rattle.making_jobs.proofs.Generated.{is_full, leaves_only, refused as unfilled, unchanged, written}
 use Rattle.making_jobs.proofs.OldFiles.{not_rejected, not_unopened}
-use Rattle.outside_io.proofs.Rising.{rose_before}
+use Rattle.outside_io.proofs.Published.{rose_before}
 
 -- ---- before the old file was come to
 

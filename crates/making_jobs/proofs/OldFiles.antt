@@ -16,7 +16,7 @@ use Rattle.node_page.specs.Laws.{FaultIsNotOpen, OneLiveSlot}
 use Rattle.node_page.specs.Opening.{OpensTo, open_fault}
 use Rattle.node_page.specs.Opening.Unopened.{Short, NoHead, Unfinished, TwoRoots, BadSlot}
 use Rattle.page_store.specs.declared.pages.PageFault.TheVariants as page
-use Rattle.page_store.proofs.Answers.{within_by_test, reads_outside}
+use Rattle.page_store.proofs.Published.{within_by_test, reads_outside}
 use Rattle.page_store.specs.Reading.{IsWithin, Read, is_within, nodes_of}
 use Rattle.shadow_root.specs.declared.faults.OpenFault.{OpenFault}
 use Rattle.shadow_root.specs.declared.faults.OpenFault.TheVariants as open_fault

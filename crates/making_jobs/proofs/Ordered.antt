@@ -10,13 +10,12 @@ use Rattle.std.proofs.lemmas.List.Sorted.{All-permutation, IsPermutation-map, su
 use Rattle.std.proofs.lemmas.List.Sums.{sum_by-cons}
 use Rattle.metric_laws.specs.Lists.{IsIn}
 use Rattle.metric_laws.specs.Space.{Space}
-use Rattle.metric_laws.proofs.Lists.{all_in, length_map}
+use Rattle.metric_laws.proofs.Published.{all_in, length_map}
 use Rattle.tree_shape.specs.declared.entry.LeafEntry.{LeafEntry}
 use Rattle.tree_shape.specs.declared.live.Live.{Live}
 use Rattle.tree_shape.specs.Tree.{Nodes, IsSoundTree, objects, point_of, points_by_id, points_from, tag_of, tags_by_id, tags_from, times}
-use Rattle.tree_shape.proofs.ById.{ids_of, object_of, point_of-in, times-in}
-use Rattle.tree_shape.proofs.Counting.{each_once_back}
-use Rattle.page_store.proofs.Ids.{tag_of-in}
+use Rattle.tree_shape.proofs.Published.{ids_of, object_of, point_of-in, times-in, each_once_back}
+use Rattle.page_store.proofs.Published.{tag_of-in}
 use Rattle.tree_audit.specs.declared.faults.AuditFault.{AuditFault}
 use Rattle.tree_audit.specs.declared.faults.AuditFault.TheVariants as audit
 use Rattle.making_jobs.specs.Ordering.{AreInSpace, AreNumbered, HasTakingCause}

@@ -8,7 +8,7 @@ use Rattle.vector_kinds.specs.Vectors.{is_vector}
 use Rattle.metric_mix.specs.MixSpaces.{VectorsFit}
 use Rattle.node_page.specs.declared.head.Head.{Head}
 use Rattle.node_page.specs.Heads.{IsLawfulHead}
-use Rattle.file_jobs.proofs.Spaces.{space_by_head}
+use Rattle.file_jobs.proofs.Published.{space_by_head}
 use Rattle.file_jobs.specs.Spaces.{space_of}
 use Rattle.std.proofs.lemmas.List.FromFn.{get_or-map-range_with_len, length-map-range_with_len, map-range_with_len_more}
 use Rattle.making_jobs.specs.Generator.{coordinate, generated_row, generated_rows}

@@ -5,7 +5,7 @@ use Rattle.std.specs.List.{AllByRecursion, flat_map}
 use Rattle.std.proofs.lemmas.List.{append-nil}
 use Rattle.outside_io.specs.Causes.{Rose}
 use Rattle.metric_laws.specs.Space.{Space}
-use Rattle.metric_laws.proofs.Lists.{all_append, all_weaker, flat_map-append, flat_map-map}
+use Rattle.metric_laws.proofs.Published.{all_append, all_weaker, flat_map-append, flat_map-map}
 use Rattle.tree_shape.specs.declared.entry.InnerEntry.{InnerEntry}
 use Rattle.tree_shape.specs.declared.entry.LeafEntry.{LeafEntry}
 use Rattle.tree_shape.specs.declared.entry.Node.{Node}
@@ -13,14 +13,14 @@ use Rattle.tree_shape.specs.declared.entry.Node.TheVariants.{Leaf, Inner}
 use Rattle.tree_shape.specs.declared.live.Live.{Live}
 use Rattle.tree_shape.specs.Fill.{least_for, root_least}
 use Rattle.tree_shape.specs.Tree.{Nodes, IsSoundAt, IsSoundTree, IsSoundEntry, IsNodePage, inner_entries, leaf_entries, objects, objects_at, pages_at}
-use Rattle.tree_shape.proofs.Counting.{few}
+use Rattle.tree_shape.proofs.Published.{few}
 use Rattle.page_store.specs.declared.pages.PageFault.{PageFault}
 use Rattle.page_store.specs.declared.pages.PageFault.TheVariants.{Disk, Bad, Outside, Memory, Repeats, Level}
 use Rattle.page_store.specs.Reading.{Read, nodes_of, node_or_none}
 use Rattle.page_store.specs.Shelf.{Shelf, HoldsSame, IsNodeOf, HasPageCause, IsPassing}
-use Rattle.log_model.proofs.Walk.{same_node}
+use Rattle.log_model.proofs.Published.{same_node}
 use Rattle.making_jobs.specs.Collecting.{IsOpened}
-use Rattle.page_store.proofs.Held.{holds_both, told_then}
+use Rattle.page_store.proofs.Published.{holds_both, told_then}
 
 -- a page that is still to come, in a sound tree
 record Spot : Type 0 where

@@ -8,10 +8,9 @@ use Rattle.page_store.specs.declared.pages.PageFault.TheVariants.{Repeats}
 use Rattle.page_store.specs.Reading.{nodes_of}
 use Rattle.page_store.specs.Shelf.{Shelf, HoldsSame, HasPageCause}
 use Rattle.page_store.specs.Tours.{Tours, IsToured, Names, OpensPage, HasTourCause}
-use Rattle.page_store.proofs.Touring.{tours_more, page_stops}
-use Rattle.log_model.proofs.Reached.{count_up_more}
+use Rattle.page_store.proofs.Published.{tours_more, page_stops, holds_both, holds_none, told_then}
+use Rattle.log_model.proofs.Published.{count_up_more}
 use Rattle.metric_join.specs.Joined.{IsWalked}
-use Rattle.page_store.proofs.Held.{holds_both, holds_none, told_then}
 
 -- the walk has opened so many pages, and has these still to open
 pub record IsTouring (live : Live) (old now : Shelf) (opened : ℕ) (left : List ℕ) : Type 0 where

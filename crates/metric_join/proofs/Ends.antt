@@ -18,21 +18,16 @@ use Rattle.log_model.specs.Counts.{join_measured}
 use Rattle.log_model.specs.InOrder.{in_order, pair_before}
 use Rattle.log_model.specs.JoinWalk.{JoinSearch, JoinLeast, JoinWalksBy}
 use Rattle.log_model.specs.SoundJoin.{root_pair, IsLeastJoinLog}
-use Rattle.log_model.proofs.Order.{rising-in_order}
-use Rattle.log_model.proofs.Orders.{pair_order, ascending_pairs}
-use Rattle.log_model.proofs.Reached.{count_up_both}
-use Rattle.log_model.proofs.JoinScan.{join_complete}
-use Rattle.log_model.proofs.JoinLeast.{join_least_sound}
+use Rattle.log_model.proofs.Published.{rising-in_order, pair_order, ascending_pairs, count_up_both, join_complete, join_least_sound}
 use Rattle.log_model.specs.JoinSteps.{search_within}
 use Rattle.page_store.specs.Tours.{IsToured, HasTourCause}
-use Rattle.page_store.proofs.SoundTour.{sound_names, tour_passes}
+use Rattle.page_store.proofs.Published.{sound_names, tour_passes, holds_none}
 use Rattle.metric_join.specs.Joined.{IsJoinLogOf, IsJoined, IsWalked, HasSideCause, HasJoinCause, IsPassing, opened_on, fault_of}
 use Rattle.metric_join.specs.declared.faults.JoinFault.{JoinFault}
 use Rattle.metric_join.specs.declared.faults.JoinFault.TheVariants as join
 use Rattle.metric_join.specs.declared.walking.Waiting.{Waiting}
 use Rattle.metric_join.specs.Steps.{IsUnderWay, HasSideStop, HasWalkCause}
 use Rattle.metric_join.proofs.Course.{toured_of}
-use Rattle.page_store.proofs.Held.{holds_none}
 
 -- pages that hold the same tell the same
 toured_then : (live : Live) (old now : Shelf) → HoldsSame old now → IsWalked live old now 0 → IsTrue now.tells → IsToured (nodes_of now.read) live

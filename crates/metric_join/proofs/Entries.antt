@@ -10,8 +10,7 @@ use Rattle.log_model.specs.Counts.{measured_by}
 use Rattle.log_model.specs.Walk.{near_ones}
 use Rattle.log_model.specs.JoinWalk.{JoinSearch, Entry, opens_right, apart_of, centre_of, radius_of, with_entry, least_for_entry}
 use Rattle.log_model.specs.JoinSteps.{apart_from, paired, hits_among, needs_among}
-use Rattle.log_model.proofs.JoinSteps.{paired_same, hits_append, needs_append}
-use Rattle.log_model.proofs.Reached.{count_up_both}
+use Rattle.log_model.proofs.Published.{paired_same, hits_append, needs_append, count_up_both}
 use Rattle.metric_join.specs.declared.opening.Opening.{Opening}
 use Rattle.metric_join.specs.Steps.{least_at, marks_for, pairs_for, TakesEntries, CountsMarks}
 

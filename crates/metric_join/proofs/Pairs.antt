@@ -4,7 +4,7 @@ use Rattle.std.specs.Prelude.{IsTrue, filter}
 use Rattle.std.specs.List.{AllByRecursion}
 use Rattle.std.proofs.lemmas.List.{map-append, length-map}
 use Rattle.metric_laws.specs.Counts.{next_count, count_up, CountsUpTo}
-use Rattle.metric_laws.proofs.Lists.{all_append, all_weaker}
+use Rattle.metric_laws.proofs.Published.{all_append, all_weaker}
 use Rattle.scan_model.specs.declared.hit.Pair.{Pair}
 use Rattle.tree_shape.specs.declared.live.Live.{Live}
 use Rattle.tree_shape.specs.declared.entry.Node.{Node}
@@ -18,15 +18,14 @@ use Rattle.log_model.specs.Counts.{measured_by, join_measured}
 use Rattle.log_model.specs.Walk.{near_ones}
 use Rattle.log_model.specs.JoinWalk.{JoinSearch, JoinLeast, JoinWalksBy, Entry, entries_of, page_of, opens_right, opened, with_entry, is_need, least_for_entry, join_needs, join_hits, side_of}
 use Rattle.log_model.specs.SoundJoin.{root_pair}
-use Rattle.log_model.proofs.JoinNames.{with_side, opened_side}
-use Rattle.log_model.proofs.Reached.{count_up_more, count_up_both}
+use Rattle.log_model.proofs.Published.{with_side, opened_side, count_up_more, count_up_both}
 use Rattle.log_model.specs.JoinSteps.{hits_among, needs_among}
 use Rattle.metric_join.specs.Joined.{is_on, opened_on}
 use Rattle.metric_join.specs.declared.walking.Waiting.{Waiting}
 use Rattle.metric_join.specs.Steps.{following, record_for, weight, weight_of, needs_in, marks_for, pairs_for, IsStanding, IsWaiting, IsOpened, IsUnderWay}
 use Rattle.metric_join.proofs.Tours.{whole_below}
 use Rattle.metric_join.proofs.Standing.{shelf_on, room_on, left_after, right_after, opened_whole, entries_stand, needs_follow, needs_wait, needs_few, entries_few, lighter}
-use Rattle.page_store.proofs.Held.{holds_both, told_then}
+use Rattle.page_store.proofs.Published.{holds_both, told_then}
 
 opened_on_more : (side : Bool) (rs : List JoinRecord) (r : JoinRecord) → opened_on side (rs ++ r ∷ []) ≡ opened_on side rs + is_on side r.right
 opened_on_more side [] r = omega arith

@@ -6,7 +6,7 @@ use Rattle.std.proofs.Math.Nat.{pow-suc, one-le-pow, suc-mul}
 use Rattle.std.proofs.lemmas.Bool.Decides.{nat_tests}
 use Rattle.std.proofs.lemmas.List.{length-map}
 use Rattle.metric_laws.specs.Space.{Space}
-use Rattle.metric_laws.proofs.Lists.{all_filter}
+use Rattle.metric_laws.proofs.Published.{all_filter}
 use Rattle.tree_shape.specs.declared.live.Live.{Live}
 use Rattle.tree_shape.specs.declared.entry.LeafEntry.{LeafEntry}
 use Rattle.tree_shape.specs.declared.entry.InnerEntry.{InnerEntry}
@@ -22,7 +22,7 @@ use Rattle.log_model.specs.declared.pairs.Item.TheVariants.{Subtree, Object}
 use Rattle.log_model.specs.declared.pairs.JoinNeed.{JoinNeed}
 use Rattle.log_model.specs.Walk.{near_ones}
 use Rattle.log_model.specs.JoinWalk.{JoinSearch, Entry, object_entry, subtree_entry, entries_of, rank_of, page_of, is_object, opens_right, with_entry, is_need}
-use Rattle.log_model.proofs.JoinNames.{with_side, opened_side}
+use Rattle.log_model.proofs.Published.{with_side, opened_side}
 use Rattle.log_model.specs.JoinSteps.{needs_among}
 use Rattle.page_store.specs.Tours.{children, IsWhole}
 use Rattle.metric_join.specs.declared.walking.Waiting.{Waiting}

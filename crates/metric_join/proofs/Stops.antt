@@ -10,7 +10,7 @@ use Rattle.page_store.specs.Shelf.{Shelf, HoldsSame}
 use Rattle.log_model.specs.declared.marks.JoinRecord.{JoinRecord}
 use Rattle.metric_laws.specs.Counts.{count_up}
 use Rattle.log_model.specs.JoinWalk.{JoinSearch, page_of, opens_right, opened}
-use Rattle.log_model.proofs.JoinNames.{opened_side}
+use Rattle.log_model.proofs.Published.{opened_side}
 use Rattle.page_store.specs.Tours.{IsWhole}
 use Rattle.metric_join.specs.Joined.{opened_on}
 use Rattle.metric_join.specs.declared.faults.JoinFault.{JoinFault}

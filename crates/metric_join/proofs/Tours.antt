@@ -4,7 +4,7 @@ use Rattle.std.specs.List.{AllByRecursion}
 use Rattle.tree_shape.specs.declared.entry.Node.{Node}
 use Rattle.tree_shape.specs.Tree.{Nodes}
 use Rattle.page_store.specs.Tours.{children, Tours, IsWhole}
-use Rattle.page_store.proofs.OneTour.{same_some}
+use Rattle.page_store.proofs.Published.{same_some}
 
 -- a walk that is whole opens what is first, and then the rest
 record IsSplit (nodes : Nodes) (ps qs os : List ℕ) : Type 0 where

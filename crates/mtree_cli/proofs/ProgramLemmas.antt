@@ -16,9 +16,9 @@ use Rattle.plain_scan.specs.declared.session.Stop.TheVariants as stop
 use Rattle.plain_scan.specs.Written.{Writes, reply_texts}
 use Rattle.rows_text.specs.Script.{script}
 use Rattle.answer_texts.specs.Ending.{IsTold}
-use Rattle.answer_texts.proofs.Behind.{told_behind}
+use Rattle.answer_texts.proofs.Published.{told_behind}
 use Rattle.mtree_cli.specs.Run.{Asked, IsScan, WritesScan, Ends, scan_texts}
-use Rattle.outside_io.proofs.Rising.{rose_before}
+use Rattle.outside_io.proofs.Published.{rose_before}
 
 -- words ask for one scan
 

@@ -19,16 +19,15 @@ use Rattle.shadow_root.specs.declared.faults.OpenFault.TheVariants as fault
 use Rattle.page_store.specs.Files.{IsSoundFile, nodes_in}
 use Rattle.index_core.specs.Causes.{HasReaderCause}
 use Rattle.file_jobs.specs.Jobs.{IsNoIndex, Refuses}
-use Rattle.file_jobs.proofs.Ends.{no_index, rose_by_disk}
-use Rattle.file_jobs.proofs.Unsound.{no_index_unsound}
+use Rattle.file_jobs.proofs.Published.{no_index, rose_by_disk, no_index_unsound}
 use Rattle.tree_shape.specs.declared.live.Live.{Live}
 use Rattle.tree_shape.specs.Tree.{IsSoundTree}
 use Rattle.index_core.specs.Answers.{IsSoundOn}
 use Rattle.metric_laws.specs.Space.{Space}
 use Rattle.index_core.specs.Files.{IsLawfulFile, nodes_on}
 use Rattle.index_core.specs.Index.{OpenIndex, StandsAlone}
-use Rattle.index_core.proofs.Written.{holds}
-use Rattle.session_run.proofs.Reading.{objects_on}
+use Rattle.index_core.proofs.Published.{holds}
+use Rattle.session_run.proofs.Published.{objects_on}
 use Rattle.file_jobs.specs.Lines.{not_index_text, unopened_name, unopened_text}
 use Rattle.rows_text.specs.declared.command.Command.{Command}
 use Rattle.rows_text.specs.Meaning.{State}
@@ -39,13 +38,12 @@ use Rattle.session_run.specs.Session.{Grew, HasRun, HasStopCause, HoldsState, Is
 use Rattle.answer_texts.specs.Answered.{commands_of, framed, logs_of, texts_of}
 use Rattle.answer_texts.specs.Asked.{Held, held_in}
 use Rattle.answer_texts.specs.Ending.{IsTold}
-use Rattle.answer_texts.proofs.Behind.{told_behind}
-use Rattle.answer_texts.proofs.Endings.{disk_ends, input_ends, long_ends, memory_ends}
+use Rattle.answer_texts.proofs.Published.{told_behind, disk_ends, input_ends, long_ends, memory_ends}
 use Rattle.session_run.specs.Turns.{AreTurns, Turn, answers_of, held_on}
 use Rattle.mtree_cli.proofs.ProgramLemmas.{always, read_whole, weaker}
 use Rattle.file_jobs.specs.Spaces.{space_of}
 use Rattle.mtree_cli.specs.Session.{HasEnded, HasFinished, HasRefused, HoldsFront, IsComplete, IsLeft, Leaves, LeavesAll, ReadsFew, ReadsScript, RunsOn, RunsScript, RunsSession, SessionEnds, setting_in, state_in}
-use Rattle.outside_io.proofs.Rising.{rose_before}
+use Rattle.outside_io.proofs.Published.{rose_before}
 
 module _ (show : Bool) (bytes : List ℕ) (head : Head) (live : Live) (file : List ℕ) (disk0 disk1 : DiskState) (out0 out1 out2 log0 log1 : SinkState) where
   abbrev pub state0 : State

@@ -27,10 +27,9 @@ use Rattle.mtree_cli.specs.Run.{Task, Scene, Does, IsStatusOf, TakesWithin, scan
 use Rattle.std.proofs.lemmas.Bool.{true≢false}
 use Rattle.page_store.specs.Files.{IsLarge}
 use Rattle.batch_run.specs.Jobs.Batches.{IsTooLong}
-use Rattle.batch_run.proofs.jobs.Whole.{out_of_memory}
+use Rattle.batch_run.proofs.Published.{out_of_memory}
 use Rattle.making_jobs.specs.Jobs.{IsSummary, ids_of, points_of}
-use Rattle.making_jobs.proofs.Generated.{no_memory}
-use Rattle.making_jobs.proofs.Migrated.{migrates_no_memory}
+use Rattle.making_jobs.proofs.Published.{no_memory, migrates_no_memory}
 use Rattle.making_jobs.specs.Migrating.{RefusesNothing}
 use Rattle.mtree_cli.specs.Run.Task.{Scans, Makes, Draws, Sessions, Generates, Migrates, Batches, Judges, Seals, Carries, Reports, JoinsWithin, ReportsJoins, Proves, Nothing}
 use Rattle.seal_jobs.specs.Seals.{Seals as SealsIndex}

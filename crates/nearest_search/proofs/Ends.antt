@@ -5,7 +5,7 @@ use Rattle.std.specs.List.{AllByRecursion}
 use Rattle.std.proofs.lemmas.Bool.Decides.{nat_tests}
 use Rattle.metric_laws.specs.Space.{Space, IsSpace}
 use Rattle.metric_laws.specs.Lists.{IsIn}
-use Rattle.metric_laws.proofs.Lists.{all_weaker}
+use Rattle.metric_laws.proofs.Published.{all_weaker}
 use Rattle.scan_model.specs.declared.hit.Hit.{Hit}
 use Rattle.scan_model.specs.declared.query.Query.TheVariants.{Nearest}
 use Rattle.tree_shape.specs.declared.live.Live.{Live}
@@ -14,14 +14,12 @@ use Rattle.tree_shape.specs.declared.entry.InnerEntry.{InnerEntry}
 use Rattle.tree_shape.specs.declared.entry.Node.{Node}
 use Rattle.tree_shape.specs.Fill.{root_least}
 use Rattle.tree_shape.specs.Tree.{Nodes, IsSoundTree, IsNodePage, objects_at, objects, pages_at, inner_entries}
-use Rattle.tree_shape.proofs.Counting.{few}
+use Rattle.tree_shape.proofs.Published.{few}
 use Rattle.log_model.specs.declared.marks.Record.{Record}
 use Rattle.log_model.specs.InOrder.{in_order, hit_before}
 use Rattle.log_model.specs.Sound.{pruning_radius}
 use Rattle.log_model.specs.Walk.{Search, away, search_at, WalksBy, AreLeast, AreAllowed, root_need}
-use Rattle.log_model.proofs.Walk.{Spot, answers_in}
-use Rattle.log_model.proofs.Least.{walks_wider, least_allowed}
-use Rattle.log_model.proofs.LeastLog.{root_names}
+use Rattle.log_model.proofs.Published.{Spot, answers_in, walks_wider, least_allowed, root_names}
 use Rattle.nearest_search.specs.declared.pending.Pending.{Pending}
 use Rattle.nearest_search.specs.Counts.{IsRadius}
 use Rattle.nearest_search.specs.Machine.{level_of, objects_below, count_near, pending_of, pending_root, reaches, opens, opens_of, IsFinal, IsPending, IsKept, Holds}

@@ -5,7 +5,7 @@ use Rattle.std.proofs.lemmas.Bool.Decides.{nat_tests}
 use Rattle.metric_laws.specs.Space.{Space, IsSpace}
 use Rattle.metric_laws.specs.Counts.{next_count, count_up}
 use Rattle.metric_laws.specs.Lists.{IsIn}
-use Rattle.metric_laws.proofs.Lists.{all_append, in-map, in-append, in-append_right}
+use Rattle.metric_laws.proofs.Published.{all_append, in-map, in-append, in-append_right}
 use Rattle.scan_model.specs.declared.hit.Hit.{Hit}
 use Rattle.scan_model.specs.declared.query.Query.{Query}
 use Rattle.scan_model.specs.declared.query.Query.TheVariants.{Nearest}
@@ -31,9 +31,7 @@ use Rattle.log_model.specs.Sound.{IsLogOf, IsLeastLog, selected, search_for}
 use Rattle.log_model.specs.Laws.{scan_answers}
 use Rattle.log_model.specs.Steps.{TakesNode}
 use Rattle.log_model.specs.Walk.{Search, search_at, AreLeast, WalksBy, ReachesBy, least_marks, near_ones, hits_of, needs_of, record_of, root_need}
-use Rattle.log_model.proofs.Lawful.{lawful_log, marks_long, hits_few}
-use Rattle.log_model.proofs.LeastLog.{sound_complete, least_sound}
-use Rattle.log_model.proofs.Reached.{count_up_more, reaches_more}
+use Rattle.log_model.proofs.Published.{lawful_log, marks_long, hits_few, sound_complete, least_sound, count_up_more, reaches_more}
 use Rattle.nearest_search.specs.declared.pending.Pending.{Pending}
 use Rattle.nearest_search.specs.Counts.{IsRadius}
 use Rattle.nearest_search.specs.Queue.{IsNext}
@@ -47,7 +45,7 @@ use Rattle.nearest_search.proofs.Steps.{step}
 use Rattle.nearest_search.proofs.Ends.{begins, room, ends}
 use Rattle.nearest_search.proofs.KeptWalk.{agrees_reach}
 use Rattle.nearest_search.proofs.Walking.{walk_opens, opens_before}
-use Rattle.page_store.proofs.Held.{holds_both, told_then}
+use Rattle.page_store.proofs.Published.{holds_both, told_then}
 
 entries_few : (dim : ℕ) (node : Node) → IsLawfulNode dim node → entry_count node ≤ 32
 entries_few dim (Leaf es) lawful = let few = lawful.0 in omega arith

@@ -5,7 +5,7 @@ use Rattle.std.specs.List.{AllByRecursion, flat_map}
 use Rattle.std.proofs.lemmas.Bool.Decides.{nat_tests}
 use Rattle.std.proofs.Common.{length-append}
 use Rattle.metric_laws.specs.Space.{IsSpace, bound}
-use Rattle.metric_laws.proofs.Lists.{all_append}
+use Rattle.metric_laws.proofs.Published.{all_append}
 use Rattle.scan_model.specs.declared.hit.Hit.{Hit}
 use Rattle.tree_shape.specs.declared.entry.Node.{Node}
 use Rattle.tree_shape.specs.declared.entry.Node.TheVariants.{Leaf, Inner}
@@ -14,8 +14,7 @@ use Rattle.tree_shape.specs.Tree.{Nodes, IsSoundAt, pages_at, inner_entries}
 use Rattle.log_model.specs.declared.marks.Record.{Record}
 use Rattle.log_model.specs.declared.marks.Need.{Need}
 use Rattle.log_model.specs.Walk.{Search, WalksBy, AreLeast, least_for_subtree, least_marks, needs_of, near_ones}
-use Rattle.log_model.proofs.Pruned.{FitsAbove, point_above}
-use Rattle.log_model.proofs.Walk.{Spot, need_at, spot_of, IsSoundSpot, needs_from_spots, near_of_sound, same_node}
+use Rattle.log_model.proofs.Published.{FitsAbove, point_above, Spot, need_at, spot_of, IsSoundSpot, needs_from_spots, near_of_sound, same_node}
 use Rattle.nearest_search.specs.Counts.{total}
 use Rattle.nearest_search.specs.Machine.{reaches, opens, IsFinal}
 use Rattle.nearest_search.proofs.Totals.{total-append}

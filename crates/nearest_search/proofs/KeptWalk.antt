@@ -5,7 +5,7 @@ use Rattle.std.specs.List.{AllByRecursion}
 use Rattle.std.proofs.lemmas.Bool.Decides.{nat_tests}
 use Rattle.metric_laws.specs.Pruning.{centre_rules_out}
 use Rattle.metric_laws.specs.Lists.{IsIn}
-use Rattle.metric_laws.proofs.Lists.{all_weaker, all_append}
+use Rattle.metric_laws.proofs.Published.{all_weaker, all_append}
 use Rattle.scan_model.specs.declared.hit.Hit.{Hit}
 use Rattle.tree_shape.specs.declared.live.Live.{Live}
 use Rattle.tree_shape.specs.declared.entry.InnerEntry.{InnerEntry}
@@ -17,7 +17,7 @@ use Rattle.log_model.specs.declared.marks.Mark.TheVariants.{Skip, Far, Near}
 use Rattle.log_model.specs.declared.marks.Record.{Record}
 use Rattle.log_model.specs.declared.marks.Need.{Need}
 use Rattle.log_model.specs.Walk.{Search, Rule, ReachesBy, WalksBy, AreLeast, away, is_skipped, least_for_subtree, least_marks, near_ones, need_of, needs_of, root_need}
-use Rattle.log_model.proofs.Reached.{reached_inside, walks_whole}
+use Rattle.log_model.proofs.Published.{reached_inside, walks_whole}
 use Rattle.nearest_search.specs.Machine.{reaches, IsKept}
 use Rattle.nearest_search.specs.Relog.{IsRelogged, IsStopped}
 

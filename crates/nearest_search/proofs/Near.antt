@@ -10,11 +10,10 @@ use Rattle.tree_shape.specs.declared.entry.InnerEntry.{InnerEntry}
 use Rattle.tree_shape.specs.declared.entry.Node.TheVariants.{Leaf}
 use Rattle.tree_shape.specs.Tree.{Nodes, IsSoundAt, IsSoundObject, objects_at, parent_distance}
 use Rattle.tree_shape.specs.Fill.{least_for}
-use Rattle.tree_shape.proofs.Within.{SoundSubtree}
+use Rattle.tree_shape.proofs.Published.{SoundSubtree}
 use Rattle.log_model.specs.declared.marks.Mark.TheVariants.{Skip, Far, Near}
 use Rattle.log_model.specs.Walk.{Search, away, is_skipped, allows_object, least_for_object, least_for_subtree, near_ones, hit_of}
-use Rattle.log_model.proofs.Pruned.{is_answer, FitsAbove, point_above, leaf_near, held}
-use Rattle.log_model.proofs.Least.{object_allowed, zip-map}
+use Rattle.log_model.proofs.Published.{is_answer, FitsAbove, point_above, leaf_marked_near, held, object_allowed, zip-map}
 use Rattle.nearest_search.specs.Counts.{total, one_within, within}
 use Rattle.nearest_search.specs.Machine.{level_of, count_near, count_below, pending_of, reaches, opens, opens_of}
 
@@ -64,7 +63,7 @@ module _ (f : Search) (axioms : IsSpace f.space) (q_fits : IsTrue (f.space.fits 
   pub leaf_answers : (above : Option (List ℕ)) → FitsAbove f.space above → (es : List LeafEntry) → AllByRecursion (IsSoundObject f.space above) es →
       near_ones es (map (least_for_object f (point_above f above)) es) ≡ filter (is_answer f) es
   leaf_answers above fit es sound =
-      leaf_near f axioms q_fits above fit es (map (least_for_object f (point_above f above)) es) sound
+      leaf_marked_near f axioms q_fits above fit es (map (least_for_object f (point_above f above)) es) sound
       (zip-map (allows_object f (point_above f above)) (least_for_object f (point_above f above)) (object_allowed f (point_above f above)) es)
 
   -- no object of a sphere that doesn't reach is within the radius

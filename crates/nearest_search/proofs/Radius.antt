@@ -6,21 +6,16 @@ use Rattle.std.specs.Option.{option_map_or}
 use Rattle.std.proofs.lemmas.Bool.Decides.{nat_tests}
 use Rattle.metric_laws.specs.Space.{Space, IsSpace, bound}
 use Rattle.metric_laws.specs.Lists.{IsIn}
-use Rattle.metric_laws.proofs.Lists.{in-filter, in-map}
+use Rattle.metric_laws.proofs.Published.{in-filter, in-map}
 use Rattle.scan_model.specs.declared.hit.Hit.{Hit}
 use Rattle.scan_model.specs.declared.query.Query.TheVariants.{Nearest}
 use Rattle.log_model.specs.InOrder.{put_once, in_order, hit_before}
 use Rattle.log_model.specs.Sound.{last_dist, pruning_radius}
-use Rattle.log_model.proofs.Order.{before_all, rising-in_order, in-in_order}
-use Rattle.log_model.proofs.Orders.{hit_order}
-use Rattle.log_model.proofs.Hits.{Rising}
+use Rattle.log_model.proofs.Published.{before_all, rising-in_order, in-in_order, hit_order, Rising, is_answer, answers_in, AreIds}
 use Rattle.tree_shape.specs.declared.entry.LeafEntry.{LeafEntry}
 use Rattle.tree_shape.specs.Tree.{times}
-use Rattle.tree_shape.proofs.ById.{ids_of}
+use Rattle.tree_shape.proofs.Published.{ids_of}
 use Rattle.log_model.specs.Walk.{Search, search_at, hit_of}
-use Rattle.log_model.proofs.Pruned.{is_answer}
-use Rattle.log_model.proofs.Walk.{answers_in}
-use Rattle.log_model.proofs.ByScan.{AreIds}
 use Rattle.nearest_search.specs.Counts.{one_within, within}
 use Rattle.nearest_search.specs.Machine.{count_near, IsFinal}
 use Rattle.nearest_search.proofs.Totals.{within_all}

@@ -5,17 +5,16 @@ use Rattle.std.specs.List.{AllByRecursion}
 use Rattle.std.proofs.lemmas.Bool.Decides.{nat_tests}
 use Rattle.metric_laws.specs.Space.{Space, IsSpace, bound}
 use Rattle.metric_laws.specs.Lists.{IsIn}
-use Rattle.metric_laws.proofs.Lists.{all_weaker, all_in, in-filter, filter-in, in-map, map-in, in-append_left, in-append_right}
+use Rattle.metric_laws.proofs.Published.{all_weaker, all_in, in-filter, filter-in, in-map, map-in, in-append_left, in-append_right}
 use Rattle.tree_shape.specs.declared.entry.LeafEntry.{LeafEntry}
 use Rattle.tree_shape.specs.declared.entry.InnerEntry.{InnerEntry}
 use Rattle.tree_shape.specs.declared.entry.Node.{Node}
 use Rattle.tree_shape.specs.declared.entry.Node.TheVariants.{Leaf, Inner}
 use Rattle.tree_shape.specs.Tree.{Nodes, IsSoundAt, objects_at, inner_entries}
 use Rattle.tree_shape.specs.Fill.{least_for}
-use Rattle.tree_shape.proofs.Within.{SoundSubtree}
+use Rattle.tree_shape.proofs.Published.{SoundSubtree}
 use Rattle.log_model.specs.Walk.{Search, away, search_at}
-use Rattle.log_model.proofs.Pruned.{FitsAbove, point_above, held}
-use Rattle.log_model.proofs.Walk.{same_node}
+use Rattle.log_model.proofs.Published.{FitsAbove, point_above, held, same_node}
 use Rattle.nearest_search.specs.declared.pending.Pending.{Pending}
 use Rattle.nearest_search.specs.Counts.{total, one_within, within, IsRadius}
 use Rattle.nearest_search.specs.Machine.{objects_below, count_near, count_below, pending_of, pending_root, dists_of, pendings_of, reaches, opens, opens_of, IsFinal, far_above, FitsUp, IsPending, IsKept, IsClosed, Holds}

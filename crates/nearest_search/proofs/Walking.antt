@@ -2,12 +2,12 @@
 use Rattle.std.proofs.Common.{◌≡◌, ℕ, ◌+◌, ◌≤◌, List, [], ◌∷◌, ◌++◌, refl, sym, ap, subst, inl, arith, Option, Some, IsSome}
 use Rattle.std.specs.Prelude.{map, if◌then◌else◌, ◌==◌, IsPermutation}
 use Rattle.metric_laws.specs.Lists.{IsIn}
-use Rattle.metric_laws.proofs.Lists.{map-in}
+use Rattle.metric_laws.proofs.Published.{map-in}
 use Rattle.tree_shape.specs.declared.entry.InnerEntry.{InnerEntry}
 use Rattle.tree_shape.specs.declared.entry.Node.{Node}
 use Rattle.tree_shape.specs.declared.entry.Node.TheVariants.{Leaf, Inner}
 use Rattle.tree_shape.specs.Tree.{Nodes, inner_entries, times}
-use Rattle.tree_shape.proofs.Counting.{times-append}
+use Rattle.tree_shape.proofs.Published.{times-append}
 use Rattle.log_model.specs.declared.marks.Mark.{Mark}
 use Rattle.log_model.specs.declared.marks.Mark.TheVariants.{Skip, Far, Near}
 use Rattle.log_model.specs.Walk.{Search, least_marks, near_ones}

@@ -70,9 +70,9 @@ spells_by_none page none =
     }
 
 -- a page that spells a head has no fault
-pub none_by_spells : (page : List ℕ) (head : Head) → SpellsHead page head → head_fault page ≡ None
+pub no_head_fault : (page : List ℕ) (head : Head) → SpellsHead page head → head_fault page ≡ None
 unfolding head_fault head_of
-none_by_spells page head spells =
+no_head_fault page head spells =
     pass_all (number_at 0 8 page == magic) (is_version (number_at 8 2 page)) (is_space (slice_index page 10) (slice_index page 11))
     (is_policy (slice_index page 12) (slice_index page 13)) (is_limit (number_at 16 4 page)) (are_zero 14 2 page) (are_zero 20 4076 page)
     (is_same (number_at 0 8 page) magic spells.magic)

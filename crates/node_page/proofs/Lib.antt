@@ -9,3 +9,4 @@ pub mod NodeLaws
 pub mod Putting
 pub mod Written
 pub mod OneNode
+pub mod Published

@@ -9,7 +9,7 @@ use Rattle.node_page.specs.Opening.{page_of, slot_page, is_open, generation_of, 
 use Rattle.node_page.specs.Opening.Unopened.{Short, Unfinished, TwoRoots, BadSlot}
 use Rattle.node_page.specs.declared.head.Head.{Head}
 use Rattle.node_page.specs.declared.head.HeadFault.{HeadFault}
-use Rattle.node_page.proofs.HeadLaws.{head_is, spells_by_none, none_by_spells}
+use Rattle.node_page.proofs.HeadLaws.{head_is, spells_by_none, no_head_fault}
 use Rattle.node_page.proofs.SlotLaws.{both, slot_is, rest_by_test, test_by_rest}
 
 nine : (a b c d e f g h i : Bool) → (a && b && c && d && e && f && g && h && i) ≡ true
@@ -239,4 +239,4 @@ unfolding open_fault
 none_by_opens file head live opens =
     let long : 12288 ≤ length file = opens.long in
     no_fault (nat_lt (length file) 12288) (head_fault (page_of file 0)) (slot_fault file) (grind (arith, nat_tests))
-    (none_by_spells (page_of file 0) head opens.spells_head) (slots_none file head live opens)
+    (no_head_fault (page_of file 0) head opens.spells_head) (slots_none file head live opens)

@@ -1,3 +1,4 @@
 mod Examples
 pub mod Pairs
 pub mod Agreement
+pub mod Published

@@ -4,11 +4,11 @@ use Rattle.std.specs.Prelude.{◌==◌, if◌then◌else◌}
 use Rattle.std.specs.List.{AllByRecursion, range_with_len}
 use Rattle.std.proofs.lemmas.Bool.Decides.{nat_tests}
 use Rattle.metric_laws.specs.Lists.{IsIn}
-use Rattle.metric_laws.proofs.Lists.{all_in, all_weaker, all_append, all_filter, flat_map-append, in-append_right, in-filter, in-map, length_map}
+use Rattle.metric_laws.proofs.Published.{all_in, all_weaker, all_append, all_filter, flat_map-append, in-append_right, in-filter, in-map, length_map}
 use Rattle.tree_shape.specs.declared.live.Live.{Live}
 use Rattle.tree_shape.specs.declared.entry.Node.{Node}
 use Rattle.tree_shape.specs.Tree.{Nodes, IsNodePage, times}
-use Rattle.tree_shape.proofs.Counting.{times-append}
+use Rattle.tree_shape.proofs.Published.{times-append}
 use Rattle.page_store.specs.declared.staging.Placed.{Placed}
 use Rattle.page_store.specs.declared.staging.StagedNode.{StagedNode}
 use Rattle.page_store.specs.Laws.{AreNew, PlacementsAreNew, TreesGoOn, NewTreesStand}

@@ -4,11 +4,11 @@ use Rattle.std.specs.Prelude.{IsTrue, nat_le, if◌then◌else◌, ◌==◌, ◌
 use Rattle.std.specs.List.{AllByRecursion, range_with_len}
 use Rattle.std.proofs.lemmas.Bool.Decides.{nat_tests}
 use Rattle.metric_laws.specs.Lists.{IsIn}
-use Rattle.metric_laws.proofs.Lists.{all_weaker}
+use Rattle.metric_laws.proofs.Published.{all_weaker}
 use Rattle.tree_shape.specs.declared.entry.Node.{Node}
 use Rattle.tree_shape.specs.declared.live.Live.{Live}
 use Rattle.tree_shape.specs.Tree.{Nodes, times, IsNodePage}
-use Rattle.tree_shape.proofs.Counting.{times-in as times-out}
+use Rattle.tree_shape.proofs.Published.{times-past}
 use Rattle.node_page.specs.Heads.{is_limit}
 use Rattle.node_page.specs.Nodes.{IsLawfulNode}
 use Rattle.node_page.specs.Opening.{IsLawfulLive}
@@ -38,7 +38,7 @@ given_out nodes t numbers outside within i =
     lower_or i (length numbers)
     (λ l. rw (number_in numbers t.pages i l) (at numbers i outside l))
     (λ h. let a = number_out numbers t.pages i h in
-    times-out (live_pages nodes t) (number_at numbers t.pages i) t.pages (all_weaker (IsNodePage t) (λ n. n < t.pages) (live_pages nodes t) (λ n k. k.1) within) (omega (arith, a)))
+    times-past (live_pages nodes t) (number_at numbers t.pages i) t.pages (all_weaker (IsNodePage t) (λ n. n < t.pages) (live_pages nodes t) (λ n k. k.1) within) (omega (arith, a)))
   where
     at : (xs : List ℕ) (i : ℕ) → AllByRecursion (λ n. times n (live_pages nodes t) ≡ 0) xs → i < length xs → times (get_or xs i 0) (live_pages nodes t) ≡ 0
     at [] i all low = absurd (omega arith)

@@ -7,7 +7,7 @@ use Rattle.metric_laws.specs.Lists.{IsIn}
 use Rattle.tree_shape.specs.declared.entry.LeafEntry.{LeafEntry}
 use Rattle.tree_shape.specs.Tree.{times, tag_of}
 use Rattle.tree_shape.specs.Plain.{Object, object_of}
-use Rattle.tree_shape.proofs.ById.{ids_of, times-in}
+use Rattle.tree_shape.proofs.Published.{ids_of, times-in}
 
 -- how often an id stands among objects
 abbrev pub with_id : ℕ → Object → Bool

@@ -15,3 +15,4 @@ pub mod OneTour
 pub mod Touring
 pub mod SoundTour
 pub mod Copied
+pub mod Published

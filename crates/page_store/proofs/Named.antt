@@ -3,10 +3,10 @@ use Rattle.std.proofs.Common.{◌≡◌, ℕ, ◌+◌, ◌≤◌, Bool, true, fa
 use Rattle.std.specs.Prelude.{◌==◌, if◌then◌else◌, cond, filter, map, not}
 use Rattle.std.specs.List.{flat_map}
 use Rattle.std.proofs.lemmas.Bool.Decides.{nat_tests}
-use Rattle.metric_laws.proofs.Lists.{flat_map-append}
+use Rattle.metric_laws.proofs.Published.{flat_map-append}
 use Rattle.tree_shape.specs.declared.entry.Node.{Node}
 use Rattle.tree_shape.specs.Tree.{Nodes, inner_entries, times}
-use Rattle.tree_shape.proofs.Counting.{times-append, counted}
+use Rattle.tree_shape.proofs.Published.{times-append, counted}
 use Rattle.page_store.specs.Reached.{named_in}
 use Rattle.page_store.specs.Numbers.{numbered}
 use Rattle.page_store.specs.Succession.{named_by, without}

@@ -4,14 +4,14 @@ use Rattle.std.specs.Prelude.{map, IsTrue}
 use Rattle.std.specs.List.{AllByRecursion, flat_map}
 use Rattle.std.proofs.lemmas.List.{append-nil}
 use Rattle.metric_laws.specs.Space.{Space}
-use Rattle.metric_laws.proofs.Lists.{all_weaker}
+use Rattle.metric_laws.proofs.Published.{all_weaker}
 use Rattle.tree_shape.specs.declared.entry.InnerEntry.{InnerEntry}
 use Rattle.tree_shape.specs.declared.entry.Node.{Node}
 use Rattle.tree_shape.specs.declared.entry.Node.TheVariants.{Leaf, Inner}
 use Rattle.tree_shape.specs.declared.live.Live.{Live}
 use Rattle.tree_shape.specs.Fill.{least_for}
 use Rattle.tree_shape.specs.Tree.{Nodes, IsSoundAt, IsSoundEntry, IsSoundTree, IsNodePage, inner_entries, objects_at, pages_at}
-use Rattle.tree_shape.proofs.Counting.{few}
+use Rattle.tree_shape.proofs.Published.{few}
 use Rattle.page_store.specs.declared.pages.PageFault.{PageFault}
 use Rattle.page_store.specs.declared.pages.PageFault.TheVariants.{Disk, Bad, Outside, Memory, Repeats, Level}
 use Rattle.page_store.specs.Placing.{live_pages}

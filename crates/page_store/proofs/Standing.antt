@@ -7,7 +7,7 @@ use Rattle.metric_laws.specs.Lists.{IsIn}
 use Rattle.tree_shape.specs.declared.entry.Node.{Node}
 use Rattle.tree_shape.specs.Tree.{Nodes, times}
 use Rattle.tree_shape.specs.Plain.{Tall, tree_at}
-use Rattle.tree_shape.proofs.Counting.{times-append}
+use Rattle.tree_shape.proofs.Published.{times-append}
 use Rattle.page_store.specs.Numbers.{numbered}
 use Rattle.page_store.specs.Placing.{level_of, staged_tree}
 

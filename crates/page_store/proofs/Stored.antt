@@ -2,7 +2,7 @@
 use Rattle.std.proofs.Common.{◌≡◌, ℕ, zero, suc, ◌≤◌, List, [], ◌∷◌, length, map, subst}
 use Rattle.std.specs.Prelude.{Option, Some, IsTrue}
 use Rattle.std.specs.List.{AllByRecursion}
-use Rattle.metric_laws.proofs.Lists.{all_map, length_map}
+use Rattle.metric_laws.proofs.Published.{all_map, length_map}
 use Rattle.metric_laws.specs.Space.{Space}
 use Rattle.tree_shape.specs.declared.entry.LeafEntry.{LeafEntry}
 use Rattle.tree_shape.specs.declared.entry.InnerEntry.{InnerEntry}
@@ -12,7 +12,7 @@ use Rattle.tree_shape.specs.Fill.{IsFilled, least_for}
 use Rattle.tree_shape.specs.Tree.{Nodes, leaf_entries, inner_entries, pages_at, objects_at, parent_distance, IsSoundObject, IsSoundEntry, IsSoundAt}
 use Rattle.tree_shape.specs.Plain.{Object, Branch, Plain, object_of, tree_at}
 use Rattle.tree_shape.specs.Sound.{ObjectFits, BranchCovers, IsSoundPlain}
-use Rattle.tree_shape.proofs.Reading.{same_objects}
+use Rattle.tree_shape.proofs.Published.{same_objects}
 
 -- an entry with what lies below it
 abbrev pub branch_at : Nodes → (h : ℕ) → InnerEntry → Branch (Plain h)

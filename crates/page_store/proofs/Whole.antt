@@ -5,13 +5,13 @@ use Rattle.std.specs.List.{AllByRecursion, flat_map}
 use Rattle.std.proofs.lemmas.Bool.Decides.{nat_tests}
 use Rattle.metric_laws.specs.Space.{Space}
 use Rattle.metric_laws.specs.Lists.{IsIn}
-use Rattle.metric_laws.proofs.Lists.{all_in, all_weaker, all_flat_map, flat_map-append, map-in}
+use Rattle.metric_laws.proofs.Published.{all_in, all_weaker, all_flat_map, flat_map-append, map-in}
 use Rattle.tree_shape.specs.declared.entry.InnerEntry.{InnerEntry}
 use Rattle.tree_shape.specs.declared.entry.Node.{Node}
 use Rattle.tree_shape.specs.declared.live.Live.{Live}
 use Rattle.tree_shape.specs.Fill.{least_for}
 use Rattle.tree_shape.specs.Tree.{Nodes, IsSoundAt, IsSoundEntry, inner_entries, objects_at, pages_at, times}
-use Rattle.tree_shape.proofs.Counting.{times-append, counted}
+use Rattle.tree_shape.proofs.Published.{times-append, counted}
 use Rattle.page_store.specs.Laws.{SoundTreesAreWhole, TreesStandOnPages}
 use Rattle.page_store.specs.Placing.{live_pages}
 use Rattle.page_store.specs.Reached.{IsReached, StandsOnPages, named_in}

@@ -6,9 +6,9 @@ use Rattle.std.proofs.lemmas.List.{append-nil}
 use Rattle.std.proofs.lemmas.List.Recursion.{is_sum_by}
 use Rattle.std.proofs.lemmas.List.Sorted.{Contains-permutation, IsPermutation-sym, IsPermutation-trans, IsPermutation-middle, IsPermutation-append_right, IsPermutation-append_left, IsPermutation-append_comm, IsPermutation-cons, IsPermutation-refl, sum_by-IsPermutation}
 use Rattle.metric_laws.specs.Lists.{IsIn}
-use Rattle.metric_laws.proofs.Lists.{in-append, in-append_left, in-append_right}
+use Rattle.metric_laws.proofs.Published.{in-append, in-append_left, in-append_right}
 use Rattle.tree_shape.specs.Tree.{times}
-use Rattle.tree_shape.proofs.Within.{in-flat_map}
+use Rattle.tree_shape.proofs.Published.{in-flat_map}
 use Rattle.pin_cursor.specs.declared.waiting.Candidate.{Candidate}
 
 -- ---- sums

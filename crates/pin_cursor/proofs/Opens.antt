@@ -5,7 +5,7 @@ use Rattle.std.specs.List.{flat_map}
 use Rattle.std.proofs.lemmas.List.{append-nil}
 use Rattle.metric_laws.specs.Space.{Space, IsSpace}
 use Rattle.metric_laws.specs.Lists.{IsIn}
-use Rattle.metric_laws.proofs.Lists.{all_in, all_weaker, in-append, in-map, flat_map-map}
+use Rattle.metric_laws.proofs.Published.{all_in, all_weaker, in-append, in-map, flat_map-map}
 use Rattle.tree_shape.specs.declared.live.Live.{Live}
 use Rattle.tree_shape.specs.declared.entry.LeafEntry.{LeafEntry}
 use Rattle.tree_shape.specs.declared.entry.InnerEntry.{InnerEntry}
@@ -13,10 +13,9 @@ use Rattle.tree_shape.specs.declared.entry.Node.{Node}
 use Rattle.tree_shape.specs.declared.entry.Node.TheVariants.{Leaf, Inner}
 use Rattle.tree_shape.specs.Fill.{least_for}
 use Rattle.tree_shape.specs.Tree.{Nodes, IsSoundAt, IsSoundTree, IsNodePage, objects_at, pages_at, leaf_entries, inner_entries}
-use Rattle.tree_shape.proofs.Within.{SoundSubtree, Fits, objects_fit, flat_map_agree, in-flat_map}
-use Rattle.tree_shape.proofs.Counting.{few}
+use Rattle.tree_shape.proofs.Published.{SoundSubtree, Fits, objects_fit, flat_map_agree, in-flat_map, few}
 use Rattle.page_store.specs.Placing.{live_pages}
-use Rattle.log_model.proofs.Walk.{map-append}
+use Rattle.log_model.proofs.Published.{map-append}
 use Rattle.pin_cursor.specs.declared.waiting.Subtree.{Subtree}
 use Rattle.pin_cursor.specs.declared.waiting.Candidate.{Candidate}
 use Rattle.pin_cursor.specs.Cursor.{OpenCursor, candidate_of, subtree_of, node_level, pages_below, coming, waiting, IsSubtreeOf, IsCursorOn}

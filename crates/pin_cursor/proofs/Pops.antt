@@ -5,16 +5,15 @@ use Rattle.std.specs.List.{flat_map}
 use Rattle.std.proofs.lemmas.Bool.Decides.{nat_tests}
 use Rattle.metric_laws.specs.Space.{Space, IsSpace, bound}
 use Rattle.metric_laws.specs.Lists.{IsIn}
-use Rattle.metric_laws.proofs.Lists.{all_in, in-append, in-append_left, in-append_right, in-map, map-in}
+use Rattle.metric_laws.proofs.Published.{all_in, in-append, in-append_left, in-append_right, in-map, map-in}
 use Rattle.scan_model.specs.declared.hit.Hit.{Hit}
 use Rattle.scan_model.specs.Scan.{nearest_hits, range_hits}
 use Rattle.scan_model.specs.Laws.{Ascends, HitBefore, IsRangeAnswer}
-use Rattle.scan_model.proofs.RangeLaw.{range_answers}
+use Rattle.scan_model.proofs.Published.{range_answers}
 use Rattle.tree_shape.specs.declared.entry.LeafEntry.{LeafEntry}
 use Rattle.tree_shape.specs.Tree.{Nodes, IsSoundAt, IsSoundTree, objects_at, objects, points_by_id, tags_by_id, tags_from, tag_of}
-use Rattle.page_store.proofs.Ids.{tag_of-in, once_counted}
-use Rattle.log_model.proofs.ByScan.{AreIds, length-points, id_below, at_id}
-use Rattle.log_model.proofs.Hits.{ascends_take}
+use Rattle.page_store.proofs.Published.{tag_of-in, once_counted}
+use Rattle.log_model.proofs.Published.{AreIds, length-points, id_below, at_id, ascends_take}
 use Rattle.pin_cursor.specs.declared.waiting.Subtree.{Subtree}
 use Rattle.pin_cursor.specs.declared.waiting.Candidate.{Candidate}
 use Rattle.pin_cursor.specs.Order.{IsReach, AllBeyond, IsFirst}

@@ -6,20 +6,19 @@ use Rattle.std.specs.Ordering.{is_gt}
 use Rattle.std.proofs.lemmas.List.{append-nil, take_all}
 use Rattle.metric_laws.specs.Space.{Space, IsSpace, bound}
 use Rattle.metric_laws.specs.Lists.{IsIn}
-use Rattle.metric_laws.proofs.Lists.{all_in, in-map}
+use Rattle.metric_laws.proofs.Published.{all_in, in-map}
 use Rattle.scan_model.specs.declared.hit.Hit.{Hit}
 use Rattle.scan_model.specs.Hits.{hit_cmp}
 use Rattle.scan_model.specs.Ordered.{put, ordered}
 use Rattle.scan_model.specs.Scan.{hits_from, is_within, nearest_hits, range_hits}
-use Rattle.scan_model.proofs.RangeLaw.{range_answers}
+use Rattle.scan_model.proofs.Published.{range_answers}
 use Rattle.tree_shape.specs.declared.live.Live.{Live}
 use Rattle.tree_shape.specs.declared.entry.LeafEntry.{LeafEntry}
 use Rattle.tree_shape.specs.Fill.{root_least}
 use Rattle.tree_shape.specs.Tree.{Nodes, IsSoundTree, objects_at, objects, pages_at, points_by_id, times}
-use Rattle.tree_shape.proofs.ById.{ids_of}
-use Rattle.tree_shape.proofs.Within.{Fits, objects_fit}
-use Rattle.page_store.proofs.Ids.{once_counted}
-use Rattle.log_model.proofs.ByScan.{length-points, id_below}
+use Rattle.tree_shape.proofs.Published.{ids_of, Fits, objects_fit}
+use Rattle.page_store.proofs.Published.{once_counted}
+use Rattle.log_model.proofs.Published.{length-points, id_below}
 use Rattle.pin_cursor.specs.declared.waiting.Candidate.{Candidate}
 use Rattle.pin_cursor.specs.Cursor.{root_of, begun, candidate_of, hit_of, node_level, pages_below, coming, waiting, rest_of, IsSubtreeOf, IsCursorOn}
 use Rattle.pin_cursor.proofs.Pops.{level_is}

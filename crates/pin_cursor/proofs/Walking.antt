@@ -3,11 +3,11 @@ use Rattle.std.proofs.Common.{◌≡◌, ℕ, ◌+◌, ◌≤◌, List, [], ◌�
 use Rattle.std.specs.Prelude.{map, if◌then◌else◌, ◌==◌, IsPermutation}
 use Rattle.metric_laws.specs.Lists.{IsIn}
 use Rattle.metric_laws.specs.Space.{Space}
-use Rattle.metric_laws.proofs.Lists.{map-in}
+use Rattle.metric_laws.proofs.Published.{map-in}
 use Rattle.tree_shape.specs.declared.entry.InnerEntry.{InnerEntry}
 use Rattle.tree_shape.specs.declared.entry.Node.{Node}
 use Rattle.tree_shape.specs.Tree.{Nodes, inner_entries, times}
-use Rattle.tree_shape.proofs.Counting.{times-append}
+use Rattle.tree_shape.proofs.Published.{times-append}
 use Rattle.nearest_search.specs.Walks.{HasOpened, OpensBefore, named_of}
 use Rattle.pin_cursor.specs.declared.waiting.Subtree.{Subtree}
 use Rattle.pin_cursor.specs.Cursor.{subtree_of}

@@ -6,7 +6,7 @@ use Rattle.std.specs.List.{flat_map}
 use Rattle.metric_laws.specs.Space.{Space, IsSpace}
 use Rattle.metric_laws.specs.Counts.{next_count, count_up, CountsUpTo}
 use Rattle.metric_laws.specs.Lists.{IsIn}
-use Rattle.metric_laws.proofs.Lists.{in-append, in-map, length_map}
+use Rattle.metric_laws.proofs.Published.{in-append, in-map, length_map}
 use Rattle.scan_model.specs.declared.hit.Hit.{Hit}
 use Rattle.scan_model.specs.Scan.{nearest_hits}
 use Rattle.tree_shape.specs.declared.live.Live.{Live}
@@ -20,8 +20,7 @@ use Rattle.page_store.specs.Reached.{IsReached}
 use Rattle.page_store.specs.Reached.IsReached.{at_root, by_child}
 use Rattle.page_store.specs.Reading.{Read, IsWithin, is_within, nodes_of, node_or_none}
 use Rattle.page_store.specs.Shelf.{Shelf, HoldsSame, HasPageCause, IsPassing}
-use Rattle.log_model.proofs.Reached.{count_up_more}
-use Rattle.log_model.proofs.Walk.{map-append}
+use Rattle.log_model.proofs.Published.{count_up_more, map-append}
 use Rattle.pin_cursor.specs.declared.waiting.Subtree.{Subtree}
 use Rattle.pin_cursor.specs.declared.waiting.Candidate.{Candidate}
 use Rattle.pin_cursor.specs.Order.{IsReach, AllBeyond, IsFirst}
@@ -31,7 +30,7 @@ use Rattle.pin_cursor.proofs.Lists.{in-permutation_back, drop_add, take_more, ta
 use Rattle.pin_cursor.proofs.Pops.{standing, given_first, given_stands, given_tag}
 use Rattle.pin_cursor.proofs.Walking.{walk_opens, opens_before}
 use Rattle.pin_cursor.proofs.Opens.{page_there, node_there, opens_room, opened_stands}
-use Rattle.page_store.proofs.Held.{holds_none, holds_both}
+use Rattle.page_store.proofs.Published.{holds_none, holds_both}
 
 objects_few : (dim : ℕ) (node : Node) → IsLawfulNode dim node → length (leaf_entries (Some node)) ≤ 32
 objects_few dim (Leaf es) lawful = let few = lawful.0 in omega arith

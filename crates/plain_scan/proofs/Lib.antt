@@ -2,3 +2,4 @@ mod Numbers
 mod Closing
 mod Mapped
 pub mod WrittenLemmas
+pub mod Published

@@ -2,18 +2,14 @@
 use Rattle.std.proofs.Common.{◌≡◌, ◌≢◌, ℕ, ◌+◌, ◌*◌, ◌<◌, ◌≤◌, Bool, true, false, List, [], ◌∷◌, refl, sym, ap, arith, ◌∙◌, length, map, subst}
 use Rattle.std.specs.Prelude.{if◌then◌else◌}
 use Rattle.std.specs.List.{AllByRecursion}
-use Rattle.metric_laws.proofs.Lists.{all_map, length_map}
+use Rattle.metric_laws.proofs.Published.{all_map, length_map}
 use Rattle.metric_laws.specs.Space.{Space, bound}
 use Rattle.tree_growth.specs.Dealing.{Ball, Table, size, row, table_of, is_on, count_on, members, partitioned, promoted, point_at, IsPair}
 use Rattle.tree_growth.specs.Insertion.{taken, left}
 use Rattle.tree_growth.specs.Splits.{IsFairPartition}
 use Rattle.tree_growth.specs.declared.rules.Side.{Side}
 use Rattle.tree_growth.specs.declared.rules.Side.TheVariants.{First, Second, Open}
-use Rattle.tree_growth.proofs.Fair.{tally, count_is_tally, tally_members, IsFair, fair}
-use Rattle.tree_growth.proofs.Lawful.{taken_tally, left_tally}
-use Rattle.tree_growth.proofs.Kept.{parts_long}
-use Rattle.tree_growth.proofs.Parted.{partition_is_fair}
-use Rattle.tree_growth.proofs.TableRows.{row_of_table}
+use Rattle.tree_growth.proofs.Published.{tally_sides, count_is_tally, tally_members, IsFair, fair, taken_tally, left_tally, parts_long, partition_is_fair, row_of_table}
 use Rattle.promote_split.specs.declared.halves.Halves.{Halves}
 use Rattle.promote_split.specs.Steps.{half_entries}
 use Rattle.promote_split.specs.Halves.{AreNear, IsSplitBy, IsSplit}
@@ -46,7 +42,7 @@ half_taken {E} set ball g on (s ∷ sides) (e ∷ es) = cases (is_on on s) (half
     cases false ih = ih
 
 -- the half with the second side, where no entry is open
-pub half_left : {E : Type 0} (set : E → ℕ → E) (ball : E → Ball) (g : Ball → ℕ) (sides : List Side) (es : List E) → length sides ≡ length es → tally Open sides ≡ 0 →
+pub half_left : {E : Type 0} (set : E → ℕ → E) (ball : E → Ball) (g : Ball → ℕ) (sides : List Side) (es : List E) → length sides ≡ length es → tally_sides Open sides ≡ 0 →
     half_entries set Second (map g (map ball es)) sides es ≡ map (λ e. set e (g (ball e))) (left (map (is_on First) sides) es)
 half_left set ball g [] [] long none = refl
 half_left set ball g [] (e ∷ es) long none = absurd (omega arith)

@@ -5,3 +5,4 @@ pub mod Ordering
 pub mod Logs
 pub mod Whole
 pub mod Framing
+pub mod Published

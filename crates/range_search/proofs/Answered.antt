@@ -17,9 +17,7 @@ use Rattle.log_model.specs.Grammar.{IsLawfulQuery}
 use Rattle.log_model.specs.Walk.{Search, AreLeast, WalksBy, search_at, root_need}
 use Rattle.log_model.specs.Sound.{IsLeastLog, search_for, selected}
 use Rattle.log_model.specs.Laws.{scan_answers}
-use Rattle.log_model.proofs.Lawful.{lawful_log}
-use Rattle.log_model.proofs.LeastLog.{sound_complete, least_sound}
-use Rattle.log_model.proofs.Reached.{reached_inside, walks_whole}
+use Rattle.log_model.proofs.Published.{lawful_log, sound_complete, least_sound, reached_inside, walks_whole}
 use Rattle.range_search.specs.Searched.{IsUnderWay, IsFound, Needs, HasWalkCause}
 
 -- a log of the least walk is the least log of a range

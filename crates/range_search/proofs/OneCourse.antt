@@ -6,7 +6,7 @@ use Rattle.tree_shape.specs.Tree.{Nodes}
 use Rattle.log_model.specs.declared.marks.Record.{Record}
 use Rattle.log_model.specs.declared.marks.Need.{Need}
 use Rattle.log_model.specs.Walk.{Search, WalksBy, ReachesBy, AreLeast, least_marks, needs_of, root_need}
-use Rattle.log_model.proofs.Walk.{same_node}
+use Rattle.log_model.proofs.Published.{same_node}
 use Rattle.range_search.specs.Searched.{Needs}
 use Rattle.range_search.specs.Laws.{WalkHasOneCourse}
 

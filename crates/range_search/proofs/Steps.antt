@@ -2,7 +2,7 @@
 use Rattle.std.proofs.Common.{◌≡◌, ℕ, suc, ◌+◌, ◌<◌, ◌≤◌, false, List, [], ◌∷◌, ◌++◌, refl, sym, ap, ◌∙◌, Some, Err, arith, length, length-append, subst, reverse}
 use Rattle.std.specs.Prelude.{IsTrue}
 use Rattle.metric_laws.specs.Counts.{next_count, count_up}
-use Rattle.metric_laws.proofs.Lists.{all_append}
+use Rattle.metric_laws.proofs.Published.{all_append}
 use Rattle.scan_model.specs.declared.hit.Hit.{Hit}
 use Rattle.tree_shape.specs.declared.live.Live.{Live}
 use Rattle.tree_shape.specs.declared.entry.Node.{Node}
@@ -18,10 +18,9 @@ use Rattle.log_model.specs.declared.traversal.Traversal.{Traversal}
 use Rattle.log_model.specs.Counts.{measured, measured_by, entry_count}
 use Rattle.log_model.specs.Steps.{TakesNode}
 use Rattle.log_model.specs.Walk.{Search, AreLeast, ReachesBy, least_marks, hits_of, record_of, root_need}
-use Rattle.log_model.proofs.Lawful.{marks_long, hits_few}
-use Rattle.log_model.proofs.Reached.{reaches_more, count_up_more, count_up_both, measured-append}
+use Rattle.log_model.proofs.Published.{marks_long, hits_few, reaches_more, count_up_more, count_up_both, measured-append}
 use Rattle.range_search.specs.Searched.{IsUnderWay, Needs, HasWalkCause}
-use Rattle.page_store.proofs.Held.{holds_both, told_then}
+use Rattle.page_store.proofs.Published.{holds_both, told_then}
 
 -- a node has at most 32 entries
 entries_few : (dim : ℕ) (node : Node) → IsLawfulNode dim node → entry_count node ≤ 32

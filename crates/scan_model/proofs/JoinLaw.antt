@@ -5,7 +5,7 @@ use Rattle.std.specs.List.{AllByRecursion}
 use Rattle.std.proofs.lemmas.Bool.Decides.{nat_tests}
 use Rattle.metric_laws.specs.Lists.{IsIn}
 use Rattle.metric_laws.specs.Space.{Space}
-use Rattle.metric_laws.proofs.Lists.{all_filter, all_weaker, all_append, in-filter, filter-in, in-append_left, in-append_right, in-append}
+use Rattle.metric_laws.proofs.Published.{all_filter, all_weaker, all_append, in-filter, filter-in, in-append_left, in-append_right, in-append}
 use Rattle.scan_model.specs.declared.hit.Pair.{Pair}
 use Rattle.scan_model.specs.Join.{pairs_from, all_pairs, is_close, join_pairs}
 use Rattle.scan_model.specs.Laws.{Ascends, PairBefore, IsJoinAnswer}

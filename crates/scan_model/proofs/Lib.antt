@@ -4,3 +4,4 @@ mod JoinLemmas
 pub mod RangeLaw
 pub mod JoinLaw
 mod NearestLaw
+pub mod Published

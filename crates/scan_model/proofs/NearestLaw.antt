@@ -7,7 +7,7 @@ use Rattle.std.proofs.lemmas.List.{length-take}
 use Rattle.std.proofs.lemmas.List.Elements.{recursion_from_All, All-get_or}
 use Rattle.metric_laws.specs.Lists.{IsIn}
 use Rattle.metric_laws.specs.Space.{Space, IsSpace, bound}
-use Rattle.metric_laws.proofs.Lists.{all_in, filter_all}
+use Rattle.metric_laws.proofs.Published.{all_in, filter_all}
 use Rattle.scan_model.specs.declared.hit.Hit.{Hit}
 use Rattle.scan_model.specs.Hits.{hit_cmp}
 use Rattle.scan_model.specs.Scan.{hits_from, is_within, range_hits}

@@ -7,7 +7,7 @@ use Rattle.std.proofs.lemmas.Bool.{cases_Bool}
 use Rattle.std.proofs.lemmas.Bool.Decides.{nat_tests}
 use Rattle.metric_laws.specs.Lists.{IsIn}
 use Rattle.metric_laws.specs.Space.{Space}
-use Rattle.metric_laws.proofs.Lists.{all_filter, all_weaker, in-filter, filter-in}
+use Rattle.metric_laws.proofs.Published.{all_filter, all_weaker, in-filter, filter-in}
 use Rattle.scan_model.specs.declared.hit.Hit.{Hit}
 use Rattle.scan_model.specs.Hits.{hit_cmp}
 use Rattle.scan_model.specs.Ordered.{put, ordered}

@@ -6,7 +6,7 @@ use Rattle.metric_mix.specs.MixSpaces.{mix_space}
 use Rattle.tree_shape.specs.declared.live.Live.{Live}
 use Rattle.node_page.specs.declared.head.Head.{Head}
 use Rattle.node_page.specs.Opening.{OpensTo}
-use Rattle.node_page.proofs.Opened.{live_is}
+use Rattle.node_page.proofs.Published.{live_is}
 use Rattle.page_store.specs.Reading.{reading}
 use Rattle.tree_audit.specs.Audited.{audit_fault}
 use Rattle.seal_log.specs.Digests.{root_digest}

@@ -11,11 +11,10 @@ use Rattle.tree_shape.specs.declared.live.Live.{Live}
 use Rattle.tree_shape.specs.declared.entry.Node.{Node}
 use Rattle.node_page.specs.declared.head.Head.{Head}
 use Rattle.node_page.specs.Opening.{page_of, OpensTo}
-use Rattle.node_page.proofs.HeadLaws.{head_is}
-use Rattle.node_page.proofs.Opened.{live_is}
+use Rattle.node_page.proofs.Published.{head_is, live_is}
 use Rattle.page_store.specs.declared.pages.PageFault.{PageFault}
 use Rattle.page_store.specs.declared.pages.PageFault.TheVariants.{Outside}
-use Rattle.page_store.proofs.PageBytes.{length-page_of}
+use Rattle.page_store.proofs.Published.{length-page_of}
 use Rattle.page_store.specs.Files.{IsSoundFile, nodes_in}
 use Rattle.page_store.specs.Reading.{is_within, reading_in, reading, nodes_of, node_or_none}
 use Rattle.log_model.specs.declared.marks.Record.{Record}
@@ -25,15 +24,13 @@ use Rattle.log_model.specs.Grammar.{IsLawfulLog}
 use Rattle.log_model.specs.Walk.{Search, Rule, AreAllowed, WalksBy, needs_of, root_need}
 use Rattle.log_model.specs.Sound.{IsSoundLog, search_for}
 use Rattle.log_verify.specs.Judged.{log_fault}
-use Rattle.log_verify.proofs.Soundness.{none_from_sound}
+use Rattle.log_verify.proofs.Published.{none_from_sound}
 use Rattle.prune_log.specs.declared.fault.LogFault.{LogFault}
 use Rattle.prune_log.specs.Ranges.{LogInRange}
 use Rattle.prune_log.specs.Spelling.{log_bytes}
 use Rattle.prune_log.specs.Reading.{log_at, whole}
 use Rattle.prune_log.specs.Laws.{SpellsLog}
-use Rattle.prune_log.proofs.Exact.{ok_is}
-use Rattle.prune_log.proofs.Whole.{whole_again}
-use Rattle.prune_log.proofs.Logs.{IsLog, log_reader}
+use Rattle.prune_log.proofs.Published.{ok_is, whole_again, IsLog, log_reader}
 use Rattle.seal_log.specs.declared.parts.CarriedPage.{CarriedPage}
 use Rattle.seal_log.specs.declared.parts.Parts.{Parts}
 use Rattle.seal_log.specs.Digests.{levels_over, leaf_digests, root_digest}

@@ -5,7 +5,7 @@ use Rattle.std.proofs.lemmas.Bool.{ltb-true, eqb-true, eq-eqb}
 use Rattle.std.proofs.lemmas.List.{get_or-replicate, length-replicate}
 use Rattle.disk_model.specs.Memory.Files.{length-tabulated, place-tabulated}
 use Rattle.node_page.specs.Opening.{page_of}
-use Rattle.page_store.proofs.PageBytes.{page_is}
+use Rattle.page_store.proofs.Published.{page_is}
 use Rattle.seal_log.specs.declared.parts.CarriedPage.{CarriedPage}
 use Rattle.seal_log.specs.Spelling.{is_behind, AreInPlace, IsCarriedPage}
 use Rattle.seal_log.specs.Judged.{bytes_of, HasPageSize, carried_file, is_carried}

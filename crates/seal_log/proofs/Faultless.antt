@@ -11,8 +11,7 @@ use Rattle.prune_log.specs.Ranges.{IsBytes}
 use Rattle.prune_log.specs.Spelling.{log_bytes}
 use Rattle.prune_log.specs.Reading.{log_at, whole, fault_of, log_fault}
 use Rattle.prune_log.specs.Laws.{SpellsLog}
-use Rattle.prune_log.proofs.Whole.{whole_takes, whole_again, no_fault}
-use Rattle.prune_log.proofs.Logs.{IsLog, log_reader}
+use Rattle.prune_log.proofs.Published.{whole_takes, whole_again, no_fault, IsLog, log_reader}
 use Rattle.std.specs.Prelude.{IfOk}
 use Rattle.seal_log.specs.declared.faults.ProofFault.{ProofFault}
 use Rattle.seal_log.specs.declared.faults.ProofFault.TheVariants as faults

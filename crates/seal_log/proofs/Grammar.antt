@@ -10,8 +10,7 @@ use Rattle.prune_log.specs.declared.fault.LogFault.TheVariants as faults
 use Rattle.prune_log.specs.Ranges.{IsBytes}
 use Rattle.prune_log.specs.Spelling.{listed, frame_bytes}
 use Rattle.prune_log.specs.Reading.{◌>>=◌, byte_at, number_at, front_at}
-use Rattle.prune_log.proofs.Exact.{IsBytes-take, IsBytes-drop, bind_ok, guard_ok, not_cut, ok_is, Takes, Takes-then, IsReader, wide32, wide64, number_reader, byte_takes}
-use Rattle.prune_log.proofs.Things.{IsShort, short_reader}
+use Rattle.prune_log.proofs.Published.{IsBytes-take, IsBytes-drop, bind_ok, guard_ok, not_cut, ok_is, Takes, Takes-then, IsReader, wide32, wide64, number_reader, byte_takes, IsShort, short_reader}
 use Rattle.seal_log.specs.declared.parts.CarriedPage.{CarriedPage}
 use Rattle.seal_log.specs.declared.parts.Parts.{Parts}
 use Rattle.seal_log.specs.Spelling.{magic, digest_bytes, page_bytes, opening_bytes, parts_bytes, carried_bytes, may_follow, IsDigest, IsCarriedPage, AreInPlace, AreLawful}

@@ -16,3 +16,4 @@ pub mod Needed
 pub mod PathSizes
 pub mod Leading
 pub mod Accepting
+pub mod Published

@@ -3,7 +3,7 @@ use Rattle.std.proofs.Common.{◌≡◌, ℕ, suc, ◌-◌, ◌+◌, ◌≤◌, 
 use Rattle.std.proofs.lemmas.List.{append-nil}
 use Rattle.prune_log.specs.declared.fault.LogFault.{LogFault}
 use Rattle.prune_log.specs.Reading.{◌>>=◌, Fails, next_at, always}
-use Rattle.prune_log.proofs.Loop.{with_front}
+use Rattle.prune_log.proofs.Published.{with_front}
 use Rattle.seal_log.specs.declared.parts.CarriedPage.{CarriedPage}
 use Rattle.seal_log.specs.Reading.{page_at, pages_at}
 

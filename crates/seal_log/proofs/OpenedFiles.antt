@@ -9,8 +9,7 @@ use Rattle.node_page.specs.declared.head.HeadFault.TheVariants as heads
 use Rattle.node_page.specs.Slots.{SpellsSlot}
 use Rattle.node_page.specs.Heads.{SpellsHead, IsLawfulHead, is_space, head_of, head_fault}
 use Rattle.node_page.specs.Opening.{page_of, is_open, generation_of, slot_of_live, IsLawfulLive, OpensTo, Unopened, after_head, slot_fault, live_of, open_fault}
-use Rattle.node_page.proofs.HeadLaws.{head_is, none_by_spells}
-use Rattle.node_page.proofs.Opened.{opens_by_none, none_by_opens, live_is}
+use Rattle.node_page.proofs.Published.{head_is, no_head_fault, opens_by_none, none_by_opens, live_is}
 use Rattle.seal_log.specs.declared.faults.ProofFault.{ProofFault}
 use Rattle.seal_log.specs.declared.faults.ProofFault.TheVariants as faults
 use Rattle.seal_log.specs.Judged.{first_fault, opening_fault, live_fault, slots_fault, after_slots}
@@ -148,7 +147,7 @@ pub no_live_slot : (file : List ℕ) (pages : ℕ) (head : Head) → length file
     → ((live : Live) → IsLiveOf (page_of file 1) (page_of file 2) head.limit pages live → ⊥) → slots_fault pages file ≡ Some faults.Slot
 unfolding opening_fault live_fault open_fault
 no_live_slot file pages head size some spells second none =
-    let spelled = none_by_spells (page_of file 0) head spells in
+    let spelled = no_head_fault (page_of file 0) head spells in
     let version : ((head_of (page_of file 0)).version == 2) ≡ true = eq-eqb (head_of (page_of file 0)).version 2 (ap (λ (h : Head). h.version) (head_is (page_of file 0) head spells) ∙ second) in
     let short : nat_lt (length file) 12288 ≡ false = le-ltb (length file) 12288 (omega (arith, size)) in
     rw (spelled, version)
@@ -166,7 +165,7 @@ no_live_slot file pages head size some spells second none =
 
 -- a head of another version
 pub other_version : (page : List ℕ) (head : Head) → SpellsHead page head → head.version ≢ 2 → judged.after_head (head_fault page) (head_of page) ≡ Some (faults.Head heads.Version)
-other_version page head spells other = rw (none_by_spells page head spells, head_is page head spells) (by_test (head.version == 2) (eqb-true head.version 2))
+other_version page head spells other = rw (no_head_fault page head spells, head_is page head spells) (by_test (head.version == 2) (eqb-true head.version 2))
   where
     by_test : (b : Bool) → (b ≡ true → head.version ≡ 2) → cond b None (Some (faults.Head heads.Version)) ≡ Some (faults.Head heads.Version)
     by_test true told = absurd (other (told refl))

@@ -9,23 +9,22 @@ use Rattle.node_page.specs.declared.node.Version.TheVariants.{Second}
 use Rattle.node_page.specs.Heads.{SpellsHead}
 use Rattle.node_page.specs.Nodes.{fault_in, node_in}
 use Rattle.node_page.specs.Opening.{page_of, OpensTo}
-use Rattle.node_page.proofs.HeadLaws.{head_is}
-use Rattle.node_page.proofs.Opened.{live_is}
-use Rattle.page_store.proofs.PageBytes.{length-page_of}
+use Rattle.node_page.proofs.Published.{head_is, live_is}
+use Rattle.page_store.proofs.Published.{length-page_of}
 use Rattle.page_store.specs.Files.{IsSoundFile, nodes_in, points_in}
 use Rattle.page_store.specs.Reading.{is_within, judged, reading_in, reading}
 use Rattle.page_store.specs.declared.pages.PageFault.TheVariants.{Outside}
 use Rattle.log_model.specs.declared.marks.Record.{Record}
 use Rattle.log_model.specs.declared.logs.Log.{Log}
 use Rattle.log_model.specs.Laws.{scan_answers}
-use Rattle.log_model.proofs.LeastLog.{sound_complete}
+use Rattle.log_model.proofs.Published.{sound_complete}
 use Rattle.log_verify.specs.declared.faults.Verdict.{Verdict}
 use Rattle.log_verify.specs.declared.faults.Verdict.TheVariants as verdicts
 use Rattle.log_verify.specs.Causes.{HasCause}
 use Rattle.log_verify.specs.Judged.{log_fault}
 use Rattle.page_store.specs.Shelves.{image_shelf}
 use Rattle.page_store.specs.declared.pages.PageFault.TheVariants as pages
-use Rattle.log_verify.proofs.Soundness.{sound_from_none}
+use Rattle.log_verify.proofs.Published.{sound_from_none}
 use Rattle.seal_log.specs.declared.faults.ProofFault.{ProofFault}
 use Rattle.seal_log.specs.declared.faults.ProofFault.TheVariants as faults
 use Rattle.seal_log.specs.declared.parts.CarriedPage.{CarriedPage}

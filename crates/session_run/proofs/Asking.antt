@@ -18,7 +18,7 @@ use Rattle.log_model.specs.Grammar.{IsLawfulLog}
 use Rattle.log_model.specs.Laws.{scan_answers}
 use Rattle.log_model.specs.Sound.{IsSoundLog}
 use Rattle.tree_shape.specs.Tree.{tags_by_id}
-use Rattle.log_model.proofs.LeastLog.{least_sound}
+use Rattle.log_model.proofs.Published.{least_sound}
 use Rattle.range_search.specs.Searched.{HasWalkCause}
 use Rattle.nearest_search.specs.Searched.{HasNearestCause}
 use Rattle.metric_laws.specs.Counts.{count_up}
@@ -31,7 +31,7 @@ use Rattle.index_core.specs.Causes.{HasReadCause, MayComeAnytime}
 use Rattle.index_core.specs.Damage.{BlamesDamage}
 use Rattle.index_core.specs.Files.{OpenFile, IsLawfulFile, OnlyReads, nodes_on, pages_on}
 use Rattle.index_core.specs.Index.{OpenIndex, StandsAlone}
-use Rattle.index_core.proofs.Written.{reads_both}
+use Rattle.index_core.proofs.Published.{reads_both}
 use Rattle.session_run.specs.declared.answer.Answer.{Answer}
 use Rattle.session_run.specs.declared.stop.Stop.{Stop}
 use Rattle.session_run.specs.declared.stop.Stop.TheVariants as stop
@@ -42,7 +42,7 @@ use Rattle.answer_texts.specs.Asked.{Held, HasLog, answered_query}
 use Rattle.session_run.specs.Turns.{held_on}
 use Rattle.session_run.proofs.Faults.{blames_stands}
 use Rattle.session_run.proofs.Reading.{read_stepped, read_stopped, read_taken, sound_still, held_still}
-use Rattle.outside_io.proofs.Rising.{rose_before}
+use Rattle.outside_io.proofs.Published.{rose_before}
 
 -- what ends a walk ends the session with the same cause
 pub fault_cause : {Sound : Type 0} (before after : DiskState) (walk : PageFault → Type 0) (why : IndexFault) → HasReadCause walk why → (walk page.Disk → Rose before.faults after.faults) →

@@ -14,7 +14,7 @@ use Rattle.tree_shape.specs.Plain.{Object}
 use Rattle.tree_shape.specs.Tree.{objects}
 use Rattle.page_store.specs.declared.pages.PageFault.{PageFault}
 use Rattle.page_store.specs.declared.pages.PageFault.TheVariants as page
-use Rattle.log_model.proofs.ByScan.{length-points}
+use Rattle.log_model.proofs.Published.{length-points}
 use Rattle.index_core.specs.declared.faults.IndexFault.{IndexFault}
 use Rattle.index_core.specs.declared.faults.IndexFault.TheVariants as fault
 use Rattle.index_core.specs.Answers.{IsSoundOn, points_on, tags_on}

@@ -13,3 +13,4 @@ pub mod Stepped
 pub mod Turning
 pub mod Runs
 pub mod Meanings
+pub mod Published

@@ -14,7 +14,7 @@ use Rattle.rows_text.specs.Meaning.{Step, accepts, execute, has_points_of, step,
 use Rattle.plain_scan.specs.OpenCursors.{OpenCursors, opened}
 use Rattle.tree_shape.specs.Tree.{objects}
 use Rattle.page_store.specs.Kept.{unchanged_by_none}
-use Rattle.log_model.proofs.ByScan.{length-points}
+use Rattle.log_model.proofs.Published.{length-points}
 use Rattle.index_core.specs.Answers.{IsSoundOn}
 use Rattle.index_core.specs.Files.{OpenFile, IsLawfulFile, OnlyReads, nodes_on}
 use Rattle.index_core.specs.Index.{OpenIndex, StandsAlone}

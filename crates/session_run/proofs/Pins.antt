@@ -3,7 +3,7 @@ use Rattle.std.proofs.Common.{◌≡◌, ℕ, ◌==◌, Bool, true, false, List,
 use Rattle.std.specs.Prelude.{MatchOption, filter, find, not}
 use Rattle.std.specs.List.{AllByRecursion, AllZip, list_any}
 use Rattle.metric_laws.specs.Lists.{IsIn}
-use Rattle.metric_laws.proofs.Lists.{in-append_left, in-append_right}
+use Rattle.metric_laws.proofs.Published.{in-append_left, in-append_right}
 use Rattle.metric_laws.specs.Space.{Space}
 use Rattle.disk_model.specs.Disk.{DiskState}
 use Rattle.tree_shape.specs.Tree.{Nodes}

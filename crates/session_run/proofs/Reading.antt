@@ -17,7 +17,7 @@ use Rattle.index_core.specs.Answers.{IsSoundOn, points_on, tags_on}
 use Rattle.index_core.specs.Files.{OpenFile, IsLawfulFile, OnlyReads}
 use Rattle.index_core.specs.Index.{OpenIndex, StandsAlone}
 use Rattle.index_core.specs.Writing.{HasObjects}
-use Rattle.index_core.proofs.Written.{holds, has_still}
+use Rattle.index_core.proofs.Published.{holds, has_still}
 use Rattle.session_run.specs.declared.answer.Answer.{Answer}
 use Rattle.session_run.specs.declared.stop.Stop.{Stop}
 use Rattle.session_run.specs.Session.{HoldsState, IsAsking, StandsBy, most_read, setting_of, state_on}

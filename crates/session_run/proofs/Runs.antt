@@ -18,11 +18,11 @@ use Rattle.log_model.specs.declared.logs.Log.{Log}
 use Rattle.answer_texts.specs.Answered.{commands_of, framed, if_any, logs_of, texts_of}
 use Rattle.answer_texts.specs.Asked.{Held}
 use Rattle.answer_texts.specs.Put.{AreCut}
-use Rattle.answer_texts.proofs.Behind.{cut_behind, framed_both}
+use Rattle.answer_texts.proofs.Published.{cut_behind, framed_both}
 use Rattle.index_core.specs.Answers.{IsSoundOn}
 use Rattle.index_core.specs.Files.{OpenFile, IsLawfulFile}
 use Rattle.index_core.specs.Index.{OpenIndex, StandsAlone}
-use Rattle.index_core.proofs.Written.{holds}
+use Rattle.index_core.proofs.Published.{holds}
 use Rattle.session_run.specs.declared.pinned.PinnedCursor.{PinnedCursor}
 use Rattle.session_run.specs.declared.pinned.PinnedCursors.{PinnedCursors}
 use Rattle.session_run.specs.declared.stop.Stop.{Stop}
@@ -32,7 +32,7 @@ use Rattle.session_run.specs.Session.{Ends, Grew, HasRun, HasStopCause, HoldsNex
 use Rattle.session_run.specs.Steps.{HasTurned, HoldsEither, HoldsOne, IsPartlyPut, IsPut, IsStoppedAt}
 use Rattle.session_run.specs.Turns.{AreTurns, IsTurn, Turn, answers_of, file_after, state_after, held_on}
 use Rattle.session_run.proofs.Reading.{objects_on}
-use Rattle.outside_io.proofs.Rising.{rose_before}
+use Rattle.outside_io.proofs.Published.{rose_before}
 
 -- ---- one turn more at the end
 are_more : (setting : Setting) (head : Head) (state : State) (file : Held) (turns : List Turn) (t : Turn) → AreTurns setting head state file turns →

@@ -5,7 +5,7 @@ use Rattle.std.specs.List.{AllByRecursion, AllZip, position}
 use Rattle.std.proofs.lemmas.List.{drop-drop, drop_min, drop-map, length-take, take-map}
 use Rattle.metric_laws.specs.Lists.{IsIn}
 use Rattle.metric_laws.specs.Space.{Space, IsSpace}
-use Rattle.metric_laws.proofs.Lists.{all_append}
+use Rattle.metric_laws.proofs.Published.{all_append}
 use Rattle.disk_model.specs.Disk.{DiskState, IsUnchanged}
 use Rattle.scan_model.specs.declared.hit.Hit.{Hit}
 use Rattle.scan_model.specs.Scan.{nearest_hits}
@@ -25,7 +25,7 @@ use Rattle.page_store.specs.Reached.{IsReached}
 use Rattle.page_store.specs.Reading.{nodes_of, reading}
 use Rattle.page_store.specs.Shelf.{IsPassing}
 use Rattle.page_store.specs.Shelves.{disk_shelf}
-use Rattle.log_model.proofs.ByScan.{length-points}
+use Rattle.log_model.proofs.Published.{length-points}
 use Rattle.pin_cursor.specs.Cursor.{OpenCursor, IsCursorOn, begun, rest_of, tags_of}
 use Rattle.pin_cursor.specs.Steps.{GivesNext, HasStepCause as HasPageCause}
 use Rattle.index_core.specs.declared.faults.IndexFault.{IndexFault}

@@ -4,20 +4,18 @@ use Rattle.std.specs.Prelude.{IsTrue, MatchOption, map}
 use Rattle.std.specs.List.{AllByRecursion}
 use Rattle.metric_laws.specs.Lists.{IsIn}
 use Rattle.metric_laws.specs.Space.{Space}
-use Rattle.metric_laws.proofs.Lists.{all_in, map-in}
+use Rattle.metric_laws.proofs.Published.{all_in, map-in}
 use Rattle.disk_model.specs.Disk.{DiskState}
 use Rattle.node_page.specs.Opening.{page_of}
 use Rattle.tree_shape.specs.declared.entry.Node.{Node}
 use Rattle.tree_shape.specs.declared.live.Live.{Live}
 use Rattle.tree_shape.specs.Tree.{Nodes, IsNodePage, inner_entries, times}
-use Rattle.tree_shape.proofs.Counting.{few, times-append}
+use Rattle.tree_shape.proofs.Published.{few, times-append}
 use Rattle.page_store.specs.declared.pages.PageFault.{PageFault}
 use Rattle.page_store.specs.Reached.{IsReached, StandsOnPages, named_in}
 use Rattle.page_store.specs.Reached.IsReached.{at_root, by_child}
 use Rattle.page_store.specs.Reading.{node_or_none, nodes_of, reading}
-use Rattle.page_store.proofs.Named.{fewer_named}
-use Rattle.page_store.proofs.Standing.{all_each}
-use Rattle.page_store.proofs.Whole.{stand_on_pages, stands_named}
+use Rattle.page_store.proofs.Published.{fewer_named, all_each, stand_on_pages, stands_named}
 use Rattle.nearest_search.specs.Walks.{OpensBefore, WalksTo, named_of}
 use Rattle.free_pages.specs.Commits.{IsGuarded}
 use Rattle.free_pages.specs.Keeping.{FreePages}
@@ -28,7 +26,7 @@ use Rattle.index_core.specs.Files.{OpenFile, nodes_on}
 use Rattle.index_core.specs.Index.{OpenIndex, AreSpare, StandsAlone}
 use Rattle.index_core.specs.Pinning.{IsPinned}
 use Rattle.index_core.specs.Writing.{GuardsPages}
-use Rattle.index_core.proofs.Damaged.{walk_reached}
+use Rattle.index_core.proofs.Published.{walk_reached}
 use Rattle.session_run.specs.declared.pinned.PinnedCursor.{PinnedCursor}
 use Rattle.session_run.specs.Pinned.{GoesThrough, IsKeptBy, nodes_for}
 

@@ -4,7 +4,7 @@ use Rattle.std.specs.Prelude.{Ok, false, if◌then◌else◌, ◌==◌}
 use Rattle.std.proofs.lemmas.Bool.Decides.{nat_tests}
 use Rattle.std.specs.List.{AllByRecursion}
 use Rattle.metric_laws.specs.Lists.{IsIn}
-use Rattle.metric_laws.proofs.Lists.{all_in}
+use Rattle.metric_laws.proofs.Published.{all_in}
 use Rattle.tree_shape.specs.declared.live.Live.{Live}
 use Rattle.tree_shape.specs.declared.entry.Node.{Node}
 use Rattle.tree_shape.specs.Tree.{IsNodePage}
@@ -12,14 +12,13 @@ use Rattle.node_page.specs.Nodes.{IsLawfulNode, SpellsNode, fault_in, node_in}
 use Rattle.node_page.specs.Opening.{page_of}
 use Rattle.node_page.specs.declared.node.NodeFault.{NodeFault}
 use Rattle.node_page.specs.declared.node.Version.TheVariants.{Second}
-use Rattle.node_page.proofs.NodeLaws.{none_by_spells, node_is}
-use Rattle.page_store.proofs.Answers.{reads_page}
+use Rattle.node_page.proofs.Published.{none_by_spells, node_is}
+use Rattle.page_store.proofs.Published.{reads_page, stand_on_pages}
 use Rattle.page_store.specs.Files.{nodes_in}
 use Rattle.page_store.specs.declared.staging.StagedNode.{StagedNode}
 use Rattle.page_store.specs.Reading.{IsWithin, is_within, judged, node_or_none}
 use Rattle.page_store.specs.Staging.{pages_of, staged_for}
 use Rattle.shadow_root.specs.Commit.{IsNotStaged, IsStagedAs}
-use Rattle.page_store.proofs.Whole.{stand_on_pages}
 use Rattle.shadow_root.specs.Placements.{PlacementsCanFollow, NewIsBeside, InPlaceIsWritten}
 
 -- what holds of all staged nodes holds of each

@@ -10,7 +10,7 @@ use Rattle.node_page.specs.Opening.{page_of, IsLawfulLive, OpensTo, Unopened, sl
 use Rattle.node_page.specs.Opening.Unopened.{Short as TooShort, NoHead}
 use Rattle.node_page.specs.declared.head.Head.{Head}
 use Rattle.node_page.specs.declared.head.HeadFault.{HeadFault}
-use Rattle.node_page.proofs.HeadLaws.{head_is, none_by_spells}
+use Rattle.node_page.proofs.Published.{head_is, no_head_fault}
 use Rattle.shadow_root.specs.Opening.{HasOpenCause, HasHeadCause, HasSlotCause, IsOf, LeadsTo}
 use Rattle.shadow_root.specs.declared.faults.OpenFault.{OpenFault}
 use Rattle.shadow_root.specs.declared.faults.OpenFault.TheVariants.{Disk, Short, Head as HeadWas, Unfinished, TwoRoots, Slot}
@@ -60,7 +60,7 @@ module _ (old mid new : DiskState) (head : Head) (size : ℕ) (same : IsUnchange
   of_slots why cause tells =
       let told : IsTrue mid.tells = subst (λ (b : Bool). IsTrue b) (sym same.same_tells) tells in
       let stands : slot_fault mid.bytes ≡ Some why = cause told (subst (λ (b : List ℕ). IsOf head.limit size b) (sym same.same_bytes) (is_of head size old.bytes (spells tells) (size_is tells))) in
-      with_slots old.bytes why (omega (arith, long, size_is tells)) (none_by_spells (page_of old.bytes 0) head (spells tells)) (subst (λ (b : List ℕ). slot_fault b ≡ Some why) same.same_bytes stands)
+      with_slots old.bytes why (omega (arith, long, size_is tells)) (no_head_fault (page_of old.bytes 0) head (spells tells)) (subst (λ (b : List ℕ). slot_fault b ≡ Some why) same.same_bytes stands)
 
   pub slot_cause : (fault : OpenFault) → HasSlotCause head.limit size mid new fault → HasOpenCause old new fault
   slot_cause Disk cause = rose_earlier old.faults mid.faults new.faults later cause

@@ -8,3 +8,4 @@ pub mod Made
 pub mod Ready
 pub mod Beside
 pub mod Lists
+pub mod Published

@@ -2,19 +2,19 @@
 use Rattle.std.proofs.Common.{◌≡◌, ℕ, ◌≤◌, List, map, inl, inr, refl, sym, ap, ◌∙◌, subst, arith, None}
 use Rattle.std.specs.List.{AllByRecursion}
 use Rattle.metric_laws.specs.Space.{Space}
-use Rattle.metric_laws.proofs.Lists.{all_in}
+use Rattle.metric_laws.proofs.Published.{all_in}
 use Rattle.tree_shape.specs.declared.entry.LeafEntry.{LeafEntry}
 use Rattle.tree_shape.specs.declared.live.Live.{Live}
 use Rattle.tree_shape.specs.Fill.{root_least}
 use Rattle.tree_shape.specs.Tree.{Nodes, IsNodePage, IsSoundTree, objects, points_by_id, points_from, tags_by_id, tags_from, times}
-use Rattle.tree_shape.proofs.Within.{Agree, same_objects, same_pages, still_sound}
+use Rattle.tree_shape.proofs.Published.{Agree, objects_stay, same_pages, still_sound}
 use Rattle.node_page.specs.declared.head.Head.{Head}
 use Rattle.node_page.specs.Heads.{SpellsHead}
 use Rattle.node_page.specs.Opening.{OpensTo, page_of}
-use Rattle.node_page.proofs.HeadLaws.{head_is}
+use Rattle.node_page.proofs.Published.{head_is}
 use Rattle.page_store.specs.Files.{nodes_in}
 use Rattle.page_store.specs.Placing.{live_pages}
-use Rattle.page_store.proofs.Whole.{sound_is_whole}
+use Rattle.page_store.proofs.Published.{sound_is_whole}
 use Rattle.page_store.specs.declared.staging.StagedNode.{StagedNode}
 use Rattle.shadow_root.specs.Commit.{IsStagedFor}
 use Rattle.shadow_root.specs.Live.{HasLive}
@@ -35,7 +35,7 @@ same_tree s old new t agree sound = record {
 }
   where
     same : objects new t ≡ objects old t
-    same = same_objects old new t.height t.root agree
+    same = objects_stay old new t.height t.root agree
 
     pages : live_pages new t ≡ live_pages old t
     pages = same_pages old new t.height t.root agree

@@ -14,11 +14,9 @@ use Rattle.node_page.specs.Slots.{SpellsSlot}
 use Rattle.node_page.specs.declared.node.NodeFault.{NodeFault}
 use Rattle.node_page.specs.Nodes.{SpellsNode, node_of, count_of, firsts}
 use Rattle.node_page.specs.Opening.{page_of, OpensTo}
-use Rattle.node_page.proofs.Numbers.{number_kept}
-use Rattle.node_page.proofs.NodeLaws.{none_by_spells, node_is}
-use Rattle.page_store.proofs.PageBytes.{place-page_of}
+use Rattle.node_page.proofs.Published.{number_kept, none_by_spells, node_is}
+use Rattle.page_store.proofs.Published.{place-page_of, reads_page}
 use Rattle.page_store.specs.Reading.{is_within, judged, reading, nodes_of}
-use Rattle.page_store.proofs.Answers.{reads_page}
 use Rattle.page_store.specs.Files.{nodes_in}
 use Rattle.shadow_root.specs.Commit.{HasFields}
 use Rattle.shadow_root.specs.Making.{first_live, IsBare, IsMade}

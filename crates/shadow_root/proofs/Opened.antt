@@ -5,8 +5,7 @@ use Rattle.std.proofs.lemmas.Bool.Decides.{nat_tests}
 use Rattle.tree_shape.specs.declared.live.Live.{Live}
 use Rattle.node_page.specs.Bytes.{number_at}
 use Rattle.node_page.specs.Slots.{SpellsSlot, HasSlotRest, slot_of}
-use Rattle.node_page.proofs.SlotLaws.{slot_is}
-use Rattle.node_page.proofs.Opened.{rest_by_clear}
+use Rattle.node_page.proofs.Published.{slot_is, rest_by_clear}
 use Rattle.node_page.specs.Opening.{slot_page, is_open, generation_of, slot_of_live, IsLawfulLive, live_side, live_at, live_of, is_clear, is_lawful_live, Unopened, slot_fault}
 use Rattle.node_page.specs.Opening.Unopened.{Unfinished as NoGate, TwoRoots as TwoGates, BadSlot}
 use Rattle.node_page.specs.declared.slot.Slot.{Slot}

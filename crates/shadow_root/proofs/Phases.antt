@@ -11,8 +11,8 @@ use Rattle.node_page.specs.Heads.{SpellsHead}
 use Rattle.node_page.specs.Slots.{SpellsSlot}
 use Rattle.node_page.specs.Nodes.{SpellsNode}
 use Rattle.node_page.specs.Opening.{page_of, is_open, generation_of, slot_of_live, OpensTo}
-use Rattle.node_page.proofs.Numbers.{number_kept}
-use Rattle.page_store.proofs.PageBytes.{place-page_of}
+use Rattle.node_page.proofs.Published.{number_kept}
+use Rattle.page_store.proofs.Published.{place-page_of}
 use Rattle.page_store.specs.Files.{nodes_in}
 use Rattle.page_store.specs.declared.staging.StagedNode.{StagedNode}
 use Rattle.shadow_root.specs.Live.{IsLivePage, IsSuccessor}

@@ -7,7 +7,7 @@ use Rattle.disk_model.specs.Moments.{weakened, joined, goes_on, written_torn}
 use Rattle.tree_shape.specs.declared.live.Live.{Live}
 use Rattle.node_page.specs.Nodes.{SpellsNode}
 use Rattle.node_page.specs.Opening.{page_of, OpensTo}
-use Rattle.page_store.proofs.PageBytes.{place-page_of}
+use Rattle.page_store.proofs.Published.{place-page_of}
 use Rattle.page_store.specs.declared.staging.StagedNode.{StagedNode}
 use Rattle.shadow_root.specs.Live.{IsSuccessor}
 use Rattle.shadow_root.specs.Commit.{IsStagedAs, IsInPlace, HasNext, IsBeforeOrAfter, IsRewritten, IsFromRewritten, IsFromClosed, IsStagedFor, IsReady, HasFields, IsKept, IsStaged, IsPrepared}

@@ -6,7 +6,7 @@ use Rattle.disk_model.specs.Disk.{DiskState, MayLeave, Written, Torn, EachImage,
 use Rattle.disk_model.specs.Moments.{started, goes_on}
 use Rattle.node_page.specs.Nodes.{SpellsNode}
 use Rattle.node_page.specs.Opening.{page_of}
-use Rattle.page_store.proofs.PageBytes.{same_page, page_is}
+use Rattle.page_store.proofs.Published.{same_page, page_is}
 use Rattle.page_store.specs.declared.staging.StagedNode.{StagedNode}
 use Rattle.shadow_root.specs.Commit.{IsStagedAs, IsNotStaged, IsRewritten, IsFromRewritten}
 

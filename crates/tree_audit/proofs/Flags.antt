@@ -4,9 +4,9 @@ use Rattle.std.specs.Prelude.{replicate}
 use Rattle.std.proofs.lemmas.Bool.{cases_eq}
 use Rattle.std.proofs.lemmas.Bool.Decides.{nat_tests}
 use Rattle.std.proofs.lemmas.List.{length-set, get_or-set_same, get_or-set_other, get_or-replicate, length-replicate}
-use Rattle.metric_laws.proofs.Lists.{all_weaker, all_append}
+use Rattle.metric_laws.proofs.Published.{all_weaker, all_append}
 use Rattle.tree_shape.specs.Tree.{times}
-use Rattle.tree_shape.proofs.Counting.{times-append, times-in, few}
+use Rattle.tree_shape.proofs.Published.{times-append, times-past, few}
 use Rattle.tree_audit.specs.Met.{IsFlagged, AreFewer}
 
 -- some or none, as a test
@@ -46,7 +46,7 @@ flagged_add flags met n within fresh flagged = record {
 
 -- a number that is not below the limit was not met
 pub not_met : (flags : List Bool) (met : List ℕ) (n : ℕ) → length flags ≤ n → IsFlagged flags met → is_some (times n met) ≡ false
-not_met flags met n past flagged = ap is_some (times-in met n (length flags) flagged.small past)
+not_met flags met n past flagged = ap is_some (times-past met n (length flags) flagged.small past)
 
 -- there are no more of them than the limit
 pub few_met : (flags : List Bool) (met : List ℕ) → IsFlagged flags met → length met ≤ length flags

@@ -6,7 +6,7 @@ use Rattle.std.proofs.lemmas.Bool.Decides.{nat_tests}
 use Rattle.std.proofs.lemmas.List.{append-nil}
 use Rattle.std.proofs.Common.{length-append}
 use Rattle.metric_laws.specs.Space.{Space}
-use Rattle.metric_laws.proofs.Lists.{all_weaker, all_both, all_append, all_flat_map}
+use Rattle.metric_laws.proofs.Published.{all_weaker, all_both, all_append, all_flat_map}
 use Rattle.tree_shape.specs.declared.entry.LeafEntry.{LeafEntry}
 use Rattle.tree_shape.specs.declared.entry.InnerEntry.{InnerEntry}
 use Rattle.tree_shape.specs.declared.entry.Node.{Node}
@@ -14,7 +14,7 @@ use Rattle.tree_shape.specs.declared.entry.Node.TheVariants.{Leaf, Inner}
 use Rattle.tree_shape.specs.declared.live.Live.{Live}
 use Rattle.tree_shape.specs.Fill.{most_for, least_for, root_least, IsFilled}
 use Rattle.tree_shape.specs.Tree.{times, parent_distance, objects_at, pages_at, IsSoundAt, IsSoundObject, IsSoundEntry, objects, IsNodePage, IsSoundTree}
-use Rattle.tree_shape.proofs.Counting.{times-append, each_once, each_once_back}
+use Rattle.tree_shape.proofs.Published.{times-append, each_once, each_once_back}
 use Rattle.page_store.specs.declared.pages.PageFault.{PageFault}
 use Rattle.page_store.specs.Reading.{Read, nodes_of, node_or_none}
 use Rattle.tree_audit.specs.declared.faults.AuditFault.{AuditFault}

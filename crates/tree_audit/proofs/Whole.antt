@@ -5,13 +5,13 @@ use Rattle.std.specs.List.{AllByRecursion, flat_map}
 use Rattle.std.proofs.lemmas.List.{append-nil, take_more, take-append-drop}
 use Rattle.std.proofs.Math.Seq.{drop-cons}
 use Rattle.metric_laws.specs.Space.{Space}
-use Rattle.metric_laws.proofs.Lists.{all_weaker, all_flat_map}
+use Rattle.metric_laws.proofs.Published.{all_weaker, all_flat_map}
 use Rattle.tree_shape.specs.declared.entry.InnerEntry.{InnerEntry}
 use Rattle.tree_shape.specs.declared.entry.Node.TheVariants.{Inner}
 use Rattle.tree_shape.specs.declared.live.Live.{Live}
 use Rattle.tree_shape.specs.Fill.{least_for, root_least, IsFilled}
 use Rattle.tree_shape.specs.Tree.{parent_distance, objects_at, pages_at, times}
-use Rattle.tree_shape.proofs.Counting.{times-append}
+use Rattle.tree_shape.proofs.Published.{times-append}
 use Rattle.tree_audit.specs.Met.{AreNew, Numbers}
 use Rattle.page_store.specs.Reading.{Read, nodes_of, node_or_none}
 use Rattle.tree_audit.specs.declared.parts.Part.{Part}

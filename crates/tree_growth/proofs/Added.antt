@@ -6,7 +6,7 @@ use Rattle.std.proofs.lemmas.List.{length-map}
 use Rattle.std.proofs.lemmas.List.Recursion.{is_count_by}
 use Rattle.metric_laws.specs.Space.{Space}
 use Rattle.metric_laws.specs.Lists.{IsIn}
-use Rattle.metric_laws.proofs.Lists.{in-filter}
+use Rattle.metric_laws.proofs.Published.{in-filter}
 use Rattle.tree_growth.specs.declared.rules.Aim.{Aim}
 use Rattle.tree_shape.specs.Plain.{Object, Branch, Plain, Tall, objects_in, objects_of}
 use Rattle.tree_growth.specs.Dealing.{Ball, first_least, least_from}

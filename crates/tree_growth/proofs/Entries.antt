@@ -6,7 +6,7 @@ use Rattle.metric_laws.specs.Space.{Space}
 use Rattle.tree_shape.specs.Fill.{least_for, root_least}
 use Rattle.tree_shape.specs.Plain.{Branch, Plain, Tall}
 use Rattle.tree_shape.specs.Sound.{BranchCovers, IsSoundPlain, IsSoundTall}
-use Rattle.tree_shape.proofs.Height.{three_at_least}
+use Rattle.tree_shape.proofs.Published.{three_at_least}
 use Rattle.tree_growth.specs.Insertion.{HasEntries}
 
 module _ (s : Space) (few : s.words ≤ 64) where

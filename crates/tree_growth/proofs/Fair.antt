@@ -7,7 +7,7 @@ use Rattle.std.proofs.lemmas.List.{length-set, get_or-set_other}
 use Rattle.std.proofs.lemmas.List.FromFn.{fill_by_all, length-map-range_with_len, get_or-map-range_with_len}
 use Rattle.std.proofs.lemmas.List.Recursion.{is_count_by}
 use Rattle.metric_laws.specs.Lists.{IsIn}
-use Rattle.metric_laws.proofs.Lists.{in-filter}
+use Rattle.metric_laws.proofs.Published.{in-filter}
 use Rattle.tree_growth.proofs.Added.{least_in}
 use Rattle.tree_shape.specs.Tree.{times}
 use Rattle.tree_growth.specs.Dealing.{is_on, Table, size, apart, first_least, least_from, side_at, may_leave, put_on, received, in_turn, nearer, by_nearer, count_on, filled_up, hyperplane, only_promoted, balanced, partitioned}
@@ -15,19 +15,19 @@ use Rattle.tree_growth.specs.declared.rules.Side.{Side}
 use Rattle.tree_growth.specs.declared.rules.Side.TheVariants.{First, Second, Open}
 
 -- how many stand on a side
-abbrev pub tally : Side → List Side → ℕ
-tally on [] = 0
-tally on (s ∷ ss) = cond (is_on on s) (1 + tally on ss) (tally on ss)
+abbrev pub tally_sides : Side → List Side → ℕ
+tally_sides on [] = 0
+tally_sides on (s ∷ ss) = cond (is_on on s) (1 + tally_sides on ss) (tally_sides on ss)
 
-pub count_is_tally : (on : Side) (ss : List Side) → tally on ss ≡ count_on on ss
-count_is_tally on ss = is_count_by (tally on) (is_on on) refl (λ x xs. refl) ss
+pub count_is_tally : (on : Side) (ss : List Side) → tally_sides on ss ≡ count_on on ss
+count_is_tally on ss = is_count_by (tally_sides on) (is_on on) refl (λ x xs. refl) ss
 
 abbrev pub one : Bool → ℕ
 one b = if b then 1 else 0
 
-pub tally_set : (on to : Side) (ss : List Side) (i : ℕ) → i < length ss → tally on (slice_set ss i to) + one (is_on on (side_at ss i)) ≡ tally on ss + one (is_on on to)
+pub tally_set : (on to : Side) (ss : List Side) (i : ℕ) → i < length ss → tally_sides on (slice_set ss i to) + one (is_on on (side_at ss i)) ≡ tally_sides on ss + one (is_on on to)
 tally_set on to [] i low = absurd (omega arith)
-tally_set on to (s ∷ ss) zero low = cases (is_on on s) (is_on on to) (tally on ss)
+tally_set on to (s ∷ ss) zero low = cases (is_on on s) (is_on on to) (tally_sides on ss)
   where
     cases : (b d : Bool) (n : ℕ) → cond d (1 + n) n + one b ≡ cond b (1 + n) n + one d
     cases true true n = omega arith
@@ -40,19 +40,19 @@ tally_set on to (s ∷ ss) (suc i) low = cases (is_on on s) (one (is_on on (side
     cases true p q m n e = omega arith
     cases false p q m n e = omega arith
 
-pub tally_map : (on : Side) (f : ℕ → Side) (xs : List ℕ) → tally on (map f xs) ≡ length (filter (λ i. is_on on (f i)) xs)
+pub tally_map : (on : Side) (f : ℕ → Side) (xs : List ℕ) → tally_sides on (map f xs) ≡ length (filter (λ i. is_on on (f i)) xs)
 tally_map on f [] = refl
 tally_map on f (x ∷ xs) = cases (is_on on (f x)) (tally_map on f xs)
   where
-    cases : (b : Bool) → tally on (map f xs) ≡ length (filter (λ i. is_on on (f i)) xs) →
-        cond b (1 + tally on (map f xs)) (tally on (map f xs)) ≡ length (cond b (x ∷ filter (λ i. is_on on (f i)) xs) (filter (λ i. is_on on (f i)) xs))
+    cases : (b : Bool) → tally_sides on (map f xs) ≡ length (filter (λ i. is_on on (f i)) xs) →
+        cond b (1 + tally_sides on (map f xs)) (tally_sides on (map f xs)) ≡ length (cond b (x ∷ filter (λ i. is_on on (f i)) xs) (filter (λ i. is_on on (f i)) xs))
     cases true ih = omega (arith, ih)
     cases false ih = ih
 
-pub tally_members : (on : Side) (ss : List Side) → tally on ss ≡ length (filter (λ i. is_on on (side_at ss i)) (range_with_len 0 (length ss)))
-tally_members on ss = ap (tally on) (fill_by_all (side_at ss) ss (length ss) Open refl (λ k low. refl)) ∙ tally_map on (side_at ss) (range_with_len 0 (length ss))
+pub tally_members : (on : Side) (ss : List Side) → tally_sides on ss ≡ length (filter (λ i. is_on on (side_at ss i)) (range_with_len 0 (length ss)))
+tally_members on ss = ap (tally_sides on) (fill_by_all (side_at ss) ss (length ss) Open refl (λ k low. refl)) ∙ tally_map on (side_at ss) (range_with_len 0 (length ss))
 
-pub tally_all : (ss : List Side) → tally First ss + tally Second ss + tally Open ss ≡ length ss
+pub tally_all : (ss : List Side) → tally_sides First ss + tally_sides Second ss + tally_sides Open ss ≡ length ss
 tally_all [] = refl
 tally_all (First ∷ ss) = let ih = tally_all ss in omega arith
 tally_all (Second ∷ ss) = let ih = tally_all ss in omega arith
@@ -152,7 +152,7 @@ fixed First = 1
 fixed Second = 1
 fixed Open = 0
 
-pub many : (n a b : ℕ) (from : Side) (ss : List Side) → Holds n a b ss → tally from ss ≤ length (candidates a b from ss) + fixed from
+pub many : (n a b : ℕ) (from : Side) (ss : List Side) → Holds n a b ss → tally_sides from ss ≤ length (candidates a b from ss) + fixed from
 many n a b from ss h =
     let l = filter_less (λ i. is_on from (side_at ss i)) a b (range_with_len 0 (length ss)) in
     let m = tally_members from ss in
@@ -173,9 +173,9 @@ many n a b from ss h =
 -- what a step does, where an entry may leave
 pub record Moves (n a b : ℕ) (from to : Side) (old new : List Side) : Type 0 where
   pub holds : Holds n a b new
-  pub from_less : tally from new + 1 ≡ tally from old
-  pub to_more : tally to new ≡ tally to old + 1
-  pub others : (on : Side) → is_on on from ≡ false → is_on on to ≡ false → tally on new ≡ tally on old
+  pub from_less : tally_sides from new + 1 ≡ tally_sides from old
+  pub to_more : tally_sides to new ≡ tally_sides to old + 1
+  pub others : (on : Side) → is_on on from ≡ false → is_on on to ≡ false → tally_sides on new ≡ tally_sides on old
 
 pub parts : (p q r : Bool) → (p && (not q && not r)) ≡ true → (p ≡ true) × (q ≡ false) × (r ≡ false)
 parts true false false e = (refl, refl, refl)
@@ -207,11 +207,11 @@ moves t n a b own from to ss h apart₁ apart₂ some = go (candidates a b from 
 -- so many steps from one side to another
 pub record Moved (n a b k : ℕ) (from to : Side) (old new : List Side) : Type 0 where
   pub holds : Holds n a b new
-  pub from_less : tally from new + k ≡ tally from old
-  pub to_more : tally to new ≡ tally to old + k
-  pub others : (on : Side) → is_on on from ≡ false → is_on on to ≡ false → tally on new ≡ tally on old
+  pub from_less : tally_sides from new + k ≡ tally_sides from old
+  pub to_more : tally_sides to new ≡ tally_sides to old + k
+  pub others : (on : Side) → is_on on from ≡ false → is_on on to ≡ false → tally_sides on new ≡ tally_sides on old
 
-pub all_moved : (t : Table) (n a b own k : ℕ) (from to : Side) (ss : List Side) → Holds n a b ss → is_on from to ≡ false → is_on to from ≡ false → k + fixed from ≤ tally from ss →
+pub all_moved : (t : Table) (n a b own k : ℕ) (from to : Side) (ss : List Side) → Holds n a b ss → is_on from to ≡ false → is_on to from ≡ false → k + fixed from ≤ tally_sides from ss →
     Moved n a b k from to ss (in_turn k (received t a b own from to) (received t a b own from to) ss)
 all_moved t n a b own zero from to ss h u v enough = record { holds = h; from_less = omega arith; to_more = omega arith; others = λ on f g. refl }
 all_moved t n a b own (suc k) from to ss h u v enough =
@@ -227,12 +227,12 @@ all_moved t n a b own (suc k) from to ss h u v enough =
 -- the two sides take in turn all that is open
 pub record Dealt (n a b k : ℕ) (to next : Side) (old new : List Side) : Type 0 where
   pub holds : Holds n a b new
-  pub none_open : tally Open new ≡ 0
-  pub to_more : tally to old + tally to old + k ≤ tally to new + tally to new
-  pub next_more : tally next old + tally next old + k ≤ tally next new + tally next new + 1
+  pub none_open : tally_sides Open new ≡ 0
+  pub to_more : tally_sides to old + tally_sides to old + k ≤ tally_sides to new + tally_sides to new
+  pub next_more : tally_sides next old + tally_sides next old + k ≤ tally_sides next new + tally_sides next new + 1
 
 pub all_dealt : (t : Table) (n a b x y k : ℕ) (to next : Side) (ss : List Side) → Holds n a b ss → is_on Open to ≡ false → is_on to Open ≡ false → is_on Open next ≡ false → is_on next Open ≡ false →
-    is_on to next ≡ false → is_on next to ≡ false → tally Open ss ≡ k →
+    is_on to next ≡ false → is_on next to ≡ false → tally_sides Open ss ≡ k →
     Dealt n a b k to next ss (in_turn k (received t a b x Open to) (received t a b y Open next) ss)
 all_dealt t n a b x y zero to next ss h u u' v v' w w' opens = record { holds = h; none_open = opens; to_more = omega arith; next_more = omega arith }
 all_dealt t n a b x y (suc k) to next ss h u u' v v' w w' opens =
@@ -249,21 +249,21 @@ all_dealt t n a b x y (suc k) to next ss h u u' v v' w w' opens =
 -- a fair partition: the promoted ones on their sides, none open, and each group with its share
 pub record IsFair (n a b least : ℕ) (ss : List Side) : Type 0 where
   pub holds : Holds n a b ss
-  pub none_open : tally Open ss ≡ 0
-  pub first_enough : least ≤ tally First ss
-  pub second_enough : least ≤ tally Second ss
+  pub none_open : tally_sides Open ss ≡ 0
+  pub first_enough : least ≤ tally_sides First ss
+  pub second_enough : least ≤ tally_sides Second ss
 
 -- filling up one group
 pub filled : (t : Table) (n a b least own : ℕ) (from to : Side) (ss : List Side) → Holds n a b ss → is_on from to ≡ false → is_on to from ≡ false → fixed from ≤ least →
-    least + least ≤ tally from ss + tally to ss →
-    Moved n a b (least - tally to ss) from to ss (filled_up t a b least own from to ss)
+    least + least ≤ tally_sides from ss + tally_sides to ss →
+    Moved n a b (least - tally_sides to ss) from to ss (filled_up t a b least own from to ss)
 filled t n a b least own from to ss h u v few enough =
-    subst (λ (k : ℕ). Moved n a b (least - tally to ss) from to ss (in_turn (least - k) (received t a b own from to) (received t a b own from to) ss)) (count_is_tally to ss)
-    (cases (least - tally to ss) refl)
+    subst (λ (k : ℕ). Moved n a b (least - tally_sides to ss) from to ss (in_turn (least - k) (received t a b own from to) (received t a b own from to) ss)) (count_is_tally to ss)
+    (cases (least - tally_sides to ss) refl)
   where
-    cases : (k : ℕ) → least - tally to ss ≡ k → Moved n a b (least - tally to ss) from to ss (in_turn (least - tally to ss) (received t a b own from to) (received t a b own from to) ss)
+    cases : (k : ℕ) → least - tally_sides to ss ≡ k → Moved n a b (least - tally_sides to ss) from to ss (in_turn (least - tally_sides to ss) (received t a b own from to) (received t a b own from to) ss)
     cases zero e = rw e (record { holds = h; from_less = omega arith; to_more = omega arith; others = λ on f g. refl })
-    cases (suc k) e = all_moved t n a b own (least - tally to ss) from to ss h u v (omega arith)
+    cases (suc k) e = all_moved t n a b own (least - tally_sides to ss) from to ss h u v (omega arith)
 
 pub hyperplane_fair : (t : Table) (a b least : ℕ) → a < size t → b < size t → a ≢ b → 1 ≤ least → least + least ≤ size t → IsFair (size t) a b least (hyperplane t a b least)
 hyperplane_fair t a b least low_a low_b distinct some room =
@@ -274,7 +274,7 @@ hyperplane_fair t a b least low_a low_b distinct some room =
       second = get_or-map-range_with_len (nearer t a b) 0 (size t) b b Open low_b (omega arith) ∙ at_b;
     } in
     let whole = tally_all ss in
-    let o : tally Open ss ≡ 0 = no_open (range_with_len 0 (size t)) in
+    let o : tally_sides Open ss ≡ 0 = no_open (range_with_len 0 (size t)) in
     let l = h.long in
     let m = filled t (size t) a b least a Second First ss h refl refl some (omega arith) in
     let new : List Side = filled_up t a b least a Second First ss in
@@ -299,7 +299,7 @@ hyperplane_fair t a b least low_a low_b distinct some room =
     closed false false true = refl
     closed false false false = refl
 
-    no_open : (xs : List ℕ) → tally Open (map (nearer t a b) xs) ≡ 0
+    no_open : (xs : List ℕ) → tally_sides Open (map (nearer t a b) xs) ≡ 0
     no_open [] = refl
     no_open (x ∷ xs) = rw (closed (x == a) (x == b) (nat_le (apart t a x) (apart t b x))) (no_open xs)
 
@@ -313,8 +313,8 @@ balanced_fair t a b least low_a low_b distinct some room =
     } in
     let whole = tally_all ss in
     let l = h.long in
-    let f : tally First ss ≡ 1 = firsts (range_with_len 0 (size t)) ∙ times_in_range a 0 (size t) (omega arith) (omega arith) in
-    let g : tally Second ss ≡ 1 = seconds (range_with_len 0 (size t)) ∙ times_in_range b 0 (size t) (omega arith) (omega arith) in
+    let f : tally_sides First ss ≡ 1 = firsts (range_with_len 0 (size t)) ∙ times_in_range a 0 (size t) (omega arith) (omega arith) in
+    let g : tally_sides Second ss ≡ 1 = seconds (range_with_len 0 (size t)) ∙ times_in_range b 0 (size t) (omega arith) (omega arith) in
     let d = all_dealt t (size t) a b a b (size t - 2) First Second ss h refl refl refl refl refl refl (omega arith) in
     let p = d.to_more in
     let q = d.next_more in
@@ -326,22 +326,22 @@ balanced_fair t a b least low_a low_b distinct some room =
     at_b : only_promoted a b b ≡ Second
     at_b = let f : (b == a) ≡ false = grind (arith, nat_tests) in let e : (b == b) ≡ true = grind (arith, nat_tests) in rw (f, e) refl
 
-    firsts : (xs : List ℕ) → tally First (map (only_promoted a b) xs) ≡ times a xs
+    firsts : (xs : List ℕ) → tally_sides First (map (only_promoted a b) xs) ≡ times a xs
     firsts [] = refl
     firsts (x ∷ xs) = cases (x == a) (x == b) (firsts xs)
       where
-        cases : (u v : Bool) → tally First (map (only_promoted a b) xs) ≡ times a xs →
-            cond (is_on First (if u then First else (if v then Second else Open))) (1 + tally First (map (only_promoted a b) xs)) (tally First (map (only_promoted a b) xs)) ≡ one u + times a xs
+        cases : (u v : Bool) → tally_sides First (map (only_promoted a b) xs) ≡ times a xs →
+            cond (is_on First (if u then First else (if v then Second else Open))) (1 + tally_sides First (map (only_promoted a b) xs)) (tally_sides First (map (only_promoted a b) xs)) ≡ one u + times a xs
         cases true v ih = omega arith
         cases false true ih = omega arith
         cases false false ih = omega arith
 
-    seconds : (xs : List ℕ) → tally Second (map (only_promoted a b) xs) ≡ times b xs
+    seconds : (xs : List ℕ) → tally_sides Second (map (only_promoted a b) xs) ≡ times b xs
     seconds [] = refl
     seconds (x ∷ xs) = cases (x == a) (x == b) refl refl (seconds xs)
       where
-        cases : (u v : Bool) → (x == a) ≡ u → (x == b) ≡ v → tally Second (map (only_promoted a b) xs) ≡ times b xs →
-            cond (is_on Second (if u then First else (if v then Second else Open))) (1 + tally Second (map (only_promoted a b) xs)) (tally Second (map (only_promoted a b) xs)) ≡ one v + times b xs
+        cases : (u v : Bool) → (x == a) ≡ u → (x == b) ≡ v → tally_sides Second (map (only_promoted a b) xs) ≡ times b xs →
+            cond (is_on Second (if u then First else (if v then Second else Open))) (1 + tally_sides Second (map (only_promoted a b) xs)) (tally_sides Second (map (only_promoted a b) xs)) ≡ one v + times b xs
         cases true true e f ih = let i : x ≡ a = grind (arith, nat_tests) in let j : x ≡ b = grind (arith, nat_tests) in absurd (distinct (sym i ∙ j))
         cases true false e f ih = omega arith
         cases false true e f ih = omega arith

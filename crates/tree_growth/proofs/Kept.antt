@@ -6,7 +6,7 @@ use Rattle.std.proofs.lemmas.Bool.Decides.{nat_tests}
 use Rattle.metric_laws.specs.Space.{Space, IsSpace, bound}
 use Rattle.metric_laws.specs.Pruning.{capped}
 use Rattle.metric_laws.specs.Lists.{IsIn}
-use Rattle.metric_laws.proofs.Lists.{all_weaker, all_append, all_flat_map, length_map}
+use Rattle.metric_laws.proofs.Published.{all_weaker, all_append, all_flat_map, length_map}
 use Rattle.tree_shape.specs.Fill.{least_for, most_for}
 use Rattle.tree_shape.specs.Plain.{Object, Branch, Plain, objects_in}
 use Rattle.tree_growth.specs.Insertion.{Grown, One, Two, Rules, taken, left, inserted, branch, fit, with_grown, grown_at, object_ball, branch_ball}

@@ -6,7 +6,7 @@ use Rattle.std.proofs.lemmas.List.FromFn.{fill_by_all}
 use Rattle.metric_laws.specs.Space.{Space, IsSpace}
 use Rattle.metric_laws.specs.Pruning.{capped}
 use Rattle.metric_laws.specs.Lists.{IsIn}
-use Rattle.metric_laws.proofs.Lists.{in-filter, length_map}
+use Rattle.metric_laws.proofs.Published.{in-filter, length_map}
 use Rattle.tree_shape.specs.Fill.{least_for, root_least}
 use Rattle.tree_growth.specs.Dealing.{IsPair, Ball, is_on, Table, size, apart, table_of, first_least, least_from, partitioned, promoted, split_of, point_at, side_at, members, reach, greatest, group_radius, pairs, pairs_with, pair_cost, or_pair}
 use Rattle.tree_growth.specs.Insertion.{taken, left, inserted, rules, Grown, One, Two, new_root, placed}
@@ -15,20 +15,20 @@ use Rattle.tree_shape.specs.Sound.{ObjectFits, IsSoundPlain, IsSoundTall}
 use Rattle.tree_growth.proofs.Kept.{inserted_sound, Reaches, IsLawfulSplit, IsLawful, IsSoundGrown}
 use Rattle.tree_growth.specs.declared.rules.Side.{Side}
 use Rattle.tree_growth.specs.declared.rules.Side.TheVariants.{First, Second, Open}
-use Rattle.tree_growth.proofs.Fair.{tally, IsFair, fair, in_range}
+use Rattle.tree_growth.proofs.Fair.{tally_sides, IsFair, fair, in_range}
 use Rattle.tree_growth.proofs.Added.{least_in, chosen_low}
-use Rattle.tree_shape.proofs.Height.{three_at_least}
+use Rattle.tree_shape.proofs.Published.{three_at_least}
 use Rattle.tree_growth.proofs.TableRows.{row_of_table}
 
 -- shares
-pub taken_tally : {X : Type 0} (sides : List Side) (xs : List X) → length sides ≡ length xs → length (taken (map (is_on First) sides) xs) ≡ tally First sides
+pub taken_tally : {X : Type 0} (sides : List Side) (xs : List X) → length sides ≡ length xs → length (taken (map (is_on First) sides) xs) ≡ tally_sides First sides
 taken_tally [] xs long = refl
 taken_tally (s ∷ sides) [] long = absurd (omega arith)
 taken_tally (First ∷ sides) (x ∷ xs) long = let ih = taken_tally sides xs (omega arith) in omega arith
 taken_tally (Second ∷ sides) (x ∷ xs) long = taken_tally sides xs (omega arith)
 taken_tally (Open ∷ sides) (x ∷ xs) long = taken_tally sides xs (omega arith)
 
-pub left_tally : {X : Type 0} (sides : List Side) (xs : List X) → length sides ≡ length xs → tally Open sides ≡ 0 → length (left (map (is_on First) sides) xs) ≡ tally Second sides
+pub left_tally : {X : Type 0} (sides : List Side) (xs : List X) → length sides ≡ length xs → tally_sides Open sides ≡ 0 → length (left (map (is_on First) sides) xs) ≡ tally_sides Second sides
 left_tally [] [] long none = refl
 left_tally [] (x ∷ xs) long none = absurd (omega arith)
 left_tally (s ∷ sides) [] long none = absurd (omega arith)
@@ -46,7 +46,7 @@ taken_filter {X} p q (x ∷ xs) = cases (p x) (taken_filter p q xs)
     cases false ih = ih
 
 -- what is left are those on the second side
-pub left_second : {X : Type 0} (sides : List Side) (xs : List X) → length sides ≡ length xs → tally Open sides ≡ 0 → left (map (is_on First) sides) xs ≡ taken (map (is_on Second) sides) xs
+pub left_second : {X : Type 0} (sides : List Side) (xs : List X) → length sides ≡ length xs → tally_sides Open sides ≡ 0 → left (map (is_on First) sides) xs ≡ taken (map (is_on Second) sides) xs
 left_second [] [] long none = refl
 left_second [] (x ∷ xs) long none = absurd (omega arith)
 left_second (s ∷ sides) [] long none = absurd (omega arith)

@@ -11,3 +11,4 @@ pub mod LoadSound
 pub mod Parted
 pub mod Examples
 pub mod Turns
+pub mod Published

@@ -6,7 +6,7 @@ use Rattle.std.proofs.lemmas.Bool.Decides.{nat_tests}
 use Rattle.std.proofs.lemmas.List.{length-map}
 use Rattle.std.proofs.Math.Nat.{pow-suc, pow-zero, mul-le-mul_left, mul-lt-mul_of_pos_right, div-lt_iff_lt-mul}
 use Rattle.metric_laws.specs.Space.{Space, IsSpace}
-use Rattle.metric_laws.proofs.Lists.{all_weaker, all_append}
+use Rattle.metric_laws.proofs.Published.{all_weaker, all_append}
 use Rattle.tree_growth.specs.declared.rules.Member.{Member}
 use Rattle.tree_growth.specs.declared.rules.Group.{Group}
 use Rattle.tree_shape.specs.Fill.{IsFilled, least_for, most_for, root_least}
@@ -17,8 +17,7 @@ use Rattle.tree_growth.specs.Bulk.{Load, object_at, point_of, radius_of, groups_
 use Rattle.tree_growth.proofs.Sized.{groups_are_sized, length_seeds}
 use Rattle.tree_growth.proofs.Fitting.{Fits, count_fits, powers_wide}
 use Rattle.tree_growth.proofs.Loaded.{power_some}
-use Rattle.tree_shape.proofs.Bare.{all_mapped}
-use Rattle.tree_shape.proofs.Height.{three_at_least}
+use Rattle.tree_shape.proofs.Published.{all_mapped, three_at_least}
 
 pub members_long : (a : ℕ) (ks : List ℕ) (ps : List Member) → length ps ≡ length ks → length (members_from a ks ps) ≡ in_group a ps
 members_long a [] [] long = refl

@@ -1,7 +1,7 @@
 -- The rows of a table.
 use Rattle.std.proofs.Common.{◌≡◌, ℕ, zero, suc, ◌+◌, ◌-◌, ◌*◌, ◌<◌, List, [], ◌∷◌, ◌++◌, refl, ap, ◌∙◌, arith, length, map, get_or, take, drop}
 use Rattle.std.specs.List.{flat_map}
-use Rattle.metric_laws.proofs.Lists.{length_map}
+use Rattle.metric_laws.proofs.Published.{length_map}
 use Rattle.metric_laws.specs.Space.{Space}
 use Rattle.tree_growth.specs.Dealing.{Ball, row, table_of, point_at}
 

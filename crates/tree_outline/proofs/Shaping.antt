@@ -5,7 +5,7 @@ use Rattle.std.specs.List.{AllByRecursion, flat_map}
 use Rattle.std.proofs.lemmas.List.{append-nil}
 use Rattle.metric_laws.specs.Space.{Space}
 use Rattle.metric_laws.specs.Counts.{next_count, count_up}
-use Rattle.metric_laws.proofs.Lists.{all_append, flat_map-append, flat_map-map}
+use Rattle.metric_laws.proofs.Published.{all_append, flat_map-append, flat_map-map}
 use Rattle.tree_shape.specs.declared.entry.InnerEntry.{InnerEntry}
 use Rattle.tree_shape.specs.declared.entry.Node.{Node}
 use Rattle.tree_shape.specs.declared.entry.Node.TheVariants.{Leaf, Inner}
@@ -17,14 +17,11 @@ use Rattle.page_store.specs.declared.pages.PageFault.TheVariants.{Repeats}
 use Rattle.page_store.specs.Reading.{nodes_of}
 use Rattle.page_store.specs.Shelf.{Shelf, HoldsSame, HasPageCause, IsPassing}
 use Rattle.page_store.specs.Tours.{children, Tours, Names, HasTourCause}
-use Rattle.page_store.proofs.Touring.{page_stops}
-use Rattle.page_store.proofs.SoundTour.{tour_passes}
-use Rattle.log_model.proofs.Reached.{count_up_more}
-use Rattle.log_model.proofs.Walk.{same_node}
+use Rattle.page_store.proofs.Published.{page_stops, tour_passes, holds_both, holds_none, told_then}
+use Rattle.log_model.proofs.Published.{count_up_more, same_node}
 use Rattle.tree_outline.specs.declared.outline.ShapeLine.{ShapeLine}
 use Rattle.tree_outline.specs.declared.outline.Named.{Named}
 use Rattle.tree_outline.specs.Shapes.{root_named, named_by, line_of, lines_of, lines_at, tree_lines, IsDrawn, Spot, IsSoundSpot, AreFront, IsDrawing, DrawsTo}
-use Rattle.page_store.proofs.Held.{holds_both, holds_none, told_then}
 
 -- the lines of the subtrees that are still to come
 abbrev pub left_lines : Nodes → List Spot → List ShapeLine

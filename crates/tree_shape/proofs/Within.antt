@@ -4,7 +4,7 @@ use Rattle.std.specs.Prelude.{IsTrue}
 use Rattle.std.specs.List.{AllByRecursion, flat_map}
 use Rattle.metric_laws.specs.Space.{Space}
 use Rattle.metric_laws.specs.Lists.{IsIn}
-use Rattle.metric_laws.proofs.Lists.{all_weaker, all_flat_map, in-append_left, in-append_right}
+use Rattle.metric_laws.proofs.Published.{all_weaker, all_flat_map, in-append_left, in-append_right}
 use Rattle.tree_shape.specs.declared.entry.LeafEntry.{LeafEntry}
 use Rattle.tree_shape.specs.declared.entry.InnerEntry.{InnerEntry}
 use Rattle.tree_shape.specs.Fill.{least_for}
@@ -52,11 +52,11 @@ module _ (old new : Nodes) where
   pub child_agrees : (h page : ℕ) → Agree old new (pages_at old (suc h) page) → (e : InnerEntry) → IsIn e (inner_entries (old page)) → Agree old new (pages_at old h e.child)
   child_agrees h page agree e k p l = agree p (inr (in-flat_map (λ e. pages_at old h e.child) (inner_entries (old page)) e p k l))
 
-  pub same_objects : (h page : ℕ) → Agree old new (pages_at old h page) → objects_at new h page ≡ objects_at old h page
-  same_objects zero page agree = ap leaf_entries (agree page (inl refl))
-  same_objects (suc h) page agree =
+  pub objects_stay : (h page : ℕ) → Agree old new (pages_at old h page) → objects_at new h page ≡ objects_at old h page
+  objects_stay zero page agree = ap leaf_entries (agree page (inl refl))
+  objects_stay (suc h) page agree =
       ap (λ o. flat_map (λ e. objects_at new h e.child) (inner_entries o)) (agree page (inl refl))
-      ∙ flat_map_agree (λ e. objects_at new h e.child) (λ e. objects_at old h e.child) (inner_entries (old page)) (λ e k. same_objects h e.child (child_agrees h page agree e k))
+      ∙ flat_map_agree (λ e. objects_at new h e.child) (λ e. objects_at old h e.child) (inner_entries (old page)) (λ e k. objects_stay h e.child (child_agrees h page agree e k))
 
   pub same_pages : (h page : ℕ) → Agree old new (pages_at old h page) → pages_at new h page ≡ pages_at old h page
   same_pages zero page agree = refl
@@ -75,7 +75,7 @@ module _ (old new : Nodes) where
           record {
             point_fits = w.0.point_fits;
             parent_is = w.0.parent_is;
-            covers = subst (Covers s e) (sym (same_objects h e.child (agrees e k))) w.0.covers;
+            covers = subst (Covers s e) (sym (objects_stay h e.child (agrees e k))) w.0.covers;
           },
           still_sound s h e.child (agrees e k) (least_for s.words) (Some e.point) w.1,
         )) sound.3,

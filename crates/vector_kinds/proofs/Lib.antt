@@ -1,3 +1,4 @@
 pub mod Words
 pub mod Folds
 pub mod Counting
+pub mod Published

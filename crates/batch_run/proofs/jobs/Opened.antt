@@ -14,17 +14,17 @@ use Rattle.node_page.specs.Opening.{OpensTo}
 use Rattle.page_store.specs.Files.{IsSoundFile, nodes_in}
 use Rattle.page_store.specs.Reading.{Read, nodes_of, reading}
 use Rattle.file_jobs.specs.Jobs.{Refuses}
-use Rattle.file_jobs.proofs.Unsound.{no_index_unsound}
+use Rattle.file_jobs.proofs.Published.{no_index_unsound}
 use Rattle.batch_run.specs.declared.images.ImageFault.{ImageFault}
 use Rattle.batch_run.specs.declared.images.ImageFault.TheVariants as fault
 use Rattle.batch_run.specs.Images.{HasImageCause, ImagesHoldTheFile, IsImageOf}
 use Rattle.answer_texts.specs.Asked.{Held, held_in}
-use Rattle.answer_texts.proofs.Endings.{disk_ends, input_ends, long_ends, memory_ends}
+use Rattle.answer_texts.proofs.Published.{disk_ends, input_ends, long_ends, memory_ends}
 use Rattle.image_answers.specs.Outcomes.{HasDamage}
 use Rattle.file_jobs.specs.Spaces.{space_of}
 use Rattle.batch_run.specs.Jobs.Batches.{HasFinished, HasOpened, RunsOn, RunsScript}
 use Rattle.batch_run.proofs.jobs.Running.{unread}
-use Rattle.outside_io.proofs.Rising.{rose_before}
+use Rattle.outside_io.proofs.Published.{rose_before}
 
 -- another status
 pub not_these : (n k : ℕ) → n ≡ k → k ≢ 0 → k ≢ 4 → k ≢ 9 → (n ≡ 0) ⊎ ((n ≡ 4) ⊎ (n ≡ 9)) → ⊥

@@ -7,14 +7,14 @@ use Rattle.std.proofs.lemmas.List.{append-nil, take_more, take-append-drop}
 use Rattle.std.proofs.Math.Seq.{drop-cons}
 use Rattle.outside_io.specs.Causes.{Rose}
 use Rattle.outside_io.specs.Sinks.{SinkState}
-use Rattle.metric_laws.proofs.Lists.{all_append}
+use Rattle.metric_laws.proofs.Published.{all_append}
 use Rattle.answer_texts.specs.Put.{IsCut}
-use Rattle.answer_texts.proofs.Behind.{cut_behind}
+use Rattle.answer_texts.proofs.Published.{cut_behind}
 use Rattle.batch_run.specs.declared.jobs.preparing.Prepared.{Prepared}
 use Rattle.batch_run.specs.declared.jobs.stop.Stop.{Stop}
 use Rattle.batch_run.specs.declared.jobs.stop.Stop.TheVariants as stop
 use Rattle.batch_run.specs.Jobs.Putting.{ArePut, Follows, IsDone, IsPut, all_logged, all_said, logged, said}
-use Rattle.outside_io.proofs.Rising.{rose_before}
+use Rattle.outside_io.proofs.Published.{rose_before}
 
 said_push : (ps : List Prepared) (o : Prepared) → all_said (ps ++ o ∷ []) ≡ all_said ps ++ said o
 said_push [] o = append-nil (said o)

@@ -19,7 +19,7 @@ use Rattle.answer_texts.specs.Answered.{Answered, commands_of, framed, if_any, l
 use Rattle.answer_texts.specs.Asked.{Held, answered_query, held_in}
 use Rattle.answer_texts.specs.Ending.{Ends, IsTold}
 use Rattle.answer_texts.specs.Put.{AreCut}
-use Rattle.answer_texts.proofs.Behind.{framed_both, told_behind}
+use Rattle.answer_texts.proofs.Published.{framed_both, told_behind}
 use Rattle.image_answers.specs.declared.outcome.Outcome.{Outcome}
 use Rattle.image_answers.specs.declared.outcome.Outcome.TheVariants as outcome
 use Rattle.image_answers.specs.Outcomes.{HasDamage, IsOutcomeOf, IsTold as IsAnswered, IsTurn}

@@ -47,8 +47,8 @@ is_within (range ∷ ranges) i = (nat_le range.0 i && nat_lt i (range.0 + range.
 unfoldable pub is_open : Kept → ℕ → Bool
 is_open kept i = nat_le (length kept.synced) i || is_within kept.ranges i
 
--- The open places hold any bytes (any numbers at all: what holds of each of these holds of bytes), and every other place its byte as of the last sync. The length lies between the size
--- then and the greatest size since.
+-- The open places hold any bytes (any numbers at all: what holds of each of these holds of bytes), and every other place its
+-- byte as of the last sync. The length lies between the size then and the greatest size since.
 pub record IsImage (kept : Kept) (image : List ℕ) : Type 0 where
   pub no_shorter : length kept.synced ≤ length image
   pub no_longer : length image ≤ length kept.last

@@ -9,7 +9,7 @@ use Rattle.file_jobs.specs.declared.logs.stop.Stop.{Stop}
 use Rattle.file_jobs.specs.declared.logs.stop.Stop.TheVariants as stop
 use Rattle.file_jobs.specs.Logs.Sayings.{Saying}
 use Rattle.file_jobs.specs.Logs.Jobs.{Puts, Writes, Stops, IsCut, JudgesBytes, IsJudgeStatus, TakesLogs, EndsUnread, ReadsLogs}
-use Rattle.outside_io.proofs.Rising.{rose_before}
+use Rattle.outside_io.proofs.Published.{rose_before}
 
 -- two numbers that differ
 pub clash : {P : Type 0} (n a b : ℕ) → n ≡ a → n ≡ b → a ≢ b → P

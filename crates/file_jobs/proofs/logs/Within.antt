@@ -3,7 +3,7 @@ use Rattle.std.proofs.Common.{◌≡◌, ℕ, Bool, true, false, List, Ok, refl,
 use Rattle.tree_shape.specs.declared.entry.Node.{Node}
 use Rattle.node_page.specs.declared.node.Version.TheVariants.{Second}
 use Rattle.page_store.specs.Reading.{IsWithin, is_within, reading}
-use Rattle.page_store.proofs.Answers.{within_by_test, reads_outside}
+use Rattle.page_store.proofs.Published.{within_by_test, reads_outside}
 use Rattle.tree_audit.specs.Laws.{HasNodesWithin}
 
 within : (dim pages : ℕ) (file : List ℕ) (page : ℕ) (node : Node) (b : Bool) → is_within pages page ≡ b → reading dim pages file page ≡ Ok node → IsWithin pages page

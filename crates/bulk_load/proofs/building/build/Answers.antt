@@ -2,7 +2,7 @@ use Rattle.std.proofs.Common.{◌-◌, ◌∙◌, ℕ, ap, subst, arith, length}
 use Rattle.tree_shape.specs.declared.live.Live.{Live}
 use Rattle.page_store.specs.Numbers.{number_at}
 use Rattle.page_store.specs.Placing.{HasRoomCause, IsPlacement}
-use Rattle.page_store.proofs.Giving.{staged_out}
+use Rattle.page_store.proofs.Published.{staged_out}
 use Rattle.bulk_load.specs.Groupable.{load_of}
 use Rattle.bulk_load.proofs.Committed.{rows_few, lawful_load, root_given, low, nodes_low, nodes_writable, nodes_counted, staged_counted}
 use Rattle.bulk_load.proofs.Itself.{by_itself}

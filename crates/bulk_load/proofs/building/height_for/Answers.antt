@@ -2,7 +2,7 @@ use Rattle.std.proofs.Common.{◌≡◌, ◌-◌, ap, arith, refl}
 use Rattle.std.proofs.Math.Nat.{mul-le-mul_left}
 use Rattle.tree_growth.specs.Bulk.{height_from}
 use Rattle.bulk_load.proofs.Heights.{higher}
-use Rattle.tree_growth.proofs.LoadSound.{power_one}
+use Rattle.tree_growth.proofs.Published.{power_one}
 use Rattle.bulk_load.proofs.building.height_for.Goals as goal
 
 pub loop-room-init : goal.loop-room-init

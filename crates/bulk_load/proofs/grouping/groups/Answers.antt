@@ -2,7 +2,7 @@ use Rattle.std.proofs.Common.{◌≡◌, ℕ, ◌^◌, ◌≤◌, arith, ◌∙�
 use Rattle.std.specs.Prelude.{map}
 use Rattle.std.proofs.Math.Nat.{one-le-pow, pow-le-pow_left}
 use Rattle.tree_growth.specs.Bulk.{groups_from, groups_at, point_of, Load}
-use Rattle.par_work.proofs.Joining.{if_ok}
+use Rattle.par_work.proofs.Published.{if_ok}
 use Rattle.bulk_load.specs.Groupable.{load_of}
 use Rattle.bulk_load.specs.Measured.{Measured, measured, points_of}
 use Rattle.bulk_load.proofs.Members.{groups_are}

@@ -1,5 +1,5 @@
 use Rattle.std.proofs.Common.{◌≡◌, Bool, ◌∙◌, ap}
-use Rattle.par_work.proofs.Joining.{if_ok}
+use Rattle.par_work.proofs.Published.{if_ok}
 use Rattle.tree_growth.specs.Bulk.{groups_at}
 use Rattle.bulk_load.specs.Groupable.{load_of}
 use Rattle.bulk_load.specs.Postorder.{is_top}

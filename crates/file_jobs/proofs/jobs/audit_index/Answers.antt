@@ -8,7 +8,7 @@ use Rattle.file_jobs.specs.Jobs.{IsAudited, IsPassing}
 use Rattle.file_jobs.proofs.Statuses.{neither}
 use Rattle.file_jobs.proofs.Ends.{audited_before, sound_before, told_by, audit_rose, none_of_three, none_of_four}
 use Rattle.file_jobs.proofs.jobs.audit_index.Goals as goal
-use Rattle.outside_io.proofs.Rising.{rose_before}
+use Rattle.outside_io.proofs.Published.{rose_before}
 
 pub returns-in-Err-clause-audits : goal.returns-in-Err-clause-audits
 returns-in-Err-clause-audits g c =

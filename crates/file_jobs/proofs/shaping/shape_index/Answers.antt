@@ -5,7 +5,7 @@ use Rattle.file_jobs.proofs.Ends.{none_of_three}
 use Rattle.file_jobs.proofs.Shaped.{shape_before, damage_before, stop_rose}
 use Rattle.file_jobs.proofs.Unsound.{no_index_unsound, damaged_unsound}
 use Rattle.file_jobs.proofs.shaping.shape_index.Goals as goal
-use Rattle.outside_io.proofs.Rising.{rose_before}
+use Rattle.outside_io.proofs.Published.{rose_before}
 
 pub returns-in-Err-clause-shapes : goal.returns-in-Err-clause-shapes
 returns-in-Err-clause-shapes g c =

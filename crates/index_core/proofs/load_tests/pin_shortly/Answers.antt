@@ -1,7 +1,7 @@
 use Rattle.std.proofs.Common.{◌≡◌, ℕ, [], ◌∷◌, inl, refl, sym, ap, subst, Option, Some, None}
 use Rattle.std.specs.Prelude.{MatchOption}
 use Rattle.metric_laws.specs.Lists.{IsIn}
-use Rattle.metric_laws.proofs.Lists.{in-append_right}
+use Rattle.metric_laws.proofs.Published.{in-append_right}
 use Rattle.tree_shape.specs.declared.live.Live.{Live}
 use Rattle.free_pages.specs.Keeping.{FreePages}
 use Rattle.index_core.specs.Pinning.{IsPinned, pinned}

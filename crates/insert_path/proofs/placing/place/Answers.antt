@@ -15,8 +15,7 @@ use Rattle.insert_path.proofs.Replaced.{takes_place, walks_within}
 use Rattle.insert_path.proofs.placing.place.Goals as goal
 use Rattle.page_store.specs.Numbers.{number_at}
 use Rattle.page_store.specs.Placing.{HasRoomCause, IsPlacement}
-use Rattle.page_store.proofs.Giving.{staged_out, given_out}
-use Rattle.page_store.proofs.Given.{number_up, number_within}
+use Rattle.page_store.proofs.Published.{staged_out, given_out, number_up, number_within}
 
 pub settle-requires-clause-count : goal.settle-requires-clause-count
 settle-requires-clause-count g c =

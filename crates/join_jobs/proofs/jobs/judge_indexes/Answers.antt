@@ -2,7 +2,7 @@ use Rattle.std.proofs.Common.{ap}
 use Rattle.std.specs.Prelude.{Err}
 use Rattle.disk_model.specs.Moments.{then_unchanged}
 use Rattle.file_jobs.specs.Logs.Jobs.{Writes}
-use Rattle.file_jobs.proofs.logs.Ends.{judged_all, judged_some, judged_none, said_all, said_some}
+use Rattle.file_jobs.proofs.Published.{judged_all, judged_some, judged_none, said_all, said_some}
 use Rattle.join_jobs.specs.Trees.{tree_of, said_of}
 use Rattle.join_jobs.proofs.Ending.{Opened, either_before, on_trees}
 use Rattle.join_jobs.proofs.jobs.judge_indexes.Goals as goal

@@ -4,9 +4,8 @@ use Rattle.tree_shape.specs.Tree.{IsSoundTree}
 use Rattle.log_model.specs.declared.logs.JoinLog.{JoinLog}
 use Rattle.join_jobs.specs.Trees.{space_of, read_of, tree_nodes, judge_of}
 use Rattle.join_jobs.specs.Laws.{IsCompleteLog}
-use Rattle.file_jobs.proofs.logs.Within.{nodes_within}
+use Rattle.file_jobs.proofs.Published.{nodes_within, show_logs}
 use Rattle.join_jobs.proofs.Spaces.{one_space}
-use Rattle.file_jobs.proofs.logs.Showing.{show_logs}
 use Rattle.join_jobs.specs.Lines.{join_words}
 use Rattle.join_jobs.proofs.laws.faultless_is_complete.Goals as goal
 

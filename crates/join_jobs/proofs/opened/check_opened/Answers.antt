@@ -5,10 +5,10 @@ use Rattle.outside_io.specs.declared.status.Status.{Status}
 use Rattle.file_jobs.specs.declared.logs.report.Report.TheVariants as report
 use Rattle.file_jobs.specs.Logs.Jobs.{Puts, stop_of}
 use Rattle.file_jobs.specs.Logs.Sayings.{Saying, on_file}
-use Rattle.file_jobs.proofs.logs.Audits.{file_stopped, file_unsound, unsound_status, file_then, sound_status}
+use Rattle.file_jobs.proofs.Published.{file_stopped, file_unsound, unsound_status, file_then, sound_status}
 use Rattle.join_jobs.specs.Trees.{Tree, tree_of, fault_of, said_of_logs}
 use Rattle.join_jobs.proofs.opened.check_opened.Goals as goal
-use Rattle.outside_io.proofs.Rising.{rose_before}
+use Rattle.outside_io.proofs.Published.{rose_before}
 
 -- what is said of the other file, and of the logs where it is sound
 abbrev on_other : Tree → Tree → List ℕ → Saying

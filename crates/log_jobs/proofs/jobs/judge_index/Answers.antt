@@ -1,10 +1,10 @@
 use Rattle.std.proofs.Common.{ap}
 use Rattle.std.specs.Prelude.{Err}
 use Rattle.disk_model.specs.Moments.{then_unchanged}
-use Rattle.file_jobs.proofs.logs.Ends.{judged_all, judged_some, judged_none}
+use Rattle.file_jobs.proofs.Published.{judged_all, judged_some, judged_none}
 use Rattle.log_jobs.proofs.Ending.{says_all, says_some}
 use Rattle.log_jobs.proofs.jobs.judge_index.Goals as goal
-use Rattle.outside_io.proofs.Rising.{rose_before}
+use Rattle.outside_io.proofs.Published.{rose_before}
 
 pub returns-in-Ok-report_on-clause-judges : goal.returns-in-Ok-report_on-clause-judges
 returns-in-Ok-report_on-clause-judges g c =

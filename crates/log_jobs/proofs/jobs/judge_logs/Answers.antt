@@ -1,5 +1,5 @@
 use Rattle.page_store.specs.Kept.{unchanged_by_none}
-use Rattle.file_jobs.proofs.logs.Ends.{judged_late, read_all, read_none}
+use Rattle.file_jobs.proofs.Published.{judged_late, read_all, read_none}
 use Rattle.log_jobs.proofs.jobs.judge_logs.Goals as goal
 
 pub returns-in-Ok-clause-judges : goal.returns-in-Ok-clause-judges

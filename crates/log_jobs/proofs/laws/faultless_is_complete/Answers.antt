@@ -5,8 +5,7 @@ use Rattle.file_jobs.specs.Spaces.{space_of}
 use Rattle.file_jobs.specs.Logs.Files.{read_of}
 use Rattle.log_jobs.specs.Jobs.{judge_of}
 use Rattle.log_jobs.specs.Laws.{IsCompleteLog}
-use Rattle.file_jobs.proofs.logs.Within.{nodes_within}
-use Rattle.file_jobs.proofs.logs.Showing.{show_logs}
+use Rattle.file_jobs.proofs.Published.{nodes_within, show_logs}
 use Rattle.log_jobs.specs.Lines.{log_words}
 use Rattle.log_jobs.proofs.laws.faultless_is_complete.Goals as goal
 

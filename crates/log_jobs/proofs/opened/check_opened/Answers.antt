@@ -9,11 +9,11 @@ use Rattle.file_jobs.specs.declared.logs.report.Report.TheVariants as report
 use Rattle.file_jobs.specs.Logs.Files.{fault_of}
 use Rattle.file_jobs.specs.Logs.Jobs.{Puts, stop_of}
 use Rattle.file_jobs.specs.Logs.Sayings.{Saying, on_logs}
-use Rattle.file_jobs.proofs.logs.Audits.{file_stopped, file_unsound, unsound_status, file_then, sound_status}
+use Rattle.file_jobs.proofs.Published.{file_stopped, file_unsound, unsound_status, file_then, sound_status}
 use Rattle.log_jobs.specs.Lines.{log_words}
 use Rattle.log_jobs.specs.Jobs.{judge_of}
 use Rattle.log_jobs.proofs.opened.check_opened.Goals as goal
-use Rattle.outside_io.proofs.Rising.{rose_before}
+use Rattle.outside_io.proofs.Published.{rose_before}
 
 -- what is said of the file's logs
 abbrev said_on : List ℕ → Head → Live → List ℕ → Saying

@@ -6,7 +6,7 @@ use Rattle.log_verify.specs.JoinJudged.{join_walked}
 use Rattle.log_verify.proofs.Counting.{record_upto, records_upto, ask_on, ask_more}
 use Rattle.log_verify.proofs.JoinWays.{join_next, join_ends}
 use Rattle.log_verify.proofs.join_walking.walk_records.Goals as goal
-use Rattle.page_store.proofs.Held.{holds_both}
+use Rattle.page_store.proofs.Published.{holds_both}
 
 pub returns-in_err-take_record-clause-cause : goal.returns-in_err-take_record-clause-cause
 returns-in_err-take_record-clause-cause g c =

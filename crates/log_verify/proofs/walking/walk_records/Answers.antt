@@ -4,7 +4,7 @@ use Rattle.log_model.specs.Walk.{Search, search_at, root_need}
 use Rattle.log_verify.specs.Judged.{walked}
 use Rattle.log_verify.proofs.Ways.{way_next, way_ends, asked_next, asked_ends, cost_next, cost_ends}
 use Rattle.log_verify.proofs.walking.walk_records.Goals as goal
-use Rattle.page_store.proofs.Held.{holds_both}
+use Rattle.page_store.proofs.Published.{holds_both}
 
 pub returns-in_err-take_record-clause-few_asked : goal.returns-in_err-take_record-clause-few_asked
 returns-in_err-take_record-clause-few_asked g c =

@@ -1,5 +1,5 @@
 use Rattle.making_jobs.proofs.OldFiles.{nodes_within}
-use Rattle.file_jobs.proofs.Spaces.{space_by_head}
+use Rattle.file_jobs.proofs.Published.{space_by_head}
 use Rattle.making_jobs.proofs.migrating.audited_objects.Goals as goal
 
 pub old-pages-requires-clause-some : goal.old-pages-requires-clause-some

@@ -7,7 +7,7 @@ use Rattle.metric_join.specs.declared.walking.Waiting.{Waiting}
 use Rattle.metric_join.specs.Steps.{IsUnderWay}
 use Rattle.metric_join.proofs.Stops.{on_with, stops_with}
 use Rattle.metric_join.proofs.walking.walk_pairs.Goals as goal
-use Rattle.page_store.proofs.Held.{holds_both}
+use Rattle.page_store.proofs.Published.{holds_both}
 
 pub returns-in_err-open_pair-clause-cause : goal.returns-in_err-open_pair-clause-cause
 returns-in_err-open_pair-clause-cause g c =

@@ -1,5 +1,5 @@
 use Rattle.std.proofs.Common.{arith, get_or}
-use Rattle.vector_kinds.proofs.Counting.{count_end}
+use Rattle.vector_kinds.proofs.Published.{count_end}
 use Rattle.metric_mix.specs.Permutations.{is_discordant}
 use Rattle.metric_mix.proofs.permutations.discordant_after.Goals as goal
 

@@ -3,7 +3,7 @@ use Rattle.metric_mix.specs.MixKinds.{mix_dim, mix_kind}
 use Rattle.metric_mix.specs.MixSpaces.{mix_space}
 use Rattle.rows_text.specs.Script.{script}
 use Rattle.index_core.specs.Answers.{IsSoundOn}
-use Rattle.answer_texts.proofs.Endings.{memory_ends}
+use Rattle.answer_texts.proofs.Published.{memory_ends}
 use Rattle.mtree_cli.specs.Session.{LeavesAll, state_in}
 use Rattle.mtree_cli.proofs.Sessions.{few_read, finished, held, is_done, is_stopped, not_done, nothing_left, unread}
 use Rattle.mtree_cli.proofs.session_job.run_opened.Goals as goal

@@ -2,7 +2,7 @@ use Rattle.std.proofs.Common.{◌∙◌, ℕ, suc, ap, subst, refl, arith}
 use Rattle.std.specs.BinaryHeap.{heap_items}
 use Rattle.metric_laws.specs.Counts.{next_count}
 use Rattle.log_model.specs.Walk.{search_at}
-use Rattle.log_model.proofs.Reached.{count_up_more}
+use Rattle.log_model.proofs.Published.{count_up_more}
 use Rattle.nearest_search.specs.Counts.{IsRadius}
 use Rattle.nearest_search.specs.Keeping.{kept_node}
 use Rattle.nearest_search.proofs.Explored.{explore_begins, explore_steps, explore_room, explore_passes, explore_cause, explore_repeats}

@@ -3,7 +3,7 @@ use Rattle.std.specs.Prelude.{map}
 use Rattle.std.specs.BinaryHeap.{heap_items}
 use Rattle.scan_model.specs.declared.hit.Hit.{Hit}
 use Rattle.log_model.specs.Walk.{Search, search_at, away}
-use Rattle.log_model.proofs.OneEntry.{leaf_far, leaf_near}
+use Rattle.log_model.proofs.Published.{leaf_far, leaf_near}
 use Rattle.nearest_search.specs.Counts.{within, one_within}
 use Rattle.nearest_search.specs.Opened.{leaf_dists}
 use Rattle.nearest_search.proofs.Waits.{noted_next}

@@ -2,7 +2,7 @@ use Rattle.std.proofs.Common.{◌≡◌, ◌∙◌, ◌∷◌, ℕ, suc, ap, ari
 use Rattle.std.proofs.lemmas.Grind.{common_steps}
 use Rattle.metric_laws.specs.Counts.{next_count}
 use Rattle.log_model.specs.Walk.{search_at}
-use Rattle.log_model.proofs.Reached.{count_up_more}
+use Rattle.log_model.proofs.Published.{count_up_more}
 use Rattle.range_search.proofs.Steps.{goes_on}
 use Rattle.range_search.proofs.searching.follow.Goals as goal
 

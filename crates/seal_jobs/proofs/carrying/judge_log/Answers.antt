@@ -1,4 +1,4 @@
-use Rattle.seal_log.proofs.OpenedFiles.{lawful-dim}
+use Rattle.seal_log.proofs.Published.{lawful-dim}
 use Rattle.seal_jobs.proofs.carrying.judge_log.Goals as goal
 
 pub new-pages-requires-clause-some : goal.new-pages-requires-clause-some

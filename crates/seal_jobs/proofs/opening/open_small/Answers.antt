@@ -1,8 +1,7 @@
 use Rattle.std.proofs.Common.{inl, inr, refl, subst, arith, ⊎_elim}
 use Rattle.std.specs.Prelude.{codes}
 use Rattle.outside_io.specs.Sinks.{Tells}
-use Rattle.file_jobs.proofs.Ends.{is_first, only, no_index, rose_by_disk}
-use Rattle.file_jobs.proofs.Statuses.{neither}
+use Rattle.file_jobs.proofs.Published.{is_first, only, no_index, rose_by_disk, neither}
 use Rattle.seal_jobs.proofs.opening.open_small.Goals as goal
 
 pub returns-then-head-ne2-clause-refuses : goal.returns-then-head-ne2-clause-refuses

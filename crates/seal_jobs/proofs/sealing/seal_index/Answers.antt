@@ -5,10 +5,10 @@ use Rattle.metric_mix.specs.MixSpaces.{mix_space}
 use Rattle.page_store.specs.Reading.{reading}
 use Rattle.tree_audit.specs.Audited.{audit_fault}
 use Rattle.file_jobs.specs.Jobs.{IsAudited, IsPassing}
-use Rattle.file_jobs.proofs.Ends.{audited_before, told_by, audit_rose, none_of_four}
+use Rattle.file_jobs.proofs.Published.{audited_before, told_by, audit_rose, none_of_four}
 use Rattle.seal_jobs.proofs.Opened.{not_large, sealed_before}
 use Rattle.seal_jobs.proofs.sealing.seal_index.Goals as goal
-use Rattle.outside_io.proofs.Rising.{rose_before}
+use Rattle.outside_io.proofs.Published.{rose_before}
 
 pub returns-in-Ok-audit_opened-clause-seals : goal.returns-in-Ok-audit_opened-clause-seals
 returns-in-Ok-audit_opened-clause-seals g c =

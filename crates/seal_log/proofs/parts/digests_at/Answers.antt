@@ -1,7 +1,7 @@
 use Rattle.std.proofs.Common.{None, sym, subst, ◌∙◌}
 use Rattle.std.proofs.lemmas.Result.{err_from_is_err_and}
 use Rattle.prune_log.specs.Reading.{Fails, many, front_at, always}
-use Rattle.prune_log.proofs.Loop.{last_of, goes_on, ends, is_done}
+use Rattle.prune_log.proofs.Published.{last_of, goes_on, ends, is_done}
 use Rattle.seal_log.proofs.Loops.{next-always}
 use Rattle.seal_log.proofs.parts.digests_at.Goals as goal
 

@@ -1,6 +1,6 @@
 use Rattle.std.proofs.Common.{◌≡◌, ◌-◌, None}
 use Rattle.prune_log.specs.Reading.{many, front_at, always}
-use Rattle.prune_log.proofs.Loop.{with_front, last_of}
+use Rattle.prune_log.proofs.Published.{with_front, last_of}
 use Rattle.seal_log.proofs.parts.digests_at.Given as goal
 
 abbrev pub invariant-loop : goal.invariant-loop

@@ -1,5 +1,5 @@
 use Rattle.std.proofs.Common.{◌≡◌, ◌-◌, None}
-use Rattle.prune_log.proofs.Loop.{with_front}
+use Rattle.prune_log.proofs.Published.{with_front}
 use Rattle.seal_log.specs.Reading.{pages_at}
 use Rattle.seal_log.proofs.parts.pages_at.Given as goal
 

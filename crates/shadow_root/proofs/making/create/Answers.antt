@@ -1,5 +1,5 @@
 use Rattle.std.proofs.Common.{sym, ◌∙◌, subst, IsTrue, Bool}
-use Rattle.page_store.proofs.Results.{holds_at_ok}
+use Rattle.page_store.proofs.Published.{holds_at_ok}
 use Rattle.shadow_root.proofs.making.create.Goals as goal
 
 pub returns-clause-made : goal.returns-clause-made

@@ -1,7 +1,7 @@
 use Rattle.std.proofs.Common.{sym, ◌∙◌, ap, refl}
 use Rattle.tree_shape.specs.declared.live.Live.{Live}
 use Rattle.node_page.specs.Opening.{is_lawful_live}
-use Rattle.node_page.proofs.Opened.{lawful_by_test}
+use Rattle.node_page.proofs.Published.{lawful_by_test}
 use Rattle.shadow_root.proofs.Opened.{not_clear, not_lawful}
 use Rattle.shadow_root.proofs.opening.live_in.Goals as goal
 

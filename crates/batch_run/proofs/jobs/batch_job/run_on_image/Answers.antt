@@ -6,7 +6,7 @@ use Rattle.metric_laws.specs.Space.{Space}
 use Rattle.metric_mix.specs.MixKinds.{mix_dim, mix_kind}
 use Rattle.metric_mix.specs.MixSpaces.{mix_space}
 use Rattle.rows_text.specs.Script.{script}
-use Rattle.answer_texts.proofs.Endings.{memory_ends}
+use Rattle.answer_texts.proofs.Published.{memory_ends}
 use Rattle.batch_run.specs.Jobs.Preparing.{IsPreparedFor}
 use Rattle.file_jobs.specs.Spaces.{space_of}
 use Rattle.batch_run.proofs.jobs.Running.{all_put, finished, stopped, unread}

@@ -1,5 +1,5 @@
 use Rattle.std.proofs.Common.{◌≡◌, ◌<◌, ℕ, ◌∙◌, List, length, ap, sym, subst}
-use Rattle.metric_laws.proofs.Lists.{length_map}
+use Rattle.metric_laws.proofs.Published.{length_map}
 use Rattle.tree_growth.specs.Bulk.{row_of}
 use Rattle.tree_growth.specs.Groups.{entry}
 use Rattle.bulk_load.specs.Measured.{Measured, points_of}

@@ -8,7 +8,7 @@ use Rattle.hit_tags.specs.Met.{IsNoneNear}
 use Rattle.hit_tags.specs.Steps.{HasFollowed}
 use Rattle.hit_tags.proofs.Following.{upto_both, upto_more, way_on, way_past, way_ends, way_comes, cause_kept}
 use Rattle.hit_tags.proofs.walking.Walk.follow_all.Goals as goal
-use Rattle.page_store.proofs.Held.{holds_both}
+use Rattle.page_store.proofs.Published.{holds_both}
 
 pub returns-in_err-follow-clause-asked : goal.returns-in_err-follow-clause-asked
 returns-in_err-follow-clause-asked g c =

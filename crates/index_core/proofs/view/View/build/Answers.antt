@@ -1,7 +1,7 @@
 use Rattle.std.proofs.Common.{sym, ap, subst, ◌∙◌}
 use Rattle.tree_shape.specs.Tree.{Nodes, IsSoundTree}
 use Rattle.page_store.specs.Numbers.{AreNumbers}
-use Rattle.free_pages.proofs.Commits.{free_numbers}
+use Rattle.free_pages.proofs.Published.{free_numbers}
 use Rattle.index_core.specs.Files.{OpenFile}
 use Rattle.index_core.specs.Index.{AreSpare}
 use Rattle.index_core.specs.Writing.{Loads, IsPlacedFor}

@@ -6,7 +6,7 @@ use Rattle.page_store.specs.Placing.{AreOutside}
 use Rattle.page_store.specs.Reading.{nodes_of}
 use Rattle.page_store.specs.Shelf.{Shelf}
 use Rattle.page_store.specs.Succession.{TakesPlace}
-use Rattle.free_pages.proofs.Commits.{free_numbers}
+use Rattle.free_pages.proofs.Published.{free_numbers}
 use Rattle.index_core.specs.Files.{OpenFile, nodes_on}
 use Rattle.index_core.specs.Writing.{Inserts, IsPlacedFor}
 use Rattle.index_core.proofs.Listed.{free_outside, placed_for}

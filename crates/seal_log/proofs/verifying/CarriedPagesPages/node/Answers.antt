@@ -1,5 +1,5 @@
 use Rattle.std.proofs.Common.{ℕ, refl, sym, ap, ◌∙◌}
-use Rattle.page_store.proofs.Answers.{answers_node, answers_fault, answers_outside, not_outside}
+use Rattle.page_store.proofs.Published.{answers_node, answers_fault, answers_outside, not_outside}
 use Rattle.node_page.specs.declared.node.Version.TheVariants.{Second}
 use Rattle.node_page.specs.Opening.{page_of}
 use Rattle.tree_shape.specs.declared.live.Live.{Live}

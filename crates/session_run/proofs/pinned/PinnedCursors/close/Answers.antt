@@ -2,7 +2,7 @@ use Rattle.std.proofs.Common.{sym, ap, subst, ◌∙◌}
 use Rattle.std.specs.Prelude.{◌==◌, not}
 use Rattle.std.specs.List.{AllByRecursion}
 use Rattle.std.proofs.lemmas.List.Quantifiers.{position-Some}
-use Rattle.metric_laws.proofs.Lists.{all_filter}
+use Rattle.metric_laws.proofs.Published.{all_filter}
 use Rattle.session_run.specs.declared.pinned.PinnedCursor.{PinnedCursor}
 use Rattle.index_core.specs.Index.{OpenIndex}
 use Rattle.session_run.specs.Pinned.{GoesThrough, IsKeptBy, StandsFor}

@@ -1,0 +1,4 @@
+-- The lemmas that proofs of crates above cite; all else in proofs/ is this crate's own.
+
+-- A count that rose later rose since.
+pub use Rattle.outside_io.proofs.Rising.{rose_before}

@@ -1,0 +1,4 @@
+-- The lemmas that proofs of crates above cite; all else in proofs/ is this crate's own.
+
+-- What a command does that leaves the objects of a file as they are.
+pub use Rattle.session_run.proofs.Reading.{objects_on}
