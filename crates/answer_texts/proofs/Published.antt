@@ -2,6 +2,5 @@
 
 -- What stands on the outputs behind what was put whole.
 pub use Rattle.answer_texts.proofs.Behind.{framed_both, told_behind, cut_behind}
-
 -- What an end with a line says, by the status.
 pub use Rattle.answer_texts.proofs.Endings.{input_ends, long_ends, disk_ends, memory_ends}

@@ -2,24 +2,17 @@
 
 -- Statuses that are not.
 pub use Rattle.file_jobs.proofs.Statuses.{neither}
-
 -- What a lawful head says of its space.
 pub use Rattle.file_jobs.proofs.Spaces.{space_by_head}
-
 -- How an audit ends, by what its parts told.
 pub use Rattle.file_jobs.proofs.Ends.{no_index, rose_by_disk, told_by, audit_rose, only, none_of_three, none_of_four, is_first, audited_before, sound_before}
-
 -- Files that are not sound.
 pub use Rattle.file_jobs.proofs.Unsound.{no_index_unsound}
-
 -- What is said of a file and of what follows it, by what was put.
 pub use Rattle.file_jobs.proofs.logs.Audits.{file_stopped, file_unsound, unsound_status, file_then, sound_status}
-
 -- How a job ends, by what was put before.
 pub use Rattle.file_jobs.proofs.logs.Ends.{of_two, of_three, said_all, said_some, judged_all, judged_some, judged_none, judged_late, read_all, read_none}
-
 -- The texts on logs show which are complete.
 pub use Rattle.file_jobs.proofs.logs.Showing.{show_logs}
-
 -- Nodes stand below a file's number of pages.
 pub use Rattle.file_jobs.proofs.logs.Within.{nodes_within}

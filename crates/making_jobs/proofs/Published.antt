@@ -2,6 +2,5 @@
 
 -- What a new index that was filled holds, and what is written of it.
 pub use Rattle.making_jobs.proofs.Generated.{no_memory}
-
 -- How `migrate` ends.
 pub use Rattle.making_jobs.proofs.Migrated.{migrates_no_memory}

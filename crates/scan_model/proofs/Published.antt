@@ -2,6 +2,5 @@
 
 -- The answers of a range query are the objects within the radius, in order.
 pub use Rattle.scan_model.proofs.RangeLaw.{range_answers}
-
 -- The answers of a join are the pairs within the radius, in order.
 pub use Rattle.scan_model.proofs.JoinLaw.{join_answers}
