@@ -5,11 +5,9 @@ ghost use Rattle.disk_model.specs.Disk.{IsUnchanged};
 ghost use Rattle.batch_run.specs.Images.{IsImageOf, HasImageCause};
 
 use disk_model::Disk;
+use file_jobs::MOST_WHOLE_PAGES;
 use std::alloc::Global;
 use thiserror::Error;
-
-/// The most pages that are read into memory: 2^30 bytes.
-pub const MOST_PAGES: u32 = 262_144;
 
 /// Why a file was not read into memory.
 #[derive(Clone, Copy, Debug, PartialEq, Eq, Error)]
@@ -17,7 +15,7 @@ pub enum ImageFault {
     /// The disk failed.
     #[error("the file could not be read")]
     Disk,
-    /// There are more than `MOST_PAGES` pages.
+    /// There are more than `MOST_WHOLE_PAGES` pages.
     #[error("the file has too many pages")]
     TooLong,
     /// There was no memory for the bytes.
@@ -39,7 +37,7 @@ pub fn read_image<D: Disk>(alloc: Global, disk: &mut D, pages: u32) -> Result<Ve
     ensures done { OnOk result ((D.state disk.new).faults ≡ (D.state disk.old).faults) }
     ensures later { (D.state disk.old).faults ≤ (D.state disk.new).faults }
 {
-    if pages > MOST_PAGES {
+    if pages > MOST_WHOLE_PAGES {
         return Err(ImageFault::TooLong);
     }
     let Ok(mut image) = vec![in alloc; 0u8; pages as usize * 4096] else {

@@ -10,7 +10,7 @@ pub mod laws;
 
 pub use auditing::{audit_image, sound_by_parts};
 pub use batching::batch;
-pub use images::{ImageFault, MOST_PAGES, read_image};
+pub use images::{ImageFault, read_image};
 
 /// Want of memory.
 pub type Memory = std::alloc::AllocError;

@@ -22,10 +22,7 @@ use node_page::Head;
 use page_store::{NewTree, Numbering, Placed, RoomFault, settle};
 use std::alloc::Global;
 use std::thread::Threads;
-use tree_shape::{Live, fill};
-
-/// The last generation.
-const LAST_GENERATION: u64 = (1 << 48) - 1;
+use tree_shape::{LAST_GENERATION, Live, fill};
 
 // The least height of a tree that has room for so many objects.
 fn height_for(most: usize, count: usize) -> u32

@@ -13,14 +13,8 @@ use page_store::Placed;
 use std::alloc::Global;
 use std::process::Abort;
 use std::thread::Threads;
-use tree_shape::{InnerEntry, LeafEntry, Live, Node};
+use tree_shape::{InnerEntry, LAST_GENERATION, LeafEntry, Live, MOST_PAGES, Node};
 use vector_kinds::L1;
-
-/// The greatest number of pages of a file.
-const MOST_PAGES: u32 = 1 << 24;
-
-/// The last generation.
-const LAST_GENERATION: u64 = (1 << 48) - 1;
 
 // A head of one dimension under L1.
 #[tactic(auto, unfolding(node_page::specs::Heads::is_version, node_page::specs::Heads::is_space, node_page::specs::Heads::is_policy, node_page::specs::Heads::is_limit))]

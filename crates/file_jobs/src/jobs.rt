@@ -27,6 +27,9 @@ use std::alloc::Global;
 use tree_audit::{AuditFault, Audited, audit};
 use tree_shape::Live;
 
+/// The most pages of an index that a job takes whole, into memory or under a seal: 1 GiB.
+pub const MOST_WHOLE_PAGES: u32 = 262_144;
+
 /// The line of want of memory.
 pub const FAULT_MEMORY: &[u8] = b"fault memory\n";
 

@@ -20,10 +20,7 @@ use node_page::Head;
 use page_store::{Numbering, Pages, Placed, RoomFault, settle};
 use promote_split::Policy;
 use std::alloc::Global;
-use tree_shape::{Live, fill};
-
-/// The last generation.
-const LAST_GENERATION: u64 = (1 << 48) - 1;
+use tree_shape::{LAST_GENERATION, Live, fill};
 
 /// Inserts an object with the point `p` and the tag `tag` into the tree of a file, and gives the nodes that are new, for a
 /// commit. Its id is the number of objects before. New nodes get the pages `numbers`, in order, and then those from the

@@ -9,10 +9,7 @@ use crate::PageFault;
 use disk_model::{Disk, Failed};
 use node_page::{NodeFault, decode_node, decode_old_node};
 use std::alloc::Global;
-use tree_shape::Node;
-
-/// The bytes in a page.
-const PAGE: u64 = 4096;
+use tree_shape::{Node, PAGE};
 
 /// Reads the bytes of a page, of which those past the end of the file are 0. After `Failed` the buffer may hold anything.
 pub fn read_page<D: Disk>(disk: &mut D, page: u32, bytes: &mut [u8; 4096]) -> Result<(), Failed>

@@ -12,10 +12,7 @@ use crate::staging::{Placed, Staged};
 use metric_laws::Listed;
 use std::alloc::Global;
 use thiserror::Error;
-use tree_shape::{Live, Node};
-
-/// The number of pages that a file may have.
-const MOST_PAGES: u32 = 1 << 24;
+use tree_shape::{Live, MOST_PAGES, Node};
 
 /// A tree whose new nodes have no pages yet.
 #[derive(Debug, Drop)]

@@ -11,7 +11,6 @@ mod stop;
 mod taking;
 
 pub use carrying::carry_logs;
-pub use opening::MOST_PAGES;
 pub use proving::prove_logs;
 pub use sealing::seal_index;
 

@@ -6,14 +6,11 @@ ghost use Rattle.node_page.specs.Opening.{OpensTo};
 ghost use Rattle.seal_jobs.specs.Seals.{Refuses};
 
 use disk_model::Disk;
-use file_jobs::{end_unopened, end_with};
+use file_jobs::{MOST_WHOLE_PAGES, end_unopened, end_with};
 use node_page::Head;
 use outside_io::{Sink, Status};
 use shadow_root::open;
 use tree_shape::Live;
-
-/// The most pages of an index that is sealed: 1 GiB.
-pub const MOST_PAGES: u32 = 262_144;
 
 /// Opens an index of version 2 with up to 262144 pages. Else it writes why it is none, and answers the status: 5 where the
 /// disk failed, 6 where the file is no index of version 2, and 7 where it has more pages. Nothing is changed.
@@ -34,7 +31,7 @@ pub fn open_small<D: Disk, K: Sink>(disk: &mut D, out: &mut K) -> Result<(Head, 
             if head.version != 2 {
                 return Err(end_with(out, b"fault notindex version\n", 6));
             }
-            if live.pages > MOST_PAGES {
+            if live.pages > MOST_WHOLE_PAGES {
                 return Err(end_with(out, b"fault long\n", 7));
             }
             Ok((head, live))

@@ -12,10 +12,7 @@ ghost use Rattle.shadow_root.specs.Commit.{IsStagedAs, IsInPlace, HasNext, IsBef
 use disk_model::{Disk, Failed};
 use node_page::{Slot, encode_node, encode_slot};
 use page_store::Staged;
-use tree_shape::Live;
-
-/// The bytes of a page.
-pub const PAGE: u64 = 4096;
+use tree_shape::{Live, PAGE};
 
 /// The byte of an open gate. Every other byte is a closed one.
 pub const OPEN: u8 = 0xa5;

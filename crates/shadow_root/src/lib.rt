@@ -10,7 +10,7 @@ mod opening;
 pub use committing::commit;
 pub use faults::{CreateFault, OpenFault};
 pub use making::create;
-pub use opening::{LAST_GENERATION, MOST_PAGES, open};
+pub use opening::open;
 
 #[cfg(test)]
 mod tests;

@@ -7,10 +7,10 @@ ghost use Rattle.node_page.specs.Opening.{page_of};
 ghost use Rattle.shadow_root.specs.Making.{first_live, IsBare, IsMade, HasCreateCause};
 
 use crate::CreateFault;
-use crate::committing::{OPEN, PAGE, slot_of, write_through};
+use crate::committing::{OPEN, slot_of, write_through};
 use disk_model::{Disk, Failed};
 use node_page::{Head, Slot, clear, encode_head, encode_slot};
-use tree_shape::Live;
+use tree_shape::{Live, PAGE};
 
 /// The live tree of a new file: an empty leaf on page 3.
 const FIRST: Live = Live {

@@ -12,16 +12,10 @@ use crate::OpenFault;
 use disk_model::Disk;
 use node_page::{Gate, Head, Slot, decode_head, decode_slot, read_gate};
 use page_store::read_page;
-use tree_shape::Live;
+use tree_shape::{LAST_GENERATION, Live, MOST_PAGES};
 
 /// The bytes of the head and the two slots.
 const LEAST_SIZE: u64 = 12_288;
-
-/// The greatest generation, 2^48 - 1.
-pub const LAST_GENERATION: u64 = 281_474_976_710_655;
-
-/// The most pages of a file, 2^24, which are 64 GiB.
-pub const MOST_PAGES: u32 = 16_777_216;
 
 // One of the two slots.
 enum Side {

@@ -22,4 +22,4 @@ pub const LAST_GENERATION: u64 = (1 << 48) - 1;
 pub const MOST_PAGES: u32 = 1 << 24;
 
 /// The bytes of a page.
-pub const PAGE: usize = 4096;
+pub const PAGE: u64 = 4096;

@@ -9,9 +9,9 @@ ghost use Rattle.page_store.specs.Reading.{reading, nodes_of};
 ghost use Rattle.tree_audit.specs.Audited.{audit_fault};
 ghost use Rattle.file_jobs.specs.Jobs.{Audits, HasFault, IsAuditStatus};
 
-use crate::{MOST_PAGES, sound_by_parts};
+use crate::sound_by_parts;
 use disk_model::SharedDisk;
-use file_jobs::{audit_opened, end_rejected, end_sound, open_index, space_of};
+use file_jobs::{MOST_WHOLE_PAGES, audit_opened, end_rejected, end_sound, open_index, space_of};
 use node_page::Head;
 use outside_io::{Sink, Status};
 use std::alloc::Global;
@@ -42,7 +42,7 @@ fn audit_by<R: Threads + Sync, D: SharedDisk>(
         (audit_fault (space_of head.now) (reading head.now.dim live.now.pages (D.state disk.old).bytes) live.now)) }
     ensures later { (D.state disk.old).faults ≤ (D.state disk.new).faults }
 {
-    if workers > 1 && live.pages <= MOST_PAGES {
+    if workers > 1 && live.pages <= MOST_WHOLE_PAGES {
         match sound_by_parts(rt, alloc, disk, space_of(head), live, workers) {
             Ok(Some(audited)) => return Ok(audited),
             Ok(None) => {}
