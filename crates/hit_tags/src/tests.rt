@@ -5,6 +5,7 @@ use metric_laws::{Listed, Point};
 use node_page::NodeFault;
 use page_store::{DiskPages, ImagePages, PageFault, Pages};
 use scan_model::{Hit, Query};
+use small_trees::{Entry, one_leaf, two_leaves};
 use std::alloc::Global;
 use std::fs::{self, File};
 use std::process::Abort;
@@ -20,51 +21,6 @@ const NUMBERS: Live = Live {
     count: 33,
     pages: 6,
 };
-
-// A page of zeros up to this place.
-fn pad(bytes: &mut Vec<u8>, end: usize) -> Result<(), Memory> {
-    for _ in bytes.len()..end {
-        bytes.push(0)?;
-    }
-    Ok(())
-}
-
-// The level and the number of entries of a node.
-fn put_head(bytes: &mut Vec<u8>, level: u8, count: u8) -> Result<(), Memory> {
-    bytes.extend_from_slice(&[level, 0, 0, count, 0, 0, 0, 0, 0, 0, 0, 0, 0, 0, 0, 0])
-}
-
-// An entry of a leaf with this tag, or of an inner node with the child's page as id and the radius as tag.
-fn put_entry(bytes: &mut Vec<u8>, id: u32, tag: u64, point: u32) -> Result<(), Memory> {
-    bytes.extend_from_slice(&id.to_be_bytes())?;
-    bytes.extend_from_slice(&tag.to_be_bytes())?;
-    bytes.extend_from_slice(&[0; 8])?;
-    bytes.extend_from_slice(&point.to_be_bytes())
-}
-
-// A leaf of the numbers from one up to another, each with 100 more as its tag.
-fn put_leaf(bytes: &mut Vec<u8>, from: u8, to: u8) -> Result<(), Memory> {
-    put_head(bytes, 0, to.saturating_sub(from))?;
-    for id in from..to {
-        put_entry(bytes, u32::from(id), u64::from(id) + 100, u32::from(id))?;
-    }
-    Ok(())
-}
-
-// The numbers 0 to 32 in two leaves, on pages 3 and 4, below a root on page 5.
-fn numbers(alloc: Global) -> Result<Vec<u8>, Memory> {
-    let mut bytes = Vec::new(alloc);
-    pad(&mut bytes, 3 * 4096)?;
-    put_leaf(&mut bytes, 0, 16)?;
-    pad(&mut bytes, 4 * 4096)?;
-    put_leaf(&mut bytes, 16, 33)?;
-    pad(&mut bytes, 5 * 4096)?;
-    put_head(&mut bytes, 1, 2)?;
-    put_entry(&mut bytes, 3, 8, 7)?;
-    put_entry(&mut bytes, 4, 8, 24)?;
-    pad(&mut bytes, 6 * 4096)?;
-    Ok(bytes)
-}
 
 // A record of a page with so many marks, of which those from one place up to another are Near.
 type Marked = (u32, u8, u8, u8);
@@ -138,7 +94,7 @@ const HIGH: Marked = (4, 17, 0, 2);
 
 #[test]
 fn a_hit_has_the_tag_of_its_object_where_the_walk_meets_it(rt: HostRuntime) -> Result<(), Fail> {
-    let bytes = numbers(rt.alloc())?;
+    let bytes = two_leaves(rt.alloc(), Vec::new(rt.alloc()), 4)?;
     let cases: &[(&[Marked], [u64; 4], u64)] = &[
         (&[ROOT, LOW, HIGH], [103, 117, 0, 102], 3),
         // A record more than the walk needs.
@@ -168,14 +124,16 @@ fn a_hit_has_the_tag_of_its_object_where_the_walk_meets_it(rt: HostRuntime) -> R
 
 #[test]
 fn the_first_object_with_an_id_counts(rt: HostRuntime) -> Result<(), Fail> {
-    let mut bytes = Vec::new(rt.alloc());
-    pad(&mut bytes, 3 * 4096)?;
-    put_head(&mut bytes, 0, 4)?;
-    put_entry(&mut bytes, 7, 1, 0)?;
-    put_entry(&mut bytes, 7, 2, 0)?;
-    put_entry(&mut bytes, 8, 0, 0)?;
-    put_entry(&mut bytes, 8, 3, 0)?;
-    pad(&mut bytes, 4 * 4096)?;
+    let object = |id: u32, tag: u64| -> Entry {
+        Entry {
+            id,
+            tag,
+            parent: 0,
+            point: 0,
+        }
+    };
+    let objects = [object(7, 1), object(7, 2), object(8, 0), object(8, 3)];
+    let bytes = one_leaf(Vec::new(rt.alloc()), &objects)?;
     let live = Live {
         root: 3,
         height: 0,
@@ -193,7 +151,7 @@ fn the_first_object_with_an_id_counts(rt: HostRuntime) -> Result<(), Fail> {
 
 #[test]
 fn a_page_that_gives_no_node_is_named(rt: HostRuntime) -> Result<(), Fail> {
-    let mut bytes = numbers(rt.alloc())?;
+    let mut bytes = two_leaves(rt.alloc(), Vec::new(rt.alloc()), 4)?;
     let mut pages = ImagePages::new(&bytes, 1, 4);
     let outside = PageFault::Outside(5);
     check_tags(&rt, &mut pages, &NUMBERS, &[3], &[ROOT], Err(outside))?;
@@ -209,7 +167,7 @@ fn a_page_that_gives_no_node_is_named(rt: HostRuntime) -> Result<(), Fail> {
 #[test]
 fn a_read_that_fails(rt: HostRuntime) -> Result<(), Fail> {
     let alloc = rt.alloc();
-    let bytes = numbers(alloc)?;
+    let bytes = two_leaves(alloc, Vec::new(alloc), 4)?;
     let room = bytes.len() as u64;
     let mut disk = MemoryDisk::new(alloc, bytes, room, 100, vec![in alloc; 1]?, None)?;
     let mut pages = DiskPages::new(&mut disk, 1, 6);
@@ -230,7 +188,7 @@ fn a_read_that_fails(rt: HostRuntime) -> Result<(), Fail> {
 #[test]
 fn a_page_of_which_nothing_is_near_is_not_opened(rt: HostRuntime) -> Result<(), Fail> {
     let path = "numbers_of_a_test";
-    fs::write(&rt, path, &numbers(rt.alloc())?)?;
+    fs::write(&rt, path, &two_leaves(rt.alloc(), Vec::new(rt.alloc()), 4)?)?;
     let mut disk = FileDisk::new(File::open(&rt, path)?);
     let cases: &[(&[Marked], [u64; 2], u64)] = &[
         (&[ROOT, LOW, HIGH], [103, 117], 3),

@@ -1,7 +1,7 @@
 ghost use Rattle.std.specs.Prelude.{◌≤◌, OnOk};
 ghost use Rattle.index_core.specs.Index.{MayGoOn};
 
-use crate::tests::six_entries;
+use crate::tests::{SIX, file_of};
 use crate::trial::{
     Watched, check_found, check_images, check_stopped, count_on, empty_file, insert, insert_all,
     open_on, worn_file,
@@ -10,6 +10,7 @@ use crate::{Index, IndexFault};
 use disk_model::{Disk, MemoryDisk};
 use metric_laws::{Memory, Metric};
 use page_store::PageFault;
+use small_trees::six_entries;
 use std::alloc::Global;
 use std::process::Abort;
 use std::test::Fail;
@@ -226,7 +227,12 @@ fn a_worn_index_takes_no_more(rt: HostRuntime) -> Result<(), Fail> {
 fn check_damaged<D: Disk + Watched + Drop>(rt: &(impl AllocGlobal + Abort)) -> Result<(), Fail> {
     let alloc = rt.alloc();
     for (child, fault) in [(4, PageFault::Repeats(4)), (9, PageFault::Outside(9))] {
-        let mut disk = D::of(alloc, six_entries(alloc, child)?, &[], None)?;
+        let mut disk = D::of(
+            alloc,
+            six_entries(alloc, file_of(alloc, &SIX)?, child)?,
+            &[],
+            None,
+        )?;
         check_refused(rt, &mut disk, IndexFault::Damaged(fault))?;
     }
     Ok(())

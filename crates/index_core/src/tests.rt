@@ -10,6 +10,7 @@ use node_page::{Head, HeadFault, Slot, encode_head, encode_slot};
 use page_store::PageFault;
 use scan_model::Hit;
 use shadow_root::OpenFault;
+use small_trees::{pad, six_entries, two_leaves};
 use std::alloc::Global;
 use std::process::Abort;
 use std::test::Fail;
@@ -36,7 +37,7 @@ const NUMBERS: Live = Live {
 };
 
 // The live tree of a root whose six entries name one page.
-const SIX: Live = Live {
+pub(crate) const SIX: Live = Live {
     side: 0,
     generation: 1,
     root: 3,
@@ -44,14 +45,6 @@ const SIX: Live = Live {
     count: 36,
     pages: 5,
 };
-
-// A page of zeros up to this place.
-pub(crate) fn pad(bytes: &mut Vec<u8>, end: usize) -> Result<(), Memory> {
-    for _ in bytes.len()..end {
-        bytes.push(0)?;
-    }
-    Ok(())
-}
 
 // The head, the slot of a live tree, and a slot that is closed.
 #[tactic(auto, unfolding(node_page::specs::Heads::is_version, node_page::specs::Heads::is_space, node_page::specs::Heads::is_policy, node_page::specs::Heads::is_limit))]
@@ -70,67 +63,6 @@ pub(crate) fn file_of(alloc: Global, live: &Live) -> Result<Vec<u8>, Memory> {
     encode_slot(&slot, &mut page);
     bytes.extend_from_slice(&page)?;
     pad(&mut bytes, 3 * 4096)?;
-    Ok(bytes)
-}
-
-// The level and the number of entries of a node.
-fn put_head(bytes: &mut Vec<u8>, level: u8, count: u8) -> Result<(), Memory> {
-    bytes.extend_from_slice(&[level, 0, 0, count, 0, 0, 0, 0, 0, 0, 0, 0, 0, 0, 0, 0])
-}
-
-// An entry of a leaf without a tag, or of an inner node with the child's page as id and the radius as tag.
-fn put_entry(
-    bytes: &mut Vec<u8>,
-    id: u32,
-    radius: u64,
-    parent: u64,
-    point: u32,
-) -> Result<(), Memory> {
-    bytes.extend_from_slice(&id.to_be_bytes())?;
-    bytes.extend_from_slice(&radius.to_be_bytes())?;
-    bytes.extend_from_slice(&parent.to_be_bytes())?;
-    bytes.extend_from_slice(&point.to_be_bytes())
-}
-
-// A leaf of the objects from one number up to another, each at its number, below a routing point.
-fn put_leaf(bytes: &mut Vec<u8>, from: u8, to: u8, centre: u8) -> Result<(), Memory> {
-    put_head(bytes, 0, to.saturating_sub(from))?;
-    for id in from..to {
-        put_entry(
-            bytes,
-            u32::from(id),
-            0,
-            u64::from(id.abs_diff(centre)),
-            u32::from(id),
-        )?;
-    }
-    Ok(())
-}
-
-// The numbers 0 to 32 in two leaves, on pages 3 and 4, below a root on page 5.
-fn numbers(alloc: Global) -> Result<Vec<u8>, Memory> {
-    let mut bytes = file_of(alloc, &NUMBERS)?;
-    put_leaf(&mut bytes, 0, 16, 7)?;
-    pad(&mut bytes, 4 * 4096)?;
-    put_leaf(&mut bytes, 16, 33, 24)?;
-    pad(&mut bytes, 5 * 4096)?;
-    put_head(&mut bytes, 1, 2)?;
-    put_entry(&mut bytes, 3, 8, 0, 7)?;
-    put_entry(&mut bytes, 4, 8, 0, 24)?;
-    pad(&mut bytes, 6 * 4096)?;
-    Ok(bytes)
-}
-
-// A root on page 3 with six entries for one page.
-pub(crate) fn six_entries(alloc: Global, child: u32) -> Result<Vec<u8>, Memory> {
-    let mut bytes = file_of(alloc, &SIX)?;
-    put_head(&mut bytes, 1, 6)?;
-    for _ in 0..6 {
-        put_entry(&mut bytes, child, 0, 0, 0)?;
-    }
-    pad(&mut bytes, 4 * 4096)?;
-    put_leaf(&mut bytes, 0, 6, 0)?;
-    pad(&mut bytes, 5 * 4096)?;
     Ok(bytes)
 }
 
@@ -263,7 +195,7 @@ const LINES: [Line; 3] = [(1, 2, None), (0, 16, Some((7, 8))), (0, 17, Some((24,
 #[test]
 fn the_numbers_to_32_are_searched(rt: HostRuntime) -> Result<(), Fail> {
     let alloc = rt.alloc();
-    let mut disk = disk_of(alloc, numbers(alloc)?, &[])?;
+    let mut disk = disk_of(alloc, two_leaves(alloc, file_of(alloc, &NUMBERS)?, 4)?, &[])?;
     let mut view = open_on(&mut disk)?;
     assert_eq!(rt;
         (view.count(), view.live(), view.head()),
@@ -280,7 +212,7 @@ fn the_numbers_to_32_are_searched(rt: HostRuntime) -> Result<(), Fail> {
 #[test]
 fn a_cache_saves_reads(rt: HostRuntime) -> Result<(), Fail> {
     let alloc = rt.alloc();
-    let mut disk = disk_of(alloc, numbers(alloc)?, &[])?;
+    let mut disk = disk_of(alloc, two_leaves(alloc, file_of(alloc, &NUMBERS)?, 4)?, &[])?;
     let mut view = open_on(&mut disk)?;
     assert_eq!(rt; disk.moments(), 4);
     view.use_cache(alloc, 256)?;
@@ -297,7 +229,11 @@ fn a_cache_saves_reads(rt: HostRuntime) -> Result<(), Fail> {
 #[test]
 fn a_read_that_fails(rt: HostRuntime) -> Result<(), Fail> {
     let alloc = rt.alloc();
-    let mut disk = disk_of(alloc, numbers(alloc)?, &[5, 8, 11])?;
+    let mut disk = disk_of(
+        alloc,
+        two_leaves(alloc, file_of(alloc, &NUMBERS)?, 4)?,
+        &[5, 8, 11],
+    )?;
     let mut view = open_on(&mut disk)?;
     check_range(&rt, &mut view, &mut disk, 0, 2, Err(IndexFault::Disk))?;
     check_range(&rt, &mut view, &mut disk, 0, 2, Ok(&NEAR))?;
@@ -313,7 +249,11 @@ fn check_damaged(
     fault: PageFault,
 ) -> Result<(), Fail> {
     let alloc = rt.alloc();
-    let mut disk = disk_of(alloc, six_entries(alloc, child)?, &[])?;
+    let mut disk = disk_of(
+        alloc,
+        six_entries(alloc, file_of(alloc, &SIX)?, child)?,
+        &[],
+    )?;
     let mut view = open_on(&mut disk)?;
     check_range(
         rt,
@@ -354,7 +294,7 @@ fn refusal(alloc: Global, at: usize, byte: u8, dim: u8) -> Result<Option<OpenFau
     requires some { 1 ≤ dim }
     requires few { dim ≤ 64 }
 {
-    let mut bytes = numbers(alloc)?;
+    let mut bytes = two_leaves(alloc, file_of(alloc, &NUMBERS)?, 4)?;
     if at < bytes.len() {
         bytes[at] = byte;
     }
@@ -404,7 +344,11 @@ fn check_index<D: Disk, M: Metric>(
 #[test]
 fn an_index_is_opened_after_a_sync(rt: HostRuntime) -> Result<(), Fail> {
     let alloc = rt.alloc();
-    let mut disk = disk_of(alloc, numbers(alloc)?, &[0, 3])?;
+    let mut disk = disk_of(
+        alloc,
+        two_leaves(alloc, file_of(alloc, &NUMBERS)?, 4)?,
+        &[0, 3],
+    )?;
     assert_eq!(rt;
         Index::open_write(&mut disk, L1::new(1)).err(),
         Some(OpenFault::Disk)

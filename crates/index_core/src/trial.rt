@@ -3,13 +3,14 @@ ghost use Rattle.std.specs.Prelude.{◌≡◌, ◌≤◌, ◌^◌, IfOk, OnOk};
 ghost use Rattle.node_page.specs.Heads.{IsLawfulHead};
 ghost use Rattle.index_core.specs.Index.{MayGoOn};
 
-use crate::tests::{file_of, pad};
+use crate::tests::file_of;
 use crate::{Index, IndexFault};
 use disk_model::{Disk, MemoryDisk};
 use metric_laws::{Memory, Metric};
 use node_page::Head;
 use scan_model::Hit;
 use shadow_root::{OpenFault, create};
+use small_trees::pad;
 use std::alloc::Global;
 use std::process::Abort;
 use std::test::Fail;

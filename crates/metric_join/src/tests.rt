@@ -5,95 +5,31 @@ use metric_laws::{Memory, Meter};
 use node_page::NodeFault;
 use page_store::{DiskPages, ImagePages, PageFault};
 use scan_model::Pair;
+use small_trees::{Entry, one_leaf, pad, six_entries, two_leaves};
 use std::alloc::Global;
 use std::process::Abort;
 use std::test::Fail;
 use tree_shape::Live;
 use vector_kinds::L1;
 
-// A page of zeros up to this place.
-fn pad(bytes: &mut Vec<u8>, end: usize) -> Result<(), Memory> {
-    for _ in bytes.len()..end {
-        bytes.push(0)?;
+// An object.
+fn at(id: u32, point: u32) -> Entry {
+    Entry {
+        id,
+        tag: 0,
+        parent: 0,
+        point,
     }
-    Ok(())
 }
 
-// The level and the number of entries of a node.
-fn put_head(bytes: &mut Vec<u8>, level: u8, count: u8) -> Result<(), Memory> {
-    bytes.extend_from_slice(&[level, 0, 0, count, 0, 0, 0, 0, 0, 0, 0, 0, 0, 0, 0, 0])
+// The numbers 0, 5 and 9.
+fn three(alloc: Global) -> Result<Vec<u8>, Memory> {
+    one_leaf(Vec::new(alloc), &[at(0, 0), at(1, 5), at(2, 9)])
 }
 
-// An entry of a leaf with the tag 0, or of an inner node with the child's page as id and the radius as tag.
-fn put_entry(
-    bytes: &mut Vec<u8>,
-    id: u32,
-    radius: u64,
-    parent: u64,
-    point: u32,
-) -> Result<(), Memory> {
-    bytes.extend_from_slice(&id.to_be_bytes())?;
-    bytes.extend_from_slice(&radius.to_be_bytes())?;
-    bytes.extend_from_slice(&parent.to_be_bytes())?;
-    bytes.extend_from_slice(&point.to_be_bytes())
-}
-
-// A leaf of the objects from one number up to another, each at its number, below a routing point.
-fn put_leaf(bytes: &mut Vec<u8>, from: u8, to: u8, centre: u8) -> Result<(), Memory> {
-    put_head(bytes, 0, to.saturating_sub(from))?;
-    for id in from..to {
-        put_entry(
-            bytes,
-            u32::from(id),
-            0,
-            u64::from(id.abs_diff(centre)),
-            u32::from(id),
-        )?;
-    }
-    Ok(())
-}
-
-// The numbers 0 to 32 in two leaves, on pages 3 and 4, below a root on page 5.
-fn two_leaves(alloc: Global) -> Result<Vec<u8>, Memory> {
-    let mut bytes = Vec::new(alloc);
-    pad(&mut bytes, 3 * 4096)?;
-    put_leaf(&mut bytes, 0, 16, 7)?;
-    pad(&mut bytes, 4 * 4096)?;
-    put_leaf(&mut bytes, 16, 33, 24)?;
-    pad(&mut bytes, 5 * 4096)?;
-    put_head(&mut bytes, 1, 2)?;
-    put_entry(&mut bytes, 3, 8, 0, 7)?;
-    put_entry(&mut bytes, 4, 8, 0, 24)?;
-    pad(&mut bytes, 6 * 4096)?;
-    Ok(bytes)
-}
-
-// These numbers in one leaf on page 3, which is the root.
-fn one_leaf(alloc: Global, points: &[u32]) -> Result<Vec<u8>, Memory> {
-    let mut bytes = Vec::new(alloc);
-    pad(&mut bytes, 3 * 4096)?;
-    put_head(&mut bytes, 0, points.len().min(32) as u8)?;
-    let mut id = 0u32;
-    for point in points {
-        put_entry(&mut bytes, id, 0, 0, *point)?;
-        id = id.saturating_add(1);
-    }
-    pad(&mut bytes, 4 * 4096)?;
-    Ok(bytes)
-}
-
-// A root on page 3 with six entries for one page; page 4 is a leaf.
-fn six_entries(alloc: Global, child: u32) -> Result<Vec<u8>, Memory> {
-    let mut bytes = Vec::new(alloc);
-    pad(&mut bytes, 3 * 4096)?;
-    put_head(&mut bytes, 1, 6)?;
-    for _ in 0..6 {
-        put_entry(&mut bytes, child, 0, 0, 0)?;
-    }
-    pad(&mut bytes, 4 * 4096)?;
-    put_leaf(&mut bytes, 0, 6, 0)?;
-    pad(&mut bytes, 5 * 4096)?;
-    Ok(bytes)
+// The numbers 4 and 9.
+fn two(alloc: Global) -> Result<Vec<u8>, Memory> {
+    one_leaf(Vec::new(alloc), &[at(0, 4), at(1, 9)])
 }
 
 // The live tree with this root and height below so many pages.
@@ -168,8 +104,8 @@ const CLOSE: [Pair; 2] = [
 
 #[test]
 fn three_numbers_and_two(rt: HostRuntime) -> Result<(), Memory> {
-    let left = one_leaf(rt.alloc(), &[0, 5, 9])?;
-    let right = one_leaf(rt.alloc(), &[4, 9])?;
+    let left = three(rt.alloc())?;
+    let right = two(rt.alloc())?;
     let one = Side {
         bytes: &left,
         live: &live(2, 3, 0, 4),
@@ -203,8 +139,8 @@ fn three_numbers_and_two(rt: HostRuntime) -> Result<(), Memory> {
 // The left root has rank 2, its leaves and the right root have rank 1.
 #[test]
 fn trees_of_heights_one_and_nought(rt: HostRuntime) -> Result<(), Memory> {
-    let left = two_leaves(rt.alloc())?;
-    let right = one_leaf(rt.alloc(), &[40])?;
+    let left = two_leaves(rt.alloc(), Vec::new(rt.alloc()), 4)?;
+    let right = one_leaf(Vec::new(rt.alloc()), &[at(0, 40)])?;
     let one = Side {
         bytes: &left,
         live: &live(34, 5, 1, 6),
@@ -231,7 +167,7 @@ fn trees_of_heights_one_and_nought(rt: HostRuntime) -> Result<(), Memory> {
 // Of each leaf's objects those are skipped that are not as far from the routing point as the other object.
 #[test]
 fn a_tree_joined_with_itself(rt: HostRuntime) -> Result<(), Memory> {
-    let bytes = two_leaves(rt.alloc())?;
+    let bytes = two_leaves(rt.alloc(), Vec::new(rt.alloc()), 4)?;
     let side = Side {
         bytes: &bytes,
         live: &live(34, 5, 1, 6),
@@ -253,8 +189,8 @@ fn a_tree_joined_with_itself(rt: HostRuntime) -> Result<(), Memory> {
 
 #[test]
 fn a_tree_without_objects(rt: HostRuntime) -> Result<(), Memory> {
-    let some = one_leaf(rt.alloc(), &[0, 5, 9])?;
-    let none = one_leaf(rt.alloc(), &[])?;
+    let some = three(rt.alloc())?;
+    let none = one_leaf(Vec::new(rt.alloc()), &[])?;
     let tree = live(1, 3, 0, 4);
     let sides = [(&some, &none, 4), (&none, &some, 1), (&none, &none, 1)];
     for (left, right, records) in &sides {
@@ -280,7 +216,7 @@ fn a_tree_without_objects(rt: HostRuntime) -> Result<(), Memory> {
 // Page 4 is reached six times, or the entries name a page that the file has not or one that holds no node.
 #[test]
 fn a_first_walk_is_refused_where_it_meets_a_fault(rt: HostRuntime) -> Result<(), Memory> {
-    let good = one_leaf(rt.alloc(), &[0, 5, 9])?;
+    let good = three(rt.alloc())?;
     let sound = live(1, 3, 0, 4);
     let faults = [
         (4u32, 5u32, PageFault::Repeats(4)),
@@ -288,7 +224,7 @@ fn a_first_walk_is_refused_where_it_meets_a_fault(rt: HostRuntime) -> Result<(),
         (5, 6, PageFault::Bad(5, NodeFault::Kind)),
     ];
     for (child, pages, fault) in &faults {
-        let mut bytes = six_entries(rt.alloc(), *child)?;
+        let mut bytes = six_entries(rt.alloc(), Vec::new(rt.alloc()), *child)?;
         bytes.push(77)?;
         pad(&mut bytes, 6 * 4096)?;
         let tree = live(1, 3, 1, *pages);
@@ -343,8 +279,8 @@ fn refusal(
     right_stop: Option<u64>,
 ) -> Result<Option<JoinFault>, Memory> {
     let tree = live(1, 3, 0, 4);
-    let left_bytes = one_leaf(alloc, &[0, 5, 9])?;
-    let right_bytes = one_leaf(alloc, &[4, 9])?;
+    let left_bytes = three(alloc)?;
+    let right_bytes = two(alloc)?;
     let mut left = disk_of(alloc, left_bytes, left_stop)?;
     let mut right = disk_of(alloc, right_bytes, right_stop)?;
     let mut one = DiskPages::new(&mut left, 1, 4);

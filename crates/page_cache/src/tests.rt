@@ -8,67 +8,11 @@ ghost use Rattle.page_cache.specs.Laws.{GrowsTo};
 use crate::{Cached, Kept, laws};
 use disk_model::{Disk, MemoryDisk};
 use page_store::{DiskPages, Memory, PageFault, Pages};
+use small_trees::{pad, two_leaves};
 use std::alloc::Global;
 use std::process::Abort;
 use std::test::Fail;
 use tree_shape::Node;
-
-// A page of zeros up to this place.
-fn pad(bytes: &mut Vec<u8>, end: usize) -> Result<(), Memory> {
-    for _ in bytes.len()..end {
-        bytes.push(0)?;
-    }
-    Ok(())
-}
-
-// The level and the number of entries of a node.
-fn put_head(bytes: &mut Vec<u8>, level: u8, count: u8) -> Result<(), Memory> {
-    bytes.extend_from_slice(&[level, 0, 0, count, 0, 0, 0, 0, 0, 0, 0, 0, 0, 0, 0, 0])
-}
-
-// An entry of a leaf without a tag, or of an inner node with the child's page as id and the radius as tag.
-fn put_entry(
-    bytes: &mut Vec<u8>,
-    id: u32,
-    radius: u64,
-    parent: u64,
-    point: u32,
-) -> Result<(), Memory> {
-    bytes.extend_from_slice(&id.to_be_bytes())?;
-    bytes.extend_from_slice(&radius.to_be_bytes())?;
-    bytes.extend_from_slice(&parent.to_be_bytes())?;
-    bytes.extend_from_slice(&point.to_be_bytes())
-}
-
-// A leaf of the objects from one number up to another, each at its number, below a routing point.
-fn put_leaf(bytes: &mut Vec<u8>, from: u8, to: u8, centre: u8) -> Result<(), Memory> {
-    put_head(bytes, 0, to.saturating_sub(from))?;
-    for id in from..to {
-        put_entry(
-            bytes,
-            u32::from(id),
-            0,
-            u64::from(id.abs_diff(centre)),
-            u32::from(id),
-        )?;
-    }
-    Ok(())
-}
-
-// The numbers 0 to 32 in two leaves, on pages 3 and 4, below a root on page 5.
-fn two_leaves(alloc: Global) -> Result<Vec<u8>, Memory> {
-    let mut bytes = Vec::new(alloc);
-    pad(&mut bytes, 3 * 4096)?;
-    put_leaf(&mut bytes, 0, 16, 7)?;
-    pad(&mut bytes, 4 * 4096)?;
-    put_leaf(&mut bytes, 16, 33, 24)?;
-    pad(&mut bytes, 5 * 4096)?;
-    put_head(&mut bytes, 1, 2)?;
-    put_entry(&mut bytes, 3, 8, 0, 7)?;
-    put_entry(&mut bytes, 4, 8, 0, 24)?;
-    pad(&mut bytes, 6 * 4096)?;
-    Ok(bytes)
-}
 
 // A disk that holds these bytes, of which these calls fail.
 fn disk_with(alloc: Global, bytes: Vec<u8>, fails: &[u64]) -> Result<MemoryDisk, Memory> {
@@ -78,7 +22,7 @@ fn disk_with(alloc: Global, bytes: Vec<u8>, fails: &[u64]) -> Result<MemoryDisk,
 
 // A disk that holds the two leaves and their root, of which these calls fail.
 fn disk_of(alloc: Global, fails: &[u64]) -> Result<MemoryDisk, Memory> {
-    disk_with(alloc, two_leaves(alloc)?, fails)
+    disk_with(alloc, two_leaves(alloc, Vec::new(alloc), 4)?, fails)
 }
 
 // What a node shows of itself: its level, and the sum of its ids or of its children's pages.
@@ -162,7 +106,7 @@ fn a_kept_page_is_not_read_again(rt: HostRuntime) -> Result<(), Fail> {
 #[test]
 fn all_pages_are_kept_where_there_is_room(rt: HostRuntime) -> Result<(), Fail> {
     let alloc = rt.alloc();
-    let mut bytes = two_leaves(alloc)?;
+    let mut bytes = two_leaves(alloc, Vec::new(alloc), 4)?;
     pad(&mut bytes, 8 * 4096)?;
     let mut disk = disk_with(alloc, bytes, &[])?;
     let mut pages = Cached::new(alloc, DiskPages::new(&mut disk, 1, 8), 5)?;

@@ -3,67 +3,11 @@ use metric_laws::{Memory, Meter, Point, Ruler};
 use node_page::NodeFault;
 use page_store::{ImagePages, PageFault};
 use scan_model::Hit;
+use small_trees::two_leaves;
 use std::alloc::Global;
 use std::process::Abort;
 use tree_shape::Live;
 use vector_kinds::L1;
-
-// A page of zeros up to this place.
-fn pad(bytes: &mut Vec<u8>, end: usize) -> Result<(), Memory> {
-    for _ in bytes.len()..end {
-        bytes.push(0)?;
-    }
-    Ok(())
-}
-
-// The level and the number of entries of a node.
-fn put_head(bytes: &mut Vec<u8>, level: u8, count: u8) -> Result<(), Memory> {
-    bytes.extend_from_slice(&[level, 0, 0, count, 0, 0, 0, 0, 0, 0, 0, 0, 0, 0, 0, 0])
-}
-
-// An entry of a leaf with its tag, or of an inner node with the child's page as id and the radius as tag.
-fn put_entry(
-    bytes: &mut Vec<u8>,
-    id: u32,
-    tag: u64,
-    parent: u64,
-    point: u32,
-) -> Result<(), Memory> {
-    bytes.extend_from_slice(&id.to_be_bytes())?;
-    bytes.extend_from_slice(&tag.to_be_bytes())?;
-    bytes.extend_from_slice(&parent.to_be_bytes())?;
-    bytes.extend_from_slice(&point.to_be_bytes())
-}
-
-// A leaf of the objects from one number up to another, each at its number, with its number as tag.
-fn put_leaf(bytes: &mut Vec<u8>, from: u8, to: u8, centre: u8) -> Result<(), Memory> {
-    put_head(bytes, 0, to.saturating_sub(from))?;
-    for id in from..to {
-        put_entry(
-            bytes,
-            u32::from(id),
-            u64::from(id),
-            u64::from(id.abs_diff(centre)),
-            u32::from(id),
-        )?;
-    }
-    Ok(())
-}
-
-// The numbers 0 to 32 in two leaves, on pages 3 and 4, below a root on page 5 that names this page as its second child.
-fn two_leaves(alloc: Global, second: u32) -> Result<Vec<u8>, Memory> {
-    let mut bytes = Vec::new(alloc);
-    pad(&mut bytes, 3 * 4096)?;
-    put_leaf(&mut bytes, 0, 16, 7)?;
-    pad(&mut bytes, 4 * 4096)?;
-    put_leaf(&mut bytes, 16, 33, 24)?;
-    pad(&mut bytes, 5 * 4096)?;
-    put_head(&mut bytes, 1, 2)?;
-    put_entry(&mut bytes, 3, 8, 0, 7)?;
-    put_entry(&mut bytes, second, 8, 0, 24)?;
-    pad(&mut bytes, 6 * 4096)?;
-    Ok(bytes)
-}
 
 const LIVE: Live = Live {
     side: 0,
@@ -120,7 +64,7 @@ fn from_sixteen(alloc: Global) -> Result<Vec<Hit>, Memory> {
 
 #[test]
 fn all_objects_come_in_order_in_steps_of_any_length(rt: HostRuntime) -> Result<(), Memory> {
-    let bytes = two_leaves(rt.alloc(), 4)?;
+    let bytes = two_leaves(rt.alloc(), Vec::new(rt.alloc()), 4)?;
     let all = from_sixteen(rt.alloc())?;
     for n in [1, 2, 5, 33, 100] {
         let mut cursor = cursor_at(rt.alloc(), 16)?;
@@ -137,10 +81,10 @@ fn all_objects_come_in_order_in_steps_of_any_length(rt: HostRuntime) -> Result<(
 
 #[test]
 fn each_hit_has_its_tag(rt: HostRuntime) -> Result<(), Memory> {
-    let bytes = two_leaves(rt.alloc(), 4)?;
+    let bytes = two_leaves(rt.alloc(), Vec::new(rt.alloc()), 4)?;
     let mut cursor = cursor_at(rt.alloc(), 0)?;
     let stepped = given(&rt, rt.alloc(), &bytes, &mut cursor, 4);
-    assert_eq!(rt; stepped.tags.as_slice(), [0, 1, 2, 3].as_slice());
+    assert_eq!(rt; stepped.tags.as_slice(), [100, 101, 102, 103].as_slice());
     assert_eq!(rt; cursor.live(), LIVE);
     Ok(())
 }
@@ -148,7 +92,7 @@ fn each_hit_has_its_tag(rt: HostRuntime) -> Result<(), Memory> {
 // Of the first step at a number: how many hits it gives, and how many pages are asked for.
 #[test]
 fn a_leaf_is_read_when_it_may_hold_the_next(rt: HostRuntime) -> Result<(), Memory> {
-    let bytes = two_leaves(rt.alloc(), 4)?;
+    let bytes = two_leaves(rt.alloc(), Vec::new(rt.alloc()), 4)?;
     for (q, n, asked) in [(3, 4, 2), (16, 1, 2), (16, 2, 3), (30, 3, 2), (0, 33, 3)] {
         let mut cursor = cursor_at(rt.alloc(), q)?;
         let (stepped, count) = take(&rt, rt.alloc(), &bytes, &mut cursor, n);
@@ -177,8 +121,8 @@ fn ids_from(
 // The leaf of page 4 is damaged at the second step, and whole at the third.
 #[test]
 fn a_step_that_is_refused_leaves_the_cursor(rt: HostRuntime) -> Result<(), Memory> {
-    let good = two_leaves(rt.alloc(), 4)?;
-    let mut torn = two_leaves(rt.alloc(), 4)?;
+    let good = two_leaves(rt.alloc(), Vec::new(rt.alloc()), 4)?;
+    let mut torn = two_leaves(rt.alloc(), Vec::new(rt.alloc()), 4)?;
     if let Some(level) = torn.get_mut(4 * 4096) {
         *level = 99;
     }
@@ -195,7 +139,7 @@ fn a_step_that_is_refused_leaves_the_cursor(rt: HostRuntime) -> Result<(), Memor
 
 // Why a step is refused, where a root's second child is this page.
 fn refusal(rt: &impl Abort, alloc: Global, second: u32) -> Result<Option<PageFault>, Memory> {
-    let bytes = two_leaves(alloc, second)?;
+    let bytes = two_leaves(alloc, Vec::new(alloc), second)?;
     let mut cursor = cursor_at(alloc, 0)?;
     let (stepped, _) = take(rt, alloc, &bytes, &mut cursor, 200);
     Ok(stepped.err())

@@ -1,0 +1,12 @@
+/// An entry of a node.
+#[derive(Clone, Copy, Debug)]
+pub struct Entry {
+    /// The object's id, or the child's page.
+    pub id: u32,
+    /// The object's tag, or the radius.
+    pub tag: u64,
+    /// The distance to the routing point above.
+    pub parent: u64,
+    /// The coordinate of the point.
+    pub point: u32,
+}

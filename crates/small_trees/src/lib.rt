@@ -1,0 +1,8 @@
+//! Small trees over points of one coordinate, as the bytes of their pages: what the tests of crates above search.
+#![tactic(auto)]
+
+mod entry;
+mod trees;
+
+pub use entry::Entry;
+pub use trees::{one_leaf, pad, six_entries, two_leaves};
