@@ -21,14 +21,14 @@ use vector_kinds::L1;
 const WORKERS: [usize; 4] = [1, 2, 3, 64];
 
 // Changes a byte of an image.
-fn put(image: &mut [u8], at: usize, byte: u8) {
+pub(crate) fn put(image: &mut [u8], at: usize, byte: u8) {
     if at < image.len() {
         image[at] = byte;
     }
 }
 
 // Writes an entry over points of one coordinate: the child or the id, the radius or the tag, the distance, and the point.
-fn put_entry(image: &mut [u8], page: usize, place: usize, fields: [u8; 4])
+pub(crate) fn put_entry(image: &mut [u8], page: usize, place: usize, fields: [u8; 4])
     requires page { page ≤ 10 }
     requires place { place ≤ 32 }
 {
@@ -49,26 +49,27 @@ const LINE: Live = Live {
     pages: 7,
 };
 
-// That index: the objects 0 to 15 stand under 7 on page 4, the others under 24 on page 5, and the root on page 6.
-fn line(alloc: Global) -> Result<Vec<u8>, Memory> {
-    let mut image = vec![in alloc; 0u8; 28672]?;
-    put(&mut image, 16387, 16);
-    put(&mut image, 20483, 17);
-    put(&mut image, 24576, 1);
-    put(&mut image, 24579, 2);
+// The nodes of that index: the objects 0 to 15 stand under 7 on page 4, the others under 24 on page 5, and the root on page 6.
+pub(crate) fn put_line(image: &mut [u8]) {
+    put(image, 16387, 16);
+    put(image, 20483, 17);
+    put(image, 24576, 1);
+    put(image, 24579, 2);
     for x in 0..16u8 {
-        put_entry(&mut image, 4, usize::from(x), [x, x, x.abs_diff(7), x]);
+        put_entry(image, 4, usize::from(x), [x, x, x.abs_diff(7), x]);
     }
     for x in 0..17u8 {
-        put_entry(
-            &mut image,
-            5,
-            usize::from(x),
-            [x + 16, x + 16, x.abs_diff(8), x + 16],
-        );
+        let fields = [x + 16, x + 16, x.abs_diff(8), x + 16];
+        put_entry(image, 5, usize::from(x), fields);
     }
-    put_entry(&mut image, 6, 0, [4, 8, 0, 7]);
-    put_entry(&mut image, 6, 1, [5, 8, 0, 24]);
+    put_entry(image, 6, 0, [4, 8, 0, 7]);
+    put_entry(image, 6, 1, [5, 8, 0, 24]);
+}
+
+// That index.
+fn line(alloc: Global) -> Result<Vec<u8>, Memory> {
+    let mut image = vec![in alloc; 0u8; 28672]?;
+    put_line(&mut image);
     Ok(image)
 }
 

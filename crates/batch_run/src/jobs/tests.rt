@@ -3,6 +3,7 @@ ghost use Rattle.node_page.specs.Heads.{IsLawfulHead};
 
 use crate::jobs::laws::turns_are_one_run;
 use crate::jobs::{audit_index_by, run_batch};
+use crate::tests::{put, put_entry, put_line};
 use disk_model::MemoryDisk;
 use file_jobs::create_index;
 use node_page::Head;
@@ -47,25 +48,6 @@ fn failing(alloc: Global, call: Option<u64>) -> Result<Vec<u64>, Memory> {
     Ok(calls)
 }
 
-// Changes a byte.
-fn put(bytes: &mut [u8], at: usize, byte: u8) {
-    if at < bytes.len() {
-        bytes[at] = byte;
-    }
-}
-
-// Writes an entry over points of one coordinate: the child or the id, the radius or the tag, the distance, and the point.
-fn put_entry(bytes: &mut [u8], page: usize, place: usize, fields: [u8; 4])
-    requires page { page ≤ 10 }
-    requires place { place ≤ 32 }
-{
-    let at = page * 4096 + 16 + place * 24;
-    put(bytes, at + 3, fields[0]);
-    put(bytes, at + 11, fields[1]);
-    put(bytes, at + 19, fields[2]);
-    put(bytes, at + 23, fields[3]);
-}
-
 // An empty index, with pages to spare and these fields in its live slot: the root, the height, the count and the pages.
 fn index_of(alloc: Global, fields: [u8; 4]) -> Result<Vec<u8>, Memory> {
     let mut disk = disk_of(alloc, Vec::new(alloc), None)?;
@@ -80,22 +62,10 @@ fn index_of(alloc: Global, fields: [u8; 4]) -> Result<Vec<u8>, Memory> {
     Ok(bytes)
 }
 
-// The index of the points 0 to 32: 0 to 15 stand under 7 on page 4, the others under 24 on page 5, and the root on page 6.
+// The index of the points 0 to 32.
 fn line(alloc: Global) -> Result<Vec<u8>, Memory> {
     let mut bytes = index_of(alloc, [6, 1, 33, 7])?;
-    put(&mut bytes, 16387, 16);
-    put(&mut bytes, 20483, 17);
-    put(&mut bytes, 24576, 1);
-    put(&mut bytes, 24579, 2);
-    for x in 0..16u8 {
-        put_entry(&mut bytes, 4, usize::from(x), [x, x, x.abs_diff(7), x]);
-    }
-    for x in 0..17u8 {
-        let fields = [x + 16, x + 16, x.abs_diff(8), x + 16];
-        put_entry(&mut bytes, 5, usize::from(x), fields);
-    }
-    put_entry(&mut bytes, 6, 0, [4, 8, 0, 7]);
-    put_entry(&mut bytes, 6, 1, [5, 8, 0, 24]);
+    put_line(&mut bytes);
     Ok(bytes)
 }
 
