@@ -67,6 +67,3 @@ impl Texts {
         out.put(&self.reply)
     }
 }
-
-#[cfg(test)]
-mod tests;

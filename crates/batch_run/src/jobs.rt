@@ -8,6 +8,3 @@ mod stop;
 
 pub use audit_job::audit_index_by;
 pub use batch_job::run_batch;
-
-#[cfg(test)]
-mod tests;

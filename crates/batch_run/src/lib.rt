@@ -14,6 +14,3 @@ pub use images::{ImageFault, read_image};
 
 /// Want of memory.
 pub type Memory = std::alloc::AllocError;
-
-#[cfg(test)]
-mod tests;

@@ -16,8 +16,3 @@ mod subtree;
 pub use building::build;
 pub use faults::BuildFault;
 pub use grouping::groups;
-
-#[cfg(test)]
-mod building_tests;
-#[cfg(test)]
-mod tests;

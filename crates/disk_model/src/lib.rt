@@ -20,6 +20,3 @@ pub use laws::{
 pub use memory_disk::MemoryDisk;
 pub use outside_io::{Failed, Memory};
 pub use shared_disk::SharedDisk;
-
-#[cfg(test)]
-mod tests;

@@ -14,6 +14,3 @@ pub use jobs::{
 };
 pub use lines::{damaged_text, end_with, put_line, rejected_text, sound_text};
 pub use shaping::{end_at_page, shape_index};
-
-#[cfg(test)]
-mod tests;

@@ -10,6 +10,3 @@ mod walking;
 
 pub use free::Free;
 pub use held::Held;
-
-#[cfg(test)]
-mod tests;

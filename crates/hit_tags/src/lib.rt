@@ -9,6 +9,3 @@ pub use tagging::{marked_tags, tags_of};
 
 /// Want of memory.
 pub type Memory = std::alloc::AllocError;
-
-#[cfg(test)]
-mod tests;

@@ -9,6 +9,3 @@ pub use queries::{nearest_outcome, pages_of, range_outcome};
 
 /// Want of memory.
 pub type Memory = std::alloc::AllocError;
-
-#[cfg(test)]
-mod tests;

@@ -20,12 +20,3 @@ pub use view::View;
 
 /// Want of memory.
 pub type Memory = std::alloc::AllocError;
-
-#[cfg(test)]
-mod insert_tests;
-#[cfg(test)]
-mod load_tests;
-#[cfg(test)]
-mod tests;
-#[cfg(test)]
-mod trial;

@@ -11,7 +11,6 @@ pub mod Rooted
 pub mod Listing
 pub mod Top
 pub mod Final
-pub mod Tested
 pub mod Undamaged
 pub mod Replaced
 pub mod Published

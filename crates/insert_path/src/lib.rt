@@ -14,6 +14,3 @@ mod task;
 pub use choice::choose;
 pub use faults::PlaceFault;
 pub use placing::place;
-
-#[cfg(test)]
-mod tests;

@@ -19,6 +19,3 @@ pub use job::{Job, JobFault};
 pub use law::reads_as_clap;
 pub use names::{MetricName, PolicyNames, Promote, SpaceName, Split};
 pub use reading::read_job;
-
-#[cfg(test)]
-mod tests;

@@ -9,6 +9,3 @@ mod lines;
 mod opened;
 
 pub use jobs::{check_join_logs, join_indexes, verify_join_logs};
-
-#[cfg(test)]
-mod tests;

@@ -21,6 +21,3 @@ pub use traversal::Traversal;
 
 /// Want of memory.
 pub type Memory = std::alloc::AllocError;
-
-#[cfg(test)]
-mod tests;

@@ -14,6 +14,3 @@ mod walking;
 pub use faults::{Accepted, JoinVerdict, Verdict};
 pub use join_verifying::verify_join;
 pub use verifying::verify;
-
-#[cfg(test)]
-mod tests;

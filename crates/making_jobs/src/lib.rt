@@ -16,6 +16,3 @@ pub use migrating::migrate_index;
 
 /// Want of memory.
 pub type Memory = std::alloc::AllocError;
-
-#[cfg(test)]
-mod tests;

@@ -6,6 +6,3 @@ mod seen;
 
 pub use metric::Meeting;
 pub use seen::Seen;
-
-#[cfg(test)]
-mod tests;

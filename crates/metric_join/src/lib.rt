@@ -9,6 +9,3 @@ mod walking;
 
 pub use faults::JoinFault;
 pub use joining::join;
-
-#[cfg(test)]
-mod tests;

@@ -18,6 +18,3 @@ pub use ruler::{Meter, Ruler};
 
 /// Want of memory.
 pub type Memory = std::alloc::AllocError;
-
-#[cfg(test)]
-mod tests;

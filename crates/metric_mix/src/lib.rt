@@ -20,6 +20,3 @@ pub use kendall::Kendall;
 pub use mix_space::MixSpace;
 pub use most::Most;
 pub use sum::Sum;
-
-#[cfg(test)]
-mod tests;

@@ -10,6 +10,3 @@ pub use folder::Folder;
 pub use host_folder::HostFolder;
 pub use named::Named;
 pub use opening::{Opened, Refused, open_files};
-
-#[cfg(test)]
-mod tests;

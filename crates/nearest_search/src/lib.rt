@@ -12,6 +12,3 @@ mod pending;
 mod searching;
 
 pub use searching::nearest;
-
-#[cfg(test)]
-mod tests;

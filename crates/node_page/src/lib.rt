@@ -14,6 +14,3 @@ pub use head::{Head, HeadFault, decode_head, encode_head};
 pub use node::{NodeFault, decode_node, decode_old_node};
 pub use slot::{Gate, Slot, decode_slot, encode_slot, read_gate};
 pub use writing::encode_node;
-
-#[cfg(test)]
-mod tests;

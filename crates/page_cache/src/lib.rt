@@ -8,6 +8,3 @@ pub mod laws;
 
 pub use cached::Cached;
 pub use kept::Kept;
-
-#[cfg(test)]
-mod tests;

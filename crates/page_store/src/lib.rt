@@ -21,8 +21,3 @@ pub use staging::{Placed, Staged, StagedNode};
 
 /// Want of memory.
 pub type Memory = std::alloc::AllocError;
-
-#[cfg(test)]
-mod settling_tests;
-#[cfg(test)]
-mod tests;

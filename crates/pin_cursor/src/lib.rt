@@ -14,6 +14,3 @@ pub use waiting::{Candidate, Subtree};
 
 /// Want of memory.
 pub type Memory = std::alloc::AllocError;
-
-#[cfg(test)]
-mod tests;

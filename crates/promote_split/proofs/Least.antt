@@ -144,7 +144,3 @@ filter_more p i n old new whole low is before =
     cases : (b : Bool) (rest : List ℕ) → (if b then old ++ i ∷ [] else old) ++ rest ≡ old ++ cond b (i ∷ rest) rest
     cases true rest = append_assoc old (i ∷ []) rest
     cases false rest = refl
-
-pub all_of : {X : Type 0} (P : X → Type 0) (xs : List X) → ((x : X) → P x) → AllByRecursion P xs
-all_of P [] each = tt
-all_of P (x ∷ xs) each = (each x, all_of P xs each)

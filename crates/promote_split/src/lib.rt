@@ -14,6 +14,3 @@ pub use halves::{Half, Halves};
 pub use matrix::Matrix;
 pub use promoting::{Policy, promote};
 pub use splitting::split;
-
-#[cfg(test)]
-mod tests;

@@ -13,6 +13,3 @@ pub use fault::LogFault;
 pub use frames::{decode_frames, decode_join_frames, frame};
 pub use join_log::{decode_join_log, encode_join_log};
 pub use query_log::{decode_log, encode_log};
-
-#[cfg(test)]
-mod tests;

@@ -5,6 +5,3 @@ pub mod laws;
 mod searching;
 
 pub use searching::range;
-
-#[cfg(test)]
-mod tests;

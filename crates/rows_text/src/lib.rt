@@ -23,8 +23,3 @@ pub use text::{query_text, reply_text};
 
 /// Want of memory.
 pub type Memory = std::alloc::AllocError;
-
-#[cfg(test)]
-mod tests;
-#[cfg(test)]
-mod text_tests;

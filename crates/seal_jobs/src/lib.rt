@@ -13,6 +13,3 @@ mod taking;
 pub use carrying::carry_logs;
 pub use proving::prove_logs;
 pub use sealing::seal_index;
-
-#[cfg(test)]
-mod tests;

@@ -26,6 +26,3 @@ pub use verifying::{Proved, verify_carried};
 
 /// Want of memory.
 pub type Memory = std::alloc::AllocError;
-
-#[cfg(test)]
-mod tests;

@@ -11,6 +11,3 @@ mod stop;
 
 pub use running::{Ended, session};
 pub use stop::Stop;
-
-#[cfg(test)]
-mod tests;

@@ -5,7 +5,6 @@ pub mod Run
 pub mod Opened
 pub mod Causes
 pub mod Made
-pub mod Ready
 pub mod Beside
 pub mod Lists
 pub mod Published

@@ -11,6 +11,3 @@ pub use committing::commit;
 pub use faults::{CreateFault, OpenFault};
 pub use making::create;
 pub use opening::open;
-
-#[cfg(test)]
-mod tests;

@@ -4,6 +4,3 @@
 mod disk;
 
 pub use disk::SliceDisk;
-
-#[cfg(test)]
-mod tests;

@@ -11,6 +11,3 @@ mod walking;
 pub use auditing::{Audited, audit};
 pub use faults::AuditFault;
 pub use parts::{Part, audit_part, join_parts};
-
-#[cfg(test)]
-mod tests;

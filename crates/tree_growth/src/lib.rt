@@ -5,6 +5,3 @@ pub mod laws;
 mod rules;
 
 pub use rules::{Aim, Group, Member, Side};
-
-#[cfg(test)]
-mod tests;

@@ -4,6 +4,3 @@
 mod outline;
 
 pub use outline::{Shape, ShapeLine, shape_of};
-
-#[cfg(test)]
-mod tests;

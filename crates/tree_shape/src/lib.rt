@@ -9,6 +9,3 @@ mod live;
 pub use entry::{InnerEntry, LeafEntry, Node};
 pub use filling::{Bounds, fill};
 pub use live::{LAST_GENERATION, Live, MOST_PAGES, PAGE};
-
-#[cfg(test)]
-mod tests;

@@ -11,6 +11,3 @@ pub use hamming::Hamming;
 pub use l1::L1;
 pub use max::Max;
 pub use space::{Space, SpaceFault};
-
-#[cfg(test)]
-mod tests;

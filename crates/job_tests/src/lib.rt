@@ -1,0 +1,9 @@
+//! Tests of the jobs on files.
+#![tactic(auto)]
+
+#[cfg(test)]
+mod files;
+#[cfg(test)]
+mod joins;
+#[cfg(test)]
+mod making;

@@ -1,0 +1,11 @@
+//! Tests of the outside: streams, disks and named files.
+#![tactic(auto)]
+
+#[cfg(test)]
+mod disks;
+#[cfg(test)]
+mod files;
+#[cfg(test)]
+mod slices;
+#[cfg(test)]
+mod streams;

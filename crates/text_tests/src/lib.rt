@@ -1,0 +1,11 @@
+//! Tests of words and texts: the command line, scripts and answers.
+#![tactic(auto)]
+
+#[cfg(test)]
+mod answers;
+#[cfg(test)]
+mod commands;
+#[cfg(test)]
+mod texts;
+#[cfg(test)]
+mod words;
