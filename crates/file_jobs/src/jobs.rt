@@ -15,7 +15,10 @@ ghost use Rattle.file_jobs.specs.Jobs.{Creates, Refuses, Audits, HasFault, IsPas
 ghost use Rattle.file_jobs.specs.Lines.{unopened_text, rejected_text, sound_text};
 ghost use Rattle.metric_mix.specs.MixKinds.{mix_kind, mix_dim};
 
-use crate::lines::{end_with, put_line, rejected_text, sound_text};
+use crate::lines::{
+    FAULT_DISK, FAULT_MEMORY, FAULT_NOT_EMPTY, FAULT_VERSION, end_with, put_line, rejected_text,
+    sound_text,
+};
 use disk_model::Disk;
 use metric_laws::Meter;
 use metric_mix::MixSpace;
@@ -26,15 +29,6 @@ use shadow_root::{CreateFault, OpenFault, create, open};
 use std::alloc::Global;
 use tree_audit::{AuditFault, Audited, audit};
 use tree_shape::Live;
-
-/// The most pages of an index that a job takes whole, into memory or under a seal: 1 GiB.
-pub const MOST_WHOLE_PAGES: u32 = 262_144;
-
-/// The line of want of memory.
-pub const FAULT_MEMORY: &[u8] = b"fault memory\n";
-
-/// The line of a disk that failed.
-pub const FAULT_DISK: &[u8] = b"fault disk\n";
 
 /// Makes an empty index in an empty file, and writes `created`. Status 4: the line could not be written; 5: the disk
 /// failed; 6: the file holds something, and is left as it is.
@@ -48,7 +42,7 @@ pub fn create_index<D: Disk, K: Sink>(disk: &mut D, head: &Head, out: &mut K) ->
 {
     match create(disk, head) {
         Ok(_) => put_line(out, b"created\n", 0),
-        Err(CreateFault::NotEmpty) => end_with(out, b"fault notindex notempty\n", 6),
+        Err(CreateFault::NotEmpty) => end_with(out, FAULT_NOT_EMPTY, 6),
         Err(CreateFault::Disk) => end_with(out, FAULT_DISK, 5),
     }
 }
@@ -61,7 +55,7 @@ fn unopened_line(fault: OpenFault) -> &'static [u8]
         OpenFault::Disk => FAULT_DISK,
         OpenFault::Short => b"fault notindex short\n",
         OpenFault::Head(HeadFault::Magic) => b"fault notindex magic\n",
-        OpenFault::Head(HeadFault::Version) => b"fault notindex version\n",
+        OpenFault::Head(HeadFault::Version) => FAULT_VERSION,
         OpenFault::Head(HeadFault::Space) => b"fault notindex space\n",
         OpenFault::Head(HeadFault::Policy) => b"fault notindex policy\n",
         OpenFault::Head(HeadFault::Limit) => b"fault notindex limit\n",
@@ -178,7 +172,7 @@ pub fn open_index<D: Disk, K: Sink>(disk: &mut D, out: &mut K) -> Result<(Head, 
     match open(disk) {
         Ok((head, live)) => {
             if head.version != 2 {
-                return Err(end_with(out, b"fault notindex version\n", 6));
+                return Err(end_with(out, FAULT_VERSION, 6));
             }
             Ok((head, live))
         }

@@ -3,14 +3,19 @@
 
 mod jobs;
 pub mod laws;
+mod limits;
 mod lines;
 pub mod logs;
 mod shape_lines;
 mod shaping;
 
 pub use jobs::{
-    FAULT_DISK, FAULT_MEMORY, MOST_WHOLE_PAGES, audit_index, audit_opened, create_index,
-    end_rejected, end_sound, end_unopened, open_index, space_of,
+    audit_index, audit_opened, create_index, end_rejected, end_sound, end_unopened, open_index,
+    space_of,
 };
-pub use lines::{damaged_text, end_with, put_line, rejected_text, sound_text};
+pub use limits::{MOST_INPUT, MOST_LOGS, MOST_WHOLE_PAGES};
+pub use lines::{
+    FAULT_DISK, FAULT_INPUT, FAULT_LONG, FAULT_MEMORY, FAULT_NOT_EMPTY, FAULT_VERSION,
+    damaged_text, end_with, put_line, rejected_text, sound_text,
+};
 pub use shaping::{end_at_page, shape_index};

@@ -11,6 +11,24 @@ use page_store::PageFault;
 use std::alloc::Global;
 use tree_audit::{AuditFault, Audited};
 
+/// The line of an input that could not be read.
+pub const FAULT_INPUT: &[u8] = b"fault input\n";
+
+/// The line of an input, or an index, that is too long.
+pub const FAULT_LONG: &[u8] = b"fault long\n";
+
+/// The line of want of memory.
+pub const FAULT_MEMORY: &[u8] = b"fault memory\n";
+
+/// The line of a disk that failed.
+pub const FAULT_DISK: &[u8] = b"fault disk\n";
+
+/// The line of a file of another version.
+pub const FAULT_VERSION: &[u8] = b"fault notindex version\n";
+
+/// The line of a file that is to be made anew and holds something.
+pub const FAULT_NOT_EMPTY: &[u8] = b"fault notindex notempty\n";
+
 /// Ends with a status, after a line that says why. Only where the output fails the line is cut short.
 pub fn end_with<K: Sink>(out: &mut K, line: &[u8], status: u8) -> Status
     ensures status { result.0 ≡ status }

@@ -11,8 +11,8 @@ ghost use Rattle.tree_outline.specs.Shapes.{IsCounted};
 ghost use Rattle.file_jobs.specs.Lines.{damaged_text, shape_text};
 ghost use Rattle.file_jobs.specs.Shapes.{AreLinesOf, HasStop, IsShapeStatus, Shapes};
 
-use crate::jobs::{FAULT_DISK, FAULT_MEMORY, open_index};
-use crate::lines::{damaged_text, end_with, put_line};
+use crate::jobs::open_index;
+use crate::lines::{FAULT_DISK, FAULT_MEMORY, damaged_text, end_with, put_line};
 use crate::shape_lines::shape_text;
 use disk_model::Disk;
 use node_page::Head;

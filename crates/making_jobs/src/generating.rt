@@ -21,7 +21,9 @@ use crate::filling::{FillFault, Objects, fill};
 use crate::generator::generated_rows;
 use disk_model::Disk;
 use fault_lines::push_numbered;
-use file_jobs::{FAULT_DISK, FAULT_MEMORY, end_at_page, end_unopened, end_with, put_line};
+use file_jobs::{
+    FAULT_DISK, FAULT_MEMORY, FAULT_NOT_EMPTY, end_at_page, end_unopened, end_with, put_line,
+};
 use index_core::Index;
 use metric_laws::{Metric, Rows};
 use metric_mix::MixSpace;
@@ -34,8 +36,6 @@ use std::alloc::Global;
 use std::thread::Threads;
 use tree_outline::Shape;
 
-const NOT_EMPTY: &[u8] = b"fault notindex notempty\n";
-
 // Ends a job whose new index could not be filled.
 fn end_unfilled<K: Sink>(alloc: Global, fault: FillFault, out: &mut K) -> Status
     ensures ends { EndsUnfilled fault (K.state out.old) (K.state out.new) result.0 }
@@ -43,7 +43,7 @@ fn end_unfilled<K: Sink>(alloc: Global, fault: FillFault, out: &mut K) -> Status
 {
     match fault {
         FillFault::Unopened(fault) => end_unopened(fault, out),
-        FillFault::Changed => end_with(out, NOT_EMPTY, 6),
+        FillFault::Changed => end_with(out, FAULT_NOT_EMPTY, 6),
         FillFault::Disk => end_with(out, FAULT_DISK, 5),
         FillFault::Damaged(page) => end_at_page(alloc, page, out),
         FillFault::Memory => end_with(out, FAULT_MEMORY, 8),
@@ -89,7 +89,7 @@ pub fn make_filled<R: Threads + Sync, D: Disk, K: Sink>(
 {
     let live = match create(disk, head) {
         Ok(live) => live,
-        Err(CreateFault::NotEmpty) => return Err(end_with(out, NOT_EMPTY, 6)),
+        Err(CreateFault::NotEmpty) => return Err(end_with(out, FAULT_NOT_EMPTY, 6)),
         Err(CreateFault::Disk) => return Err(end_with(out, FAULT_DISK, 5)),
     };
     match fill(rt, alloc, disk, head, &live, workers, objects) {

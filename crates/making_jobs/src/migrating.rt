@@ -21,7 +21,8 @@ use crate::generating::{make_filled, push_counted};
 use crate::ordering::objects_of;
 use disk_model::Disk;
 use file_jobs::{
-    FAULT_DISK, FAULT_MEMORY, end_rejected, end_unopened, end_with, put_line, space_of,
+    FAULT_DISK, FAULT_MEMORY, FAULT_NOT_EMPTY, FAULT_VERSION, end_rejected, end_unopened, end_with,
+    put_line, space_of,
 };
 use metric_laws::{Meter, Metric};
 use node_page::Head;
@@ -46,7 +47,7 @@ fn want_empty<D: Disk, K: Sink>(disk: &mut D, out: &mut K) -> Result<(), Status>
 {
     match disk.size() {
         Ok(0) => Ok(()),
-        Ok(_) => Err(end_with(out, b"fault notindex notempty\n", 6)),
+        Ok(_) => Err(end_with(out, FAULT_NOT_EMPTY, 6)),
         Err(_) => Err(end_with(out, FAULT_DISK, 5)),
     }
 }
@@ -68,7 +69,7 @@ fn open_old<D: Disk, K: Sink>(disk: &mut D, out: &mut K) -> Result<(Head, Live),
     match open(disk) {
         Ok((head, live)) => {
             if head.version != 1 {
-                return Err(end_with(out, b"fault notindex version\n", 6));
+                return Err(end_with(out, FAULT_VERSION, 6));
             }
             Ok((head, live))
         }

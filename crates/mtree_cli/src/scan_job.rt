@@ -11,16 +11,13 @@ ghost use Rattle.plain_scan.specs.Written.{reply_texts};
 ghost use Rattle.rows_text.specs.Script.{script};
 ghost use Rattle.mtree_cli.specs.Run.{IsScanStatus, WritesScan, scan_texts};
 
-use file_jobs::{FAULT_MEMORY, end_with};
+use file_jobs::{FAULT_INPUT, FAULT_LONG, FAULT_MEMORY, MOST_INPUT, end_with};
 use job_words::SpaceName;
 use metric_mix::MixSpace;
 use outside_io::{ReadAll, Sink, Source, Status, read_all};
 use plain_scan::{Scan, Stop, run_script};
 use rows_text::read_script;
 use std::alloc::Global;
-
-/// The most bytes of input that are read.
-pub const MOST_INPUT: u64 = 1 << 26;
 
 // The space of a name.
 fn space_of(name: SpaceName) -> MixSpace
@@ -100,8 +97,8 @@ pub fn run_scan<S: Source, K: Sink>(
     };
     match read_all(alloc, input, MOST_INPUT) {
         Ok(bytes) => run_bytes(alloc, &scan, space.dim, &bytes, out),
-        Err(ReadAll::Fault) => end_with(out, b"fault input\n", 3),
-        Err(ReadAll::TooLong) => end_with(out, b"fault long\n", 7),
+        Err(ReadAll::Fault) => end_with(out, FAULT_INPUT, 3),
+        Err(ReadAll::TooLong) => end_with(out, FAULT_LONG, 7),
         Err(ReadAll::Memory) => end_with(out, FAULT_MEMORY, 8),
     }
 }

@@ -13,10 +13,10 @@ ghost use Rattle.session_run.specs.Session.{IsAsking};
 ghost use Rattle.file_jobs.specs.Spaces.{space_of};
 ghost use Rattle.mtree_cli.specs.Session.{HasEnded, HasFinished, HasRefused, IsComplete, IsSessionStatus, LeavesAll, ReadsFew, ReadsScript, RunsOn, RunsScript, RunsSession, state_in};
 
-use crate::scan_job::MOST_INPUT;
 use disk_model::Disk;
 use file_jobs::{
-    FAULT_DISK, FAULT_MEMORY, damaged_text, end_unopened, end_with, open_index, space_of,
+    FAULT_DISK, FAULT_INPUT, FAULT_LONG, FAULT_MEMORY, MOST_INPUT, damaged_text, end_unopened,
+    end_with, open_index, space_of,
 };
 use index_core::Index;
 use metric_laws::Metric;
@@ -172,8 +172,8 @@ pub fn run_session<R: Threads + Sync, D: Disk, S: Source, K: Sink, T: Sink>(
 {
     match read_all(alloc, input, MOST_INPUT) {
         Ok(bytes) => run_on_index(rt, alloc, index, workers, show_tags, &bytes, out, log_out),
-        Err(ReadAll::Fault) => end_with(out, b"fault input\n", 3),
-        Err(ReadAll::TooLong) => end_with(out, b"fault long\n", 7),
+        Err(ReadAll::Fault) => end_with(out, FAULT_INPUT, 3),
+        Err(ReadAll::TooLong) => end_with(out, FAULT_LONG, 7),
         Err(ReadAll::Memory) => end_with(out, FAULT_MEMORY, 8),
     }
 }

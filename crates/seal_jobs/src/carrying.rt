@@ -24,7 +24,7 @@ use crate::proof_lines::rejected_text;
 use crate::stop::Halt;
 use disk_model::Disk;
 use file_jobs::logs::{push_frame, undecoded_text};
-use file_jobs::{FAULT_DISK, FAULT_MEMORY, end_with, space_of};
+use file_jobs::{FAULT_DISK, FAULT_INPUT, FAULT_LONG, FAULT_MEMORY, MOST_LOGS, end_with, space_of};
 use log_model::{Log, Record};
 use log_verify::{Verdict, verify};
 use metric_laws::{Meter, Metric};
@@ -36,9 +36,6 @@ use seal_log::laws::carried_logs_are_accepted;
 use seal_log::{ProofFault, SealFault, Tree, carry, seal};
 use std::alloc::Global;
 use tree_shape::Live;
-
-/// The most bytes of logs that are read.
-const MOST_LOGS: u64 = 1 << 30;
 
 // The first fault of a log, where it has one.
 fn judge_by<M: Metric, P: Pages>(
@@ -418,8 +415,8 @@ pub fn carry_logs<D: Disk, S: Source, K: Sink, L: Sink>(
     carried_logs_are_accepted();
     match read_all(alloc, log_in, MOST_LOGS) {
         Ok(bytes) => carry_index(alloc, index, &bytes, out, log_out),
-        Err(ReadAll::Fault) => end_with(out, b"fault input\n", 3),
-        Err(ReadAll::TooLong) => end_with(out, b"fault long\n", 7),
+        Err(ReadAll::Fault) => end_with(out, FAULT_INPUT, 3),
+        Err(ReadAll::TooLong) => end_with(out, FAULT_LONG, 7),
         Err(ReadAll::Memory) => end_with(out, FAULT_MEMORY, 8),
     }
 }

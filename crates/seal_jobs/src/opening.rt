@@ -6,7 +6,7 @@ ghost use Rattle.node_page.specs.Opening.{OpensTo};
 ghost use Rattle.seal_jobs.specs.Seals.{Refuses};
 
 use disk_model::Disk;
-use file_jobs::{MOST_WHOLE_PAGES, end_unopened, end_with};
+use file_jobs::{FAULT_LONG, FAULT_VERSION, MOST_WHOLE_PAGES, end_unopened, end_with};
 use node_page::Head;
 use outside_io::{Sink, Status};
 use shadow_root::open;
@@ -29,10 +29,10 @@ pub fn open_small<D: Disk, K: Sink>(disk: &mut D, out: &mut K) -> Result<(Head, 
     match open(disk) {
         Ok((head, live)) => {
             if head.version != 2 {
-                return Err(end_with(out, b"fault notindex version\n", 6));
+                return Err(end_with(out, FAULT_VERSION, 6));
             }
             if live.pages > MOST_WHOLE_PAGES {
-                return Err(end_with(out, b"fault long\n", 7));
+                return Err(end_with(out, FAULT_LONG, 7));
             }
             Ok((head, live))
         }

@@ -11,13 +11,10 @@ use crate::laws::accepted_show;
 use crate::proof_lines::{end_text, proved_text, rejected_text};
 use crate::stop::Stop;
 use crate::taking::{Next, next_frame};
-use file_jobs::{FAULT_MEMORY, end_with, space_of};
+use file_jobs::{FAULT_INPUT, FAULT_LONG, FAULT_MEMORY, MOST_LOGS, end_with, space_of};
 use outside_io::{Sink, Source, Status};
 use seal_log::{ProofFault, Proved, read_proof, verify_carried};
 use std::alloc::Global;
-
-/// The most bytes of carried logs that are taken.
-const MOST_LOGS: u64 = 1 << 30;
 
 // What a carried log shows under a root digest, or its first fault.
 fn judge(alloc: Global, root: &[u8; 32], body: &[u8]) -> Result<Proved, ProofFault>
@@ -145,8 +142,8 @@ pub fn prove_logs<S: Source, K: Sink>(
     match judge_frames(alloc, log_in, root, out) {
         Ok(status) => status,
         Err(Stop::Sink) => Status(4),
-        Err(Stop::Input) => end_with(out, b"fault input\n", 3),
-        Err(Stop::Long) => end_with(out, b"fault long\n", 7),
+        Err(Stop::Input) => end_with(out, FAULT_INPUT, 3),
+        Err(Stop::Long) => end_with(out, FAULT_LONG, 7),
         Err(Stop::Memory) => end_with(out, FAULT_MEMORY, 8),
     }
 }

@@ -17,7 +17,10 @@ use crate::jobs::stop::Stop;
 use crate::laws::images_hold_the_file;
 use crate::{ImageFault, read_image};
 use disk_model::Disk;
-use file_jobs::{FAULT_DISK, FAULT_MEMORY, end_at_page, end_with, open_index, space_of};
+use file_jobs::{
+    FAULT_DISK, FAULT_INPUT, FAULT_LONG, FAULT_MEMORY, MOST_INPUT, end_at_page, end_with,
+    open_index, space_of,
+};
 use metric_laws::Metric;
 use node_page::Head;
 use node_page::laws::{fault_is_not_open, one_live_slot};
@@ -26,12 +29,6 @@ use rows_text::read_script;
 use std::alloc::Global;
 use std::thread::Threads;
 use tree_shape::Live;
-
-/// The most bytes of a script.
-const MOST_INPUT: u64 = 1 << 26;
-
-/// The line of an input or an index that is too long.
-const FAULT_LONG: &[u8] = b"fault long\n";
 
 // Ends a batch that stopped for this reason.
 fn end_stopped<K: Sink>(alloc: Global, why: Stop, out: &mut K) -> Status
@@ -175,7 +172,7 @@ pub fn run_batch<R: Threads + Sync, D: Disk, S: Source, K: Sink, T: Sink>(
             };
             run_on_index(rt, alloc, index, &task, out, log_out)
         }
-        Err(ReadAll::Fault) => end_with(out, b"fault input\n", 3),
+        Err(ReadAll::Fault) => end_with(out, FAULT_INPUT, 3),
         Err(ReadAll::TooLong) => end_with(out, FAULT_LONG, 7),
         Err(ReadAll::Memory) => end_with(out, FAULT_MEMORY, 8),
     }

@@ -4,12 +4,9 @@ ghost use Rattle.outside_io.specs.Causes.{Rose};
 ghost use Rattle.file_jobs.specs.Logs.Jobs.{EndsUnread, Stops, TakesLogs};
 
 use crate::logs::stop::Stop;
-use crate::{FAULT_DISK, FAULT_MEMORY, end_with};
+use crate::{FAULT_DISK, FAULT_INPUT, FAULT_LONG, FAULT_MEMORY, MOST_LOGS, end_with};
 use outside_io::{ReadAll, Sink, Source, Status, read_all};
 use std::alloc::Global;
-
-/// The most bytes of logs that are read.
-const MOST_LOGS: u64 = 1 << 30;
 
 /// Reads the bytes of logs. Else it writes why there are none, and answers the status: 3 where they could not be read, 7 where
 /// there are more than 2^30, and 8 for want of memory.
@@ -28,8 +25,8 @@ pub fn read_logs<S: Source, K: Sink>(
 {
     match read_all(alloc, log_in, MOST_LOGS) {
         Ok(bytes) => Ok(bytes),
-        Err(ReadAll::Fault) => Err(end_with(out, b"fault input\n", 3)),
-        Err(ReadAll::TooLong) => Err(end_with(out, b"fault long\n", 7)),
+        Err(ReadAll::Fault) => Err(end_with(out, FAULT_INPUT, 3)),
+        Err(ReadAll::TooLong) => Err(end_with(out, FAULT_LONG, 7)),
         Err(ReadAll::Memory) => Err(end_with(out, FAULT_MEMORY, 8)),
     }
 }
