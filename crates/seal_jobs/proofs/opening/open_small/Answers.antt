@@ -12,14 +12,14 @@ returns-then-head-ne2-clause-refuses g c = record {
   statuses = inr (inl c.end_with.ensures.status);
 }
 
-pub returns-then-live-gt-MOST_PAGES-clause-refuses : goal.returns-then-live-gt-MOST_PAGES-clause-refuses
-returns-then-live-gt-MOST_PAGES-clause-refuses g c =
-    let status = c.end_with-then-live-gt-MOST_PAGES.ensures.status in
-    let r = c.end_with-then-live-gt-MOST_PAGES.result.0 in
+pub returns-then-live-gt-MOST_WHOLE_PAGES-clause-refuses : goal.returns-then-live-gt-MOST_WHOLE_PAGES-clause-refuses
+returns-then-live-gt-MOST_WHOLE_PAGES-clause-refuses g c =
+    let status = c.end_with-then-live-gt-MOST_WHOLE_PAGES.ensures.status in
+    let r = c.end_with-then-live-gt-MOST_WHOLE_PAGES.result.0 in
     record {
       disk = λ is. only r 7 5 status is (omega arith);
       not_index = λ is. only r 7 6 status is (omega arith);
-      long = λ is. (c.end_with-then-live-gt-MOST_PAGES.ensures.line, λ tells. (c.in-Ok.head, c.in-Ok.live, c.in-Ok.ensures.ok tells, c.if-live-gt-MOST_PAGES.true));
+      long = λ is. (c.end_with-then-live-gt-MOST_WHOLE_PAGES.ensures.line, λ tells. (c.in-Ok.head, c.in-Ok.live, c.in-Ok.ensures.ok tells, c.if-live-gt-MOST_WHOLE_PAGES.true));
       statuses = inr (inr status);
     }
 
