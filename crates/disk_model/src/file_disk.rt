@@ -53,7 +53,7 @@ impl FileDisk {
     }
 }
 
-// Fills `buf` from a place on, as far as the file goes.
+// Fills `buf` from a place on: as far as the file goes, and then with 0.
 fn fill(file: &File, at: u64, buf: &mut [u8]) -> io::Result<()>
     requires { at + length buf.old ≤ 2 ^ 37 }
 {
@@ -65,6 +65,7 @@ fn fill(file: &File, at: u64, buf: &mut [u8]) -> io::Result<()>
         }
         done += count;
     }
+    buf[done..].fill(0);
     Ok(())
 }
 
@@ -82,7 +83,6 @@ impl Disk for FileDisk {
 
     fn read_at(&mut self, at: u64, buf: &mut [u8]) -> Result<(), Failed> {
         self.reads = self.reads.saturating_add(1);
-        buf.fill(0);
         let outcome = fill(&self.file, at, buf);
         self.answer(outcome)
     }
