@@ -231,30 +231,33 @@ fn a_real_file_is_read_written_and_opened_again(rt: HostRuntime) -> Result<(), F
     Ok(())
 }
 
-// What another reader of the same file gives from place 1 on.
-fn read_beside<D: SharedDisk>(alloc: Global, disk: &D) -> Result<[u8; 3], Failed> {
+// A reader of a disk in memory reads what was written, and fails by the disk's own list of calls.
+#[test]
+fn a_reader_reads_the_memory_as_it_is(rt: HostRuntime) -> Result<(), Fail> {
+    let alloc = rt.alloc();
+    let bytes = [1, 2, 3].to_vec(alloc)?;
+    let mut disk = MemoryDisk::new(alloc, bytes, 8, 20, [2].to_vec(alloc)?, None)?;
+    disk.write_at(2, &[7])?;
     let mut reader = disk.reader(alloc).ok_or(Failed)?;
-    let mut buf = [9; 3];
-    reader.read_at(1, &mut buf)?;
-    Ok(buf)
+    let mut found = [9; 3];
+    reader.read_at(1, &mut found)?;
+    assert_eq!(rt; found, [2, 7, 0]);
+    assert_eq!(rt; reader.size()?, 3);
+    assert!(rt; reader.size().is_err(), "it fails where the disk does");
+    assert_eq!(rt; disk.size()?, 3);
+    assert!(rt; disk.size().is_err());
+    Ok(())
 }
 
 #[test]
 fn a_reader_reads_the_file_as_it_is(rt: HostRuntime) -> Result<(), Fail> {
-    let alloc = rt.alloc();
-    let bytes = [1, 2, 3].to_vec(alloc)?;
-    let mut disk = MemoryDisk::new(alloc, bytes, 8, 20, [1].to_vec(alloc)?, None)?;
-    disk.write_at(2, &[7])?;
-    assert_eq!(rt; read_beside(alloc, &disk)?, [2, 7, 0]);
-    let mut reader = disk.reader(alloc).ok_or(Failed)?;
-    assert_eq!(rt; reader.size()?, 3);
-    assert!(rt; reader.size().is_err(), "it fails where the disk does");
-    assert!(rt; disk.size().is_err());
-
     let path = "disk_of_a_reader";
     fs::write(&rt, path, &[4, 5, 6])?;
     let file = FileDisk::new(File::open(&rt, path)?);
-    assert_eq!(rt; read_beside(alloc, &file)?, [5, 6, 0]);
+    let mut reader = file.reader(rt.alloc()).ok_or(Failed)?;
+    let mut found = [9; 3];
+    reader.read_at(1, &mut found)?;
+    assert_eq!(rt; found, [5, 6, 0]);
     fs::remove_file(&rt, path)?;
     Ok(())
 }

@@ -14,6 +14,3 @@ pub use session::{Scan, Stop, run_script};
 
 /// Want of memory.
 pub type Memory = std::alloc::AllocError;
-
-#[cfg(test)]
-mod tests;

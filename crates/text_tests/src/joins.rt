@@ -1,4 +1,6 @@
-use crate::points::all_fit;
+ghost use Rattle.std.specs.Prelude.{◌≡◌, All, length, IsTrue, IfOk};
+ghost use Rattle.vector_kinds.specs.Vectors.{vector_space};
+
 use metric_laws::{Memory, Rows};
 use scan_model::{Pair, scan_join};
 use std::alloc::Global;
@@ -7,23 +9,24 @@ use std::test::Fail;
 use vector_kinds::L1;
 
 // Three numbers, as points of one coordinate.
-fn rows_of(alloc: Global, numbers: [u32; 3]) -> Result<Rows, Memory> {
+fn rows_of(alloc: Global, numbers: [u32; 3]) -> Result<Rows, Memory>
+    ensures points { IfOk result (λ rows. length rows.points ≡ 3) }
+    ensures fit { IfOk result (λ rows. All (λ p. IsTrue ((vector_space 2 1).fits p)) rows.points) }
+{
+    let [a, b, c] = numbers;
     let mut rows = Rows::new(alloc, 1);
-    rows.push(&[numbers[0]])?;
-    rows.push(&[numbers[1]])?;
-    rows.push(&[numbers[2]])?;
+    rows.push(&[a])?;
+    rows.push(&[b])?;
+    rows.push(&[c])?;
     Ok(rows)
 }
 
 #[test]
 fn the_pairs_of_a_double_loop(rt: HostRuntime) -> Result<(), Fail> {
     let alloc = rt.alloc();
-    let metric = L1::new(1);
     let left = rows_of(alloc, [0, 5, 9])?;
     let right = rows_of(alloc, [9, 4, 6])?;
-    assert!(rt; all_fit(&metric, &left) && all_fit(&metric, &right));
-    assert!(rt; left.len() == 3 && right.len() == 3);
-    let pairs = scan_join(alloc, &metric, &left, &right, 1)?;
+    let pairs = scan_join(alloc, &L1::new(1), &left, &right, 1)?;
     let within = [
         Pair {
             left: 1,
