@@ -120,9 +120,9 @@ fn a_batch_answers_in_order(rt: HostRuntime) -> Result<(), Fail> {
         let said = run(&rt, alloc, &image, L1::new(1), &LINE, script, workers)?;
         let wanted =
             b"hits 3\n0 0\n1 1\n2 2\ncount 33\nrefused readonly\nhits 1\n32 1\nrefused count\nrefused readonly\n";
-        assert_eq!(rt; said.as_slice(), wanted.as_slice());
+        assert!(rt; said.as_slice() == wanted.as_slice());
         let nothing = run(&rt, alloc, &image, L1::new(1), &LINE, "", workers)?;
-        assert_eq!(rt; nothing.len(), 0);
+        assert!(rt; nothing.len() == 0);
     }
     Ok(())
 }
@@ -136,7 +136,7 @@ fn dear_and_cheap_commands_keep_their_order(rt: HostRuntime) -> Result<(), Fail>
         "hits 1\n5 0\ncount 33\nhits 1\n6 0\ncount 33\nhits 1\n7 0\ncount 33\nhits 1\n8 0\nhits 1\n9 0\nhits 1\n10 0\nhits 1\n11 0\n";
     for workers in WORKERS {
         let said = run(&rt, rt.alloc(), &image, L1::new(1), &LINE, script, workers)?;
-        assert_eq!(rt; said.as_slice(), wanted.as_bytes());
+        assert!(rt; said.as_slice() == wanted.as_bytes());
     }
     Ok(())
 }
@@ -205,9 +205,9 @@ fn check<R: AllocGlobal + Threads + Sync + Abort>(
             "range,7,0\ncount\n",
             workers,
         )?;
-        assert_eq!(rt; text.as_slice(), said.as_bytes());
+        assert!(rt; text.as_slice() == said.as_bytes());
         let found = audit_image(rt, alloc, image, L1::new(1), 1, live, workers);
-        assert_eq!(rt; found, audited);
+        assert!(rt; found == audited);
     }
     Ok(())
 }
@@ -292,8 +292,8 @@ fn two_workers_of_a_batch_meet(rt: HostRuntime) -> Result<(), Fail> {
         let seen = Seen::new();
         let metric = meeting(&[100], &[200], &seen);
         let said = run(&rt, rt.alloc(), &image, metric, &LINE, script, workers)?;
-        assert_eq!(rt; said.as_slice(), b"hits 0\nhits 0\n".as_slice());
-        assert_eq!(rt; seen.met(), workers == 2);
+        assert!(rt; said.as_slice() == b"hits 0\nhits 0\n".as_slice());
+        assert!(rt; seen.met() == (workers == 2));
     }
     Ok(())
 }
@@ -309,8 +309,8 @@ fn two_workers_of_an_audit_meet(rt: HostRuntime) -> Result<(), Fail> {
             objects: 33,
             nodes: 3,
         };
-        assert_eq!(rt; found, Ok(numbers));
-        assert_eq!(rt; seen.met(), workers == 2);
+        assert!(rt; found == Ok(numbers));
+        assert!(rt; seen.met() == (workers == 2));
     }
     Ok(())
 }
@@ -333,8 +333,8 @@ fn parts_that_cannot_be_read_show_nothing(rt: HostRuntime) -> Result<(), Fail> {
         objects: 33,
         nodes: 3,
     };
-    assert_eq!(rt; shown(&rt, &[])?, Some(numbers));
-    assert_eq!(rt; shown(&rt, &[0])?, None);
+    assert!(rt; shown(&rt, &[])? == Some(numbers));
+    assert!(rt; shown(&rt, &[0])? == None);
     Ok(())
 }
 
@@ -351,13 +351,13 @@ fn images_are_read(rt: HostRuntime) -> Result<(), Fail> {
     fails.push(2)?;
     let mut disk = MemoryDisk::new(alloc, bytes, 8192, 100, fails, None)?;
     let image = image_of(alloc, &mut disk, 2)?;
-    assert_eq!(rt; image.len(), 8192);
-    assert_eq!(rt; image.get(4999).copied(), Some(7));
-    assert_eq!(rt; image.get(5000).copied(), Some(0));
-    assert_eq!(rt; image_of(alloc, &mut disk, 1)?.len(), 4096);
-    assert_eq!(rt; image_of(alloc, &mut disk, 1).err(), Some(ImageFault::Disk));
+    assert!(rt; image.len() == 8192);
+    assert!(rt; image.get(4999).copied() == Some(7));
+    assert!(rt; image.get(5000).copied() == Some(0));
+    assert!(rt; image_of(alloc, &mut disk, 1)?.len() == 4096);
+    assert!(rt; image_of(alloc, &mut disk, 1).err() == Some(ImageFault::Disk));
     let long = image_of(alloc, &mut disk, 262_145);
-    assert_eq!(rt; long.err(), Some(ImageFault::TooLong));
-    assert_eq!(rt; disk.moments(), 3);
+    assert!(rt; long.err() == Some(ImageFault::TooLong));
+    assert!(rt; disk.moments() == 3);
     Ok(())
 }

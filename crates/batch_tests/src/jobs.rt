@@ -136,11 +136,11 @@ fn check_by<R: AllocGlobal + Threads + Sync + Abort>(
         &mut out,
         &mut log_out,
     );
-    assert_eq!(rt; ended, Status(status));
-    assert_eq!(rt; out.written(), said.0.as_bytes());
+    assert!(rt; ended == Status(status));
+    assert!(rt; out.written() == said.0.as_bytes());
     let logs = decode_frames(alloc, log_out.written());
-    assert_eq!(rt; logs.map(|logs| logs.len()), Ok(said.1));
-    assert_eq!(rt; disk.bytes(), bytes);
+    assert!(rt; logs.map(|logs| logs.len()) == Ok(said.1));
+    assert!(rt; disk.bytes() == bytes);
     Ok(())
 }
 
@@ -278,8 +278,8 @@ fn check_audit<R: AllocGlobal + Threads + Sync + Abort>(
         let mut disk = disk_of(alloc, bytes.to_vec(alloc)?, fails)?;
         let mut out = MemorySink::new(alloc, 1000, Vec::new(alloc))?;
         let ended = audit_index_by(rt, alloc, &mut disk, workers, &mut out);
-        assert_eq!(rt; ended, Status(status));
-        assert_eq!(rt; out.written(), lines.as_bytes());
+        assert!(rt; ended == Status(status));
+        assert!(rt; out.written() == lines.as_bytes());
     }
     Ok(())
 }

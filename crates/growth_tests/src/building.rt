@@ -129,12 +129,12 @@ fn check_leaf(rt: &impl Abort, node: &Node, seed: u32, from: u32, to: u32)
         panic!(rt; "no leaf");
     };
     let entries = entries.as_slice();
-    assert_eq!(rt; entries.len(), (to - from) as usize);
+    assert!(rt; entries.len() == (to - from) as usize);
     for (entry, number) in entries.iter().zip(from..to) {
-        assert_eq!(rt; entry.id, number);
-        assert_eq!(rt; entry.tag, 100 + u64::from(number));
-        assert_eq!(rt; entry.parent, u64::from(number.abs_diff(seed)));
-        assert_eq!(rt; entry.point.as_slice(), [number].as_slice());
+        assert!(rt; entry.id == number);
+        assert!(rt; entry.tag == 100 + u64::from(number));
+        assert!(rt; entry.parent == u64::from(number.abs_diff(seed)));
+        assert!(rt; entry.point.as_slice() == [number].as_slice());
     }
 }
 
@@ -144,13 +144,13 @@ fn check_root(rt: &impl Abort, node: &Node, wanted: &[(u32, u64, u32)]) {
         panic!(rt; "no inner node");
     };
     let entries = entries.as_slice();
-    assert_eq!(rt; *level, 1);
-    assert_eq!(rt; entries.len(), wanted.len());
+    assert!(rt; *level == 1);
+    assert!(rt; entries.len() == wanted.len());
     for (entry, (page, radius, seed)) in entries.iter().zip(wanted) {
-        assert_eq!(rt; entry.child, *page);
-        assert_eq!(rt; entry.radius, *radius);
-        assert_eq!(rt; entry.parent, 0);
-        assert_eq!(rt; entry.point.as_slice(), [*seed].as_slice());
+        assert!(rt; entry.child == *page);
+        assert!(rt; entry.radius == *radius);
+        assert!(rt; entry.parent == 0);
+        assert!(rt; entry.point.as_slice() == [*seed].as_slice());
     }
 }
 
@@ -210,15 +210,15 @@ fn children_are_numbered_before_their_parent(rt: HostRuntime) -> Result<(), Buil
     };
     let rows = numbers(rt.alloc())?;
     let placed = load(&rt, rt.alloc(), 2, &empty(1, 4), &[], &rows)?;
-    assert_eq!(&rt; placed.next, next);
-    assert_eq!(&rt; placed.left.as_slice(), [3].as_slice());
+    assert!(&rt; placed.next == next);
+    assert!(&rt; placed.left.as_slice() == [3].as_slice());
     assert!(&rt; placed.staged.len() == 5);
     for place in 0..4 {
         let (seed, from, to) = leaves[place];
-        assert_eq!(&rt; placed.staged.page_at(place), 4 + place as u32);
+        assert!(&rt; placed.staged.page_at(place) == 4 + place as u32);
         check_leaf(&rt, placed.staged.node_at(place), seed, from, to);
     }
-    assert_eq!(&rt; placed.staged.page_at(4), 8);
+    assert!(&rt; placed.staged.page_at(4) == 8);
     let entries = [(4, 5, 0), (5, 4, 8), (6, 4, 16), (7, 8, 24)];
     check_root(&rt, placed.staged.node_at(4), &entries);
     Ok(())
@@ -229,14 +229,14 @@ fn any_number_of_workers_gives_the_same_nodes(rt: HostRuntime) -> Result<(), Bui
     let rows = scattered(rt.alloc(), 65_536)?;
     let live = empty(1, 4);
     let by_one = load(&rt, rt.alloc(), 1, &live, &[], &rows)?;
-    assert_eq!(&rt; by_one.next.height, 3);
+    assert!(&rt; by_one.next.height == 3);
     for workers in [2usize, 64] {
         let placed = load(&rt, rt.alloc(), workers, &live, &[], &rows)?;
-        assert_eq!(&rt; placed.next, by_one.next);
-        assert_eq!(&rt; placed.staged.len(), by_one.staged.len());
+        assert!(&rt; placed.next == by_one.next);
+        assert!(&rt; placed.staged.len() == by_one.staged.len());
         for place in 0..placed.staged.len().min(by_one.staged.len()) {
             let page = placed.staged.page_at(place);
-            assert_eq!(&rt; page, by_one.staged.page_at(place));
+            assert!(&rt; page == by_one.staged.page_at(place));
             let node = placed.staged.node_at(place);
             assert!(&rt; are_same(node, by_one.staged.node_at(place)));
         }
@@ -262,7 +262,7 @@ fn two_workers_of_a_load_meet(rt: HostRuntime) -> Result<(), BuildFault> {
         };
         let live = empty(1, 4);
         build(&rt, alloc, metric, workers, &head, &live, &[], &rows, &tags)?;
-        assert_eq!(&rt; seen.met(), workers == 2);
+        assert!(&rt; seen.met() == (workers == 2));
     }
     Ok(())
 }
@@ -272,8 +272,8 @@ fn a_full_file_has_room_for_what_numbers_are_handed_in(rt: HostRuntime) -> Resul
     let rows = numbers(rt.alloc())?;
     let full = empty(1, MOST_PAGES);
     let placed = load(&rt, rt.alloc(), 1, &full, &[4, 6, 7, 8, 10], &rows)?;
-    assert_eq!(&rt; placed.next.root, 10);
-    assert_eq!(&rt; placed.next.pages, MOST_PAGES);
+    assert!(&rt; placed.next.root == 10);
+    assert!(&rt; placed.next.pages == MOST_PAGES);
     let refused = [
         (load(&rt, rt.alloc(), 1, &full, &[], &rows), 5),
         (load(&rt, rt.alloc(), 1, &full, &[4, 6], &rows), 3),

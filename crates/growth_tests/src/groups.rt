@@ -74,10 +74,10 @@ fn check<R: Threads + Sync + Abort>(
 {
     for workers in [1usize, 2, 64] {
         let found = parted(rt, alloc, count, step, root, workers)?;
-        assert_eq!(rt; found.len(), wanted.len());
+        assert!(rt; found.len() == wanted.len());
         for (group, (seed, members)) in found.iter().zip(wanted) {
-            assert_eq!(rt; group.seed, *seed);
-            assert_eq!(rt; group.members.as_slice(), *members);
+            assert!(rt; group.seed == *seed);
+            assert!(rt; group.members.as_slice() == *members);
         }
     }
     Ok(())

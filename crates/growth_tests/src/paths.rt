@@ -183,14 +183,14 @@ fn check_entry(
 ) -> Result<(), PageFault>
     requires { file.now.live.pages ≤ 2 ^ 24 }
 {
-    assert_eq!(rt; entry.child, wanted.child);
-    assert_eq!(rt; entry.radius, wanted.radius);
-    assert_eq!(rt; entry.parent, 0);
-    assert_eq!(rt; entry.point.as_slice(), [wanted.point].as_slice());
+    assert!(rt; entry.child == wanted.child);
+    assert!(rt; entry.radius == wanted.radius);
+    assert!(rt; entry.parent == 0);
+    assert!(rt; entry.point.as_slice() == [wanted.point].as_slice());
     let Node::Leaf(entries) = node_of(alloc, file, wanted.child)? else {
         panic!(rt; "the child is no leaf");
     };
-    assert_eq!(rt; entries.as_slice().len(), wanted.count);
+    assert!(rt; entries.as_slice().len() == wanted.count);
     Ok(())
 }
 
@@ -206,9 +206,9 @@ fn check_root(
     let Node::Inner { level, entries } = node_of(alloc, file, file.live.root)? else {
         panic!(rt; "the root is a leaf");
     };
-    assert_eq!(rt; level, 1);
+    assert!(rt; level == 1);
     let entries = entries.as_slice();
-    assert_eq!(rt; entries.len(), wanted.len());
+    assert!(rt; entries.len() == wanted.len());
     for i in 0..wanted.len() {
         check_entry(rt, alloc, file, &entries[i], wanted[i])?;
     }
@@ -219,7 +219,7 @@ fn check_root(
 fn check_fault(rt: &impl Abort, placed: Result<Placed, PlaceFault>, wanted: PlaceFault) {
     match placed {
         Ok(_) => panic!(rt; "placed"),
-        Err(fault) => assert_eq!(rt; fault, wanted),
+        Err(fault) => assert!(rt; fault == wanted),
     }
 }
 
@@ -241,8 +241,8 @@ fn the_33rd_number_splits_the_leaf(rt: HostRuntime) -> Result<(), PlaceFault> {
     for x in 0..32 {
         insert_low(&rt, alloc, &mut file, &head, x)?;
     }
-    assert_eq!(rt; file.live.root, 3);
-    assert_eq!(rt; file.live.pages, 5);
+    assert!(rt; file.live.root == 3);
+    assert!(rt; file.live.pages == 5);
     insert_low(&rt, alloc, &mut file, &head, 32)?;
     let live = Live {
         side: 1,
@@ -252,7 +252,7 @@ fn the_33rd_number_splits_the_leaf(rt: HostRuntime) -> Result<(), PlaceFault> {
         count: 33,
         pages: 7,
     };
-    assert_eq!(rt; file.live, live);
+    assert!(rt; file.live == live);
     let leaves = [leaf(4, 8, 7, 16), leaf(5, 8, 24, 17)];
     check_root(&rt, alloc, &file, &leaves).map_err(PlaceFault::Page)
 }
@@ -265,8 +265,8 @@ fn forty_equal_points_fill_three_leaves(rt: HostRuntime) -> Result<(), PlaceFaul
     for _x in 0..40 {
         insert(&rt, alloc, &mut file, &head, &[], 5)?;
     }
-    assert_eq!(rt; file.live.height, 1);
-    assert_eq!(rt; file.live.root, 53);
+    assert!(rt; file.live.height == 1);
+    assert!(rt; file.live.root == 53);
     let leaves = [leaf(52, 0, 5, 28), leaf(37, 0, 5, 6), leaf(50, 0, 5, 6)];
     check_root(&rt, alloc, &file, &leaves).map_err(PlaceFault::Page)
 }
@@ -283,8 +283,8 @@ fn each_refusal_has_its_cause(rt: HostRuntime) -> Result<(), PlaceFault> {
     };
     check_fault(&rt, place_at(&rt, alloc, &file, &head, &[], 1), fault);
     let placed = place_at(&rt, alloc, &file, &head, &[4], 1)?;
-    assert_eq!(rt; placed.next.root, 4);
-    assert_eq!(rt; placed.next.pages, 16_777_216);
+    assert!(rt; placed.next.root == 4);
+    assert!(rt; placed.next.pages == 16_777_216);
     file.live.pages = 4;
     file.live.height = 1;
     let fault = PlaceFault::Page(PageFault::Level(3));

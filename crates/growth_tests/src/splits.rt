@@ -32,25 +32,25 @@ fn seven_points_are_parted(rt: HostRuntime) -> Result<(), Memory> {
     let alloc = rt.alloc();
     let mut ruler = Meter::new(L1::new(1));
     let matrix = Matrix::of(alloc, &mut ruler, &line(alloc, 7)?)?;
-    assert_eq!(rt; ruler.used(), 49);
-    assert_eq!(rt; matrix.len(), 7);
+    assert!(rt; ruler.used() == 49);
+    assert!(rt; matrix.len() == 7);
     let (first, second) = partition(alloc, &matrix, 0, 1, 1, 3)?;
-    assert_eq!(rt; first.as_slice(), [0, 2, 3].as_slice());
-    assert_eq!(rt; second.as_slice(), [1, 4, 5, 6].as_slice());
+    assert!(rt; first.as_slice() == [0, 2, 3].as_slice());
+    assert!(rt; second.as_slice() == [1, 4, 5, 6].as_slice());
     let (first, second) = partition(alloc, &matrix, 0, 6, 2, 2)?;
-    assert_eq!(rt; first.as_slice(), [0, 1, 2, 3].as_slice());
-    assert_eq!(rt; second.as_slice(), [4, 5, 6].as_slice());
+    assert!(rt; first.as_slice() == [0, 1, 2, 3].as_slice());
+    assert!(rt; second.as_slice() == [4, 5, 6].as_slice());
     Ok(())
 }
 
 // Looks at a half that should have the objects from one number on, around a point.
 fn check_half(rt: &impl Abort, half: &Half<LeafEntry>, from: u32, count: usize, point: u32) {
-    assert_eq!(rt; half.point.as_slice(), [point].as_slice());
-    assert_eq!(rt; half.entries.as_slice().len(), count);
+    assert!(rt; half.point.as_slice() == [point].as_slice());
+    assert!(rt; half.entries.as_slice().len() == count);
     let mut id = from;
     for entry in half.entries.as_slice() {
-        assert_eq!(rt; entry.id, id);
-        assert_eq!(rt; entry.parent, u64::from(id.abs_diff(point)));
+        assert!(rt; entry.id == id);
+        assert!(rt; entry.parent == u64::from(id.abs_diff(point)));
         id = id.saturating_add(1);
     }
 }
@@ -64,12 +64,12 @@ fn thirty_three_points_are_split(rt: HostRuntime) -> Result<(), Memory> {
         split: 1,
     };
     let matrix = Matrix::of(alloc, &mut ruler, &line(alloc, 33)?)?;
-    assert_eq!(rt; promote(alloc, &matrix, policy, 6)?, (7, 24));
+    assert!(rt; promote(alloc, &matrix, policy, 6)? == (7, 24));
     let halves = split(alloc, &mut ruler, line(alloc, 33)?, policy, 6)?;
     check_half(&rt, &halves.first, 0, 16, 7);
     check_half(&rt, &halves.second, 16, 17, 24);
-    assert_eq!(rt; halves.first.radius, 8);
-    assert_eq!(rt; halves.second.radius, 8);
+    assert!(rt; halves.first.radius == 8);
+    assert!(rt; halves.second.radius == 8);
     Ok(())
 }
 
@@ -89,11 +89,11 @@ fn an_inner_entry_reaches_as_far_as_its_radius(rt: HostRuntime) -> Result<(), Me
         point: Point::new(alloc, &[9])?,
     };
     let entry = moved(entry, 2);
-    assert_eq!(rt; entry.parent, 2);
-    assert_eq!(rt; entry.radius(), 5);
-    assert_eq!(rt; entry.point(), [9].as_slice());
+    assert!(rt; entry.parent == 2);
+    assert!(rt; entry.radius() == 5);
+    assert!(rt; entry.point() == [9].as_slice());
     let matrix = Matrix::of(alloc, &mut Meter::new(L1::new(1)), &[entry])?;
-    assert_eq!(rt; matrix.is_empty(), false);
-    assert_eq!(rt; matrix.radii(), [5].as_slice());
+    assert!(rt; matrix.is_empty() == false);
+    assert!(rt; matrix.radii() == [5].as_slice());
     Ok(())
 }

@@ -32,9 +32,9 @@ fn rows_are_the_double_loop_for_any_workers(rt: HostRuntime) -> Result<(), Memor
     let none = Rows::new(alloc, 1);
     for workers in WORKERS {
         let found = rows(&rt, alloc, L1::new(1), &points, &[0, 32], workers)?;
-        assert_eq!(rt; found.as_slice(), wanted.as_slice());
+        assert!(rt; found.as_slice() == wanted.as_slice());
         let found = rows(&rt, alloc, L1::new(1), &none, &[], workers)?;
-        assert_eq!(rt; found.len(), 0);
+        assert!(rt; found.len() == 0);
     }
     Ok(())
 }
@@ -61,14 +61,14 @@ fn places_are_answered_in_order_for_any_workers(rt: HostRuntime) -> Result<(), M
     for workers in WORKERS {
         for count in [0usize, 1, 33] {
             let found = fork(&rt, alloc, &Twice, count, workers)?;
-            assert_eq!(rt; found.len(), count);
+            assert!(rt; found.len() == count);
             for (i, x) in found.iter().enumerate() {
-                assert_eq!(rt; *x, i * 2);
+                assert!(rt; *x == i * 2);
             }
             let places = share(&rt, alloc, count, workers, &|i| i)?;
-            assert_eq!(rt; places.len(), count);
+            assert!(rt; places.len() == count);
             for (i, x) in places.iter().enumerate() {
-                assert_eq!(rt; *x, i);
+                assert!(rt; *x == i);
             }
         }
     }
@@ -123,7 +123,7 @@ impl Job for Pair<'_> {
 fn two_workers_of_fork_meet(rt: HostRuntime) -> Result<(), Memory> {
     let seen = Seen::new();
     let found = fork(&rt, rt.alloc(), &Pair { seen: &seen }, 2, 2)?;
-    assert_eq!(rt; found.as_slice(), [0, 1].as_slice());
+    assert!(rt; found.as_slice() == [0, 1].as_slice());
     assert!(rt; seen.met());
     Ok(())
 }

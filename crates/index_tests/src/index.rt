@@ -104,8 +104,8 @@ fn check_range<D: Disk, M: Metric>(
     let alloc = rt.alloc();
     assert!(rt; view.metric().fits(&[q]));
     match view.range(alloc, disk, &[q], r) {
-        Ok(found) => assert_eq!(rt; Ok(found.hits.as_slice()), expected),
-        Err(fault) => assert_eq!(rt; Err(fault), expected),
+        Ok(found) => assert!(rt; Ok(found.hits.as_slice()) == expected),
+        Err(fault) => assert!(rt; Err(fault) == expected),
     }
     Ok(())
 }
@@ -128,18 +128,18 @@ fn check_nearest<D: Disk, M: Metric>(
     match view.nearest(alloc, disk, &[q], k) {
         Ok(found) => {
             let hits = found.hits.as_slice();
-            assert_eq!(rt; Ok(hits.len()), expected);
+            assert!(rt; Ok(hits.len()) == expected);
             for i in 0..hits.len() {
-                assert_eq!(rt;
-                    hits[i],
-                    Hit {
-                        id: i as u32,
-                        dist: i as u64
-                    }
+                assert!(rt;
+                    hits[i]
+                        == Hit {
+                            id: i as u32,
+                            dist: i as u64
+                        }
                 );
             }
         }
-        Err(fault) => assert_eq!(rt; Err(fault), expected),
+        Err(fault) => assert!(rt; Err(fault) == expected),
     }
     Ok(())
 }
@@ -168,18 +168,15 @@ fn check_shape<D: Disk, M: Metric>(
     let alloc = rt.alloc();
     match view.shape(alloc, disk) {
         Ok(shape) => {
-            assert_eq!(rt;
-                (shape.height, shape.objects),
-                (view.live().height, view.count())
-            );
-            assert_eq!(rt; shape.nodes as usize, shape.lines.as_slice().len());
+            assert!(rt; (shape.height, shape.objects) == (view.live().height, view.count()));
+            assert!(rt; shape.nodes as usize == shape.lines.as_slice().len());
             let mut lines = Vec::new(alloc);
             for line in shape.lines.as_slice() {
                 lines.push(line_of(line))?;
             }
-            assert_eq!(rt; Ok(lines.as_slice()), expected);
+            assert!(rt; Ok(lines.as_slice()) == expected);
         }
-        Err(fault) => assert_eq!(rt; Err(fault), expected),
+        Err(fault) => assert!(rt; Err(fault) == expected),
     }
     Ok(())
 }
@@ -197,14 +194,11 @@ fn the_numbers_to_32_are_searched(rt: HostRuntime) -> Result<(), Fail> {
     let alloc = rt.alloc();
     let mut disk = disk_of(alloc, two_leaves(alloc, file_of(alloc, &NUMBERS)?, 4)?, &[])?;
     let mut view = open_on(&mut disk)?;
-    assert_eq!(rt;
-        (view.count(), view.live(), view.head()),
-        (33, NUMBERS, HEAD)
-    );
+    assert!(rt; (view.count(), view.live(), view.head()) == (33, NUMBERS, HEAD));
     check_range(&rt, &mut view, &mut disk, 0, 2, Ok(&NEAR))?;
     check_range(&rt, &mut view, &mut disk, 100, 2, Ok(&[]))?;
     check_nearest(&rt, &mut view, &mut disk, 0, 50, Ok(33))?;
-    assert_eq!(rt; look_aside(&view, &mut disk), Some(6 * 4096));
+    assert!(rt; look_aside(&view, &mut disk) == Some(6 * 4096));
     check_nearest(&rt, &mut view, &mut disk, 0, 3, Ok(3))?;
     check_shape(&rt, &mut view, &mut disk, Ok(&LINES))
 }
@@ -214,15 +208,15 @@ fn a_cache_saves_reads(rt: HostRuntime) -> Result<(), Fail> {
     let alloc = rt.alloc();
     let mut disk = disk_of(alloc, two_leaves(alloc, file_of(alloc, &NUMBERS)?, 4)?, &[])?;
     let mut view = open_on(&mut disk)?;
-    assert_eq!(rt; disk.moments(), 4);
+    assert!(rt; disk.moments() == 4);
     view.use_cache(alloc, 256)?;
     check_range(&rt, &mut view, &mut disk, 0, 2, Ok(&NEAR))?;
-    assert_eq!(rt; disk.moments(), 6);
+    assert!(rt; disk.moments() == 6);
     check_range(&rt, &mut view, &mut disk, 0, 2, Ok(&NEAR))?;
-    assert_eq!(rt; disk.moments(), 6);
+    assert!(rt; disk.moments() == 6);
     check_shape(&rt, &mut view, &mut disk, Ok(&LINES))?;
     check_nearest(&rt, &mut view, &mut disk, 0, 50, Ok(33))?;
-    assert_eq!(rt; disk.moments(), 7);
+    assert!(rt; disk.moments() == 7);
     Ok(())
 }
 
@@ -306,14 +300,11 @@ fn refusal(alloc: Global, at: usize, byte: u8, dim: u8) -> Result<Option<OpenFau
 fn a_file_that_is_not_opened(rt: HostRuntime) -> Result<(), Fail> {
     let alloc = rt.alloc();
     let version = Some(OpenFault::Head(HeadFault::Version));
-    assert_eq!(rt; refusal(alloc, 9, 2, 1)?, None);
-    assert_eq!(rt; refusal(alloc, 9, 1, 1)?, version);
-    assert_eq!(rt; refusal(alloc, 9, 1, 2)?, version);
-    assert_eq!(rt;
-        refusal(alloc, 9, 2, 2)?,
-        Some(OpenFault::Head(HeadFault::Space))
-    );
-    assert_eq!(rt; refusal(alloc, 4096, 0, 2)?, Some(OpenFault::Unfinished));
+    assert!(rt; refusal(alloc, 9, 2, 1)? == None);
+    assert!(rt; refusal(alloc, 9, 1, 1)? == version);
+    assert!(rt; refusal(alloc, 9, 1, 2)? == version);
+    assert!(rt; refusal(alloc, 9, 2, 2)? == Some(OpenFault::Head(HeadFault::Space)));
+    assert!(rt; refusal(alloc, 4096, 0, 2)? == Some(OpenFault::Unfinished));
     Ok(())
 }
 
@@ -327,17 +318,14 @@ fn check_index<D: Disk, M: Metric>(
     ensures { MayGoOn index.new (D.state disk.new) }
 {
     let alloc = rt.alloc();
-    assert_eq!(rt;
-        (index.count(), index.live(), index.head()),
-        (33, NUMBERS, HEAD)
-    );
+    assert!(rt; (index.count(), index.live(), index.head()) == (33, NUMBERS, HEAD));
     assert!(rt; index.metric().fits(&[0]));
     let found = index.range(alloc, disk, &[0], 2)?;
-    assert_eq!(rt; found.hits.as_slice(), NEAR.as_slice());
+    assert!(rt; found.hits.as_slice() == NEAR.as_slice());
     let found = index.nearest(alloc, disk, &[0], 3)?;
-    assert_eq!(rt; found.hits.as_slice(), NEAR.as_slice());
+    assert!(rt; found.hits.as_slice() == NEAR.as_slice());
     let shape = index.shape(alloc, disk)?;
-    assert_eq!(rt; (shape.height, shape.objects, shape.nodes), (1, 33, 3));
+    assert!(rt; (shape.height, shape.objects, shape.nodes) == (1, 33, 3));
     Ok(())
 }
 
@@ -349,21 +337,15 @@ fn an_index_is_opened_after_a_sync(rt: HostRuntime) -> Result<(), Fail> {
         two_leaves(alloc, file_of(alloc, &NUMBERS)?, 4)?,
         &[0, 3],
     )?;
-    assert_eq!(rt;
-        Index::open_write(&mut disk, L1::new(1)).err(),
-        Some(OpenFault::Disk)
-    );
-    assert_eq!(rt; disk.moments(), 1);
-    assert_eq!(rt;
-        Index::open_write(&mut disk, L1::new(1)).err(),
-        Some(OpenFault::Disk)
-    );
+    assert!(rt; Index::open_write(&mut disk, L1::new(1)).err() == Some(OpenFault::Disk));
+    assert!(rt; disk.moments() == 1);
+    assert!(rt; Index::open_write(&mut disk, L1::new(1)).err() == Some(OpenFault::Disk));
     let mut index = Index::open_write(&mut disk, L1::new(1))?;
-    assert_eq!(rt; disk.moments(), 9);
+    assert!(rt; disk.moments() == 9);
     index.set_workers(64);
     index.use_cache(alloc, 256)?;
     check_index(&rt, &mut index, &mut disk)?;
     check_index(&rt, &mut index, &mut disk)?;
-    assert_eq!(rt; disk.moments(), 12);
+    assert!(rt; disk.moments() == 12);
     Ok(())
 }

@@ -74,8 +74,8 @@ fn check_pages<D: Disk + Watched + Drop>(rt: &(impl AllocGlobal + Abort)) -> Res
     for (count, root, pages) in PAGES {
         let mut disk = D::of(alloc, empty_file(alloc, 1_000)?, &[], None)?;
         let live = fill(rt, &mut disk, count, None)?;
-        assert_eq!(rt; (live.count, live.root, live.pages), (count, root, pages));
-        assert_eq!(rt; disk.file().len(), pages as usize * 4096);
+        assert!(rt; (live.count, live.root, live.pages) == (count, root, pages));
+        assert!(rt; disk.file().len() == pages as usize * 4096);
     }
     Ok(())
 }
@@ -114,11 +114,11 @@ fn check_insert<D: Disk + Watched>(
     let answer = insert(rt, &mut index, disk, 32)?;
     check_images(rt, disk, began, (32, 33), answer.is_ok())?;
     match answer {
-        Ok(id) => assert_eq!(rt; id, 32),
+        Ok(id) => assert!(rt; id == 32),
         Err(IndexFault::Commit) => check_stopped(rt, &mut index, disk)?,
         Err(fault) => {
-            assert_eq!(rt; fault, IndexFault::Disk);
-            assert_eq!(rt; disk.file(), before);
+            assert!(rt; fault == IndexFault::Disk);
+            assert!(rt; disk.file() == before);
         }
     }
     Ok(answer.is_ok())
@@ -129,7 +129,7 @@ fn goes_on<D: Disk>(rt: &(impl AllocGlobal + Abort), disk: &mut D) -> Result<(),
     let mut index = open_on(disk)?;
     let count = index.count();
     insert_all(rt, &mut index, disk, count, 36)?;
-    assert_eq!(rt; count_on(rt, disk)?, 36);
+    assert!(rt; count_on(rt, disk)? == 36);
     Ok(())
 }
 
@@ -160,8 +160,8 @@ fn check_next<D: Disk + Watched>(
     before: &[u8],
 ) -> Result<(), Fail> {
     let mut index = open_on(disk)?;
-    assert_eq!(rt; insert(rt, &mut index, disk, 34)?, Err(IndexFault::Disk));
-    assert_eq!(rt; disk.file(), before);
+    assert!(rt; insert(rt, &mut index, disk, 34)? == Err(IndexFault::Disk));
+    assert!(rt; disk.file() == before);
     insert_all(rt, &mut index, disk, 34, 36)?;
     check_found(rt, &mut index, disk)
 }
@@ -190,9 +190,9 @@ fn check_refused<D: Disk + Watched>(
 ) -> Result<(), Fail> {
     let before = disk.file().to_vec(rt.alloc())?;
     let mut index = open_on(disk)?;
-    assert_eq!(rt; insert(rt, &mut index, disk, 3)?, Err(expected));
-    assert_eq!(rt; insert(rt, &mut index, disk, 4)?, Err(expected));
-    assert_eq!(rt; disk.file(), before.as_slice());
+    assert!(rt; insert(rt, &mut index, disk, 3)? == Err(expected));
+    assert!(rt; insert(rt, &mut index, disk, 4)? == Err(expected));
+    assert!(rt; disk.file() == before.as_slice());
     Ok(())
 }
 
@@ -202,7 +202,7 @@ fn check_full<D: Disk + Watched + Drop>(rt: &(impl AllocGlobal + Abort)) -> Resu
     let mut disk = D::of(alloc, empty_file(alloc, 3)?, &[], None)?;
     fill(rt, &mut disk, 3, None)?;
     check_refused(rt, &mut disk, IndexFault::Full)?;
-    assert_eq!(rt; count_on(rt, &mut disk)?, 3);
+    assert!(rt; count_on(rt, &mut disk)? == 3);
     Ok(())
 }
 

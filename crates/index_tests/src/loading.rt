@@ -54,8 +54,8 @@ fn check_load<R: AllocGlobal + Abort + Threads + Sync, D: Disk>(
 {
     let mut index = open_on(disk)?;
     index.set_workers(workers);
-    assert_eq!(rt; index.workers(), workers);
-    assert_eq!(rt; load(rt, &mut index, disk)?, Ok(33));
+    assert!(rt; index.workers() == workers);
+    assert!(rt; load(rt, &mut index, disk)? == Ok(33));
     let live = Live {
         side: 1,
         generation: 2,
@@ -64,7 +64,7 @@ fn check_load<R: AllocGlobal + Abort + Threads + Sync, D: Disk>(
         count: 33,
         pages: 9,
     };
-    assert_eq!(rt; index.live(), live);
+    assert!(rt; index.live() == live);
     Ok(())
 }
 
@@ -85,10 +85,10 @@ fn check_workers<R: AllocGlobal + Abort + Threads + Sync, D: Disk + Watched + Dr
     let alloc = rt.alloc();
     let mut first = D::of(alloc, empty_file(alloc, 33)?, &[], None)?;
     check_load(rt, &mut first, 1)?;
-    assert_eq!(rt; count_on(rt, &mut first)?, 33);
+    assert!(rt; count_on(rt, &mut first)? == 33);
     let mut second = D::of(alloc, empty_file(alloc, 33)?, &[], None)?;
     check_load(rt, &mut second, 64)?;
-    assert_eq!(rt; first.file(), second.file());
+    assert!(rt; first.file() == second.file());
     Ok(())
 }
 
@@ -105,8 +105,8 @@ fn check_refused<R: AllocGlobal + Abort + Threads + Sync, D: Disk + Watched>(
 ) -> Result<(), Fail> {
     let mut index = open_on(disk)?;
     let calls = disk.calls();
-    assert_eq!(rt; load(rt, &mut index, disk)?, Err(expected));
-    assert_eq!(rt; disk.calls(), calls);
+    assert!(rt; load(rt, &mut index, disk)? == Err(expected));
+    assert!(rt; disk.calls() == calls);
     Ok(())
 }
 
@@ -138,9 +138,9 @@ fn check_stopped_load<R: AllocGlobal + Abort + Threads + Sync, D: Disk + Watched
     let answer = load(rt, &mut index, disk)?;
     check_images(rt, disk, began, (0, 33), answer.is_ok())?;
     match answer {
-        Ok(count) => assert_eq!(rt; count, 33),
+        Ok(count) => assert!(rt; count == 33),
         Err(IndexFault::Commit) => check_stopped(rt, &mut index, disk)?,
-        Err(fault) => assert_eq!(rt; fault, IndexFault::Disk),
+        Err(fault) => assert!(rt; fault == IndexFault::Disk),
     }
     Ok(answer.is_ok())
 }
@@ -194,7 +194,7 @@ fn check_kept<D: Watched>(
     for moment in began..=disk.calls() {
         for pick in [1, 170] {
             let image = disk.left(rt.alloc(), moment, pick)?;
-            assert_eq!(rt; middle(image.as_slice()), middle(before));
+            assert!(rt; middle(image.as_slice()) == middle(before));
         }
     }
     Ok(())
@@ -209,7 +209,7 @@ fn check_pinned<D: Disk + Watched>(
     let mut index = open_on(disk)?;
     let began = disk.calls();
     if let Err(fault) = pin(rt, &mut index, disk)? {
-        assert_eq!(rt; fault, IndexFault::Disk);
+        assert!(rt; fault == IndexFault::Disk);
         return Ok(false);
     }
     let answer = insert(rt, &mut index, disk, 33)?;
@@ -287,7 +287,7 @@ fn check_released<R: AllocGlobal + Abort + Threads + Sync, D: Disk + Watched + D
     for (is_pinned, root, pages) in [(false, 8, 10), (true, 11, 12)] {
         let mut disk = D::of(alloc, loaded::<R, D>(rt)?, &[], None)?;
         let live = slot_after(rt, &mut disk, is_pinned)?;
-        assert_eq!(rt; (live.root, live.pages), (root, pages));
+        assert!(rt; (live.root, live.pages) == (root, pages));
     }
     Ok(())
 }
@@ -302,11 +302,11 @@ fn check_tags<D: Disk>(rt: &(impl AllocGlobal + Abort), disk: &mut D) -> Result<
     let alloc = rt.alloc();
     let mut index = open_on(disk)?;
     assert!(rt; index.metric().fits(&[34]));
-    assert_eq!(rt; index.insert_tagged(alloc, disk, &[34], 700), Ok(33));
+    assert!(rt; index.insert_tagged(alloc, disk, &[34], 700) == Ok(33));
     assert!(rt; index.metric().fits(&[32]));
     let found = index.range(alloc, disk, &[32], 2)?;
     let tags = index.tags(alloc, disk, &found)?;
-    assert_eq!(rt; tags.as_slice(), [32u64, 31, 30, 700].as_slice());
+    assert!(rt; tags.as_slice() == [32u64, 31, 30, 700].as_slice());
     Ok(())
 }
 
@@ -342,7 +342,7 @@ fn has_met<R: AllocGlobal + Abort + Threads + Sync, D: Disk>(
     };
     let mut index = Index::open_write(disk, metric)?;
     index.set_workers(workers);
-    assert_eq!(rt; load(rt, &mut index, disk)?, Ok(33));
+    assert!(rt; load(rt, &mut index, disk)? == Ok(33));
     Ok(seen.met())
 }
 
@@ -353,7 +353,7 @@ fn check_meetings<R: AllocGlobal + Abort + Threads + Sync, D: Disk + Watched + D
     let alloc = rt.alloc();
     for workers in [2usize, 1] {
         let mut disk = D::of(alloc, empty_file(alloc, 1_000)?, &[], None)?;
-        assert_eq!(rt; has_met(rt, &mut disk, workers)?, workers == 2);
+        assert!(rt; has_met(rt, &mut disk, workers)? == (workers == 2));
     }
     Ok(())
 }

@@ -128,7 +128,7 @@ pub(crate) fn insert_all<D: Disk, M: Metric>(
     ensures { MayGoOn index.new (D.state disk.new) }
 {
     for x in from..to {
-        assert_eq!(rt; insert(rt, index, disk, x)?, Ok(x));
+        assert!(rt; insert(rt, index, disk, x)? == Ok(x));
     }
     Ok(())
 }
@@ -145,10 +145,10 @@ pub(crate) fn check_found<D: Disk, M: Metric>(
     assert!(rt; index.metric().fits(&[0]));
     let found = index.nearest(rt.alloc(), disk, &[0], 200)?;
     let hits = found.hits.as_slice();
-    assert_eq!(rt; hits.len(), index.count() as usize);
+    assert!(rt; hits.len() == index.count() as usize);
     for i in 0..hits.len() {
         let (id, dist) = (i as u32, i as u64);
-        assert_eq!(rt; hits[i], Hit { id, dist });
+        assert!(rt; hits[i] == Hit { id, dist });
     }
     Ok(())
 }
@@ -202,7 +202,7 @@ pub(crate) fn check_stopped<D: Disk + Watched, M: Metric>(
 {
     let alloc = rt.alloc();
     let calls = disk.calls();
-    assert_eq!(rt; insert(rt, index, disk, 7)?, Err(IndexFault::Stopped));
+    assert!(rt; insert(rt, index, disk, 7)? == Err(IndexFault::Stopped));
     assert!(rt; index.metric().fits(&[0]));
     assert!(rt; matches!(index.range(alloc, disk, &[0], 2), Err(IndexFault::Stopped)));
     assert!(rt;
@@ -213,6 +213,6 @@ pub(crate) fn check_stopped<D: Disk + Watched, M: Metric>(
     );
     assert!(rt; matches!(index.shape(alloc, disk), Err(IndexFault::Stopped)));
     assert!(rt; matches!(index.pin(alloc, disk), Err(IndexFault::Stopped)));
-    assert_eq!(rt; disk.calls(), calls);
+    assert!(rt; disk.calls() == calls);
     Ok(())
 }

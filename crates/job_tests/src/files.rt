@@ -48,12 +48,12 @@ fn check_both<R: AllocGlobal + Abort>(
     let alloc = rt.alloc();
     let mut disk = disk_of(alloc, bytes.to_vec(alloc)?, stop)?;
     let mut out = sink_of(alloc, fails)?;
-    assert_eq!(rt; make(&mut disk, &mut out), Status(status));
-    assert_eq!(rt; out.written(), lines.0.as_bytes());
+    assert!(rt; make(&mut disk, &mut out) == Status(status));
+    assert!(rt; out.written() == lines.0.as_bytes());
     let mut disk = disk_of(alloc, bytes.to_vec(alloc)?, stop)?;
     let mut out = sink_of(alloc, fails)?;
-    assert_eq!(rt; audit_index(alloc, &mut disk, &mut out), Status(status));
-    assert_eq!(rt; out.written(), lines.1.as_bytes());
+    assert!(rt; audit_index(alloc, &mut disk, &mut out) == Status(status));
+    assert!(rt; out.written() == lines.1.as_bytes());
     Ok(())
 }
 
@@ -69,15 +69,15 @@ fn check_changed<R: AllocGlobal + Abort>(
     let alloc = rt.alloc();
     let mut disk = disk_of(alloc, Vec::new(alloc), None)?;
     let mut out = sink_of(alloc, None)?;
-    assert_eq!(rt; make(&mut disk, &mut out), Status(0));
+    assert!(rt; make(&mut disk, &mut out) == Status(0));
     let mut bytes = disk.bytes().to_vec(alloc)?;
     if at < bytes.len() {
         bytes[at] = byte;
     }
     let mut changed = disk_of(alloc, bytes, None)?;
     let mut out = sink_of(alloc, fails)?;
-    assert_eq!(rt; audit_index(alloc, &mut changed, &mut out), Status(status));
-    assert_eq!(rt; out.written(), lines.as_bytes());
+    assert!(rt; audit_index(alloc, &mut changed, &mut out) == Status(status));
+    assert!(rt; out.written() == lines.as_bytes());
     Ok(())
 }
 
@@ -86,11 +86,11 @@ fn a_new_index_is_sound(rt: HostRuntime) -> Result<(), Fail> {
     let alloc = rt.alloc();
     let mut disk = disk_of(alloc, Vec::new(alloc), None)?;
     let mut out = sink_of(alloc, None)?;
-    assert_eq!(rt; make(&mut disk, &mut out), Status(0));
-    assert_eq!(rt; out.written(), b"created\n".as_slice());
+    assert!(rt; make(&mut disk, &mut out) == Status(0));
+    assert!(rt; out.written() == b"created\n".as_slice());
     let mut out = sink_of(alloc, None)?;
-    assert_eq!(rt; audit_index(alloc, &mut disk, &mut out), Status(0));
-    assert_eq!(rt; out.written(), b"sound\nobjects 0\nnodes 1\n".as_slice());
+    assert!(rt; audit_index(alloc, &mut disk, &mut out) == Status(0));
+    assert!(rt; out.written() == b"sound\nobjects 0\nnodes 1\n".as_slice());
     Ok(())
 }
 
@@ -126,8 +126,8 @@ fn a_sink_that_fails(rt: HostRuntime) -> Result<(), Fail> {
     let alloc = rt.alloc();
     let mut disk = disk_of(alloc, Vec::new(alloc), None)?;
     let mut out = sink_of(alloc, Some(0))?;
-    assert_eq!(rt; make(&mut disk, &mut out), Status(4));
-    assert_eq!(rt; out.written(), b"".as_slice());
+    assert!(rt; make(&mut disk, &mut out) == Status(4));
+    assert!(rt; out.written() == b"".as_slice());
     Ok(())
 }
 
@@ -142,7 +142,7 @@ fn check_shape<R: AllocGlobal + Abort>(
     let alloc = rt.alloc();
     let mut disk = disk_of(alloc, Vec::new(alloc), None)?;
     let mut out = sink_of(alloc, None)?;
-    assert_eq!(rt; make(&mut disk, &mut out), Status(0));
+    assert!(rt; make(&mut disk, &mut out) == Status(0));
     let mut bytes = disk.bytes().to_vec(alloc)?;
     bytes.extend_from_slice(&[0; 4096])?;
     for (at, change) in changes {
@@ -152,8 +152,8 @@ fn check_shape<R: AllocGlobal + Abort>(
     }
     let mut changed = disk_of(alloc, bytes, None)?;
     let mut out = sink_of(alloc, fails)?;
-    assert_eq!(rt; shape_index(alloc, &mut changed, &mut out), Status(status));
-    assert_eq!(rt; out.written(), lines.as_bytes());
+    assert!(rt; shape_index(alloc, &mut changed, &mut out) == Status(status));
+    assert!(rt; out.written() == lines.as_bytes());
     Ok(())
 }
 

@@ -169,10 +169,10 @@ fn check<R: AllocGlobal + Abort>(rt: &R, case: &Case<'_>) -> Result<(), Fail> {
         &mut out,
         &mut log_out,
     );
-    assert_eq!(rt; out.written(), case.output.as_bytes(), "{}", case.output);
-    assert_eq!(rt; status, Status(case.status), "{}", case.output);
+    assert!(rt; out.written() == case.output.as_bytes(), "{}", case.output);
+    assert!(rt; status == Status(case.status), "{}", case.output);
     let framed = FRAME.get(..case.framed).unwrap_or(&FRAME);
-    assert_eq!(rt; log_out.written(), framed, "{}", case.output);
+    assert!(rt; log_out.written() == framed, "{}", case.output);
     Ok(())
 }
 

@@ -14,10 +14,7 @@ fn rows_of_the_generator(rt: HostRuntime) -> Result<(), Fail> {
     for i in 0..rows.len() {
         cells.extend_from_slice(rows.point(i))?;
     }
-    assert_eq!(rt;
-        cells.as_slice(),
-        [55_973, 46_410, 36_847, 27_284].as_slice()
-    );
+    assert!(rt; cells.as_slice() == [55_973, 46_410, 36_847, 27_284].as_slice());
     Ok(())
 }
 
@@ -57,8 +54,8 @@ fn check<R: AllocGlobal + Threads + Sync + Abort>(rt: &R, case: &Case) -> Result
     }
     let mut out = MemorySink::new(alloc, 1000, fails)?;
     let status = generate_index(rt, alloc, &mut disk, &FOUR, &mut out);
-    assert_eq!(rt; status, Status(case.status));
-    assert_eq!(rt; out.written(), case.text.as_bytes());
+    assert!(rt; status == Status(case.status));
+    assert!(rt; out.written() == case.text.as_bytes());
     Ok(())
 }
 
@@ -183,14 +180,14 @@ fn check_migration<R: AllocGlobal + Threads + Sync + Abort>(
     }
     let mut out = MemorySink::new(alloc, 1000, fails)?;
     let status = migrate_index(rt, alloc, &mut index, &mut other, &mut out);
-    assert_eq!(rt; status, Status(case.status));
-    assert_eq!(rt; out.written(), case.text.as_bytes());
-    assert_eq!(rt; other.bytes(), old.as_slice());
+    assert!(rt; status == Status(case.status));
+    assert!(rt; out.written() == case.text.as_bytes());
+    assert!(rt; other.bytes() == old.as_slice());
     let made = match case.made {
         Some(pages) => file_of(alloc, pages)?,
         None => case.index.to_vec(alloc)?,
     };
-    assert_eq!(rt; index.bytes(), made.as_slice());
+    assert!(rt; index.bytes() == made.as_slice());
     Ok(())
 }
 

@@ -15,29 +15,25 @@ const LOG: [u8; 61] = [
 #[test]
 fn the_log_of_a_small_index_is_read_and_written(rt: HostRuntime) -> Result<(), Fail> {
     let log = decode_log(rt.alloc(), &LOG).ok().ok_or("a log")?;
-    assert_eq!(rt; log.generation, 2);
-    assert_eq!(rt; log.root, 4);
-    assert_eq!(rt; log.answers.as_slice().len(), 1);
+    assert!(rt; log.generation == 2);
+    assert!(rt; log.root == 4);
+    assert!(rt; log.answers.as_slice().len() == 1);
     let bytes = encode_log(rt.alloc(), &log)?;
-    assert_eq!(rt; bytes.as_slice(), LOG.as_slice());
+    assert!(rt; bytes.as_slice() == LOG.as_slice());
     Ok(())
 }
 
 #[test]
 fn a_log_that_is_cut_or_too_long(rt: HostRuntime) -> Result<(), Fail> {
     for size in 0..LOG.len() {
-        assert_eq!(rt;
-            decode_log(rt.alloc(), &LOG[..size]).err(),
-            Some(LogFault::Cut),
+        assert!(rt;
+            decode_log(rt.alloc(), &LOG[..size]).err() == Some(LogFault::Cut),
             "{size}"
         );
     }
     let mut bytes = LOG.to_vec(rt.alloc())?;
     bytes.push(0)?;
-    assert_eq!(rt;
-        decode_log(rt.alloc(), bytes.as_slice()).err(),
-        Some(LogFault::Tail)
-    );
+    assert!(rt; decode_log(rt.alloc(), bytes.as_slice()).err() == Some(LogFault::Tail));
     Ok(())
 }
 
@@ -57,38 +53,32 @@ fn a_log_is_refused_for_its_first_fault(rt: HostRuntime) {
     for (at, byte, fault) in &faults {
         let mut bytes = LOG;
         bytes[*at] = *byte;
-        assert_eq!(rt; decode_log(rt.alloc(), &bytes).err(), Some(*fault), "{at}");
+        assert!(rt;
+            decode_log(rt.alloc(), &bytes).err() == Some(*fault),
+            "{at}"
+        );
     }
 }
 
 #[test]
 fn a_frame_is_a_length_and_a_log(rt: HostRuntime) -> Result<(), Fail> {
     let mut bytes = Vec::new(rt.alloc());
-    assert_eq!(rt;
+    assert!(rt;
         decode_frames(rt.alloc(), bytes.as_slice())
             .ok()
             .ok_or("no frames")?
-            .len(),
-        0
+            .len()
+            == 0
     );
     frame(&LOG, &mut bytes)?;
-    assert_eq!(rt; bytes.len(), 69);
-    assert_eq!(rt;
-        &bytes.as_slice()[..8],
-        [0u8, 0, 0, 0, 0, 0, 0, 61].as_slice()
-    );
+    assert!(rt; bytes.len() == 69);
+    assert!(rt; &bytes.as_slice()[..8] == [0u8, 0, 0, 0, 0, 0, 0, 61].as_slice());
     let logs = decode_frames(rt.alloc(), bytes.as_slice())
         .ok()
         .ok_or("a frame")?;
-    assert_eq!(rt; logs.len(), 1);
-    assert_eq!(rt;
-        decode_frames(rt.alloc(), &bytes.as_slice()[..68]).err(),
-        Some(LogFault::Cut)
-    );
-    assert_eq!(rt;
-        decode_join_frames(rt.alloc(), bytes.as_slice()).err(),
-        Some(LogFault::Kind)
-    );
+    assert!(rt; logs.len() == 1);
+    assert!(rt; decode_frames(rt.alloc(), &bytes.as_slice()[..68]).err() == Some(LogFault::Cut));
+    assert!(rt; decode_join_frames(rt.alloc(), bytes.as_slice()).err() == Some(LogFault::Kind));
     Ok(())
 }
 
@@ -102,20 +92,14 @@ const JOIN: [u8; 86] = [
 #[test]
 fn the_log_of_a_join_is_read_and_written(rt: HostRuntime) -> Result<(), Fail> {
     let log = decode_join_log(rt.alloc(), &JOIN).ok().ok_or("a log")?;
-    assert_eq!(rt; log.right, (3, 5));
+    assert!(rt; log.right == (3, 5));
     let bytes = encode_join_log(rt.alloc(), &log)?;
-    assert_eq!(rt; bytes.as_slice(), JOIN.as_slice());
+    assert!(rt; bytes.as_slice() == JOIN.as_slice());
     let mut order = JOIN;
     order[65] = 1;
     order[69] = 0;
     order[77] = 1;
-    assert_eq!(rt;
-        decode_join_log(rt.alloc(), &order).err(),
-        Some(LogFault::Order)
-    );
-    assert_eq!(rt;
-        decode_join_log(rt.alloc(), &LOG).err(),
-        Some(LogFault::Kind)
-    );
+    assert!(rt; decode_join_log(rt.alloc(), &order).err() == Some(LogFault::Order));
+    assert!(rt; decode_join_log(rt.alloc(), &LOG).err() == Some(LogFault::Kind));
     Ok(())
 }

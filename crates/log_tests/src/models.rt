@@ -29,20 +29,20 @@ const NAMED: [Hit; 4] = [
 fn answers_are_in_order_and_each_once(rt: HostRuntime) -> Result<(), Fail> {
     let mut hits = NAMED.iter().copied().collect::<Vec<Hit>>(rt.alloc())?;
     put_hits_in_order(&mut hits);
-    assert_eq!(rt; hits.as_slice(), [NAMED[3], NAMED[1], NAMED[0]].as_slice());
+    assert!(rt; hits.as_slice() == [NAMED[3], NAMED[1], NAMED[0]].as_slice());
     let nearest = Query::Nearest {
         q: Point::new(rt.alloc(), &[5])?,
         k: 2,
     };
     select(&nearest, &mut hits);
-    assert_eq!(rt; hits.as_slice(), [NAMED[3], NAMED[1]].as_slice());
-    assert_eq!(rt; radius_of(&nearest, &hits), 1);
-    assert_eq!(rt; radius_of(&nearest, &hits[..1]), BOUND);
+    assert!(rt; hits.as_slice() == [NAMED[3], NAMED[1]].as_slice());
+    assert!(rt; radius_of(&nearest, &hits) == 1);
+    assert!(rt; radius_of(&nearest, &hits[..1]) == BOUND);
     let range = Query::Range {
         q: Point::new(rt.alloc(), &[5])?,
         r: 9,
     };
-    assert_eq!(rt; radius_of(&range, &hits), 9);
+    assert!(rt; radius_of(&range, &hits) == 9);
     Ok(())
 }
 
@@ -60,7 +60,7 @@ fn pairs_are_in_order_and_each_once(rt: HostRuntime) -> Result<(), Fail> {
     };
     let mut pairs = vec![in rt.alloc(); second, first, second]?;
     put_pairs_in_order(&mut pairs);
-    assert_eq!(rt; pairs.as_slice(), [first, second].as_slice());
+    assert!(rt; pairs.as_slice() == [first, second].as_slice());
     Ok(())
 }
 
@@ -80,11 +80,11 @@ fn the_item_of_greater_rank_is_opened(rt: HostRuntime) -> Result<(), Fail> {
         apart: Some(4),
     };
     assert!(rt; pair.opens_right());
-    assert_eq!(rt; pair.opened().page(), 3);
-    assert_eq!(rt; pair.opened().radius(), 9);
+    assert!(rt; pair.opened().page() == 3);
+    assert!(rt; pair.opened().radius() == 9);
     let kept = pair.other().try_clone(rt.alloc())?;
     assert!(rt; kept.is_object());
-    assert_eq!(rt; kept.id(), 7);
+    assert!(rt; kept.id() == 7);
     let tie = JoinNeed {
         left: pair.right,
         right: Item::Subtree {
@@ -96,7 +96,7 @@ fn the_item_of_greater_rank_is_opened(rt: HostRuntime) -> Result<(), Fail> {
         apart: None,
     };
     assert!(rt; !tie.opens_right());
-    assert_eq!(rt; tie.opened().page(), 3);
+    assert!(rt; tie.opened().page() == 3);
     Ok(())
 }
 

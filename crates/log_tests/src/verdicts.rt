@@ -66,9 +66,9 @@ fn a_sound_log_is_accepted_at_one_page_and_one_distance(rt: HostRuntime) -> Resu
     let mut ruler = Meter::new(L1::new(2));
     let sound = log(rt.alloc(), 2, 4, Mark::Near, 7)?;
     let verdict = verify(rt.alloc(), &mut pages, &mut ruler, &LIVE, &sound);
-    assert_eq!(rt; verdict, Ok(Accepted { records: 1 }));
-    assert_eq!(rt; pages.asked, 1);
-    assert_eq!(rt; ruler.used(), 1);
+    assert!(rt; verdict == Ok(Accepted { records: 1 }));
+    assert!(rt; pages.asked == 1);
+    assert!(rt; ruler.used() == 1);
     Ok(())
 }
 
@@ -91,7 +91,7 @@ fn a_log_is_refused_for_its_first_fault(rt: HostRuntime) -> Result<(), Fail> {
     for (generation, page, mark, dist, fault) in &faults {
         let log = log(rt.alloc(), *generation, *page, *mark, *dist)?;
         let verdict = verify(rt.alloc(), &mut pages, &mut ruler, &LIVE, &log);
-        assert_eq!(rt; verdict, Err(*fault));
+        assert!(rt; verdict == Err(*fault));
     }
     Ok(())
 }
@@ -105,7 +105,7 @@ fn a_page_that_holds_no_node_is_named(rt: HostRuntime) -> Result<(), Fail> {
     let sound = log(rt.alloc(), 2, 4, Mark::Near, 7)?;
     let verdict = verify(rt.alloc(), &mut pages, &mut ruler, &LIVE, &sound);
     let fault = PageFault::Bad(4, node_page::NodeFault::Kind);
-    assert_eq!(rt; verdict, Err(Verdict::Page(fault)));
+    assert!(rt; verdict == Err(Verdict::Page(fault)));
     Ok(())
 }
 
@@ -158,7 +158,7 @@ fn a_join_with_itself(rt: HostRuntime) -> Result<(), Fail> {
         let log = join_log(rt.alloc(), *state, *mark)?;
         let alloc = rt.alloc();
         let found = verify_join(alloc, &mut left, &mut right, &mut ruler, &LIVE, &LIVE, &log);
-        assert_eq!(rt; found, *verdict);
+        assert!(rt; found == *verdict);
     }
     Ok(())
 }

@@ -49,10 +49,10 @@ fn distances_of_worked_points(rt: HostRuntime) -> Result<(), Fail> {
         let dim = u8::try_from(row.a.len()).map_err(|_| "too long")?;
         for kind in 1..4u8 {
             let space = Space::new(kind, dim)?;
-            assert_eq!(rt; space.kind(), kind);
-            assert_eq!(rt; space.dim(), dim);
+            assert!(rt; space.kind() == kind);
+            assert!(rt; space.dim() == dim);
             let wanted = row.distances.get(usize::from(kind) - 1).copied();
-            assert_eq!(rt; distance(space, row.a, row.b), wanted);
+            assert!(rt; distance(space, row.a, row.b) == wanted);
         }
     }
     Ok(())
@@ -61,12 +61,11 @@ fn distances_of_worked_points(rt: HostRuntime) -> Result<(), Fail> {
 #[test]
 fn each_metric_alone(rt: HostRuntime) {
     let (a, b) = ([1, 2, 3, 4], [1, 0, 3, 0]);
-    assert_eq!(rt; distance(Hamming::new(4), &a, &b), Some(2));
-    assert_eq!(rt; distance(L1::new(4), &a, &b), Some(6));
-    assert_eq!(rt; distance(Max::new(4), &a, &b), Some(4));
-    assert_eq!(rt;
-        distance(L1::new(3), &a, &b),
-        None,
+    assert!(rt; distance(Hamming::new(4), &a, &b) == Some(2));
+    assert!(rt; distance(L1::new(4), &a, &b) == Some(6));
+    assert!(rt; distance(Max::new(4), &a, &b) == Some(4));
+    assert!(rt;
+        distance(L1::new(3), &a, &b) == None,
         "a point of three coordinates has no fourth"
     );
 }
@@ -74,8 +73,8 @@ fn each_metric_alone(rt: HostRuntime) {
 #[test]
 fn a_meter_counts_what_it_measures(rt: HostRuntime) {
     let mut meter = Meter::new(L1::new(2));
-    assert_eq!(rt; twice(&mut meter, &[3, 4], &[0, 0]), Some((7, 7)));
-    assert_eq!(rt; meter.used(), 2);
+    assert!(rt; twice(&mut meter, &[3, 4], &[0, 0]) == Some((7, 7)));
+    assert!(rt; meter.used() == 2);
 }
 
 #[test]
@@ -88,6 +87,6 @@ fn faults_of_a_kind_and_a_dimension(rt: HostRuntime) {
         (3, 65, SpaceFault::Dim),
     ];
     for (kind, dim, fault) in rows {
-        assert_eq!(rt; Space::new(kind, dim).err(), Some(fault));
+        assert!(rt; Space::new(kind, dim).err() == Some(fault));
     }
 }

@@ -128,15 +128,13 @@ fn distances_of_worked_points(rt: HostRuntime) -> Result<(), Fail> {
     for row in &rows {
         let dim = u8::try_from(row.a.len()).map_err(|_| "too long")?;
         let space = MixSpace::new(row.kind, dim)?;
-        assert_eq!(rt;
-            distance(space, row.a, row.b),
-            row.wanted,
+        assert!(rt;
+            distance(space, row.a, row.b) == row.wanted,
             "kind {}",
             row.kind
         );
-        assert_eq!(rt;
-            distance(space, row.b, row.a),
-            row.wanted,
+        assert!(rt;
+            distance(space, row.b, row.a) == row.wanted,
             "kind {} turned",
             row.kind
         );
@@ -147,31 +145,22 @@ fn distances_of_worked_points(rt: HostRuntime) -> Result<(), Fail> {
 #[test]
 fn each_metric_alone(rt: HostRuntime) {
     let (a, b) = ([1, 2, 7, 7], [3, 2, 7, 8]);
-    assert_eq!(rt; distance(Capped::new(L1::new(4), 2), &a, &b), Some(2));
-    assert_eq!(rt;
-        distance(Sum::new(L1::new(2), Hamming::new(2)), &a, &b),
-        Some(3)
-    );
-    assert_eq!(rt;
-        distance(Most::new(L1::new(2), Hamming::new(2)), &a, &b),
-        Some(2)
-    );
-    assert_eq!(rt; distance(Halves::new(4).sum(), &a, &b), Some(3));
-    assert_eq!(rt; distance(Halves::new(4).most(), &a, &b), Some(2));
-    assert_eq!(rt; distance(Kendall::new(2), &[0, 1], &[1, 0]), Some(1));
-    assert_eq!(rt; distance(Hausdorff::new(2), &[0, 9], &[4, 4]), Some(5));
+    assert!(rt; distance(Capped::new(L1::new(4), 2), &a, &b) == Some(2));
+    assert!(rt; distance(Sum::new(L1::new(2), Hamming::new(2)), &a, &b) == Some(3));
+    assert!(rt; distance(Most::new(L1::new(2), Hamming::new(2)), &a, &b) == Some(2));
+    assert!(rt; distance(Halves::new(4).sum(), &a, &b) == Some(3));
+    assert!(rt; distance(Halves::new(4).most(), &a, &b) == Some(2));
+    assert!(rt; distance(Kendall::new(2), &[0, 1], &[1, 0]) == Some(1));
+    assert!(rt; distance(Hausdorff::new(2), &[0, 9], &[4, 4]) == Some(5));
 }
 
 #[test]
 fn a_sum_stops_at_the_greatest_distance(rt: HostRuntime) {
     let far = Sum::new(L1::new(32), L1::new(32));
-    assert_eq!(rt;
-        distance(far, &[0; 64], &[4294967295; 64]),
-        Some(274877906880)
-    );
+    assert!(rt; distance(far, &[0; 64], &[4294967295; 64]) == Some(274877906880));
     let mut meter = Meter::new(Capped::new(far, 1));
-    assert_eq!(rt; measured(&mut meter, &[0; 64], &[4294967295; 64]), 1);
-    assert_eq!(rt; meter.used(), 1);
+    assert!(rt; measured(&mut meter, &[0; 64], &[4294967295; 64]) == 1);
+    assert!(rt; meter.used() == 1);
 }
 
 #[test]
@@ -188,9 +177,9 @@ fn kinds_and_their_names(rt: HostRuntime) -> Result<(), Fail> {
     ];
     for (kind, name) in (1..9u8).zip(names) {
         let space = MixSpace::new(kind, 64)?;
-        assert_eq!(rt; space.kind(), kind);
-        assert_eq!(rt; space.dim(), 64);
-        assert_eq!(rt; space.name(), name);
+        assert!(rt; space.kind() == kind);
+        assert!(rt; space.dim() == 64);
+        assert!(rt; space.name() == name);
     }
     Ok(())
 }
@@ -207,6 +196,6 @@ fn faults_of_a_kind_and_a_dimension(rt: HostRuntime) {
         (7, 66, SpaceFault::Dim),
     ];
     for (kind, dim, fault) in rows {
-        assert_eq!(rt; MixSpace::new(kind, dim).err(), Some(fault));
+        assert!(rt; MixSpace::new(kind, dim).err() == Some(fault));
     }
 }

@@ -72,14 +72,14 @@ fn ranges(rt: HostRuntime) -> Result<(), Fail> {
             &mut [],
             &mut sizes,
         );
-        assert_eq!(rt; found, *status);
-        assert_eq!(rt; hits, *wanted);
-        assert_eq!(rt;
-            sizes,
-            Sizes {
-                hits: *count,
-                log: 0
-            }
+        assert!(rt; found == *status);
+        assert!(rt; hits == *wanted);
+        assert!(rt;
+            sizes
+                == Sizes {
+                    hits: *count,
+                    log: 0
+                }
         );
     }
     Ok(())
@@ -102,7 +102,7 @@ fn logs(rt: HostRuntime) -> Result<(), Fail> {
         &mut log[..1],
         &mut sizes,
     );
-    assert_eq!(rt; (short, sizes.hits, log[0]), (4, 2, 9));
+    assert!(rt; (short, sizes.hits, log[0]) == (4, 2, 9));
     let found = mtree_nearest(
         alloc,
         &file,
@@ -112,21 +112,20 @@ fn logs(rt: HostRuntime) -> Result<(), Fail> {
         log.as_mut_slice(),
         &mut sizes,
     );
-    assert_eq!(rt; (found, hits), (0, [FOUR, NINE]));
+    assert!(rt; (found, hits) == (0, [FOUR, NINE]));
     let frame = &log[..sizes.log.min(100)];
     let mut text = [0u8; 100];
     let mut size = 0;
     let verified = mtree_verify(alloc, &file, frame, text.as_mut_slice(), &mut size);
-    assert_eq!(rt; verified, 0);
-    assert_eq!(rt;
-        &text[..size.min(100)],
-        b"frame 0 accepted\nlog accepted, file not audited\n".as_slice()
+    assert!(rt; verified == 0);
+    assert!(rt;
+        &text[..size.min(100)] == b"frame 0 accepted\nlog accepted, file not audited\n".as_slice()
     );
     let checked = mtree_check(alloc, &file, frame, text.as_mut_slice(), &mut size);
-    assert_eq!(rt; checked, 0);
-    assert_eq!(rt;
-        &text[..size.min(100)],
-        b"file sound\nframe 0 complete\nnearest,2,5\nhits 2\n0 1\n1 4\nlog complete\n".as_slice()
+    assert!(rt; checked == 0);
+    assert!(rt;
+        &text[..size.min(100)]
+            == b"file sound\nframe 0 complete\nnearest,2,5\nhits 2\n0 1\n1 4\nlog complete\n".as_slice()
     );
     let none = mtree_nearest(
         alloc,
@@ -137,7 +136,7 @@ fn logs(rt: HostRuntime) -> Result<(), Fail> {
         &mut [],
         &mut sizes,
     );
-    assert_eq!(rt; (none, sizes), (2, NOTHING));
+    assert!(rt; (none, sizes) == (2, NOTHING));
     Ok(())
 }
 
@@ -149,25 +148,22 @@ fn texts(rt: HostRuntime) -> Result<(), Fail> {
     let mut text = [7u8; 40];
     let mut size = 0;
     let status = mtree_audit(alloc, &file, &mut text[..23], &mut size);
-    assert_eq!(rt; (status, size, text), (4, 24, [7; 40]));
+    assert!(rt; (status, size, text) == (4, 24, [7; 40]));
     let status = mtree_audit(alloc, &file, text.as_mut_slice(), &mut size);
-    assert_eq!(rt; status, 0);
-    assert_eq!(rt; &text[..size.min(40)], sound.as_slice());
+    assert!(rt; status == 0);
+    assert!(rt; &text[..size.min(40)] == sound.as_slice());
     let status = mtree_audit(alloc, &[], text.as_mut_slice(), &mut size);
-    assert_eq!(rt; status, 6);
-    assert_eq!(rt; &text[..size.min(40)], b"fault notindex short\n".as_slice());
+    assert!(rt; status == 6);
+    assert!(rt; &text[..size.min(40)] == b"fault notindex short\n".as_slice());
     if file.len() > 12288 {
         file[12288] = 15;
     }
     let status = mtree_audit(alloc, &file, text.as_mut_slice(), &mut size);
-    assert_eq!(rt; status, 1);
-    assert_eq!(rt;
-        &text[..size.min(40)],
-        b"rejected page bad 3 kind\n".as_slice()
-    );
+    assert!(rt; status == 1);
+    assert!(rt; &text[..size.min(40)] == b"rejected page bad 3 kind\n".as_slice());
     let mut sizes = NOTHING;
     let status = mtree_range(alloc, &file, &[5], 4, &mut [], &mut [], &mut sizes);
-    assert_eq!(rt; (status, sizes), (9, NOTHING));
+    assert!(rt; (status, sizes) == (9, NOTHING));
     Ok(())
 }
 
@@ -188,8 +184,8 @@ fn carried_logs(rt: HostRuntime) -> Result<(), Fail> {
         let mut size = 0;
         let root = RootDigest { bytes: [0; 32] };
         let found = mtree_proof(rt.alloc(), logs, &root, text.as_mut_slice(), &mut size);
-        assert_eq!(rt; found, *status);
-        assert_eq!(rt; &text[..size.min(40)], wanted.as_bytes());
+        assert!(rt; found == *status);
+        assert!(rt; &text[..size.min(40)] == wanted.as_bytes());
     }
     Ok(())
 }

@@ -21,8 +21,8 @@ fn check_scans<R: AllocGlobal + Abort + Threads + Sync>(
             let mut other = disk_of(alloc, &[], None)?;
             let asked = with_input(words, input);
             let ran = run_on(rt, alloc, &asked, piece.max(1), &mut index, &mut other)?;
-            assert_eq!(rt; ran.out.as_slice(), output.as_bytes(), "{}", output);
-            assert_eq!(rt; ran.status, Status(0), "{}", output);
+            assert!(rt; ran.out.as_slice() == output.as_bytes(), "{}", output);
+            assert!(rt; ran.status == Status(0), "{}", output);
         }
     }
     Ok(())
@@ -208,7 +208,7 @@ fn named_files(rt: HostRuntime) -> Result<(), Fail> {
         let mut out = MemorySink::new(alloc, 1000, Vec::new(alloc))?;
         let folder = HostFolder::new(&rt);
         let found = run_on_files(&rt, alloc, &words, &folder, &mut input, &mut out);
-        assert_eq!(rt; found, Status(*status), "{}", line);
+        assert!(rt; found == Status(*status), "{}", line);
     }
     fs::remove_file(&rt, "a.mt")?;
     fs::remove_file(&rt, "a.log")?;
@@ -248,8 +248,8 @@ fn an_input_of_one_byte_too_many(rt: HostRuntime) -> Result<(), Fail> {
     let mut index = disk_of(alloc, &[], None)?;
     let mut other = disk_of(alloc, &[], None)?;
     let ran = run_on(&rt, alloc, &long, 1 << 20, &mut index, &mut other)?;
-    assert_eq!(rt; ran.status, Status(7));
-    assert_eq!(rt; ran.out.as_slice(), b"fault long\n".as_slice());
+    assert!(rt; ran.status == Status(7));
+    assert!(rt; ran.out.as_slice() == b"fault long\n".as_slice());
     scan_model::laws::range_answers_are_all();
     scan_model::laws::join_answers_are_all();
     rows_text::laws::run_is_its_steps();

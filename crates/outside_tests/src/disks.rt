@@ -153,7 +153,7 @@ fn make<D: Disk>(rt: &impl Abort, disk: &mut D, call: &Call) -> bool {
 /// Makes the calls of a run, and compares their answers.
 fn play<D: Disk>(rt: &impl Abort, disk: &mut D, run: &Run) {
     for (call, want) in run.calls.iter().zip(run.answers) {
-        assert_eq!(rt; make(rt, disk, call), *want);
+        assert!(rt; make(rt, disk, call) == *want);
     }
 }
 
@@ -162,7 +162,7 @@ fn compare(rt: &impl Abort, alloc: Global, disk: &MemoryDisk, run: &Run) -> Resu
     for (moment, pick, want) in run.images {
         assert!(rt; *moment <= disk.moments());
         let image = disk.image(alloc, *moment, *pick)?;
-        assert_eq!(rt; image.as_slice(), *want, "at {moment}, pick {pick}");
+        assert!(rt; image.as_slice() == *want, "at {moment}, pick {pick}");
     }
     Ok(())
 }
@@ -171,8 +171,8 @@ fn check(rt: &impl Abort, alloc: Global, run: &Run) -> Result<(), Memory> {
     let first = [1, 2, 3].to_vec(alloc)?;
     let mut disk = MemoryDisk::new(alloc, first, 8, 20, run.fails.to_vec(alloc)?, run.stop)?;
     play(rt, &mut disk, run);
-    assert_eq!(rt; disk.moments(), run.calls.len() as u64);
-    assert_eq!(rt; disk.bytes(), run.bytes);
+    assert!(rt; disk.moments() == run.calls.len() as u64);
+    assert!(rt; disk.bytes() == run.bytes);
     compare(rt, alloc, &disk, run)
 }
 
@@ -197,8 +197,8 @@ fn a_read_past_the_end_gives_0(rt: HostRuntime) -> Result<(), Fail> {
     )?;
     let mut buf = [9; 4];
     disk.read_at(2, &mut buf)?;
-    assert_eq!(rt; buf, [3, 0, 0, 0]);
-    assert_eq!(rt; disk.size()?, 3);
+    assert!(rt; buf == [3, 0, 0, 0]);
+    assert!(rt; disk.size()? == 3);
     Ok(())
 }
 
@@ -215,14 +215,14 @@ fn a_real_file_is_read_written_and_opened_again(rt: HostRuntime) -> Result<(), F
     let mut disk = FileDisk::new(file);
     let mut buf = [9; 4];
     disk.read_at(2, &mut buf)?;
-    assert_eq!(rt; buf, [0, 0, 0, 0]);
+    assert!(rt; buf == [0, 0, 0, 0]);
     disk.write_at(3, &[7, 8])?;
     disk.sync()?;
-    assert_eq!(rt; disk.size()?, 5);
+    assert!(rt; disk.size()? == 5);
 
     let mut again = FileDisk::new(File::open(&rt, path)?);
     again.read_at(2, &mut buf)?;
-    assert_eq!(rt; buf, [0, 7, 8, 0]);
+    assert!(rt; buf == [0, 7, 8, 0]);
     assert!(rt;
         again.write_at(0, &[1]).is_err(),
         "a file opened for reading alone"
@@ -241,10 +241,10 @@ fn a_reader_reads_the_memory_as_it_is(rt: HostRuntime) -> Result<(), Fail> {
     let mut reader = disk.reader(alloc).ok_or(Failed)?;
     let mut found = [9; 3];
     reader.read_at(1, &mut found)?;
-    assert_eq!(rt; found, [2, 7, 0]);
-    assert_eq!(rt; reader.size()?, 3);
+    assert!(rt; found == [2, 7, 0]);
+    assert!(rt; reader.size()? == 3);
     assert!(rt; reader.size().is_err(), "it fails where the disk does");
-    assert_eq!(rt; disk.size()?, 3);
+    assert!(rt; disk.size()? == 3);
     assert!(rt; disk.size().is_err());
     Ok(())
 }
@@ -257,7 +257,7 @@ fn a_reader_reads_the_file_as_it_is(rt: HostRuntime) -> Result<(), Fail> {
     let mut reader = file.reader(rt.alloc()).ok_or(Failed)?;
     let mut found = [9; 3];
     reader.read_at(1, &mut found)?;
-    assert_eq!(rt; found, [5, 6, 0]);
+    assert!(rt; found == [5, 6, 0]);
     fs::remove_file(&rt, path)?;
     Ok(())
 }
@@ -266,8 +266,8 @@ fn a_reader_reads_the_file_as_it_is(rt: HostRuntime) -> Result<(), Fail> {
 #[test]
 fn a_sync_of_a_file_asks_the_system(rt: HostRuntime) -> Result<(), Fail> {
     let mut disk = FileDisk::new(File::open(&rt, "/dev/null")?);
-    assert_eq!(rt; disk.size()?, 0);
-    assert_eq!(rt; disk.sync(), Err(Failed));
+    assert!(rt; disk.size()? == 0);
+    assert!(rt; disk.sync() == Err(Failed));
     Ok(())
 }
 

@@ -17,10 +17,10 @@ fn reads_give_the_bytes_and_zeros_behind_them(rt: HostRuntime) -> Result<(), Fai
     let mut disk = SliceDisk::new(&file);
     for (at, wanted) in &cases {
         let mut found = [9u8; 3];
-        assert_eq!(rt; disk.read_at(*at, found.as_mut_slice()), Ok(()));
-        assert_eq!(rt; found, *wanted);
+        assert!(rt; disk.read_at(*at, found.as_mut_slice()) == Ok(()));
+        assert!(rt; found == *wanted);
     }
-    assert_eq!(rt; disk.size(), Ok(4));
+    assert!(rt; disk.size() == Ok(4));
     Ok(())
 }
 
@@ -28,10 +28,10 @@ fn reads_give_the_bytes_and_zeros_behind_them(rt: HostRuntime) -> Result<(), Fai
 fn nothing_is_written(rt: HostRuntime) -> Result<(), Fail> {
     let file = [1u8, 2, 3, 4];
     let mut disk = SliceDisk::new(&file);
-    assert_eq!(rt; disk.write_at(0, &[7]), Err(Failed));
-    assert_eq!(rt; disk.sync(), Err(Failed));
+    assert!(rt; disk.write_at(0, &[7]) == Err(Failed));
+    assert!(rt; disk.sync() == Err(Failed));
     let mut found = [9u8; 4];
-    assert_eq!(rt; disk.read_at(0, found.as_mut_slice()), Ok(()));
-    assert_eq!(rt; found, file);
+    assert!(rt; disk.read_at(0, found.as_mut_slice()) == Ok(()));
+    assert!(rt; found == file);
     Ok(())
 }

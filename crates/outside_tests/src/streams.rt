@@ -47,10 +47,10 @@ fn a_sink_writes_all_to_a_writer_that_takes_one_byte_at_a_time(
         bytes: Vec::new(alloc),
         room: 7,
     });
-    assert_eq!(rt; put_by(&mut sink, b"three"), Ok(()));
+    assert!(rt; put_by(&mut sink, b"three") == Ok(()));
     // A write that takes nothing is a fault.
-    assert_eq!(rt; put_by(&mut sink, b"four"), Err(Failed));
-    assert_eq!(rt; sink.into_inner().bytes.as_slice(), b"threefo".as_slice());
+    assert!(rt; put_by(&mut sink, b"four") == Err(Failed));
+    assert!(rt; sink.into_inner().bytes.as_slice() == b"threefo".as_slice());
     Ok(())
 }
 
@@ -60,11 +60,11 @@ fn a_source_reads_a_reader_to_its_end(rt: HostRuntime) -> Result<(), Fail> {
     let text: &[u8] = b"some bytes";
     let mut source = StdSource::new(text);
     let mut buf = [0u8; 4];
-    assert_eq!(rt; take_by(&mut source, &mut buf), Ok(4));
-    assert_eq!(rt; buf.as_slice(), b"some".as_slice());
+    assert!(rt; take_by(&mut source, &mut buf) == Ok(4));
+    assert!(rt; buf.as_slice() == b"some".as_slice());
     let rest = read_all(alloc, &mut source, 6).ok().ok_or("read")?;
-    assert_eq!(rt; rest.as_slice(), b" bytes".as_slice());
-    assert_eq!(rt; take_by(&mut source, &mut buf), Ok(0));
+    assert!(rt; rest.as_slice() == b" bytes".as_slice());
+    assert!(rt; take_by(&mut source, &mut buf) == Ok(0));
     Ok(())
 }
 
@@ -88,7 +88,7 @@ fn all_bytes_are_read_or_the_cause_is_named(rt: HostRuntime) -> Result<(), Fail>
             }
             let mut source = MemorySource::new(vec![in alloc; b'x'; *count]?, piece, fail_calls);
             let found = read_all(alloc, &mut source, *most).map(|bytes| bytes.len());
-            assert_eq!(rt; found, *answer);
+            assert!(rt; found == *answer);
         }
     }
     Ok(())
@@ -107,7 +107,7 @@ fn a_sink_in_memory_fails_by_its_list_and_room(rt: HostRuntime) -> Result<(), Fa
         sink.put(b"cd"),
         sink.put(b""),
     ];
-    assert_eq!(rt; answers, [Ok(()), Err(Failed), Err(Failed), Ok(()), Ok(())]);
-    assert_eq!(rt; sink.written(), b"abcd".as_slice());
+    assert!(rt; answers == [Ok(()), Err(Failed), Err(Failed), Ok(()), Ok(())]);
+    assert!(rt; sink.written() == b"abcd".as_slice());
     Ok(())
 }

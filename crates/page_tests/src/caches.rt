@@ -87,10 +87,10 @@ fn check_calls(
     let mut disk = disk_of(alloc, &[])?;
     let mut pages = Cached::new(alloc, DiskPages::new(&mut disk, 1, 6), most)?;
     for page in wanted {
-        assert_eq!(rt; ask(alloc, &mut pages, *page), expected(*page));
+        assert!(rt; ask(alloc, &mut pages, *page) == expected(*page));
     }
     let (inner, _) = pages.into_parts();
-    assert_eq!(rt; inner.disk.moments(), calls);
+    assert!(rt; inner.disk.moments() == calls);
     Ok(())
 }
 
@@ -113,11 +113,11 @@ fn all_pages_are_kept_where_there_is_room(rt: HostRuntime) -> Result<(), Fail> {
     let wanted = [(3, LEFT), (4, RIGHT), (5, ROOT), (6, EMPTY), (7, EMPTY)];
     for _ in 0..2 {
         for (page, node) in &wanted {
-            assert_eq!(rt; ask(alloc, &mut pages, *page), Ok(*node));
+            assert!(rt; ask(alloc, &mut pages, *page) == Ok(*node));
         }
     }
     let (inner, kept) = pages.into_parts();
-    assert_eq!(rt; (inner.disk.moments(), kept.len()), (5, 5));
+    assert!(rt; (inner.disk.moments(), kept.len()) == (5, 5));
     Ok(())
 }
 
@@ -127,15 +127,15 @@ fn a_page_that_is_forgotten_is_read_again(rt: HostRuntime) -> Result<(), Fail> {
     let mut disk = disk_of(alloc, &[])?;
     let mut pages = Cached::new(alloc, DiskPages::new(&mut disk, 1, 6), 9)?;
     for page in [5, 3, 4] {
-        assert_eq!(rt; ask(alloc, &mut pages, page), expected(page));
+        assert!(rt; ask(alloc, &mut pages, page) == expected(page));
     }
     pages.forget(3);
     pages.forget(3);
     for page in [5, 3, 4] {
-        assert_eq!(rt; ask(alloc, &mut pages, page), expected(page));
+        assert!(rt; ask(alloc, &mut pages, page) == expected(page));
     }
     let (inner, kept) = pages.into_parts();
-    assert_eq!(rt; (inner.disk.moments(), kept.len()), (4, 3));
+    assert!(rt; (inner.disk.moments(), kept.len()) == (4, 3));
     Ok(())
 }
 
@@ -144,12 +144,12 @@ fn a_refusal_keeps_what_is_kept(rt: HostRuntime) -> Result<(), Fail> {
     let alloc = rt.alloc();
     let mut disk = disk_of(alloc, &[1])?;
     let mut pages = Cached::new(alloc, DiskPages::new(&mut disk, 1, 6), 1)?;
-    assert_eq!(rt; ask(alloc, &mut pages, 3), Ok(LEFT));
-    assert_eq!(rt; ask(alloc, &mut pages, 4), Err(PageFault::Disk));
-    assert_eq!(rt; ask(alloc, &mut pages, 3), Ok(LEFT));
-    assert_eq!(rt; ask(alloc, &mut pages, 4), Ok(RIGHT));
+    assert!(rt; ask(alloc, &mut pages, 3) == Ok(LEFT));
+    assert!(rt; ask(alloc, &mut pages, 4) == Err(PageFault::Disk));
+    assert!(rt; ask(alloc, &mut pages, 3) == Ok(LEFT));
+    assert!(rt; ask(alloc, &mut pages, 4) == Ok(RIGHT));
     let (inner, _) = pages.into_parts();
-    assert_eq!(rt; inner.disk.moments(), 3);
+    assert!(rt; inner.disk.moments() == 3);
     Ok(())
 }
 
@@ -191,16 +191,16 @@ fn a_cache_is_lent(rt: HostRuntime) -> Result<(), Fail> {
     let alloc = rt.alloc();
     let mut disk = disk_of(alloc, &[])?;
     let mut kept = Kept::new(alloc, 2)?;
-    assert_eq!(rt; kept.is_empty(), true);
+    assert!(rt; kept.is_empty() == true);
     for (page, calls) in [(5, 1), (3, 2), (5, 2), (3, 2)] {
         let (answer, next) = look(alloc, &mut disk, kept, page);
-        assert_eq!(rt; (answer, disk.moments()), (expected(page), calls));
+        assert!(rt; (answer, disk.moments()) == (expected(page), calls));
         kept = next;
     }
     forget_each(&mut kept, &[2, 5]);
     let (answer, kept) = look(alloc, &mut disk, kept, 3);
-    assert_eq!(rt; (answer, disk.moments()), (Ok(LEFT), 2));
+    assert!(rt; (answer, disk.moments()) == (Ok(LEFT), 2));
     let (answer, _) = look(alloc, &mut disk, kept, 5);
-    assert_eq!(rt; (answer, disk.moments()), (Ok(ROOT), 3));
+    assert!(rt; (answer, disk.moments()) == (Ok(ROOT), 3));
     Ok(())
 }

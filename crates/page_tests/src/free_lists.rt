@@ -57,9 +57,9 @@ fn free_of(alloc: Global, bytes: &[u8], live: &Live) -> Result<Free, PageFault>
 // Exactly these pages are free.
 fn check<R: AllocGlobal + Abort>(rt: &R, free: &Free, pages: &[u32]) -> Result<(), Fail> {
     let least = free.least(rt.alloc(), 100)?;
-    assert_eq!(rt; least.as_slice(), pages);
-    assert_eq!(rt; free.len(), pages.len());
-    assert_eq!(rt; free.is_empty(), pages.is_empty());
+    assert!(rt; least.as_slice() == pages);
+    assert!(rt; free.len() == pages.len());
+    assert!(rt; free.is_empty() == pages.is_empty());
     Ok(())
 }
 
@@ -69,14 +69,14 @@ fn pages_outside_the_tree(rt: HostRuntime) -> Result<(), Fail> {
     let bytes = file(alloc, &[3, 7])?;
     let mut pages = ImagePages::new(&bytes, 1, 9);
     let mut free = Free::of(alloc, &mut pages, &LIVE)?;
-    assert_eq!(rt; pages.asked, 3);
+    assert!(rt; pages.asked == 3);
     check(&rt, &free, &[4, 6, 8])?;
-    assert_eq!(rt; free.least(alloc, 2)?.as_slice(), [4, 6].as_slice());
-    assert_eq!(rt; free.take(), Some(4));
-    assert_eq!(rt; free.take(), Some(6));
+    assert!(rt; free.least(alloc, 2)?.as_slice() == [4, 6].as_slice());
+    assert!(rt; free.take() == Some(4));
+    assert!(rt; free.take() == Some(6));
     check(&rt, &free, &[8])?;
-    assert_eq!(rt; free.take(), Some(8));
-    assert_eq!(rt; free.take(), None);
+    assert!(rt; free.take() == Some(8));
+    assert!(rt; free.take() == None);
     check(&rt, &free, &[])?;
     free.are_kept();
     laws::sound_trees_are_walked();
@@ -125,7 +125,7 @@ fn faults_of_the_walk(rt: HostRuntime) -> Result<(), Fail> {
     ];
     for (children, fault) in table {
         let bytes = file(rt.alloc(), children)?;
-        assert_eq!(rt; free_of(rt.alloc(), &bytes, &LIVE).err(), Some(fault));
+        assert!(rt; free_of(rt.alloc(), &bytes, &LIVE).err() == Some(fault));
     }
     Ok(())
 }
@@ -135,14 +135,10 @@ fn faults_of_the_walk(rt: HostRuntime) -> Result<(), Fail> {
 fn the_walk_goes_down_first(rt: HostRuntime) -> Result<(), Fail> {
     let mut bytes = file(rt.alloc(), &[6, 7, 2])?;
     put_inner(&mut bytes, 6, 1, &[7, 4]);
-    assert_eq!(rt;
-        free_of(rt.alloc(), &bytes, &LIVE).err(),
-        Some(PageFault::Repeats(7))
-    );
+    assert!(rt; free_of(rt.alloc(), &bytes, &LIVE).err() == Some(PageFault::Repeats(7)));
     put_inner(&mut bytes, 6, 1, &[3, 8]);
-    assert_eq!(rt;
-        free_of(rt.alloc(), &bytes, &LIVE).err(),
-        Some(PageFault::Bad(8, NodeFault::Kind))
+    assert!(rt;
+        free_of(rt.alloc(), &bytes, &LIVE).err() == Some(PageFault::Bad(8, NodeFault::Kind))
     );
     Ok(())
 }
@@ -159,7 +155,7 @@ fn a_read_that_fails(rt: HostRuntime) -> Result<(), Fail> {
         let room = bytes.len() as u64;
         let mut disk = MemoryDisk::new(alloc, bytes, room, 100, Vec::new(alloc), Some(read))?;
         let mut pages = DiskPages::new(&mut disk, 1, 9);
-        assert_eq!(rt; Free::of(alloc, &mut pages, &LIVE).err(), fault);
+        assert!(rt; Free::of(alloc, &mut pages, &LIVE).err() == fault);
     }
     Ok(())
 }
@@ -173,7 +169,7 @@ fn pages_that_are_given_back(rt: HostRuntime) -> Result<(), Fail> {
         free.give_back(page)?;
     }
     check(&rt, &free, &[3, 6, 7, 8, 40])?;
-    assert_eq!(rt; free.take(), Some(3));
+    assert!(rt; free.take() == Some(3));
     free.reserve(2)?;
     free.give_back(41)?;
     free.give_back(5)?;

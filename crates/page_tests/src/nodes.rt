@@ -46,11 +46,11 @@ fn is_zero_from(page: &[u8; 4096], from: usize) -> bool {
 #[test]
 fn the_head_of_a_small_index(rt: HostRuntime) -> Result<(), Fail> {
     let mut page = head_page();
-    assert_eq!(rt; front(&page, 20), HEAD_BYTES.as_slice());
-    assert_eq!(rt; is_zero_from(&page, 20), true);
-    assert_eq!(rt; decode_head(&page), Ok(HEAD));
+    assert!(rt; front(&page, 20) == HEAD_BYTES.as_slice());
+    assert!(rt; is_zero_from(&page, 20) == true);
+    assert!(rt; decode_head(&page) == Ok(HEAD));
     page[9] = 1;
-    assert_eq!(rt; decode_head(&page), Ok(Head { version: 1, ..HEAD }));
+    assert!(rt; decode_head(&page) == Ok(Head { version: 1, ..HEAD }));
     Ok(())
 }
 
@@ -69,7 +69,7 @@ fn a_head_is_refused_for_its_first_fault(rt: HostRuntime) -> Result<(), Fail> {
     let mut page = head_page();
     for (at, byte, fault) in &faults {
         page[*at] = *byte;
-        assert_eq!(rt; decode_head(&page), Err(*fault));
+        assert!(rt; decode_head(&page) == Err(*fault));
     }
     Ok(())
 }
@@ -90,19 +90,19 @@ fn the_slots_of_a_small_index(rt: HostRuntime) -> Result<(), Fail> {
         0, 0, 5,
     ];
     let mut page = slot_page(&slot);
-    assert_eq!(rt; front(&page, 32), bytes.as_slice());
-    assert_eq!(rt; decode_slot(&page), Some(slot));
+    assert!(rt; front(&page, 32) == bytes.as_slice());
+    assert!(rt; decode_slot(&page) == Some(slot));
     // Each other byte is a closed gate.
     page[0] = 0xa4;
-    assert_eq!(rt;
-        decode_slot(&page),
-        Some(Slot {
-            gate: false,
-            ..slot
-        })
+    assert!(rt;
+        decode_slot(&page)
+            == Some(Slot {
+                gate: false,
+                ..slot
+            })
     );
     page[4095] = 1;
-    assert_eq!(rt; decode_slot(&page), None);
+    assert!(rt; decode_slot(&page) == None);
     Ok(())
 }
 
@@ -118,12 +118,9 @@ fn a_leaf_is_read_or_refused_for_its_first_fault(rt: HostRuntime) -> Result<(), 
     let Node::Leaf(entries) = node else {
         return Err("an inner node".into());
     };
-    assert_eq!(rt; entries.as_slice().len(), 1);
-    assert_eq!(rt; entries.as_slice()[0].id, 0);
-    assert_eq!(rt;
-        entries.as_slice()[0].point.as_slice(),
-        [3u32, 4].as_slice()
-    );
+    assert!(rt; entries.as_slice().len() == 1);
+    assert!(rt; entries.as_slice()[0].id == 0);
+    assert!(rt; entries.as_slice()[0].point.as_slice() == [3u32, 4].as_slice());
     let faults = [
         (44, 1, NodeFault::Tail),
         (30, 0x41, NodeFault::Distance),
@@ -132,7 +129,7 @@ fn a_leaf_is_read_or_refused_for_its_first_fault(rt: HostRuntime) -> Result<(), 
     ];
     for (at, byte, fault) in &faults {
         page[*at] = *byte;
-        assert_eq!(rt; decode_node(rt.alloc(), &page, 2).err(), Some(*fault));
+        assert!(rt; decode_node(rt.alloc(), &page, 2).err() == Some(*fault));
     }
     Ok(())
 }
@@ -146,7 +143,7 @@ fn a_leaf_that_was_read_is_written_again(rt: HostRuntime) -> Result<(), Fail> {
     let node = decode_node(rt.alloc(), &page, 2).ok().ok_or("a leaf")?;
     let mut written = [0xffu8; 4096];
     encode_node(&node, 2, &mut written);
-    assert_eq!(rt; written, page);
+    assert!(rt; written == page);
     Ok(())
 }
 
@@ -161,16 +158,10 @@ fn a_leaf_of_the_first_version(rt: HostRuntime) -> Result<(), Fail> {
     let Node::Leaf(entries) = node else {
         return Err("an inner node".into());
     };
-    assert_eq!(rt; entries.as_slice().len(), 1);
-    assert_eq!(rt; entries.as_slice()[0].tag, 0);
-    assert_eq!(rt;
-        entries.as_slice()[0].point.as_slice(),
-        [3u32, 4].as_slice()
-    );
+    assert!(rt; entries.as_slice().len() == 1);
+    assert!(rt; entries.as_slice()[0].tag == 0);
+    assert!(rt; entries.as_slice()[0].point.as_slice() == [3u32, 4].as_slice());
     page[36] = 1;
-    assert_eq!(rt;
-        decode_old_node(rt.alloc(), &page, 2).err(),
-        Some(NodeFault::Tail)
-    );
+    assert!(rt; decode_old_node(rt.alloc(), &page, 2).err() == Some(NodeFault::Tail));
     Ok(())
 }

@@ -24,28 +24,21 @@ fn file(alloc: Global) -> Result<Vec<u8>, AllocError>
 // How many objects the leaf on a page has, and the coordinates of the first.
 fn check_pages<R: AllocGlobal + Abort, P: Pages>(rt: &R, pages: &mut P) -> Result<(), Fail> {
     let alloc = rt.alloc();
-    assert_eq!(rt;
-        matches!(pages.node(alloc, 2), Err(PageFault::Outside(2))),
-        true
-    );
-    assert_eq!(rt;
-        matches!(pages.node(alloc, 5), Err(PageFault::Outside(5))),
-        true
-    );
-    assert_eq!(rt;
+    assert!(rt; matches!(pages.node(alloc, 2), Err(PageFault::Outside(2))) == true);
+    assert!(rt; matches!(pages.node(alloc, 5), Err(PageFault::Outside(5))) == true);
+    assert!(rt;
         matches!(
             pages.node(alloc, 3),
             Err(PageFault::Bad(3, NodeFault::Kind))
-        ),
-        true
+        ) == true
     );
     match pages.node(alloc, 4)? {
         Node::Leaf(entries) => {
-            assert_eq!(rt; entries.as_slice().len(), 1);
+            assert!(rt; entries.as_slice().len() == 1);
             let first = &entries.as_slice()[0];
-            assert_eq!(rt; first.point.as_slice(), [3, 4].as_slice());
+            assert!(rt; first.point.as_slice() == [3, 4].as_slice());
         }
-        Node::Inner { .. } => assert_eq!(rt; true, false),
+        Node::Inner { .. } => assert!(rt; true == false),
     }
     Ok(())
 }
@@ -56,11 +49,11 @@ fn pages_of_a_file(rt: HostRuntime) -> Result<(), Fail> {
     let bytes = file(alloc)?;
     let mut pages = ImagePages::new(&bytes, 2, 5);
     check_pages(&rt, &mut pages)?;
-    assert_eq!(rt; pages.asked, 4);
+    assert!(rt; pages.asked == 4);
     let mut disk = MemoryDisk::new(alloc, file(alloc)?, 20480, 100, Vec::new(alloc), None)?;
     let mut pages = DiskPages::new(&mut disk, 2, 5);
     check_pages(&rt, &mut pages)?;
-    assert_eq!(rt; pages.asked, 4);
+    assert!(rt; pages.asked == 4);
     Ok(())
 }
 
@@ -69,7 +62,7 @@ fn a_read_that_fails(rt: HostRuntime) -> Result<(), Fail> {
     let alloc = rt.alloc();
     let mut disk = MemoryDisk::new(alloc, file(alloc)?, 20480, 100, Vec::new(alloc), Some(0))?;
     let mut pages = DiskPages::old(&mut disk, 2, 5);
-    assert_eq!(rt; matches!(pages.node(alloc, 4), Err(PageFault::Disk)), true);
+    assert!(rt; matches!(pages.node(alloc, 4), Err(PageFault::Disk)) == true);
     Ok(())
 }
 
@@ -77,14 +70,14 @@ fn a_read_that_fails(rt: HostRuntime) -> Result<(), Fail> {
 fn nodes_are_staged(rt: HostRuntime) -> Result<(), Fail> {
     let alloc = rt.alloc();
     let mut staged = Staged::new(alloc);
-    assert_eq!(rt; staged.is_empty(), true);
+    assert!(rt; staged.is_empty() == true);
     staged.stage(7, Node::Leaf(Listed::new(Vec::new(alloc))))?;
-    assert_eq!(rt; staged.len(), 1);
-    assert_eq!(rt; staged.page_at(0), 7);
-    assert_eq!(rt; staged.at(0).page, 7);
-    assert_eq!(rt; matches!(staged.node_at(0), Node::Leaf(_)), true);
-    assert_eq!(rt; staged.get(7).is_some(), true);
-    assert_eq!(rt; staged.get(8).is_none(), true);
+    assert!(rt; staged.len() == 1);
+    assert!(rt; staged.page_at(0) == 7);
+    assert!(rt; staged.at(0).page == 7);
+    assert!(rt; matches!(staged.node_at(0), Node::Leaf(_)) == true);
+    assert!(rt; staged.get(7).is_some() == true);
+    assert!(rt; staged.get(8).is_none() == true);
     staged.are_apart();
     laws::sound_trees_are_whole();
     laws::trees_stand_on_pages();

@@ -101,26 +101,23 @@ fn a_new_file_opens(rt: HostRuntime) -> Result<(), Fail> {
     laws::commits_keep_lists();
     let alloc = rt.alloc();
     let mut disk = disk_of(alloc, Vec::new(alloc), None)?;
-    assert_eq!(rt; make(&mut disk), Ok(FIRST));
-    assert_eq!(rt; open(&mut disk), Ok((HEAD, FIRST)));
-    assert_eq!(rt; make(&mut disk), Err(CreateFault::NotEmpty));
+    assert!(rt; make(&mut disk) == Ok(FIRST));
+    assert!(rt; open(&mut disk) == Ok((HEAD, FIRST)));
+    assert!(rt; make(&mut disk) == Err(CreateFault::NotEmpty));
     let mut short = disk_of(alloc, vec![in alloc; 0; 100]?, None)?;
-    assert_eq!(rt; open(&mut short), Err(OpenFault::Short));
+    assert!(rt; open(&mut short) == Err(OpenFault::Short));
     let mut failing = disk_of(alloc, Vec::new(alloc), Some(3))?;
-    assert_eq!(rt; make(&mut failing), Err(CreateFault::Disk));
+    assert!(rt; make(&mut failing) == Err(CreateFault::Disk));
     Ok(())
 }
 
 #[test]
 fn a_file_with_a_fault_does_not_open(rt: HostRuntime) -> Result<(), Fail> {
     let alloc = rt.alloc();
-    assert_eq!(rt;
-        fault_with(alloc, 9, 3)?,
-        Some(OpenFault::Head(HeadFault::Version))
-    );
-    assert_eq!(rt; fault_with(alloc, 4096, 0)?, Some(OpenFault::Unfinished));
-    assert_eq!(rt; fault_with(alloc, 4096 + 19, 5)?, Some(OpenFault::Slot));
-    assert_eq!(rt; fault_with(alloc, 8192, 0xa5)?, None);
+    assert!(rt; fault_with(alloc, 9, 3)? == Some(OpenFault::Head(HeadFault::Version)));
+    assert!(rt; fault_with(alloc, 4096, 0)? == Some(OpenFault::Unfinished));
+    assert!(rt; fault_with(alloc, 4096 + 19, 5)? == Some(OpenFault::Slot));
+    assert!(rt; fault_with(alloc, 8192, 0xa5)? == None);
     Ok(())
 }
 
@@ -141,13 +138,10 @@ fn check_stop<R: AllocGlobal + Abort>(rt: &R, stop: u64) -> Result<(), Fail> {
     let mut disk = disk_of(alloc, Vec::new(alloc), Some(stop))?;
     make(&mut disk)?;
     let done = add_one(alloc, &mut disk)?.is_ok();
-    assert_eq!(rt; done, stop > 14);
+    assert!(rt; done == (stop > 14));
     for moment in 8..=disk.moments() {
         for pick in [0, 1, 165, 255] {
-            assert_eq!(rt;
-                opens_to_either(alloc, disk.image(alloc, moment, pick)?)?,
-                true
-            );
+            assert!(rt; opens_to_either(alloc, disk.image(alloc, moment, pick)?)? == true);
         }
     }
     Ok(())
@@ -216,19 +210,16 @@ fn check_second<R: AllocGlobal + Abort>(rt: &R, stop: u64) -> Result<(), Fail> {
     let disk = MemoryDisk::new(alloc, Vec::new(alloc), 65536, 1_000_000, fails, Some(stop))?;
     let mut quiet = QuietDisk { disk };
     make(&mut quiet)?;
-    assert_eq!(rt; add_at(alloc, &mut quiet, 3)?, Err(Failed));
-    assert_eq!(rt; quiet.sync(), Ok(()));
-    assert_eq!(rt; open(&mut quiet), Ok((HEAD, FIRST)));
+    assert!(rt; add_at(alloc, &mut quiet, 3)? == Err(Failed));
+    assert!(rt; quiet.sync() == Ok(()));
+    assert!(rt; open(&mut quiet) == Ok((HEAD, FIRST)));
     let begun = quiet.disk.moments();
-    assert_eq!(rt; begun, 19);
+    assert!(rt; begun == 19);
     let done = add_at(alloc, &mut quiet, 5)?.is_ok();
-    assert_eq!(rt; done, stop > 25);
+    assert!(rt; done == (stop > 25));
     for moment in begun..=quiet.disk.moments() {
         for pick in [0, 1, 165, 255] {
-            assert_eq!(rt;
-                opens_to_second(alloc, quiet.disk.image(alloc, moment, pick)?)?,
-                true
-            );
+            assert!(rt; opens_to_second(alloc, quiet.disk.image(alloc, moment, pick)?)? == true);
         }
     }
     Ok(())

@@ -58,7 +58,7 @@ fn new_nodes_get_the_numbers_and_then_pages_from_the_end(rt: HostRuntime) -> Res
     let pages = [4, 7, 9];
     for place in 0..3 {
         assert!(rt; place < placed.staged.len());
-        assert_eq!(rt; placed.staged.page_at(place), pages[place]);
+        assert!(rt; placed.staged.page_at(place) == pages[place]);
     }
     let next = Live {
         side: 0,
@@ -68,16 +68,16 @@ fn new_nodes_get_the_numbers_and_then_pages_from_the_end(rt: HostRuntime) -> Res
         count: 7,
         pages: 10,
     };
-    assert_eq!(rt; placed.next, next);
+    assert!(rt; placed.next == next);
     let full = RoomFault::NoRoom {
         pages: 16_777_216,
         needed: 1,
     };
     match settled(rt.alloc(), 16_777_216) {
         Ok(_) => assert!(rt; false),
-        Err(fault) => assert_eq!(rt; fault, full),
+        Err(fault) => assert!(rt; fault == full),
     }
     let last = settled(rt.alloc(), 16_777_215)?;
-    assert_eq!(rt; last.next.pages, 16_777_216);
+    assert!(rt; last.next.pages == 16_777_216);
     Ok(())
 }

@@ -104,10 +104,10 @@ fn shown(alloc: Global, bytes: &[u8], root: &[u8; 32]) -> Result<Listed<Hit>, Pr
 fn a_file_of_five_pages_has_its_digest_and_paths(rt: HostRuntime) -> Result<(), Fail> {
     let mut disk = disk_of(rt.alloc(), small_file(rt.alloc())?, Vec::new(rt.alloc()))?;
     let tree = seal(rt.alloc(), &mut disk, 5)?;
-    assert_eq!(rt; tree.root(), ROOT);
-    assert_eq!(rt; tree.pages(), 5);
+    assert!(rt; tree.root() == ROOT);
+    assert!(rt; tree.pages() == 5);
     for (page, digests) in [3, 3, 3, 3, 1].iter().enumerate() {
-        assert_eq!(rt; tree.path(rt.alloc(), page as u32)?.len(), *digests);
+        assert!(rt; tree.path(rt.alloc(), page as u32)?.len() == *digests);
     }
     Ok(())
 }
@@ -128,9 +128,9 @@ fn a_page_that_cannot_be_read_is_told(rt: HostRuntime) -> Result<(), Fail> {
 #[test]
 fn a_carried_log_shows_its_answers(rt: HostRuntime) -> Result<(), Fail> {
     let (bytes, root) = carried_log(rt.alloc(), small_file(rt.alloc())?)?;
-    assert_eq!(rt; bytes.len(), SIZE);
+    assert!(rt; bytes.len() == SIZE);
     let answers = shown(rt.alloc(), &bytes, &root)?;
-    assert_eq!(rt; answers.as_slice(), [Hit { id: 0, dist: 7 }].as_slice());
+    assert!(rt; answers.as_slice() == [Hit { id: 0, dist: 7 }].as_slice());
     Ok(())
 }
 
@@ -226,9 +226,8 @@ fn no_changed_or_cut_carried_log_shows_other_answers(rt: HostRuntime) -> Result<
         }
         put(&mut other, at, &[*byte ^ 1]);
         if let Ok(answers) = shown(rt.alloc(), &other, &root) {
-            assert_eq!(rt;
-                answers.as_slice(),
-                [Hit { id: 0, dist: 7 }].as_slice(),
+            assert!(rt;
+                answers.as_slice() == [Hit { id: 0, dist: 7 }].as_slice(),
                 "at {at}"
             );
         }
@@ -301,7 +300,7 @@ fn part(bytes: &[u8], from: usize, to: usize) -> &[u8] {
 #[test]
 fn a_page_that_is_not_carried_is_missing(rt: HostRuntime) -> Result<(), Fail> {
     let (bytes, root) = carried_log(rt.alloc(), small_file(rt.alloc())?)?;
-    assert_eq!(rt; bytes.len(), SIZE);
+    assert!(rt; bytes.len() == SIZE);
     // Without page 4, which takes 4133 bytes.
     let mut other = part(&bytes, 0, 12604).to_vec(rt.alloc())?;
     other.extend_from_slice(part(&bytes, 16737, SIZE))?;

@@ -110,8 +110,8 @@ fn check_proved<R: AllocGlobal + Abort>(
     let mut log_in = source_of(alloc, bytes.to_vec(alloc)?);
     let mut out = sink_of(alloc, 1000, false)?;
     let ended = prove_logs(alloc, &mut log_in, root, &mut out);
-    assert_eq!(rt; out.written(), lines.as_bytes());
-    assert_eq!(rt; ended, Status(status));
+    assert!(rt; out.written() == lines.as_bytes());
+    assert!(rt; ended == Status(status));
     Ok(())
 }
 
@@ -130,13 +130,13 @@ fn a_sound_file_is_sealed(rt: HostRuntime) -> Result<(), Fail> {
     let alloc = rt.alloc();
     let mut disk = disk_of(alloc, small_file(alloc)?)?;
     let mut out = sink_of(alloc, 1000, false)?;
-    assert_eq!(rt; seal_index(alloc, &mut disk, &mut out), Status(0));
-    assert_eq!(rt;
-        out.written(),
-        b"sealed 96faee49896294ab7b68c03e936284bfed837cd7a85819d3f573c3a6c6649e7a\n".as_slice()
+    assert!(rt; seal_index(alloc, &mut disk, &mut out) == Status(0));
+    assert!(rt;
+        out.written()
+            == b"sealed 96faee49896294ab7b68c03e936284bfed837cd7a85819d3f573c3a6c6649e7a\n".as_slice()
     );
     let mut out = sink_of(alloc, 1000, true)?;
-    assert_eq!(rt; seal_index(alloc, &mut disk, &mut out), Status(4));
+    assert!(rt; seal_index(alloc, &mut disk, &mut out) == Status(4));
     Ok(())
 }
 
@@ -147,11 +147,11 @@ fn a_file_with_a_fault_is_not_sealed(rt: HostRuntime) -> Result<(), Fail> {
     put(&mut file, 16387, &[0]);
     let mut disk = disk_of(alloc, file)?;
     let mut out = sink_of(alloc, 1000, false)?;
-    assert_eq!(rt; seal_index(alloc, &mut disk, &mut out), Status(1));
-    assert_eq!(rt; out.written().starts_with(b"rejected "), true);
+    assert!(rt; seal_index(alloc, &mut disk, &mut out) == Status(1));
+    assert!(rt; out.written().starts_with(b"rejected ") == true);
     let mut disk = disk_of(alloc, vec![in alloc; 0; 20480]?)?;
     let mut out = sink_of(alloc, 1000, false)?;
-    assert_eq!(rt; seal_index(alloc, &mut disk, &mut out), Status(6));
+    assert!(rt; seal_index(alloc, &mut disk, &mut out) == Status(6));
     Ok(())
 }
 
@@ -167,22 +167,16 @@ fn logs_are_carried(rt: HostRuntime) -> Result<(), Fail> {
     let mut log_in = source_of(alloc, bytes);
     let mut out = sink_of(alloc, 1000, false)?;
     let mut log_out = sink_of(alloc, 20000, false)?;
-    assert_eq!(rt;
-        carry_logs(alloc, &mut disk, &mut log_in, &mut out, &mut log_out),
-        Status(1)
+    assert!(rt; carry_logs(alloc, &mut disk, &mut log_in, &mut out, &mut log_out) == Status(1));
+    assert!(rt;
+        out.written()
+            == b"frame 0 carried\nframe 1 rejected otherstate 9 4 2 4\nlog rejected\n".as_slice()
     );
-    assert_eq!(rt;
-        out.written(),
-        b"frame 0 carried\nframe 1 rejected otherstate 9 4 2 4\nlog rejected\n".as_slice()
-    );
-    assert_eq!(rt; log_out.written().len(), 16814);
+    assert!(rt; log_out.written().len() == 16814);
     let mut log_in = source_of(alloc, b"MTLG".to_vec(alloc)?);
     let mut out = sink_of(alloc, 1000, false)?;
-    assert_eq!(rt;
-        carry_logs(alloc, &mut disk, &mut log_in, &mut out, &mut log_out),
-        Status(1)
-    );
-    assert_eq!(rt; out.written(), b"log rejected cut\n".as_slice());
+    assert!(rt; carry_logs(alloc, &mut disk, &mut log_in, &mut out, &mut log_out) == Status(1));
+    assert!(rt; out.written() == b"log rejected cut\n".as_slice());
     Ok(())
 }
 
@@ -269,15 +263,14 @@ fn no_carried_log_that_is_cut_is_accepted(rt: HostRuntime) -> Result<(), Fail> {
         let mut log_in = source_of(alloc, cut);
         let mut out = sink_of(alloc, 1000, false)?;
         let ended = prove_logs(alloc, &mut log_in, &ROOT, &mut out);
-        assert_eq!(rt; ended, Status(1), "a frame of {size} bytes");
+        assert!(rt; ended == Status(1), "a frame of {size} bytes");
     }
     for size in 1..bytes.len() {
         let mut log_in = source_of(alloc, bytes[..size].to_vec(alloc)?);
         let mut out = sink_of(alloc, 1000, false)?;
         prove_logs(alloc, &mut log_in, &ROOT, &mut out);
-        assert_eq!(rt;
-            out.written(),
-            b"log rejected cut\n".as_slice(),
+        assert!(rt;
+            out.written() == b"log rejected cut\n".as_slice(),
             "{size} bytes"
         );
     }
@@ -297,8 +290,8 @@ fn check_two<R: AllocGlobal + Abort>(
     let mut log_in = MemorySource::new(bytes, 1000, fails.to_vec(alloc)?);
     let mut out = sink_of(alloc, 1000, false)?;
     let ended = prove_logs(alloc, &mut log_in, &ROOT, &mut out);
-    assert_eq!(rt; out.written(), lines.as_bytes());
-    assert_eq!(rt; ended, Status(status));
+    assert!(rt; out.written() == lines.as_bytes());
+    assert!(rt; ended == Status(status));
     Ok(())
 }
 
@@ -350,9 +343,9 @@ fn a_line_stands_behind_its_frame(rt: HostRuntime) -> Result<(), Fail> {
         let mut out = sink_of(alloc, lines, false)?;
         let mut log_out = sink_of(alloc, frames, false)?;
         let ended = carry_logs(alloc, &mut disk, &mut log_in, &mut out, &mut log_out);
-        assert_eq!(rt; out.written(), text.as_bytes());
-        assert_eq!(rt; log_out.written().len(), framed);
-        assert_eq!(rt; ended, Status(status));
+        assert!(rt; out.written() == text.as_bytes());
+        assert!(rt; log_out.written().len() == framed);
+        assert!(rt; ended == Status(status));
     }
     Ok(())
 }

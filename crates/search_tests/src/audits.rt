@@ -52,7 +52,7 @@ fn check_changed<R: AllocGlobal + Abort>(
     requires { at ≤ 4095 }
 {
     let bytes = file_with(rt.alloc(), at, byte)?;
-    assert_eq!(rt; audit_of(rt.alloc(), &bytes, &LIVE), Err(fault));
+    assert!(rt; audit_of(rt.alloc(), &bytes, &LIVE) == Err(fault));
     Ok(())
 }
 
@@ -60,12 +60,12 @@ fn check_changed<R: AllocGlobal + Abort>(
 fn a_sound_index(rt: HostRuntime) -> Result<(), Fail> {
     laws::audit_faults_are_unsoundness();
     let bytes = file_with(rt.alloc(), 3, 1)?;
-    assert_eq!(rt;
-        audit_of(rt.alloc(), &bytes, &LIVE),
-        Ok(Audited {
-            objects: 1,
-            nodes: 1
-        })
+    assert!(rt;
+        audit_of(rt.alloc(), &bytes, &LIVE)
+            == Ok(Audited {
+                objects: 1,
+                nodes: 1
+            })
     );
     Ok(())
 }
@@ -104,15 +104,9 @@ fn faults_of_a_page(rt: HostRuntime) -> Result<(), Fail> {
 fn faults_of_the_slot(rt: HostRuntime) -> Result<(), Fail> {
     let bytes = file_with(rt.alloc(), 3, 1)?;
     let high = Live { height: 1, ..LIVE };
-    assert_eq!(rt;
-        audit_of(rt.alloc(), &bytes, &high),
-        Err(AuditFault::Fill(4))
-    );
+    assert!(rt; audit_of(rt.alloc(), &bytes, &high) == Err(AuditFault::Fill(4)));
     let two = Live { count: 2, ..LIVE };
-    assert_eq!(rt;
-        audit_of(rt.alloc(), &bytes, &two),
-        Err(AuditFault::Count { slot: 2, found: 1 })
-    );
+    assert!(rt; audit_of(rt.alloc(), &bytes, &two) == Err(AuditFault::Count { slot: 2, found: 1 }));
     Ok(())
 }
 
@@ -151,10 +145,7 @@ fn a_page_that_is_reached_twice(rt: HostRuntime) -> Result<(), Fail> {
             pages,
             ..LIVE
         };
-        assert_eq!(rt;
-            audit_of(rt.alloc(), &bytes, &live),
-            Err(AuditFault::Twice(pages - 1))
-        );
+        assert!(rt; audit_of(rt.alloc(), &bytes, &live) == Err(AuditFault::Twice(pages - 1)));
     }
     Ok(())
 }
@@ -191,18 +182,18 @@ fn parts_of_a_tree(rt: HostRuntime) -> Result<(), Fail> {
         ..LIVE
     };
     let part = part_of(alloc, &bytes, &live, 4)?;
-    assert_eq!(rt; part.pages.as_slice(), [4].as_slice());
-    assert_eq!(rt; part.ids.as_slice(), [0, 1, 2, 3, 4, 5].as_slice());
+    assert!(rt; part.pages.as_slice() == [4].as_slice());
+    assert!(rt; part.ids.as_slice() == [0, 1, 2, 3, 4, 5].as_slice());
     let root = part_of(alloc, &bytes, &live, 3);
-    assert_eq!(rt; root.err(), Some(AuditFault::Fill(3)));
+    assert!(rt; root.err() == Some(AuditFault::Fill(3)));
     let mut parts = Vec::new(alloc);
     parts.push(part)?;
     let whole = Audited {
         objects: 6,
         nodes: 2,
     };
-    assert_eq!(rt; join_parts(alloc, &live, &parts)?, Some(whole));
+    assert!(rt; join_parts(alloc, &live, &parts)? == Some(whole));
     parts.push(part_of(alloc, &bytes, &live, 4)?)?;
-    assert_eq!(rt; join_parts(alloc, &live, &parts)?, None);
+    assert!(rt; join_parts(alloc, &live, &parts)? == None);
     Ok(())
 }

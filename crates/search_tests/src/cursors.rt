@@ -73,8 +73,8 @@ fn all_objects_come_in_order_in_steps_of_any_length(rt: HostRuntime) -> Result<(
             let stepped = given(&rt, rt.alloc(), &bytes, &mut cursor, n);
             hits.extend_from_slice(stepped.hits.as_slice())?;
         }
-        assert_eq!(rt; hits.as_slice(), all.as_slice());
-        assert_eq!(rt; cursor.given(), 33);
+        assert!(rt; hits.as_slice() == all.as_slice());
+        assert!(rt; cursor.given() == 33);
     }
     Ok(())
 }
@@ -84,8 +84,8 @@ fn each_hit_has_its_tag(rt: HostRuntime) -> Result<(), Memory> {
     let bytes = two_leaves(rt.alloc(), Vec::new(rt.alloc()), 4)?;
     let mut cursor = cursor_at(rt.alloc(), 0)?;
     let stepped = given(&rt, rt.alloc(), &bytes, &mut cursor, 4);
-    assert_eq!(rt; stepped.tags.as_slice(), [100, 101, 102, 103].as_slice());
-    assert_eq!(rt; cursor.live(), LIVE);
+    assert!(rt; stepped.tags.as_slice() == [100, 101, 102, 103].as_slice());
+    assert!(rt; cursor.live() == LIVE);
     Ok(())
 }
 
@@ -97,7 +97,7 @@ fn a_leaf_is_read_when_it_may_hold_the_next(rt: HostRuntime) -> Result<(), Memor
         let mut cursor = cursor_at(rt.alloc(), q)?;
         let (stepped, count) = take(&rt, rt.alloc(), &bytes, &mut cursor, n);
         assert!(rt; stepped.is_ok());
-        assert_eq!(rt; (cursor.given(), count), (n, asked));
+        assert!(rt; (cursor.given(), count) == (n, asked));
     }
     Ok(())
 }
@@ -128,12 +128,12 @@ fn a_step_that_is_refused_leaves_the_cursor(rt: HostRuntime) -> Result<(), Memor
     }
     let mut cursor = cursor_at(rt.alloc(), 0)?;
     let first = ids_from(&rt, rt.alloc(), &torn, &mut cursor, 3)?;
-    assert_eq!(rt; first.as_slice(), [0, 1, 2].as_slice());
+    assert!(rt; first.as_slice() == [0, 1, 2].as_slice());
     let (refused, _) = take(&rt, rt.alloc(), &torn, &mut cursor, 20);
-    assert_eq!(rt; refused.err(), Some(PageFault::Bad(4, NodeFault::Kind)));
-    assert_eq!(rt; cursor.given(), 3);
+    assert!(rt; refused.err() == Some(PageFault::Bad(4, NodeFault::Kind)));
+    assert!(rt; cursor.given() == 3);
     let next = ids_from(&rt, rt.alloc(), &good, &mut cursor, 2)?;
-    assert_eq!(rt; next.as_slice(), [3, 4].as_slice());
+    assert!(rt; next.as_slice() == [3, 4].as_slice());
     Ok(())
 }
 
@@ -147,8 +147,8 @@ fn refusal(rt: &impl Abort, alloc: Global, second: u32) -> Result<Option<PageFau
 
 #[test]
 fn a_step_is_refused_where_it_meets_a_fault(rt: HostRuntime) -> Result<(), Memory> {
-    assert_eq!(rt; refusal(&rt, rt.alloc(), 4)?, None);
-    assert_eq!(rt; refusal(&rt, rt.alloc(), 9)?, Some(PageFault::Outside(9)));
-    assert_eq!(rt; refusal(&rt, rt.alloc(), 5)?, Some(PageFault::Repeats(5)));
+    assert!(rt; refusal(&rt, rt.alloc(), 4)? == None);
+    assert!(rt; refusal(&rt, rt.alloc(), 9)? == Some(PageFault::Outside(9)));
+    assert!(rt; refusal(&rt, rt.alloc(), 5)? == Some(PageFault::Repeats(5)));
     Ok(())
 }

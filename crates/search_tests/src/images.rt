@@ -70,7 +70,7 @@ fn ranges(rt: HostRuntime) -> Result<(), Fail> {
     for (c, radius, wanted) in &cases {
         let q = Point::new(alloc, &[*c])?;
         let found = range_outcome(alloc, &image, metric, &PAIR, &q, *radius)?;
-        assert_eq!(rt; text_of(alloc, &found)?.as_slice(), wanted.as_bytes());
+        assert!(rt; text_of(alloc, &found)?.as_slice() == wanted.as_bytes());
     }
     Ok(())
 }

@@ -70,8 +70,8 @@ fn ask(
 
 // Compares a record.
 fn check_record(rt: &impl Abort, record: &JoinRecord, right: bool, page: u32, marks: &[Mark]) {
-    assert_eq!(rt; (record.right, record.page), (right, page));
-    assert_eq!(rt; record.marks.as_slice(), marks);
+    assert!(rt; (record.right, record.page) == (right, page));
+    assert!(rt; record.marks.as_slice() == marks);
 }
 
 // How many marks of one kind all records have.
@@ -118,15 +118,12 @@ fn three_numbers_and_two(rt: HostRuntime) -> Result<(), Memory> {
     let Ok(joined) = joined else {
         panic!(rt; "the join is refused");
     };
-    assert_eq!(rt; joined.pairs.as_slice(), CLOSE.as_slice());
-    assert_eq!(rt; joined.log.answers.as_slice(), CLOSE.as_slice());
-    assert_eq!(rt;
-        (joined.log.left, joined.log.right, joined.log.r),
-        ((2, 3), (5, 3), 1)
-    );
-    assert_eq!(rt; (asked, used), ((2, 4), 6));
+    assert!(rt; joined.pairs.as_slice() == CLOSE.as_slice());
+    assert!(rt; joined.log.answers.as_slice() == CLOSE.as_slice());
+    assert!(rt; (joined.log.left, joined.log.right, joined.log.r) == ((2, 3), (5, 3), 1));
+    assert!(rt; (asked, used) == ((2, 4), 6));
     let records = joined.log.records.as_slice();
-    assert_eq!(rt; records.len(), 4);
+    assert!(rt; records.len() == 4);
     if let [first, second, third, fourth] = records {
         check_record(&rt, first, false, 3, &[Mark::Near, Mark::Near, Mark::Near]);
         check_record(&rt, second, true, 3, &[Mark::Far, Mark::Far]);
@@ -158,9 +155,9 @@ fn trees_of_heights_one_and_nought(rt: HostRuntime) -> Result<(), Memory> {
         right: 0,
         dist: 8,
     };
-    assert_eq!(rt; joined.pairs.as_slice(), [pair].as_slice());
-    assert_eq!(rt; joined.log.records.as_slice().len(), 36);
-    assert_eq!(rt; (asked, used), ((6, 34), 33));
+    assert!(rt; joined.pairs.as_slice() == [pair].as_slice());
+    assert!(rt; joined.log.records.as_slice().len() == 36);
+    assert!(rt; (asked, used) == ((6, 34), 33));
     Ok(())
 }
 
@@ -176,14 +173,14 @@ fn a_tree_joined_with_itself(rt: HostRuntime) -> Result<(), Memory> {
     let Ok(joined) = joined else {
         panic!(rt; "the join is refused");
     };
-    assert_eq!(rt; joined.pairs.as_slice().len(), 33);
+    assert!(rt; joined.pairs.as_slice().len() == 33);
     for pair in joined.pairs.as_slice() {
-        assert_eq!(rt; (pair.left, pair.dist), (pair.right, 0));
+        assert!(rt; (pair.left, pair.dist) == (pair.right, 0));
     }
-    assert_eq!(rt; joined.log.records.as_slice().len(), 38);
-    assert_eq!(rt; used, 100);
-    assert_eq!(rt; count(&joined, Mark::Far), 2 + 14 + 16);
-    assert_eq!(rt; count(&joined, Mark::Skip), 16 * 16 + 17 * 17 - 30 - 33);
+    assert!(rt; joined.log.records.as_slice().len() == 38);
+    assert!(rt; used == 100);
+    assert!(rt; count(&joined, Mark::Far) == 2 + 14 + 16);
+    assert!(rt; count(&joined, Mark::Skip) == 16 * 16 + 17 * 17 - 30 - 33);
     Ok(())
 }
 
@@ -206,9 +203,9 @@ fn a_tree_without_objects(rt: HostRuntime) -> Result<(), Memory> {
         let Ok(joined) = joined else {
             panic!(rt; "the join is refused");
         };
-        assert_eq!(rt; joined.pairs.as_slice().len(), 0);
-        assert_eq!(rt; joined.log.records.as_slice().len(), *records);
-        assert_eq!(rt; used, 0);
+        assert!(rt; joined.pairs.as_slice().len() == 0);
+        assert!(rt; joined.log.records.as_slice().len() == *records);
+        assert!(rt; used == 0);
     }
     Ok(())
 }
@@ -237,11 +234,11 @@ fn a_first_walk_is_refused_where_it_meets_a_fault(rt: HostRuntime) -> Result<(),
             live: &sound,
         };
         let (left, _, _) = ask(rt.alloc(), bad, fine, 0);
-        assert_eq!(rt; left.err(), Some(JoinFault::Left(*fault)));
+        assert!(rt; left.err() == Some(JoinFault::Left(*fault)));
         let (right, _, _) = ask(rt.alloc(), fine, bad, 0);
-        assert_eq!(rt; right.err(), Some(JoinFault::Right(*fault)));
+        assert!(rt; right.err() == Some(JoinFault::Right(*fault)));
         let (both, _, _) = ask(rt.alloc(), bad, bad, 0);
-        assert_eq!(rt; both.err(), Some(JoinFault::Left(*fault)));
+        assert!(rt; both.err() == Some(JoinFault::Left(*fault)));
     }
     Ok(())
 }
@@ -261,7 +258,7 @@ fn faults_as_words(rt: HostRuntime) -> Result<(), Fail> {
     ];
     for (fault, words) in &faults {
         let text = format!(in rt.alloc(); "{}", fault)?;
-        assert_eq!(rt; text.as_str(), *words);
+        assert!(rt; text.as_str() == *words);
     }
     Ok(())
 }
@@ -305,7 +302,7 @@ fn a_disk_that_fails(rt: HostRuntime) -> Result<(), Memory> {
     ];
     for (left_stop, right_stop, fault) in &stops {
         let found = refusal(rt.alloc(), *left_stop, *right_stop)?;
-        assert_eq!(rt; found, *fault);
+        assert!(rt; found == *fault);
     }
     Ok(())
 }

@@ -61,20 +61,14 @@ const NEAR: [Hit; 3] = [
 fn the_numbers_within_two_of_nought(rt: HostRuntime) -> Result<(), Memory> {
     let bytes = two_leaves(rt.alloc(), Vec::new(rt.alloc()), 4)?;
     let (found, asked, used) = ask(&rt, rt.alloc(), &bytes, &live(5, 6), 0, 2);
-    assert_eq!(rt; (asked, used), (2, 9));
+    assert!(rt; (asked, used) == (2, 9));
     let Ok(found) = found else {
         panic!(rt; "the search is refused");
     };
-    assert_eq!(rt; found.hits.as_slice(), NEAR.as_slice());
-    assert_eq!(rt;
-        (count(&found, 0, Mark::Near), count(&found, 0, Mark::Far)),
-        (1, 1)
-    );
-    assert_eq!(rt; count(&found, 1, Mark::Near), 3);
-    assert_eq!(rt;
-        (count(&found, 1, Mark::Skip), count(&found, 1, Mark::Far)),
-        (9, 4)
-    );
+    assert!(rt; found.hits.as_slice() == NEAR.as_slice());
+    assert!(rt; (count(&found, 0, Mark::Near), count(&found, 0, Mark::Far)) == (1, 1));
+    assert!(rt; count(&found, 1, Mark::Near) == 3);
+    assert!(rt; (count(&found, 1, Mark::Skip), count(&found, 1, Mark::Far)) == (9, 4));
     Ok(())
 }
 
@@ -93,8 +87,8 @@ fn a_sphere_that_is_just_reached_is_opened(rt: HostRuntime) -> Result<(), Memory
     let Ok(found) = found else {
         panic!(rt; "the search is refused");
     };
-    assert_eq!(rt; found.hits.as_slice(), AROUND.as_slice());
-    assert_eq!(rt; asked, 3);
+    assert!(rt; found.hits.as_slice() == AROUND.as_slice());
+    assert!(rt; asked == 3);
     Ok(())
 }
 
@@ -108,7 +102,7 @@ fn refusal(rt: &impl Abort, alloc: Global, child: u32) -> Result<Option<PageFaul
 #[test]
 fn a_walk_is_refused_where_it_meets_a_fault(rt: HostRuntime) -> Result<(), Memory> {
     laws::walk_has_one_course();
-    assert_eq!(rt; refusal(&rt, rt.alloc(), 4)?, Some(PageFault::Repeats(4)));
-    assert_eq!(rt; refusal(&rt, rt.alloc(), 9)?, Some(PageFault::Outside(9)));
+    assert!(rt; refusal(&rt, rt.alloc(), 4)? == Some(PageFault::Repeats(4)));
+    assert!(rt; refusal(&rt, rt.alloc(), 9)? == Some(PageFault::Outside(9)));
     Ok(())
 }

@@ -78,8 +78,8 @@ fn check_tags<R: AllocGlobal + Abort, P: Pages>(
     let found = found_of(rt.alloc(), ids, marked)?;
     let tags = tags_of(rt.alloc(), pages, live, &found);
     match (tags, wanted) {
-        (Ok(tags), Ok(wanted)) => assert_eq!(rt; tags.as_slice(), wanted),
-        (Err(fault), Err(wanted)) => assert_eq!(rt; fault, wanted),
+        (Ok(tags), Ok(wanted)) => assert!(rt; tags.as_slice() == wanted),
+        (Err(fault), Err(wanted)) => assert!(rt; fault == wanted),
         _ => assert!(rt; false),
     }
     Ok(())
@@ -117,7 +117,7 @@ fn a_hit_has_the_tag_of_its_object_where_the_walk_meets_it(rt: HostRuntime) -> R
         let mut pages = ImagePages::new(&bytes, 1, 6);
         let ids = [3, 17, 40, 2];
         check_tags(&rt, &mut pages, &NUMBERS, &ids, marked, Ok(wanted))?;
-        assert_eq!(rt; pages.asked, *asked);
+        assert!(rt; pages.asked == *asked);
     }
     Ok(())
 }
@@ -200,10 +200,10 @@ fn a_page_of_which_nothing_is_near_is_not_opened(rt: HostRuntime) -> Result<(), 
         let mut pages = DiskPages::new(&mut disk, 1, 6);
         let found = found_of(rt.alloc(), &[3, 17], marked)?;
         match marked_tags(rt.alloc(), &mut pages, &NUMBERS, &found) {
-            Ok(tags) => assert_eq!(rt; tags.as_slice(), wanted.as_slice()),
+            Ok(tags) => assert!(rt; tags.as_slice() == wanted.as_slice()),
             Err(_) => assert!(rt; false),
         }
-        assert_eq!(rt; pages.asked, *asked);
+        assert!(rt; pages.asked == *asked);
     }
     fs::remove_file(&rt, path)?;
     Ok(())

@@ -145,9 +145,9 @@ fn check_whole<R: AllocGlobal + Abort + Threads + Sync, D: Disk>(
     let mut out = sink_of(alloc, &[])?;
     let mut log_out = sink_of(alloc, &[])?;
     let ended = run(rt, disk, case.script, case.show, &mut out, &mut log_out)?;
-    assert_eq!(rt; (ended.acknowledged, ended.stopped), (case.commands, None));
-    assert_eq!(rt; out.written(), case.replies.as_bytes());
-    assert_eq!(rt; count_logs(alloc, log_out.written())?, case.logs);
+    assert!(rt; (ended.acknowledged, ended.stopped) == (case.commands, None));
+    assert!(rt; out.written() == case.replies.as_bytes());
+    assert!(rt; count_logs(alloc, log_out.written())? == case.logs);
     Ok(())
 }
 
@@ -291,13 +291,10 @@ fn check_broken<R: AllocGlobal + Abort + Threads + Sync, D: Disk>(
     let mut out = sink_of(alloc, case.fails)?;
     let mut log_out = sink_of(alloc, case.log_fails)?;
     let ended = run(rt, disk, MIXED, false, &mut out, &mut log_out)?;
-    assert_eq!(rt;
-        (ended.acknowledged, ended.stopped),
-        (case.acknowledged, Some(Stop::Sink))
-    );
-    assert_eq!(rt; out.written(), case.replies.as_bytes());
-    assert_eq!(rt; count_logs(alloc, log_out.written())?, case.logs);
-    assert_eq!(rt; open_on(disk)?.count(), case.count);
+    assert!(rt; (ended.acknowledged, ended.stopped) == (case.acknowledged, Some(Stop::Sink)));
+    assert!(rt; out.written() == case.replies.as_bytes());
+    assert!(rt; count_logs(alloc, log_out.written())? == case.logs);
+    assert!(rt; open_on(disk)?.count() == case.count);
     Ok(())
 }
 
@@ -339,12 +336,12 @@ fn run_stopped<R: AllocGlobal + Abort + Threads + Sync, D: Disk>(
     } else {
         Some(Stop::Disk)
     };
-    assert_eq!(rt; ended.stopped, done);
+    assert!(rt; ended.stopped == done);
     let (replies, objects) = WRITTEN
         .get(ended.acknowledged as usize)
         .copied()
         .ok_or("more replies than commands")?;
-    assert_eq!(rt; out.written(), replies.as_bytes());
+    assert!(rt; out.written() == replies.as_bytes());
     Ok(objects)
 }
 
@@ -380,7 +377,7 @@ fn a_session_is_stopped_at_each_call_of_its_disk(rt: HostRuntime) -> Result<(), 
             goes_on(&rt, &mut again, objects)?;
         }
     }
-    assert_eq!(&rt; objects, 4);
+    assert!(&rt; objects == 4);
     Ok(())
 }
 
@@ -430,7 +427,7 @@ fn a_cursor_holds_the_pages_of_its_tree(rt: HostRuntime) -> Result<(), Fail> {
     let alloc = rt.alloc();
     for (script, more, root) in ROOTS {
         let mut disk = empty_disk(alloc, None)?;
-        assert_eq!(rt; root_after(&rt, &mut disk, script, more)?, root);
+        assert!(rt; root_after(&rt, &mut disk, script, more)? == root);
     }
     Ok(())
 }
@@ -466,8 +463,8 @@ fn check_damaged<R: AllocGlobal + Abort + Threads + Sync, D: Disk>(
     let script = b"count\nhello\nrange,0,7\ncount\n";
     let ended = run(rt, disk, script, false, &mut out, &mut log_out)?;
     assert!(rt; matches!(ended.stopped, Some(Stop::Damaged(PageFault::Bad(4, _)))));
-    assert_eq!(rt; ended.acknowledged, 2);
-    assert_eq!(rt; out.written(), b"count 1\nrefused command\n".as_slice());
+    assert!(rt; ended.acknowledged == 2);
+    assert!(rt; out.written() == b"count 1\nrefused command\n".as_slice());
     assert!(rt; log_out.written().is_empty());
     Ok(())
 }

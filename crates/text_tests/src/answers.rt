@@ -73,10 +73,10 @@ fn check<R: AllocGlobal + Abort>(rt: &R, case: &Case<'_>) -> Result<(), Fail> {
     let mut out = sink(alloc, case.out_fails)?;
     let mut log_out = sink(alloc, case.log_fails)?;
     let done = texts.put(&mut out, &mut log_out).is_ok();
-    assert_eq!(rt; done, case.done, "{}", case.name);
-    assert_eq!(rt; out.written(), case.text.as_bytes(), "{}", case.name);
+    assert!(rt; done == case.done, "{}", case.name);
+    assert!(rt; out.written() == case.text.as_bytes(), "{}", case.name);
     let framed = FRAME.get(..case.framed).unwrap_or(&FRAME);
-    assert_eq!(rt; log_out.written(), framed, "{}", case.name);
+    assert!(rt; log_out.written() == framed, "{}", case.name);
     Ok(())
 }
 

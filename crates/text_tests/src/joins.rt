@@ -44,6 +44,6 @@ fn the_pairs_of_a_double_loop(rt: HostRuntime) -> Result<(), Fail> {
             dist: 0,
         },
     ];
-    assert_eq!(rt; pairs.as_slice(), within.as_slice());
+    assert!(rt; pairs.as_slice() == within.as_slice());
     Ok(())
 }

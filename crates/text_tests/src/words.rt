@@ -65,10 +65,10 @@ fn check_jobs<R: AllocGlobal + Abort>(
     for (line, expected) in cases {
         let words = words(alloc, line)?;
         match read_job(alloc, &words) {
-            Ok(job) => assert_eq!(rt; Some(job), *expected),
+            Ok(job) => assert!(rt; Some(job) == *expected),
             Err(fault) => {
-                assert_eq!(rt; fault, JobFault::Usage);
-                assert_eq!(rt; None, *expected);
+                assert!(rt; fault == JobFault::Usage);
+                assert!(rt; None == *expected);
             }
         }
     }
@@ -464,14 +464,14 @@ fn jobs_name_their_files(rt: HostRuntime) -> Result<(), Fail> {
     for (line, expected) in cases {
         let words = words(alloc, line)?;
         match places(alloc, &words) {
-            Ok(files) => assert_eq!(rt; files, expected),
+            Ok(files) => assert!(rt; files == expected),
             Err(fault) => panic!(rt; "{line}: {fault}"),
         }
     }
     let words = words(alloc, "shape a.mt --help")?;
     match places(alloc, &words) {
         Ok(_) => panic!(rt; "files of no job"),
-        Err(fault) => assert_eq!(rt; fault, PlacesFault::Usage),
+        Err(fault) => assert!(rt; fault == PlacesFault::Usage),
     }
     Ok(())
 }
@@ -489,12 +489,12 @@ fn names_have_their_numbers(rt: HostRuntime) -> Result<(), Fail> {
         MetricName::L1Cap,
     ];
     for (metric, kind) in metrics.iter().zip(&[1u8, 2, 3, 4, 5, 6, 7, 8]) {
-        assert_eq!(rt; metric.kind(), *kind);
+        assert!(rt; metric.kind() == *kind);
     }
-    assert_eq!(rt; Promote::Mrad.number(), 1);
-    assert_eq!(rt; Promote::Mmrad.number(), 2);
-    assert_eq!(rt; Split::Hyperplane.number(), 1);
-    assert_eq!(rt; Split::Balanced.number(), 2);
+    assert!(rt; Promote::Mrad.number() == 1);
+    assert!(rt; Promote::Mmrad.number() == 2);
+    assert!(rt; Split::Hyperplane.number() == 1);
+    assert!(rt; Split::Balanced.number() == 2);
     reads_as_clap();
     Ok(())
 }
