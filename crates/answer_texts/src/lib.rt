@@ -1,7 +1,7 @@
 //! What is written for a command that was answered: the text of its reply, and the frame of its query's log.
 #![tactic(auto)]
 
-ghost use Rattle.std.specs.Prelude.{◌≡◌, ◌≤◌, ◌⊎◌, true, IfOk, OnOk, OnErr, MatchOption};
+ghost use Rattle.std.specs.Prelude.{◌≡◌, ◌≤◌, ◌⊎◌, ◌++◌, true, IfOk, OnOk, OnErr, MatchOption};
 ghost use Rattle.std.specs.Io.KnownBytes.{Appends};
 ghost use Rattle.outside_io.specs.Causes.{Rose};
 ghost use Rattle.rows_text.specs.Meaning.{TagsAre};
@@ -23,6 +23,29 @@ pub struct Texts {
     frame: Vec<u8>,
 }
 
+/// Adds what is written for a command with this reply and this log: the text of the reply to `replies`, and the frame of the
+/// log, where there is one, to `frames`. A hit is written with its tag where tags are shown.
+pub fn add_texts(
+    alloc: Global,
+    reply: &Reply,
+    log: &Option<Log>,
+    show: bool,
+    replies: &mut Vec<u8>,
+    frames: &mut Vec<u8>,
+) -> Result<(), Memory>
+    requires spelled { MatchOption log.now (Unit {0}) IsLawfulLog }
+    requires tagged { show ≡ true → TagsAre reply.now }
+    ensures reply { OnOk result (replies.new.items ≡ replies.old.items ++ text show reply.now) }
+    ensures frame { OnOk result (frames.new.items ≡ frames.old.items ++ framed (if_any log.now)) }
+{
+    reply_text(reply, show, replies)?;
+    if let Some(log) = log {
+        let bytes = encode_log(alloc, log)?;
+        frame(&bytes, frames)?;
+    }
+    Ok(())
+}
+
 /// What is written for a command with this reply and this log. A hit is written with its tag where tags are shown.
 pub fn texts_of(
     alloc: Global,
@@ -35,22 +58,38 @@ pub fn texts_of(
     ensures reply { IfOk result (λ texts. texts.reply.items ≡ text show reply.now) }
     ensures frame { IfOk result (λ texts. texts.frame.items ≡ framed (if_any log.now)) }
 {
-    let mut text = Vec::new(alloc);
-    reply_text(reply, show, &mut text)?;
-    let mut framed = Vec::new(alloc);
-    if let Some(log) = log {
-        let bytes = encode_log(alloc, log)?;
-        frame(&bytes, &mut framed)?;
+    let mut texts = Texts {
+        reply: Vec::new(alloc),
+        frame: Vec::new(alloc),
+    };
+    add_texts(alloc, reply, log, show, &mut texts.reply, &mut texts.frame)?;
+    Ok(texts)
+}
+
+/// Puts the frame of a log to `log_out`, where there is one, and then the text of a reply to `out`, each in one put. So a reply
+/// is never there without its log.
+pub fn put_texts<K: Sink, T: Sink>(
+    reply: &[u8],
+    frame: &[u8],
+    out: &mut K,
+    log_out: &mut T,
+) -> Result<(), Failed>
+    ensures reply { OnOk result (Appends (K.state out.old).written (K.state out.new).written reply.now) }
+    ensures frame { OnOk result (Appends (T.state log_out.old).written (T.state log_out.new).written frame.now) }
+    ensures cut { OnErr result (IsCut (K.state out.old) (K.state out.new) (T.state log_out.old) (T.state log_out.new) reply.now frame.now) }
+    ensures rose { OnErr result (Rose (K.state out.old).faults (K.state out.new).faults
+        ⊎ Rose (T.state log_out.old).faults (T.state log_out.new).faults) }
+    ensures later { (K.state out.old).faults ≤ (K.state out.new).faults }
+    ensures log_later { (T.state log_out.old).faults ≤ (T.state log_out.new).faults }
+{
+    if !frame.is_empty() {
+        log_out.put(frame)?;
     }
-    Ok(Texts {
-        reply: text,
-        frame: framed,
-    })
+    out.put(reply)
 }
 
 impl Texts {
-    /// Puts the frame of the log to `log_out`, where there is one, and then the text of the reply to `out`, each in one put. So
-    /// a reply is never there without its log.
+    /// Puts them as `put_texts` does.
     pub fn put<K: Sink, T: Sink>(&self, out: &mut K, log_out: &mut T) -> Result<(), Failed>
         ensures reply { OnOk result (Appends (K.state out.old).written (K.state out.new).written self.now.reply.items) }
         ensures frame { OnOk result (Appends (T.state log_out.old).written (T.state log_out.new).written self.now.frame.items) }
@@ -61,9 +100,6 @@ impl Texts {
         ensures later { (K.state out.old).faults ≤ (K.state out.new).faults }
         ensures log_later { (T.state log_out.old).faults ≤ (T.state log_out.new).faults }
     {
-        if !self.frame.is_empty() {
-            log_out.put(&self.frame)?;
-        }
-        out.put(&self.reply)
+        put_texts(&self.reply, &self.frame, out, log_out)
     }
 }

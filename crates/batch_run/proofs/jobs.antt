@@ -1,3 +1,4 @@
+pub mod Piling
 pub mod Puts
 pub mod OneRun
 pub mod Running

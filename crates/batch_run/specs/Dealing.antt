@@ -1,11 +1,15 @@
 -- How the places of a piece of work are dealt out among workers.
-use Rattle.std.specs.Prelude.{◌≡◌, ◌≢◌, ℕ, ◌+◌, ◌-◌, ◌*◌, ◌/◌, ◌%◌, ◌<◌, List, length, Option, Some, None, Result, Ok, slice_get, if◌then◌else◌, nat_lt}
+use Rattle.std.specs.Prelude.{◌≡◌, ◌≢◌, ℕ, ◌+◌, ◌-◌, ◌*◌, ◌/◌, ◌%◌, ◌^◌, ◌<◌, ◌≤◌, List, length, Option, Some, None, Result, Ok, slice_get, if◌then◌else◌, nat_lt}
 use Rattle.std.specs.declared.alloc.AllocError.{AllocError}
 
 -- so many rounds, each of which gives each of so many workers one place
 pub record Rounds : Type 0 where
   pub rounds : ℕ
   pub workers : ℕ
+
+-- there is a round and a worker, and there are not too many of them
+abbrev pub IsDeal : Rounds → Type 0
+IsDeal d = (1 ≤ d.rounds) × (d.rounds < 2 ^ 33) × (1 ≤ d.workers) × (d.workers ≤ 64)
 
 -- by how much the turns of a round are shifted: the next round by one more, and after as many rounds as there are workers by one more still
 abbrev pub shift_of : Rounds → ℕ → ℕ

@@ -2,6 +2,7 @@
 mod audit_job;
 mod batch_job;
 pub mod laws;
+mod piles;
 mod preparing;
 mod putting;
 mod stop;

@@ -1,16 +1,16 @@
 -- What is put of what was prepared, one after another.
-use Rattle.std.proofs.Common.{◌≡◌, ◌⊎◌, ℕ, suc, ◌+◌, ◌<◌, ◌≤◌, List, [], ◌∷◌, ◌++◌, length, take, drop, get_or, inl, inr, refl, sym, ap, ◌∙◌, append_assoc, Ok, Err}
+use Rattle.std.proofs.Common.{◌≡◌, ◌⊎◌, ℕ, suc, ◌<◌, ◌≤◌, List, [], ◌∷◌, ◌++◌, length, take, drop, get_or, inl, inr, refl, sym, ap, ◌∙◌, append_assoc, Ok, Err}
 use Rattle.std.specs.List.{AllByRecursion}
 use Rattle.std.specs.Io.KnownBytes.{Appends}
 use Rattle.std.proofs.KnownBytes.{Appends-nil, Appends-trans}
-use Rattle.std.proofs.lemmas.List.{append-nil, take_more, take-append-drop}
+use Rattle.std.proofs.lemmas.List.{append-nil, take-append-drop}
 use Rattle.std.proofs.Math.Seq.{drop-cons}
 use Rattle.outside_io.specs.Causes.{Rose}
 use Rattle.outside_io.specs.Sinks.{SinkState}
 use Rattle.metric_laws.proofs.Published.{all_append}
 use Rattle.answer_texts.specs.Put.{IsCut}
 use Rattle.answer_texts.proofs.Published.{cut_behind}
-use Rattle.batch_run.specs.declared.jobs.preparing.Prepared.{Prepared}
+use Rattle.batch_run.specs.declared.jobs.piles.Prepared.{Prepared}
 use Rattle.batch_run.specs.declared.jobs.stop.Stop.{Stop}
 use Rattle.batch_run.specs.declared.jobs.stop.Stop.TheVariants as stop
 use Rattle.batch_run.specs.Jobs.Putting.{ArePut, Follows, IsDone, IsPut, all_logged, all_said, logged, said}
@@ -33,11 +33,9 @@ pub record SoFar (ps : List Prepared) (out0 out1 log0 log1 : SinkState) : Type 0
 pub begun : (out log : SinkState) → SoFar [] out out log log
 begun out log = record { done = tt; written = Appends-nil out.written; framed = Appends-nil log.written }
 
-pub next_taken : (ps : List Prepared) (i : ℕ) (o : Prepared) → i < length ps → o ≡ get_or ps i o → take (i + 1) ps ≡ take i ps ++ o ∷ []
-next_taken ps i o low is = take_more ps i o low ∙ ap (λ (p : Prepared). take i ps ++ p ∷ []) (sym is)
-
-pub next_left : (ps : List Prepared) (i : ℕ) (o : Prepared) → i < length ps → o ≡ get_or ps i o → ps ≡ take i ps ++ o ∷ drop (suc i) ps
-next_left ps i o low is = sym (take-append-drop i ps) ∙ ap (λ (rest : List Prepared). take i ps ++ rest) (drop-cons ps i o low ∙ ap (λ (p : Prepared). p ∷ drop (suc i) ps) (sym is))
+-- what was put, and what is left
+pub left_from : (ps : List Prepared) (i : ℕ) (o : Prepared) → i < length ps → ps ≡ take i ps ++ get_or ps i o ∷ drop (suc i) ps
+left_from ps i o low = sym (take-append-drop i ps) ∙ ap (λ (rest : List Prepared). take i ps ++ rest) (drop-cons ps i o low)
 
 pub either_more : (out0 out1 out2 log0 log1 log2 : SinkState) → out0.faults ≤ out1.faults → log0.faults ≤ log1.faults → Rose out1.faults out2.faults ⊎ Rose log1.faults log2.faults →
     Rose out0.faults out2.faults ⊎ Rose log0.faults log2.faults

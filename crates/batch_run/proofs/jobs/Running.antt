@@ -23,8 +23,8 @@ use Rattle.answer_texts.proofs.Published.{framed_both, told_behind}
 use Rattle.image_answers.specs.declared.outcome.Outcome.{Outcome}
 use Rattle.image_answers.specs.declared.outcome.Outcome.TheVariants as outcome
 use Rattle.image_answers.specs.Outcomes.{HasDamage, IsOutcomeOf, IsTold as IsAnswered, IsTurn}
-use Rattle.batch_run.specs.declared.jobs.preparing.Prepared.{Prepared}
-use Rattle.batch_run.specs.declared.jobs.preparing.Prepared.TheVariants as prepared
+use Rattle.batch_run.specs.declared.jobs.piles.Prepared.{Prepared}
+use Rattle.batch_run.specs.declared.jobs.piles.Prepared.TheVariants as prepared
 use Rattle.batch_run.specs.Jobs.Preparing.{IsPrepared, IsPreparedFor}
 use Rattle.batch_run.specs.declared.jobs.stop.Stop.{Stop}
 use Rattle.batch_run.specs.declared.jobs.stop.Stop.TheVariants as stop
@@ -55,7 +55,7 @@ module _ (s : Space) (live : Live) (image : List ℕ) (show : Bool) where
 
   -- what is prepared on a sound image, as a turn
   turn_by : (c : Command) (o : Outcome) (p : Prepared) → Sound → IsOutcomeOf s live image c o → IsPrepared show o p → IsSaidBy c p
-  turn_by c (outcome.Done r log) (prepared.Said texts) sound is ready = (record { command = c; reply = r; log = log }, refl, is.meant sound, sym ready.0, sym ready.1)
+  turn_by c (outcome.Done r log) (prepared.Said reply frame) sound is ready = (record { command = c; reply = r; log = log }, refl, is.meant sound, sym ready.0, sym ready.1)
   turn_by c (outcome.Done r log) (prepared.Damaged named) sound is ready = absurd ready
   turn_by c (outcome.Damaged fault) p sound is ready = absurd (is.meant sound)
 

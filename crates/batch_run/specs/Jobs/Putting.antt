@@ -6,23 +6,23 @@ use Rattle.outside_io.specs.Sinks.{SinkState, Tells}
 use Rattle.file_jobs.specs.Lines.{damaged_text}
 use Rattle.answer_texts.specs.Put.{AreCut, IsCut}
 use Rattle.page_store.specs.Shelf.{IsDamage}
-use Rattle.batch_run.specs.declared.jobs.preparing.Prepared.{Prepared}
-use Rattle.batch_run.specs.declared.jobs.preparing.Prepared.TheVariants as prepared
+use Rattle.batch_run.specs.declared.jobs.piles.Prepared.{Prepared}
+use Rattle.batch_run.specs.declared.jobs.piles.Prepared.TheVariants as prepared
 use Rattle.batch_run.specs.declared.jobs.stop.Stop.{Stop}
 use Rattle.batch_run.specs.declared.jobs.stop.Stop.TheVariants as stop
 
 -- it is an answer
 abbrev pub IsDone : Prepared → Type 0
-IsDone (prepared.Said texts) = Unit {0}
+IsDone (prepared.Said reply frame) = Unit {0}
 IsDone (prepared.Damaged fault) = ⊥
 
 -- the text of its reply, and the frame of its log
 abbrev pub said : Prepared → List ℕ
-said (prepared.Said texts) = texts.reply.items
+said (prepared.Said reply frame) = reply.now
 said (prepared.Damaged fault) = []
 
 abbrev pub logged : Prepared → List ℕ
-logged (prepared.Said texts) = texts.frame.items
+logged (prepared.Said reply frame) = frame.now
 logged (prepared.Damaged fault) = []
 
 -- those of several, one after another

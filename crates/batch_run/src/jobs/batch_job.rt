@@ -11,7 +11,8 @@ ghost use Rattle.file_jobs.specs.Spaces.{space_of};
 ghost use Rattle.batch_run.specs.Jobs.Batches.{HasFinished, HasOpened, IsBatchStatus, IsTooLong, RunsBatch, RunsOn};
 ghost use Rattle.batch_run.specs.Jobs.Putting.{HasEnded};
 
-use crate::jobs::preparing::{Manner, prepare_all};
+use crate::dealing::Deal;
+use crate::jobs::preparing::{in_turn, prepare_all};
 use crate::jobs::putting::put_all;
 use crate::jobs::stop::Stop;
 use crate::laws::images_hold_the_file;
@@ -46,8 +47,10 @@ fn end_stopped<K: Sink>(alloc: Global, why: Stop, out: &mut K) -> Status
 struct Task<'a> {
     // The bytes of the script.
     bytes: &'a [u8],
-    // How its commands are answered.
-    manner: Manner,
+    // Whether a hit is written with its tag.
+    show_tags: bool,
+    // How many threads there may be.
+    workers: usize,
 }
 
 // Does a task on an image of the index.
@@ -63,11 +66,11 @@ fn run_on_image<R: Threads + Sync, K: Sink, T: Sink>(
 ) -> Status
     requires head { IsLawfulHead head.now }
     requires pages { live.now.pages ≤ 2 ^ 24 }
-    requires some { 1 ≤ task.now.manner.workers }
-    requires many { task.now.manner.workers ≤ 64 }
+    requires some { 1 ≤ task.now.workers }
+    requires many { task.now.workers ≤ 64 }
     requires few { length task.now.bytes.now ≤ 2 ^ 26 }
     ensures runs { IsSoundTree (space_of head.now) (nodes_in head.now.dim live.now image.now) live.now →
-        RunsOn task.now.manner.show_tags task.now.bytes.now (space_of head.now) (held_in head.now.dim live.now image.now)
+        RunsOn task.now.show_tags task.now.bytes.now (space_of head.now) (held_in head.now.dim live.now image.now)
         (K.state out.old) (K.state out.new) (T.state log_out.old) (T.state log_out.new) result.0 }
     ensures finished { HasFinished (space_of head.now) live.now image.now (K.state out.old) (K.state out.new) (T.state log_out.old)
         (T.state log_out.new) result.0 }
@@ -78,7 +81,20 @@ fn run_on_image<R: Threads + Sync, K: Sink, T: Sink>(
     let Ok(commands) = read_script(alloc, task.bytes, space.words()) else {
         return end_with(out, FAULT_MEMORY, 8);
     };
-    let Ok(prepared) = prepare_all(rt, alloc, image, space, live, &commands, task.manner) else {
+    let deal = Deal::of(commands.len(), task.workers);
+    let Ok(piles) = prepare_all(
+        rt,
+        alloc,
+        image,
+        space,
+        live,
+        &commands,
+        task.show_tags,
+        &deal,
+    ) else {
+        return end_with(out, FAULT_MEMORY, 8);
+    };
+    let Ok(prepared) = in_turn(alloc, &deal, commands.len(), &piles) else {
         return end_with(out, FAULT_MEMORY, 8);
     };
     match put_all(&prepared, out, log_out) {
@@ -111,10 +127,10 @@ fn run_on_index<R: Threads + Sync, D: Disk, K: Sink, T: Sink>(
     out: &mut K,
     log_out: &mut T,
 ) -> Status
-    requires some { 1 ≤ task.now.manner.workers }
-    requires many { task.now.manner.workers ≤ 64 }
+    requires some { 1 ≤ task.now.workers }
+    requires many { task.now.workers ≤ 64 }
     requires few { length task.now.bytes.now ≤ 2 ^ 26 }
-    ensures opened { HasOpened task.now.manner.show_tags task.now.bytes.now (D.state index.old) (D.state index.new) (K.state out.old)
+    ensures opened { HasOpened task.now.show_tags task.now.bytes.now (D.state index.old) (D.state index.new) (K.state out.old)
         (K.state out.new) (T.state log_out.old) (T.state log_out.new) result.0 }
     ensures later { (K.state out.old).faults ≤ (K.state out.new).faults }
     ensures log_later { (T.state log_out.old).faults ≤ (T.state log_out.new).faults }
@@ -168,7 +184,8 @@ pub fn run_batch<R: Threads + Sync, D: Disk, S: Source, K: Sink, T: Sink>(
         Ok(bytes) => {
             let task = Task {
                 bytes: &bytes,
-                manner: Manner { show_tags, workers },
+                show_tags,
+                workers,
             };
             run_on_index(rt, alloc, index, &task, out, log_out)
         }

@@ -1,72 +1,89 @@
-//! What is to be put for commands, which the workers of a batch prepare.
+//! What is to be put for the commands of a batch, which its workers prepare.
 
-ghost use Rattle.std.specs.Prelude.{◌≡◌, ◌≤◌, ◌<◌, ◌^◌, All, length, slice_index_or, IfOk};
-ghost use Rattle.std.specs.List.{AllZip};
+ghost use Rattle.std.specs.Prelude.{◌≡◌, ◌≤◌, ◌<◌, ◌*◌, ◌^◌, All, length, map, Ok, IfOk, OnOk};
 ghost use Rattle.rows_text.specs.Readable.{IsReadable};
-ghost use Rattle.image_answers.specs.Outcomes.{IsLawful};
-ghost use Rattle.batch_run.specs.Jobs.Preparing.{IsPrepared, IsPreparedFor};
+ghost use Rattle.batch_run.specs.Dealing.{IsDeal};
+ghost use Rattle.batch_run.specs.Jobs.Preparing.{ArePiles, AreShown, AreStacked, HasMoreFor, IsPileIn};
 
 use crate::Memory;
 use crate::batching::outcome_of;
-use crate::dealing::share_evenly;
-use answer_texts::{Texts, texts_of};
-use image_answers::Outcome;
+use crate::dealing::Deal;
+use crate::jobs::piles::{Pile, Prepared};
 use metric_laws::Metric;
-use page_store::PageFault;
+use par_work::share;
 use rows_text::Command;
 use std::alloc::Global;
 use std::thread::Threads;
 use tree_shape::Live;
 
-/// What is to be put for one command.
-#[derive(Drop)]
-pub enum Prepared {
-    /// The text of its reply, and the frame of its log.
-    Said(Texts),
-
-    /// Nothing: the search of its query came to this damaged page.
-    Damaged(PageFault),
-}
-
-/// How commands are answered.
-#[derive(Clone, Copy)]
-pub struct Manner {
-    /// Whether a hit is written with its tag.
-    pub show_tags: bool,
-    /// How many threads there may be.
-    pub workers: usize,
-}
-
-// What is to be put of an outcome.
-fn prepare(alloc: Global, outcome: &Outcome, show: bool) -> Result<Prepared, Memory>
-    requires { IsLawful outcome.now }
-    ensures { IfOk result (IsPrepared show outcome.now) }
-{
-    match outcome {
-        Outcome::Done { reply, log } => Ok(Prepared::Said(texts_of(alloc, reply, log, show)?)),
-        Outcome::Damaged(fault) => Ok(Prepared::Damaged(*fault)),
-    }
-}
-
-// What is to be put for one command.
-fn prepare_for<M: Metric>(
+// Adds what is to be put for one more command.
+fn add_for<M: Metric>(
     alloc: Global,
     image: &[u8],
     metric: M,
     live: &Live,
     command: &Command,
     show: bool,
-) -> Result<Prepared, Memory>
+    pile: &mut Pile,
+) -> Result<(), Memory>
     requires pages { live.now.pages ≤ 2 ^ 24 }
     requires readable { IsReadable (M.space metric).words command.now }
-    ensures { IfOk result (IsPreparedFor (M.space metric) live.now image.now show command.now) }
+    ensures { OnOk result (HasMoreFor (M.space metric) live.now image.now show command.now pile.old pile.new) }
 {
     let outcome = outcome_of(alloc, image, metric, live, command)?;
-    prepare(alloc, &outcome, show)
+    pile.add(alloc, &outcome, show)
 }
 
-/// What is to be put for each command of a script on the file with these bytes, in the commands' order. The workers, 1 to 64,
-/// share the commands evenly; each writes what its own come to, so that no log is held but as its bytes.
+// What is to be put for the commands that are dealt to a worker, round by round.
+fn pile_of<M: Metric>(
+    alloc: Global,
+    image: &[u8],
+    metric: M,
+    live: &Live,
+    commands: &[Command],
+    show: bool,
+    deal: &Deal,
+    worker: usize,
+) -> Result<Pile, Memory>
+    requires pages { live.now.pages ≤ 2 ^ 24 }
+    requires readable { All (IsReadable (M.space metric).words) commands.now }
+    requires deal { IsDeal (record { rounds = deal.now.rounds; workers = deal.now.workers }) }
+    requires worker { worker < deal.now.workers }
+    ensures { IfOk result (IsPileIn (M.space metric) live.now image.now show commands.now
+        (record { rounds = deal.now.rounds; workers = deal.now.workers }) deal.now.rounds worker) }
+{
+    let mut pile = Pile::new(alloc);
+    for round in 0..deal.rounds {
+        let place = deal.place(worker * deal.rounds + round);
+        if place < commands.len() {
+            add_for(
+                alloc,
+                image,
+                metric,
+                live,
+                &commands[place],
+                show,
+                &mut pile,
+            )?;
+        }
+    }
+    Ok(pile)
+}
+
+// The piles, or want of memory where it stands in the place of one of them.
+fn all_piles(alloc: Global, tried: Vec<Result<Pile, Memory>>) -> Result<Vec<Pile>, Memory>
+    ensures { IfOk result (λ piles. tried.items ≡ map (λ pile. Ok pile) piles.items) }
+{
+    let mut piles = Vec::with_capacity(alloc, tried.len())?;
+    for pile in tried {
+        piles.push(pile?)?;
+    }
+    Ok(piles)
+}
+
+/// What is to be put for each command of a script on the file with these bytes: the piles of the workers to whom the commands
+/// are dealt. Each worker writes what its own come to, so that no log is held but as its bytes. A hit is written with its tag
+/// where tags are shown.
 pub fn prepare_all<R: Threads + Sync, M: Metric>(
     rt: &R,
     alloc: Global,
@@ -74,19 +91,42 @@ pub fn prepare_all<R: Threads + Sync, M: Metric>(
     metric: M,
     live: &Live,
     commands: &[Command],
-    manner: Manner,
-) -> Result<Vec<Prepared>, Memory>
+    show: bool,
+    deal: &Deal,
+) -> Result<Vec<Pile>, Memory>
     requires pages { live.now.pages ≤ 2 ^ 24 }
     requires readable { All (IsReadable (M.space metric).words) commands.now }
-    requires few { length commands.now < 2 ^ 32 }
-    requires some_workers { 1 ≤ manner.workers }
-    requires few_workers { manner.workers ≤ 64 }
-    ensures { IfOk result (λ all. AllZip (IsPreparedFor (M.space metric) live.now image.now manner.show_tags) commands.now all.items) }
+    requires deal { IsDeal (record { rounds = deal.now.rounds; workers = deal.now.workers }) }
+    ensures { IfOk result (λ piles. ArePiles (M.space metric) live.now image.now show commands.now
+        (record { rounds = deal.now.rounds; workers = deal.now.workers }) piles.items) }
 {
-    let show = manner.show_tags;
-    let work = |i: usize| -> Result<Prepared, Memory>
-        requires { (live.now.pages ≤ 2 ^ 24) × All (IsReadable (M.space metric).words) commands.now × (i < length commands.now) }
-        ensures { (c : Command) → IfOk result (IsPreparedFor (M.space metric) live.entry.now image.entry.now show (slice_index_or commands.entry.now i c)) }
-    { prepare_for(alloc, image, metric, live, &commands[i], show) };
-    share_evenly(rt, alloc, commands.len(), manner.workers, &work)
+    let work = |worker: usize| -> Result<Pile, Memory>
+        requires { (live.now.pages ≤ 2 ^ 24) × All (IsReadable (M.space metric).words) commands.now × IsDeal (record { rounds = deal.now.rounds; workers = deal.now.workers })
+            × (worker < deal.now.workers) }
+        ensures { IfOk result (IsPileIn (M.space metric) live.entry.now image.entry.now show commands.entry.now
+            (record { rounds = deal.entry.now.rounds; workers = deal.entry.now.workers }) deal.entry.now.rounds worker) }
+    { pile_of(alloc, image, metric, live, commands, show, deal, worker) };
+    let tried = share(rt, alloc, deal.workers, deal.workers, &work)?;
+    all_piles(alloc, tried)
+}
+
+/// What the piles have, in the order of the commands, of which there are `count`.
+pub fn in_turn<'a>(
+    alloc: Global,
+    deal: &Deal,
+    count: usize,
+    piles: &'a [Pile],
+) -> Result<Vec<Prepared<'a>>, Memory>
+    requires deal { IsDeal (record { rounds = deal.now.rounds; workers = deal.now.workers }) }
+    requires whole { count ≤ deal.now.rounds * deal.now.workers }
+    requires stacked { AreStacked (record { rounds = deal.now.rounds; workers = deal.now.workers }) count piles.now }
+    ensures { IfOk result (λ all. AreShown (record { rounds = deal.now.rounds; workers = deal.now.workers }) count piles.now all.items) }
+{
+    let mut all = Vec::with_capacity(alloc, count)?;
+    for place in 0..count {
+        let seat = deal.seat(place);
+        let pile = &piles[seat / deal.rounds];
+        all.push(pile.at(pile.marks[seat % deal.rounds]))?;
+    }
+    Ok(all)
 }

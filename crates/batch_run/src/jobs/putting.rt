@@ -4,12 +4,17 @@ ghost use Rattle.std.specs.Prelude.{◌≤◌, ◌⊎◌, IsErrOf};
 ghost use Rattle.outside_io.specs.Causes.{Rose};
 ghost use Rattle.batch_run.specs.Jobs.Putting.{ArePut, IsPut};
 
-use crate::jobs::preparing::Prepared;
+use crate::jobs::piles::Prepared;
 use crate::jobs::stop::Stop;
+use answer_texts::put_texts;
 use outside_io::Sink;
 
 // Puts what was prepared for one command: the frame of a query's log, and then the reply.
-fn put_one<K: Sink, T: Sink>(prepared: &Prepared, out: &mut K, log_out: &mut T) -> Result<(), Stop>
+fn put_one<K: Sink, T: Sink>(
+    prepared: &Prepared<'_>,
+    out: &mut K,
+    log_out: &mut T,
+) -> Result<(), Stop>
     ensures put { IsPut prepared.now (K.state out.old) (K.state out.new) (T.state log_out.old) (T.state log_out.new) result }
     ensures rose { IsErrOf result Stop.Sink → Rose (K.state out.old).faults (K.state out.new).faults
         ⊎ Rose (T.state log_out.old).faults (T.state log_out.new).faults }
@@ -18,7 +23,7 @@ fn put_one<K: Sink, T: Sink>(prepared: &Prepared, out: &mut K, log_out: &mut T) 
 {
     match prepared {
         Prepared::Damaged(fault) => Err(Stop::Damaged(*fault)),
-        Prepared::Said(texts) => match texts.put(out, log_out) {
+        Prepared::Said { reply, frame } => match put_texts(reply, frame, out, log_out) {
             Ok(()) => Ok(()),
             Err(_) => Err(Stop::Sink),
         },
@@ -28,7 +33,7 @@ fn put_one<K: Sink, T: Sink>(prepared: &Prepared, out: &mut K, log_out: &mut T) 
 /// Puts what was prepared for the commands, in their order, and each in one put: first the frame of a query's log to `log_out`,
 /// then the reply to `out`. It stops at the first one that is no answer.
 pub fn put_all<K: Sink, T: Sink>(
-    prepared: &[Prepared],
+    prepared: &[Prepared<'_>],
     out: &mut K,
     log_out: &mut T,
 ) -> Result<(), Stop>

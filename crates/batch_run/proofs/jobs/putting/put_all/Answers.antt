@@ -1,13 +1,14 @@
 use Rattle.std.proofs.Common.{List, take, take_all, sym, subst, arith}
-use Rattle.batch_run.specs.declared.jobs.preparing.Prepared.{Prepared}
-use Rattle.batch_run.proofs.jobs.Puts.{SoFar, either_more, finished, next_left, next_taken, one_more, stopped}
+use Rattle.std.proofs.lemmas.List.{take_more}
+use Rattle.batch_run.specs.declared.jobs.piles.Prepared.{Prepared}
+use Rattle.batch_run.proofs.jobs.Puts.{SoFar, either_more, finished, left_from, one_more, stopped}
 use Rattle.batch_run.proofs.jobs.putting.put_all.Goals as goal
 
 pub loop-one-preserved : goal.loop-one-preserved
 loop-one-preserved g c = record {
   so_far = subst (λ (ps : List Prepared). SoFar ps (g.K.Sink.state c.args.out.now) (g.K.Sink.state c.put_one.new.out) (g.T.Sink.state c.args.log_out.now) (g.T.Sink.state c.put_one.new.log_out))
-      (sym (next_taken c.args.prepared.now c.loop-one.one-index c.one-item.result (omega arith) c.one-item.is))
-      (one_more (take c.loop-one.one-index c.args.prepared.now) c.one-item.result (g.K.Sink.state c.args.out.now) (g.K.Sink.state c.loop-one.out) (g.K.Sink.state c.put_one.new.out)
+      (sym (take_more c.args.prepared.now c.loop-one.one-index _ c.loop-one-test.true))
+      (one_more (take c.loop-one.one-index c.args.prepared.now) _ (g.K.Sink.state c.args.out.now) (g.K.Sink.state c.loop-one.out) (g.K.Sink.state c.put_one.new.out)
       (g.T.Sink.state c.args.log_out.now) (g.T.Sink.state c.loop-one.log_out) (g.T.Sink.state c.put_one.new.log_out) c.loop-one.invariant.so_far c.in_default.ensures.put);
   later = omega (arith, c.put_one.ensures.later, c.loop-one.invariant.later);
   log_later = omega (arith, c.put_one.ensures.log_later, c.loop-one.invariant.log_later);
@@ -15,9 +16,9 @@ loop-one-preserved g c = record {
 
 pub returns-in-Err-clause-put : goal.returns-in-Err-clause-put
 returns-in-Err-clause-put g c =
-    stopped (take c.loop-one.one-index c.args.prepared.now) c.one-item.result (g.K.Sink.state c.args.out.now) (g.K.Sink.state c.loop-one.out) (g.K.Sink.state c.put_one.new.out)
+    stopped (take c.loop-one.one-index c.args.prepared.now) _ (g.K.Sink.state c.args.out.now) (g.K.Sink.state c.loop-one.out) (g.K.Sink.state c.put_one.new.out)
     (g.T.Sink.state c.args.log_out.now) (g.T.Sink.state c.loop-one.log_out) (g.T.Sink.state c.put_one.new.log_out) c.loop-one.invariant.so_far c.args.prepared.now _
-    (next_left c.args.prepared.now c.loop-one.one-index c.one-item.result (omega arith) c.one-item.is) c.in-Err.why c.in-Err.ensures.put
+    (left_from c.args.prepared.now c.loop-one.one-index _ c.loop-one-test.true) c.in-Err.why c.in-Err.ensures.put
 
 pub returns-in-Err-clause-rose : goal.returns-in-Err-clause-rose
 returns-in-Err-clause-rose g c = λ is.
