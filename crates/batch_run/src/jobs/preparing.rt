@@ -101,8 +101,8 @@ pub fn prepare_all<R: Threads + Sync, M: Metric>(
         (record { rounds = deal.now.rounds; workers = deal.now.workers }) piles.items) }
 {
     let work = |worker: usize| -> Result<Pile, Memory>
-        requires { (live.now.pages ≤ 2 ^ 24) × All (IsReadable (M.space metric).words) commands.now × IsDeal (record { rounds = deal.now.rounds; workers = deal.now.workers })
-            × (worker < deal.now.workers) }
+        requires { (live.now.pages ≤ 2 ^ 24) × All (IsReadable (M.space metric).words) commands.now
+            × IsDeal (record { rounds = deal.now.rounds; workers = deal.now.workers }) × (worker < deal.now.workers) }
         ensures { IfOk result (IsPileIn (M.space metric) live.entry.now image.entry.now show commands.entry.now
             (record { rounds = deal.entry.now.rounds; workers = deal.entry.now.workers }) deal.entry.now.rounds worker) }
     { pile_of(alloc, image, metric, live, commands, show, deal, worker) };
