@@ -107,13 +107,6 @@ rounds_apart : (r q n : ℕ) → r < q → r * n + n ≤ q * n
 rounds_apart r q n less = grind arith
 
 module _ (s : Space) (live : Live) (image : List ℕ) (show : Bool) (commands : List Command) (d : Rounds) where
-  pub no_round : (worker : ℕ) (pile : Pile) → pile.marks.items ≡ [] → IsPileIn s live image show commands d 0 worker pile
-  no_round worker pile none = record {
-    marked = λ round m at. absurd (let e : slice_get [] round ≡ Some m = subst (λ (ms : List Mark). slice_get ms round ≡ Some m) none at in cc);
-    few = omega (arith, ap length none);
-    whole = λ round low. absurd (omega arith);
-  }
-
   -- a worker who has a place in this round had one in each before
   marked_all : (round worker : ℕ) (pile : Pile) → worker < d.workers → round < d.rounds → place_of d (worker * d.rounds + round) < length commands →
       IsPileIn s live image show commands d round worker pile → length pile.marks.items ≡ round
@@ -238,9 +231,6 @@ zipped_in s s' live image show commands d count piles all same count_is are show
     subst (λ (x : Space). AllZip (IsPreparedFor x live image show) commands all) same (zipped s live image show commands d piles are all (subst (λ (n : ℕ). AreShown d n piles all) count_is shown))
 
 -- ---- in the order of the places
-
-pub none_shown : (d : Rounds) (piles : List Pile) (all : List Prepared) → all ≡ [] → AreShown d 0 piles all
-none_shown d piles all none = (ap length none, λ place p at. absurd (let e : slice_get [] place ≡ Some p = subst (λ (ps : List Prepared). slice_get ps place ≡ Some p) none at in cc))
 
 pub one_shown : (d : Rounds) (piles : List Pile) (place seat : ℕ) (all : List Prepared) (pile pile' : Pile) (m m' : Mark) (p : Prepared) (stands : Stands d piles seat) → AreShown d place piles all → place_of d seat ≡ place →
     get_or piles (seat / d.rounds) pile' ≡ pile → get_or pile.marks.items (seat % d.rounds) m' ≡ m → IsShown pile m p → AreShown d (place + 1) piles (all ++ p ∷ [])

@@ -52,6 +52,7 @@ pub record HasMore (show : Bool) (o : Outcome) (pile0 pile1 : Pile) : Type 0 whe
   pub replies : (more : List ℕ) × (pile1.replies.items ≡ pile0.replies.items ++ more)
   pub frames : (more : List ℕ) × (pile1.frames.items ≡ pile0.frames.items ++ more)
 
+-- such a mark for the outcome of this command
 abbrev pub HasMoreFor : Space → Live → List ℕ → Bool → Command → Pile → Pile → Type 0
 HasMoreFor s live image show c pile0 pile1 = (o : Outcome) × IsOutcomeOf s live image c o × HasMore show o pile0 pile1
 
