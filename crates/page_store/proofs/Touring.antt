@@ -1,13 +1,13 @@
 -- The steps of the walk by child numbers, over pages that hold what they held.
-use Rattle.std.proofs.Common.{◌≡◌, ℕ, ◌<◌, List, [], ◌∷◌, ◌++◌, refl, sym, ap, subst, ◌∙◌, Some, Err, arith}
+use Rattle.std.proofs.Common.{◌≡◌, ℕ, ◌<◌, List, [], ◌∷◌, ◌++◌, sym, ap, subst, ◌∙◌, Some, Err, arith}
 use Rattle.std.specs.Prelude.{IsTrue, false}
 use Rattle.tree_shape.specs.declared.live.Live.{Live}
 use Rattle.tree_shape.specs.declared.entry.Node.{Node}
 use Rattle.tree_shape.specs.Tree.{Nodes}
 use Rattle.page_store.specs.declared.pages.PageFault.{PageFault}
 use Rattle.page_store.specs.declared.pages.PageFault.TheVariants.{Disk, Bad, Outside, Memory, Repeats, Level}
-use Rattle.page_store.specs.Reading.{Read, nodes_of, node_or_none, IsWithin, is_within}
-use Rattle.page_store.specs.Shelf.{Shelf, HoldsSame, IsNodeOf, HasPageCause}
+use Rattle.page_store.specs.Reading.{Read, nodes_of, IsWithin, is_within}
+use Rattle.page_store.specs.Shelf.{Shelf, HoldsSame, HasPageCause}
 use Rattle.page_store.specs.Tours.{children, Tours, Names, HasTourCause}
 
 -- one more page is opened

@@ -1,6 +1,6 @@
 ghost use Rattle.std.specs.Prelude.{◌≡◌, ◌≤◌, ◌^◌};
 
-use crate::reading::{copy_page, is_within, node_on};
+use crate::reading::{copy_page, is_within, node_on, whole_page};
 use crate::{PageFault, Pages};
 use std::alloc::Global;
 use tree_shape::Node;
@@ -60,6 +60,9 @@ impl Pages for ImagePages<'_> {
         self.asked = self.asked.saturating_add(1);
         if !is_within(self.pages, page) {
             return Err(PageFault::Outside(page));
+        }
+        if let Some(bytes) = whole_page(self.bytes, page) {
+            return node_on(alloc, page, bytes, self.dim, false);
         }
         let mut bytes = [0; 4096];
         copy_page(self.bytes, page, &mut bytes);

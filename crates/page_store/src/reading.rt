@@ -1,4 +1,4 @@
-ghost use Rattle.std.specs.Prelude.{◌≡◌, ◌⊎◌, ◌+◌, ◌^◌, ◌<◌, ◌≤◌, IsTrue, OnOk, IfOk, IfErr, slice_index};
+ghost use Rattle.std.specs.Prelude.{◌≡◌, ◌⊎◌, ◌+◌, ◌^◌, ◌<◌, ◌≤◌, IsTrue, OnOk, IfOk, IfErr, IfSome, slice_index};
 ghost use Rattle.page_store.specs.Reading.{is_within, version_of, IsBytesFault};
 ghost use Rattle.node_page.specs.Nodes.{IsLawfulNode, fault_in, node_in};
 ghost use Rattle.outside_io.specs.Causes.{HasCause};
@@ -29,16 +29,22 @@ fn byte_at(file: &[u8], place: usize) -> u8
     if place < file.len() { file[place] } else { 0 }
 }
 
-// Copies a page of a file in memory: at once where the file has all of it.
+// A page of a file in memory, where the file has all of it.
+pub fn whole_page(file: &[u8], page: u32) -> Option<&[u8; 4096]>
+    ensures { IfSome result (λ bytes. bytes.now ≡ page_of file.now page) }
+{
+    let from = PAGE as usize * page as usize;
+    if from > file.len() {
+        return None;
+    }
+    file[from..].first_chunk()
+}
+
+// Copies a page of a file in memory.
 pub fn copy_page(file: &[u8], page: u32, bytes: &mut [u8; 4096])
     ensures { bytes.new ≡ page_of file.now page }
 {
     let from = PAGE as usize * page as usize;
-    let past = from + bytes.len();
-    if past <= file.len() {
-        bytes.copy_from_slice(&file[from..past]);
-        return;
-    }
     for at in 0..bytes.len() {
         bytes[at] = byte_at(file, from + at);
     }

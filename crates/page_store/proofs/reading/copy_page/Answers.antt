@@ -1,10 +1,6 @@
-use Rattle.std.proofs.Common.{rules, sym, arith}
+use Rattle.std.proofs.Common.{sym, arith}
 use Rattle.page_store.proofs.PageBytes.{page_is}
-use Rattle.page_store.proofs.Copied.{page_copied}
 use Rattle.page_store.proofs.reading.copy_page.Goals as goal
 
 pub returns : goal.returns
 returns c = sym (page_is c.args.file.now c.args.page c.loop-at.bytes c.loop-at.invariant.0 (λ k below. sym (c.loop-at.invariant.1 k (omega (arith, c.loop-at.invariant.0)))))
-
-pub returns-then-past-file : goal.returns-then-past-file
-returns-then-past-file c = page_copied c.args.file.now c.copy_from_slice.new.self c.args.page _ _ (search rules) (search rules) (search rules) c.copy_from_slice.ensures.after
