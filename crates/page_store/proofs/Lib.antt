@@ -15,4 +15,5 @@ pub mod OneTour
 pub mod Touring
 pub mod SoundTour
 pub mod Copied
+pub mod InParts
 pub mod Published

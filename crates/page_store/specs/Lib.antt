@@ -1,6 +1,8 @@
 pub mod Reading
 pub mod Shelf
 pub mod Files
+pub mod Parts
+pub mod Images
 pub mod Staging
 pub mod Reached
 pub mod Tours

@@ -1,5 +1,7 @@
 ghost use Rattle.std.specs.Prelude.{◌≡◌, ◌≤◌, ◌^◌};
+ghost use Rattle.page_store.specs.Images.{bytes_in};
 
+use crate::image::Image;
 use crate::reading::{copy_page, is_within, node_on, whole_page};
 use crate::{PageFault, Pages};
 use std::alloc::Global;
@@ -9,7 +11,7 @@ use tree_shape::Node;
 #[derive(Drop)]
 pub struct ImagePages<'a> {
     /// The file.
-    pub bytes: &'a [u8],
+    pub image: Image<'a>,
     /// How many coordinates a point has.
     pub dim: u8,
     /// The number of pages: nodes stand on those from 3 up and below it.
@@ -27,13 +29,26 @@ impl<'a> ImagePages<'a> {
         requires some { 1 ≤ dim }
         requires few { dim ≤ 64 }
         requires small { pages ≤ 2 ^ 24 }
-        ensures bytes { result.bytes.now ≡ bytes.now }
+        ensures bytes { bytes_in result.image ≡ bytes.now }
+        ensures dim { result.dim ≡ dim }
+        ensures pages { result.pages ≡ pages }
+        ensures asked { result.asked ≡ 0 }
+    {
+        ImagePages::of(Image::Whole(bytes), dim, pages)
+    }
+
+    /// The pages of a file that may stand in parts. Of them none has been asked for.
+    pub fn of(image: Image<'a>, dim: u8, pages: u32) -> Self
+        requires some { 1 ≤ dim }
+        requires few { dim ≤ 64 }
+        requires small { pages ≤ 2 ^ 24 }
+        ensures image { result.image ≡ image.entry }
         ensures dim { result.dim ≡ dim }
         ensures pages { result.pages ≡ pages }
         ensures asked { result.asked ≡ 0 }
     {
         ImagePages {
-            bytes,
+            image,
             dim,
             pages,
             asked: 0,
@@ -43,11 +58,12 @@ impl<'a> ImagePages<'a> {
 
 impl Pages for ImagePages<'_> {
     ghost use Rattle.std.specs.Prelude.{◌≡◌, true};
+    ghost use Rattle.page_store.specs.Images.{bytes_in};
     ghost use Rattle.page_store.specs.Shelves.{image_shelf};
 
-    ghost shelf = { λ p. image_shelf p.dim p.pages p.bytes.now p.asked };
+    ghost shelf = { λ p. image_shelf p.dim p.pages (bytes_in p.image) p.asked };
 
-    ghost keeps = { λ p q. q.bytes.now ≡ p.bytes.now };
+    ghost keeps = { λ p q. bytes_in q.image ≡ bytes_in p.image };
 
     ghost use Rattle.std.specs.Prelude.{refl};
     ghost use Rattle.std.proofs.Common.{◌∙◌};
@@ -61,11 +77,12 @@ impl Pages for ImagePages<'_> {
         if !is_within(self.pages, page) {
             return Err(PageFault::Outside(page));
         }
-        if let Some(bytes) = whole_page(self.bytes, page) {
+        let (file, place) = self.image.place(page);
+        if let Some(bytes) = whole_page(file, place) {
             return node_on(alloc, page, bytes, self.dim, false);
         }
         let mut bytes = [0; 4096];
-        copy_page(self.bytes, page, &mut bytes);
+        copy_page(file, place, &mut bytes);
         node_on(alloc, page, &bytes, self.dim, false)
     }
 }

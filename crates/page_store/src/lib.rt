@@ -3,18 +3,22 @@
 #![tactic(auto)]
 
 mod disk_pages;
+mod image;
 mod image_pages;
 pub mod laws;
 mod numbering;
 mod pages;
+mod parts;
 mod reading;
 mod settling;
 mod staging;
 
 pub use disk_pages::DiskPages;
+pub use image::Image;
 pub use image_pages::ImagePages;
 pub use numbering::Numbering;
 pub use pages::{PageFault, Pages};
+pub use parts::Parts;
 pub use reading::read_page;
 pub use settling::{NewTree, RoomFault, settle};
 pub use staging::{Placed, Staged, StagedNode};

@@ -29,7 +29,7 @@ fn byte_at(file: &[u8], place: usize) -> u8
     if place < file.len() { file[place] } else { 0 }
 }
 
-// A page of a file in memory, where the file has all of it.
+// A page of bytes in memory, where they have all of it.
 pub fn whole_page(file: &[u8], page: u32) -> Option<&[u8; 4096]>
     ensures { IfSome result (λ bytes. bytes.now ≡ page_of file.now page) }
 {
@@ -40,7 +40,7 @@ pub fn whole_page(file: &[u8], page: u32) -> Option<&[u8; 4096]>
     file[from..].first_chunk()
 }
 
-// Copies a page of a file in memory.
+// Copies a page of bytes in memory, past whose end all are 0.
 pub fn copy_page(file: &[u8], page: u32, bytes: &mut [u8; 4096])
     ensures { bytes.new ≡ page_of file.now page }
 {
