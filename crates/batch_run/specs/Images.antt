@@ -1,5 +1,6 @@
 -- Files in memory.
-use Rattle.std.specs.Prelude.{◌≡◌, ℕ, ◌*◌, ◌<◌, List, length, slice_index}
+use Rattle.std.specs.Prelude.{◌≡◌, ℕ, ◌+◌, ◌-◌, ◌*◌, ◌<◌, min, List, length, slice_index, IsTrue}
+use Rattle.disk_model.specs.Disk.{DiskState}
 use Rattle.outside_io.specs.Causes.{Rose}
 use Rattle.page_store.specs.Reading.{reading}
 use Rattle.batch_run.specs.declared.images.ImageFault.{ImageFault}
@@ -9,6 +10,15 @@ use Rattle.batch_run.specs.declared.images.ImageFault.TheVariants as fault
 pub record IsImageOf (pages : ℕ) (file image : List ℕ) : Type 0 where
   pub size : length image ≡ pages * 4096
   pub bytes : (i : ℕ) → i < pages * 4096 → slice_index image i ≡ slice_index file i
+
+-- these are bytes of a file, from the start of a page on
+abbrev pub HasBytes : List ℕ → ℕ → List ℕ → Type 0
+HasBytes file page bytes = (i : ℕ) → i < length bytes → slice_index bytes i ≡ slice_index file (4096 * page + i)
+
+-- The part of a file from a page on was read: it has so many pages, or those that there are.
+pub record IsPartRead (disk : DiskState) (part_pages pages from : ℕ) (bytes : List ℕ) : Type 0 where
+  pub size : length bytes ≡ 4096 * min part_pages (pages - from)
+  pub told : IsTrue disk.tells → HasBytes disk.bytes from bytes
 
 -- why a file was not read into memory: there are more than 2^18 pages; the disk failed; or memory ran out
 abbrev pub HasImageCause : ℕ → ℕ → ℕ → ImageFault → Type 0

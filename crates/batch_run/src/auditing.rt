@@ -1,14 +1,15 @@
 //! The audit of a file by several threads.
 
-ghost use Rattle.std.specs.Prelude.{◌≡◌, ◌≤◌, ◌<◌, ◌+◌, ◌^◌, length, map, Ok, slice_index_or, IsTrue, IfOk, IfErr, IfSome};
+ghost use Rattle.std.specs.Prelude.{◌≡◌, ◌≤◌, ◌<◌, ◌+◌, ◌^◌, length, slice_index_or, IsTrue, IfOk, IfErr, IfSome};
 ghost use Rattle.tree_shape.specs.Fill.{IsFilled, root_least};
 ghost use Rattle.batch_run.specs.Audits.{AreNumbersOf, AreNumbersOn, AreTried, IsFaultOf, IsPartOf};
 
 use crate::Memory;
+use crate::gathering::all_done;
 use disk_model::SharedDisk;
 use image_answers::pages_of;
 use metric_laws::{Meter, Metric};
-use page_store::{DiskPages, PageFault, Pages};
+use page_store::{DiskPages, Image, PageFault, Pages};
 use par_work::share;
 use slice_disk::SliceDisk;
 use std::alloc::Global;
@@ -73,23 +74,6 @@ fn try_parts<R: Threads + Sync, D: SharedDisk, M: Metric>(
     share(rt, alloc, entries.len(), workers, &work)
 }
 
-// The parts, where none of them has a fault.
-fn all_parts(
-    alloc: Global,
-    parts: Vec<Result<Part, AuditFault>>,
-) -> Result<Option<Vec<Part>>, Memory>
-    ensures { IfOk result (λ all. IfSome all (λ v. parts.items ≡ map (λ part. Ok part) v.items)) }
-{
-    let mut all = Vec::with_capacity(alloc, parts.len())?;
-    for part in parts {
-        match part {
-            Ok(part) => all.push(part)?,
-            Err(_) => return Ok(None),
-        }
-    }
-    Ok(Some(all))
-}
-
 // Whether an inner node of this level with so many entries may be the root.
 fn is_root(live: &Live, dim: u8, level: u8, count: usize) -> bool
     requires some { 1 ≤ dim }
@@ -139,7 +123,7 @@ pub fn sound_by_parts<R: Threads + Sync, D: SharedDisk, M: Metric>(
         return Ok(None);
     }
     let tried = try_parts(rt, alloc, disk, metric, live, entries, workers)?;
-    match all_parts(alloc, tried)? {
+    match all_done(alloc, tried)? {
         Some(parts) => join_parts(alloc, live, &parts),
         None => Ok(None),
     }
@@ -173,7 +157,7 @@ pub fn audit_image<R: Threads + Sync, M: Metric>(
             Err(_) => return Err(AuditFault::Memory),
         }
     }
-    let mut pages = pages_of(image, metric, live);
+    let mut pages = pages_of(Image::Whole(image), metric, live);
     let mut ruler = Meter::new(metric);
     audit(alloc, &mut pages, &mut ruler, dim, live)
 }

@@ -4,12 +4,14 @@ ghost use Rattle.std.specs.Prelude.{◌≡◌, ◌≤◌, ◌<◌, ◌^◌, All,
 ghost use Rattle.std.specs.List.{AllZip};
 ghost use Rattle.rows_text.specs.declared.command.Command.{Command};
 ghost use Rattle.rows_text.specs.Readable.{IsReadable};
+ghost use Rattle.page_store.specs.Images.{bytes_in};
 ghost use Rattle.image_answers.specs.Outcomes.{IsOutcomeOf};
 
 use crate::Memory;
 use crate::dealing::share_evenly;
 use image_answers::{Outcome, nearest_outcome, range_outcome};
 use metric_laws::Metric;
+use page_store::Image;
 use rows_text::{Command, Refusal, Reply};
 use std::alloc::Global;
 use std::thread::Threads;
@@ -18,14 +20,14 @@ use tree_shape::Live;
 /// What becomes of one command on the file with these bytes, whose live slot this is.
 pub fn outcome_of<M: Metric>(
     alloc: Global,
-    image: &[u8],
+    image: Image<'_>,
     metric: M,
     live: &Live,
     command: &Command,
 ) -> Result<Outcome, Memory>
     requires pages { live.now.pages ≤ 2 ^ 24 }
     requires readable { IsReadable (M.space metric).words command.now }
-    ensures { IfOk result (IsOutcomeOf (M.space metric) live.now image.now command.now) }
+    ensures { IfOk result (IsOutcomeOf (M.space metric) live.now (bytes_in image.entry) command.now) }
 {
     match command {
         Command::Range { r, q } => range_outcome(alloc, image, metric, live, q, *r),
@@ -67,6 +69,6 @@ pub fn batch<R: Threads + Sync, M: Metric>(
     let work = |i: usize| -> Result<Outcome, Memory>
         requires { (live.now.pages ≤ 2 ^ 24) × All (IsReadable (M.space metric).words) commands.now × (i < length commands.now) }
         ensures { (c : Command) → IfOk result (IsOutcomeOf (M.space metric) live.entry.now image.entry.now (slice_index_or commands.entry.now i c)) }
-    { outcome_of(alloc, image, metric, live, &commands[i]) };
+    { outcome_of(alloc, Image::Whole(image), metric, live, &commands[i]) };
     share_evenly(rt, alloc, commands.len(), workers, &work)
 }

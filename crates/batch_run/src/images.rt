@@ -1,13 +1,20 @@
 //! Files in memory.
 
-ghost use Rattle.std.specs.Prelude.{◌≡◌, ◌≤◌, ◌+◌, ◌*◌, ◌<◌, Err, length, IsTrue, IfOk, IfErr, OnOk};
+ghost use Rattle.std.specs.Prelude.{◌≡◌, ◌≤◌, ◌+◌, ◌*◌, ◌<◌, Err, length, min, slice_get, Some, vec_len, IsTrue, IfOk, IfErr, IfSome, OnOk};
 ghost use Rattle.disk_model.specs.Disk.{IsUnchanged};
-ghost use Rattle.batch_run.specs.Images.{IsImageOf, HasImageCause};
+ghost use Rattle.batch_run.specs.Images.{HasBytes, IsImageOf, IsPartRead, HasImageCause};
 
-use disk_model::Disk;
+use crate::Memory;
+use crate::gathering::all_done;
+use disk_model::{Disk, SharedDisk};
 use file_jobs::MOST_WHOLE_PAGES;
+use metric_laws::Listed;
+use page_store::Parts;
+use par_work::share;
 use std::alloc::Global;
+use std::thread::Threads;
 use thiserror::Error;
+use tree_shape::PAGE;
 
 /// Why a file was not read into memory.
 #[derive(Clone, Copy, Debug, PartialEq, Eq, Error)]
@@ -46,5 +53,109 @@ pub fn read_image<D: Disk>(alloc: Global, disk: &mut D, pages: u32) -> Result<Ve
     match disk.read_at(0, image.as_mut_slice()) {
         Ok(()) => Ok(image),
         Err(_) => Err(ImageFault::Disk),
+    }
+}
+
+// Reads so many pages from a page on, through a reader of its own.
+fn read_part<D: SharedDisk>(
+    alloc: Global,
+    disk: &D,
+    from: u32,
+    pages: u32,
+) -> Result<Listed<u8>, ImageFault>
+    requires { from + pages ≤ 262144 }
+    ensures size { IfOk result (λ part. length part ≡ 4096 * pages) }
+    ensures bytes { IfOk result (λ part. IsTrue (D.state disk.now).tells → HasBytes (D.state disk.now).bytes from part) }
+{
+    let Some(mut reader) = disk.reader(alloc) else {
+        return Err(ImageFault::Disk);
+    };
+    let Ok(mut part) = vec![in alloc; 0u8; pages as usize * 4096] else {
+        return Err(ImageFault::Memory);
+    };
+    match reader.read_at(PAGE * u64::from(from), part.as_mut_slice()) {
+        Ok(()) => Ok(Listed::new(part)),
+        Err(_) => Err(ImageFault::Disk),
+    }
+}
+
+// The parts of a file, of so many pages each, that so many threads read; or None where one of them was not read.
+fn parts_by<R: Threads + Sync, D: SharedDisk>(
+    rt: &R,
+    alloc: Global,
+    disk: &D,
+    pages: u32,
+    part_pages: u32,
+    workers: usize,
+) -> Result<Option<Parts>, Memory>
+    requires pages { pages ≤ 262144 }
+    requires some_pages { 1 ≤ part_pages }
+    requires some_workers { 1 ≤ workers }
+    requires few_workers { workers ≤ 64 }
+    ensures { IfOk result (λ found. IfSome found (λ parts. IsTrue (D.state disk.now).tells → IsImageOf pages (D.state disk.now).bytes parts)) }
+    ensures size { IfOk result (λ found. IfSome found (λ parts. length parts ≡ pages * 4096)) }
+{
+    let count = pages.div_ceil(part_pages);
+    let work = |part: usize| -> Result<Listed<u8>, ImageFault>
+        requires { (pages ≤ 262144) × (part * part_pages < pages) }
+        ensures { IfOk result (λ bytes. IsPartRead (D.state disk.entry.now) part_pages pages (part * part_pages) bytes) }
+    {
+        let from = part as u32 * part_pages;
+        read_part(alloc, disk, from, part_pages.min(pages - from))
+    };
+    let tried = share(rt, alloc, count as usize, workers, &work)?;
+    match all_done(alloc, tried)? {
+        Some(parts) => Ok(Some(Parts::new(parts, part_pages))),
+        None => Ok(None),
+    }
+}
+
+// A file in one part, of so many pages.
+fn one_part(alloc: Global, bytes: Vec<u8>, pages: u32) -> Result<Parts, Memory>
+    requires { length bytes.items ≤ 4096 * pages }
+    ensures { IfOk result (λ parts. parts ≡ bytes.items) }
+{
+    let mut parts = Vec::with_capacity(alloc, 1)?;
+    parts.push(Listed::new(bytes))?;
+    Ok(Parts::new(parts, pages.max(1)))
+}
+
+/// Reads the same bytes by so many threads, 1 to 64, each of which reads a part through a reader of its own. Where one of them
+/// could not read its part, and where there is one thread, the file is read as `read_image` reads it.
+pub fn read_parts<R: Threads + Sync, D: SharedDisk>(
+    rt: &R,
+    alloc: Global,
+    disk: &mut D,
+    pages: u32,
+    workers: usize,
+) -> Result<Parts, ImageFault>
+    requires some_workers { 1 ≤ workers }
+    requires few_workers { workers ≤ 64 }
+    ensures image { IfOk result (λ parts. IsTrue (D.state disk.old).tells → IsImageOf pages (D.state disk.old).bytes parts) }
+    // Also of a disk that does not tell its bytes.
+    ensures size { IfOk result (λ parts. length parts ≡ pages * 4096) }
+    ensures few { IfOk result (λ _. pages ≤ 262144) }
+    ensures cause { IfErr result (HasImageCause pages (D.state disk.old).faults (D.state disk.new).faults) }
+    ensures long { 262144 < pages → (result ≡ Err ImageFault.TooLong) × (disk.new ≡ disk.old) }
+    ensures same { IsUnchanged (D.state disk.old) (D.state disk.new) }
+    ensures reads { (D.state disk.new).reads ≤ (D.state disk.old).reads + 1 }
+    ensures done { OnOk result ((D.state disk.new).faults ≡ (D.state disk.old).faults) }
+    ensures later { (D.state disk.old).faults ≤ (D.state disk.new).faults }
+{
+    if pages > MOST_WHOLE_PAGES {
+        return Err(ImageFault::TooLong);
+    }
+    if workers > 1 {
+        let part_pages = pages.div_ceil(workers as u32).max(1);
+        match parts_by(rt, alloc, disk, pages, part_pages, workers) {
+            Ok(Some(parts)) => return Ok(parts),
+            Ok(None) => {}
+            Err(_) => return Err(ImageFault::Memory),
+        }
+    }
+    let image = read_image(alloc, disk, pages)?;
+    match one_part(alloc, image, pages) {
+        Ok(parts) => Ok(parts),
+        Err(_) => Err(ImageFault::Memory),
     }
 }

@@ -4,13 +4,14 @@
 mod auditing;
 mod batching;
 mod dealing;
+mod gathering;
 mod images;
 pub mod jobs;
 pub mod laws;
 
 pub use auditing::{audit_image, sound_by_parts};
 pub use batching::batch;
-pub use images::{ImageFault, read_image};
+pub use images::{ImageFault, read_image, read_parts};
 
 /// Want of memory.
 pub type Memory = std::alloc::AllocError;

@@ -2,6 +2,7 @@
 
 ghost use Rattle.std.specs.Prelude.{◌≡◌, ◌≢◌, ◌≤◌, ◌^◌, ◌∷◌, [], IsTrue, IfOk, Ok, Err, alloc_error};
 ghost use Rattle.rows_text.specs.declared.command.Command.TheVariants as command;
+ghost use Rattle.page_store.specs.Images.{bytes_in};
 ghost use Rattle.page_store.specs.Reading.{nodes_of};
 ghost use Rattle.page_store.specs.Shelf.{HoldsSame};
 ghost use Rattle.hit_tags.specs.Met.{AreMarked};
@@ -13,21 +14,21 @@ use hit_tags::marked_tags;
 use log_model::Found;
 use metric_laws::{Listed, Meter, Metric, Point};
 use nearest_search::nearest;
-use page_store::{ImagePages, PageFault, Pages};
+use page_store::{Image, ImagePages, PageFault, Pages};
 use range_search::range;
 use rows_text::{Refusal, Reply};
 use std::alloc::{AllocError, Global};
 use tree_shape::Live;
 
 /// The pages of an image, of which none has been asked for.
-pub fn pages_of<'a, M: Metric>(image: &'a [u8], metric: M, live: &Live) -> ImagePages<'a>
+pub fn pages_of<'a, M: Metric>(image: Image<'a>, metric: M, live: &Live) -> ImagePages<'a>
     requires { live.now.pages ≤ 2 ^ 24 }
-    ensures bytes { result.bytes.now ≡ image.now }
+    ensures image { result.image ≡ image.entry }
     ensures dim { result.dim ≡ (M.space metric).words }
     ensures pages { result.pages ≡ live.now.pages }
     ensures asked { result.asked ≡ 0 }
 {
-    ImagePages::new(image, metric.words() as u8, live.pages)
+    ImagePages::of(image, metric.words() as u8, live.pages)
 }
 
 // What a page that gave no node is to a query.
@@ -66,14 +67,14 @@ fn tagged<P: Pages>(
 /// Every object within `r` of `q`.
 pub fn range_outcome<M: Metric>(
     alloc: Global,
-    image: &[u8],
+    image: Image<'_>,
     metric: M,
     live: &Live,
     q: &Point,
     r: u64,
 ) -> Result<Outcome, Memory>
     requires { live.now.pages ≤ 2 ^ 24 }
-    ensures { IfOk result (IsOutcomeOf (M.space metric) live.now image.now (command.Range r q.now)) }
+    ensures { IfOk result (IsOutcomeOf (M.space metric) live.now (bytes_in image.entry) (command.Range r q.now)) }
 {
     if !metric.fits(q.as_slice()) {
         return Ok(Outcome::refused(Refusal::Unfit));
@@ -89,7 +90,7 @@ pub fn range_outcome<M: Metric>(
 /// The `k` objects nearest to `q`.
 pub fn nearest_outcome<M: Metric>(
     alloc: Global,
-    image: &[u8],
+    image: Image<'_>,
     metric: M,
     live: &Live,
     q: &Point,
@@ -97,7 +98,7 @@ pub fn nearest_outcome<M: Metric>(
 ) -> Result<Outcome, Memory>
     requires pages { live.now.pages ≤ 2 ^ 24 }
     requires some { 1 ≤ k }
-    ensures { IfOk result (IsOutcomeOf (M.space metric) live.now image.now (command.Nearest k q.now)) }
+    ensures { IfOk result (IsOutcomeOf (M.space metric) live.now (bytes_in image.entry) (command.Nearest k q.now)) }
 {
     if !metric.fits(q.as_slice()) {
         return Ok(Outcome::refused(Refusal::Unfit));

@@ -15,11 +15,13 @@ ghost use Rattle.join_jobs.specs.Jobs.{AreLawful, IsJoinOf, HasRefusal, EndsRefu
 use crate::lines::push_pairs;
 use crate::opened::Trees;
 use disk_model::Disk;
-use file_jobs::{FAULT_DISK, FAULT_MEMORY, damaged_text, end_with, put_line, space_of};
+use file_jobs::{FAULT_DISK, FAULT_MEMORY, KEPT_NODES, damaged_text, end_with, put_line, space_of};
 use log_model::Joined;
 use metric_join::{JoinFault, join};
 use metric_laws::{Memory, Meter};
 use outside_io::{Sink, Status};
+use page_cache::laws::empty_cache_agrees;
+use page_cache::{Cached, Kept};
 use page_store::{DiskPages, PageFault};
 use prune_log::{encode_join_log, frame};
 use std::alloc::Global;
@@ -42,11 +44,20 @@ pub fn join_opened<D: Disk, E: Disk>(
         IsJoinOf radius joined.log (tree_of (D.state index.old) trees.now.left) (tree_of (E.state other.old) trees.now.right)) }
     ensures refused { IfErr result (HasRefusal trees.now (D.state index.old) (D.state index.new).faults (E.state other.old) (E.state other.new).faults) }
 {
+    empty_cache_agrees();
     let (left, right) = (&trees.left, &trees.right);
     let mut ruler = Meter::new(space_of(&left.0));
-    let mut left_pages = DiskPages::new(index, left.0.dim, left.1.pages);
-    let mut right_pages = DiskPages::new(other, right.0.dim, right.1.pages);
-    join(
+    let (Ok(left_kept), Ok(right_kept)) = (
+        Kept::new(alloc, KEPT_NODES),
+        Kept::new(alloc, KEPT_NODES),
+    ) else {
+        return Err(JoinFault::Memory);
+    };
+    let left_pages = DiskPages::new(index, left.0.dim, left.1.pages);
+    let right_pages = DiskPages::new(other, right.0.dim, right.1.pages);
+    let mut left_pages = Cached::from_parts(left_pages, left_kept);
+    let mut right_pages = Cached::from_parts(right_pages, right_kept);
+    let joined = join(
         alloc,
         &mut left_pages,
         &mut right_pages,
@@ -54,7 +65,10 @@ pub fn join_opened<D: Disk, E: Disk>(
         &left.1,
         &right.1,
         radius,
-    )
+    );
+    let _index = left_pages.into_inner().disk;
+    let _other = right_pages.into_inner().disk;
+    joined
 }
 
 // The lines of a join's pairs, and the frame of its log.

@@ -9,9 +9,11 @@ ghost use Rattle.join_jobs.specs.Jobs.{AreLawful, EitherRose};
 use crate::court::JoinCourt;
 use disk_model::Disk;
 use file_jobs::logs::{Report, Stop, judge_bytes, put, put_audit};
-use file_jobs::space_of;
+use file_jobs::{KEPT_NODES, space_of};
 use node_page::Head;
 use outside_io::{Sink, Status};
+use page_cache::laws::empty_cache_agrees;
+use page_cache::{Cached, Kept};
 use page_store::DiskPages;
 use std::alloc::Global;
 use tree_shape::Live;
@@ -72,10 +74,19 @@ fn judge_opened<D: Disk, E: Disk, K: Sink>(
     ensures output { IsErrOf result Stop.Sink → Rose (K.state out.old).faults (K.state out.new).faults }
     ensures disk { IsErrOf result Stop.Disk → EitherRose (D.state index.old) (D.state index.new) (E.state other.old) (E.state other.new) }
 {
+    empty_cache_agrees();
     let (left, right) = (&trees.left, &trees.right);
     let space = space_of(&left.0);
-    let mut left_pages = DiskPages::new(index, left.0.dim, left.1.pages);
-    let mut right_pages = DiskPages::new(other, right.0.dim, right.1.pages);
+    let (Ok(left_kept), Ok(right_kept)) = (
+        Kept::new(alloc, KEPT_NODES),
+        Kept::new(alloc, KEPT_NODES),
+    ) else {
+        return Err(Stop::Memory);
+    };
+    let left_pages = DiskPages::new(index, left.0.dim, left.1.pages);
+    let right_pages = DiskPages::new(other, right.0.dim, right.1.pages);
+    let mut left_pages = Cached::from_parts(left_pages, left_kept);
+    let mut right_pages = Cached::from_parts(right_pages, right_kept);
     let mut court = JoinCourt {
         space,
         left: left.1,
@@ -83,7 +94,10 @@ fn judge_opened<D: Disk, E: Disk, K: Sink>(
         left_pages: &mut left_pages,
         right_pages: &mut right_pages,
     };
-    judge_bytes(alloc, docket.report, &mut court, docket.bytes, out)
+    let judged = judge_bytes(alloc, docket.report, &mut court, docket.bytes, out);
+    let _index = left_pages.into_inner().disk;
+    let _other = right_pages.into_inner().disk;
+    judged
 }
 
 // Audits two opened files of one space, the left one first, and says what comes out, and what there is to say of their logs

@@ -13,9 +13,11 @@ ghost use Rattle.log_jobs.specs.Jobs.{judge_of};
 use crate::court::LogCourt;
 use disk_model::Disk;
 use file_jobs::logs::{Report, Stop, judge_bytes, put_audit};
-use file_jobs::space_of;
+use file_jobs::{KEPT_NODES, space_of};
 use node_page::Head;
 use outside_io::{Sink, Status};
+use page_cache::laws::empty_cache_agrees;
+use page_cache::{Cached, Kept};
 use page_store::DiskPages;
 use std::alloc::Global;
 use tree_shape::Live;
@@ -42,15 +44,22 @@ fn judge_opened<D: Disk, K: Sink>(
     ensures output { IsErrOf result Stop.Sink → Rose (K.state out.old).faults (K.state out.new).faults }
     ensures disk { IsErrOf result Stop.Disk → Rose (D.state index.old).faults (D.state index.new).faults }
 {
+    empty_cache_agrees();
     let (head, live) = opened;
     let space = space_of(head);
-    let mut pages = DiskPages::new(index, head.dim, live.pages);
+    let Ok(kept) = Kept::new(alloc, KEPT_NODES) else {
+        return Err(Stop::Memory);
+    };
+    let pages = DiskPages::new(index, head.dim, live.pages);
+    let mut pages = Cached::from_parts(pages, kept);
     let mut court = LogCourt {
         space,
         live: *live,
         pages: &mut pages,
     };
-    judge_bytes(alloc, report, &mut court, bytes, out)
+    let judged = judge_bytes(alloc, report, &mut court, bytes, out);
+    let _index = pages.into_inner().disk;
+    judged
 }
 
 // Audits an opened file and says what comes out, and what there is to say of its logs where it is sound.

@@ -19,6 +19,7 @@ use image_answers::{Memory, Outcome, nearest_outcome, range_outcome};
 use log_model::Log;
 use metric_laws::{Listed, Point};
 use node_page::Head;
+use page_store::Image;
 use prune_log::{encode_log, frame};
 use rows_text::Reply;
 use scan_model::Hit;
@@ -104,7 +105,7 @@ fn range_answer(alloc: Global, file: &[u8], point: &[u32], radius: u64) -> Resul
     let Ok(point) = Point::new(alloc, point) else {
         return Err(MEMORY);
     };
-    answer_of(range_outcome(alloc, file, space_of(&head), &live, &point, radius))
+    answer_of(range_outcome(alloc, Image::Whole(file), space_of(&head), &live, &point, radius))
 }
 
 // The same of the nearest.
@@ -121,7 +122,7 @@ fn nearest_answer(alloc: Global, file: &[u8], point: &[u32], count: u64) -> Resu
     let Ok(point) = Point::new(alloc, point) else {
         return Err(MEMORY);
     };
-    answer_of(nearest_outcome(alloc, file, space_of(&head), &live, &point, count))
+    answer_of(nearest_outcome(alloc, Image::Whole(file), space_of(&head), &live, &point, count))
 }
 
 // The frame of a log, or nothing where there is no room at all.

@@ -15,7 +15,7 @@ ghost use Rattle.mtree_cli.specs.Session.{HasEnded, HasFinished, HasRefused, IsC
 
 use disk_model::Disk;
 use file_jobs::{
-    FAULT_DISK, FAULT_INPUT, FAULT_LONG, FAULT_MEMORY, MOST_INPUT, damaged_text, end_unopened,
+    FAULT_DISK, FAULT_INPUT, FAULT_LONG, FAULT_MEMORY, KEPT_NODES, MOST_INPUT, damaged_text, end_unopened,
     end_with, open_index, space_of,
 };
 use index_core::Index;
@@ -27,9 +27,6 @@ use rows_text::read_script;
 use session_run::{Stop, session};
 use std::alloc::Global;
 use std::thread::Threads;
-
-/// How many nodes a session keeps.
-const KEPT_NODES: usize = 256;
 
 // Ends a session that stopped for this reason.
 fn end_stopped<K: Sink>(alloc: Global, why: Stop, out: &mut K) -> Status

@@ -70,6 +70,14 @@ impl<P: Pages> Cached<P> {
         (inner, kept)
     }
 
+    /// The pages behind. What is kept of them is dropped.
+    pub fn into_inner(self) -> P
+        ensures { result ≡ self.inner }
+    {
+        let Cached { inner, .. } = self;
+        inner
+    }
+
     /// Drops the node of a page, if one is kept. The next ask for it asks the pages behind.
     pub fn forget(&mut self, page: u32)
         ensures { self.new ≡ record self.old { kept = without self.old.kept page } }

@@ -3,7 +3,7 @@ ghost use Rattle.disk_model.specs.Disk.{IsUnchanged};
 ghost use Rattle.page_store.specs.Reading.{reading};
 
 use crate::reading::{is_within, node_on, read_page};
-use crate::{Memory, PageFault, Pages};
+use crate::{PageFault, Pages};
 use disk_model::Disk;
 use std::alloc::Global;
 use tree_shape::Node;
@@ -21,8 +21,8 @@ pub struct DiskPages<'a, D: Disk> {
     pub asked: u64,
     /// Whether the file is of version 1.
     pub first_version: bool,
-    // Room for the bytes of a page, once one was read.
-    room: Option<Box<[u8; 4096]>>,
+    // The page that was read last.
+    bytes: [u8; 4096],
     ghost some: { 1 ≤ dim },
     ghost few: { dim ≤ 64 },
     ghost small: { pages ≤ 2 ^ 24 },
@@ -47,7 +47,7 @@ impl<'a, D: Disk> DiskPages<'a, D> {
             pages,
             asked: 0,
             first_version: false,
-            room: None,
+            bytes: [0; 4096],
         }
     }
 
@@ -69,16 +69,8 @@ impl<'a, D: Disk> DiskPages<'a, D> {
             pages,
             asked: 0,
             first_version: true,
-            room: None,
+            bytes: [0; 4096],
         }
-    }
-}
-
-// The room for a page's bytes, or new room where there is none.
-fn take_room(room: &mut Option<Box<[u8; 4096]>>, alloc: Global) -> Result<Box<[u8; 4096]>, Memory> {
-    match room.take() {
-        Some(bytes) => Ok(bytes),
-        None => Ok(Box::new(alloc, [0; 4096])?),
     }
 }
 
@@ -106,14 +98,9 @@ impl<D: Disk> Pages for DiskPages<'_, D> {
         if !is_within(self.pages, page) {
             return Err(PageFault::Outside(page));
         }
-        let Ok(mut bytes) = take_room(&mut self.room, alloc) else {
-            return Err(PageFault::Memory);
-        };
-        if read_page(self.disk, page, &mut bytes).is_err() {
+        if read_page(self.disk, page, &mut self.bytes).is_err() {
             return Err(PageFault::Disk);
         }
-        let node = node_on(alloc, page, &bytes, self.dim, self.first_version);
-        self.room = Some(bytes);
-        node
+        node_on(alloc, page, &self.bytes, self.dim, self.first_version)
     }
 }

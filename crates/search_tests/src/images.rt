@@ -1,7 +1,7 @@
 use image_answers::{Memory, Outcome, nearest_outcome, range_outcome};
 use metric_laws::Point;
 use node_page::NodeFault;
-use page_store::PageFault;
+use page_store::{Image, PageFault};
 use rows_text::{Refusal, Reply, reply_text};
 use std::alloc::Global;
 use std::test::Fail;
@@ -69,7 +69,7 @@ fn ranges(rt: HostRuntime) -> Result<(), Fail> {
     ];
     for (c, radius, wanted) in &cases {
         let q = Point::new(alloc, &[*c])?;
-        let found = range_outcome(alloc, &image, metric, &PAIR, &q, *radius)?;
+        let found = range_outcome(alloc, Image::Whole(&image), metric, &PAIR, &q, *radius)?;
         assert!(rt; text_of(alloc, &found)?.as_slice() == wanted.as_bytes());
     }
     Ok(())

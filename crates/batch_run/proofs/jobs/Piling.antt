@@ -31,6 +31,7 @@ use Rattle.batch_run.specs.declared.jobs.piles.Span.{Span}
 use Rattle.batch_run.specs.Dealing.{Rounds, place_of, shift_of, wound}
 use Rattle.batch_run.specs.Jobs.Preparing.{ArePiles, AreShown, AreStacked, HasMore, HasMoreFor, IsMarked, IsPileIn, IsPrepared, IsPreparedFor, IsShown, IsWithin, LiesIn, Stands, spanned}
 use Rattle.batch_run.proofs.Seats.{all_zipped, get_push, round_below}
+use Rattle.batch_run.proofs.Gathered.{as_many, done_at}
 
 -- ---- spans
 
@@ -168,20 +169,10 @@ module _ (s : Space) (live : Live) (image : List ℕ) (show : Bool) (commands : 
 
   -- ---- the piles of all workers
 
-  are_piles : (tried : List (Result Pile AllocError)) (piles : List Pile) → length tried ≡ d.workers →
+  pub are_piles : (tried : List (Result Pile AllocError)) (piles : List Pile) → length tried ≡ d.workers →
       ((i : ℕ) (x : Result Pile AllocError) → slice_get tried i ≡ Some x → IfOk x (λ pile. IsPileIn s live image show commands d d.rounds i pile)) →
       tried ≡ map (λ pile. Ok pile) piles → ArePiles s live image show commands d piles
-  are_piles tried piles long each all = (
-    sym (length-map piles (λ (pile : Pile). (let r : Result Pile AllocError = Ok pile in r))) ∙ ap length (sym all) ∙ long,
-    λ worker pile at. each worker (Ok pile) (ap (λ (rs : List (Result Pile AllocError)). slice_get rs worker) all
-        ∙ slice_get-map (λ (p : Pile). (let r : Result Pile AllocError = Ok p in r)) piles worker ∙ ap (λ (o : Option Pile). option_map (λ (p : Pile). (let r : Result Pile AllocError = Ok p in r)) o) at),
-  )
-
-  pub piles_if_ok : {E : Type 0} (tried : Vec (Result Pile AllocError) Global) (r : Result (Vec Pile Global) E) → vec_len tried ≡ d.workers →
-      ((i : ℕ) (x : Result Pile AllocError) → slice_get tried.items i ≡ Some x → IfOk x (λ pile. IsPileIn s live image show commands d d.rounds i pile)) →
-      IfOk r (λ piles. tried.items ≡ map (λ pile. Ok pile) piles.items) → IfOk r (λ piles. ArePiles s live image show commands d piles.items)
-  piles_if_ok tried (Ok piles) long each all = are_piles tried.items piles.items (let o = tried.ok in omega arith) each all
-  piles_if_ok tried (Err e) long each all = tt
+  are_piles tried piles long each all = (as_many tried piles all ∙ long, λ worker pile at. each worker (Ok pile) (done_at tried piles all worker pile at))
 
   has_element : {X : Type 0} (xs : List X) (i : ℕ) → i < length xs → (x : X) × (slice_get xs i ≡ Some x)
   has_element [] i low = absurd (omega arith)

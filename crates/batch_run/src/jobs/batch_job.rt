@@ -6,6 +6,7 @@ ghost use Rattle.outside_io.specs.Sinks.{Tells};
 ghost use Rattle.tree_shape.specs.Tree.{IsSoundTree};
 ghost use Rattle.node_page.specs.Heads.{IsLawfulHead};
 ghost use Rattle.page_store.specs.Files.{nodes_in};
+ghost use Rattle.page_store.specs.Images.{bytes_in};
 ghost use Rattle.answer_texts.specs.Asked.{held_in};
 ghost use Rattle.file_jobs.specs.Spaces.{space_of};
 ghost use Rattle.batch_run.specs.Jobs.Batches.{HasFinished, HasOpened, IsBatchStatus, IsTooLong, RunsBatch, RunsOn};
@@ -16,8 +17,8 @@ use crate::jobs::preparing::{in_turn, prepare_all};
 use crate::jobs::putting::put_all;
 use crate::jobs::stop::Stop;
 use crate::laws::images_hold_the_file;
-use crate::{ImageFault, read_image};
-use disk_model::Disk;
+use crate::{ImageFault, read_parts};
+use disk_model::SharedDisk;
 use file_jobs::{
     FAULT_DISK, FAULT_INPUT, FAULT_LONG, FAULT_MEMORY, MOST_INPUT, end_at_page, end_with,
     open_index, space_of,
@@ -26,6 +27,7 @@ use metric_laws::Metric;
 use node_page::Head;
 use node_page::laws::{fault_is_not_open, one_live_slot};
 use outside_io::{ReadAll, Sink, Source, Status, read_all};
+use page_store::Image;
 use rows_text::read_script;
 use std::alloc::Global;
 use std::thread::Threads;
@@ -57,7 +59,7 @@ struct Task<'a> {
 fn run_on_image<R: Threads + Sync, K: Sink, T: Sink>(
     rt: &R,
     alloc: Global,
-    image: &[u8],
+    image: Image<'_>,
     head: &Head,
     live: &Live,
     task: &Task<'_>,
@@ -69,10 +71,10 @@ fn run_on_image<R: Threads + Sync, K: Sink, T: Sink>(
     requires some { 1 ≤ task.now.workers }
     requires many { task.now.workers ≤ 64 }
     requires few { length task.now.bytes.now ≤ 2 ^ 26 }
-    ensures runs { IsSoundTree (space_of head.now) (nodes_in head.now.dim live.now image.now) live.now →
-        RunsOn task.now.show_tags task.now.bytes.now (space_of head.now) (held_in head.now.dim live.now image.now)
+    ensures runs { IsSoundTree (space_of head.now) (nodes_in head.now.dim live.now (bytes_in image.entry)) live.now →
+        RunsOn task.now.show_tags task.now.bytes.now (space_of head.now) (held_in head.now.dim live.now (bytes_in image.entry))
         (K.state out.old) (K.state out.new) (T.state log_out.old) (T.state log_out.new) result.0 }
-    ensures finished { HasFinished (space_of head.now) live.now image.now (K.state out.old) (K.state out.new) (T.state log_out.old)
+    ensures finished { HasFinished (space_of head.now) live.now (bytes_in image.entry) (K.state out.old) (K.state out.new) (T.state log_out.old)
         (T.state log_out.new) result.0 }
     ensures later { (K.state out.old).faults ≤ (K.state out.new).faults }
     ensures log_later { (T.state log_out.old).faults ≤ (T.state log_out.new).faults }
@@ -119,7 +121,7 @@ fn end_unread<K: Sink>(fault: ImageFault, out: &mut K) -> Status
 }
 
 // Opens the index, reads it into memory, and does a task on it.
-fn run_on_index<R: Threads + Sync, D: Disk, K: Sink, T: Sink>(
+fn run_on_index<R: Threads + Sync, D: SharedDisk, K: Sink, T: Sink>(
     rt: &R,
     alloc: Global,
     index: &mut D,
@@ -142,11 +144,12 @@ fn run_on_index<R: Threads + Sync, D: Disk, K: Sink, T: Sink>(
         Ok(opened) => opened,
         Err(status) => return status,
     };
-    let image = match read_image(alloc, index, live.pages) {
-        Ok(image) => image,
+    let parts = match read_parts(rt, alloc, index, live.pages, task.workers) {
+        Ok(parts) => parts,
         Err(fault) => return end_unread(fault, out),
     };
-    run_on_image(rt, alloc, &image, &head, &live, task, out, log_out)
+    let image = Image::InParts(&parts);
+    run_on_image(rt, alloc, image, &head, &live, task, out, log_out)
 }
 
 /// Runs the script of `input` on the index, which is read into memory and not changed, by so many threads, 1 to 64. Each reply
@@ -156,7 +159,7 @@ fn run_on_index<R: Threads + Sync, D: Disk, K: Sink, T: Sink>(
 /// Status 3: the input could not be read; 4: a reply or a log could not be written; 5: the disk failed; 6: the file is no index
 /// of version 2; 7: the input is longer than 2 ^ 26 bytes, or the index has more than 262144 pages; 8: want of memory; 9: a
 /// search came to a damaged page of a file that is not sound.
-pub fn run_batch<R: Threads + Sync, D: Disk, S: Source, K: Sink, T: Sink>(
+pub fn run_batch<R: Threads + Sync, D: SharedDisk, S: Source, K: Sink, T: Sink>(
     rt: &R,
     alloc: Global,
     index: &mut D,

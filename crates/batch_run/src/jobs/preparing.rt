@@ -1,25 +1,28 @@
 //! What is to be put for the commands of a batch, which its workers prepare.
 
-ghost use Rattle.std.specs.Prelude.{◌≡◌, ◌≤◌, ◌<◌, ◌*◌, ◌^◌, All, length, map, Ok, IfOk, OnOk};
+ghost use Rattle.std.specs.Prelude.{◌≡◌, ◌≤◌, ◌<◌, ◌*◌, ◌^◌, All, length, IfOk, OnOk};
 ghost use Rattle.rows_text.specs.Readable.{IsReadable};
+ghost use Rattle.page_store.specs.Images.{bytes_in};
 ghost use Rattle.batch_run.specs.Dealing.{IsDeal};
 ghost use Rattle.batch_run.specs.Jobs.Preparing.{ArePiles, AreShown, AreStacked, HasMoreFor, IsPileIn};
 
 use crate::Memory;
 use crate::batching::outcome_of;
 use crate::dealing::Deal;
+use crate::gathering::all_done;
 use crate::jobs::piles::{Pile, Prepared};
 use metric_laws::Metric;
+use page_store::Image;
 use par_work::share;
 use rows_text::Command;
-use std::alloc::Global;
+use std::alloc::{AllocError, Global};
 use std::thread::Threads;
 use tree_shape::Live;
 
 // Adds what is to be put for one more command.
 fn add_for<M: Metric>(
     alloc: Global,
-    image: &[u8],
+    image: Image<'_>,
     metric: M,
     live: &Live,
     command: &Command,
@@ -28,7 +31,7 @@ fn add_for<M: Metric>(
 ) -> Result<(), Memory>
     requires pages { live.now.pages ≤ 2 ^ 24 }
     requires readable { IsReadable (M.space metric).words command.now }
-    ensures { OnOk result (HasMoreFor (M.space metric) live.now image.now show command.now pile.old pile.new) }
+    ensures { OnOk result (HasMoreFor (M.space metric) live.now (bytes_in image.entry) show command.now pile.old pile.new) }
 {
     let outcome = outcome_of(alloc, image, metric, live, command)?;
     pile.add(alloc, &outcome, show)
@@ -37,7 +40,7 @@ fn add_for<M: Metric>(
 // What is to be put for the commands that are dealt to a worker, round by round.
 fn pile_of<M: Metric>(
     alloc: Global,
-    image: &[u8],
+    image: Image<'_>,
     metric: M,
     live: &Live,
     commands: &[Command],
@@ -49,7 +52,7 @@ fn pile_of<M: Metric>(
     requires readable { All (IsReadable (M.space metric).words) commands.now }
     requires deal { IsDeal (record { rounds = deal.now.rounds; workers = deal.now.workers }) }
     requires worker { worker < deal.now.workers }
-    ensures { IfOk result (IsPileIn (M.space metric) live.now image.now show commands.now
+    ensures { IfOk result (IsPileIn (M.space metric) live.now (bytes_in image.entry) show commands.now
         (record { rounds = deal.now.rounds; workers = deal.now.workers }) deal.now.rounds worker) }
 {
     let mut pile = Pile::new(alloc);
@@ -70,24 +73,13 @@ fn pile_of<M: Metric>(
     Ok(pile)
 }
 
-// The piles, or want of memory where it stands in the place of one of them.
-fn all_piles(alloc: Global, tried: Vec<Result<Pile, Memory>>) -> Result<Vec<Pile>, Memory>
-    ensures { IfOk result (λ piles. tried.items ≡ map (λ pile. Ok pile) piles.items) }
-{
-    let mut piles = Vec::with_capacity(alloc, tried.len())?;
-    for pile in tried {
-        piles.push(pile?)?;
-    }
-    Ok(piles)
-}
-
 /// What is to be put for each command of a script on the file with these bytes: the piles of the workers to whom the commands
 /// are dealt. Each worker writes what its own come to, so that no log is held but as its bytes. A hit is written with its tag
 /// where tags are shown.
 pub fn prepare_all<R: Threads + Sync, M: Metric>(
     rt: &R,
     alloc: Global,
-    image: &[u8],
+    image: Image<'_>,
     metric: M,
     live: &Live,
     commands: &[Command],
@@ -97,17 +89,20 @@ pub fn prepare_all<R: Threads + Sync, M: Metric>(
     requires pages { live.now.pages ≤ 2 ^ 24 }
     requires readable { All (IsReadable (M.space metric).words) commands.now }
     requires deal { IsDeal (record { rounds = deal.now.rounds; workers = deal.now.workers }) }
-    ensures { IfOk result (λ piles. ArePiles (M.space metric) live.now image.now show commands.now
+    ensures { IfOk result (λ piles. ArePiles (M.space metric) live.now (bytes_in image.entry) show commands.now
         (record { rounds = deal.now.rounds; workers = deal.now.workers }) piles.items) }
 {
     let work = |worker: usize| -> Result<Pile, Memory>
         requires { (live.now.pages ≤ 2 ^ 24) × All (IsReadable (M.space metric).words) commands.now
             × IsDeal (record { rounds = deal.now.rounds; workers = deal.now.workers }) × (worker < deal.now.workers) }
-        ensures { IfOk result (IsPileIn (M.space metric) live.entry.now image.entry.now show commands.entry.now
+        ensures { IfOk result (IsPileIn (M.space metric) live.entry.now (bytes_in image.entry) show commands.entry.now
             (record { rounds = deal.entry.now.rounds; workers = deal.entry.now.workers }) deal.entry.now.rounds worker) }
     { pile_of(alloc, image, metric, live, commands, show, deal, worker) };
     let tried = share(rt, alloc, deal.workers, deal.workers, &work)?;
-    all_piles(alloc, tried)
+    match all_done(alloc, tried)? {
+        Some(piles) => Ok(piles),
+        None => Err(AllocError),
+    }
 }
 
 /// What the piles have, in the order of the commands, of which there are `count`.

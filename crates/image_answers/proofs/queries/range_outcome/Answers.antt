@@ -1,4 +1,5 @@
-use Rattle.std.proofs.Common.{◌∙◌, refl, sym}
+use Rattle.std.proofs.Common.{◌∙◌, ap, refl, sym}
+use Rattle.page_store.specs.Images.{bytes_in}
 use Rattle.page_store.specs.Shelves.{image_shelf}
 use Rattle.image_answers.proofs.Asking.{range_found, range_fault, range_marked}
 use Rattle.image_answers.proofs.queries.range_outcome.Goals as goal
@@ -8,21 +9,21 @@ returns-in-Ok g c =
     let s = g.M.Metric.space c.args.metric in
     let dim = c.in-Ok.ensures.same.dim ∙ c.pages_of-pages.ensures.dim in
     let pages = c.in-Ok.ensures.same.pages ∙ c.pages_of-pages.ensures.pages in
-    let bytes = c.in-Ok.ensures.keeps ∙ c.pages_of-pages.ensures.bytes in
-    range_found s c.args.live.now c.args.image.now c.args.q.now (rw (← c.as_slice.ensures) (sym c.fits.ensures ∙ c.if-not-fits.false)) _ _ c.range.new.pages.asked
-    (λ i. image_shelf (c.pages_of-pages.ensures.dim i) (c.pages_of-pages.ensures.pages i) (c.pages_of-pages.ensures.bytes i) (c.pages_of-pages.ensures.asked i))
+    let bytes = c.in-Ok.ensures.keeps ∙ (ap bytes_in c.pages_of-pages.ensures.image) in
+    range_found s c.args.live.now (bytes_in c.args.image) c.args.q.now (rw (← c.as_slice.ensures) (sym c.fits.ensures ∙ c.if-not-fits.false)) _ _ c.range.new.pages.asked
+    (λ i. image_shelf (c.pages_of-pages.ensures.dim i) (c.pages_of-pages.ensures.pages i) (bytes_in (c.pages_of-pages.ensures.image i)) (c.pages_of-pages.ensures.asked i))
     (λ i. image_shelf (dim i) (pages i) (bytes i) c.range.new.pages.asked)
-    c.args.r _ _ (image_shelf c.tagged.new.pages.dim c.tagged.new.pages.pages c.tagged.new.pages.bytes.now c.tagged.new.pages.asked) c.in-Ok.found refl (rw (c.new-ruler.ensures.metric, c.as_slice-2.ensures) at c.in-Ok.ensures.found) (rw (c.new-ruler.ensures.metric, c.as_slice-2.ensures) at c.in-Ok.ensures.scanned) c.tagged.result c.tagged.ensures
+    c.args.r _ _ (image_shelf c.tagged.new.pages.dim c.tagged.new.pages.pages (bytes_in c.tagged.new.pages.image) c.tagged.new.pages.asked) c.in-Ok.found refl (rw (c.new-ruler.ensures.metric, c.as_slice-2.ensures) at c.in-Ok.ensures.found) (rw (c.new-ruler.ensures.metric, c.as_slice-2.ensures) at c.in-Ok.ensures.scanned) c.tagged.result c.tagged.ensures
 
 pub returns-in-Err : goal.returns-in-Err
 returns-in-Err g c =
     let s = g.M.Metric.space c.args.metric in
     let dim = c.in-Err.ensures.same.dim ∙ c.pages_of-pages.ensures.dim in
     let pages = c.in-Err.ensures.same.pages ∙ c.pages_of-pages.ensures.pages in
-    let bytes = c.in-Err.ensures.keeps ∙ c.pages_of-pages.ensures.bytes in
+    let bytes = c.in-Err.ensures.keeps ∙ (ap bytes_in c.pages_of-pages.ensures.image) in
     rw c.outcome_of_fault.ensures
-    (range_fault s c.args.live.now c.args.image.now c.args.q.now (rw (← c.as_slice.ensures) (sym c.fits.ensures ∙ c.if-not-fits.false)) _ _ c.range.new.pages.asked
-    (λ i. image_shelf (c.pages_of-pages.ensures.dim i) (c.pages_of-pages.ensures.pages i) (c.pages_of-pages.ensures.bytes i) (c.pages_of-pages.ensures.asked i))
+    (range_fault s c.args.live.now (bytes_in c.args.image) c.args.q.now (rw (← c.as_slice.ensures) (sym c.fits.ensures ∙ c.if-not-fits.false)) _ _ c.range.new.pages.asked
+    (λ i. image_shelf (c.pages_of-pages.ensures.dim i) (c.pages_of-pages.ensures.pages i) (bytes_in (c.pages_of-pages.ensures.image i)) (c.pages_of-pages.ensures.asked i))
     (λ i. image_shelf (dim i) (pages i) (bytes i) c.range.new.pages.asked)
     c.args.r c.in-Err.fault (rw (c.new-ruler.ensures.metric, c.as_slice-2.ensures) at c.in-Err.ensures.cause) (rw c.new-ruler.ensures.metric at c.in-Err.ensures.sound))
 
@@ -31,10 +32,10 @@ tagged-requires g c =
     let s = g.M.Metric.space c.args.metric in
     let dim = c.in-Ok.ensures.same.dim ∙ c.pages_of-pages.ensures.dim in
     let pages = c.in-Ok.ensures.same.pages ∙ c.pages_of-pages.ensures.pages in
-    let bytes = c.in-Ok.ensures.keeps ∙ c.pages_of-pages.ensures.bytes in
+    let bytes = c.in-Ok.ensures.keeps ∙ (ap bytes_in c.pages_of-pages.ensures.image) in
     record {
-      marked = range_marked s c.args.live.now c.args.image.now c.args.q.now (rw (← c.as_slice.ensures) (sym c.fits.ensures ∙ c.if-not-fits.false)) _ _ c.range.new.pages.asked
-          (λ i. image_shelf (c.pages_of-pages.ensures.dim i) (c.pages_of-pages.ensures.pages i) (c.pages_of-pages.ensures.bytes i) (c.pages_of-pages.ensures.asked i))
+      marked = range_marked s c.args.live.now (bytes_in c.args.image) c.args.q.now (rw (← c.as_slice.ensures) (sym c.fits.ensures ∙ c.if-not-fits.false)) _ _ c.range.new.pages.asked
+          (λ i. image_shelf (c.pages_of-pages.ensures.dim i) (c.pages_of-pages.ensures.pages i) (bytes_in (c.pages_of-pages.ensures.image i)) (c.pages_of-pages.ensures.asked i))
           (λ i. image_shelf (dim i) (pages i) (bytes i) c.range.new.pages.asked)
           c.args.r _ _ c.in-Ok.found (rw (c.new-ruler.ensures.metric, c.as_slice-2.ensures) at c.in-Ok.ensures.found);
     }

@@ -15,18 +15,18 @@ pub returns-clause-ok : goal.returns-clause-ok
 returns-clause-ok g c =
     let p = c.args.self.now in
     let disk = g.D.Disk.state p.disk.now in
-    answers_node (version_of p.first_version) c.node_on-node.result (disk_shelf p.first_version p.dim p.pages disk p.asked) c.args.page c.deref.result.now disk.bytes
-    (sym c.is_within.ensures.test ∙ c.if-not-is_within.false) c.node_on-node.ensures.lawful c.node_on-node.ensures.told
-    (λ tells. c.deref.ensures ∙ holds_at_ok c.read_page.result (sym c.is_err.ensures.value ∙ c.if-is_err.false) c.read_page.ensures.read tells) (λ tells. refl)
+    answers_node (version_of p.first_version) c.node_on.result (disk_shelf p.first_version p.dim p.pages disk p.asked) c.args.page c.read_page.new.bytes disk.bytes
+    (sym c.is_within.ensures.test ∙ c.if-not-is_within.false) c.node_on.ensures.lawful c.node_on.ensures.told
+    (holds_at_ok c.read_page.result (sym c.is_err.ensures.value ∙ c.if-is_err.false) c.read_page.ensures.read) (λ tells. refl)
 
 pub returns-clause-cause : goal.returns-clause-cause
 returns-clause-cause g c =
     let p = c.args.self.now in
     let disk = g.D.Disk.state p.disk.now in
-    answers_fault (version_of p.first_version) c.node_on-node.result (disk_shelf p.first_version p.dim p.pages disk p.asked)
-    (disk_shelf p.first_version p.dim p.pages (g.D.Disk.state c.read_page.new.disk) c.saturating_add-self.result) c.args.page c.deref.result.now disk.bytes
-    (sym c.is_within.ensures.test ∙ c.if-not-is_within.false) c.node_on-node.ensures.fault
-    (λ tells. c.deref.ensures ∙ holds_at_ok c.read_page.result (sym c.is_err.ensures.value ∙ c.if-is_err.false) c.read_page.ensures.read tells) (λ tells. refl)
+    answers_fault (version_of p.first_version) c.node_on.result (disk_shelf p.first_version p.dim p.pages disk p.asked)
+    (disk_shelf p.first_version p.dim p.pages (g.D.Disk.state c.read_page.new.disk) c.saturating_add-self.result) c.args.page c.read_page.new.bytes disk.bytes
+    (sym c.is_within.ensures.test ∙ c.if-not-is_within.false) c.node_on.ensures.fault
+    (holds_at_ok c.read_page.result (sym c.is_err.ensures.value ∙ c.if-is_err.false) c.read_page.ensures.read) (λ tells. refl)
 
 pub returns-clause-outside : goal.returns-clause-outside
 returns-clause-outside g c = not_outside c.args.self.now.pages c.args.page (sym c.is_within.ensures.test ∙ c.if-not-is_within.false)
