@@ -1,5 +1,5 @@
 -- The parts of a file that were read one by one make the file.
-use Rattle.std.proofs.Common.{◌≡◌, ◌⊎◌, ℕ, ◌+◌, ◌-◌, ◌*◌, ◌/◌, ◌%◌, ◌<◌, ◌≤◌, min, List, [], ◌∷◌, ◌++◌, suc, length, map, Some, Result, Ok, slice_get, slice_index, inl, inr, refl, sym, ◌∙◌, ap, subst, arith}
+use Rattle.std.proofs.Common.{◌≡◌, ℕ, ◌+◌, ◌-◌, ◌*◌, ◌/◌, ◌%◌, ◌<◌, ◌≤◌, min, List, [], ◌∷◌, suc, length, map, Some, Result, Ok, slice_get, slice_index, inl, inr, refl, sym, ◌∙◌, ap, subst, arith}
 use Rattle.std.specs.Prelude.{IsTrue, IfOk}
 use Rattle.std.specs.List.{concat}
 use Rattle.std.proofs.Math.Nat.{min-eq_left, min-eq_right, mul-le-mul_right, suc-mul, zero-mul}
@@ -9,7 +9,7 @@ use Rattle.std.proofs.lemmas.List.{append-nil, length-append, get_or_append_left
 use Rattle.std.proofs.lemmas.Option.{slice_get_within}
 use Rattle.disk_model.specs.Disk.{DiskState}
 use Rattle.page_store.specs.Parts.{AreParts}
-use Rattle.batch_run.specs.Images.{HasBytes, IsPartRead}
+use Rattle.batch_run.specs.Images.{HasBytes, IsImageOf, IsPartRead}
 use Rattle.batch_run.proofs.Gathered.{as_many, done_at}
 
 module _ (disk : DiskState) (m pages : ℕ) where
@@ -86,3 +86,10 @@ module _ (disk : DiskState) (m pages : ℕ) where
 
       whole : pages ≤ (0 + length parts) * m
       whole = subst (λ (n : ℕ). pages ≤ n * m) (let none : pages / m + min 1 (pages % m) ≡ 0 + length parts = omega (arith, count) in none) (div_ceil_times pages m some).0
+
+  -- so they are its image
+  pub is_image : (parts : List (List ℕ)) → IsRest 0 parts → IsTrue disk.tells → IsImageOf pages disk.bytes (concat parts)
+  is_image parts rest tells = record {
+    size = omega (arith, rest.size);
+    bytes = λ i below. rest.told tells i (omega (arith, rest.size, below)) ∙ ap (slice_index disk.bytes) (let here : 4096 * 0 + i ≡ i = omega arith in here);
+  }

@@ -1,6 +1,6 @@
 //! Files in memory.
 
-ghost use Rattle.std.specs.Prelude.{◌≡◌, ◌≤◌, ◌+◌, ◌*◌, ◌<◌, Err, length, min, slice_get, Some, vec_len, IsTrue, IfOk, IfErr, IfSome, OnOk};
+ghost use Rattle.std.specs.Prelude.{◌≡◌, ◌≤◌, ◌+◌, ◌*◌, ◌<◌, ◌^◌, Err, length, min, slice_get, Some, vec_len, IsTrue, IfOk, IfErr, IfSome, OnOk};
 ghost use Rattle.disk_model.specs.Disk.{IsUnchanged};
 ghost use Rattle.batch_run.specs.Images.{HasBytes, IsImageOf, IsPartRead, HasImageCause};
 
@@ -92,12 +92,12 @@ fn parts_by<R: Threads + Sync, D: SharedDisk>(
     requires some_pages { 1 ≤ part_pages }
     requires some_workers { 1 ≤ workers }
     requires few_workers { workers ≤ 64 }
-    ensures { IfOk result (λ found. IfSome found (λ parts. IsTrue (D.state disk.now).tells → IsImageOf pages (D.state disk.now).bytes parts)) }
+    ensures image { IfOk result (λ found. IfSome found (λ parts. IsTrue (D.state disk.now).tells → IsImageOf pages (D.state disk.now).bytes parts)) }
     ensures size { IfOk result (λ found. IfSome found (λ parts. length parts ≡ pages * 4096)) }
 {
     let count = pages.div_ceil(part_pages);
     let work = |part: usize| -> Result<Listed<u8>, ImageFault>
-        requires { (pages ≤ 262144) × (part * part_pages < pages) }
+        requires { (pages ≤ 262144) × (part < 2 ^ 32) × (part * part_pages < pages) }
         ensures { IfOk result (λ bytes. IsPartRead (D.state disk.entry.now) part_pages pages (part * part_pages) bytes) }
     {
         let from = part as u32 * part_pages;

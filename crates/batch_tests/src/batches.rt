@@ -1,7 +1,7 @@
 ghost use Rattle.std.specs.Prelude.{◌≡◌, ◌≤◌, ◌<◌, ◌^◌, length};
 
 use batch_run::laws::images_hold_the_file;
-use batch_run::{ImageFault, audit_image, batch, read_image, sound_by_parts};
+use batch_run::{ImageFault, audit_image, batch, read_image, read_parts, sound_by_parts};
 use disk_model::{Disk, MemoryDisk};
 use image_answers::Outcome;
 use meeting::{Meeting, Seen};
@@ -359,5 +359,23 @@ fn images_are_read(rt: HostRuntime) -> Result<(), Fail> {
     let long = image_of(alloc, &mut disk, 262_145);
     assert!(rt; long.err() == Some(ImageFault::TooLong));
     assert!(rt; disk.moments() == 3);
+    Ok(())
+}
+
+#[test]
+fn parts_are_read_by_readers(rt: HostRuntime) -> Result<(), Fail> {
+    let alloc = rt.alloc();
+    let bytes = vec![in alloc; 7u8; 5000]?;
+    let mut fails = Vec::new(alloc);
+    fails.push(0)?;
+    let mut disk = MemoryDisk::new(alloc, bytes, 8192, 100, fails, None)?;
+    // The readers fail at their first calls, and so does the disk at its own, but not at its second one.
+    let failed = read_parts(&rt, alloc, &mut disk, 2, 2);
+    assert!(rt; failed.err() == Some(ImageFault::Disk));
+    assert!(rt; read_parts(&rt, alloc, &mut disk, 2, 2).is_ok() == true);
+    assert!(rt; disk.moments() == 2);
+    let long = read_parts(&rt, alloc, &mut disk, 262_145, 2);
+    assert!(rt; long.err() == Some(ImageFault::TooLong));
+    assert!(rt; disk.moments() == 2);
     Ok(())
 }

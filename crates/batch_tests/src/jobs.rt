@@ -180,7 +180,10 @@ fn what_fails_ends_a_batch(rt: HostRuntime) -> Result<(), Fail> {
         disk: Some(4),
         ..NOTHING_FAILS
     };
-    check(&rt, &bytes, script, &disk, 5, ("fault disk\n", 0))?;
+    check_by(&rt, 1, &bytes, script, &disk, 5, ("fault disk\n", 0))?;
+    // Readers count their calls by themselves.
+    let answered = ("count 33\nhits 1\n3 3 0\ncount 33\n", 1);
+    check_by(&rt, 2, &bytes, script, &disk, 0, answered)?;
     let out = FailingCalls {
         out: Some(1),
         ..NOTHING_FAILS

@@ -105,7 +105,14 @@ fn range_answer(alloc: Global, file: &[u8], point: &[u32], radius: u64) -> Resul
     let Ok(point) = Point::new(alloc, point) else {
         return Err(MEMORY);
     };
-    answer_of(range_outcome(alloc, Image::Whole(file), space_of(&head), &live, &point, radius))
+    answer_of(range_outcome(
+        alloc,
+        Image::Whole(file),
+        space_of(&head),
+        &live,
+        &point,
+        radius,
+    ))
 }
 
 // The same of the nearest.
@@ -122,7 +129,14 @@ fn nearest_answer(alloc: Global, file: &[u8], point: &[u32], count: u64) -> Resu
     let Ok(point) = Point::new(alloc, point) else {
         return Err(MEMORY);
     };
-    answer_of(nearest_outcome(alloc, Image::Whole(file), space_of(&head), &live, &point, count))
+    answer_of(nearest_outcome(
+        alloc,
+        Image::Whole(file),
+        space_of(&head),
+        &live,
+        &point,
+        count,
+    ))
 }
 
 // The frame of a log, or nothing where there is no room at all.

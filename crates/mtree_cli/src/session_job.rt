@@ -15,8 +15,8 @@ ghost use Rattle.mtree_cli.specs.Session.{HasEnded, HasFinished, HasRefused, IsC
 
 use disk_model::Disk;
 use file_jobs::{
-    FAULT_DISK, FAULT_INPUT, FAULT_LONG, FAULT_MEMORY, KEPT_NODES, MOST_INPUT, damaged_text, end_unopened,
-    end_with, open_index, space_of,
+    FAULT_DISK, FAULT_INPUT, FAULT_LONG, FAULT_MEMORY, KEPT_NODES, MOST_INPUT, damaged_text,
+    end_unopened, end_with, open_index, space_of,
 };
 use index_core::Index;
 use metric_laws::Metric;
