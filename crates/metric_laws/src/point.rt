@@ -19,6 +19,8 @@ impl Model for Point {
 
 impl Point {
     /// The point with these coordinates.
+    // A call would pass the coordinates through memory twice.
+    #[inline(always)]
     pub fn new(alloc: Global, coordinates: &[u32]) -> Result<Self, Memory>
         ensures { IfOk result (λ p. p ≡ coordinates.now) }
     {

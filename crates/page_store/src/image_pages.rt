@@ -2,7 +2,7 @@ ghost use Rattle.std.specs.Prelude.{◌≡◌, ◌≤◌, ◌^◌};
 ghost use Rattle.page_store.specs.Images.{bytes_in};
 
 use crate::image::Image;
-use crate::reading::{copy_page, is_within, node_on, whole_page};
+use crate::reading::{is_within, node_on, node_on_cut, whole_page};
 use crate::{PageFault, Pages};
 use std::alloc::Global;
 use tree_shape::Node;
@@ -81,8 +81,6 @@ impl Pages for ImagePages<'_> {
         if let Some(bytes) = whole_page(file, place) {
             return node_on(alloc, page, bytes, self.dim, false);
         }
-        let mut bytes = [0; 4096];
-        copy_page(file, place, &mut bytes);
-        node_on(alloc, page, &bytes, self.dim, false)
+        node_on_cut(alloc, file, place, page, self.dim)
     }
 }

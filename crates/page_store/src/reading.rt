@@ -4,6 +4,7 @@ ghost use Rattle.node_page.specs.Nodes.{IsLawfulNode, fault_in, node_in};
 ghost use Rattle.outside_io.specs.Causes.{HasCause};
 ghost use Rattle.disk_model.specs.Disk.{IsUnchanged};
 ghost use Rattle.node_page.specs.Opening.{page_of};
+ghost use Rattle.node_page.specs.declared.node.Version.TheVariants.{Second};
 
 use crate::PageFault;
 use disk_model::{Disk, Failed};
@@ -41,7 +42,7 @@ pub fn whole_page(file: &[u8], page: u32) -> Option<&[u8; 4096]>
 }
 
 // Copies a page of bytes in memory, past whose end all are 0.
-pub fn copy_page(file: &[u8], page: u32, bytes: &mut [u8; 4096])
+fn copy_page(file: &[u8], page: u32, bytes: &mut [u8; 4096])
     ensures { bytes.new ≡ page_of file.now page }
 {
     let from = PAGE as usize * page as usize;
@@ -79,6 +80,26 @@ pub fn node_on(
         Err(NodeFault::Memory) => Err(PageFault::Memory),
         Err(fault) => Err(PageFault::Bad(page, fault)),
     }
+}
+
+// The node of a page that bytes in memory do not have whole, in a file of version 2: on the page with this number among theirs.
+pub fn node_on_cut(
+    alloc: Global,
+    file: &[u8],
+    number: u32,
+    page: u32,
+    dim: u8,
+) -> Result<Node, PageFault>
+    requires some { 1 ≤ dim }
+    requires few { dim ≤ 64 }
+    ensures lawful { IfOk result (IsLawfulNode dim) }
+    ensures told { IfOk result (λ node. (fault_in Second dim (page_of file.now number) ≡ None)
+        × (node ≡ node_in Second dim (page_of file.now number))) }
+    ensures fault { IfErr result (IsBytesFault Second dim (page_of file.now number) page) }
+{
+    let mut bytes = [0; 4096];
+    copy_page(file, number, &mut bytes);
+    node_on(alloc, page, &bytes, dim, false)
 }
 
 // Reads a node as the version has it.
