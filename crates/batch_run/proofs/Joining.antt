@@ -1,12 +1,13 @@
 -- The parts of a file that were read one by one make the file.
-use Rattle.std.proofs.Common.{◌≡◌, ℕ, ◌+◌, ◌-◌, ◌*◌, ◌/◌, ◌%◌, ◌<◌, ◌≤◌, min, List, [], ◌∷◌, suc, length, map, Some, Result, Ok, slice_get, slice_index, inl, inr, refl, sym, ◌∙◌, ap, subst, arith}
+use Rattle.std.proofs.Common.{◌≡◌, ℕ, ◌+◌, ◌-◌, ◌*◌, ◌/◌, ◌%◌, ◌<◌, ◌≤◌, min, List, [], ◌∷◌, suc, length, map, Some, Result, Ok, slice_get, slice_index, inl, inr, refl, sym, ◌∙◌, ap, subst, arith, ◌++◌, take, slice_index_or}
 use Rattle.std.specs.Prelude.{IsTrue, IfOk}
 use Rattle.std.specs.List.{concat}
 use Rattle.std.proofs.Math.Nat.{min-eq_left, min-eq_right, mul-le-mul_right, suc-mul, zero-mul}
 use Rattle.std.proofs.lemmas.Bool.{cases_lt}
 use Rattle.std.proofs.lemmas.Grind.{div_ceil_times}
 use Rattle.std.proofs.lemmas.List.{append-nil, length-append, get_or_append_left, get_or-append_right}
-use Rattle.std.proofs.lemmas.Option.{slice_get_within}
+use Rattle.std.proofs.Math.Seq.{take-append_seam}
+use Rattle.std.proofs.lemmas.Option.{get_or_from_slice_get, slice_get_within}
 use Rattle.disk_model.specs.Disk.{DiskState}
 use Rattle.page_store.specs.Parts.{AreParts}
 use Rattle.batch_run.specs.Images.{HasBytes, IsImageOf, IsPartRead}
@@ -64,7 +65,7 @@ module _ (disk : DiskState) (m pages : ℕ) where
       (first.0, first.1, subst (λ (n : ℕ). AreRead n parts) (suc-mul i m) rest)
 
   -- each number below that of the parts has pages
-  has_pages : 1 ≤ m → (k : ℕ) → k < pages / m + min 1 (pages % m) → k * m < pages
+  pub has_pages : 1 ≤ m → (k : ℕ) → k < pages / m + min 1 (pages % m) → k * m < pages
   has_pages some k low =
       let over = (div_ceil_times pages m some).1 in
       let steps : suc k * m ≤ (pages / m + min 1 (pages % m)) * m = mul-le-mul_right m low in
@@ -93,3 +94,17 @@ module _ (disk : DiskState) (m pages : ℕ) where
     size = omega (arith, rest.size);
     bytes = λ i below. rest.told tells i (omega (arith, rest.size, below)) ∙ ap (slice_index disk.bytes) (let here : 4096 * 0 + i ≡ i = omega arith in here);
   }
+
+  -- the same of what was left at the places of the parts
+  pub left_read : {F : Type 0} → 1 ≤ m → (n : ℕ) (left others : List (Result (List ℕ) F)) (parts : List (List ℕ)) → n ≡ pages / m + min 1 (pages % m) → length left ≡ n →
+      ((i : ℕ) (x : Result (List ℕ) F) → i < n → (y : Result (List ℕ) F) × (y ≡ slice_index_or left i x) × IfOk y (IsPartRead disk m pages (i * m))) →
+      take n (left ++ others) ≡ map (λ part. Ok part) parts → IsRest 0 parts
+  left_read {F} some n left others parts count long each all = parts_read some left parts (long ∙ count) part_is (sym same ∙ all)
+    where
+      same : take n (left ++ others) ≡ left
+      same = subst (λ (k : ℕ). take k (left ++ others) ≡ left) long (take-append_seam left others)
+
+      part_is : (i : ℕ) (x : Result (List ℕ) F) → slice_get left i ≡ Some x → IfOk x (IsPartRead disk m pages (i * m))
+      part_is i x at =
+          let found = each i x (subst (λ (k : ℕ). i < k) long (slice_get_within left i x at)) in
+          subst (λ (r : Result (List ℕ) F). IfOk r (IsPartRead disk m pages (i * m))) (found.1 ∙ get_or_from_slice_get left i x x at) found.2

@@ -1,6 +1,6 @@
 //! Files in memory.
 
-ghost use Rattle.std.specs.Prelude.{◌≡◌, ◌≤◌, ◌+◌, ◌*◌, ◌<◌, ◌^◌, Err, length, min, slice_get, Some, vec_len, IsTrue, IfOk, IfErr, IfSome, OnOk};
+ghost use Rattle.std.specs.Prelude.{◌≡◌, ◌≤◌, ◌+◌, ◌*◌, ◌<◌, ◌^◌, Err, length, IsTrue, IfOk, IfErr, IfSome, OnOk};
 ghost use Rattle.disk_model.specs.Disk.{IsUnchanged};
 ghost use Rattle.batch_run.specs.Images.{HasBytes, IsImageOf, IsPartRead, HasImageCause};
 
@@ -10,9 +10,8 @@ use disk_model::{Disk, SharedDisk};
 use file_jobs::MOST_WHOLE_PAGES;
 use metric_laws::Listed;
 use page_store::Parts;
-use par_work::share;
 use std::alloc::Global;
-use std::thread::Threads;
+use std::thread::{self, Threads};
 use thiserror::Error;
 use tree_shape::PAGE;
 
@@ -95,15 +94,21 @@ fn parts_by<R: Threads + Sync, D: SharedDisk>(
     ensures image { IfOk result (λ found. IfSome found (λ parts. IsTrue (D.state disk.now).tells → IsImageOf pages (D.state disk.now).bytes parts)) }
     ensures size { IfOk result (λ found. IfSome found (λ parts. length parts ≡ pages * 4096)) }
 {
-    let count = pages.div_ceil(part_pages);
-    let work = |part: usize| -> Result<Listed<u8>, ImageFault>
+    let count = pages.div_ceil(part_pages) as usize;
+    // Each worker fills a place that is made here. Lists that workers made would be freed here, and this thread would take their
+    // memory again: then it and a later worker would wait for one heap.
+    let mut tried = Vec::with_capacity(alloc, count)?;
+    for _part in 0..count {
+        tried.push(Err(ImageFault::Disk))?;
+    }
+    let read = |part: usize, place: &mut Result<Listed<u8>, ImageFault>|
         requires { (pages ≤ 262144) × (part < 2 ^ 32) × (part * part_pages < pages) }
-        ensures { IfOk result (λ bytes. IsPartRead (D.state disk.entry.now) part_pages pages (part * part_pages) bytes) }
+        ensures { IfOk place.exit.now (IsPartRead (D.state disk.entry.now) part_pages pages (part * part_pages)) }
     {
         let from = part as u32 * part_pages;
-        read_part(alloc, disk, from, part_pages.min(pages - from))
+        *place = read_part(alloc, disk, from, part_pages.min(pages - from));
     };
-    let tried = share(rt, alloc, count as usize, workers, &work)?;
+    thread::for_each_mut(rt, tried.as_mut_slice(), workers, &read);
     match all_done(alloc, tried)? {
         Some(parts) => Ok(Some(Parts::new(parts, part_pages))),
         None => Ok(None),
