@@ -114,9 +114,9 @@ pub fn sound_by_parts<R: Threads + Sync, D: SharedDisk, M: Metric>(
         Ok(node) => node,
         Err(_) => return Ok(None),
     };
-    let (level, entries) = match node {
+    let (level, entries) = match node.as_ref() {
         Node::Leaf(_) => return Ok(None),
-        Node::Inner { level, entries } => (level, entries),
+        Node::Inner { level, entries } => (*level, entries),
     };
     let entries = entries.as_slice();
     if !is_root(live, dim, level, entries.len()) {

@@ -90,7 +90,7 @@ fn visit<P: Pages>(
         Ok(node) => node,
         Err(fault) => return Err(fault),
     };
-    let Ok(()) = name_children(&mut walk.coming, &node) else {
+    let Ok(()) = name_children(&mut walk.coming, node.as_ref()) else {
         return Err(PageFault::Memory);
     };
     walk.opened[page as usize] = true;

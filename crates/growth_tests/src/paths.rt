@@ -161,7 +161,11 @@ fn new_file(alloc: Global) -> Result<File, PlaceFault>
 fn node_of(alloc: Global, file: &File, page: u32) -> Result<Node, PageFault>
     requires { file.now.live.pages ≤ 2 ^ 24 }
 {
-    ImagePages::new(&file.bytes, 1, file.live.pages).node(alloc, page)
+    let shared = ImagePages::new(&file.bytes, 1, file.live.pages).node(alloc, page)?;
+    match shared.into_node(alloc) {
+        Ok(node) => Ok(node),
+        Err(_) => Err(PageFault::Memory),
+    }
 }
 
 // What an entry of a root should say of its leaf.

@@ -14,7 +14,7 @@ ghost use Rattle.hit_tags.specs.Steps.{HasFollowed};
 
 use crate::Memory;
 use crate::wanted::Wanted;
-use log_model::{Mark, Record};
+use log_model::{Mark, Record, entry_count};
 use page_store::{PageFault, Pages};
 use scan_model::Hit;
 use std::alloc::Global;
@@ -27,16 +27,6 @@ pub struct Walk {
     pub wanted: Wanted,
     /// The pages that are needed, the next one last.
     pub stack: Vec<u32>,
-}
-
-// The number of entries of a node.
-fn entry_count(node: &Node) -> usize
-    ensures { result ≡ entry_count node.now }
-{
-    match node {
-        Node::Leaf(entries) => entries.as_slice().len(),
-        Node::Inner { entries, .. } => entries.as_slice().len(),
-    }
 }
 
 // Takes in the objects that are marked Near.
@@ -118,12 +108,13 @@ impl Walk {
         if told.page != page {
             return Ok(false);
         }
-        let node = pages.node(alloc, page)?;
+        let shared = pages.node(alloc, page)?;
+        let node = shared.as_ref();
         let marks = told.marks.as_slice();
-        if marks.len() != entry_count(&node) {
+        if marks.len() != entry_count(node) {
             return Ok(false);
         }
-        match self.take_node(&node, marks) {
+        match self.take_node(node, marks) {
             Ok(()) => Ok(true),
             Err(_) => Err(PageFault::Memory),
         }

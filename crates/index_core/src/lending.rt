@@ -3,9 +3,8 @@ ghost use Rattle.std.specs.Prelude.{◌≡◌, ◌+◌, ◌≤◌, IfOk, IfErr, 
 ghost use Rattle.index_core.specs.Lending.{lent_inner, lent_kept, lent_shelf, KeptAgrees};
 
 use page_cache::{Cached, Kept};
-use page_store::{PageFault, Pages};
+use page_store::{PageFault, Pages, SharedNode};
 use std::alloc::Global;
-use tree_shape::Node;
 
 /// Pages as they are, or behind what is kept of them.
 #[derive(Drop)]
@@ -62,7 +61,7 @@ impl<P: Pages> Pages for Lent<P> {
       same_room_by_both (lent_kept l) (lent_kept m) (lent_kept n) first.1 second.1,
     ) };
 
-    fn node(&mut self, alloc: Global, page: u32) -> Result<Node, PageFault> {
+    fn node(&mut self, alloc: Global, page: u32) -> Result<SharedNode, PageFault> {
         match self {
             Lent::Plain(inner) => inner.node(alloc, page),
             Lent::Behind(cached) => cached.node(alloc, page),

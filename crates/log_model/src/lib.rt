@@ -17,7 +17,7 @@ pub use marking::{Probe, is_ruled_out, mark_inner, mark_leaf};
 pub use marks::{JoinRecord, Mark, Need, Record};
 pub use pairing::{is_far, is_skipped};
 pub use pairs::{Item, JoinNeed};
-pub use traversal::Traversal;
+pub use traversal::{Traversal, entry_count};
 
 /// Want of memory.
 pub type Memory = std::alloc::AllocError;

@@ -2,7 +2,7 @@
 
 ghost use Rattle.std.specs.Prelude.{◌≡◌, ◌++◌, [], ◌∷◌, reverse, IfOk, OnOk};
 ghost use Rattle.metric_laws.specs.Counts.{count_up};
-ghost use Rattle.log_model.specs.Counts.{measured_by};
+ghost use Rattle.log_model.specs.Counts.{entry_count, measured_by};
 ghost use Rattle.log_model.specs.Walk.{search_at, least_marks, root_need};
 ghost use Rattle.log_model.specs.Steps.{TakesNode};
 
@@ -22,6 +22,16 @@ pub struct Traversal {
     pub records: Vec<Record>,
     /// The pages that the walk needs, the next one last.
     pub stack: Vec<Need>,
+}
+
+/// The number of entries of a node.
+pub fn entry_count(node: &Node) -> usize
+    ensures { result ≡ entry_count node.now }
+{
+    match node {
+        Node::Leaf(entries) => entries.as_slice().len(),
+        Node::Inner { entries, .. } => entries.as_slice().len(),
+    }
 }
 
 // Puts the needs on the stack, so that the first of them is on top.
@@ -71,7 +81,7 @@ impl Traversal {
             node.now))) }
         ensures taken { OnOk result (TakesNode (search_at (R.M.space (R.metric ruler.old)) probe.entry.q.now probe.entry.rho) need node.now self.old self.new) }
     {
-        let mut marks = Vec::new(alloc);
+        let mut marks = Vec::with_capacity(alloc, entry_count(node))?;
         match node {
             Node::Leaf(entries) => mark_leaf(
                 ruler,

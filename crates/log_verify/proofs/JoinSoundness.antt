@@ -19,7 +19,7 @@ use Rattle.log_model.specs.JoinWalk.{JoinSearch, JoinAllowed, JoinWalksBy, opens
 use Rattle.log_model.specs.SoundJoin.{join_at, root_pair, IsSoundJoinLog}
 use Rattle.log_verify.specs.declared.faults.JoinVerdict.{JoinVerdict}
 use Rattle.log_verify.specs.declared.faults.JoinVerdict.TheVariants.{OtherState, WrongPage, WrongCount, WrongAnswer}
-use Rattle.log_verify.specs.Judged.{entry_count}
+use Rattle.log_model.specs.Counts.{entry_count}
 use Rattle.log_verify.specs.JoinJudged.{join_wrong_in, after_join_marks, after_join_page, read_of, is_same_side, is_of, join_walked, pair_difference, after_join_walk, join_walk_of, names, join_fault}
 use Rattle.log_verify.proofs.Soundness.{all_allowed, none_wrong, ok_from_some, same_both, both_same}
 

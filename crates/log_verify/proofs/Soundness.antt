@@ -20,7 +20,8 @@ use Rattle.page_store.specs.declared.pages.PageFault.{PageFault}
 use Rattle.page_store.specs.Reading.{Read, nodes_of, node_or_none}
 use Rattle.log_verify.specs.declared.faults.Verdict.{Verdict}
 use Rattle.log_verify.specs.declared.faults.Verdict.TheVariants.{WrongCount, WrongAnswer, WrongPage, Point, OtherState}
-use Rattle.log_verify.specs.Judged.{first_wrong, first_wrong_in, entry_count, after_marks, after_page, walked, first_difference, after_walk, walk_of, log_fault}
+use Rattle.log_model.specs.Counts.{entry_count}
+use Rattle.log_verify.specs.Judged.{first_wrong, first_wrong_in, after_marks, after_page, walked, first_difference, after_walk, walk_of, log_fault}
 
 -- no mark is refused, and there is one for each entry
 pub all_allowed : {X : Type 0} (allows : X → Mark → Bool) (es : List X) (ms : List Mark) (j : ℕ) → length ms ≡ length es → first_wrong allows es ms j ≡ None →

@@ -10,10 +10,11 @@ use Rattle.log_model.specs.declared.marks.Mark.{Mark}
 use Rattle.log_model.specs.declared.marks.JoinRecord.{JoinRecord}
 use Rattle.log_model.specs.declared.pairs.JoinNeed.{JoinNeed}
 use Rattle.log_model.specs.declared.logs.JoinLog.{JoinLog}
+use Rattle.log_model.specs.Counts.{entry_count}
 use Rattle.log_model.specs.InOrder.{in_order, pair_before}
 use Rattle.log_model.specs.JoinWalk.{JoinSearch, opens_right, opened, page_of, entries_of, allows_entry, join_needs, join_hits}
 use Rattle.log_model.specs.SoundJoin.{join_at, root_pair}
-use Rattle.log_verify.specs.Judged.{first_wrong, entry_count}
+use Rattle.log_verify.specs.Judged.{first_wrong}
 use Rattle.log_verify.specs.declared.faults.JoinVerdict.{JoinVerdict}
 use Rattle.log_verify.specs.declared.faults.JoinVerdict.TheVariants.{OtherState, Page, WrongPage, WrongCount, WrongMark, WrongAnswer, LeftOver}
 

@@ -11,6 +11,7 @@ use Rattle.log_model.specs.declared.marks.Mark.{Mark}
 use Rattle.log_model.specs.declared.marks.Record.{Record}
 use Rattle.log_model.specs.declared.marks.Need.{Need}
 use Rattle.log_model.specs.declared.logs.Log.{Log}
+use Rattle.log_model.specs.Counts.{entry_count}
 use Rattle.log_model.specs.Grammar.{query_point}
 use Rattle.log_model.specs.Walk.{Search, allows_object, allows_subtree, needs_of, hits_of, root_need}
 use Rattle.log_model.specs.Sound.{search_for, selected}
@@ -26,10 +27,6 @@ first_wrong allows (e ∷ es) (m ∷ marks) j = if allows e m then first_wrong a
 abbrev pub first_wrong_in : Search → Option ℕ → Node → List Mark → Option ℕ
 first_wrong_in f above (Leaf es) marks = first_wrong (allows_object f above) es marks 0
 first_wrong_in f above (Inner level es) marks = first_wrong (allows_subtree f above) es marks 0
-
-abbrev pub entry_count : Node → ℕ
-entry_count (Leaf es) = length es
-entry_count (Inner level es) = length es
 
 -- behind a record's marks: the first that is not allowed, or the rest of the walk
 abbrev pub after_marks : ℕ → Option ℕ → Result (List Hit) Verdict → Result (List Hit) Verdict

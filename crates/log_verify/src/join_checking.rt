@@ -3,11 +3,10 @@ ghost use Rattle.std.specs.Prelude.{◌≡◌, ◌++◌, ◌<◌, ◌^◌, [], �
 ghost use Rattle.log_model.specs.declared.marks.Mark.TheVariants.{Near};
 ghost use Rattle.log_model.specs.declared.pairs.JoinNeed.{JoinNeed};
 ghost use Rattle.metric_laws.specs.Counts.{CountsUpTo};
-ghost use Rattle.log_model.specs.Counts.{measured_by};
+ghost use Rattle.log_model.specs.Counts.{entry_count, measured_by};
 ghost use Rattle.log_model.specs.Walk.{near_ones};
 ghost use Rattle.log_model.specs.JoinWalk.{allows_entry, object_entry, subtree_entry, join_hits, join_needs, within_apart};
 ghost use Rattle.log_model.specs.JoinSteps.{search_within, hits_among, needs_among, paired};
-ghost use Rattle.log_verify.specs.Judged.{entry_count};
 ghost use Rattle.log_verify.specs.JoinJudged.{join_wrong_in};
 ghost use Rattle.log_verify.specs.JoinSteps.{object_pair, subtree_pair};
 

@@ -3,23 +3,22 @@ ghost use Rattle.std.specs.Prelude.{◌≡◌, ◌++◌, ◌+◌, ◌≤◌, ◌
 ghost use Rattle.page_store.specs.Shelf.{HoldsSame};
 ghost use Rattle.metric_laws.specs.Counts.{next_count, CountsUpTo};
 ghost use Rattle.log_model.specs.declared.marks.JoinRecord.{JoinRecord};
-ghost use Rattle.log_model.specs.Counts.{measured_by, join_measured};
+ghost use Rattle.log_model.specs.Counts.{entry_count, measured_by, join_measured};
 ghost use Rattle.log_model.specs.JoinWalk.{opens_right, opened, page_of};
 ghost use Rattle.log_model.specs.SoundJoin.{root_item, root_pair};
 ghost use Rattle.log_model.specs.JoinSteps.{search_within};
-ghost use Rattle.log_verify.specs.Judged.{entry_count};
 ghost use Rattle.log_verify.specs.JoinJudged.{is_of, read_of, join_walked};
 ghost use Rattle.log_verify.specs.Causes.{IsNodeFault, verdict_of, IsJoinPageVerdict, HasJoinCause, AskBothUpTo};
 
 use crate::JoinVerdict;
 use crate::join_checking::{JoinProbe, Named, check_node};
-use crate::walking::{entry_count, put_on_top};
-use log_model::{Item, JoinNeed, JoinRecord, Memory};
+use crate::walking::put_on_top;
+use log_model::{Item, JoinNeed, JoinRecord, Memory, entry_count};
 use metric_laws::Ruler;
-use page_store::{PageFault, Pages};
+use page_store::{PageFault, Pages, SharedNode};
 use scan_model::Pair;
 use std::alloc::Global;
-use tree_shape::{Live, Node};
+use tree_shape::Live;
 
 /// A walk from the pair of roots, half way.
 #[derive(Debug, Drop)]
@@ -81,7 +80,7 @@ fn is_of(need: &JoinNeed, told: &JoinRecord) -> bool
 }
 
 // The node of a page of one side.
-fn node_at<P: Pages>(alloc: Global, pages: &mut P, page: u32) -> Result<Node, PageFault>
+fn node_at<P: Pages>(alloc: Global, pages: &mut P, page: u32) -> Result<SharedNode, PageFault>
     ensures same { HoldsSame (P.shelf pages.old) (P.shelf pages.new) }
     ensures keeps { P.keeps pages.old pages.new }
     ensures few { IfOk result (λ node. entry_count node < 2 ^ 32) }
@@ -104,12 +103,13 @@ fn verdict_of(right: bool, fault: PageFault) -> JoinVerdict
 }
 
 // The node of the opened item.
+#[tactic(auto, using(crate::proofs::Counting::ask_left, crate::proofs::Counting::ask_right))]
 fn opened_node<P: Pages, Q: Pages>(
     alloc: Global,
     left: &mut P,
     right: &mut Q,
     need: &JoinNeed,
-) -> Result<Node, JoinVerdict>
+) -> Result<SharedNode, JoinVerdict>
     ensures left_same { HoldsSame (P.shelf left.old) (P.shelf left.new) }
     ensures left_keeps { P.keeps left.old left.new }
     ensures right_same { HoldsSame (Q.shelf right.old) (Q.shelf right.new) }
@@ -170,9 +170,10 @@ fn take_record<P: Pages, Q: Pages, R: Ruler>(
     if !is_of(&need, told) {
         return Err(JoinVerdict::WrongPage(walk.taken));
     }
-    let node = opened_node(alloc, left, right, &need)?;
+    let shared = opened_node(alloc, left, right, &need)?;
+    let node = shared.as_ref();
     let marks = told.marks.as_slice();
-    if marks.len() != entry_count(&node) {
+    if marks.len() != entry_count(node) {
         return Err(JoinVerdict::WrongCount(walk.taken));
     }
     let probe = JoinProbe {
@@ -181,7 +182,7 @@ fn take_record<P: Pages, Q: Pages, R: Ruler>(
         rho: walk.rho,
     };
     walk.named.needs.clear();
-    match check_node(ruler, probe, &node, marks, &mut walk.named) {
+    match check_node(ruler, probe, node, marks, &mut walk.named) {
         Ok(None) => {
             put_on_top(&mut walk.stack, &mut walk.named.needs)?;
             walk.taken += 1;

@@ -3,17 +3,17 @@ ghost use Rattle.std.specs.Prelude.{◌≡◌, ◌++◌, ◌+◌, ◌≤◌, ◌
 ghost use Rattle.metric_laws.specs.Counts.{next_count, count_up, CountsUpTo};
 ghost use Rattle.page_store.specs.Shelf.{HoldsSame};
 ghost use Rattle.log_model.specs.declared.marks.Record.{Record};
-ghost use Rattle.log_model.specs.Counts.{measured_by, measured};
+ghost use Rattle.log_model.specs.Counts.{entry_count, measured_by, measured};
 ghost use Rattle.log_model.specs.Walk.{search_at, root_need};
-ghost use Rattle.log_verify.specs.Judged.{entry_count, first_wrong_in, walked};
+ghost use Rattle.log_verify.specs.Judged.{first_wrong_in, walked};
 ghost use Rattle.log_verify.specs.Causes.{HasCause, IsPageVerdict};
 ghost use Rattle.log_verify.specs.Steps.{NamesNode};
 
 use crate::Verdict;
 use crate::checking::{check_inner, check_leaf};
-use log_model::{Mark, Memory, Need, Probe, Record};
+use log_model::{Mark, Memory, Need, Probe, Record, entry_count};
 use metric_laws::Ruler;
-use page_store::{PageFault, Pages};
+use page_store::{PageFault, Pages, SharedNode};
 use scan_model::Hit;
 use std::alloc::Global;
 use tree_shape::Node;
@@ -63,18 +63,8 @@ pub fn put_on_top<T: Drop>(stack: &mut Vec<T>, needs: &mut Vec<T>) -> Result<(),
     Ok(())
 }
 
-// The number of entries of a node.
-pub fn entry_count(node: &Node) -> usize
-    ensures { result ≡ entry_count node.now }
-{
-    match node {
-        Node::Leaf(entries) => entries.as_slice().len(),
-        Node::Inner { entries, .. } => entries.as_slice().len(),
-    }
-}
-
 // The node of a page that the walk needs.
-fn node_at<P: Pages>(alloc: Global, pages: &mut P, page: u32) -> Result<Node, Verdict>
+fn node_at<P: Pages>(alloc: Global, pages: &mut P, page: u32) -> Result<SharedNode, Verdict>
     ensures same { HoldsSame (P.shelf pages.old) (P.shelf pages.new) }
     ensures keeps { P.keeps pages.old pages.new }
     ensures asked { (P.shelf pages.new).asked ≡ next_count (P.shelf pages.old).asked }
@@ -174,12 +164,13 @@ fn take_record<P: Pages, R: Ruler>(
     if told.page != need.page {
         return Err(Verdict::WrongPage(walk.taken));
     }
-    let node = node_at(alloc, pages, need.page)?;
+    let shared = node_at(alloc, pages, need.page)?;
+    let node = shared.as_ref();
     let marks = told.marks.as_slice();
-    if marks.len() != entry_count(&node) {
+    if marks.len() != entry_count(node) {
         return Err(Verdict::WrongCount(walk.taken));
     }
-    match check_node(ruler, probe, need.above, &node, marks, walk) {
+    match check_node(ruler, probe, need.above, node, marks, walk) {
         Ok(None) => {
             walk.taken += 1;
             Ok(())

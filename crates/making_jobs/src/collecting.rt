@@ -49,7 +49,9 @@ fn open_page<P: Pages>(
     ensures opened { OnOk result (IsOpened (P.shelf pages.old) page found.old.items found.new.items (reverse coming.old.items) (reverse coming.new.items)) }
     ensures cause { IfErr result (HasPageCause (P.shelf pages.old) (P.shelf pages.new) page) }
 {
-    let node = pages.node(alloc, page)?;
+    let Ok(node) = pages.node(alloc, page)?.into_node(alloc) else {
+        return Err(PageFault::Memory);
+    };
     match take_apart(node, found, coming) {
         Ok(()) => Ok(()),
         Err(_) => Err(PageFault::Memory),

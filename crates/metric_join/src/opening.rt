@@ -7,7 +7,7 @@ ghost use Rattle.log_model.specs.JoinWalk.{object_entry, subtree_entry, entries_
 ghost use Rattle.log_model.specs.JoinSteps.{search_within, apart_from, paired, hits_among, needs_among};
 ghost use Rattle.metric_join.specs.Steps.{least_at, marks_for, pairs_for, TakesEntries, CountsMarks};
 
-use log_model::{Item, JoinNeed, Mark, Memory, is_far, is_skipped};
+use log_model::{Item, JoinNeed, Mark, Memory, entry_count, is_far, is_skipped};
 use metric_laws::{Point, Ruler};
 use scan_model::Pair;
 use std::alloc::Global;
@@ -95,17 +95,17 @@ fn pair_with(probe: JoinProbe, item: Item, apart: Option<u64>) -> Result<JoinNee
 }
 
 impl Opening {
-    // An opening of no entries yet.
-    fn new(alloc: Global) -> Self
-        ensures marks { result.marks.items ≡ [] }
-        ensures hits { result.hits.items ≡ [] }
-        ensures needs { result.needs.items ≡ [] }
+    // An opening of no entries yet, with room for so many marks.
+    fn new(alloc: Global, entries: usize) -> Result<Self, Memory>
+        ensures marks { IfOk result (λ opening. opening.marks.items ≡ []) }
+        ensures hits { IfOk result (λ opening. opening.hits.items ≡ []) }
+        ensures needs { IfOk result (λ opening. opening.needs.items ≡ []) }
     {
-        Opening {
-            marks: Vec::new(alloc),
+        Ok(Opening {
+            marks: Vec::with_capacity(alloc, entries)?,
             hits: Vec::new(alloc),
             needs: Vec::new(alloc),
-        }
+        })
     }
 
     // Adds a pair: an answer where both items are objects, else a pair that is needed.
@@ -235,7 +235,7 @@ pub fn open_node<R: Ruler>(ruler: &mut R, probe: JoinProbe, node: &Node) -> Resu
         opening.needs.items ≡ needs_among
         (pairs_for (search_within (R.M.space (R.metric ruler.old)) probe.entry.rho) probe.entry.need.now (entries_of node.now))) }
 {
-    let mut opening = Opening::new(probe.alloc);
+    let mut opening = Opening::new(probe.alloc, entry_count(node))?;
     match node {
         Node::Leaf(entries) => mark_leaf(ruler, probe, entries.as_slice(), &mut opening)?,
         Node::Inner { level, entries } => {

@@ -34,7 +34,7 @@ fn open_page<P: Pages>(
     ensures cause { IfErr result (HasPageCause (P.shelf pages.old) (P.shelf pages.new) page) }
 {
     let node = pages.node(alloc, page)?;
-    match push_children(stack, &node) {
+    match push_children(stack, node.as_ref()) {
         Ok(()) => Ok(()),
         Err(_) => Err(PageFault::Memory),
     }

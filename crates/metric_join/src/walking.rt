@@ -13,10 +13,10 @@ use crate::faults::fault_of;
 use crate::opening::{JoinProbe, Opening, open_node};
 use log_model::{Item, JoinNeed, JoinRecord, Memory};
 use metric_laws::{BOUND, Listed, Ruler};
-use page_store::{PageFault, Pages};
+use page_store::{PageFault, Pages, SharedNode};
 use scan_model::Pair;
 use std::alloc::Global;
-use tree_shape::{Live, Node};
+use tree_shape::Live;
 
 /// A pair that waits to be opened.
 #[derive(Debug, Drop)]
@@ -139,7 +139,7 @@ fn put_on_top(
 }
 
 // The node of a page of one side, where its path has room left.
-fn node_at<P: Pages>(alloc: Global, pages: &mut P, page: u32, room: u32) -> Result<Node, PageFault>
+fn node_at<P: Pages>(alloc: Global, pages: &mut P, page: u32, room: u32) -> Result<SharedNode, PageFault>
     ensures same { HoldsSame (P.shelf pages.old) (P.shelf pages.new) }
     ensures keeps { P.keeps pages.old pages.new }
     ensures ok { IfOk result (IsNodeOf (P.shelf pages.old) page) }
@@ -159,7 +159,7 @@ fn opened_node<P: Pages, Q: Pages>(
     left: &mut P,
     right: &mut Q,
     waiting: &Waiting,
-) -> Result<Node, JoinFault>
+) -> Result<SharedNode, JoinFault>
     ensures left_same { HoldsSame (P.shelf left.old) (P.shelf left.new) }
     ensures left_keeps { P.keeps left.old left.new }
     ensures right_same { HoldsSame (Q.shelf right.old) (Q.shelf right.new) }
@@ -212,7 +212,7 @@ fn open_pair<P: Pages, Q: Pages, R: Ruler>(
         need: &waiting.need,
         rho: walk.rho,
     };
-    let opening = open_node(ruler, probe, &node)?;
+    let opening = open_node(ruler, probe, node.as_ref())?;
     walk.take(&waiting, opening)?;
     Ok(())
 }

@@ -34,7 +34,7 @@ pub fn relog<R: Ruler>(
         let Some(node) = kept.get(need.page) else {
             return Ok(walk);
         };
-        walk.take_node(alloc, ruler, probe, need, node)?;
+        walk.take_node(alloc, ruler, probe, need, node.as_ref())?;
         opened += 1;
     }
     Ok(walk)

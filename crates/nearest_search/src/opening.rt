@@ -96,7 +96,7 @@ pub fn open_page<P: Pages, R: Ruler>(
     ensures cause { IfErr result (HasPageCause (P.shelf pages.old) (P.shelf pages.new) next.page) }
 {
     let node = pages.node(alloc, next.page)?;
-    let taken = match &node {
+    let taken = match node.as_ref() {
         Node::Leaf(entries) => note_leaf(
             ruler,
             probe,

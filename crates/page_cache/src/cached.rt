@@ -9,10 +9,9 @@ ghost use Rattle.page_cache.specs.Keeping.{kept_node, without, IsUsed, Agrees};
 ghost use Rattle.page_cache.specs.Cache.{asked_for};
 
 use crate::Kept;
-use page_store::{Memory, PageFault, Pages};
+use page_store::{Memory, PageFault, Pages, SharedNode};
 use std::alloc::Global;
 use std::marker::Model;
-use tree_shape::Node;
 
 /// Pages behind a cache: the nodes that were asked for last are kept, and given again without asking the pages behind.
 /// Contracts see the pages behind, what is kept, and how often a page was asked for here.
@@ -100,10 +99,10 @@ impl<P: Pages> Pages for Cached<P> {
 
     ghost keeps_both = { λ c d e first second. (P.keeps_both c.inner d.inner e.inner first.0 second.0, second.1 ∙ first.1) };
 
-    /// The node of a page: a copy of the one that is kept, or what the pages behind give, which is kept then. A refusal
-    /// changes nothing of what is kept, and nor does want of memory for what is to be kept. `Memory` comes also where
-    /// there is none for the copy.
-    fn node(&mut self, alloc: Global, page: u32) -> Result<Node, PageFault>
+    /// The node of a page: the one that is kept, or what the pages behind give, which is kept then. A refusal changes
+    /// nothing of what is kept, and nor does want of memory for what is to be kept. `Memory` comes also where a node has
+    /// as many holders as can be counted.
+    fn node(&mut self, alloc: Global, page: u32) -> Result<SharedNode, PageFault>
         ensures ok { IfOk result (IsNodeOf (asked_for (P.shelf self.old.inner) self.old.asked) page) }
         ensures cause { IfErr result (HasPageCause (asked_for (P.shelf self.old.inner) self.old.asked)
             (asked_for (P.shelf self.new.inner) self.new.asked) page) }
@@ -114,7 +113,7 @@ impl<P: Pages> Pages for Cached<P> {
         ensures reads { (P.shelf self.new.inner).reads ≤ (P.shelf self.old.inner).reads + 1 }
         ensures keeps { P.keeps self.old.inner self.new.inner × (self.new.kept.cap ≡ self.old.kept.cap) }
 
-        // What is kept of a page is answered, unless there is no memory for a copy, and the pages behind are not asked.
+        // What is kept of a page is answered, unless its holders can't be counted, and the pages behind are not asked.
         ensures hit { (node : TheNode) → kept_node self.old.kept page ≡ Some node → MatchResult result (λ answer. answer ≡ node) (λ fault. fault ≡ NoMemory) }
         ensures unasked { IsSome (kept_node self.old.kept page) → self.new.inner ≡ self.old.inner }
 
@@ -123,11 +122,11 @@ impl<P: Pages> Pages for Cached<P> {
         ensures kept { MatchResult result (IsUsed self.old.kept self.new.kept page) (λ _. self.new.kept ≡ self.old.kept) }
     {
         self.asked = self.asked.saturating_add(1);
-        match self.kept.copy_of(alloc, page) {
+        match self.kept.share_of(page) {
             Ok(Some(node)) => Ok(node),
             Ok(None) => {
                 let node = self.inner.node(alloc, page)?;
-                self.kept.keep(alloc, page, &node);
+                self.kept.keep(page, &node);
                 Ok(node)
             }
             Err(_) => Err(PageFault::Memory),

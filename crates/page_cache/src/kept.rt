@@ -4,19 +4,17 @@ ghost use Rattle.std.specs.Map.{keys_of};
 ghost use Rattle.lru.specs.LruCache.{lru_cache};
 ghost use Rattle.page_cache.specs.Keeping.{kept_node, used, without};
 
-use crate::copying::TryClone;
 use lru::LruCache;
-use page_store::Memory;
+use page_store::{Memory, SharedNode};
 use std::alloc::Global;
 use std::marker::Model;
 use std::num::NonZeroUsize;
-use tree_shape::Node;
 
 /// The nodes of the pages that were used last, at most so many. Contracts see the pairs of a page and its node, the last
 /// used first, and how many there may be.
 #[derive(Drop)]
 pub struct Kept {
-    nodes: LruCache<u32, Node>,
+    nodes: LruCache<u32, SharedNode>,
 }
 
 impl Model for Kept {
@@ -65,8 +63,8 @@ impl Kept {
         drop(self.nodes.pop(&page));
     }
 
-    // A copy of the node that is kept of a page, which becomes the last used.
-    pub(crate) fn copy_of(&mut self, alloc: Global, page: u32) -> Result<Option<Node>, Memory>
+    // The node that is kept of a page, which becomes the last used.
+    pub(crate) fn share_of(&mut self, page: u32) -> Result<Option<SharedNode>, Memory>
         ensures found { IfOk result (λ node. node ≡ kept_node self.old page) }
         ensures unkept { kept_node self.old page ≡ None → result ≡ Ok None }
         ensures kept { MatchResult result
@@ -76,17 +74,17 @@ impl Kept {
         let Some(node) = self.nodes.peek(&page) else {
             return Ok(None);
         };
-        let copy = node.try_clone(alloc)?;
+        let shared = node.share()?;
         self.nodes.promote(&page);
-        Ok(Some(copy))
+        Ok(Some(shared))
     }
 
-    // Keeps a copy of a page's node as the last used, unless there is no memory for it.
-    pub(crate) fn keep(&mut self, alloc: Global, page: u32, node: &Node)
+    // Keeps a page's node as the last used, unless there is no memory for it.
+    pub(crate) fn keep(&mut self, page: u32, node: &SharedNode)
         ensures { (self.new ≡ used self.old page node.now) ⊎ (self.new ≡ self.old) }
     {
-        if let Ok(copy) = node.try_clone(alloc) {
-            drop(self.nodes.put(page, copy));
+        if let Ok(shared) = node.share() {
+            drop(self.nodes.put(page, shared));
         }
     }
 }

@@ -2,7 +2,6 @@
 #![tactic(auto)]
 
 mod cached;
-mod copying;
 mod kept;
 pub mod laws;
 

@@ -3,10 +3,9 @@ ghost use Rattle.disk_model.specs.Disk.{IsUnchanged};
 ghost use Rattle.page_store.specs.Reading.{reading};
 
 use crate::reading::{is_within, node_on, read_page};
-use crate::{PageFault, Pages};
+use crate::{PageFault, Pages, SharedNode};
 use disk_model::Disk;
 use std::alloc::Global;
-use tree_shape::Node;
 
 /// The pages of a file on a disk.
 #[derive(Drop)]
@@ -93,7 +92,7 @@ impl<D: Disk> Pages for DiskPages<'_, D> {
     ghost keeps_both = { λ p q r first second.
         (second.0 ∙ first.0, then_unchanged (D.state p.disk.now) (D.state q.disk.now) (D.state r.disk.now) first.1 second.1) };
 
-    fn node(&mut self, alloc: Global, page: u32) -> Result<Node, PageFault> {
+    fn node(&mut self, alloc: Global, page: u32) -> Result<SharedNode, PageFault> {
         self.asked = self.asked.saturating_add(1);
         if !is_within(self.pages, page) {
             return Err(PageFault::Outside(page));

@@ -3,9 +3,8 @@ ghost use Rattle.page_store.specs.Images.{bytes_in};
 
 use crate::image::Image;
 use crate::reading::{is_within, node_on, node_on_cut, whole_page};
-use crate::{PageFault, Pages};
+use crate::{PageFault, Pages, SharedNode};
 use std::alloc::Global;
-use tree_shape::Node;
 
 /// The pages of a file of version 2 whose bytes are in memory: those that a disk with these bytes has.
 #[derive(Drop)]
@@ -72,7 +71,7 @@ impl Pages for ImagePages<'_> {
 
     ghost keeps_both = { λ p q r first second. second ∙ first };
 
-    fn node(&mut self, alloc: Global, page: u32) -> Result<Node, PageFault> {
+    fn node(&mut self, alloc: Global, page: u32) -> Result<SharedNode, PageFault> {
         self.asked = self.asked.saturating_add(1);
         if !is_within(self.pages, page) {
             return Err(PageFault::Outside(page));

@@ -2,6 +2,7 @@
 //! their pages.
 #![tactic(auto)]
 
+mod copying;
 mod disk_pages;
 mod image;
 mod image_pages;
@@ -11,6 +12,7 @@ mod pages;
 mod parts;
 mod reading;
 mod settling;
+mod shared;
 mod staging;
 
 pub use disk_pages::DiskPages;
@@ -19,8 +21,9 @@ pub use image_pages::ImagePages;
 pub use numbering::Numbering;
 pub use pages::{PageFault, Pages};
 pub use parts::Parts;
-pub use reading::read_page;
+pub use reading::{node_on, read_page};
 pub use settling::{NewTree, RoomFault, settle};
+pub use shared::SharedNode;
 pub use staging::{Placed, Staged, StagedNode};
 
 /// Want of memory.

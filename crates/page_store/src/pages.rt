@@ -4,10 +4,10 @@ ghost use Rattle.page_store.specs.Reading.{is_within};
 ghost use Rattle.page_store.specs.Shelf.{Shelf, HoldsSame, IsNodeOf, HasPageCause};
 ghost use Rattle.page_store.specs.declared.pages.PageFault.TheVariants.{Outside};
 
+use crate::SharedNode;
 use node_page::NodeFault;
 use std::alloc::Global;
 use thiserror::Error;
-use tree_shape::Node;
 
 /// Why a page gave no node, or why a walk over pages stopped.
 #[derive(Clone, Copy, Debug, PartialEq, Eq, Error)]
@@ -43,7 +43,7 @@ pub trait Pages {
 
     /// The node of a page. `Outside` comes before the other refusals, and without a read. `Repeats` and `Level` never
     /// come.
-    fn node(&mut self, alloc: Global, page: u32) -> Result<Node, PageFault>
+    fn node(&mut self, alloc: Global, page: u32) -> Result<SharedNode, PageFault>
         ensures ok { IfOk result (IsNodeOf (shelf self.old) page) }
         ensures cause { IfErr result (HasPageCause (shelf self.old) (shelf self.new) page) }
         ensures outside { is_within (shelf self.old).pages page ≡ false → result ≡ Err (Outside page) }

@@ -6,7 +6,7 @@ ghost use Rattle.disk_model.specs.Disk.{IsUnchanged};
 ghost use Rattle.node_page.specs.Opening.{page_of};
 ghost use Rattle.node_page.specs.declared.node.Version.TheVariants.{Second};
 
-use crate::PageFault;
+use crate::{PageFault, SharedNode};
 use disk_model::{Disk, Failed};
 use node_page::{NodeFault, decode_node, decode_old_node};
 use std::alloc::Global;
@@ -60,14 +60,15 @@ pub fn is_within(pages: u32, page: u32) -> bool
     page >= 3 && page < pages
 }
 
-// The node that the bytes of a page spell, in a file of version 1 or 2.
+/// The node that the bytes of a page spell, in a file of version 1 or 2 over points of `dim` coordinates. A page that
+/// spells none is `Bad`; no other refusal comes but `Memory`.
 pub fn node_on(
     alloc: Global,
     page: u32,
     bytes: &[u8; 4096],
     dim: u8,
     first_version: bool,
-) -> Result<Node, PageFault>
+) -> Result<SharedNode, PageFault>
     requires some { 1 ≤ dim }
     requires few { dim ≤ 64 }
     ensures lawful { IfOk result (IsLawfulNode dim) }
@@ -76,7 +77,10 @@ pub fn node_on(
     ensures fault { IfErr result (IsBytesFault (version_of first_version) dim bytes.now page) }
 {
     match decode(alloc, bytes, dim, first_version) {
-        Ok(node) => Ok(node),
+        Ok(node) => match SharedNode::new(alloc, node) {
+            Ok(node) => Ok(node),
+            Err(_) => Err(PageFault::Memory),
+        },
         Err(NodeFault::Memory) => Err(PageFault::Memory),
         Err(fault) => Err(PageFault::Bad(page, fault)),
     }
@@ -89,7 +93,7 @@ pub fn node_on_cut(
     number: u32,
     page: u32,
     dim: u8,
-) -> Result<Node, PageFault>
+) -> Result<SharedNode, PageFault>
     requires some { 1 ≤ dim }
     requires few { dim ≤ 64 }
     ensures lawful { IfOk result (IsLawfulNode dim) }

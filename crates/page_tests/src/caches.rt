@@ -61,7 +61,7 @@ fn ask<P: Pages>(alloc: Global, pages: &mut P, page: u32) -> Result<Shown, PageF
     ensures keeps { P.keeps pages.old pages.new }
 {
     let node = pages.node(alloc, page)?;
-    Ok(shown(&node))
+    Ok(shown(node.as_ref()))
 }
 
 // What that page is to answer, where its disk doesn't fail.

@@ -32,7 +32,8 @@ fn check_pages<R: AllocGlobal + Abort, P: Pages>(rt: &R, pages: &mut P) -> Resul
             Err(PageFault::Bad(3, NodeFault::Kind))
         ) == true
     );
-    match pages.node(alloc, 4)? {
+    let node = pages.node(alloc, 4)?;
+    match node.as_ref() {
         Node::Leaf(entries) => {
             assert!(rt; entries.as_slice().len() == 1);
             let first = &entries.as_slice()[0];

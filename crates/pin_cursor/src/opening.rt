@@ -78,7 +78,7 @@ pub fn open_page<P: Pages, R: Ruler>(
     ensures cause { IfErr result (HasPageCause (P.shelf pages.old) (P.shelf pages.new) page) }
 {
     let node = pages.node(alloc, page)?;
-    let taken = match &node {
+    let taken = match node.as_ref() {
         Node::Leaf(entries) => { meet_objects(ruler, q, entries.as_slice(), &mut walk.candidates) }
         Node::Inner { entries, .. } => {
             queue_subtrees(ruler, q, entries.as_slice(), &mut walk.subtrees)

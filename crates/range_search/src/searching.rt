@@ -39,7 +39,7 @@ fn open_page<P: Pages, R: Ruler>(
     ensures reads { (P.shelf pages.new).reads ≤ (P.shelf pages.old).reads + 1 }
 {
     let node = pages.node(alloc, need.page)?;
-    match walk.take_node(alloc, ruler, probe, need, &node) {
+    match walk.take_node(alloc, ruler, probe, need, node.as_ref()) {
         Ok(()) => Ok(()),
         Err(_) => Err(PageFault::Memory),
     }

@@ -17,7 +17,8 @@ use Rattle.log_model.specs.Walk.{Search, needs_of, hits_of, root_need}
 use Rattle.log_model.specs.Sound.{search_for}
 use Rattle.log_verify.specs.declared.faults.Verdict.{Verdict}
 use Rattle.log_verify.specs.declared.faults.Verdict.TheVariants.{WrongCount, WrongPage, Point, OtherState}
-use Rattle.log_verify.specs.Judged.{first_wrong_in, entry_count, after_marks, after_page, walked, after_walk, log_fault}
+use Rattle.log_model.specs.Counts.{entry_count}
+use Rattle.log_verify.specs.Judged.{first_wrong_in, after_marks, after_page, walked, after_walk, log_fault}
 
 -- the pages that the records name hold the same
 abbrev pub SameOn : Read → Read → List Record → Type 0

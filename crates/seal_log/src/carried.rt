@@ -17,12 +17,12 @@ use crate::paths::leads_to;
 use crate::{CarriedPage, Parts, ProofFault};
 use log_model::{Log, Record};
 use metric_laws::Listed;
-use node_page::{Head, NodeFault, decode_node};
-use page_store::PageFault;
+use node_page::Head;
+use page_store::{PageFault, SharedNode, node_on};
 use prune_log::{LogFault, decode_log};
 use std::alloc::Global;
 use std::marker::Model;
-use tree_shape::{Live, Node};
+use tree_shape::Live;
 
 /// A carried log that was read: each of its pages leads to one root digest, the first three open to a head and a live slot,
 /// and its log has a spelling.
@@ -71,7 +71,7 @@ impl Carried {
     }
 
     /// The node on a page of the carried file.
-    pub fn node_on(&self, alloc: Global, page: u32) -> Result<Node, PageFault>
+    pub fn node_on(&self, alloc: Global, page: u32) -> Result<SharedNode, PageFault>
         requires { page < self.now.live.pages }
         ensures lawful { IfOk result (IsLawfulNode self.now.head.dim) }
         ensures told { IfOk result (λ node. (fault_in Second self.now.head.dim (page_of (file_of self.now) page) ≡ None)
@@ -79,11 +79,7 @@ impl Carried {
         ensures fault { IfErr result (IsBytesFault Second self.now.head.dim (page_of (file_of self.now) page) page) }
     {
         let bytes = page_bytes(self.pages.as_slice(), page);
-        match decode_node(alloc, &bytes, self.head.dim) {
-            Ok(node) => Ok(node),
-            Err(NodeFault::Memory) => Err(PageFault::Memory),
-            Err(fault) => Err(PageFault::Bad(page, fault)),
-        }
+        node_on(alloc, page, &bytes, self.head.dim, false)
     }
 
     /// The fault of the first record whose page isn't carried.

@@ -8,10 +8,9 @@ use crate::{Carried, Memory, ProofFault};
 use log_model::Log;
 use log_verify::{Verdict, verify};
 use metric_laws::{Listed, Meter, Metric, Point};
-use page_store::{PageFault, Pages};
+use page_store::{PageFault, Pages, SharedNode};
 use scan_model::{Hit, Query};
 use std::alloc::Global;
-use tree_shape::Node;
 
 /// The pages of a carried file: those that aren't carried are zero.
 #[derive(Drop)]
@@ -37,7 +36,7 @@ impl Pages for CarriedPages<'_> {
 
     ghost keeps_both = { λ p q r first second. second ∙ first };
 
-    fn node(&mut self, alloc: Global, page: u32) -> Result<Node, PageFault> {
+    fn node(&mut self, alloc: Global, page: u32) -> Result<SharedNode, PageFault> {
         self.asked = self.asked.saturating_add(1);
         if !is_within(self.carried.live().pages, page) {
             return Err(PageFault::Outside(page));

@@ -13,7 +13,7 @@ ghost use Rattle.tree_audit.specs.Visits.{seen_of, leaf_told, IsEntryFault, IsOp
 use crate::AuditFault;
 use crate::met::Met;
 use metric_laws::{Point, Ruler};
-use page_store::{Memory, PageFault, Pages};
+use page_store::{Memory, PageFault, Pages, SharedNode};
 use std::alloc::Global;
 use tree_shape::{InnerEntry, LeafEntry, Node, fill};
 
@@ -174,7 +174,7 @@ fn audit_entry<R: Ruler>(
 }
 
 // The node of a page.
-fn open_page<P: Pages>(alloc: Global, pages: &mut P, page: u32) -> Result<Node, AuditFault>
+fn open_page<P: Pages>(alloc: Global, pages: &mut P, page: u32) -> Result<SharedNode, AuditFault>
     ensures ok { IfOk result (IsNodeOf (P.shelf pages.old) page) }
     ensures err { IfErr result (IsOpenFault (P.shelf pages.old) (P.shelf pages.new) page) }
     ensures same { HoldsSame (P.shelf pages.old) (P.shelf pages.new) }
@@ -232,7 +232,7 @@ fn arrive<P: Pages>(
     pages: &mut P,
     seen: &mut Met,
     page: u32,
-) -> Result<Node, AuditFault>
+) -> Result<SharedNode, AuditFault>
     requires limit { seen.old.limit ≡ (P.shelf pages.old).pages }
     requires fewer { AreFewer seen.old }
     ensures ok { IfOk result (IsNodeOf (P.shelf pages.old) page) }
@@ -362,7 +362,7 @@ pub fn walk<P: Pages, R: Ruler>(
         Ok(node) => node,
         Err(fault) => return Err(fault),
     };
-    let (level, entries) = match node {
+    let (level, entries) = match node.as_ref() {
         Node::Leaf(objects) => {
             return audit_leaf(
                 ruler,
@@ -372,7 +372,7 @@ pub fn walk<P: Pages, R: Ruler>(
                 &mut visits.ids,
             );
         }
-        Node::Inner { level, entries } => (level, entries),
+        Node::Inner { level, entries } => (*level, entries),
     };
     let entries = entries.as_slice();
     if at.level == 0 {

@@ -112,9 +112,12 @@ fn draw<P: Pages>(
     ensures cause { IfErr result (HasPageCause (P.shelf pages.old) (P.shelf pages.new) named.page) }
 {
     let node = pages.node(alloc, named.page)?;
-    if lines.push(line_of(named, &node)).is_err() {
+    if lines.push(line_of(named, node.as_ref())).is_err() {
         return Err(PageFault::Memory);
     }
+    let Ok(node) = node.into_node(alloc) else {
+        return Err(PageFault::Memory);
+    };
     match put_on_top(coming, into_entries(alloc, node)) {
         Ok(()) => Ok(()),
         Err(_) => Err(PageFault::Memory),

@@ -14,6 +14,6 @@ returns-in-Err-clause-err g c old t coming way =
 
 pub returns-clause-opened : goal.returns-clause-opened
 returns-clause-opened g c old t way =
-    rw c.in-Ok-name_children.ensures (way_more old (g.P.Pages.shelf c.args.pages.now) (g.P.Pages.shelf c.node.new.self) t c.args.walk.now.count c.args.walk.now.opened.items c.args.page _ c.in-Ok.node way
+    rw c.in-Ok-name_children.ensures (way_more old (g.P.Pages.shelf c.args.pages.now) (g.P.Pages.shelf c.node.new.self) t c.args.walk.now.count c.args.walk.now.opened.items c.args.page _ c.as_ref.result.now way
     (ap (λ flags. slice_index_or flags c.args.page false) (sym c.as_slice.ensures.value) ∙ sym c.is_opened.ensures ∙ c.if-is_opened.false) c.requires.limit
-    c.in-Ok.ensures.ok c.node.ensures.same (omega (arith, c.node.ensures.asked)) c.node.ensures.reads)
+    (rw c.as_ref.ensures c.in-Ok.ensures.ok) c.node.ensures.same (omega (arith, c.node.ensures.asked)) c.node.ensures.reads)

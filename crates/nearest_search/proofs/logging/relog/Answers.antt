@@ -17,5 +17,5 @@ loop-need-preserved g c =
           (search_at (g.R.M.Metric.space (g.R.Ruler.metric c.loop-need.ruler)) c.args.probe.q.now c.args.probe.rho) (kept_node c.args.kept.now) c.args.live.now.root c.loop-need.walk c.take_node.new.self
           c.in-Some.need (reverse c.pop.new.self.items) c.in-Some-get.node.now
           (ap (λ m. search_at (g.R.M.Metric.space m) c.args.probe.q.now c.args.probe.rho) c.loop-need.invariant.metric) stack c.requires (search rules)
-          (record { hits = c.loop-need.walk.hits; records = c.loop-need.walk.records; stack = c.pop.new.self }) refl refl refl c.in_ok-take_node.ensures.taken c.loop-need.invariant.walk;
+          (record { hits = c.loop-need.walk.hits; records = c.loop-need.walk.records; stack = c.pop.new.self }) refl refl refl (rw c.as_ref.ensures at c.in_ok-take_node.ensures.taken) c.loop-need.invariant.walk;
     }

@@ -24,7 +24,7 @@ returns-in-Leaf-clause-ok g t c = on_ok_weaker c.audit_leaf.result (λ told tell
     let at = c.args.at in
     let visits = c.args.visits.now in
     leaf_page s (g.P.Pages.shelf c.args.pages.now).read visits.ids.limit at.level at.least c.args.path.now.items at.page c.in-Leaf.objects (seen_of visits) c.in-Ok.ensures.new
-    (c.in-Ok.ensures.ok.told tells ∙ ap (λ (n : Node). Ok n) c.in-Leaf.is) ∙ (rw (← c.in-Ok.ensures.noted, ← c.as_slice-in-Leaf.ensures, ← c.as_slice.ensures.value) (told c.arrive.new.seen.met))) c.audit_leaf.ensures.ok
+    (c.in-Ok.ensures.ok.told tells ∙ ap (λ (n : Node). Ok n) (sym c.as_ref.ensures ∙ c.in-Leaf.is)) ∙ (rw (← c.in-Ok.ensures.noted, ← c.as_slice-in-Leaf.ensures, ← c.as_slice.ensures.value) (told c.arrive.new.seen.met))) c.audit_leaf.ensures.ok
 
 pub returns-in-Leaf-clause-err : goal.returns-in-Leaf-clause-err
 returns-in-Leaf-clause-err g t c =
@@ -33,13 +33,13 @@ returns-in-Leaf-clause-err g t c =
     let visits = c.args.visits.now in
     walk_if_err c.audit_leaf.result (g.P.Pages.shelf c.args.pages.now) (g.P.Pages.shelf c.arrive.new.pages) _ _ c.arrive.new.seen.met (λ tells.
     sym (leaf_page s (g.P.Pages.shelf c.args.pages.now).read visits.ids.limit at.level at.least c.args.path.now.items at.page c.in-Leaf.objects (seen_of visits) c.in-Ok.ensures.new
-    (c.in-Ok.ensures.ok.told tells ∙ ap (λ (n : Node). Ok n) c.in-Leaf.is) ∙ (rw (← c.in-Ok.ensures.noted, ← c.as_slice-in-Leaf.ensures, ← c.as_slice.ensures.value) refl))) c.audit_leaf.ensures.err
+    (c.in-Ok.ensures.ok.told tells ∙ ap (λ (n : Node). Ok n) (sym c.as_ref.ensures ∙ c.in-Leaf.is)) ∙ (rw (← c.in-Ok.ensures.noted, ← c.as_slice-in-Leaf.ensures, ← c.as_slice.ensures.value) refl))) c.audit_leaf.ensures.err
 
 pub returns-then-at-eq0-clause-err : goal.returns-then-at-eq0-clause-err
 returns-then-at-eq0-clause-err g t c = λ tells.
     let at = c.args.at in
     inner_zero (g.R.M.Metric.space (g.R.Ruler.metric c.args.ruler.now)) (g.P.Pages.shelf c.args.pages.now).read c.args.visits.now.ids.limit at.least c.args.path.now.items at.page c.in-Inner.level at.level c.in-Inner.entries
-    (seen_of c.args.visits.now) c.in-Ok.ensures.new (c.in-Ok.ensures.ok.told tells ∙ ap (λ (n : Node). Ok n) c.in-Inner.is) c.if-at-eq0.true
+    (seen_of c.args.visits.now) c.in-Ok.ensures.new (c.in-Ok.ensures.ok.told tells ∙ ap (λ (n : Node). Ok n) (sym c.as_ref.ensures ∙ c.in-Inner.is)) c.if-at-eq0.true
 
 pub returns-then-not-is_inner-clause-err : goal.returns-then-not-is_inner-clause-err
 returns-then-not-is_inner-clause-err g t c = λ tells.
@@ -49,7 +49,7 @@ returns-then-not-is_inner-clause-err g t c = λ tells.
     let why : ((c.in-Inner.level == at.level) && is_filled s at.least n) ≡ false =
     rw (c.requires.words, ← c.as_slice-entries.ensures) (sym c.is_inner.ensures ∙ c.if-not-is_inner.true) in
     inner_fill s (g.P.Pages.shelf c.args.pages.now).read c.args.visits.now.ids.limit at.level at.least c.args.path.now.items at.page c.in-Inner.level c.in-Inner.entries
-    (seen_of c.args.visits.now) c.in-Ok.ensures.new (c.in-Ok.ensures.ok.told tells ∙ ap (λ (n : Node). Ok n) c.in-Inner.is) why
+    (seen_of c.args.visits.now) c.in-Ok.ensures.new (c.in-Ok.ensures.ok.told tells ∙ ap (λ (n : Node). Ok n) (sym c.as_ref.ensures ∙ c.in-Inner.is)) why
 
 pub loop-place-init : goal.loop-place-init
 loop-place-init g t c =
@@ -68,7 +68,7 @@ loop-place-init g t c =
       left = λ tells.
           rw (c.in-Ok.ensures.noted, c.as_slice-entries.ensures)
           (sym (inner_page s (g.P.Pages.shelf c.args.pages.now).read c.args.visits.now.ids.limit at.level at.least c.args.path.now.items at.page c.in-Inner.level c.in-Inner.entries
-          (seen_of c.args.visits.now) c.in-Ok.ensures.new (c.in-Ok.ensures.ok.told tells ∙ ap (λ (n : Node). Ok n) c.in-Inner.is) c.if-at-eq0.false full));
+          (seen_of c.args.visits.now) c.in-Ok.ensures.new (c.in-Ok.ensures.ok.told tells ∙ ap (λ (n : Node). Ok n) (sym c.as_ref.ensures ∙ c.in-Inner.is)) c.if-at-eq0.false full));
       fewer = c.in-Ok.ensures.fewer;
       asked = omega (arith, length-append c.args.visits.now.pages.met (at.page ∷ []), ap length c.in-Ok.ensures.noted, c.in-Ok.ensures.asked);
       reads = omega (arith, length-append c.args.visits.now.pages.met (at.page ∷ []), ap length c.in-Ok.ensures.noted, c.in-Ok.ensures.reads);

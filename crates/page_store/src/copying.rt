@@ -1,12 +1,12 @@
 ghost use Rattle.std.specs.Prelude.{◌≡◌, IfOk};
 
+use crate::Memory;
 use metric_laws::{Listed, Point};
-use page_store::Memory;
 use std::alloc::Global;
 use tree_shape::{InnerEntry, LeafEntry, Node};
 
 /// A value that is copied where there is memory for it.
-pub(crate) trait TryClone: Drop {
+pub trait TryClone: Drop {
     /// A copy.
     fn try_clone(&self, alloc: Global) -> Result<Self, Memory>
         ensures { IfOk result (λ copy. copy ≡ self.now) };
