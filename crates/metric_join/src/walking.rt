@@ -139,7 +139,12 @@ fn put_on_top(
 }
 
 // The node of a page of one side, where its path has room left.
-fn node_at<P: Pages>(alloc: Global, pages: &mut P, page: u32, room: u32) -> Result<SharedNode, PageFault>
+fn node_at<P: Pages>(
+    alloc: Global,
+    pages: &mut P,
+    page: u32,
+    room: u32,
+) -> Result<SharedNode, PageFault>
     ensures same { HoldsSame (P.shelf pages.old) (P.shelf pages.new) }
     ensures keeps { P.keeps pages.old pages.new }
     ensures ok { IfOk result (IsNodeOf (P.shelf pages.old) page) }

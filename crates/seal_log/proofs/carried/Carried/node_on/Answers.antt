@@ -9,8 +9,8 @@ page_bytes-bytes-requires-clause-ascend c = rw c.as_slice.ensures (pages-ascend 
 pub page_bytes-bytes-requires-clause-size : goal.page_bytes-bytes-requires-clause-size
 page_bytes-bytes-requires-clause-size c = rw c.as_slice.ensures (pages-sized c.self.inside.pages c.self.invariant.parts.each)
 
-pub decode_node-requires-clause-some : goal.decode_node-requires-clause-some
-decode_node-requires-clause-some c = (lawful-dim c.self.inside.head c.self.invariant.opens.spells_head.lawful).0
+pub node_on-requires-clause-some : goal.node_on-requires-clause-some
+node_on-requires-clause-some c = (lawful-dim c.self.inside.head c.self.invariant.opens.spells_head.lawful).0
 
-pub decode_node-requires-clause-few : goal.decode_node-requires-clause-few
-decode_node-requires-clause-few c = (lawful-dim c.self.inside.head c.self.invariant.opens.spells_head.lawful).1
+pub node_on-requires-clause-few : goal.node_on-requires-clause-few
+node_on-requires-clause-few c = (lawful-dim c.self.inside.head c.self.invariant.opens.spells_head.lawful).1
