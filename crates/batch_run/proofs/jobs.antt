@@ -1,3 +1,4 @@
+pub mod Given
 pub mod Piling
 pub mod Puts
 pub mod OneRun

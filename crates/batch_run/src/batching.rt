@@ -1,11 +1,11 @@
 //! A batch of commands on an image.
 
-ghost use Rattle.std.specs.Prelude.{◌≡◌, ◌≤◌, ◌<◌, ◌^◌, All, length, slice_index_or, IfOk};
+ghost use Rattle.std.specs.Prelude.{◌≡◌, ◌≤◌, ◌<◌, ◌^◌, All, length, slice_index_or, true, IfOk};
 ghost use Rattle.std.specs.List.{AllZip};
 ghost use Rattle.rows_text.specs.declared.command.Command.{Command};
 ghost use Rattle.rows_text.specs.Readable.{IsReadable};
 ghost use Rattle.page_store.specs.Images.{bytes_in};
-ghost use Rattle.image_answers.specs.Outcomes.{IsOutcomeOf};
+ghost use Rattle.image_answers.specs.Outcomes.{IsGivenOf, IsOutcomeOf};
 
 use crate::Memory;
 use crate::dealing::share_evenly;
@@ -17,21 +17,23 @@ use std::alloc::Global;
 use std::thread::Threads;
 use tree_shape::Live;
 
-/// What becomes of one command on the file with these bytes, whose live slot this is.
+/// What becomes of one command on the file with these bytes, whose live slot this is. Where tags are not wanted, hits have none.
 pub fn outcome_of<M: Metric>(
     alloc: Global,
     image: Image<'_>,
     metric: M,
     live: &Live,
     command: &Command,
+    tags: bool,
 ) -> Result<Outcome, Memory>
     requires pages { live.now.pages ≤ 2 ^ 24 }
     requires readable { IsReadable (M.space metric).words command.now }
-    ensures { IfOk result (IsOutcomeOf (M.space metric) live.now (bytes_in image.entry) command.now) }
+    ensures given { IfOk result (IsGivenOf tags (M.space metric) live.now (bytes_in image.entry) command.now) }
+    ensures whole { tags ≡ true → IfOk result (IsOutcomeOf (M.space metric) live.now (bytes_in image.entry) command.now) }
 {
     match command {
-        Command::Range { r, q } => range_outcome(alloc, image, metric, live, q, *r),
-        Command::Nearest { k, q } => nearest_outcome(alloc, image, metric, live, q, *k),
+        Command::Range { r, q } => range_outcome(alloc, image, metric, live, q, *r, tags),
+        Command::Nearest { k, q } => nearest_outcome(alloc, image, metric, live, q, *k, tags),
         Command::Count => Ok(Outcome::plain(Reply::Count(live.count))),
         Command::Bad(why) => Ok(Outcome::refused(*why)),
         Command::Insert(_)
@@ -69,6 +71,6 @@ pub fn batch<R: Threads + Sync, M: Metric>(
     let work = |i: usize| -> Result<Outcome, Memory>
         requires { (live.now.pages ≤ 2 ^ 24) × All (IsReadable (M.space metric).words) commands.now × (i < length commands.now) }
         ensures { (c : Command) → IfOk result (IsOutcomeOf (M.space metric) live.entry.now image.entry.now (slice_index_or commands.entry.now i c)) }
-    { outcome_of(alloc, Image::Whole(image), metric, live, &commands[i]) };
+    { outcome_of(alloc, Image::Whole(image), metric, live, &commands[i], true) };
     share_evenly(rt, alloc, commands.len(), workers, &work)
 }

@@ -1,7 +1,8 @@
 -- What becomes of a query.
 use Rattle.std.proofs.Common.{◌≡◌, ◌≢◌, ℕ, List, [], ◌∷◌, ◌++◌, map, min, length, refl, sym, ap, subst, ◌∙◌, arith, inl, inr, Option, Some, None, Result, Ok, Err}
-use Rattle.std.specs.Prelude.{IfOk, IsTrue, slice_index_or}
+use Rattle.std.specs.Prelude.{Bool, true, false, IfOk, IsTrue, slice_index_or}
 use Rattle.metric_laws.specs.Space.{Space, bound}
+use Rattle.metric_laws.proofs.Published.{length_map}
 use Rattle.outside_io.specs.Causes.{Rose}
 use Rattle.scan_model.specs.declared.hit.Hit.{Hit}
 use Rattle.scan_model.specs.declared.query.Query.{Query}
@@ -17,7 +18,7 @@ use Rattle.tree_shape.specs.declared.entry.InnerEntry.{InnerEntry}
 use Rattle.tree_shape.specs.declared.entry.Node.{Node}
 use Rattle.tree_shape.specs.declared.entry.Node.TheVariants.{Leaf, Inner}
 use Rattle.tree_shape.specs.declared.live.Live.{Live}
-use Rattle.tree_shape.specs.Tree.{Nodes, IsSoundTree, points_by_id}
+use Rattle.tree_shape.specs.Tree.{Nodes, IsSoundTree, points_by_id, tag_of}
 use Rattle.page_store.specs.declared.pages.PageFault.{PageFault}
 use Rattle.page_store.specs.declared.pages.PageFault.TheVariants as page
 use Rattle.page_store.specs.Files.{nodes_in, points_in, tags_in}
@@ -31,13 +32,13 @@ use Rattle.log_model.specs.Laws.{scan_answers}
 use Rattle.log_model.specs.Sound.{IsLeastLog, IsLogOf, search_for}
 use Rattle.log_model.specs.Walk.{Rule, Search, AreLeast, ReachesBy, WalksBy, near_ones, need_of, needs_of, root_need, search_at}
 use Rattle.log_model.proofs.Published.{marks_long, least_sound}
-use Rattle.hit_tags.specs.Met.{AreMarked, ComesTo, near_pages}
+use Rattle.hit_tags.specs.Met.{AreMarked, ComesTo, met, near_pages}
 use Rattle.hit_tags.specs.Tags.{HasTagsCause, met_tags}
-use Rattle.hit_tags.proofs.Published.{marks_node, marked_is}
+use Rattle.hit_tags.proofs.Published.{marks_node, marked_is, shown_tags}
 use Rattle.answer_texts.specs.Asked.{Held, HasLog, answered_query, held_in, state_of}
 use Rattle.image_answers.specs.declared.outcome.Outcome.{Outcome}
 use Rattle.image_answers.specs.declared.outcome.Outcome.TheVariants as outcome
-use Rattle.image_answers.specs.Outcomes.{outcome_of_fault, AreTagsOf, FollowsWalk, HasSearchCause, IsOutcomeOf, IsTagged, IsTold, pages_asked, reply_in}
+use Rattle.image_answers.specs.Outcomes.{as_wanted, outcome_of_fault, untagged, AreTagsOf, FollowsWalk, HasSearchCause, IsGivenOf, IsOutcomeOf, IsTagged, IsTold, pages_asked, reply_in}
 
 -- ---- the pages to which the walk of a log comes
 
@@ -103,6 +104,20 @@ follows_marked s nodes live (query.Nearest q k) log follows = reaches_marked (se
 
 -- ---- what was found
 
+-- an outcome that has no tags is given whole, whether tags are wanted or not
+pub given_plain : (s : Space) (live : Live) (image : List ℕ) (c : Command) (wanted : Bool) (o : Outcome) → o ≡ untagged o → IsOutcomeOf s live image c o → IsGivenOf wanted s live image c o
+given_plain s live image c true o plain is = (o, is, refl)
+given_plain s live image c false o plain is = (o, is, plain)
+
+-- where tags are wanted, the outcome is given
+pub given_whole : (s : Space) (live : Live) (image : List ℕ) (c : Command) (wanted : Bool) (o : Outcome) → wanted ≡ true → IsGivenOf wanted s live image c o → IsOutcomeOf s live image c o
+given_whole s live image c wanted o is given = subst (IsOutcomeOf s live image c) (sym (given.2 ∙ ap (λ (w : Bool). as_wanted w given.0) is)) given.1
+
+pub whole_if_ok : (s : Space) (live : Live) (image : List ℕ) (c : Command) (wanted : Bool) {E : Type 0} (r : Result Outcome E) → IfOk r (IsGivenOf wanted s live image c) →
+    wanted ≡ true → IfOk r (IsOutcomeOf s live image c)
+whole_if_ok s live image c wanted (Ok o) given is = given_whole s live image c wanted o is given
+whole_if_ok s live image c wanted (Err e) given is = tt
+
 module _ (s : Space) (live : Live) (image : List ℕ) (c : Command) (asked : Query) (answers : answered_query s c ≡ Some asked) where
   abbrev nodes : Nodes
   nodes = nodes_in s.words live image
@@ -160,15 +175,28 @@ module _ (s : Space) (live : Live) (image : List ℕ) (c : Command) (asked : Que
             by_image.objects refl s (record { tree = sound; log = least_sound s nodes live asked found.log (least sound); hits_are = named.hits_are })
             ∙ ap (λ (hs : List Hit). map (λ h. slice_index_or (tags_in s.words live image) h.id 0) hs) (scanned sound)
 
-    pub found_is : (o : Outcome) → IsTagged mid new live found o → IsOutcomeOf s live image c o
-    found_is o tagged = elim tagged [
-      | inl done ↦ subst (IsOutcomeOf s live image c) (sym done.1) (answer_is done.0 done.2)
-      | inr damaged ↦ absurd (no_damage found mid new n damaged.0 follows is quiet damaged.2 damaged.3)
-    ]
+    -- tags that nobody wants could be had
+    met_are : AreTagsOf mid live found (met_tags nodes live found)
+    met_are = subst (λ (x : Shelf). AreTagsOf x live found (met_tags nodes live found)) (sym is) (record {
+      each = length_map (λ (h : Hit). tag_of h.id (met nodes (live.root ∷ []) found.log.records)) found.hits;
+      met = λ tells. refl;
+      objects = λ tells space shown. shown_tags space nodes live found shown;
+    })
 
-    pub found_if_ok : {E : Type 0} (r : Result Outcome E) → IfOk r (IsTagged mid new live found) → IfOk r (IsOutcomeOf s live image c)
-    found_if_ok (Ok o) tagged = found_is o tagged
-    found_if_ok (Err e) tagged = tt
+    pub found_is : (wanted : Bool) (o : Outcome) → IsTagged wanted mid new live found o → IsGivenOf wanted s live image c o
+    found_is false o untagged = (outcome.Done (reply.Hits found.hits (met_tags nodes live found)) (Some found.log), answer_is (met_tags nodes live found) met_are, untagged)
+    found_is true o tagged = (
+      o,
+      elim tagged [
+        | inl done ↦ subst (IsOutcomeOf s live image c) (sym done.1) (answer_is done.0 done.2)
+        | inr damaged ↦ absurd (no_damage found mid new n damaged.0 follows is quiet damaged.2 damaged.3)
+      ],
+      refl,
+    )
+
+    pub found_if_ok : (wanted : Bool) {E : Type 0} (r : Result Outcome E) → IfOk r (IsTagged wanted mid new live found) → IfOk r (IsGivenOf wanted s live image c)
+    found_if_ok wanted (Ok o) tagged = found_is wanted o tagged
+    found_if_ok wanted (Err e) tagged = tt
 
   -- ---- a search that came to a damaged page
 
@@ -190,47 +218,49 @@ module _ (s : Space) (live : Live) (image : List ℕ) (c : Command) (asked : Que
   not_passing page.Disk damage passing = damage
   not_passing page.Memory damage passing = damage
 
-  damaged_is : (n : ℕ) (f : PageFault) → f ≢ page.Memory → HasSearchCause s live (reading s.words live.pages image) asked n f → (Sound → IsPassing f) → IsOutcomeOf s live image c (outcome.Damaged f)
-  damaged_is n f other cause passing =
+  damaged_is : (wanted : Bool) (n : ℕ) (f : PageFault) → f ≢ page.Memory → HasSearchCause s live (reading s.words live.pages image) asked n f → (Sound → IsPassing f) →
+      IsGivenOf wanted s live image c (outcome.Damaged f)
+  damaged_is wanted n f other cause passing =
       let damage = damage_of asked n f other cause in
       let unsound : ¬ Sound = λ sound. not_passing f damage (passing sound) in
-      record {
+      given_plain s live image c wanted (outcome.Damaged f) refl (record {
         meant = λ sound. absurd (unsound sound);
         told = subst (λ (q : Option Query). IsTold s live image c q (outcome.Damaged f)) (sym answers) (record { damage = damage; count = n; cause = cause; unsound = unsound });
         lawful = damage;
-      }
+      })
 
-  pub fault_is : (n : ℕ) (f : PageFault) → HasSearchCause s live (reading s.words live.pages image) asked n f → (Sound → IsPassing f) → IfOk (outcome_of_fault f) (IsOutcomeOf s live image c)
-  fault_is n page.Memory cause passing = tt
-  fault_is n page.Disk cause passing = damaged_is n page.Disk (λ same. absurd (cc)) cause passing
-  fault_is n (page.Bad p f) cause passing = damaged_is n (page.Bad p f) (λ same. absurd (cc)) cause passing
-  fault_is n (page.Outside p) cause passing = damaged_is n (page.Outside p) (λ same. absurd (cc)) cause passing
-  fault_is n (page.Repeats p) cause passing = damaged_is n (page.Repeats p) (λ same. absurd (cc)) cause passing
-  fault_is n (page.Level p) cause passing = damaged_is n (page.Level p) (λ same. absurd (cc)) cause passing
+  pub fault_is : (wanted : Bool) (n : ℕ) (f : PageFault) → HasSearchCause s live (reading s.words live.pages image) asked n f → (Sound → IsPassing f) →
+      IfOk (outcome_of_fault f) (IsGivenOf wanted s live image c)
+  fault_is wanted n page.Memory cause passing = tt
+  fault_is wanted n page.Disk cause passing = damaged_is wanted n page.Disk (λ same. absurd (cc)) cause passing
+  fault_is wanted n (page.Bad p f) cause passing = damaged_is wanted n (page.Bad p f) (λ same. absurd (cc)) cause passing
+  fault_is wanted n (page.Outside p) cause passing = damaged_is wanted n (page.Outside p) (λ same. absurd (cc)) cause passing
+  fault_is wanted n (page.Repeats p) cause passing = damaged_is wanted n (page.Repeats p) (λ same. absurd (cc)) cause passing
+  fault_is wanted n (page.Level p) cause passing = damaged_is wanted n (page.Level p) (λ same. absurd (cc)) cause passing
 
 -- ---- searches
 
 module _ (s : Space) (live : Live) (image : List ℕ) (q : List ℕ) (fits : IsTrue (s.fits q)) (old mid : Shelf) (n : ℕ) (begins : old ≡ pages_asked s live image 0) (is : mid ≡ pages_asked s live image n) where
-  pub range_found : (r used0 used1 : ℕ) (new : Shelf) (found : Found) → new.faults ≡ 0 → IsFound s live (query.Range q r) old mid used0 used1 found →
+  pub range_found : (wanted : Bool) (r used0 used1 : ℕ) (new : Shelf) (found : Found) → new.faults ≡ 0 → IsFound s live (query.Range q r) old mid used0 used1 found →
       (IsTrue old.tells → IsSoundTree s (nodes_of old.read) live → found.hits ≡ range_hits s (points_by_id (nodes_of old.read) live) q r) →
-      {E : Type 0} (result : Result Outcome E) → IfOk result (IsTagged mid new live found) → IfOk result (IsOutcomeOf s live image (command.Range r q))
-  range_found r used0 used1 new found quiet is_found scanned result tagged =
+      {E : Type 0} (result : Result Outcome E) → IfOk result (IsTagged wanted mid new live found) → IfOk result (IsGivenOf wanted s live image (command.Range r q))
+  range_found wanted r used0 used1 new found quiet is_found scanned result tagged =
       let least : IsLeastLog s (nodes_in s.words live image) live (query.Range q r) found.log =
       subst (λ (x : Shelf). IsTrue x.tells → IsLeastLog s (nodes_of x.read) live (query.Range q r) found.log) begins is_found.least refl in
       found_if_ok s live image (command.Range r q) (query.Range q r) (rw fits refl) found mid new n is quiet least is_found.log (λ sound. least)
       (subst (λ (x : Shelf). IsTrue x.tells → IsSoundTree s (nodes_of x.read) live → found.hits ≡ range_hits s (points_by_id (nodes_of x.read) live) q r) begins scanned refl)
-      (λ limit. rw fits refl) result tagged
+      (λ limit. rw fits refl) wanted result tagged
 
-  pub nearest_found : (k : ℕ) (new : Shelf) (found : Found) → new.faults ≡ 0 → IsLogOf live (query.Nearest q k) found → (IsTrue old.tells → IsFront s (nodes_of old.read) live q k found) →
+  pub nearest_found : (wanted : Bool) (k : ℕ) (new : Shelf) (found : Found) → new.faults ≡ 0 → IsLogOf live (query.Nearest q k) found → (IsTrue old.tells → IsFront s (nodes_of old.read) live q k found) →
       (IsTrue old.tells → IsSoundTree s (nodes_of old.read) live → IsNearest s (nodes_of old.read) live q k old mid found) →
-      {E : Type 0} (result : Result Outcome E) → IfOk result (IsTagged mid new live found) → IfOk result (IsOutcomeOf s live image (command.Nearest k q))
-  nearest_found k new found quiet named front nearest result tagged =
+      {E : Type 0} (result : Result Outcome E) → IfOk result (IsTagged wanted mid new live found) → IfOk result (IsGivenOf wanted s live image (command.Nearest k q))
+  nearest_found wanted k new found quiet named front nearest result tagged =
       let by_image : IsSoundTree s (nodes_in s.words live image) live → IsNearest s (nodes_in s.words live image) live q k (pages_asked s live image 0) mid found =
       subst (λ (x : Shelf). IsTrue x.tells → IsSoundTree s (nodes_of x.read) live → IsNearest s (nodes_of x.read) live q k x mid found) begins nearest refl in
       let walk : IsFront s (nodes_in s.words live image) live q k found = subst (λ (x : Shelf). IsTrue x.tells → IsFront s (nodes_of x.read) live q k found) begins front refl in
       found_if_ok s live image (command.Nearest k q) (query.Nearest q k) (rw fits refl) found mid new n is quiet
       (record { rho = walk.rho; hits = walk.hits; left = walk.left; walk = walk.walk; some = walk.some; answers_are = walk.answers_are })
-      named (λ sound. (by_image sound).least) (λ sound. (by_image sound).scanned) (λ limit. rw fits refl) result tagged
+      named (λ sound. (by_image sound).least) (λ sound. (by_image sound).scanned) (λ limit. rw fits refl) wanted result tagged
 
   -- so the tags can be had from what is marked Near alone
   pub range_marked : (r used0 used1 : ℕ) (found : Found) → IsFound s live (query.Range q r) old mid used0 used1 found → IsTrue mid.tells → AreMarked (nodes_of mid.read) (live.root ∷ []) found.log.records
@@ -246,17 +276,17 @@ module _ (s : Space) (live : Live) (image : List ℕ) (q : List ℕ) (fits : IsT
       subst (λ (x : Shelf). AreMarked (nodes_of x.read) (live.root ∷ []) found.log.records) (sym is)
       (reaches_marked (search_at s q walk.rho) (nodes_in s.words live image) (root_need live.root ∷ []) found.log.records walk.hits walk.left walk.walk)
 
-  pub range_fault : (r : ℕ) (f : PageFault) → HasWalkCause (search_at s q (min r bound)) live old mid f → (IsTrue old.tells → IsSoundTree s (nodes_of old.read) live → IsPassing f) →
-      IfOk (outcome_of_fault f) (IsOutcomeOf s live image (command.Range r q))
-  range_fault r f cause passing =
-      fault_is s live image (command.Range r q) (query.Range q r) (rw fits refl) n f
+  pub range_fault : (wanted : Bool) (r : ℕ) (f : PageFault) → HasWalkCause (search_at s q (min r bound)) live old mid f → (IsTrue old.tells → IsSoundTree s (nodes_of old.read) live → IsPassing f) →
+      IfOk (outcome_of_fault f) (IsGivenOf wanted s live image (command.Range r q))
+  range_fault wanted r f cause passing =
+      fault_is s live image (command.Range r q) (query.Range q r) (rw fits refl) wanted n f
       (subst (λ (x : Shelf). HasWalkCause (search_at s q (min r bound)) live x (pages_asked s live image n) f) begins
       (subst (λ (x : Shelf). HasWalkCause (search_at s q (min r bound)) live old x f) is cause))
       (subst (λ (x : Shelf). IsTrue x.tells → IsSoundTree s (nodes_of x.read) live → IsPassing f) begins passing refl)
 
-  pub nearest_fault : (k : ℕ) (f : PageFault) → HasNearestCause live old mid f → (IsTrue old.tells → IsSoundTree s (nodes_of old.read) live → IsPassing f) →
-      IfOk (outcome_of_fault f) (IsOutcomeOf s live image (command.Nearest k q))
-  nearest_fault k f cause passing =
-      fault_is s live image (command.Nearest k q) (query.Nearest q k) (rw fits refl) n f
+  pub nearest_fault : (wanted : Bool) (k : ℕ) (f : PageFault) → HasNearestCause live old mid f → (IsTrue old.tells → IsSoundTree s (nodes_of old.read) live → IsPassing f) →
+      IfOk (outcome_of_fault f) (IsGivenOf wanted s live image (command.Nearest k q))
+  nearest_fault wanted k f cause passing =
+      fault_is s live image (command.Nearest k q) (query.Nearest q k) (rw fits refl) wanted n f
       (subst (λ (x : Shelf). HasNearestCause live x (pages_asked s live image n) f) begins (subst (λ (x : Shelf). HasNearestCause live old x f) is cause))
       (subst (λ (x : Shelf). IsTrue x.tells → IsSoundTree s (nodes_of x.read) live → IsPassing f) begins passing refl)

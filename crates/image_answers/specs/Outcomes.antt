@@ -1,5 +1,5 @@
 -- What commands on an image, a file in memory, come to: for each an outcome, which the image and the command alone decide.
-use Rattle.std.specs.Prelude.{◌≡◌, ◌≢◌, ◌⊎◌, ℕ, min, true, List, [], ◌∷◌, length, Option, Some, None, MatchOption, IsTrue, Result, Ok, Err, alloc_error}
+use Rattle.std.specs.Prelude.{◌≡◌, ◌≢◌, ◌⊎◌, ℕ, min, Bool, true, false, List, [], ◌∷◌, length, Option, Some, None, MatchOption, IsTrue, Result, Ok, Err, alloc_error}
 use Rattle.std.specs.declared.alloc.AllocError.{AllocError}
 use Rattle.metric_laws.specs.Space.{Space, bound}
 use Rattle.scan_model.specs.declared.hit.Hit.{Hit}
@@ -117,12 +117,35 @@ abbrev pub IsLawful : Outcome → Type 0
 IsLawful (outcome.Done r log) = TagsAre r × IsLogged r log
 IsLawful (outcome.Damaged fault) = IsDamage fault
 
+-- the same of an outcome whose tags may be missing where they are not shown
+abbrev pub CanBeShown : Bool → Outcome → Type 0
+CanBeShown show (outcome.Done r log) = (show ≡ true → TagsAre r) × IsLogged r log
+CanBeShown show (outcome.Damaged fault) = IsDamage fault
+
 -- The outcome of a command on an image: on a sound one what the command means; on any one the answer of its query's walk, or the
 -- damaged page to which that comes, or the reply to what is no query.
 pub record IsOutcomeOf (s : Space) (live : Live) (image : List ℕ) (c : Command) (o : Outcome) : Type 0 where
   pub meant : IsSoundTree s (nodes_in s.words live image) live → IsMeant s live image c o
   pub told : IsTold s live image c (answered_query s c) o
   pub lawful : IsLawful o
+
+-- a reply, and an outcome, without the tags of its hits
+abbrev pub without_tags : Reply → Reply
+without_tags (reply.Hits hits tags) = reply.Hits hits []
+without_tags r = r
+
+abbrev pub untagged : Outcome → Outcome
+untagged (outcome.Done r log) = outcome.Done (without_tags r) log
+untagged (outcome.Damaged fault) = outcome.Damaged fault
+
+-- an outcome where tags are wanted, and where they are not
+abbrev pub as_wanted : Bool → Outcome → Outcome
+as_wanted true o = o
+as_wanted false o = untagged o
+
+-- what is given of the outcome of a command on an image: all of it, or all but the tags of its hits
+abbrev pub IsGivenOf : Bool → Space → Live → List ℕ → Command → Outcome → Type 0
+IsGivenOf tags s live image c given = (o : Outcome) × IsOutcomeOf s live image c o × (given ≡ as_wanted tags o)
 
 -- ---- what a search found, and its tags
 
@@ -132,9 +155,11 @@ pub record AreTagsOf (shelf : Shelf) (live : Live) (found : Found) (tags : List 
   pub met : IsTrue shelf.tells → tags ≡ met_tags (nodes_of shelf.read) live found
   pub objects : IsTrue shelf.tells → (s : Space) → IsShown s (nodes_of shelf.read) live found → tags ≡ object_tags (nodes_of shelf.read) live found
 
--- what was found is answered with its tags, or the walk of its log came to a page without a node
-abbrev pub IsTagged : Shelf → Shelf → Live → Found → Outcome → Type 0
-IsTagged old new live found o =
+-- what was found is answered with its tags, or the walk of its log came to a page without a node; where tags are not wanted, it is
+-- answered without them
+abbrev pub IsTagged : Bool → Shelf → Shelf → Live → Found → Outcome → Type 0
+IsTagged false old new live found o = o ≡ outcome.Done (reply.Hits found.hits []) (Some found.log)
+IsTagged true old new live found o =
     ((tags : List ℕ) × (o ≡ outcome.Done (reply.Hits found.hits tags) (Some found.log)) × AreTagsOf old live found tags)
     ⊎ ((fault : PageFault) × (o ≡ outcome.Damaged fault) × (fault ≢ page.Memory) × HasTagsCause old new (live.root ∷ []) found.log.records fault)
 

@@ -1,12 +1,12 @@
 //! Queries on a file in memory.
 
-ghost use Rattle.std.specs.Prelude.{◌≡◌, ◌≢◌, ◌≤◌, ◌^◌, ◌∷◌, [], IsTrue, IfOk, Ok, Err, alloc_error};
+ghost use Rattle.std.specs.Prelude.{◌≡◌, ◌≢◌, ◌≤◌, ◌^◌, ◌∷◌, [], Some, true, IsTrue, IfOk, Ok, Err, alloc_error};
 ghost use Rattle.rows_text.specs.declared.command.Command.TheVariants as command;
 ghost use Rattle.page_store.specs.Images.{bytes_in};
 ghost use Rattle.page_store.specs.Reading.{nodes_of};
 ghost use Rattle.page_store.specs.Shelf.{HoldsSame};
 ghost use Rattle.hit_tags.specs.Met.{AreMarked};
-ghost use Rattle.image_answers.specs.Outcomes.{IsOutcomeOf, IsTagged, outcome_of_fault};
+ghost use Rattle.image_answers.specs.Outcomes.{IsGivenOf, IsOutcomeOf, IsTagged, outcome_of_fault};
 
 use crate::Memory;
 use crate::outcome::Outcome;
@@ -41,30 +41,41 @@ fn outcome_of_fault(fault: PageFault) -> Result<Outcome, Memory>
     }
 }
 
-// What was found, with the tags of its hits.
+// What was found, with these tags.
+fn answered(found: Found, tags: Vec<u64>) -> Outcome
+    ensures { result ≡ Outcome.Done (Reply.Hits found.hits tags.items) (Some found.log) }
+{
+    Outcome::Done {
+        reply: Reply::Hits {
+            hits: found.hits,
+            tags: Listed::new(tags),
+        },
+        log: Some(found.log),
+    }
+}
+
+// What was found, with the tags of its hits where they are wanted.
 fn tagged<P: Pages>(
     alloc: Global,
     pages: &mut P,
     live: &Live,
     found: Found,
+    tags: bool,
 ) -> Result<Outcome, Memory>
     requires marked { IsTrue (P.shelf pages.old).tells →
         AreMarked (nodes_of (P.shelf pages.old).read) (live.now.root ∷ []) found.log.records }
-    ensures { IfOk result (IsTagged (P.shelf pages.old) (P.shelf pages.new) live.now found) }
+    ensures { IfOk result (IsTagged tags (P.shelf pages.old) (P.shelf pages.new) live.now found) }
 {
+    if !tags {
+        return Ok(answered(found, Vec::new(alloc)));
+    }
     match marked_tags(alloc, pages, live, &found) {
-        Ok(tags) => Ok(Outcome::Done {
-            reply: Reply::Hits {
-                hits: found.hits,
-                tags: Listed::new(tags),
-            },
-            log: Some(found.log),
-        }),
+        Ok(tags) => Ok(answered(found, tags)),
         Err(fault) => outcome_of_fault(fault),
     }
 }
 
-/// Every object within `r` of `q`.
+/// Every object within `r` of `q`. Where tags are not wanted, the hits have none, and no page is opened for them.
 pub fn range_outcome<M: Metric>(
     alloc: Global,
     image: Image<'_>,
@@ -72,9 +83,11 @@ pub fn range_outcome<M: Metric>(
     live: &Live,
     q: &Point,
     r: u64,
+    tags: bool,
 ) -> Result<Outcome, Memory>
     requires { live.now.pages ≤ 2 ^ 24 }
-    ensures { IfOk result (IsOutcomeOf (M.space metric) live.now (bytes_in image.entry) (command.Range r q.now)) }
+    ensures given { IfOk result (IsGivenOf tags (M.space metric) live.now (bytes_in image.entry) (command.Range r q.now)) }
+    ensures whole { tags ≡ true → IfOk result (IsOutcomeOf (M.space metric) live.now (bytes_in image.entry) (command.Range r q.now)) }
 {
     if !metric.fits(q.as_slice()) {
         return Ok(Outcome::refused(Refusal::Unfit));
@@ -82,12 +95,12 @@ pub fn range_outcome<M: Metric>(
     let mut pages = pages_of(image, metric, live);
     let mut ruler = Meter::new(metric);
     match range(alloc, &mut pages, &mut ruler, live, q.as_slice(), r) {
-        Ok(found) => tagged(alloc, &mut pages, live, found),
+        Ok(found) => tagged(alloc, &mut pages, live, found, tags),
         Err(fault) => outcome_of_fault(fault),
     }
 }
 
-/// The `k` objects nearest to `q`.
+/// The `k` objects nearest to `q`. Where tags are not wanted, the hits have none, and no page is opened for them.
 pub fn nearest_outcome<M: Metric>(
     alloc: Global,
     image: Image<'_>,
@@ -95,10 +108,12 @@ pub fn nearest_outcome<M: Metric>(
     live: &Live,
     q: &Point,
     k: u64,
+    tags: bool,
 ) -> Result<Outcome, Memory>
     requires pages { live.now.pages ≤ 2 ^ 24 }
     requires some { 1 ≤ k }
-    ensures { IfOk result (IsOutcomeOf (M.space metric) live.now (bytes_in image.entry) (command.Nearest k q.now)) }
+    ensures given { IfOk result (IsGivenOf tags (M.space metric) live.now (bytes_in image.entry) (command.Nearest k q.now)) }
+    ensures whole { tags ≡ true → IfOk result (IsOutcomeOf (M.space metric) live.now (bytes_in image.entry) (command.Nearest k q.now)) }
 {
     if !metric.fits(q.as_slice()) {
         return Ok(Outcome::refused(Refusal::Unfit));
@@ -106,7 +121,7 @@ pub fn nearest_outcome<M: Metric>(
     let mut pages = pages_of(image, metric, live);
     let mut ruler = Meter::new(metric);
     match nearest(alloc, &mut pages, &mut ruler, live, q.as_slice(), k) {
-        Ok(found) => tagged(alloc, &mut pages, live, found),
+        Ok(found) => tagged(alloc, &mut pages, live, found, tags),
         Err(fault) => outcome_of_fault(fault),
     }
 }

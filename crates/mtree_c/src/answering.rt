@@ -112,6 +112,7 @@ fn range_answer(alloc: Global, file: &[u8], point: &[u32], radius: u64) -> Resul
         &live,
         &point,
         radius,
+        true,
     ))
 }
 
@@ -136,6 +137,7 @@ fn nearest_answer(alloc: Global, file: &[u8], point: &[u32], count: u64) -> Resu
         &live,
         &point,
         count,
+        true,
     ))
 }
 

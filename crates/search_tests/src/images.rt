@@ -69,7 +69,15 @@ fn ranges(rt: HostRuntime) -> Result<(), Fail> {
     ];
     for (c, radius, wanted) in &cases {
         let q = Point::new(alloc, &[*c])?;
-        let found = range_outcome(alloc, Image::Whole(&image), metric, &PAIR, &q, *radius)?;
+        let found = range_outcome(
+            alloc,
+            Image::Whole(&image),
+            metric,
+            &PAIR,
+            &q,
+            *radius,
+            true,
+        )?;
         assert!(rt; text_of(alloc, &found)?.as_slice() == wanted.as_bytes());
     }
     Ok(())

@@ -1,7 +1,7 @@
 //! What is to be put for commands, text upon text.
 
 ghost use Rattle.std.specs.Prelude.{◌≡◌, [], OnOk};
-ghost use Rattle.image_answers.specs.Outcomes.{IsLawful};
+ghost use Rattle.image_answers.specs.Outcomes.{CanBeShown};
 ghost use Rattle.batch_run.specs.Jobs.Preparing.{HasMore, IsShown, LiesIn};
 
 use crate::Memory;
@@ -61,7 +61,7 @@ impl Pile {
 
     /// Adds what is to be put for one more command, whose outcome this is. A hit is written with its tag where tags are shown.
     pub fn add(&mut self, alloc: Global, outcome: &Outcome, show: bool) -> Result<(), Memory>
-        requires { IsLawful outcome.now }
+        requires { CanBeShown show outcome.now }
         ensures { OnOk result (HasMore show outcome.now self.old self.new) }
     {
         let mark = match outcome {

@@ -33,7 +33,7 @@ fn add_for<M: Metric>(
     requires readable { IsReadable (M.space metric).words command.now }
     ensures { OnOk result (HasMoreFor (M.space metric) live.now (bytes_in image.entry) show command.now pile.old pile.new) }
 {
-    let outcome = outcome_of(alloc, image, metric, live, command)?;
+    let outcome = outcome_of(alloc, image, metric, live, command, show)?;
     pile.add(alloc, &outcome, show)
 }
 

@@ -27,7 +27,7 @@ returns-in-Some-2 g c =
     let tells : IsTrue on.tells = (λ i. (same i).tells) ∙ (c.in-Some.ensures.same told).0 in
     let read : reading s.words live.pages disk.bytes live.root ≡ reading_in (version_of c.new-pages.result.first_version) c.new-pages.result.dim c.new-pages.result.pages on.bytes live.root =
     λ i. reading_in (version_of (sym c.new-pages.ensures.version i)) (sym dim i) (sym c.new-pages.ensures.pages i) (sym bytes i) live.root in
-    read ∙ c.in-Ok.ensures.ok.told tells ∙ ap (λ (n : Node). Ok n) c.in-Inner.is ∙ (λ i. Ok (Inner (level i) (sym c.as_slice-entries.ensures i))) in
+    read ∙ c.in-Ok.ensures.ok.told tells ∙ ap (λ (n : Node). Ok n) (sym c.as_ref.ensures ∙ c.in-Inner.is) ∙ (λ i. Ok (Inner (level i) (sym c.as_slice-entries.ensures i))) in
     let all = rw c.in-Some-2.is at c.in_ok-parts.ensures in
     let tried : AreTried s live disk 0 es (map (λ part. Ok part) parts) =
     subst (AreTried s live disk 0 es) (all ∙ ap (λ (ps : List Part). (let oks : List (Result Part AuditFault) = map (λ part. Ok part) ps in oks)) (sym c.deref.ensures.value)) c.in_ok-tried.ensures in

@@ -1,11 +1,12 @@
-use Rattle.std.proofs.Common.{◌∙◌, ap, refl, sym}
+use Rattle.std.proofs.Common.{◌∙◌, ap, refl, rules, sym}
 use Rattle.page_store.specs.Images.{bytes_in}
 use Rattle.page_store.specs.Shelves.{image_shelf}
-use Rattle.image_answers.proofs.Asking.{range_found, range_fault, range_marked}
+use Rattle.rows_text.specs.declared.command.Command.TheVariants as command
+use Rattle.image_answers.proofs.Asking.{given_plain, range_found, range_fault, range_marked, whole_if_ok}
 use Rattle.image_answers.proofs.queries.range_outcome.Goals as goal
 
-pub returns-in-Ok : goal.returns-in-Ok
-returns-in-Ok g c =
+pub returns-in-Ok-clause-given : goal.returns-in-Ok-clause-given
+returns-in-Ok-clause-given g c =
     let s = g.M.Metric.space c.args.metric in
     let dim = c.in-Ok.ensures.same.dim ∙ c.pages_of-pages.ensures.dim in
     let pages = c.in-Ok.ensures.same.pages ∙ c.pages_of-pages.ensures.pages in
@@ -13,10 +14,10 @@ returns-in-Ok g c =
     range_found s c.args.live.now (bytes_in c.args.image) c.args.q.now (rw (← c.as_slice.ensures) (sym c.fits.ensures ∙ c.if-not-fits.false)) _ _ c.range.new.pages.asked
     (λ i. image_shelf (c.pages_of-pages.ensures.dim i) (c.pages_of-pages.ensures.pages i) (bytes_in (c.pages_of-pages.ensures.image i)) (c.pages_of-pages.ensures.asked i))
     (λ i. image_shelf (dim i) (pages i) (bytes i) c.range.new.pages.asked)
-    c.args.r _ _ (image_shelf c.tagged.new.pages.dim c.tagged.new.pages.pages (bytes_in c.tagged.new.pages.image) c.tagged.new.pages.asked) c.in-Ok.found refl (rw (c.new-ruler.ensures.metric, c.as_slice-2.ensures) at c.in-Ok.ensures.found) (rw (c.new-ruler.ensures.metric, c.as_slice-2.ensures) at c.in-Ok.ensures.scanned) c.tagged.result c.tagged.ensures
+    c.args.tags c.args.r _ _ (image_shelf c.tagged.new.pages.dim c.tagged.new.pages.pages (bytes_in c.tagged.new.pages.image) c.tagged.new.pages.asked) c.in-Ok.found refl (rw (c.new-ruler.ensures.metric, c.as_slice-2.ensures) at c.in-Ok.ensures.found) (rw (c.new-ruler.ensures.metric, c.as_slice-2.ensures) at c.in-Ok.ensures.scanned) c.tagged.result c.tagged.ensures
 
-pub returns-in-Err : goal.returns-in-Err
-returns-in-Err g c =
+pub returns-in-Err-clause-given : goal.returns-in-Err-clause-given
+returns-in-Err-clause-given g c =
     let s = g.M.Metric.space c.args.metric in
     let dim = c.in-Err.ensures.same.dim ∙ c.pages_of-pages.ensures.dim in
     let pages = c.in-Err.ensures.same.pages ∙ c.pages_of-pages.ensures.pages in
@@ -25,7 +26,7 @@ returns-in-Err g c =
     (range_fault s c.args.live.now (bytes_in c.args.image) c.args.q.now (rw (← c.as_slice.ensures) (sym c.fits.ensures ∙ c.if-not-fits.false)) _ _ c.range.new.pages.asked
     (λ i. image_shelf (c.pages_of-pages.ensures.dim i) (c.pages_of-pages.ensures.pages i) (bytes_in (c.pages_of-pages.ensures.image i)) (c.pages_of-pages.ensures.asked i))
     (λ i. image_shelf (dim i) (pages i) (bytes i) c.range.new.pages.asked)
-    c.args.r c.in-Err.fault (rw (c.new-ruler.ensures.metric, c.as_slice-2.ensures) at c.in-Err.ensures.cause) (rw c.new-ruler.ensures.metric at c.in-Err.ensures.sound))
+    c.args.tags c.args.r c.in-Err.fault (rw (c.new-ruler.ensures.metric, c.as_slice-2.ensures) at c.in-Err.ensures.cause) (rw c.new-ruler.ensures.metric at c.in-Err.ensures.sound))
 
 pub tagged-requires : goal.tagged-requires
 tagged-requires g c =
@@ -39,3 +40,15 @@ tagged-requires g c =
           (λ i. image_shelf (dim i) (pages i) (bytes i) c.range.new.pages.asked)
           c.args.r _ _ c.in-Ok.found (rw (c.new-ruler.ensures.metric, c.as_slice-2.ensures) at c.in-Ok.ensures.found);
     }
+
+pub returns-in-Ok-clause-whole : goal.returns-in-Ok-clause-whole
+returns-in-Ok-clause-whole g c =
+    whole_if_ok (g.M.Metric.space c.args.metric) c.args.live.now (bytes_in c.args.image) (command.Range c.args.r c.args.q.now) c.args.tags c.tagged.result (returns-in-Ok-clause-given g c)
+
+pub returns-in-Err-clause-whole : goal.returns-in-Err-clause-whole
+returns-in-Err-clause-whole g c =
+    whole_if_ok (g.M.Metric.space c.args.metric) c.args.live.now (bytes_in c.args.image) (command.Range c.args.r c.args.q.now) c.args.tags c.outcome_of_fault.result (returns-in-Err-clause-given g c)
+
+pub returns-then-not-fits-clause-given : goal.returns-then-not-fits-clause-given
+returns-then-not-fits-clause-given g c =
+    given_plain (g.M.Metric.space c.args.metric) c.args.live.now (bytes_in c.args.image) (command.Range c.args.r c.args.q.now) c.args.tags c.refused.result (rw c.refused.ensures refl) (search rules)
