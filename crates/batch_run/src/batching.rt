@@ -5,35 +5,39 @@ ghost use Rattle.std.specs.List.{AllZip};
 ghost use Rattle.rows_text.specs.declared.command.Command.{Command};
 ghost use Rattle.rows_text.specs.Readable.{IsReadable};
 ghost use Rattle.page_store.specs.Images.{bytes_in};
-ghost use Rattle.image_answers.specs.Outcomes.{IsGivenOf, IsOutcomeOf};
+ghost use Rattle.image_answers.specs.Outcomes.{ArePagesOf, IsGivenOf, IsOutcomeOf};
 
 use crate::Memory;
 use crate::dealing::share_evenly;
-use image_answers::{Outcome, nearest_outcome, range_outcome};
+use image_answers::{Outcome, cached_pages, nearest_on, range_on};
 use metric_laws::Metric;
-use page_store::Image;
+use page_cache::{Cached, KEPT_NODES};
+use page_store::{Image, ImagePages};
 use rows_text::{Command, Refusal, Reply};
 use std::alloc::Global;
 use std::thread::Threads;
 use tree_shape::Live;
 
-/// What becomes of one command on the file with these bytes, whose live slot this is. Where tags are not wanted, hits have none.
+/// What becomes of one command on the file in memory with these pages, whose live slot this is. Where tags are not wanted,
+/// hits have none.
 pub fn outcome_of<M: Metric>(
     alloc: Global,
-    image: Image<'_>,
+    pages: &mut Cached<ImagePages<'_>>,
     metric: M,
     live: &Live,
     command: &Command,
     tags: bool,
 ) -> Result<Outcome, Memory>
-    requires pages { live.now.pages ≤ 2 ^ 24 }
+    requires few { live.now.pages ≤ 2 ^ 24 }
+    requires pages { ArePagesOf (M.space metric) live.now (bytes_in pages.old.inner.image) pages.old }
     requires readable { IsReadable (M.space metric).words command.now }
-    ensures given { IfOk result (IsGivenOf tags (M.space metric) live.now (bytes_in image.entry) command.now) }
-    ensures whole { tags ≡ true → IfOk result (IsOutcomeOf (M.space metric) live.now (bytes_in image.entry) command.now) }
+    ensures given { IfOk result (IsGivenOf tags (M.space metric) live.now (bytes_in pages.old.inner.image) command.now) }
+    ensures whole { tags ≡ true → IfOk result (IsOutcomeOf (M.space metric) live.now (bytes_in pages.old.inner.image) command.now) }
+    ensures same { ArePagesOf (M.space metric) live.now (bytes_in pages.old.inner.image) pages.new }
 {
     match command {
-        Command::Range { r, q } => range_outcome(alloc, image, metric, live, q, *r, tags),
-        Command::Nearest { k, q } => nearest_outcome(alloc, image, metric, live, q, *k, tags),
+        Command::Range { r, q } => range_on(alloc, pages, metric, live, q, *r, tags),
+        Command::Nearest { k, q } => nearest_on(alloc, pages, metric, live, q, *k, tags),
         Command::Count => Ok(Outcome::plain(Reply::Count(live.count))),
         Command::Bad(why) => Ok(Outcome::refused(*why)),
         Command::Insert(_)
@@ -44,6 +48,22 @@ pub fn outcome_of<M: Metric>(
         | Command::Next { .. }
         | Command::Close(_) => Ok(Outcome::refused(Refusal::ReadOnly)),
     }
+}
+
+// What becomes of one command on the file with these bytes.
+fn outcome_on<M: Metric>(
+    alloc: Global,
+    image: &[u8],
+    metric: M,
+    live: &Live,
+    command: &Command,
+) -> Result<Outcome, Memory>
+    requires pages { live.now.pages ≤ 2 ^ 24 }
+    requires readable { IsReadable (M.space metric).words command.now }
+    ensures { IfOk result (IsOutcomeOf (M.space metric) live.now image.now command.now) }
+{
+    let mut pages = cached_pages(alloc, Image::Whole(image), metric, live, KEPT_NODES)?;
+    outcome_of(alloc, &mut pages, metric, live, command, true)
 }
 
 /// What becomes of each command of a script on the file with these bytes, whose live slot this is, in the commands' order. It
@@ -71,6 +91,6 @@ pub fn batch<R: Threads + Sync, M: Metric>(
     let work = |i: usize| -> Result<Outcome, Memory>
         requires { (live.now.pages ≤ 2 ^ 24) × All (IsReadable (M.space metric).words) commands.now × (i < length commands.now) }
         ensures { (c : Command) → IfOk result (IsOutcomeOf (M.space metric) live.entry.now image.entry.now (slice_index_or commands.entry.now i c)) }
-    { outcome_of(alloc, Image::Whole(image), metric, live, &commands[i], true) };
+    { outcome_on(alloc, image, metric, live, &commands[i]) };
     share_evenly(rt, alloc, commands.len(), workers, &work)
 }

@@ -13,7 +13,7 @@ pub use jobs::{
     audit_index, audit_opened, create_index, end_rejected, end_sound, end_unopened, open_index,
     space_of,
 };
-pub use limits::{KEPT_NODES, MOST_INPUT, MOST_LOGS, MOST_WHOLE_PAGES};
+pub use limits::{MOST_INPUT, MOST_LOGS, MOST_WHOLE_PAGES};
 pub use lines::{
     FAULT_DISK, FAULT_INPUT, FAULT_LONG, FAULT_MEMORY, FAULT_NOT_EMPTY, FAULT_VERSION,
     damaged_text, end_with, put_line, rejected_text, sound_text,

@@ -8,6 +8,3 @@ pub const MOST_LOGS: u64 = 1 << 30;
 
 /// The most pages of an index that a job takes whole, into memory or under a seal: 1 GiB.
 pub const MOST_WHOLE_PAGES: u32 = 262_144;
-
-/// How many nodes are kept of a file whose pages are asked for again and again.
-pub const KEPT_NODES: usize = 256;

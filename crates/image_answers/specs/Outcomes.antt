@@ -15,6 +15,9 @@ use Rattle.tree_shape.specs.declared.live.Live.{Live}
 use Rattle.tree_shape.specs.Tree.{Nodes, IsSoundTree}
 use Rattle.page_store.specs.declared.pages.PageFault.{PageFault}
 use Rattle.page_store.specs.declared.pages.PageFault.TheVariants as page
+use Rattle.page_cache.specs.Cache.{Cache}
+use Rattle.page_store.specs.declared.image_pages.ImagePages.{ImagePages}
+use Rattle.page_store.specs.Images.{bytes_in}
 use Rattle.page_store.specs.Files.{nodes_in}
 use Rattle.page_store.specs.Reading.{Read, nodes_of, reading}
 use Rattle.page_store.specs.Shelf.{Shelf, IsDamage}
@@ -146,6 +149,14 @@ as_wanted false o = untagged o
 -- what is given of the outcome of a command on an image: all of it, or all but the tags of its hits
 abbrev pub IsGivenOf : Bool → Space → Live → List ℕ → Command → Outcome → Type 0
 IsGivenOf tags s live image c given = (o : Outcome) × IsOutcomeOf s live image c o × (given ≡ as_wanted tags o)
+
+-- ---- pages of an image
+
+-- these are the pages of an image, behind what is kept of them
+pub record ArePagesOf (s : Space) (live : Live) (image : List ℕ) (pages : Cache ImagePages) : Type 0 where
+  pub dim : pages.inner.dim ≡ s.words
+  pub count : pages.inner.pages ≡ live.pages
+  pub bytes : bytes_in pages.inner.image ≡ image
 
 -- ---- what a search found, and its tags
 

@@ -5,7 +5,7 @@ mod outcome;
 mod queries;
 
 pub use outcome::Outcome;
-pub use queries::{nearest_outcome, pages_of, range_outcome};
+pub use queries::{cached_pages, nearest_on, nearest_outcome, pages_of, range_on, range_outcome};
 
 /// Want of memory.
 pub type Memory = std::alloc::AllocError;

@@ -6,7 +6,7 @@ ghost use Rattle.page_store.specs.Images.{bytes_in};
 ghost use Rattle.page_store.specs.Reading.{nodes_of};
 ghost use Rattle.page_store.specs.Shelf.{HoldsSame};
 ghost use Rattle.hit_tags.specs.Met.{AreMarked};
-ghost use Rattle.image_answers.specs.Outcomes.{IsGivenOf, IsOutcomeOf, IsTagged, outcome_of_fault};
+ghost use Rattle.image_answers.specs.Outcomes.{ArePagesOf, IsGivenOf, IsOutcomeOf, IsTagged, outcome_of_fault};
 
 use crate::Memory;
 use crate::outcome::Outcome;
@@ -14,6 +14,7 @@ use hit_tags::marked_tags;
 use log_model::Found;
 use metric_laws::{Listed, Meter, Metric, Point};
 use nearest_search::nearest;
+use page_cache::{Cached, KEPT_NODES};
 use page_store::{Image, ImagePages, PageFault, Pages};
 use range_search::range;
 use rows_text::{Refusal, Reply};
@@ -29,6 +30,21 @@ pub fn pages_of<'a, M: Metric>(image: Image<'a>, metric: M, live: &Live) -> Imag
     ensures asked { result.asked ≡ 0 }
 {
     ImagePages::of(image, metric.words() as u8, live.pages)
+}
+
+/// The pages of an image behind a cache that keeps at most so many nodes, and none yet.
+pub fn cached_pages<'a, M: Metric>(
+    alloc: Global,
+    image: Image<'a>,
+    metric: M,
+    live: &Live,
+    nodes: usize,
+) -> Result<Cached<ImagePages<'a>>, Memory>
+    requires pages { live.now.pages ≤ 2 ^ 24 }
+    requires some { 1 ≤ nodes }
+    ensures { IfOk result (ArePagesOf (M.space metric) live.now (bytes_in image.entry)) }
+{
+    Cached::new(alloc, pages_of(image, metric, live), nodes)
 }
 
 // What a page that gave no node is to a query.
@@ -64,7 +80,9 @@ fn tagged<P: Pages>(
 ) -> Result<Outcome, Memory>
     requires marked { IsTrue (P.shelf pages.old).tells →
         AreMarked (nodes_of (P.shelf pages.old).read) (live.now.root ∷ []) found.log.records }
-    ensures { IfOk result (IsTagged tags (P.shelf pages.old) (P.shelf pages.new) live.now found) }
+    ensures same { HoldsSame (P.shelf pages.old) (P.shelf pages.new) }
+    ensures keeps { P.keeps pages.old pages.new }
+    ensures tagged { IfOk result (IsTagged tags (P.shelf pages.old) (P.shelf pages.new) live.now found) }
 {
     if !tags {
         return Ok(answered(found, Vec::new(alloc)));
@@ -76,6 +94,61 @@ fn tagged<P: Pages>(
 }
 
 /// Every object within `r` of `q`. Where tags are not wanted, the hits have none, and no page is opened for them.
+pub fn range_on<M: Metric>(
+    alloc: Global,
+    pages: &mut Cached<ImagePages<'_>>,
+    metric: M,
+    live: &Live,
+    q: &Point,
+    r: u64,
+    tags: bool,
+) -> Result<Outcome, Memory>
+    requires few { live.now.pages ≤ 2 ^ 24 }
+    requires pages { ArePagesOf (M.space metric) live.now (bytes_in pages.old.inner.image) pages.old }
+    ensures given { IfOk result (IsGivenOf tags (M.space metric) live.now (bytes_in pages.old.inner.image) (command.Range r q.now)) }
+    ensures whole { tags ≡ true → IfOk result (IsOutcomeOf (M.space metric) live.now (bytes_in pages.old.inner.image) (command.Range r q.now)) }
+    ensures same { ArePagesOf (M.space metric) live.now (bytes_in pages.old.inner.image) pages.new }
+{
+    if !metric.fits(q.as_slice()) {
+        return Ok(Outcome::refused(Refusal::Unfit));
+    }
+    pages.count_anew();
+    let mut ruler = Meter::new(metric);
+    match range(alloc, pages, &mut ruler, live, q.as_slice(), r) {
+        Ok(found) => tagged(alloc, pages, live, found, tags),
+        Err(fault) => outcome_of_fault(fault),
+    }
+}
+
+/// The `k` objects nearest to `q`. Where tags are not wanted, the hits have none, and no page is opened for them.
+pub fn nearest_on<M: Metric>(
+    alloc: Global,
+    pages: &mut Cached<ImagePages<'_>>,
+    metric: M,
+    live: &Live,
+    q: &Point,
+    k: u64,
+    tags: bool,
+) -> Result<Outcome, Memory>
+    requires few { live.now.pages ≤ 2 ^ 24 }
+    requires pages { ArePagesOf (M.space metric) live.now (bytes_in pages.old.inner.image) pages.old }
+    requires some { 1 ≤ k }
+    ensures given { IfOk result (IsGivenOf tags (M.space metric) live.now (bytes_in pages.old.inner.image) (command.Nearest k q.now)) }
+    ensures whole { tags ≡ true → IfOk result (IsOutcomeOf (M.space metric) live.now (bytes_in pages.old.inner.image) (command.Nearest k q.now)) }
+    ensures same { ArePagesOf (M.space metric) live.now (bytes_in pages.old.inner.image) pages.new }
+{
+    if !metric.fits(q.as_slice()) {
+        return Ok(Outcome::refused(Refusal::Unfit));
+    }
+    pages.count_anew();
+    let mut ruler = Meter::new(metric);
+    match nearest(alloc, pages, &mut ruler, live, q.as_slice(), k) {
+        Ok(found) => tagged(alloc, pages, live, found, tags),
+        Err(fault) => outcome_of_fault(fault),
+    }
+}
+
+/// Every object within `r` of `q`, and their tags, by the pages of this image alone.
 pub fn range_outcome<M: Metric>(
     alloc: Global,
     image: Image<'_>,
@@ -83,24 +156,15 @@ pub fn range_outcome<M: Metric>(
     live: &Live,
     q: &Point,
     r: u64,
-    tags: bool,
 ) -> Result<Outcome, Memory>
     requires { live.now.pages ≤ 2 ^ 24 }
-    ensures given { IfOk result (IsGivenOf tags (M.space metric) live.now (bytes_in image.entry) (command.Range r q.now)) }
-    ensures whole { tags ≡ true → IfOk result (IsOutcomeOf (M.space metric) live.now (bytes_in image.entry) (command.Range r q.now)) }
+    ensures { IfOk result (IsOutcomeOf (M.space metric) live.now (bytes_in image.entry) (command.Range r q.now)) }
 {
-    if !metric.fits(q.as_slice()) {
-        return Ok(Outcome::refused(Refusal::Unfit));
-    }
-    let mut pages = pages_of(image, metric, live);
-    let mut ruler = Meter::new(metric);
-    match range(alloc, &mut pages, &mut ruler, live, q.as_slice(), r) {
-        Ok(found) => tagged(alloc, &mut pages, live, found, tags),
-        Err(fault) => outcome_of_fault(fault),
-    }
+    let mut pages = cached_pages(alloc, image, metric, live, KEPT_NODES)?;
+    range_on(alloc, &mut pages, metric, live, q, r, true)
 }
 
-/// The `k` objects nearest to `q`. Where tags are not wanted, the hits have none, and no page is opened for them.
+/// The `k` objects nearest to `q`, and their tags, by the pages of this image alone.
 pub fn nearest_outcome<M: Metric>(
     alloc: Global,
     image: Image<'_>,
@@ -108,20 +172,11 @@ pub fn nearest_outcome<M: Metric>(
     live: &Live,
     q: &Point,
     k: u64,
-    tags: bool,
 ) -> Result<Outcome, Memory>
     requires pages { live.now.pages ≤ 2 ^ 24 }
     requires some { 1 ≤ k }
-    ensures given { IfOk result (IsGivenOf tags (M.space metric) live.now (bytes_in image.entry) (command.Nearest k q.now)) }
-    ensures whole { tags ≡ true → IfOk result (IsOutcomeOf (M.space metric) live.now (bytes_in image.entry) (command.Nearest k q.now)) }
+    ensures { IfOk result (IsOutcomeOf (M.space metric) live.now (bytes_in image.entry) (command.Nearest k q.now)) }
 {
-    if !metric.fits(q.as_slice()) {
-        return Ok(Outcome::refused(Refusal::Unfit));
-    }
-    let mut pages = pages_of(image, metric, live);
-    let mut ruler = Meter::new(metric);
-    match nearest(alloc, &mut pages, &mut ruler, live, q.as_slice(), k) {
-        Ok(found) => tagged(alloc, &mut pages, live, found, tags),
-        Err(fault) => outcome_of_fault(fault),
-    }
+    let mut pages = cached_pages(alloc, image, metric, live, KEPT_NODES)?;
+    nearest_on(alloc, &mut pages, metric, live, q, k, true)
 }

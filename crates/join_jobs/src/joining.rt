@@ -15,13 +15,13 @@ ghost use Rattle.join_jobs.specs.Jobs.{AreLawful, IsJoinOf, HasRefusal, EndsRefu
 use crate::lines::push_pairs;
 use crate::opened::Trees;
 use disk_model::Disk;
-use file_jobs::{FAULT_DISK, FAULT_MEMORY, KEPT_NODES, damaged_text, end_with, put_line, space_of};
+use file_jobs::{FAULT_DISK, FAULT_MEMORY, damaged_text, end_with, put_line, space_of};
 use log_model::Joined;
 use metric_join::{JoinFault, join};
 use metric_laws::{Memory, Meter};
 use outside_io::{Sink, Status};
 use page_cache::laws::empty_cache_agrees;
-use page_cache::{Cached, Kept};
+use page_cache::{Cached, KEPT_NODES, Kept};
 use page_store::{DiskPages, PageFault};
 use prune_log::{encode_join_log, frame};
 use std::alloc::Global;

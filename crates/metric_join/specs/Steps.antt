@@ -29,11 +29,13 @@ use Rattle.metric_join.specs.declared.faults.JoinFault.TheVariants.{Left, Right,
 use Rattle.metric_join.specs.declared.opening.Opening.{Opening}
 use Rattle.metric_join.specs.declared.walking.Waiting.{Waiting}
 
+-- the least mark by its own distance, of an entry with this point and this radius
+abbrev pub measured_at : JoinSearch → JoinNeed → List ℕ → ℕ → Mark
+measured_at j n point radius = if far_apart (apart_from j.space n point) j.rho radius (radius_of (other n)) then Far else Near
+
 -- the least mark of an entry with this point, this distance to the routing point above and this radius
 abbrev pub least_at : JoinSearch → JoinNeed → List ℕ → ℕ → ℕ → Mark
-least_at j n point stored radius =
-    if far_stored n.apart stored j.rho (radius + radius_of (other n)) then Skip
-    else (if far_apart (apart_from j.space n point) j.rho radius (radius_of (other n)) then Far else Near)
+least_at j n point stored radius = if far_stored n.apart stored j.rho (radius + radius_of (other n)) then Skip else measured_at j n point radius
 
 -- the least marks of entries, and the pairs that they leave
 abbrev pub marks_for : JoinSearch → JoinNeed → List Entry → List Mark
@@ -41,6 +43,11 @@ marks_for j n es = map (least_for_entry j n) es
 
 abbrev pub pairs_for : JoinSearch → JoinNeed → List Entry → List JoinNeed
 pairs_for j n es = map (with_entry j.space n) (near_ones es (marks_for j n es))
+
+-- a pair was added: to the answers, or to the pairs that are still needed
+pub record AddsPair (pair : JoinNeed) (old new : Opening) : Type 0 where
+  pub hits : new.hits.items ≡ old.hits.items ++ hits_among (pair ∷ [])
+  pub needs : new.needs.items ≡ old.needs.items ++ needs_among (pair ∷ [])
 
 -- these entries were marked, and the pairs that they leave were added
 pub record TakesEntries (j : JoinSearch) (n : JoinNeed) (es : List Entry) (old new : Opening) : Type 0 where

@@ -3,9 +3,9 @@ ghost use Rattle.std.specs.Prelude.{◌≡◌, ◌++◌, ◌≤◌, [], ◌∷�
 ghost use Rattle.metric_laws.specs.Counts.{CountsUpTo};
 ghost use Rattle.log_model.specs.Counts.{measured_by};
 ghost use Rattle.log_model.specs.declared.marks.Mark.TheVariants.{Near};
-ghost use Rattle.log_model.specs.JoinWalk.{object_entry, subtree_entry, entries_of};
+ghost use Rattle.log_model.specs.JoinWalk.{object_entry, subtree_entry, entries_of, other, radius_of};
 ghost use Rattle.log_model.specs.JoinSteps.{search_within, apart_from, paired, hits_among, needs_among};
-ghost use Rattle.metric_join.specs.Steps.{least_at, marks_for, pairs_for, TakesEntries, CountsMarks};
+ghost use Rattle.metric_join.specs.Steps.{least_at, measured_at, marks_for, pairs_for, AddsPair, TakesEntries, CountsMarks};
 
 use log_model::{Item, JoinNeed, Mark, Memory, entry_count, is_far, is_skipped};
 use metric_laws::{Point, Ruler};
@@ -33,6 +33,9 @@ pub struct JoinProbe<'a> {
     pub need: &'a JoinNeed,
     /// The radius that prunes.
     pub rho: u64,
+    /// The covering radius of the other item.
+    pub reach: u64,
+    ghost reaches: { reach ≡ radius_of (other need.now) },
 }
 
 // What was found of an entry.
@@ -46,6 +49,8 @@ struct Marked {
 
 // The least mark of an entry with this point, this distance to the routing point above and this radius. A distance is
 // computed where the mark isn't Skip.
+// Most entries are skipped, so the test for it stands in the loops over them.
+#[inline(always)]
 fn least_mark<R: Ruler>(
     ruler: &mut R,
     probe: JoinProbe,
@@ -58,15 +63,24 @@ fn least_mark<R: Ruler>(
     ensures mark { result.mark ≡ least_at (search_within (R.M.space (R.metric ruler.old)) probe.entry.rho) probe.entry.need.now point.now stored radius }
     ensures apart { result.mark ≡ Near → result.apart ≡ apart_from (R.M.space (R.metric ruler.old)) probe.entry.need.now point.now }
 {
-    let reach = probe.need.other().radius();
-    if is_skipped(probe.need.apart, stored, probe.rho, radius, reach) {
+    if is_skipped(probe.need.apart, stored, probe.rho, radius, probe.reach) {
         return Marked {
             mark: Mark::Skip,
             apart: None,
         };
     }
+    measured_mark(ruler, probe, point, radius)
+}
+
+// The least mark of an entry that is not skipped, by its distance.
+fn measured_mark<R: Ruler>(ruler: &mut R, probe: JoinProbe, point: &[u32], radius: u64) -> Marked
+    ensures metric { R.metric ruler.new ≡ R.metric ruler.old }
+    ensures counted { CountsUpTo (R.used ruler.old) (R.used ruler.new) 1 }
+    ensures mark { result.mark ≡ measured_at (search_within (R.M.space (R.metric ruler.old)) probe.entry.rho) probe.entry.need.now point.now radius }
+    ensures apart { result.apart ≡ apart_from (R.M.space (R.metric ruler.old)) probe.entry.need.now point.now }
+{
     let apart = probe.need.apart_from(ruler, point);
-    let mark = if is_far(apart, probe.rho, radius, reach) {
+    let mark = if is_far(apart, probe.rho, radius, probe.reach) {
         Mark::Far
     } else {
         Mark::Near
@@ -111,8 +125,7 @@ impl Opening {
     // Adds a pair: an answer where both items are objects, else a pair that is needed.
     fn push_pair(&mut self, pair: JoinNeed) -> Result<(), Memory>
         ensures marks { self.new.marks.items ≡ self.old.marks.items }
-        ensures hits { OnOk result (self.new.hits.items ≡ self.old.hits.items ++ hits_among (pair ∷ [])) }
-        ensures needs { OnOk result (self.new.needs.items ≡ self.old.needs.items ++ needs_among (pair ∷ [])) }
+        ensures pair { OnOk result (AddsPair pair self.old self.new) }
     {
         if pair.left.is_object() && pair.right.is_object() {
             self.hits.push(Pair {
@@ -125,6 +138,47 @@ impl Opening {
         }
         Ok(())
     }
+}
+
+// Adds the pair of an object with the other item.
+// It stands apart from the marking, as `add_subtree` does: a function clears the places of its values where it begins, and few
+// entries have a pair.
+#[inline(never)]
+fn add_object(
+    probe: JoinProbe,
+    entry: &LeafEntry,
+    apart: Option<u64>,
+    opening: &mut Opening,
+) -> Result<(), Memory>
+    ensures marks { opening.new.marks.items ≡ opening.old.marks.items }
+    ensures pair { OnOk result (AddsPair (paired probe.entry.need.now (object_entry entry.now).item apart) opening.old opening.new) }
+{
+    let item = Item::Object {
+        id: entry.id,
+        point: Point::new(probe.alloc, entry.point.as_slice())?,
+    };
+    opening.push_pair(pair_with(probe, item, apart)?)
+}
+
+// Adds the pair of a subtree that an inner node of this level names with the other item.
+#[inline(never)]
+fn add_subtree(
+    probe: JoinProbe,
+    level: u8,
+    entry: &InnerEntry,
+    apart: Option<u64>,
+    opening: &mut Opening,
+) -> Result<(), Memory>
+    ensures marks { opening.new.marks.items ≡ opening.old.marks.items }
+    ensures pair { OnOk result (AddsPair (paired probe.entry.need.now (subtree_entry level entry.now).item apart) opening.old opening.new) }
+{
+    let item = Item::Subtree {
+        page: entry.child,
+        rank: u64::from(level),
+        centre: Some(Point::new(probe.alloc, entry.point.as_slice())?),
+        radius: entry.radius,
+    };
+    opening.push_pair(pair_with(probe, item, apart)?)
 }
 
 // Marks an object, and adds its pair where it is marked Near.
@@ -142,11 +196,7 @@ fn mark_object<R: Ruler>(
     let marked = least_mark(ruler, probe, entry.point.as_slice(), entry.parent, 0);
     opening.marks.push(marked.mark)?;
     if let Mark::Near = marked.mark {
-        let item = Item::Object {
-            id: entry.id,
-            point: Point::new(probe.alloc, entry.point.as_slice())?,
-        };
-        opening.push_pair(pair_with(probe, item, marked.apart)?)?;
+        add_object(probe, entry, marked.apart, opening)?;
     }
     Ok(())
 }
@@ -173,13 +223,7 @@ fn mark_subtree<R: Ruler>(
     );
     opening.marks.push(marked.mark)?;
     if let Mark::Near = marked.mark {
-        let item = Item::Subtree {
-            page: entry.child,
-            rank: u64::from(level),
-            centre: Some(Point::new(probe.alloc, entry.point.as_slice())?),
-            radius: entry.radius,
-        };
-        opening.push_pair(pair_with(probe, item, marked.apart)?)?;
+        add_subtree(probe, level, entry, marked.apart, opening)?;
     }
     Ok(())
 }

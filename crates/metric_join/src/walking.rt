@@ -216,6 +216,7 @@ fn open_pair<P: Pages, Q: Pages, R: Ruler>(
         alloc,
         need: &waiting.need,
         rho: walk.rho,
+        reach: waiting.need.other().radius(),
     };
     let opening = open_node(ruler, probe, node.as_ref())?;
     walk.take(&waiting, opening)?;

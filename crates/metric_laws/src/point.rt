@@ -1,4 +1,4 @@
-ghost use Rattle.std.specs.Prelude.{◌≡◌, List, ℕ, IfOk};
+ghost use Rattle.std.specs.Prelude.{◌≡◌, ◌≤◌, List, ℕ, take, IfOk};
 
 use crate::Memory;
 use smallvec::SmallVec;
@@ -26,6 +26,16 @@ impl Point {
     {
         let coordinates = SmallVec::from_slice(alloc, coordinates)?;
         Ok(Point { coordinates })
+    }
+
+    /// The point with the first `len` of these coordinates, in the value itself.
+    pub fn short(alloc: Global, coordinates: [u32; 16], len: usize) -> Self
+        requires { len ≤ 16 }
+        ensures { result ≡ take len coordinates }
+    {
+        Point {
+            coordinates: SmallVec::from_buf_and_len(alloc, coordinates, len),
+        }
     }
 
     /// The coordinates.

@@ -39,6 +39,7 @@ impl Metric for Hausdorff {
         L1::new(self.dim).fits(p) && sets::is_spelled(p)
     }
 
+    #[inline(never)]
     fn dist(&self, a: &[u32], b: &[u32]) -> u64 {
         u64::from(sets::farthest(a, b).max(sets::farthest(b, a)))
     }

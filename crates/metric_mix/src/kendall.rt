@@ -37,6 +37,7 @@ impl Metric for Kendall {
         p.len() == usize::from(self.dim) && permutations::hold_below(p, self.dim)
     }
 
+    #[inline(never)]
     fn dist(&self, a: &[u32], b: &[u32]) -> u64 {
         let (a, _) = joined::parts(a, usize::from(self.dim));
         let (b, _) = joined::parts(b, usize::from(self.dim));

@@ -139,6 +139,7 @@ impl Metric for MixSpace {
         }
     }
 
+    // The composed metrics are calls of their own, so that a plain one pays nothing for what they need.
     fn dist(&self, a: &[u32], b: &[u32]) -> u64 {
         match self {
             MixSpace::Plain(space) => space.dist(a, b),

@@ -51,6 +51,7 @@ impl<A: Metric, B: Metric> Metric for Most<A, B> {
         self.first.fits(front) && self.second.fits(back)
     }
 
+    #[inline(never)]
     fn dist(&self, a: &[u32], b: &[u32]) -> u64 {
         let (a_front, a_back) = joined::parts(a, self.first.words());
         let (b_front, b_back) = joined::parts(b, self.first.words());

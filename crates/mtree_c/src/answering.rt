@@ -112,7 +112,6 @@ fn range_answer(alloc: Global, file: &[u8], point: &[u32], radius: u64) -> Resul
         &live,
         &point,
         radius,
-        true,
     ))
 }
 
@@ -137,7 +136,6 @@ fn nearest_answer(alloc: Global, file: &[u8], point: &[u32], count: u64) -> Resu
         &live,
         &point,
         count,
-        true,
     ))
 }
 

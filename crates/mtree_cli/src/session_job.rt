@@ -15,14 +15,15 @@ ghost use Rattle.mtree_cli.specs.Session.{HasEnded, HasFinished, HasRefused, IsC
 
 use disk_model::Disk;
 use file_jobs::{
-    FAULT_DISK, FAULT_INPUT, FAULT_LONG, FAULT_MEMORY, KEPT_NODES, MOST_INPUT, damaged_text,
-    end_unopened, end_with, open_index, space_of,
+    FAULT_DISK, FAULT_INPUT, FAULT_LONG, FAULT_MEMORY, MOST_INPUT, damaged_text, end_unopened,
+    end_with, open_index, space_of,
 };
 use index_core::Index;
 use metric_laws::Metric;
 use metric_mix::MixSpace;
 use node_page::laws::{fault_is_not_open, one_live_slot};
 use outside_io::{ReadAll, Sink, Source, Status, read_all};
+use page_cache::KEPT_NODES;
 use rows_text::read_script;
 use session_run::{Stop, session};
 use std::alloc::Global;

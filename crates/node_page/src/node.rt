@@ -1,4 +1,4 @@
-ghost use Rattle.std.specs.Prelude.{◌≡◌, ◌≢◌, ◌⊎◌, ◌+◌, ◌*◌, ◌≤◌, ◌<◌, ◌==◌, length, true, IfOk, IfErr, Ok, Err, Some, None, slice_index};
+ghost use Rattle.std.specs.Prelude.{◌≡◌, ◌≢◌, ◌⊎◌, ◌+◌, ◌*◌, ◌≤◌, ◌<◌, ◌==◌, length, take, true, IfOk, IfErr, Ok, Err, Some, None, slice_index};
 ghost use Rattle.tree_shape.specs.Fill.{most_for};
 ghost use Rattle.node_page.specs.Nodes.{SpellsIn, SpellsNode, SpellsOldNode, IsLawfulNode, firsts, point_at, parent_place, tag_at, leaf_in, inner_at, place_of, place_in, count_of, near_at, are_near, is_count, is_rest_zero, fault_in, node_in, node_fault, node_of, old_node_fault, old_node_of};
 
@@ -150,18 +150,47 @@ fn fault_of(page: &[u8; 4096], dim: u8, version: Version) -> Option<NodeFault>
     None
 }
 
-// The coordinates from a place on.
+// The coordinates from a place on, at the front of an array.
+fn coordinates_at<const N: usize>(page: &[u8; 4096], at: usize, dim: usize) -> [u32; N]
+    requires few { dim ≤ N }
+    requires within { at + 4 * dim ≤ 4096 }
+    ensures { take dim result ≡ point_at dim page.now at }
+{
+    let mut coordinates = [0u32; N];
+    for place in 0..dim {
+        coordinates[place] = get_u32(page, at + 4 * place);
+    }
+    coordinates
+}
+
+// The point of more coordinates than stand in a value itself.
+// Apart from the others, whose array is a quarter of its own.
+#[inline(never)]
+fn long_point_at(
+    alloc: Global,
+    page: &[u8; 4096],
+    at: usize,
+    dim: usize,
+) -> Result<Point, AllocError>
+    requires few { dim ≤ 64 }
+    requires within { at + 4 * dim ≤ 4096 }
+    ensures { IfOk result (λ p. p ≡ point_at dim page.now at) }
+{
+    let coordinates: [u32; 64] = coordinates_at(page, at, dim);
+    Point::new(alloc, &coordinates[..dim])
+}
+
+// The point from a place on.
 fn point_at(alloc: Global, page: &[u8; 4096], at: usize, dim: u8) -> Result<Point, AllocError>
     requires few { dim ≤ 64 }
     requires within { at + 4 * dim ≤ 4096 }
     ensures { IfOk result (λ p. p ≡ point_at dim page.now at) }
 {
     let dim = usize::from(dim);
-    let mut coordinates = [0u32; 64];
-    for place in 0..dim {
-        coordinates[place] = get_u32(page, at + 4 * place);
+    if dim > 16 {
+        return long_point_at(alloc, page, at, dim);
     }
-    Point::new(alloc, &coordinates[..dim])
+    Ok(Point::short(alloc, coordinates_at(page, at, dim), dim))
 }
 
 // The tag of the leaf entry from a place on.

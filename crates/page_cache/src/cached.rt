@@ -77,6 +77,13 @@ impl<P: Pages> Cached<P> {
         inner
     }
 
+    /// Begins to count anew how often a page is asked for here.
+    pub fn count_anew(&mut self)
+        ensures { self.new ≡ record self.old { asked = 0 } }
+    {
+        self.asked = 0;
+    }
+
     /// Drops the node of a page, if one is kept. The next ask for it asks the pages behind.
     pub fn forget(&mut self, page: u32)
         ensures { self.new ≡ record self.old { kept = without self.old.kept page } }

@@ -10,6 +10,9 @@ use std::alloc::Global;
 use std::marker::Model;
 use std::num::NonZeroUsize;
 
+/// How many nodes are kept of a file whose pages are asked for again and again.
+pub const KEPT_NODES: usize = 256;
+
 /// The nodes of the pages that were used last, at most so many. Contracts see the pairs of a page and its node, the last
 /// used first, and how many there may be.
 #[derive(Drop)]

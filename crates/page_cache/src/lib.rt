@@ -6,4 +6,4 @@ mod kept;
 pub mod laws;
 
 pub use cached::Cached;
-pub use kept::Kept;
+pub use kept::{KEPT_NODES, Kept};

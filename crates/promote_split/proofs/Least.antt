@@ -2,7 +2,7 @@
 use Rattle.std.proofs.Common.{◌≡◌, ℕ, zero, suc, ◌+◌, ◌-◌, ◌<◌, ◌≤◌, Bool, true, false, cond, List, [], ◌∷◌, ◌++◌, refl, sym, ap, arith, ◌∙◌, length, ◌*◌, drop, map, append_assoc, get_or, drop-cons, add-one}
 use Rattle.metric_laws.specs.Space.{Space}
 use Rattle.std.specs.Prelude.{filter, Option, Some, None, if◌then◌else◌, nat_lt, max}
-use Rattle.std.specs.List.{range_with_len, flat_map, AllByRecursion}
+use Rattle.std.specs.List.{range_with_len, flat_map}
 use Rattle.tree_growth.specs.declared.rules.Side.{Side}
 use Rattle.tree_growth.specs.Dealing.{Ball, is_on, first_least, least_from, in_turn, greatest, pairs, pairs_with, or_pair}
 use Rattle.promote_split.specs.Steps.{kept, kept_if, later, half_entries}

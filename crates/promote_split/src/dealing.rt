@@ -1,6 +1,6 @@
 ghost use Rattle.std.specs.Prelude.{◌≡◌, ◌≢◌, ◌-◌, ◌*◌, ◌≤◌, ◌<◌, ◌++◌, ◌∷◌, [], length, map, filter, IfOk, IfSome, OnOk, slice_index_or, nat_le, ◌==◌, if◌then◌else◌};
 ghost use Rattle.std.specs.List.{range_with_len};
-ghost use Rattle.tree_growth.specs.Dealing.{size, is_on, side_at, first_least, in_turn, may_leave, members, received, filled_up, by_nearer, hyperplane, balanced, only_promoted, partitioned};
+ghost use Rattle.tree_growth.specs.Dealing.{size, count_on, is_on, side_at, first_least, in_turn, may_leave, members, received, filled_up, by_nearer, hyperplane, balanced, only_promoted, partitioned};
 ghost use Rattle.promote_split.specs.Steps.{kept, kept_if};
 
 use crate::Matrix;
@@ -104,6 +104,19 @@ fn receive(matrix: &Matrix, pair: Promoted, step: Step, sides: &mut [Side])
     }
 }
 
+// How many entries stand on a side.
+fn count_on(on: Side, sides: &[Side]) -> usize
+    ensures { result ≡ count_on on sides.now }
+{
+    let mut count = 0;
+    for i in 0..sides.len() {
+        if is_same(on, sides[i]) {
+            count += 1;
+        }
+    }
+    count
+}
+
 // A side receives what it lacks.
 #[tactic(auto, using(crate::proofs::Least::turn_more))]
 fn fill_up(matrix: &Matrix, pair: Promoted, least: usize, step: Step, sides: &mut [Side])
@@ -111,7 +124,7 @@ fn fill_up(matrix: &Matrix, pair: Promoted, least: usize, step: Step, sides: &mu
     requires own { step.own < size matrix.now }
     ensures { sides.new ≡ filled_up matrix.now pair.a pair.b least step.own step.from step.to sides.old }
 {
-    let have = sides.iter().filter(|side| is_same(step.to, **side)).count();
+    let have = count_on(step.to, sides);
     for _turn in have..least {
         receive(matrix, pair, step, sides);
     }

@@ -263,7 +263,8 @@ fn next_at<'a, P: Piece>(
     Ok((piece, rest))
 }
 
-// So many pieces.
+// So many pieces. Room is taken at once for as many as a node has entries; a greater number is not believed before its bytes
+// are read.
 pub fn read_all<P: Piece>(
     alloc: Global,
     count: u64,
@@ -271,7 +272,7 @@ pub fn read_all<P: Piece>(
 ) -> Result<(Vec<P>, &[u8]), LogFault>
     ensures { Gives (λ x. (x.0.items, x.1.now)) result (many P.reads P.follows count None bytes.now) }
 {
-    let mut pieces = Vec::new(alloc);
+    let mut pieces = Vec::with_capacity(alloc, count.min(u64::from(ENTRIES)) as usize)?;
     let mut rest = bytes;
     for _ in 0..count {
         let (piece, after) = next_at(alloc, pieces.last(), rest)?;

@@ -69,15 +69,7 @@ fn ranges(rt: HostRuntime) -> Result<(), Fail> {
     ];
     for (c, radius, wanted) in &cases {
         let q = Point::new(alloc, &[*c])?;
-        let found = range_outcome(
-            alloc,
-            Image::Whole(&image),
-            metric,
-            &PAIR,
-            &q,
-            *radius,
-            true,
-        )?;
+        let found = range_outcome(alloc, Image::Whole(&image), metric, &PAIR, &q, *radius)?;
         assert!(rt; text_of(alloc, &found)?.as_slice() == wanted.as_bytes());
     }
     Ok(())

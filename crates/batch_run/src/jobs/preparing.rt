@@ -3,6 +3,7 @@
 ghost use Rattle.std.specs.Prelude.{◌≡◌, ◌≤◌, ◌<◌, ◌*◌, ◌^◌, All, length, IfOk, OnOk};
 ghost use Rattle.rows_text.specs.Readable.{IsReadable};
 ghost use Rattle.page_store.specs.Images.{bytes_in};
+ghost use Rattle.image_answers.specs.Outcomes.{ArePagesOf};
 ghost use Rattle.batch_run.specs.Dealing.{IsDeal};
 ghost use Rattle.batch_run.specs.Jobs.Preparing.{ArePiles, AreShown, AreStacked, HasMoreFor, IsPileIn};
 
@@ -11,8 +12,10 @@ use crate::batching::outcome_of;
 use crate::dealing::Deal;
 use crate::gathering::all_done;
 use crate::jobs::piles::{Pile, Prepared};
+use image_answers::cached_pages;
 use metric_laws::Metric;
-use page_store::Image;
+use page_cache::{Cached, KEPT_NODES};
+use page_store::{Image, ImagePages};
 use par_work::share;
 use rows_text::Command;
 use std::alloc::{AllocError, Global};
@@ -22,18 +25,20 @@ use tree_shape::Live;
 // Adds what is to be put for one more command.
 fn add_for<M: Metric>(
     alloc: Global,
-    image: Image<'_>,
+    pages: &mut Cached<ImagePages<'_>>,
     metric: M,
     live: &Live,
     command: &Command,
     show: bool,
     pile: &mut Pile,
 ) -> Result<(), Memory>
-    requires pages { live.now.pages ≤ 2 ^ 24 }
+    requires few { live.now.pages ≤ 2 ^ 24 }
+    requires pages { ArePagesOf (M.space metric) live.now (bytes_in pages.old.inner.image) pages.old }
     requires readable { IsReadable (M.space metric).words command.now }
-    ensures { OnOk result (HasMoreFor (M.space metric) live.now (bytes_in image.entry) show command.now pile.old pile.new) }
+    ensures more { OnOk result (HasMoreFor (M.space metric) live.now (bytes_in pages.old.inner.image) show command.now pile.old pile.new) }
+    ensures same { ArePagesOf (M.space metric) live.now (bytes_in pages.old.inner.image) pages.new }
 {
-    let outcome = outcome_of(alloc, image, metric, live, command, show)?;
+    let outcome = outcome_of(alloc, pages, metric, live, command, show)?;
     pile.add(alloc, &outcome, show)
 }
 
@@ -55,13 +60,14 @@ fn pile_of<M: Metric>(
     ensures { IfOk result (IsPileIn (M.space metric) live.now (bytes_in image.entry) show commands.now
         (record { rounds = deal.now.rounds; workers = deal.now.workers }) deal.now.rounds worker) }
 {
+    let mut pages = cached_pages(alloc, image, metric, live, KEPT_NODES)?;
     let mut pile = Pile::new(alloc);
     for round in 0..deal.rounds {
         let place = deal.place(worker * deal.rounds + round);
         if place < commands.len() {
             add_for(
                 alloc,
-                image,
+                &mut pages,
                 metric,
                 live,
                 &commands[place],

@@ -9,8 +9,8 @@ use Rattle.batch_run.proofs.batching.outcome_of.Goals as goal
 
 pub returns-in-Count-clause-given : goal.returns-in-Count-clause-given
 returns-in-Count-clause-given g c = rw (c.in-Count.is, c.plain.ensures)
-    (given_plain (g.M.Metric.space c.args.metric) c.args.live.now (bytes_in c.args.image) command.Count c.args.tags (outcome.Done (reply.Count c.args.live.now.count) None) refl
-    (count_is (g.M.Metric.space c.args.metric) c.args.live.now (bytes_in c.args.image)))
+    (given_plain (g.M.Metric.space c.args.metric) c.args.live.now (bytes_in c.args.pages.now.inner.image) command.Count c.args.tags (outcome.Done (reply.Count c.args.live.now.count) None) refl
+    (count_is (g.M.Metric.space c.args.metric) c.args.live.now (bytes_in c.args.pages.now.inner.image)))
 
 pub returns-in-Count-clause-whole : goal.returns-in-Count-clause-whole
-returns-in-Count-clause-whole g c = λ is. rw (c.in-Count.is, c.plain.ensures) (count_is (g.M.Metric.space c.args.metric) c.args.live.now (bytes_in c.args.image))
+returns-in-Count-clause-whole g c = λ is. rw (c.in-Count.is, c.plain.ensures) (count_is (g.M.Metric.space c.args.metric) c.args.live.now (bytes_in c.args.pages.now.inner.image))

@@ -1,8 +1,8 @@
 use Rattle.std.proofs.Common.{inl, arith}
 use Rattle.image_answers.proofs.queries.tagged.Goals as goal
 
-pub returns-in-Ok : goal.returns-in-Ok
-returns-in-Ok g c = rw c.if-not-tags.false (inl (
+pub returns-in-Ok-clause-tagged : goal.returns-in-Ok-clause-tagged
+returns-in-Ok-clause-tagged g c = rw c.if-not-tags.false (inl (
   c.in-Ok.tags.items,
   c.answered-in-Ok.ensures,
   record {

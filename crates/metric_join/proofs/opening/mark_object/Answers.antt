@@ -1,21 +1,21 @@
-use Rattle.std.proofs.Common.{◌∙◌, ap, refl, sym, List, ℕ, Some}
-use Rattle.log_model.specs.declared.pairs.Item.TheVariants.{Object}
+use Rattle.std.proofs.Common.{ap, refl, sym, List, ℕ, Some}
 use Rattle.log_model.specs.JoinWalk.{object_entry}
 use Rattle.log_model.specs.JoinSteps.{search_within, paired}
 use Rattle.metric_join.proofs.Entries.{takes_none, takes_pair, counts_one}
 use Rattle.metric_join.proofs.opening.mark_object.Goals as goal
 
-pub returns-in_ok-push_pair-clause-counted : goal.returns-in_ok-push_pair-clause-counted
-returns-in_ok-push_pair-clause-counted g c =
+pub returns-in_ok-add_object-clause-counted : goal.returns-in_ok-add_object-clause-counted
+returns-in_ok-add_object-clause-counted g c =
     let some = c.least_mark-marked.ensures.counted in
-    counts_one (g.R.Ruler.used c.args.ruler.now) (g.R.Ruler.used c.least_mark-marked.new.ruler) some.0 c.args.opening.now.marks.items c.push_pair.new.self.marks.items c.least_mark-marked.result.mark
-    some.1 some.2 (cc (c.push_pair.ensures.marks, c.in_ok-push.ensures.items))
+    counts_one (g.R.Ruler.used c.args.ruler.now) (g.R.Ruler.used c.least_mark-marked.new.ruler) some.0 c.args.opening.now.marks.items c.add_object.new.opening.marks.items c.least_mark-marked.result.mark
+    some.1 some.2 (cc (c.add_object.ensures.marks, c.in_ok-push.ensures.items))
 
-pub returns-in_ok-push_pair-clause-taken : goal.returns-in_ok-push_pair-clause-taken
-returns-in_ok-push_pair-clause-taken g c =
+pub returns-in_ok-add_object-clause-taken : goal.returns-in_ok-add_object-clause-taken
+returns-in_ok-add_object-clause-taken g c =
     takes_pair (search_within (g.R.M.Metric.space (g.R.Ruler.metric c.args.ruler.now)) c.args.probe.rho) c.args.probe.need.now (object_entry c.args.entry.now) c.as_slice.result.now (ap (λ (p : List ℕ). Some p) (sym c.as_slice.ensures))
-    c.least_mark-marked.result.mark (c.least_mark-marked.ensures.mark) c.args.opening.now c.push_pair.new.self (cc (c.push_pair.ensures.marks, c.in_ok-push.ensures.items))
-    c.in-Near.is c.in_ok-pair_with.field-0 c.least_mark-marked.result.apart (c.least_mark-marked.ensures.apart c.in-Near.is) (c.in_ok-pair_with.ensures ∙ ap (λ (p : List ℕ). paired c.args.probe.need.now (Object c.args.entry.now.id p) c.least_mark-marked.result.apart) (c.in_ok-new.ensures ∙ c.as_slice-in-Near.ensures)) c.in_ok-push_pair.ensures.hits c.in_ok-push_pair.ensures.needs
+    c.least_mark-marked.result.mark (c.least_mark-marked.ensures.mark) c.args.opening.now c.add_object.new.opening (cc (c.add_object.ensures.marks, c.in_ok-push.ensures.items))
+    c.in-Near.is (paired c.args.probe.need.now (object_entry c.args.entry.now).item c.least_mark-marked.result.apart) c.least_mark-marked.result.apart (c.least_mark-marked.ensures.apart c.in-Near.is) refl
+    c.in_ok-add_object.ensures.pair.hits c.in_ok-add_object.ensures.pair.needs
 
 pub returns-in_default : goal.returns-in_default
 returns-in_default g c =

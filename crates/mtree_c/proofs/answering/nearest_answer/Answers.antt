@@ -12,5 +12,5 @@ returns-clause-unanswered c =
     err_by c.answer_of.result (λ n. (n ≡ status_of came) × IsUnanswered came) (HasNoAnswer c.args.file.now (command.Nearest c.args.count c.args.point.now))
     (λ n why. unanswered c.args.file.now c.in_ok-head.head c.in_ok-head.live (command.Nearest c.args.count c.args.point.now) (query.Nearest c.args.point.now c.args.count)
     (mix_kind c.space_of.result) (mix_dim c.space_of.result) n c.in_ok-head.ensures.opens c.in_ok-head.ensures.version c.space_of.ensures.kind c.space_of.ensures.dim refl came
-    (rw c.in-Ok.ensures at (c.nearest_outcome.ensures.whole refl)) why.0 why.1)
+    (rw c.in-Ok.ensures at c.nearest_outcome.ensures) why.0 why.1)
     c.answer_of.ensures.unanswered

@@ -7,7 +7,7 @@ use Rattle.prune_log.proofs.pieces.read_all.Goals as goal
 
 pub returns-in_err-piece : goal.returns-in_err-piece
 returns-in_err-piece g c =
-    let p = err_from_is_err_and c.from_residual.result c.from_residual.ensures.1 in
+    let p = err_from_is_err_and c.from_residual-in_err-piece.result c.from_residual-in_err-piece.ensures.1 in
     let last : option_copied c.last.result ≡ last_of c.loop.pieces.items = c.last.ensures.value ∙ ap last_of c.deref.ensures.value in
     let here = subst (λ (o : Option g.row.P.Denot). Fails c.in_err-piece.field-0.0 (next_at g.P.Piece.reads g.P.Piece.follows o c.loop.rest.now)) last c.in_err-piece.ensures in
     rw (p.1, p.2)
