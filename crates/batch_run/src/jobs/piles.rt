@@ -1,6 +1,6 @@
 //! What is to be put for commands, text upon text.
 
-ghost use Rattle.std.specs.Prelude.{◌≡◌, [], OnOk};
+ghost use Rattle.std.specs.Prelude.{◌≡◌, [], IfOk, OnOk};
 ghost use Rattle.image_answers.specs.Outcomes.{CanBeShown};
 ghost use Rattle.batch_run.specs.Jobs.Preparing.{HasMore, IsShown, LiesIn};
 
@@ -37,6 +37,10 @@ pub enum Mark {
     Damaged(PageFault),
 }
 
+// The bytes of replies, and of frames, for which a pile has room from the start. The system gives memory where it is filled, so
+// room that stays empty costs none; but a list of this size that grows is moved, and no other thread gets memory meanwhile.
+const ROOM: usize = 1 << 22;
+
 /// What is to be put for several commands: the texts of all their replies in one list, and the frames of all their logs in
 /// another. So memory is asked for seldom, however many commands there are.
 #[derive(Drop)]
@@ -49,14 +53,14 @@ pub struct Pile {
 
 impl Pile {
     /// For no commands.
-    pub fn new(alloc: Global) -> Self
-        ensures { result.marks.items ≡ [] }
+    pub fn new(alloc: Global) -> Result<Self, Memory>
+        ensures { IfOk result (λ pile. pile.marks.items ≡ []) }
     {
-        Pile {
-            replies: Vec::new(alloc),
-            frames: Vec::new(alloc),
+        Ok(Pile {
+            replies: Vec::with_capacity(alloc, ROOM)?,
+            frames: Vec::with_capacity(alloc, ROOM)?,
             marks: Vec::new(alloc),
-        }
+        })
     }
 
     /// Adds what is to be put for one more command, whose outcome this is. A hit is written with its tag where tags are shown.

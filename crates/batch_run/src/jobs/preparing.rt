@@ -61,7 +61,7 @@ fn pile_of<M: Metric>(
         (record { rounds = deal.now.rounds; workers = deal.now.workers }) deal.now.rounds worker) }
 {
     let mut pages = cached_pages(alloc, image, metric, live, KEPT_NODES)?;
-    let mut pile = Pile::new(alloc);
+    let mut pile = Pile::new(alloc)?;
     for round in 0..deal.rounds {
         let place = deal.place(worker * deal.rounds + round);
         if place < commands.len() {
