@@ -1,6 +1,7 @@
 //! Queries on a file in memory.
 
 ghost use Rattle.std.specs.Prelude.{◌≡◌, ◌≢◌, ◌≤◌, ◌^◌, ◌∷◌, [], Some, true, IsTrue, IfOk, Ok, Err, alloc_error};
+ghost use Rattle.lru.specs.LruCache.{lru_cache};
 ghost use Rattle.rows_text.specs.declared.command.Command.TheVariants as command;
 ghost use Rattle.page_store.specs.Images.{bytes_in};
 ghost use Rattle.page_store.specs.Reading.{nodes_of};
@@ -42,7 +43,9 @@ pub fn cached_pages<'a, M: Metric>(
 ) -> Result<Cached<ImagePages<'a>>, Memory>
     requires pages { live.now.pages ≤ 2 ^ 24 }
     requires some { 1 ≤ nodes }
-    ensures { IfOk result (ArePagesOf (M.space metric) live.now (bytes_in image.entry)) }
+    ensures pages { IfOk result (ArePagesOf (M.space metric) live.now (bytes_in image.entry)) }
+    ensures kept { IfOk result (λ cached. cached.kept ≡ lru_cache [] nodes) }
+    ensures asked { IfOk result (λ cached. cached.asked ≡ 0) }
 {
     Cached::new(alloc, pages_of(image, metric, live), nodes)
 }
