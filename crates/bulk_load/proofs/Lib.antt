@@ -15,3 +15,4 @@ pub mod Ahead
 pub mod Moved
 pub mod Joined
 pub mod Itself
+pub mod Measuring

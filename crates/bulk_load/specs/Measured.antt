@@ -8,9 +8,13 @@ pub record Measured : Type 0 where
   pub width : ℕ
   pub table : List (List ℕ)
 
--- the points of a set, which holds places of the rows
+-- the points of a set, which holds places of the rows; or of seeds, which are places of a set's points
 abbrev pub points_of : List (List ℕ) → List ℕ → List (List ℕ)
 points_of rows set = map (λ k. slice_index_or rows k []) set
+
+-- the distances of points to centres
+abbrev pub measured_to : Space → List (List ℕ) → List (List ℕ) → Measured
+measured_to s points centers = record { width = length centers; table = map (λ p. map (s.dist p) centers) points }
 
 -- the distances of a set's points to its seeds, which are places of the set
 abbrev pub measured : Space → List (List ℕ) → List ℕ → Measured

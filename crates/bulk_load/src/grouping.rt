@@ -6,7 +6,7 @@ ghost use Rattle.tree_growth.specs.Bulk.{row_of, groups_from, groups_at};
 ghost use Rattle.tree_growth.specs.Groups.{members_from, entry, placed_from, filled_from};
 ghost use Rattle.bulk_load.specs.Groupable.{IsFill, IsSized, load_of};
 
-use crate::distances::Distances;
+use crate::distances::{Distances, centers_at};
 use crate::filling::fill_up;
 use crate::placing::{Placing, group_number, place_all, seed_places};
 use metric_laws::{Listed, Memory, Metric, Rows};
@@ -100,7 +100,8 @@ pub fn groups<R: Threads + Sync, M: Metric>(
     let room = fill.most.pow(level);
     let least = fill.least.pow(level);
     let seeds = seed_places(alloc, n, group_number(fill, root, room, n))?;
-    let distances = Distances::new(metric, rows, set, seeds.as_slice());
+    let centers = centers_at(alloc, rows, set, seeds.as_slice())?;
+    let distances = Distances::new(metric, rows, set, centers.as_slice());
     let placing = Placing {
         distances: &distances,
         room,

@@ -1,6 +1,6 @@
 //! Which group each object goes to while groups have room.
 
-ghost use Rattle.std.specs.Prelude.{◌≡◌, ℕ, ◌+◌, ◌<◌, ◌≤◌, ◌^◌, ◌∷◌, length, replicate, IfOk, IfSome, All, drop, slice_index, Some, None, vec_len};
+ghost use Rattle.std.specs.Prelude.{◌≡◌, ℕ, ◌+◌, ◌<◌, ◌≤◌, ◌^◌, ◌∷◌, length, replicate, IfOk, IfSome, All, drop, slice_index, Some, None, true, vec_len};
 ghost use Rattle.tree_growth.specs.Groups.{entry, group_count, seeds_from, nearest_from, placed_from, counted};
 ghost use Rattle.tree_growth.specs.Groups.{nearer as nearer_of, chosen as chosen_of};
 ghost use Rattle.bulk_load.specs.Hints.{IsHint, HaveGrown};
@@ -55,17 +55,11 @@ pub fn seed_places(alloc: Global, objects: usize, groups: usize) -> Result<Vec<u
     Ok(places)
 }
 
-// The nearest so far, as a distance and a number: one that may be taken replaces it where it is nearer.
-fn nearer(
-    may: bool,
-    distance: u64,
-    number: usize,
-    best: Option<(u64, usize)>,
-) -> Option<(u64, usize)>
-    ensures { result ≡ nearer_of may distance number best }
+// The nearest so far, as a distance and a number: one that is nearer replaces it.
+fn nearer(distance: u64, number: usize, best: Option<(u64, usize)>) -> Option<(u64, usize)>
+    ensures { result ≡ nearer_of true distance number best }
 {
     match best {
-        _ if !may => best,
         Some((least, _)) if distance >= least => best,
         _ => Some((distance, number)),
     }
@@ -84,9 +78,12 @@ pub fn nearest<M: Metric>(
     ensures room { IfSome result (λ b. (b.1 < distances.now.width) × (slice_index counts.now b.1 < room)) }
     ensures far { IfSome result (λ b. b.0 ≡ entry distances.now.table place b.1) }
 {
+    let row = distances.of(place);
     let mut best = None;
     for (group, count) in counts.iter().enumerate() {
-        best = nearer(*count < room, distances.far(place, group), group, best);
+        if *count < room {
+            best = nearer(row.far(group), group, best);
+        }
     }
     best
 }
