@@ -10,7 +10,7 @@ ghost use Rattle.page_store.specs.Placing.{AreOutside};
 use insert_path::{PlaceFault, place};
 use metric_laws::{Meter, Ruler};
 use node_page::{Head, encode_node};
-use page_store::{ImagePages, PageFault, Pages, Placed, Staged};
+use page_store::{ImagePages, PageFault, Placed, Staged, own_node};
 use std::alloc::Global;
 use std::process::Abort;
 use tree_shape::{InnerEntry, Live, Node};
@@ -161,11 +161,8 @@ fn new_file(alloc: Global) -> Result<File, PlaceFault>
 fn node_of(alloc: Global, file: &File, page: u32) -> Result<Node, PageFault>
     requires { file.now.live.pages ≤ 2 ^ 24 }
 {
-    let shared = ImagePages::new(&file.bytes, 1, file.live.pages).node(alloc, page)?;
-    match shared.into_node(alloc) {
-        Ok(node) => Ok(node),
-        Err(_) => Err(PageFault::Memory),
-    }
+    let mut pages = ImagePages::new(&file.bytes, 1, file.live.pages);
+    own_node(alloc, &mut pages, page)
 }
 
 // What an entry of a root should say of its leaf.

@@ -6,16 +6,15 @@ ghost use Rattle.tree_shape.specs.declared.entry.Node.TheVariants.{Leaf, Inner};
 ghost use Rattle.insert_path.specs.Walk.{walk_fault, inner_ball};
 ghost use Rattle.insert_path.specs.Causes.{HasAsked, HasWalkCause};
 ghost use Rattle.insert_path.specs.Descent.{plan_of, above_of, leaf_ball, leaf_with, inner_with, new_entry, entry_of, regrown, IsNear, IsSmall, IsStaged, Descends};
-ghost use Rattle.metric_laws.specs.Counts.{next_count};
 ghost use Rattle.page_store.specs.Numbers.{number_at};
-ghost use Rattle.page_store.specs.Shelf.{HoldsSame, IsNodeOf, HasPageCause};
+ghost use Rattle.page_store.specs.Shelf.{HoldsSame, HasPageCause};
 
 use crate::choice::choose;
 use crate::grew::{Grew, Stem};
 use crate::staging::stage;
 use crate::task::{Spot, Task, Written};
 use metric_laws::{Memory, Point, Ruler};
-use page_store::{PageFault, Pages};
+use page_store::{PageFault, Pages, own_node};
 use std::alloc::Global;
 use tree_shape::{InnerEntry, LeafEntry, Node};
 
@@ -161,22 +160,6 @@ fn back_at<R: Ruler>(
     regrow(ruler, task, spot, place, grew, &mut entries)?;
     let grew = stage(alloc, ruler, task, spot.level, entries, nodes)?;
     Ok(grew)
-}
-
-// The node of a page, to be changed.
-fn own_node<P: Pages>(alloc: Global, pages: &mut P, page: u32) -> Result<Node, PageFault>
-    ensures ok { IfOk result (IsNodeOf (P.shelf pages.old) page) }
-    ensures cause { IfErr result (HasPageCause (P.shelf pages.old) (P.shelf pages.new) page) }
-    ensures same { HoldsSame (P.shelf pages.old) (P.shelf pages.new) }
-    ensures asked { (P.shelf pages.new).asked ≡ next_count (P.shelf pages.old).asked }
-    ensures reads { (P.shelf pages.new).reads ≤ (P.shelf pages.old).reads + 1 }
-    ensures keeps { P.keeps pages.old pages.new }
-{
-    let shared = pages.node(alloc, page)?;
-    match shared.into_node(alloc) {
-        Ok(node) => Ok(node),
-        Err(_) => Err(PageFault::Memory),
-    }
 }
 
 // Inserts the object below a page, and says what the page's node has grown to.

@@ -7,7 +7,7 @@ ghost use Rattle.page_store.specs.Reading.{nodes_of};
 ghost use Rattle.page_store.specs.Shelf.{HasPageCause, HoldsSame, IsPassing};
 ghost use Rattle.making_jobs.specs.Collecting.{IsOpened};
 
-use page_store::{Memory, PageFault, Pages};
+use page_store::{Memory, PageFault, Pages, own_node};
 use std::alloc::Global;
 use tree_shape::{InnerEntry, LeafEntry, Live, Node};
 
@@ -49,9 +49,7 @@ fn open_page<P: Pages>(
     ensures opened { OnOk result (IsOpened (P.shelf pages.old) page found.old.items found.new.items (reverse coming.old.items) (reverse coming.new.items)) }
     ensures cause { IfErr result (HasPageCause (P.shelf pages.old) (P.shelf pages.new) page) }
 {
-    let Ok(node) = pages.node(alloc, page)?.into_node(alloc) else {
-        return Err(PageFault::Memory);
-    };
+    let node = own_node(alloc, pages, page)?;
     match take_apart(node, found, coming) {
         Ok(()) => Ok(()),
         Err(_) => Err(PageFault::Memory),

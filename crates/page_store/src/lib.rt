@@ -19,7 +19,7 @@ pub use disk_pages::DiskPages;
 pub use image::Image;
 pub use image_pages::ImagePages;
 pub use numbering::Numbering;
-pub use pages::{PageFault, Pages};
+pub use pages::{PageFault, Pages, own_node};
 pub use parts::Parts;
 pub use reading::{node_on, read_page};
 pub use settling::{NewTree, RoomFault, settle};

@@ -8,6 +8,7 @@ use crate::SharedNode;
 use node_page::NodeFault;
 use std::alloc::Global;
 use thiserror::Error;
+use tree_shape::Node;
 
 /// Why a page gave no node, or why a walk over pages stopped.
 #[derive(Clone, Copy, Debug, PartialEq, Eq, Error)]
@@ -58,4 +59,20 @@ pub trait Pages {
 
     /// What is kept by one call and by the next is kept by both.
     ghost keeps_both: { (p q r : Self) → keeps p q → keeps q r → keeps p r };
+}
+
+/// The node of a page for the caller alone, to be changed or taken apart. It is copied only where another holds it too.
+pub fn own_node<P: Pages>(alloc: Global, pages: &mut P, page: u32) -> Result<Node, PageFault>
+    ensures ok { IfOk result (IsNodeOf (P.shelf pages.old) page) }
+    ensures cause { IfErr result (HasPageCause (P.shelf pages.old) (P.shelf pages.new) page) }
+    ensures same { HoldsSame (P.shelf pages.old) (P.shelf pages.new) }
+    ensures asked { (P.shelf pages.new).asked ≡ next_count (P.shelf pages.old).asked }
+    ensures reads { (P.shelf pages.new).reads ≤ (P.shelf pages.old).reads + 1 }
+    ensures keeps { P.keeps pages.old pages.new }
+{
+    let shared = pages.node(alloc, page)?;
+    match shared.into_node(alloc) {
+        Ok(node) => Ok(node),
+        Err(_) => Err(PageFault::Memory),
+    }
 }

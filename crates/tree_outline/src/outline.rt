@@ -10,7 +10,7 @@ ghost use Rattle.log_model.specs.Counts.{entry_count};
 ghost use Rattle.tree_outline.specs.Shapes.{root_named, named_by, line_of, tree_lines, DrawsTo, IsCounted, IsDrawn};
 
 use metric_laws::{Listed, Point};
-use page_store::{Memory, PageFault, Pages};
+use page_store::{Memory, PageFault, Pages, own_node};
 use std::alloc::Global;
 use tree_shape::{InnerEntry, Live, Node};
 
@@ -111,13 +111,10 @@ fn draw<P: Pages>(
     ensures drawn { OnOk result (IsDrawn (P.shelf pages.old) named lines.old.items lines.new.items (reverse coming.old.items) (reverse coming.new.items)) }
     ensures cause { IfErr result (HasPageCause (P.shelf pages.old) (P.shelf pages.new) named.page) }
 {
-    let node = pages.node(alloc, named.page)?;
-    if lines.push(line_of(named, node.as_ref())).is_err() {
+    let node = own_node(alloc, pages, named.page)?;
+    if lines.push(line_of(named, &node)).is_err() {
         return Err(PageFault::Memory);
     }
-    let Ok(node) = node.into_node(alloc) else {
-        return Err(PageFault::Memory);
-    };
     match put_on_top(coming, into_entries(alloc, node)) {
         Ok(()) => Ok(()),
         Err(_) => Err(PageFault::Memory),
