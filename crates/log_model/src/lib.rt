@@ -16,7 +16,7 @@ pub use logs::{Found, JoinLog, Joined, Log};
 pub use marking::{Probe, is_ruled_out, mark_inner, mark_leaf};
 pub use marks::{JoinRecord, Mark, Need, Record};
 pub use pairing::{is_far, is_skipped};
-pub use pairs::{Item, JoinNeed};
+pub use pairs::{Item, JoinNeed, SharedItem};
 pub use traversal::{Traversal, entry_count};
 
 /// Want of memory.

@@ -1,16 +1,53 @@
-//! What a join asks of a pair of items: which of them is opened, and the tests of its entries against the other one.
+//! What a join asks of a pair of items: which of them is opened, the tests of its entries against the other one, and the
+//! pairs that they make with it.
 
 ghost use Rattle.std.specs.Prelude.{◌≡◌, ◌+◌, Some, Ok, IfOk};
 ghost use Rattle.std.specs.Option.{option_copied};
 ghost use Rattle.metric_laws.specs.Counts.{CountsUpTo};
-ghost use Rattle.log_model.specs.JoinWalk.{rank_of, centre_of, radius_of, page_of, id_of, is_object, opens_right, opened, other, far_apart, far_stored};
-ghost use Rattle.log_model.specs.JoinSteps.{apart_from};
+ghost use Rattle.log_model.specs.JoinWalk.{rank_of, centre_of, radius_of, page_of, id_of, is_object, object_entry, subtree_entry, opens_right, opened, other, far_apart, far_stored};
+ghost use Rattle.log_model.specs.JoinSteps.{apart_from, paired};
+ghost use Rattle.log_model.specs.SoundJoin.{root_item, root_pair};
 
-use crate::{Item, JoinNeed, Memory};
+use crate::{Item, JoinNeed, Memory, SharedItem};
 use metric_laws::{Point, Ruler, pair_test};
 use std::alloc::Global;
+use tree_shape::{InnerEntry, LeafEntry, Live};
 
 impl Item {
+    // A root.
+    fn of_root(live: &Live) -> Self
+        ensures { result ≡ root_item live.now }
+    {
+        Item::Subtree {
+            page: live.root,
+            rank: u64::from(live.height) + 1,
+            centre: None,
+            radius: 0,
+        }
+    }
+
+    /// The object of a leaf's entry.
+    pub fn of_object(alloc: Global, entry: &LeafEntry) -> Result<Self, Memory>
+        ensures { IfOk result (λ item. item ≡ (object_entry entry.now).item) }
+    {
+        Ok(Item::Object {
+            id: entry.id,
+            point: Point::new(alloc, entry.point.as_slice())?,
+        })
+    }
+
+    /// The subtree that an entry of an inner node of this level names.
+    pub fn of_subtree(alloc: Global, level: u8, entry: &InnerEntry) -> Result<Self, Memory>
+        ensures { IfOk result (λ item. item ≡ (subtree_entry level entry.now).item) }
+    {
+        Ok(Item::Subtree {
+            page: entry.child,
+            rank: u64::from(level),
+            centre: Some(Point::new(alloc, entry.point.as_slice())?),
+            radius: entry.radius,
+        })
+    }
+
     // The rank of a subtree, and 0 of an object.
     fn rank(&self) -> u64
         ensures { result ≡ rank_of self.now }
@@ -74,48 +111,44 @@ impl Item {
             Item::Object { .. } => true,
         }
     }
-
-    /// A copy, where there is memory for it.
-    pub fn try_clone(&self, alloc: Global) -> Result<Self, Memory>
-        ensures { IfOk result (λ copy. copy ≡ self.now) }
-    {
-        match self {
-            Item::Subtree {
-                page,
-                rank,
-                centre: None,
-                radius,
-            } => Ok(Item::Subtree {
-                page: *page,
-                rank: *rank,
-                centre: None,
-                radius: *radius,
-            }),
-            Item::Subtree {
-                page,
-                rank,
-                centre: Some(point),
-                radius,
-            } => Ok(Item::Subtree {
-                page: *page,
-                rank: *rank,
-                centre: Some(Point::new(alloc, point.as_slice())?),
-                radius: *radius,
-            }),
-            Item::Object { id, point } => Ok(Item::Object {
-                id: *id,
-                point: Point::new(alloc, point.as_slice())?,
-            }),
-        }
-    }
 }
 
 impl JoinNeed {
+    /// The pair of the roots of two trees, with which a walk begins.
+    pub fn of_roots(alloc: Global, left: &Live, right: &Live) -> Result<Self, Memory>
+        ensures { IfOk result (λ pair. pair ≡ root_pair left.now right.now) }
+    {
+        Ok(JoinNeed {
+            left: SharedItem::new(alloc, Item::of_root(left))?,
+            right: SharedItem::new(alloc, Item::of_root(right))?,
+            apart: None,
+        })
+    }
+
+    /// The pair of an item in the place of the opened one with the other item, from which it is so far.
+    pub fn with(&self, item: SharedItem, apart: Option<u64>) -> Result<Self, Memory>
+        ensures { IfOk result (λ pair. pair ≡ paired self.now item apart) }
+    {
+        if self.opens_right() {
+            Ok(JoinNeed {
+                left: self.left.share()?,
+                right: item,
+                apart,
+            })
+        } else {
+            Ok(JoinNeed {
+                left: item,
+                right: self.right.share()?,
+                apart,
+            })
+        }
+    }
+
     /// Whether the right item is opened: the item of greater rank is, and the left one at a tie.
     pub fn opens_right(&self) -> bool
         ensures { result ≡ opens_right self.now }
     {
-        self.left.rank() < self.right.rank()
+        self.left.as_ref().rank() < self.right.as_ref().rank()
     }
 
     /// The item that is opened.
@@ -123,9 +156,9 @@ impl JoinNeed {
         ensures { result.now ≡ opened self.now }
     {
         if self.opens_right() {
-            &self.right
+            self.right.as_ref()
         } else {
-            &self.left
+            self.left.as_ref()
         }
     }
 
@@ -134,9 +167,9 @@ impl JoinNeed {
         ensures { result.now ≡ other self.now }
     {
         if self.opens_right() {
-            &self.left
+            self.left.as_ref()
         } else {
-            &self.right
+            self.right.as_ref()
         }
     }
 
@@ -148,12 +181,12 @@ impl JoinNeed {
         ensures counted { CountsUpTo (R.used ruler.old) (R.used ruler.new) 1 }
     {
         if self.opens_right() {
-            match self.left.centre() {
+            match self.left.as_ref().centre() {
                 None => None,
                 Some(centre) => Some(ruler.dist(centre, point)),
             }
         } else {
-            match self.right.centre() {
+            match self.right.as_ref().centre() {
                 None => None,
                 Some(centre) => Some(ruler.dist(point, centre)),
             }

@@ -1,4 +1,10 @@
+ghost use Rattle.std.specs.Prelude.{◌≡◌, IfOk};
+
+use crate::Memory;
 use metric_laws::Point;
+use std::alloc::Global;
+use std::marker::Model;
+use std::rc::Rc;
 
 /// What a join pairs: a subtree or an object of one of its trees.
 #[derive(Debug, Drop)]
@@ -23,13 +29,52 @@ pub enum Item {
     },
 }
 
+/// An item that several pairs may hold: one more holder costs no copy of its point. Contracts see the item.
+#[derive(Drop)]
+pub struct SharedItem {
+    item: Rc<Item>,
+}
+
+impl Model for SharedItem {
+    ghost use Rattle.log_model.specs.declared.pairs.Item.{Item as TheItem};
+
+    ghost Value = { TheItem };
+
+    ghost view = { λ s. s.item.value };
+}
+
+impl SharedItem {
+    /// This item, with one holder.
+    pub fn new(alloc: Global, item: Item) -> Result<Self, Memory>
+        ensures { IfOk result (λ shared. shared ≡ item) }
+    {
+        let item = Rc::new(alloc, item)?;
+        Ok(SharedItem { item })
+    }
+
+    /// The item.
+    pub fn as_ref(&self) -> &Item
+        ensures { result.now ≡ self.now }
+    {
+        self.item.as_ref()
+    }
+
+    /// The same item for one holder more.
+    pub fn share(&self) -> Result<Self, Memory>
+        ensures { IfOk result (λ shared. shared ≡ self.now) }
+    {
+        let item = self.item.clone()?;
+        Ok(SharedItem { item })
+    }
+}
+
 /// A pair of items whose objects a join has still to compare.
-#[derive(Debug, Drop)]
+#[derive(Drop)]
 pub struct JoinNeed {
     /// The item of the left tree.
-    pub left: Item,
+    pub left: SharedItem,
     /// The item of the right tree.
-    pub right: Item,
+    pub right: SharedItem,
     /// The distance of their centres, where both have one.
     pub apart: Option<u64>,
 }

@@ -1,6 +1,6 @@
 use log_model::{
-    Item, JoinNeed, is_far, is_skipped, laws, put_hits_in_order, put_pairs_in_order, radius_of,
-    select,
+    Item, JoinNeed, SharedItem, is_far, is_skipped, laws, put_hits_in_order, put_pairs_in_order,
+    radius_of, select,
 };
 use metric_laws::{BOUND, Point};
 use scan_model::{Hit, Pair, Query};
@@ -66,33 +66,38 @@ fn pairs_are_in_order_and_each_once(rt: HostRuntime) -> Result<(), Fail> {
 
 #[test]
 fn the_item_of_greater_rank_is_opened(rt: HostRuntime) -> Result<(), Fail> {
+    let object = Item::Object {
+        id: 7,
+        point: Point::new(rt.alloc(), &[5])?,
+    };
+    let subtree = Item::Subtree {
+        page: 3,
+        rank: 2,
+        centre: Some(Point::new(rt.alloc(), &[1])?),
+        radius: 9,
+    };
     let pair = JoinNeed {
-        left: Item::Object {
-            id: 7,
-            point: Point::new(rt.alloc(), &[5])?,
-        },
-        right: Item::Subtree {
-            page: 3,
-            rank: 2,
-            centre: Some(Point::new(rt.alloc(), &[1])?),
-            radius: 9,
-        },
+        left: SharedItem::new(rt.alloc(), object)?,
+        right: SharedItem::new(rt.alloc(), subtree)?,
         apart: Some(4),
     };
     assert!(rt; pair.opens_right());
     assert!(rt; pair.opened().page() == 3);
     assert!(rt; pair.opened().radius() == 9);
-    let kept = pair.other().try_clone(rt.alloc())?;
-    assert!(rt; kept.is_object());
-    assert!(rt; kept.id() == 7);
+    assert!(rt; pair.other().is_object());
+    let root = Item::Subtree {
+        page: 8,
+        rank: 2,
+        centre: None,
+        radius: 0,
+    };
+    let next = pair.with(SharedItem::new(rt.alloc(), root)?, None)?;
+    assert!(rt; next.opens_right());
+    assert!(rt; next.opened().page() == 8);
+    assert!(rt; next.other().id() == 7);
     let tie = JoinNeed {
         left: pair.right,
-        right: Item::Subtree {
-            page: 8,
-            rank: 2,
-            centre: None,
-            radius: 0,
-        },
+        right: next.right,
         apart: None,
     };
     assert!(rt; !tie.opens_right());

@@ -5,13 +5,13 @@ ghost use Rattle.log_model.specs.declared.pairs.JoinNeed.{JoinNeed};
 ghost use Rattle.metric_laws.specs.Counts.{CountsUpTo};
 ghost use Rattle.log_model.specs.Counts.{entry_count, measured_by};
 ghost use Rattle.log_model.specs.Walk.{near_ones};
-ghost use Rattle.log_model.specs.JoinWalk.{allows_entry, object_entry, subtree_entry, join_hits, join_needs, within_apart};
-ghost use Rattle.log_model.specs.JoinSteps.{search_within, hits_among, needs_among, paired};
+ghost use Rattle.log_model.specs.JoinWalk.{allows_entry, object_entry, subtree_entry, join_hits, join_needs, other, radius_of, within_apart};
+ghost use Rattle.log_model.specs.JoinSteps.{apart_from, search_within, hits_among, needs_among, paired};
 ghost use Rattle.log_verify.specs.JoinJudged.{join_wrong_in};
 ghost use Rattle.log_verify.specs.JoinSteps.{object_pair, subtree_pair};
 
-use log_model::{Item, JoinNeed, Mark, Memory, is_far, is_skipped};
-use metric_laws::{Point, Ruler};
+use log_model::{Item, JoinNeed, Mark, Memory, SharedItem, is_far, is_skipped};
+use metric_laws::Ruler;
 use scan_model::Pair;
 use std::alloc::Global;
 use tree_shape::{InnerEntry, LeafEntry, Node};
@@ -34,10 +34,13 @@ pub struct JoinProbe<'a> {
     pub need: &'a JoinNeed,
     /// The radius that prunes.
     pub rho: u64,
+    /// The covering radius of the other item.
+    pub reach: u64,
+    ghost reaches: { reach ≡ radius_of (other need.now) },
 }
 
 // What a record's marks name: answers, and pairs that are needed.
-#[derive(Debug, Drop)]
+#[derive(Drop)]
 pub struct Named {
     // The answers.
     pub hits: Vec<Pair>,
@@ -55,38 +58,47 @@ fn is_within(apart: Option<u64>, rho: u64) -> bool
     }
 }
 
+// How far an entry with this point is from the other item, where that has a centre.
+// It stands apart from the loops over entries, most of which are skipped.
+#[inline(never)]
+fn apart_from<R: Ruler>(ruler: &mut R, probe: JoinProbe, point: &[u32]) -> Option<u64>
+    ensures metric { R.metric ruler.new ≡ R.metric ruler.old }
+    ensures value { result ≡ apart_from (R.M.space (R.metric ruler.old)) probe.entry.need.now point.now }
+    ensures counted { CountsUpTo (R.used ruler.old) (R.used ruler.new) 1 }
+{
+    probe.need.apart_from(ruler, point)
+}
+
 // Whether a mark of an object is allowed.
 fn check_object<R: Ruler>(
     ruler: &mut R,
-    rho: u64,
-    need: &JoinNeed,
+    probe: JoinProbe,
     entry: &LeafEntry,
     mark: Mark,
 ) -> JoinChecked
     ensures metric { R.metric ruler.new ≡ R.metric ruler.old }
-    ensures allowed { result.allowed ≡ allows_entry (search_within (R.M.space (R.metric ruler.old)) rho) need.now (object_entry entry.now) mark }
-    ensures apart { mark ≡ Near → result.apart ≡ (object_pair (R.M.space (R.metric ruler.old)) need.now entry.now).apart }
+    ensures allowed { result.allowed ≡ allows_entry (search_within (R.M.space (R.metric ruler.old)) probe.entry.rho) probe.entry.need.now (object_entry entry.now) mark }
+    ensures apart { mark ≡ Near → result.apart ≡ (object_pair (R.M.space (R.metric ruler.old)) probe.entry.need.now entry.now).apart }
     ensures counted { CountsUpTo (R.used ruler.old) (R.used ruler.new) (measured_by (mark ∷ [])) }
 {
-    let radius = need.other().radius();
     match mark {
         Mark::Skip => JoinChecked {
-            allowed: is_skipped(need.apart, entry.parent, rho, 0, radius),
+            allowed: is_skipped(probe.need.apart, entry.parent, probe.rho, 0, probe.reach),
             apart: None,
         },
         Mark::Far => JoinChecked {
             allowed: is_far(
-                need.apart_from(ruler, entry.point.as_slice()),
-                rho,
+                apart_from(ruler, probe, entry.point.as_slice()),
+                probe.rho,
                 0,
-                radius,
+                probe.reach,
             ),
             apart: None,
         },
         Mark::Near => {
-            let apart = need.apart_from(ruler, entry.point.as_slice());
+            let apart = apart_from(ruler, probe, entry.point.as_slice());
             JoinChecked {
-                allowed: !need.other().is_object() || is_within(apart, rho),
+                allowed: !probe.need.other().is_object() || is_within(apart, probe.rho),
                 apart,
             }
         }
@@ -96,61 +108,40 @@ fn check_object<R: Ruler>(
 // Whether a mark of a subtree is allowed.
 fn check_subtree<R: Ruler>(
     ruler: &mut R,
-    rho: u64,
-    need: &JoinNeed,
+    probe: JoinProbe,
     level: u8,
     entry: &InnerEntry,
     mark: Mark,
 ) -> JoinChecked
     ensures metric { R.metric ruler.new ≡ R.metric ruler.old }
-    ensures allowed { result.allowed ≡ allows_entry (search_within (R.M.space (R.metric ruler.old)) rho) need.now (subtree_entry level entry.now) mark }
-    ensures apart { mark ≡ Near → result.apart ≡ (subtree_pair (R.M.space (R.metric ruler.old)) need.now level entry.now).apart }
+    ensures allowed { result.allowed ≡ allows_entry (search_within (R.M.space (R.metric ruler.old)) probe.entry.rho) probe.entry.need.now (subtree_entry level entry.now) mark }
+    ensures apart { mark ≡ Near → result.apart ≡ (subtree_pair (R.M.space (R.metric ruler.old)) probe.entry.need.now level entry.now).apart }
     ensures counted { CountsUpTo (R.used ruler.old) (R.used ruler.new) (measured_by (mark ∷ [])) }
 {
-    let radius = need.other().radius();
     match mark {
         Mark::Skip => JoinChecked {
-            allowed: is_skipped(need.apart, entry.parent, rho, entry.radius, radius),
+            allowed: is_skipped(
+                probe.need.apart,
+                entry.parent,
+                probe.rho,
+                entry.radius,
+                probe.reach,
+            ),
             apart: None,
         },
         Mark::Far => JoinChecked {
             allowed: is_far(
-                need.apart_from(ruler, entry.point.as_slice()),
-                rho,
+                apart_from(ruler, probe, entry.point.as_slice()),
+                probe.rho,
                 entry.radius,
-                radius,
+                probe.reach,
             ),
             apart: None,
         },
         Mark::Near => JoinChecked {
             allowed: true,
-            apart: need.apart_from(ruler, entry.point.as_slice()),
+            apart: apart_from(ruler, probe, entry.point.as_slice()),
         },
-    }
-}
-
-// The opened item's entry paired with the other item, each on its own side.
-fn pair_with(
-    alloc: Global,
-    need: &JoinNeed,
-    item: Item,
-    apart: Option<u64>,
-) -> Result<JoinNeed, Memory>
-    ensures { IfOk result (λ pair. pair ≡ paired need.now item apart) }
-{
-    let kept = need.other().try_clone(alloc)?;
-    if need.opens_right() {
-        Ok(JoinNeed {
-            left: kept,
-            right: item,
-            apart,
-        })
-    } else {
-        Ok(JoinNeed {
-            left: item,
-            right: kept,
-            apart,
-        })
     }
 }
 
@@ -159,10 +150,10 @@ fn push_pair(named: &mut Named, pair: JoinNeed) -> Result<(), Memory>
     ensures hits { OnOk result (named.new.hits.items ≡ named.old.hits.items ++ hits_among (pair ∷ [])) }
     ensures needs { OnOk result (named.new.needs.items ≡ named.old.needs.items ++ needs_among (pair ∷ [])) }
 {
-    if pair.left.is_object() && pair.right.is_object() {
+    if pair.left.as_ref().is_object() && pair.right.as_ref().is_object() {
         named.hits.push(Pair {
-            left: pair.left.id(),
-            right: pair.right.id(),
+            left: pair.left.as_ref().id(),
+            right: pair.right.as_ref().id(),
             dist: pair.apart.unwrap_or(0),
         })?;
     } else {
@@ -171,42 +162,59 @@ fn push_pair(named: &mut Named, pair: JoinNeed) -> Result<(), Memory>
     Ok(())
 }
 
+// Adds the pair of an object with the other item.
+// It stands apart from the loops over entries, as `add_subtree` does: few entries have a pair.
+#[inline(never)]
+fn add_object(
+    probe: JoinProbe,
+    named: &mut Named,
+    entry: &LeafEntry,
+    apart: Option<u64>,
+) -> Result<(), Memory>
+    ensures hits { OnOk result (named.new.hits.items ≡ named.old.hits.items ++ hits_among
+        (paired probe.entry.need.now (object_entry entry.now).item apart ∷ [])) }
+    ensures needs { OnOk result (named.new.needs.items ≡ named.old.needs.items ++ needs_among
+        (paired probe.entry.need.now (object_entry entry.now).item apart ∷ [])) }
+{
+    let item = SharedItem::new(probe.alloc, Item::of_object(probe.alloc, entry)?)?;
+    push_pair(named, probe.need.with(item, apart)?)
+}
+
 // Adds the pair of an object that is marked Near.
 fn name_object(
-    alloc: Global,
+    probe: JoinProbe,
     named: &mut Named,
-    need: &JoinNeed,
     entry: &LeafEntry,
     mark: Mark,
     apart: Option<u64>,
 ) -> Result<(), Memory>
     ensures hits { OnOk result (named.new.hits.items ≡ named.old.hits.items ++ hits_among
-        (near_ones (paired need.now (object_entry entry.now).item apart ∷ []) (mark ∷ []))) }
+        (near_ones (paired probe.entry.need.now (object_entry entry.now).item apart ∷ []) (mark ∷ []))) }
     ensures needs { OnOk result (named.new.needs.items ≡ named.old.needs.items ++ needs_among
-        (near_ones (paired need.now (object_entry entry.now).item apart ∷ []) (mark ∷ []))) }
+        (near_ones (paired probe.entry.need.now (object_entry entry.now).item apart ∷ []) (mark ∷ []))) }
 {
     match mark {
-        Mark::Near => {
-            let item = Item::Object {
-                id: entry.id,
-                point: Point::new(alloc, entry.point.as_slice())?,
-            };
-            push_pair(named, pair_with(alloc, need, item, apart)?)
-        }
+        Mark::Near => add_object(probe, named, entry, apart),
         Mark::Skip | Mark::Far => Ok(()),
     }
 }
 
-// The item of a subtree at a level.
-fn subtree_item(alloc: Global, level: u8, entry: &InnerEntry) -> Result<Item, Memory>
-    ensures { IfOk result (λ item. item ≡ (subtree_entry level entry.now).item) }
+// Adds the pair of a subtree at a level with the other item.
+#[inline(never)]
+fn add_subtree(
+    probe: JoinProbe,
+    named: &mut Named,
+    level: u8,
+    entry: &InnerEntry,
+    apart: Option<u64>,
+) -> Result<(), Memory>
+    ensures hits { OnOk result (named.new.hits.items ≡ named.old.hits.items ++ hits_among
+        (paired probe.entry.need.now (subtree_entry level entry.now).item apart ∷ [])) }
+    ensures needs { OnOk result (named.new.needs.items ≡ named.old.needs.items ++ needs_among
+        (paired probe.entry.need.now (subtree_entry level entry.now).item apart ∷ [])) }
 {
-    Ok(Item::Subtree {
-        page: entry.child,
-        rank: u64::from(level),
-        centre: Some(Point::new(alloc, entry.point.as_slice())?),
-        radius: entry.radius,
-    })
+    let item = SharedItem::new(probe.alloc, Item::of_subtree(probe.alloc, level, entry)?)?;
+    push_pair(named, probe.need.with(item, apart)?)
 }
 
 // Adds the pair of a subtree at a level that is marked Near.
@@ -224,10 +232,7 @@ fn name_subtree(
         (near_ones (paired probe.entry.need.now (subtree_entry level entry.now).item apart ∷ []) (mark ∷ []))) }
 {
     match mark {
-        Mark::Near => {
-            let item = subtree_item(probe.alloc, level, entry)?;
-            push_pair(named, pair_with(probe.alloc, probe.need, item, apart)?)
-        }
+        Mark::Near => add_subtree(probe, named, level, entry, apart),
         Mark::Skip | Mark::Far => Ok(()),
     }
 }
@@ -256,18 +261,11 @@ fn check_leaf<R: Ruler>(
 {
     for i in 0..entries.len() {
         let entry = &entries[i];
-        let checked = check_object(ruler, probe.rho, probe.need, entry, marks[i]);
+        let checked = check_object(ruler, probe, entry, marks[i]);
         if !checked.allowed {
             return Ok(Some(i as u32));
         }
-        name_object(
-            probe.alloc,
-            named,
-            probe.need,
-            entry,
-            marks[i],
-            checked.apart,
-        )?;
+        name_object(probe, named, entry, marks[i], checked.apart)?;
     }
     Ok(None)
 }
@@ -299,7 +297,7 @@ fn check_inner<R: Ruler>(
 {
     for i in 0..entries.len() {
         let entry = &entries[i];
-        let checked = check_subtree(ruler, probe.rho, probe.need, level, entry, marks[i]);
+        let checked = check_subtree(ruler, probe, level, entry, marks[i]);
         if !checked.allowed {
             return Ok(Some(i as u32));
         }

@@ -5,7 +5,7 @@ ghost use Rattle.metric_laws.specs.Counts.{next_count, CountsUpTo};
 ghost use Rattle.log_model.specs.declared.marks.JoinRecord.{JoinRecord};
 ghost use Rattle.log_model.specs.Counts.{entry_count, measured_by, join_measured};
 ghost use Rattle.log_model.specs.JoinWalk.{opens_right, opened, page_of};
-ghost use Rattle.log_model.specs.SoundJoin.{root_item, root_pair};
+ghost use Rattle.log_model.specs.SoundJoin.{root_pair};
 ghost use Rattle.log_model.specs.JoinSteps.{search_within};
 ghost use Rattle.log_verify.specs.JoinJudged.{is_of, read_of, join_walked};
 ghost use Rattle.log_verify.specs.Causes.{IsNodeFault, verdict_of, IsJoinPageVerdict, HasJoinCause, AskBothUpTo};
@@ -13,7 +13,7 @@ ghost use Rattle.log_verify.specs.Causes.{IsNodeFault, verdict_of, IsJoinPageVer
 use crate::JoinVerdict;
 use crate::join_checking::{JoinProbe, Named, check_node};
 use crate::walking::put_on_top;
-use log_model::{Item, JoinNeed, JoinRecord, Memory, entry_count};
+use log_model::{JoinNeed, JoinRecord, Memory, entry_count};
 use metric_laws::Ruler;
 use page_store::{PageFault, Pages, SharedNode};
 use scan_model::Pair;
@@ -21,7 +21,7 @@ use std::alloc::Global;
 use tree_shape::Live;
 
 /// A walk from the pair of roots, half way.
-#[derive(Debug, Drop)]
+#[derive(Drop)]
 pub struct JoinWalk {
     /// The radius that prunes.
     pub rho: u64,
@@ -33,18 +33,6 @@ pub struct JoinWalk {
     pub stack: Vec<JoinNeed>,
 }
 
-// The item of a root.
-fn root_of(live: &Live) -> Item
-    ensures { result ≡ root_item live.now }
-{
-    Item::Subtree {
-        page: live.root,
-        rank: u64::from(live.height) + 1,
-        centre: None,
-        radius: 0,
-    }
-}
-
 impl JoinWalk {
     /// A walk that needs the pair of roots.
     pub fn begin(alloc: Global, left: &Live, right: &Live, rho: u64) -> Result<Self, Memory>
@@ -53,11 +41,7 @@ impl JoinWalk {
         ensures hits { IfOk result (λ walk. walk.named.hits.items ≡ []) }
         ensures stack { IfOk result (λ walk. walk.stack.items ≡ root_pair left.now right.now ∷ []) }
     {
-        let roots = JoinNeed {
-            left: root_of(left),
-            right: root_of(right),
-            apart: None,
-        };
+        let roots = JoinNeed::of_roots(alloc, left, right)?;
         let mut stack = Vec::new(alloc);
         stack.push(roots)?;
         Ok(JoinWalk {
@@ -180,6 +164,7 @@ fn take_record<P: Pages, Q: Pages, R: Ruler>(
         alloc,
         need: &need,
         rho: walk.rho,
+        reach: need.other().radius(),
     };
     walk.named.needs.clear();
     match check_node(ruler, probe, node, marks, &mut walk.named) {

@@ -8,11 +8,11 @@ use Rattle.log_model.specs.declared.pairs.JoinNeed.{JoinNeed}
 use Rattle.metric_laws.specs.Counts.{count_up}
 use Rattle.log_model.specs.Counts.{measured_by}
 use Rattle.log_model.specs.Walk.{near_ones}
-use Rattle.log_model.specs.JoinWalk.{JoinSearch, Entry, opens_right, apart_of, centre_of, radius_of, with_entry, least_for_entry}
+use Rattle.log_model.specs.JoinWalk.{JoinSearch, Entry, opens_right, other, apart_of, centre_of, radius_of, far_apart, far_stored, with_entry, least_for_entry}
 use Rattle.log_model.specs.JoinSteps.{apart_from, paired, hits_among, needs_among}
 use Rattle.log_model.proofs.Published.{paired_same, hits_append, needs_append, count_up_both}
 use Rattle.metric_join.specs.declared.opening.Opening.{Opening}
-use Rattle.metric_join.specs.Steps.{least_at, marks_for, pairs_for, TakesEntries, CountsMarks}
+use Rattle.metric_join.specs.Steps.{least_at, measured_at, marks_for, pairs_for, TakesEntries, CountsMarks}
 
 -- an entry is as far from the other item as its point is
 apart_same : (s : Space) (n : JoinNeed) (e : Entry) (point : List ℕ) → centre_of e.item ≡ Some point → (with_entry s n e).apart ≡ apart_from s n point
@@ -31,6 +31,19 @@ apart_same s n e point is = cases (opens_right n)
 -- so its least mark is the one at its point
 least_same : (j : JoinSearch) (n : JoinNeed) (e : Entry) (point : List ℕ) → centre_of e.item ≡ Some point → least_for_entry j n e ≡ least_at j n point e.stored (radius_of e.item)
 least_same j n e point is = rw (apart_same j.space n e point is) refl
+
+-- the least mark of an entry that is not skipped is the one by its distance
+pub least_unskipped : (j : JoinSearch) (n : JoinNeed) (point : List ℕ) (stored radius : ℕ) (mark : Mark) → far_stored n.apart stored j.rho (radius + radius_of (other n)) ≡ false →
+    mark ≡ measured_at j n point radius → mark ≡ least_at j n point stored radius
+least_unskipped j n point stored radius mark not is = is ∙ sym (ap (λ (b : Bool). if b then Skip else measured_at j n point radius) not)
+
+-- and it costs one distance
+pub measured_one : (j : JoinSearch) (n : JoinNeed) (point : List ℕ) (radius : ℕ) (mark : Mark) → mark ≡ measured_at j n point radius → measured_by (mark ∷ []) ≡ 1
+measured_one j n point radius mark is = ap (λ (m : Mark). measured_by (m ∷ [])) is ∙ cases (far_apart (apart_from j.space n point) j.rho radius (radius_of (other n)))
+  where
+    cases : (b : Bool) → measured_by ((if b then Far else Near) ∷ []) ≡ 1
+    cases true = refl
+    cases false = refl
 
 module _ (j : JoinSearch) (n : JoinNeed) (e : Entry) (point : List ℕ) (centre : centre_of e.item ≡ Some point) (mark : Mark) (least : mark ≡ least_at j n point e.stored (radius_of e.item)) (old new : Opening)
     (marked : new.marks.items ≡ old.marks.items ++ mark ∷ []) where

@@ -1,20 +1,20 @@
 // The least marks of an opened node, and the pairs that they leave.
-ghost use Rattle.std.specs.Prelude.{◌≡◌, ◌++◌, ◌≤◌, [], ◌∷◌, map, IfOk, OnOk};
+ghost use Rattle.std.specs.Prelude.{◌≡◌, ◌++◌, ◌+◌, ◌≤◌, [], ◌∷◌, false, map, IfOk, OnOk};
 ghost use Rattle.metric_laws.specs.Counts.{CountsUpTo};
 ghost use Rattle.log_model.specs.Counts.{measured_by};
 ghost use Rattle.log_model.specs.declared.marks.Mark.TheVariants.{Near};
-ghost use Rattle.log_model.specs.JoinWalk.{object_entry, subtree_entry, entries_of, other, radius_of};
+ghost use Rattle.log_model.specs.JoinWalk.{object_entry, subtree_entry, entries_of, far_stored, other, radius_of};
 ghost use Rattle.log_model.specs.JoinSteps.{search_within, apart_from, paired, hits_among, needs_among};
-ghost use Rattle.metric_join.specs.Steps.{least_at, measured_at, marks_for, pairs_for, AddsPair, TakesEntries, CountsMarks};
+ghost use Rattle.metric_join.specs.Steps.{measured_at, marks_for, pairs_for, AddsPair, TakesEntries, CountsMarks};
 
-use log_model::{Item, JoinNeed, Mark, Memory, entry_count, is_far, is_skipped};
-use metric_laws::{Point, Ruler};
+use log_model::{Item, JoinNeed, Mark, Memory, SharedItem, entry_count, is_far, is_skipped};
+use metric_laws::Ruler;
 use scan_model::Pair;
 use std::alloc::Global;
 use tree_shape::{InnerEntry, LeafEntry, Node};
 
 /// What the opening of a pair makes.
-#[derive(Debug, Drop)]
+#[derive(Drop)]
 pub struct Opening {
     /// One mark for each entry of the node.
     pub marks: Vec<Mark>,
@@ -38,38 +38,13 @@ pub struct JoinProbe<'a> {
     ghost reaches: { reach ≡ radius_of (other need.now) },
 }
 
-// What was found of an entry.
+// What was found of an entry that is not skipped.
 #[derive(Clone, Copy)]
 struct Marked {
     // Its least mark.
     mark: Mark,
-    // How far an entry that is marked Near is from the other item, where that has a centre.
+    // How far it is from the other item, where that has a centre.
     apart: Option<u64>,
-}
-
-// The least mark of an entry with this point, this distance to the routing point above and this radius. A distance is
-// computed where the mark isn't Skip.
-// Most entries are skipped, so the test for it stands in the loops over them.
-#[inline(always)]
-fn least_mark<R: Ruler>(
-    ruler: &mut R,
-    probe: JoinProbe,
-    point: &[u32],
-    stored: u64,
-    radius: u64,
-) -> Marked
-    ensures metric { R.metric ruler.new ≡ R.metric ruler.old }
-    ensures counted { CountsUpTo (R.used ruler.old) (R.used ruler.new) (measured_by (result.mark ∷ [])) }
-    ensures mark { result.mark ≡ least_at (search_within (R.M.space (R.metric ruler.old)) probe.entry.rho) probe.entry.need.now point.now stored radius }
-    ensures apart { result.mark ≡ Near → result.apart ≡ apart_from (R.M.space (R.metric ruler.old)) probe.entry.need.now point.now }
-{
-    if is_skipped(probe.need.apart, stored, probe.rho, radius, probe.reach) {
-        return Marked {
-            mark: Mark::Skip,
-            apart: None,
-        };
-    }
-    measured_mark(ruler, probe, point, radius)
 }
 
 // The least mark of an entry that is not skipped, by its distance.
@@ -86,26 +61,6 @@ fn measured_mark<R: Ruler>(ruler: &mut R, probe: JoinProbe, point: &[u32], radiu
         Mark::Near
     };
     Marked { mark, apart }
-}
-
-// An item in the place of the opened one, paired with the other item, each on its own side.
-fn pair_with(probe: JoinProbe, item: Item, apart: Option<u64>) -> Result<JoinNeed, Memory>
-    ensures { IfOk result (λ pair. pair ≡ paired probe.entry.need.now item apart) }
-{
-    let kept = probe.need.other().try_clone(probe.alloc)?;
-    if probe.need.opens_right() {
-        Ok(JoinNeed {
-            left: kept,
-            right: item,
-            apart,
-        })
-    } else {
-        Ok(JoinNeed {
-            left: item,
-            right: kept,
-            apart,
-        })
-    }
 }
 
 impl Opening {
@@ -127,10 +82,10 @@ impl Opening {
         ensures marks { self.new.marks.items ≡ self.old.marks.items }
         ensures pair { OnOk result (AddsPair pair self.old self.new) }
     {
-        if pair.left.is_object() && pair.right.is_object() {
+        if pair.left.as_ref().is_object() && pair.right.as_ref().is_object() {
             self.hits.push(Pair {
-                left: pair.left.id(),
-                right: pair.right.id(),
+                left: pair.left.as_ref().id(),
+                right: pair.right.as_ref().id(),
                 dist: pair.apart.unwrap_or(0),
             })?;
         } else {
@@ -141,8 +96,6 @@ impl Opening {
 }
 
 // Adds the pair of an object with the other item.
-// It stands apart from the marking, as `add_subtree` does: a function clears the places of its values where it begins, and few
-// entries have a pair.
 #[inline(never)]
 fn add_object(
     probe: JoinProbe,
@@ -153,11 +106,8 @@ fn add_object(
     ensures marks { opening.new.marks.items ≡ opening.old.marks.items }
     ensures pair { OnOk result (AddsPair (paired probe.entry.need.now (object_entry entry.now).item apart) opening.old opening.new) }
 {
-    let item = Item::Object {
-        id: entry.id,
-        point: Point::new(probe.alloc, entry.point.as_slice())?,
-    };
-    opening.push_pair(pair_with(probe, item, apart)?)
+    let item = SharedItem::new(probe.alloc, Item::of_object(probe.alloc, entry)?)?;
+    opening.push_pair(probe.need.with(item, apart)?)
 }
 
 // Adds the pair of a subtree that an inner node of this level names with the other item.
@@ -172,16 +122,36 @@ fn add_subtree(
     ensures marks { opening.new.marks.items ≡ opening.old.marks.items }
     ensures pair { OnOk result (AddsPair (paired probe.entry.need.now (subtree_entry level entry.now).item apart) opening.old opening.new) }
 {
-    let item = Item::Subtree {
-        page: entry.child,
-        rank: u64::from(level),
-        centre: Some(Point::new(probe.alloc, entry.point.as_slice())?),
-        radius: entry.radius,
-    };
-    opening.push_pair(pair_with(probe, item, apart)?)
+    let item = SharedItem::new(probe.alloc, Item::of_subtree(probe.alloc, level, entry)?)?;
+    opening.push_pair(probe.need.with(item, apart)?)
+}
+
+// Marks an object that is not skipped, and adds its pair where it is marked Near.
+#[inline(never)]
+fn measure_object<R: Ruler>(
+    ruler: &mut R,
+    probe: JoinProbe,
+    entry: &LeafEntry,
+    opening: &mut Opening,
+) -> Result<(), Memory>
+    requires { far_stored probe.need.now.apart entry.now.parent probe.rho (radius_of (other probe.need.now)) ≡ false }
+    ensures metric { R.metric ruler.new ≡ R.metric ruler.old }
+    ensures counted { OnOk result (CountsMarks (R.used ruler.old) (R.used ruler.new) opening.old.marks.items opening.new.marks.items) }
+    ensures taken { OnOk result (TakesEntries (search_within (R.M.space (R.metric ruler.old)) probe.entry.rho) probe.entry.need.now
+        (object_entry entry.now ∷ []) opening.old opening.new) }
+{
+    let marked = measured_mark(ruler, probe, entry.point.as_slice(), 0);
+    opening.marks.push(marked.mark)?;
+    if let Mark::Near = marked.mark {
+        add_object(probe, entry, marked.apart, opening)?;
+    }
+    Ok(())
 }
 
 // Marks an object, and adds its pair where it is marked Near.
+// Most entries are skipped, so the test for it stands in the loops over them, and what the others need stands apart: a
+// function clears the places of its values where it begins.
+#[inline(always)]
 fn mark_object<R: Ruler>(
     ruler: &mut R,
     probe: JoinProbe,
@@ -193,15 +163,38 @@ fn mark_object<R: Ruler>(
     ensures taken { OnOk result (TakesEntries (search_within (R.M.space (R.metric ruler.old)) probe.entry.rho) probe.entry.need.now
         (object_entry entry.now ∷ []) opening.old opening.new) }
 {
-    let marked = least_mark(ruler, probe, entry.point.as_slice(), entry.parent, 0);
+    if is_skipped(probe.need.apart, entry.parent, probe.rho, 0, probe.reach) {
+        opening.marks.push(Mark::Skip)?;
+        return Ok(());
+    }
+    measure_object(ruler, probe, entry, opening)
+}
+
+// Marks a subtree that an inner node of this level names and that is not skipped, and adds its pair where it is marked Near.
+#[inline(never)]
+fn measure_subtree<R: Ruler>(
+    ruler: &mut R,
+    probe: JoinProbe,
+    level: u8,
+    entry: &InnerEntry,
+    opening: &mut Opening,
+) -> Result<(), Memory>
+    requires { far_stored probe.need.now.apart entry.now.parent probe.rho (entry.now.radius + radius_of (other probe.need.now)) ≡ false }
+    ensures metric { R.metric ruler.new ≡ R.metric ruler.old }
+    ensures counted { OnOk result (CountsMarks (R.used ruler.old) (R.used ruler.new) opening.old.marks.items opening.new.marks.items) }
+    ensures taken { OnOk result (TakesEntries (search_within (R.M.space (R.metric ruler.old)) probe.entry.rho) probe.entry.need.now
+        (subtree_entry level entry.now ∷ []) opening.old opening.new) }
+{
+    let marked = measured_mark(ruler, probe, entry.point.as_slice(), entry.radius);
     opening.marks.push(marked.mark)?;
     if let Mark::Near = marked.mark {
-        add_object(probe, entry, marked.apart, opening)?;
+        add_subtree(probe, level, entry, marked.apart, opening)?;
     }
     Ok(())
 }
 
 // Marks a subtree that an inner node of this level names, and adds its pair where it is marked Near.
+#[inline(always)]
 fn mark_subtree<R: Ruler>(
     ruler: &mut R,
     probe: JoinProbe,
@@ -214,18 +207,17 @@ fn mark_subtree<R: Ruler>(
     ensures taken { OnOk result (TakesEntries (search_within (R.M.space (R.metric ruler.old)) probe.entry.rho) probe.entry.need.now
         (subtree_entry level entry.now ∷ []) opening.old opening.new) }
 {
-    let marked = least_mark(
-        ruler,
-        probe,
-        entry.point.as_slice(),
+    if is_skipped(
+        probe.need.apart,
         entry.parent,
+        probe.rho,
         entry.radius,
-    );
-    opening.marks.push(marked.mark)?;
-    if let Mark::Near = marked.mark {
-        add_subtree(probe, level, entry, marked.apart, opening)?;
+        probe.reach,
+    ) {
+        opening.marks.push(Mark::Skip)?;
+        return Ok(());
     }
-    Ok(())
+    measure_subtree(ruler, probe, level, entry, opening)
 }
 
 // Marks a leaf's entries.

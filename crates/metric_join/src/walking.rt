@@ -4,14 +4,14 @@ ghost use Rattle.metric_laws.specs.Space.{bound};
 ghost use Rattle.tree_shape.specs.declared.live.Live.{Live};
 ghost use Rattle.metric_laws.specs.Counts.{next_count};
 ghost use Rattle.page_store.specs.Shelf.{Shelf, HoldsSame, IsNodeOf};
-ghost use Rattle.log_model.specs.SoundJoin.{root_item, root_pair};
+ghost use Rattle.log_model.specs.SoundJoin.{root_pair};
 ghost use Rattle.log_model.specs.JoinSteps.{search_within};
 ghost use Rattle.metric_join.specs.Steps.{following, record_for, weight, weight_of, HasStop, HasStopped, HasWalkCause, IsOpened, IsUnderWay};
 
 use crate::JoinFault;
 use crate::faults::fault_of;
 use crate::opening::{JoinProbe, Opening, open_node};
-use log_model::{Item, JoinNeed, JoinRecord, Memory};
+use log_model::{JoinNeed, JoinRecord, Memory};
 use metric_laws::{BOUND, Listed, Ruler};
 use page_store::{PageFault, Pages, SharedNode};
 use scan_model::Pair;
@@ -19,7 +19,7 @@ use std::alloc::Global;
 use tree_shape::Live;
 
 /// A pair that waits to be opened.
-#[derive(Debug, Drop)]
+#[derive(Drop)]
 pub struct Waiting {
     /// The pair.
     pub need: JoinNeed,
@@ -30,7 +30,7 @@ pub struct Waiting {
 }
 
 /// A walk from the pair of roots, half way.
-#[derive(Debug, Drop)]
+#[derive(Drop)]
 pub struct JoinWalk {
     /// The radius that prunes.
     pub rho: u64,
@@ -40,18 +40,6 @@ pub struct JoinWalk {
     pub hits: Vec<Pair>,
     /// The pairs that wait, the next one last.
     pub stack: Vec<Waiting>,
-}
-
-// The item of a root.
-fn root_of(live: &Live) -> Item
-    ensures { result ≡ root_item live.now }
-{
-    Item::Subtree {
-        page: live.root,
-        rank: u64::from(live.height) + 1,
-        centre: None,
-        radius: 0,
-    }
 }
 
 impl JoinWalk {
@@ -68,11 +56,7 @@ impl JoinWalk {
             }) ∷ []) }
     {
         let roots = Waiting {
-            need: JoinNeed {
-                left: root_of(left),
-                right: root_of(right),
-                apart: None,
-            },
+            need: JoinNeed::of_roots(alloc, left, right)?,
             left_room: left.pages,
             right_room: right.pages,
         };

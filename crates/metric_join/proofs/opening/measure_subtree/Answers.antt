@@ -1,0 +1,43 @@
+use Rattle.std.proofs.Common.{◌≡◌, ◌+◌, ap, refl, sym, List, ℕ, Some, false}
+use Rattle.log_model.specs.declared.pairs.JoinNeed.{JoinNeed}
+use Rattle.log_model.specs.JoinWalk.{JoinSearch, far_stored, subtree_entry, other, radius_of}
+use Rattle.log_model.specs.JoinSteps.{search_within, paired}
+use Rattle.metric_join.proofs.Entries.{takes_none, takes_pair, counts_one, least_unskipped, measured_one}
+use Rattle.metric_join.proofs.opening.measure_subtree.Goals as goal
+
+pub returns-in_ok-add_subtree-clause-counted : goal.returns-in_ok-add_subtree-clause-counted
+returns-in_ok-add_subtree-clause-counted g c =
+    let j : JoinSearch = search_within (g.R.M.Metric.space (g.R.Ruler.metric c.args.ruler.now)) c.args.probe.rho in
+    let n : JoinNeed = c.args.probe.need.now in
+    let marked = c.measured_mark-marked in
+    let some = marked.ensures.counted in
+    counts_one (g.R.Ruler.used c.args.ruler.now) (g.R.Ruler.used marked.new.ruler) some.0 c.args.opening.now.marks.items c.add_subtree.new.opening.marks.items marked.result.mark
+    (rw (measured_one j n c.as_slice.result.now c.args.entry.now.radius marked.result.mark marked.ensures.mark) some.1) some.2 (cc (c.add_subtree.ensures.marks, c.in_ok-push.ensures.items))
+
+pub returns-in_ok-add_subtree-clause-taken : goal.returns-in_ok-add_subtree-clause-taken
+returns-in_ok-add_subtree-clause-taken g c =
+    let j : JoinSearch = search_within (g.R.M.Metric.space (g.R.Ruler.metric c.args.ruler.now)) c.args.probe.rho in
+    let n : JoinNeed = c.args.probe.need.now in
+    let marked = c.measured_mark-marked in
+    let unskipped : far_stored n.apart c.args.entry.now.parent j.rho (c.args.entry.now.radius + radius_of (other n)) ≡ false = c.requires in
+    takes_pair j n (subtree_entry c.args.level c.args.entry.now) c.as_slice.result.now (ap (λ (p : List ℕ). Some p) (sym c.as_slice.ensures)) marked.result.mark
+    (least_unskipped j n c.as_slice.result.now c.args.entry.now.parent c.args.entry.now.radius marked.result.mark unskipped marked.ensures.mark)
+    c.args.opening.now c.add_subtree.new.opening (cc (c.add_subtree.ensures.marks, c.in_ok-push.ensures.items))
+    c.in-Near.is (paired n (subtree_entry c.args.level c.args.entry.now).item marked.result.apart) marked.result.apart (marked.ensures.apart) refl
+    c.in_ok-add_subtree.ensures.pair.hits c.in_ok-add_subtree.ensures.pair.needs
+
+pub returns-in_default : goal.returns-in_default
+returns-in_default g c =
+    let j : JoinSearch = search_within (g.R.M.Metric.space (g.R.Ruler.metric c.args.ruler.now)) c.args.probe.rho in
+    let n : JoinNeed = c.args.probe.need.now in
+    let marked = c.measured_mark-marked in
+    let unskipped : far_stored n.apart c.args.entry.now.parent j.rho (c.args.entry.now.radius + radius_of (other n)) ≡ false = c.requires in
+    let some = marked.ensures.counted in
+    record {
+      metric = marked.ensures.metric;
+      counted = counts_one (g.R.Ruler.used c.args.ruler.now) (g.R.Ruler.used marked.new.ruler) some.0 c.args.opening.now.marks.items c.push.new.self.items marked.result.mark (rw (measured_one j n c.as_slice.result.now c.args.entry.now.radius marked.result.mark marked.ensures.mark) some.1) some.2 c.in_ok-push.ensures.items;
+      taken = takes_none j n (subtree_entry c.args.level c.args.entry.now) c.as_slice.result.now (ap (λ (p : List ℕ). Some p) (sym c.as_slice.ensures)) marked.result.mark
+          (least_unskipped j n c.as_slice.result.now c.args.entry.now.parent c.args.entry.now.radius marked.result.mark unskipped marked.ensures.mark)
+          c.args.opening.now (record { marks = c.push.new.self; hits = c.args.opening.now.hits; needs = c.args.opening.now.needs }) c.in_ok-push.ensures.items
+          c.in_default.not-Near refl refl;
+    }
