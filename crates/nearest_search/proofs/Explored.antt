@@ -18,7 +18,7 @@ use Rattle.node_page.specs.Nodes.{IsLawfulNode}
 use Rattle.page_store.specs.declared.pages.PageFault.{PageFault}
 use Rattle.page_store.specs.declared.pages.PageFault.TheVariants.{Disk, Bad, Outside, Memory, Repeats, Level}
 use Rattle.page_store.specs.Reading.{Read, IsWithin, is_within, nodes_of, node_or_none}
-use Rattle.page_store.specs.Shelf.{Shelf, HoldsSame, IsNodeOf, HasPageCause, IsPassing}
+use Rattle.page_store.specs.Shelf.{Shelf, HoldsSame, HasPageCause, IsPassing}
 use Rattle.log_model.specs.declared.logs.Found.{Found}
 use Rattle.log_model.specs.declared.marks.Mark.{Mark}
 use Rattle.log_model.specs.declared.marks.Mark.TheVariants.{Skip, Far, Near}
