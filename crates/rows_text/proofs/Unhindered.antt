@@ -5,7 +5,7 @@ use Rattle.std.specs.List.{AllByRecursion}
 use Rattle.rows_text.specs.declared.command.Command.{Command}
 use Rattle.rows_text.specs.declared.refusal.Refusal.{Refusal}
 use Rattle.rows_text.specs.declared.reply.Reply.{Reply}
-use Rattle.rows_text.specs.Meaning.{Setting, State, step, hindered, replies, after, hindered_replies, hindered_after}
+use Rattle.rows_text.specs.Meaning.{Setting, State, step, replies, after, hindered_replies, hindered_after}
 
 pub unhindered : (setting : Setting) (state : State) (commands : List Command) (whys : List (Option Refusal)) → length whys ≡ length commands → AllByRecursion (λ why. why ≡ None) whys →
     (hindered_replies setting state commands whys ≡ replies setting state commands) × (hindered_after setting state commands whys ≡ after setting state commands)
