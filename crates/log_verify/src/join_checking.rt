@@ -77,7 +77,8 @@ fn check_object<R: Ruler>(
     mark: Mark,
 ) -> JoinChecked
     ensures metric { R.metric ruler.new ≡ R.metric ruler.old }
-    ensures allowed { result.allowed ≡ allows_entry (search_within (R.M.space (R.metric ruler.old)) probe.entry.rho) probe.entry.need.now (object_entry entry.now) mark }
+    ensures allowed { result.allowed ≡ allows_entry (search_within (R.M.space (R.metric ruler.old)) probe.entry.rho) probe.entry.need.now
+        (object_entry entry.now) mark }
     ensures apart { mark ≡ Near → result.apart ≡ (object_pair (R.M.space (R.metric ruler.old)) probe.entry.need.now entry.now).apart }
     ensures counted { CountsUpTo (R.used ruler.old) (R.used ruler.new) (measured_by (mark ∷ [])) }
 {
@@ -114,7 +115,8 @@ fn check_subtree<R: Ruler>(
     mark: Mark,
 ) -> JoinChecked
     ensures metric { R.metric ruler.new ≡ R.metric ruler.old }
-    ensures allowed { result.allowed ≡ allows_entry (search_within (R.M.space (R.metric ruler.old)) probe.entry.rho) probe.entry.need.now (subtree_entry level entry.now) mark }
+    ensures allowed { result.allowed ≡ allows_entry (search_within (R.M.space (R.metric ruler.old)) probe.entry.rho) probe.entry.need.now
+        (subtree_entry level entry.now) mark }
     ensures apart { mark ≡ Near → result.apart ≡ (subtree_pair (R.M.space (R.metric ruler.old)) probe.entry.need.now level entry.now).apart }
     ensures counted { CountsUpTo (R.used ruler.old) (R.used ruler.new) (measured_by (mark ∷ [])) }
 {
