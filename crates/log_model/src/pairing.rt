@@ -9,9 +9,16 @@ ghost use Rattle.log_model.specs.JoinSteps.{apart_from, paired};
 ghost use Rattle.log_model.specs.SoundJoin.{root_item, root_pair};
 
 use crate::{Item, JoinNeed, Memory, SharedItem};
-use metric_laws::{Point, Ruler, pair_test};
+use metric_laws::{Listed, Point, Ruler, pair_test};
 use std::alloc::Global;
 use tree_shape::{InnerEntry, LeafEntry, Live};
+
+// The coordinates of a point in a list of their own. So an item is small, and making and freeing it costs little.
+fn listed(alloc: Global, point: &Point) -> Result<Listed<u32>, Memory>
+    ensures { IfOk result (λ list. list ≡ point.now) }
+{
+    Ok(Listed::new(point.as_slice().to_vec(alloc)?))
+}
 
 impl Item {
     // A root.
@@ -32,7 +39,7 @@ impl Item {
     {
         Ok(Item::Object {
             id: entry.id,
-            point: Point::new(alloc, entry.point.as_slice())?,
+            point: listed(alloc, &entry.point)?,
         })
     }
 
@@ -43,7 +50,7 @@ impl Item {
         Ok(Item::Subtree {
             page: entry.child,
             rank: u64::from(level),
-            centre: Some(Point::new(alloc, entry.point.as_slice())?),
+            centre: Some(listed(alloc, &entry.point)?),
             radius: entry.radius,
         })
     }

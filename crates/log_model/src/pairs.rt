@@ -1,7 +1,7 @@
 ghost use Rattle.std.specs.Prelude.{◌≡◌, IfOk};
 
 use crate::Memory;
-use metric_laws::Point;
+use metric_laws::Listed;
 use std::alloc::Global;
 use std::marker::Model;
 use std::rc::Rc;
@@ -16,7 +16,7 @@ pub enum Item {
         /// The height plus 1 for a root, and for another node the level that its parent states.
         rank: u64,
         /// The routing point above the node. None stands above a root.
-        centre: Option<Point>,
+        centre: Option<Listed<u32>>,
         /// The covering radius, and 0 for a root.
         radius: u64,
     },
@@ -25,7 +25,7 @@ pub enum Item {
         /// The object's id.
         id: u32,
         /// Its point.
-        point: Point,
+        point: Listed<u32>,
     },
 }
 

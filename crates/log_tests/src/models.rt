@@ -2,7 +2,7 @@ use log_model::{
     Item, JoinNeed, SharedItem, is_far, is_skipped, laws, put_hits_in_order, put_pairs_in_order,
     radius_of, select,
 };
-use metric_laws::{BOUND, Point};
+use metric_laws::{BOUND, Listed, Point};
 use scan_model::{Hit, Pair, Query};
 use std::test::Fail;
 
@@ -68,12 +68,12 @@ fn pairs_are_in_order_and_each_once(rt: HostRuntime) -> Result<(), Fail> {
 fn the_item_of_greater_rank_is_opened(rt: HostRuntime) -> Result<(), Fail> {
     let object = Item::Object {
         id: 7,
-        point: Point::new(rt.alloc(), &[5])?,
+        point: Listed::new(vec![in rt.alloc(); 5]?),
     };
     let subtree = Item::Subtree {
         page: 3,
         rank: 2,
-        centre: Some(Point::new(rt.alloc(), &[1])?),
+        centre: Some(Listed::new(vec![in rt.alloc(); 1]?)),
         radius: 9,
     };
     let pair = JoinNeed {
