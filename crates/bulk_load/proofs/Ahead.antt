@@ -1,29 +1,12 @@
 -- A hint stays right while the groups grow.
 use Rattle.std.proofs.Common.{◌≡◌, ℕ, zero, suc, ◌+◌, ◌-◌, ◌<◌, ◌≤◌, Bool, true, false, List, [], ◌∷◌, Option, Some, None, inl, inr, length, get_or, refl, sym, ap, ◌∙◌, arith, subst}
 use Rattle.std.specs.Prelude.{if◌then◌else◌, nat_lt, IfSome, slice_get}
-use Rattle.std.proofs.lemmas.List.{get_or-map}
 use Rattle.std.proofs.lemmas.Option.{slice_get_read}
 use Rattle.std.proofs.lemmas.Bool.Decides.{nat_tests}
-use Rattle.metric_laws.specs.Space.{Space}
-use Rattle.tree_growth.specs.Bulk.{row_of}
-use Rattle.tree_growth.specs.Groups.{Far, entry, nearer, nearest_from, counted, one_more}
+use Rattle.tree_growth.specs.Groups.{Far, nearer, nearest_from, counted, one_more}
 use Rattle.tree_growth.proofs.Published.{nearest_some, length_more}
 use Rattle.bulk_load.specs.Candidates.{NotAfter}
-use Rattle.bulk_load.specs.Measured.{points_of, measured}
 use Rattle.bulk_load.specs.Hints.{IsHint, AreHints, HaveGrown}
-
-pub points_long : (rows : List (List ℕ)) (places : List ℕ) → length (points_of rows places) ≡ length places
-points_long rows [] = refl
-points_long rows (i ∷ places) = ap suc (points_long rows places)
-
--- one distance of a set
-pub far_is : (s : Space) (rows : List (List ℕ)) (places seeds : List ℕ) (k a x : ℕ) (p q : List ℕ) → k < length places → a < length seeds → get_or seeds a 0 < length places →
-    p ≡ get_or rows (get_or places k 0) [] → q ≡ get_or rows (get_or places (get_or seeds a 0) 0) [] → x ≡ s.dist p q → x ≡ entry (measured s (points_of rows places) seeds).table k a
-far_is s rows places seeds k a x p q low here inside object seed e =
-    let point : (j : ℕ) → j < length places → get_or (points_of rows places) j [] ≡ get_or rows (get_or places j 0) [] = λ j within. get_or-map (λ i. get_or rows i []) places j 0 [] within in
-    e ∙ ap (λ (r : List ℕ). s.dist r q) (object ∙ sym (point k low)) ∙ ap (s.dist (get_or (points_of rows places) k [])) (seed ∙ sym (point (get_or seeds a 0) inside))
-    ∙ sym (ap (λ (r : List ℕ). get_or r a 0) (get_or-map (row_of s (points_of rows places) seeds) (points_of rows places) k [] [] (subst (λ (n : ℕ). k < n) (sym (points_long rows places)) low))
-    ∙ get_or-map (λ j. s.dist (get_or (points_of rows places) k []) (get_or (points_of rows places) j [])) seeds a 0 0 here)
 
 -- the one that was found comes no later than x
 abbrev Found : Option (ℕ × ℕ) → ℕ × ℕ → Type 0

@@ -1,12 +1,12 @@
 -- The distances to seeds are those to their points.
-use Rattle.std.proofs.Common.{◌≡◌, ℕ, suc, ◌+◌, ◌<◌, List, [], ◌∷◌, refl, sym, ap, ◌∙◌, arith, length, get_or, drop, subst}
+use Rattle.std.proofs.Common.{◌≡◌, ℕ, ◌+◌, ◌<◌, List, [], ◌∷◌, refl, sym, ap, ◌∙◌, length, get_or, drop, subst}
 use Rattle.std.specs.Prelude.{map}
 use Rattle.std.proofs.lemmas.List.{get_or-map, drop_more}
 use Rattle.std.proofs.lemmas.Simd.{map-map}
 use Rattle.metric_laws.specs.Space.{Space}
 use Rattle.metric_laws.proofs.Published.{length_map}
 use Rattle.tree_growth.specs.Bulk.{row_of}
-use Rattle.bulk_load.specs.Measured.{Measured, measured, measured_to, points_of}
+use Rattle.bulk_load.specs.Measured.{measured, measured_to, points_of}
 
 rows_same : (s : Space) (points : List (List ℕ)) (seeds : List ℕ) (ps : List (List ℕ)) →
     map (λ p. map (s.dist p) (points_of points seeds)) ps ≡ map (row_of s points seeds) ps
