@@ -1,4 +1,4 @@
 pub mod Words
 pub mod Folds
-pub mod Counting
+pub mod Pairs
 pub mod Published

@@ -13,7 +13,7 @@ pub fn has_places(p: &[u32], dim: u8) -> bool
 }
 
 /// The number of places that differ.
-#[tactic(auto, using(crate::proofs::Counting::count_more))]
+#[tactic(auto, using(crate::proofs::Pairs::sum_more))]
 pub fn count(a: &[u32], b: &[u32]) -> u64
     ensures { result ≡ count_by (λ p. not (p.0 == p.1)) (zip a.now b.now) }
 {
@@ -28,14 +28,17 @@ pub fn count(a: &[u32], b: &[u32]) -> u64
 }
 
 /// The differences together, of lists that are short enough for the sum to fit.
+#[tactic(auto, using(crate::proofs::Pairs::sum_more))]
 pub fn sum(a: &[u32], b: &[u32]) -> u64
     requires { length a.now ≤ 2 ^ 32 }
     ensures { result ≡ sum_by (λ p. gap p.0 p.1) (zip a.now b.now) }
 {
-    a.iter()
-        .zip(b)
-        .map(|(x, y)| u64::from(x.abs_diff(*y)))
-        .sum()
+    // A loop as in `count`: of two lists of 8 a chain takes six instructions more.
+    let mut total = 0u64;
+    for i in 0..a.len().min(b.len()) {
+        total += u64::from(a[i].abs_diff(b[i]));
+    }
+    total
 }
 
 /// The differences together, or the greatest `u64` where that is less.
