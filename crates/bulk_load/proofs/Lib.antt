@@ -16,3 +16,4 @@ pub mod Moved
 pub mod Joined
 pub mod Itself
 pub mod Measuring
+pub mod Spared

@@ -1,5 +1,6 @@
 -- Distances of objects to seeds.
-use Rattle.std.specs.Prelude.{ℕ, List, [], length, map, slice_index_or}
+use Rattle.std.specs.Prelude.{◌≡◌, ℕ, List, [], length, map, slice_index_or, All, IsTrue}
+use Rattle.std.specs.List.{flat_map}
 use Rattle.metric_laws.specs.Space.{Space}
 use Rattle.tree_growth.specs.Bulk.{row_of}
 
@@ -19,3 +20,13 @@ measured_to s points centers = record { width = length centers; table = map (λ 
 -- the distances of a set's points to its seeds, which are places of the set
 abbrev pub measured : Space → List (List ℕ) → List ℕ → Measured
 measured s points seeds = record { width = length seeds; table = map (row_of s points seeds) points }
+
+-- how far centres are apart: the distances of the first to all, of the second to all, and so on
+abbrev pub all_apart : Space → List (List ℕ) → List ℕ
+all_apart s centers = flat_map (λ c. map (s.dist c) centers) centers
+
+-- objects and centres are points of the space, and the centres are so far apart
+pub record AreMeasurable (s : Space) (objects centers : List (List ℕ)) (apart : List ℕ) : Type 0 where
+  pub objects_fit : All (λ p. IsTrue (s.fits p)) objects
+  pub centers_fit : All (λ p. IsTrue (s.fits p)) centers
+  pub apart_is : apart ≡ all_apart s centers

@@ -1,8 +1,9 @@
 //! The distances of a set's objects to its seeds.
 
-ghost use Rattle.std.specs.Prelude.{◌≡◌, ◌<◌, All, [], length, slice_index, slice_index_or, IfOk};
+ghost use Rattle.std.specs.Prelude.{◌≡◌, ◌<◌, ◌≤◌, ◌+◌, ◌++◌, All, [], length, map, slice_index, slice_index_or, true, IfOk, IfSome, OnOk};
 ghost use Rattle.tree_growth.specs.Groups.{entry};
-ghost use Rattle.bulk_load.specs.Measured.{measured_to, points_of};
+ghost use Rattle.tree_growth.specs.Groups.{nearer as nearer_of};
+ghost use Rattle.bulk_load.specs.Measured.{AreMeasurable, measured_to, all_apart, points_of};
 
 use metric_laws::{Memory, Metric, Point, Rows};
 use std::alloc::Global;
@@ -27,20 +28,65 @@ pub fn centers_at(
     Ok(centers)
 }
 
+// Adds a seed's distances to all seeds.
+fn add_distances<M: Metric>(
+    metric: M,
+    from: &[u32],
+    centers: &[Point],
+    apart: &mut Vec<u64>,
+) -> Result<(), Memory>
+    ensures { OnOk result (apart.new.items ≡ apart.old.items ++ map ((M.space metric).dist from.now) centers.now) }
+{
+    for to in centers {
+        apart.push(metric.dist(from, to.as_slice()))?;
+    }
+    Ok(())
+}
+
+/// How far the points of seeds are apart: the distances of the first to all, of the second to all, and so on.
+pub fn mutual_distances<M: Metric>(
+    alloc: Global,
+    metric: M,
+    centers: &[Point],
+) -> Result<Vec<u64>, Memory>
+    ensures { IfOk result (λ v. v.items ≡ all_apart (M.space metric) centers.now) }
+{
+    let mut apart = Vec::with_capacity(alloc, centers.len().saturating_mul(centers.len()))?;
+    for from in centers {
+        add_distances(metric, from.as_slice(), centers, &mut apart)?;
+    }
+    Ok(apart)
+}
+
+// The nearer of a seed at this distance and the nearest so far, as a distance and a number. Of two as near the nearest so far
+// stays.
+fn nearer(distance: u64, number: usize, best: Option<(u64, usize)>) -> Option<(u64, usize)>
+    ensures { result ≡ nearer_of true distance number best }
+{
+    match best {
+        Some((least, _)) if distance >= least => best,
+        _ => Some((distance, number)),
+    }
+}
+
 /// The distances of one object to the seeds. Each is computed when it is asked for.
 #[derive(Drop)]
 pub struct Row<'a, M: Metric> {
     metric: M,
     object: &'a [u32],
     centers: &'a [Point],
+    apart: &'a [u64],
 }
 
 impl<'a, M: Metric> Model for Row<'a, M> {
-    ghost use Rattle.std.specs.Prelude.{List, ℕ, map};
+    ghost use Rattle.std.specs.Prelude.{List, ℕ, [], ◌∷◌, map};
+    ghost use Rattle.bulk_load.specs.Measured.{AreMeasurable};
 
     ghost Value = { List ℕ };
 
     ghost view = { λ r. map ((M.space r.metric).dist r.object.now) r.centers.now };
+
+    ghost invariant = { λ r. AreMeasurable (M.space r.metric) (r.object.now ∷ []) r.centers.now r.apart.now };
 }
 
 impl<'a, M: Metric> Row<'a, M> {
@@ -52,6 +98,29 @@ impl<'a, M: Metric> Row<'a, M> {
         self.metric
             .dist(self.object, self.centers[group].as_slice())
     }
+
+    // How far the seeds of two groups are apart, which is no more than by way of the object.
+    fn apart(&self, first: usize, second: usize) -> u64
+        requires first { first < length self.now }
+        requires second { second < length self.now }
+        ensures { result ≤ slice_index self.now first + slice_index self.now second }
+    {
+        self.apart[first * self.centers.len() + second]
+    }
+
+    /// The nearer of two seeds: the nearest so far, as its distance and its group, which stays where both are as near, and that of
+    /// another group. The other's distance is not computed where the seeds are at least twice as far apart as the object is from
+    /// the nearest so far: by the triangle inequality it is no less.
+    pub fn nearer(&self, best: Option<(u64, usize)>, group: usize) -> Option<(u64, usize)>
+        requires group { group < length self.now }
+        requires best { IfSome best (λ b. (b.1 < length self.now) × (b.0 ≡ slice_index self.now b.1)) }
+        ensures { result ≡ nearer_of true (slice_index self.now group) group best }
+    {
+        match best {
+            Some((least, nearest)) if least <= self.apart(nearest, group) / 2 => best,
+            _ => nearer(self.far(group), group, best),
+        }
+    }
 }
 
 /// The distances of a set's objects to its seeds. Each is computed when it is asked for, so that memory never holds a
@@ -62,23 +131,32 @@ pub struct Distances<'a, M: Metric> {
     rows: &'a Rows,
     set: &'a [u32],
     centers: &'a [Point],
+    apart: &'a [u64],
 }
 
 impl<'a, M: Metric> Model for Distances<'a, M> {
     ghost use Rattle.std.specs.Prelude.{◌<◌, All, length};
-    ghost use Rattle.bulk_load.specs.Measured.{Measured, measured_to, points_of};
+    ghost use Rattle.bulk_load.specs.Measured.{AreMeasurable, Measured, measured_to, points_of};
 
     ghost Value = { Measured };
 
     ghost view = { λ d. measured_to (M.space d.metric) (points_of d.rows.now.points d.set.now) d.centers.now };
 
-    ghost invariant = { λ d. All (λ k. k < length d.rows.now.points) d.set.now };
+    ghost invariant = { λ d. All (λ k. k < length d.rows.now.points) d.set.now
+        × AreMeasurable (M.space d.metric) d.rows.now.points d.centers.now d.apart.now };
 }
 
 impl<'a, M: Metric> Distances<'a, M> {
-    /// The distances of a set, which holds places of the rows, to the points of its seeds.
-    pub fn new(metric: M, rows: &'a Rows, set: &'a [u32], centers: &'a [Point]) -> Self
-        requires { All (λ k. k < length rows.now.points) set.now }
+    /// The distances of a set, which holds places of the rows, to the points of its seeds, which are so far apart.
+    pub fn new(
+        metric: M,
+        rows: &'a Rows,
+        set: &'a [u32],
+        centers: &'a [Point],
+        apart: &'a [u64],
+    ) -> Self
+        requires set { All (λ k. k < length rows.now.points) set.now }
+        requires measurable { AreMeasurable (M.space metric) rows.now.points centers.now apart.now }
         ensures { result ≡ measured_to (M.space metric) (points_of rows.now.points set.now) centers.now }
     {
         Distances {
@@ -86,6 +164,7 @@ impl<'a, M: Metric> Distances<'a, M> {
             rows,
             set,
             centers,
+            apart,
         }
     }
 
@@ -113,6 +192,7 @@ impl<'a, M: Metric> Distances<'a, M> {
             metric: self.metric,
             object: self.rows.point(self.set[place] as usize),
             centers: self.centers,
+            apart: self.apart,
         }
     }
 

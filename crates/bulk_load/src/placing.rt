@@ -2,7 +2,7 @@
 
 ghost use Rattle.std.specs.Prelude.{◌≡◌, ℕ, ◌+◌, ◌<◌, ◌≤◌, ◌^◌, ◌∷◌, length, replicate, IfOk, IfSome, All, drop, slice_index, Some, None, true, vec_len};
 ghost use Rattle.tree_growth.specs.Groups.{entry, group_count, seeds_from, nearest_from, placed_from, counted};
-ghost use Rattle.tree_growth.specs.Groups.{nearer as nearer_of, chosen as chosen_of};
+ghost use Rattle.tree_growth.specs.Groups.{chosen as chosen_of};
 ghost use Rattle.bulk_load.specs.Hints.{IsHint, HaveGrown};
 
 use crate::distances::Distances;
@@ -55,16 +55,6 @@ pub fn seed_places(alloc: Global, objects: usize, groups: usize) -> Result<Vec<u
     Ok(places)
 }
 
-// The nearest so far, as a distance and a number: one that is nearer replaces it.
-fn nearer(distance: u64, number: usize, best: Option<(u64, usize)>) -> Option<(u64, usize)>
-    ensures { result ≡ nearer_of true distance number best }
-{
-    match best {
-        Some((least, _)) if distance >= least => best,
-        _ => Some((distance, number)),
-    }
-}
-
 /// The nearest group that has room for the object at a place, and how far its seed is.
 pub fn nearest<M: Metric>(
     distances: &Distances<'_, M>,
@@ -82,7 +72,7 @@ pub fn nearest<M: Metric>(
     let mut best = None;
     for (group, count) in counts.iter().enumerate() {
         if *count < room {
-            best = nearer(row.far(group), group, best);
+            best = row.nearer(best, group);
         }
     }
     best

@@ -1,12 +1,13 @@
-use Rattle.std.proofs.Common.{◌≡◌, ℕ, ◌^◌, ◌≤◌, arith, ◌∙◌, ap, refl, length, List}
-use Rattle.std.specs.Prelude.{map}
+use Rattle.std.proofs.Common.{◌≡◌, ℕ, ◌^◌, ◌<◌, ◌≤◌, arith, ◌∙◌, ap, refl, sym, subst, length, List, rules}
+use Rattle.std.specs.Prelude.{All, IsTrue, map}
 use Rattle.std.proofs.Math.Nat.{one-le-pow, pow-le-pow_left}
 use Rattle.tree_growth.specs.Bulk.{groups_from, groups_at, point_of, Load}
 use Rattle.par_work.proofs.Published.{if_ok}
 use Rattle.bulk_load.specs.Groupable.{load_of}
-use Rattle.bulk_load.specs.Measured.{Measured, measured, points_of}
+use Rattle.bulk_load.specs.Measured.{Measured, all_apart, measured, points_of}
 use Rattle.bulk_load.proofs.Measuring.{measured_same}
 use Rattle.bulk_load.proofs.Members.{groups_are}
+use Rattle.bulk_load.proofs.Spared.{centers_fit}
 use Rattle.bulk_load.proofs.Sizes.{increasing_few, bounds_of, some_objects, some_groups, room_fits}
 use Rattle.bulk_load.proofs.grouping.groups.Goals as goal
 
@@ -44,6 +45,21 @@ seed_places-requires-clause-groups g c =
     let is = c.group_number.ensures in
     (omega arith, omega arith)
 
+pub new-distances-requires-clause-measurable : goal.new-distances-requires-clause-measurable
+new-distances-requires-clause-measurable g c =
+    let s = g.M.Metric.space c.args.metric in
+    let rows : List (List ℕ) = c.args.rows.now.points in
+    let points : List (List ℕ) = points_of rows c.args.set.now in
+    let seeds : List ℕ = c.as_slice.result.now in
+    let inside : All (λ k. k < length c.args.set.now) seeds = search rules in
+    let centers : c.as_slice-3.result.now ≡ points_of points seeds = c.as_slice-3.ensures.value ∙ c.in_ok-centers.ensures in
+    λ κs outlive. record {
+      objects_fit = c.requires.points;
+      centers_fit = subst (λ (cs : List (List ℕ)). All (λ p. IsTrue (s.fits p)) cs) (sym centers)
+          (centers_fit s rows c.args.set.now seeds c.requires.points c.requires.places inside);
+      apart_is = c.as_slice-4.ensures.value ∙ c.in_ok-apart.ensures ∙ ap (all_apart s) (c.as_slice-2.ensures.value ∙ sym c.as_slice-3.ensures.value);
+    }
+
 pub parted-requires-clause-width : goal.parted-requires-clause-width
 parted-requires-clause-width g c =
     let range = some_groups c.args.fill.now c.args.root c.args.level (length c.args.set.now) c.pow-room.result (bounds_of c.args.fill.now c.requires.fill) c.requires.size c.pow-room.ensures in
@@ -51,24 +67,24 @@ parted-requires-clause-width g c =
     let some = range.0 in
     let is = c.group_number.ensures in
     let width : c.new-distances.result.width ≡ c.group_number.result =
-    ap (λ (m : Measured). m.width) (c.new-distances.ensures ∙ measured_same (g.M.Metric.space c.args.metric) (points_of c.args.rows.now.points c.args.set.now) c.as_slice.result.now c.as_slice-2.result.now
-    (c.as_slice-2.ensures.value ∙ c.in_ok-centers.ensures)) ∙ c.as_slice.ensures.len ∙ c.in_ok-seeds.ensures.len in
+    ap (λ (m : Measured). m.width) (c.new-distances.ensures ∙ measured_same (g.M.Metric.space c.args.metric) (points_of c.args.rows.now.points c.args.set.now) c.as_slice.result.now c.as_slice-3.result.now
+    (c.as_slice-3.ensures.value ∙ c.in_ok-centers.ensures)) ∙ c.as_slice.ensures.len ∙ c.in_ok-seeds.ensures.len in
     λ κs outlive. (omega arith, omega arith)
 
 pub returns : goal.returns
 returns g c =
     let s = g.M.Metric.space c.args.metric in
-    let placed = c.as_slice-5.result.now in
+    let placed = c.as_slice-7.result.now in
     let seeds = c.as_slice.result.now in
     let is : c.new-distances.result ≡ measured s (points_of c.args.rows.now.points c.args.set.now) seeds =
-    c.new-distances.ensures ∙ measured_same s (points_of c.args.rows.now.points c.args.set.now) seeds c.as_slice-2.result.now (c.as_slice-2.ensures.value ∙ c.in_ok-centers.ensures) in
-    if_ok (λ gs. gs.items ≡ groups_from 0 c.as_slice-4.result.now c.args.set.now placed)
+    c.new-distances.ensures ∙ measured_same s (points_of c.args.rows.now.points c.args.set.now) seeds c.as_slice-3.result.now (c.as_slice-3.ensures.value ∙ c.in_ok-centers.ensures) in
+    if_ok (λ gs. gs.items ≡ groups_from 0 c.as_slice-6.result.now c.args.set.now placed)
     (λ gs. (tags : List ℕ) → gs.items ≡ groups_at (load tags) c.args.root c.args.level c.args.set.now) c.groups_of.result c.groups_of.ensures
     (λ gs e tags. groups_are (load tags) c.args.root c.args.level c.args.set.now c.pow-room.result c.pow-least.result c.group_number.result seeds (map (point_of (load tags)) c.args.set.now)
     c.new-distances.result.width c.new-distances.result.table placed gs.items c.pow-room.ensures c.pow-least.ensures c.group_number.ensures
     (c.as_slice.ensures.value ∙ c.in_ok-seeds.ensures.is) (c.as_slice.ensures.len ∙ c.in_ok-seeds.ensures.len) refl (ap (λ (m : Measured). m.width) is) (ap (λ (m : Measured). m.table) is)
-    (c.as_slice-5.ensures.value ∙ c.in_ok-placed.ensures.is ∙ (let s = c.as_slice.ensures.value in let t = c.as_slice-3.ensures.value in cc))
-    (let s = c.as_slice.ensures.value in let t = c.as_slice-4.ensures.value in cc))
+    (c.as_slice-7.ensures.value ∙ c.in_ok-placed.ensures.is ∙ (let s = c.as_slice.ensures.value in let t = c.as_slice-5.ensures.value in cc))
+    (let s = c.as_slice.ensures.value in let t = c.as_slice-6.ensures.value in cc))
   where
     load : List ℕ → Load
     load tags = load_of (g.M.Metric.space c.args.metric) c.args.rows.now.points tags c.args.fill.now

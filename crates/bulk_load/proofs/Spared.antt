@@ -1,0 +1,79 @@
+-- Why a distance to a seed need not be computed.
+use Rattle.std.proofs.Common.{◌≡◌, ◌≤◌, ◌<◌, ℕ, zero, suc, ◌+◌, ◌-◌, ◌*◌, List, [], ◌∷◌, ◌++◌, length, get_or, drop, sym, ap, ◌∙◌, arith, subst}
+use Rattle.std.specs.Prelude.{map, All, IsTrue}
+use Rattle.std.specs.List.{flat_map}
+use Rattle.std.proofs.lemmas.List.{get_or-map, get_or_append_left, get_or-append_right, length-append, drop_more}
+use Rattle.std.proofs.lemmas.Nat.{mul-add-lt}
+use Rattle.metric_laws.specs.Space.{Space, IsSpace}
+use Rattle.metric_laws.proofs.Published.{length_map}
+use Rattle.bulk_load.specs.Measured.{AreMeasurable, all_apart, points_of}
+
+-- rows of one length, one after another
+module _ (f : List ℕ → List ℕ) (k : ℕ) (long : (c : List ℕ) → length (f c) ≡ k) where
+  rows_long : (cs : List (List ℕ)) → length (flat_map f cs) ≡ length cs * k
+  rows_long [] = let none : 0 ≡ 0 * k = grind (arith) in none
+  rows_long (c ∷ cs) = let here = length-append (f c) (flat_map f cs) in let more = rows_long cs in let l = long c in grind (arith)
+
+  row_at : (cs : List (List ℕ)) (i j : ℕ) → i < length cs → j < k → get_or (flat_map f cs) (i * k + j) 0 ≡ get_or (f (get_or cs i [])) j 0
+  row_at [] i j low inside = absurd (omega arith)
+  row_at (c ∷ cs) zero j low inside =
+      ap (λ (n : ℕ). get_or (f c ++ flat_map f cs) n 0) (let here : 0 * k + j ≡ j = grind (arith) in here)
+      ∙ get_or_append_left (f c) (flat_map f cs) 0 j (subst (λ (n : ℕ). j < n) (sym (long c)) inside)
+  row_at (c ∷ cs) (suc i) j low inside =
+      let past : k ≤ suc i * k + j = grind (arith) in
+      let rest : suc i * k + j - k ≡ i * k + j = grind (arith) in
+      get_or-append_right (f c) (flat_map f cs) k (suc i * k + j) 0 (long c) past
+      ∙ ap (λ (n : ℕ). get_or (flat_map f cs) n 0) rest ∙ row_at cs i j (omega (arith, low)) inside
+
+-- one more row
+pub row_more : (f : List ℕ → List ℕ) (cs : List (List ℕ)) (k : ℕ) → k < length cs → flat_map f (drop k cs) ≡ f (get_or cs k []) ++ flat_map f (drop (k + 1) cs)
+row_more f cs k low = ap (flat_map f) (drop_more cs k [] low)
+
+module _ (s : Space) (centers : List (List ℕ)) where
+  pub apart_long : length (all_apart s centers) ≡ length centers * length centers
+  apart_long = rows_long (λ c. map (s.dist c) centers) (length centers) (λ c. length_map (s.dist c) centers) centers
+
+  pub apart_at : (i j : ℕ) → i < length centers → j < length centers →
+      get_or (all_apart s centers) (i * length centers + j) 0 ≡ s.dist (get_or centers i []) (get_or centers j [])
+  apart_at i j first second =
+      row_at (λ c. map (s.dist c) centers) (length centers) (λ c. length_map (s.dist c) centers) centers i j first second
+      ∙ get_or-map (s.dist (get_or centers i [])) centers j [] 0 second
+
+-- the distances of one object to centres that are so far apart
+module _ (s : Space) (object : List ℕ) (centers : List (List ℕ)) (apart row : List ℕ) (are : AreMeasurable s (object ∷ []) centers apart) (is : map (s.dist object) centers ≡ row)
+    (i j : ℕ) (first : i < length row) (second : j < length row) where
+  long : length row ≡ length centers
+  long = sym (ap length is) ∙ length_map (s.dist object) centers
+
+  -- where the distance of two centres stands
+  pub stands_inside : i * length centers + j < length apart
+  stands_inside =
+      subst (λ (n : ℕ). i * length centers + j < n) (sym (ap length are.apart_is ∙ apart_long s centers))
+      (mul-add-lt i (length centers) j (length centers) (subst (λ (n : ℕ). i < n) long first) (subst (λ (n : ℕ). j < n) long second))
+
+  -- two centres are no farther apart than by way of the object
+  pub by_way_of : IsSpace s → get_or apart (i * length centers + j) 0 ≤ get_or row i 0 + get_or row j 0
+  by_way_of axioms =
+      let low : i < length centers = subst (λ (n : ℕ). i < n) long first in
+      let low2 : j < length centers = subst (λ (n : ℕ). j < n) long second in
+      let gap : get_or apart (i * length centers + j) 0 ≡ s.dist (get_or centers i []) (get_or centers j []) =
+      ap (λ (l : List ℕ). get_or l (i * length centers + j) 0) are.apart_is ∙ apart_at s centers i j low low2 in
+      let here : get_or row i 0 ≡ s.dist object (get_or centers i []) = ap (λ (l : List ℕ). get_or l i 0) (sym is) ∙ get_or-map (s.dist object) centers i [] 0 low in
+      let there : get_or row j 0 ≡ s.dist object (get_or centers j []) = ap (λ (l : List ℕ). get_or l j 0) (sym is) ∙ get_or-map (s.dist object) centers j [] 0 low2 in
+      let fits = are.objects_fit 0 [] (omega arith) in
+      let turned = axioms.symmetric (get_or centers i []) object (are.centers_fit i [] low) fits in
+      let triangle = axioms.triangle (get_or centers i []) object (get_or centers j []) (are.centers_fit i [] low) fits (are.centers_fit j [] low2) in
+      omega (arith, gap, here, there, turned, triangle)
+
+-- the points of places fit where all do
+points_fit : (s : Space) (rows : List (List ℕ)) (set : List ℕ) → All (λ p. IsTrue (s.fits p)) rows → All (λ k. k < length rows) set → All (λ p. IsTrue (s.fits p)) (points_of rows set)
+points_fit s rows set fit places i d low =
+    let inside : i < length set = subst (λ (n : ℕ). i < n) (length_map (λ k. get_or rows k []) set) low in
+    subst (λ (p : List ℕ). IsTrue (s.fits p)) (sym (get_or-map (λ k. get_or rows k []) set i 0 d inside)) (fit (get_or set i 0) [] (places i 0 inside))
+
+-- the points of seeds do, which are places of a set
+pub centers_fit : (s : Space) (rows : List (List ℕ)) (set seeds : List ℕ) → All (λ p. IsTrue (s.fits p)) rows → All (λ k. k < length rows) set → All (λ k. k < length set) seeds →
+    All (λ p. IsTrue (s.fits p)) (points_of (points_of rows set) seeds)
+centers_fit s rows set seeds fit places inside =
+    points_fit s (points_of rows set) seeds (points_fit s rows set fit places)
+    (λ i d low. subst (λ (n : ℕ). get_or seeds i d < n) (sym (length_map (λ k. get_or rows k []) set)) (inside i d low))
