@@ -1,13 +1,15 @@
-// Numbers, read from the front of bytes and written behind others.
-ghost use Rattle.std.specs.Prelude.{◌≡◌, ◌++◌, ◌∷◌, [], OnOk, OnErr};
+//! The fields of logs, read from the front of bytes and written behind others. Reading is refused as `Cut` where the bytes end
+//! too early.
+
+ghost use Rattle.std.specs.Prelude.{◌≡◌, ◌++◌, ◌∷◌, [], length, IfOk, OnOk, OnErr};
 ghost use Rattle.byteorder.specs.Endian.{big_bytes};
-ghost use Rattle.prune_log.specs.Reading.{Gives, byte_at, number_at};
+ghost use Rattle.prune_log.specs.Reading.{Gives, byte_at, number_at, front_at};
 
 use crate::fault::LogFault;
 use byteorder::{BigEndian, ByteOrder};
 use metric_laws::Memory;
 
-// The byte in front, and the bytes behind it.
+/// The byte in front, and the bytes behind it.
 pub fn byte_at(bytes: &[u8]) -> Result<(u8, &[u8]), LogFault>
     ensures { Gives (λ x. (x.0, x.1.now)) result (byte_at bytes.now) }
 {
@@ -17,7 +19,7 @@ pub fn byte_at(bytes: &[u8]) -> Result<(u8, &[u8]), LogFault>
     }
 }
 
-// The number in the first four bytes, and the bytes behind it.
+/// The number in the first four bytes, and the bytes behind it.
 pub fn u32_at(bytes: &[u8]) -> Result<(u32, &[u8]), LogFault>
     ensures { Gives (λ x. (x.0, x.1.now)) result (number_at 4 bytes.now) }
 {
@@ -27,7 +29,7 @@ pub fn u32_at(bytes: &[u8]) -> Result<(u32, &[u8]), LogFault>
     Ok((BigEndian::read_u32(bytes), &bytes[4..]))
 }
 
-// The number in the first eight bytes, and the bytes behind it.
+/// The number in the first eight bytes, and the bytes behind it.
 pub fn u64_at(bytes: &[u8]) -> Result<(u64, &[u8]), LogFault>
     ensures { Gives (λ x. (x.0, x.1.now)) result (number_at 8 bytes.now) }
 {
@@ -37,7 +39,18 @@ pub fn u64_at(bytes: &[u8]) -> Result<(u64, &[u8]), LogFault>
     Ok((BigEndian::read_u64(bytes), &bytes[8..]))
 }
 
-// Writes a number of four bytes at the end.
+/// So many bytes, and the bytes behind them.
+pub fn front_at(bytes: &[u8], count: u64) -> Result<(&[u8], &[u8]), LogFault>
+    ensures gives { Gives (λ x. (x.0.now, x.1.now)) result (front_at count bytes.now) }
+    ensures size { IfOk result (λ x. length x.0.now ≡ count) }
+{
+    if count > bytes.len() as u64 {
+        return Err(LogFault::Cut);
+    }
+    Ok(bytes.split_at(count as usize))
+}
+
+/// Writes a number of four bytes at the end.
 pub fn put_u32(out: &mut Vec<u8>, n: u32) -> Result<(), Memory>
     ensures { OnOk result (out.new.items ≡ out.old.items ++ big_bytes 4 n) }
 {
@@ -46,7 +59,7 @@ pub fn put_u32(out: &mut Vec<u8>, n: u32) -> Result<(), Memory>
     out.extend_from_slice(&bytes)
 }
 
-// Writes a number of eight bytes at the end.
+/// Writes a number of eight bytes at the end.
 pub fn put_u64(out: &mut Vec<u8>, n: u64) -> Result<(), Memory>
     ensures ok { OnOk result (out.new.items ≡ out.old.items ++ big_bytes 8 n) }
     ensures err { OnErr result (out.new.items ≡ out.old.items) }

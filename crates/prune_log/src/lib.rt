@@ -2,7 +2,7 @@
 #![tactic(auto)]
 
 mod fault;
-mod fields;
+pub mod fields;
 mod frames;
 mod join_log;
 pub mod laws;

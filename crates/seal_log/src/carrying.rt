@@ -10,12 +10,12 @@ ghost use Rattle.seal_log.specs.Paths.{path_in};
 ghost use Rattle.seal_log.specs.Spelling.{opening_bytes, digest_bytes, page_bytes};
 ghost use Rattle.seal_log.specs.Carrying.{AreNeeded, Carries, page_with_path, pages_bytes};
 
-use crate::fields::put_u32;
 use crate::parts::{MAGIC, VERSION};
 use crate::{Memory, SealFault, Tree};
 use disk_model::Disk;
 use log_model::Log;
 use page_store::read_page;
+use prune_log::fields::put_u32;
 use prune_log::{encode_log, frame};
 use std::alloc::Global;
 

@@ -6,7 +6,6 @@ mod carried;
 mod carrying;
 mod digests;
 mod faults;
-mod fields;
 pub mod laws;
 mod opening;
 mod pages;

@@ -4,9 +4,9 @@ ghost use Rattle.prune_log.specs.Reading.{Gives, front_at, many, always};
 ghost use Rattle.seal_log.specs.Spelling.{is_behind, may_follow};
 ghost use Rattle.seal_log.specs.Reading.{opening_at, path_at, place_at, page_at, pages_at, count_at, parts_at, carried_at};
 
-use crate::fields::{byte_at, front_at, u32_at, u64_at};
 use metric_laws::Listed;
 use prune_log::LogFault;
+use prune_log::fields::{byte_at, front_at, u32_at, u64_at};
 use std::alloc::Global;
 
 /// The letters `MTPF`, the first of them highest.
