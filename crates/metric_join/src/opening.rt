@@ -64,8 +64,9 @@ fn measured_mark<R: Ruler>(ruler: &mut R, probe: JoinProbe, point: &[u32], radiu
 }
 
 impl Opening {
-    // An opening of no entries yet, with room for so many marks.
-    fn new(alloc: Global, entries: usize) -> Result<Self, Memory>
+    // An opening of no entries yet, with room for so many marks. Its pairs take the memory of this list, which has none yet.
+    fn new(alloc: Global, entries: usize, needs: Vec<JoinNeed>) -> Result<Self, Memory>
+        requires { needs.items ≡ [] }
         ensures marks { IfOk result (λ opening. opening.marks.items ≡ []) }
         ensures hits { IfOk result (λ opening. opening.hits.items ≡ []) }
         ensures needs { IfOk result (λ opening. opening.needs.items ≡ []) }
@@ -73,7 +74,7 @@ impl Opening {
         Ok(Opening {
             marks: Vec::with_capacity(alloc, entries)?,
             hits: Vec::new(alloc),
-            needs: Vec::new(alloc),
+            needs,
         })
     }
 
@@ -257,8 +258,15 @@ fn mark_inner<R: Ruler>(
     Ok(())
 }
 
-/// Opens the node of a pair's item of greater rank: its least marks, and the pairs that they leave.
-pub fn open_node<R: Ruler>(ruler: &mut R, probe: JoinProbe, node: &Node) -> Result<Opening, Memory>
+/// Opens the node of a pair's item of greater rank: its least marks, and the pairs that they leave, which take the memory of
+/// this list without pairs.
+pub fn open_node<R: Ruler>(
+    ruler: &mut R,
+    probe: JoinProbe,
+    node: &Node,
+    needs: Vec<JoinNeed>,
+) -> Result<Opening, Memory>
+    requires { needs.items ≡ [] }
     ensures metric { R.metric ruler.new ≡ R.metric ruler.old }
     ensures counted { IfOk result (λ opening. CountsUpTo (R.used ruler.old) (R.used ruler.new) (measured_by opening.marks.items)) }
     ensures marks { IfOk result (λ opening.
@@ -271,7 +279,7 @@ pub fn open_node<R: Ruler>(ruler: &mut R, probe: JoinProbe, node: &Node) -> Resu
         opening.needs.items ≡ needs_among
         (pairs_for (search_within (R.M.space (R.metric ruler.old)) probe.entry.rho) probe.entry.need.now (entries_of node.now))) }
 {
-    let mut opening = Opening::new(probe.alloc, entry_count(node))?;
+    let mut opening = Opening::new(probe.alloc, entry_count(node), needs)?;
     match node {
         Node::Leaf(entries) => mark_leaf(ruler, probe, entries.as_slice(), &mut opening)?,
         Node::Inner { level, entries } => {

@@ -16,6 +16,7 @@ use metric_laws::{BOUND, Listed, Ruler};
 use page_store::{PageFault, Pages, SharedNode};
 use scan_model::Pair;
 use std::alloc::Global;
+use std::mem;
 use tree_shape::Live;
 
 /// A pair that waits to be opened.
@@ -29,6 +30,27 @@ pub struct Waiting {
     pub right_room: u32,
 }
 
+/// A list that has no pairs any more, whose memory the next opening takes.
+#[derive(Drop)]
+pub struct Spare {
+    list: Vec<JoinNeed>,
+    ghost empty: { list.items ≡ [] },
+}
+
+impl Spare {
+    fn of(list: Vec<JoinNeed>) -> Self
+        requires { list.items ≡ [] }
+    {
+        Spare { list }
+    }
+
+    fn into_list(self) -> Vec<JoinNeed>
+        ensures { result.items ≡ [] }
+    {
+        self.list
+    }
+}
+
 /// A walk from the pair of roots, half way.
 #[derive(Drop)]
 pub struct JoinWalk {
@@ -40,6 +62,8 @@ pub struct JoinWalk {
     pub hits: Vec<Pair>,
     /// The pairs that wait, the next one last.
     pub stack: Vec<Waiting>,
+    /// The list of the pair that was opened last.
+    pub spare: Spare,
 }
 
 impl JoinWalk {
@@ -67,6 +91,7 @@ impl JoinWalk {
             records: Vec::new(alloc),
             hits: Vec::new(alloc),
             stack,
+            spare: Spare::of(Vec::new(alloc)),
         })
     }
 
@@ -84,7 +109,8 @@ impl JoinWalk {
         })?;
         let mut hits = opening.hits;
         self.hits.append(&mut hits)?;
-        put_on_top(&mut self.stack, waiting, opening.needs)
+        self.spare = Spare::of(put_on_top(&mut self.stack, waiting, opening.needs)?);
+        Ok(())
     }
 }
 
@@ -107,19 +133,20 @@ fn follow(waiting: &Waiting, need: JoinNeed) -> Waiting
     }
 }
 
-// Puts the needs of an opened pair on the stack, so that the first of them is on top.
+// Puts the needs of an opened pair on the stack, so that the first of them is on top, and gives the list back without them.
 fn put_on_top(
     stack: &mut Vec<Waiting>,
     waiting: &Waiting,
     needs: Vec<JoinNeed>,
-) -> Result<(), Memory>
-    ensures { OnOk result (reverse stack.new.items ≡ map (following waiting.now) needs.items ++ reverse stack.old.items) }
+) -> Result<Vec<JoinNeed>, Memory>
+    ensures stack { OnOk result (reverse stack.new.items ≡ map (following waiting.now) needs.items ++ reverse stack.old.items) }
+    ensures empty { IfOk result (λ list. list.items ≡ []) }
 {
     let mut left = needs;
     while let Some(need) = left.pop() {
         stack.push(follow(waiting, need))?;
     }
-    Ok(())
+    Ok(left)
 }
 
 // The node of a page of one side, where its path has room left.
@@ -202,7 +229,8 @@ fn open_pair<P: Pages, Q: Pages, R: Ruler>(
         rho: walk.rho,
         reach: waiting.need.other().radius(),
     };
-    let opening = open_node(ruler, probe, node.as_ref())?;
+    let needs = mem::replace(&mut walk.spare, Spare::of(Vec::new(alloc))).into_list();
+    let opening = open_node(ruler, probe, node.as_ref(), needs)?;
     walk.take(&waiting, opening)?;
     Ok(())
 }
