@@ -1,33 +1,34 @@
 -- Steps of the groups' making.
-use Rattle.std.proofs.Common.{◌≡◌, ℕ, ◌+◌, ◌<◌, Bool, true, false, List, [], ◌∷◌, ◌++◌, refl, sym, ap, ◌∙◌, arith, append_assoc, ◌≢◌, ◌^◌, length, drop, get_or}
-use Rattle.std.specs.Prelude.{◌==◌, if◌then◌else◌, slice_index, map, replicate}
+use Rattle.std.proofs.Common.{◌≡◌, ℕ, suc, ◌+◌, ◌<◌, Bool, List, [], ◌∷◌, refl, ap, ◌∙◌, arith, ◌^◌, length, get_or}
+use Rattle.std.specs.Prelude.{map, replicate}
 use Rattle.std.proofs.lemmas.List.{length-map}
-use Rattle.std.proofs.lemmas.Bool.Decides.{nat_tests}
 use Rattle.tree_growth.specs.Bulk.{row_of}
-use Rattle.std.proofs.lemmas.List.{drop_more}
+use Rattle.bulk_load.specs.MemberLists.{HaveMembers, groups_with}
 use Rattle.tree_growth.specs.declared.rules.Member.{Member}
 use Rattle.tree_growth.specs.declared.rules.Group.{Group}
 use Rattle.tree_growth.specs.Groups.{members_from, entry, placed_from, filled_from, seeds_from, group_count}
 use Rattle.tree_growth.specs.Bulk.{groups_from, groups_at, Load, point_of}
 
-pub members_step : {X : Type 0} (a k : ℕ) (set : List X) (ps : List Member) (x : X) (d : Member) → k < length set → k < length ps →
-    members_from a (drop k set) (drop k ps)
-    ≡ (if (get_or ps k d).group == a then get_or set k x ∷ members_from a (drop (k + 1) set) (drop (k + 1) ps) else members_from a (drop (k + 1) set) (drop (k + 1) ps))
-members_step a k set ps x d low here = rw (drop_more set k x low) (ap (members_from a (get_or set k x ∷ drop (k + 1) set)) (drop_more ps k d here))
+-- without lists there are no groups
+pub no_lists : (set seeds : List ℕ) → groups_with set seeds [] ≡ []
+no_lists set [] = refl
+no_lists set (s ∷ seeds) = refl
 
-pub groups_step : (a : ℕ) (seeds set : List ℕ) (ps : List Member) → a < length seeds →
-    groups_from a (drop a seeds) set ps ≡ record { seed = slice_index set (get_or seeds a 0); members = members_from a set ps } ∷ groups_from (a + 1) (drop (a + 1) seeds) set ps
-groups_step a seeds set ps low = ap (λ ss. groups_from a ss set ps) (drop_more seeds a 0 low)
+-- the groups of the seeds from group a on
+groups_from_lists : (a : ℕ) (seeds set : List ℕ) (ps : List Member) (lists : List (List ℕ)) → length lists ≡ length seeds →
+    ((i : ℕ) → i < length lists → get_or lists i [] ≡ members_from (a + i) set ps) → groups_with set seeds lists ≡ groups_from a seeds set ps
+groups_from_lists a [] set ps lists same are = refl
+groups_from_lists a (s ∷ seeds) set ps [] same are = absurd (omega arith)
+groups_from_lists a (s ∷ seeds) set ps (members ∷ lists) same are =
+    let first : members ≡ members_from (a + 0) set ps = are 0 (omega arith) in
+    let here : a + 0 ≡ a = omega arith in
+    let is = ap (λ (j : ℕ). members_from j set ps) here in
+    let rest = groups_from_lists (a + 1) seeds set ps lists (omega arith) (λ i low. are (suc i) (omega arith) ∙ ap (λ (j : ℕ). members_from j set ps) (omega arith)) in
+    cc
 
-pub members_in : {X : Type 0} (a k : ℕ) (set : List X) (ps : List Member) (x : X) (d : Member) (out new : List X) → k < length set → k < length ps → (get_or ps k d).group ≡ a →
-    new ≡ out ++ get_or set k x ∷ [] → new ++ members_from a (drop (k + 1) set) (drop (k + 1) ps) ≡ out ++ members_from a (drop k set) (drop k ps)
-members_in a k set ps x d out new low here is grown =
-    rw (grown, append_assoc) (ap (λ r. out ++ r) (sym (members_step a k set ps x d low here ∙ (let same : ((get_or ps k d).group == a) ≡ true = grind (arith, nat_tests) in rw same refl))))
-
-pub members_out : {X : Type 0} (a k : ℕ) (set : List X) (ps : List Member) (x : X) (d : Member) (out : List X) → k < length set → k < length ps → (get_or ps k d).group ≢ a →
-    out ++ members_from a (drop (k + 1) set) (drop (k + 1) ps) ≡ out ++ members_from a (drop k set) (drop k ps)
-members_out a k set ps x d out low here other =
-    ap (λ r. out ++ r) (sym (members_step a k set ps x d low here ∙ (let apart : ((get_or ps k d).group == a) ≡ false = grind (arith, nat_tests) in rw apart refl)))
+-- the groups of all seeds
+pub groups_are_with : (seeds set : List ℕ) (ps : List Member) (lists : List (List ℕ)) → length lists ≡ length seeds → HaveMembers set ps lists → groups_with set seeds lists ≡ groups_from 0 seeds set ps
+groups_are_with seeds set ps lists same have = groups_from_lists 0 seeds set ps lists same (λ i low. have.each i low ∙ ap (λ (j : ℕ). members_from j set ps) (omega arith))
 
 -- what the calls give, put together
 pub groups_are : (l : Load) (is_root : Bool) (h : ℕ) (set : List ℕ) (room least g : ℕ) (seeds : List ℕ) (points : List (List ℕ)) (width : ℕ) (table : List (List ℕ)) (placed : List Member) (gs : List Group) →

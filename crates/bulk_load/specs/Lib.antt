@@ -2,6 +2,7 @@ pub mod Groupable
 pub mod Measured
 pub mod Hints
 pub mod Candidates
+pub mod MemberLists
 pub mod Sets
 pub mod Postorder
 pub mod Apart

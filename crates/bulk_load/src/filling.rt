@@ -128,7 +128,8 @@ pub fn fill_up<M: Metric>(
     requires width { distances.now.width ≤ 64 }
     requires placed { length placed.old ≡ length distances.now.table }
     requires groups { All (λ p. p.group < distances.now.width) placed.old }
-    ensures { OnOk result (placed.new ≡ filled_from (entry distances.now.table) least 0 distances.now.width placed.old) }
+    ensures is { OnOk result (placed.new ≡ filled_from (entry distances.now.table) least 0 distances.now.width placed.old) }
+    ensures small { OnOk result (All (λ p. p.group < distances.now.width) placed.new) }
 {
     let mut counted = tally(alloc, placed, distances.seeds())?;
     let counts = counted.as_mut_slice();

@@ -1,10 +1,11 @@
 //! The groups of a set.
 
-ghost use Rattle.std.specs.Prelude.{◌≡◌, ℕ, List, ◌<◌, ◌≤◌, ◌^◌, length, map, IfOk, IsTrue, All, slice_index_or, vec_len, [], replicate};
+ghost use Rattle.std.specs.Prelude.{◌≡◌, ℕ, List, ◌<◌, ◌≤◌, ◌^◌, ◌++◌, ◌∷◌, length, map, IfOk, OnOk, IsTrue, All, slice_index_or, slice_set, vec_len, [], replicate};
 ghost use Rattle.std.specs.List.Sorted.{IsStrictlyIncreasing};
 ghost use Rattle.tree_growth.specs.Bulk.{row_of, groups_from, groups_at};
-ghost use Rattle.tree_growth.specs.Groups.{members_from, entry, placed_from, filled_from};
+ghost use Rattle.tree_growth.specs.Groups.{entry, placed_from, filled_from};
 ghost use Rattle.bulk_load.specs.Groupable.{IsFill, IsSized, load_of};
+ghost use Rattle.bulk_load.specs.MemberLists.{lists_in, HaveMembers, groups_with};
 
 use crate::distances::{Distances, centers_at, mutual_distances};
 use crate::filling::fill_up;
@@ -15,22 +16,66 @@ use std::thread::Threads;
 use tree_growth::{Group, Member};
 use tree_shape::Bounds;
 
-// The members of a group.
-fn members_of(alloc: Global, group: u32, set: &[u32], placed: &[Member]) -> Result<Vec<u32>, Memory>
-    requires { length set.now ≡ length placed.now }
-    ensures { IfOk result (λ v. v.items ≡ members_from group set.now placed.now) }
+// So many lists of members, all empty.
+fn empty_lists(alloc: Global, number: usize) -> Result<Vec<Vec<u32>>, Memory>
+    ensures { IfOk result (λ v. lists_in v.items ≡ replicate number []) }
 {
-    let mut members = Vec::new(alloc);
-    for (place, member) in placed.iter().enumerate() {
-        if member.group == group {
-            members.push(set[place])?;
-        }
+    let mut lists = Vec::with_capacity(alloc, number)?;
+    for _ in 0..number {
+        lists.push(Vec::new(alloc))?;
     }
-    Ok(members)
+    Ok(lists)
+}
+
+// Puts a row at the end of the list of a group.
+fn add_member(lists: &mut Vec<Vec<u32>>, group: usize, row: u32) -> Result<(), Memory>
+    requires { group < vec_len lists.old }
+    ensures { OnOk result (lists_in lists.new.items ≡ slice_set (lists_in lists.old.items) group
+        (slice_index_or (lists_in lists.old.items) group [] ++ row ∷ [])) }
+{
+    Ok(lists[group].push(row)?)
+}
+
+// The members of each of so many groups, by one pass over the objects.
+fn member_lists(
+    alloc: Global,
+    groups: usize,
+    set: &[u32],
+    placed: &[Member],
+) -> Result<Vec<Vec<u32>>, Memory>
+    requires set { length set.now ≡ length placed.now }
+    requires low { All (λ p. p.group < groups) placed.now }
+    ensures len { IfOk result (λ v. vec_len v ≡ groups) }
+    ensures each { IfOk result (λ v. HaveMembers set.now placed.now (lists_in v.items)) }
+{
+    let mut lists = empty_lists(alloc, groups)?;
+    for (place, member) in placed.iter().enumerate() {
+        add_member(&mut lists, member.group as usize, set[place])?;
+    }
+    Ok(lists)
+}
+
+// The groups of seeds, by their places in the set, with a list of members for each.
+fn with_seeds(
+    alloc: Global,
+    seeds: &[u32],
+    set: &[u32],
+    lists: Vec<Vec<u32>>,
+) -> Result<Vec<Group>, Memory>
+    requires { All (λ k. k < length set.now) seeds.now }
+    ensures { IfOk result (λ v. v.items ≡ groups_with set.now seeds.now (lists_in lists.items)) }
+{
+    let mut groups = Vec::with_capacity(alloc, seeds.len())?;
+    for (seed, members) in seeds.iter().zip(lists) {
+        groups.push(Group {
+            seed: set[*seed as usize],
+            members: Listed::new(members),
+        })?;
+    }
+    Ok(groups)
 }
 
 // The groups, by their seeds' places in the set.
-#[tactic(auto, using(crate::proofs::Members::groups_step))]
 fn groups_of(
     alloc: Global,
     seeds: &[u32],
@@ -39,18 +84,11 @@ fn groups_of(
 ) -> Result<Vec<Group>, Memory>
     requires set { length set.now ≡ length placed.now }
     requires seeds { All (λ k. k < length set.now) seeds.now }
-    requires few { length seeds.now ≤ 64 }
+    requires low { All (λ p. p.group < length seeds.now) placed.now }
     ensures { IfOk result (λ v. v.items ≡ groups_from 0 seeds.now set.now placed.now) }
 {
-    let mut groups = Vec::new(alloc);
-    for (group, seed) in seeds.iter().enumerate() {
-        let members = members_of(alloc, group as u32, set, placed)?;
-        groups.push(Group {
-            seed: set[*seed as usize],
-            members: Listed::new(members),
-        })?;
-    }
-    Ok(groups)
+    let lists = member_lists(alloc, seeds.len(), set, placed)?;
+    with_seeds(alloc, seeds, set, lists)
 }
 
 // The group of each object, where each of the groups has `least` objects or more.
@@ -66,6 +104,7 @@ fn parted<R: Threads + Sync, M: Metric>(
     ensures is { IfOk result (λ v. v.items ≡ filled_from (entry placing.now.distances.now.table) least 0 placing.now.distances.now.width
         (placed_from (entry placing.now.distances.now.table) placing.now.room 0 placing.now.seeds.now 0
         (replicate placing.now.distances.now.width 1) (length placing.now.distances.now.table))) }
+    ensures small { IfOk result (λ v. All (λ p. p.group < placing.now.distances.now.width) v.items) }
     ensures len { IfOk result (λ v. vec_len v ≡ length placing.now.distances.now.table) }
 {
     let mut placed = place_all(rt, alloc, placing)?;

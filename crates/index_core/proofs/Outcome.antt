@@ -28,7 +28,7 @@ use Rattle.free_pages.proofs.Published.{keep_outside, guard, pins_left}
 use Rattle.index_core.specs.declared.faults.IndexFault.TheVariants.{Commit}
 use Rattle.index_core.specs.Files.{OpenFile, StandsOn, IsLawfulFile, nodes_on}
 use Rattle.index_core.specs.Index.{OpenIndex, AreSpare, IsLawfulFree}
-use Rattle.index_core.specs.Writing.{Write, added_by, answer_to, points_after, tags_after, tree_after, HasObjects, HoldsObjects, LeavesEither, IsCommitted, IsExact, IsExactFor, IsMadeBy, IsPlacedFor, IsPlacedOn, KeepsPages, HasWritten}
+use Rattle.index_core.specs.Writing.{Write, added_by, answer_to, points_after, tags_after, tree_after, HasObjects, HoldsObjects, LeavesEither, IsCommitted, IsExactFor, IsMadeBy, IsPlacedFor, IsPlacedOn, KeepsPages, HasWritten}
 use Rattle.index_core.proofs.Committed.{exchange}
 use Rattle.index_core.proofs.Settled.{can_follow}
 

@@ -6,5 +6,6 @@ pub mod Steps
 pub mod Sound
 pub mod JoinWalk
 pub mod JoinSteps
+pub mod Matches
 pub mod SoundJoin
 pub mod Laws

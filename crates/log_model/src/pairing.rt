@@ -34,7 +34,7 @@ impl Item {
     }
 
     /// The object of a leaf's entry.
-    pub fn of_object(alloc: Global, entry: &LeafEntry) -> Result<Self, Memory>
+    pub(crate) fn of_object(alloc: Global, entry: &LeafEntry) -> Result<Self, Memory>
         ensures { IfOk result (λ item. item ≡ (object_entry entry.now).item) }
     {
         Ok(Item::Object {
@@ -44,7 +44,7 @@ impl Item {
     }
 
     /// The subtree that an entry of an inner node of this level names.
-    pub fn of_subtree(alloc: Global, level: u8, entry: &InnerEntry) -> Result<Self, Memory>
+    pub(crate) fn of_subtree(alloc: Global, level: u8, entry: &InnerEntry) -> Result<Self, Memory>
         ensures { IfOk result (λ item. item ≡ (subtree_entry level entry.now).item) }
     {
         Ok(Item::Subtree {

@@ -1,18 +1,16 @@
 // The marks of one record of a join against its node.
 ghost use Rattle.std.specs.Prelude.{◌≡◌, ◌++◌, ◌<◌, ◌^◌, [], ◌∷◌, length, OnOk, IfOk, IfNone};
 ghost use Rattle.log_model.specs.declared.marks.Mark.TheVariants.{Near};
-ghost use Rattle.log_model.specs.declared.pairs.JoinNeed.{JoinNeed};
 ghost use Rattle.metric_laws.specs.Counts.{CountsUpTo};
 ghost use Rattle.log_model.specs.Counts.{entry_count, measured_by};
 ghost use Rattle.log_model.specs.Walk.{near_ones};
-ghost use Rattle.log_model.specs.JoinWalk.{allows_entry, object_entry, subtree_entry, join_hits, join_needs, other, radius_of, within_apart};
+ghost use Rattle.log_model.specs.JoinWalk.{allows_entry, object_entry, subtree_entry, join_hits, join_needs, within_apart};
 ghost use Rattle.log_model.specs.JoinSteps.{apart_from, search_within, hits_among, needs_among, paired};
 ghost use Rattle.log_verify.specs.JoinJudged.{join_wrong_in};
 ghost use Rattle.log_verify.specs.JoinSteps.{object_pair, subtree_pair};
 
-use log_model::{Item, JoinNeed, Mark, Memory, SharedItem, is_far, is_skipped};
+use log_model::{JoinProbe, Mark, Matches, Memory, is_far, is_skipped};
 use metric_laws::Ruler;
-use scan_model::Pair;
 use std::alloc::Global;
 use tree_shape::{InnerEntry, LeafEntry, Node};
 
@@ -23,29 +21,6 @@ pub struct JoinChecked {
     pub allowed: bool,
     // How far the entry marked Near is from the other item, where that has a centre.
     pub apart: Option<u64>,
-}
-
-/// What the checks of a record's marks need.
-#[derive(Clone, Copy)]
-pub struct JoinProbe<'a> {
-    /// The allocator of copied points.
-    pub alloc: Global,
-    /// The pair whose item of greater rank is opened.
-    pub need: &'a JoinNeed,
-    /// The radius that prunes.
-    pub rho: u64,
-    /// The covering radius of the other item.
-    pub reach: u64,
-    ghost reaches: { reach ≡ radius_of (other need.now) },
-}
-
-// What a record's marks name: answers, and pairs that are needed.
-#[derive(Drop)]
-pub struct Named {
-    // The answers.
-    pub hits: Vec<Pair>,
-    // The pairs that are needed, in order.
-    pub needs: Vec<JoinNeed>,
 }
 
 // Whether two objects are an answer.
@@ -147,45 +122,10 @@ fn check_subtree<R: Ruler>(
     }
 }
 
-// Adds a pair: an answer where both items are objects, else a pair that is needed.
-fn push_pair(named: &mut Named, pair: JoinNeed) -> Result<(), Memory>
-    ensures hits { OnOk result (named.new.hits.items ≡ named.old.hits.items ++ hits_among (pair ∷ [])) }
-    ensures needs { OnOk result (named.new.needs.items ≡ named.old.needs.items ++ needs_among (pair ∷ [])) }
-{
-    if pair.left.as_ref().is_object() && pair.right.as_ref().is_object() {
-        named.hits.push(Pair {
-            left: pair.left.as_ref().id(),
-            right: pair.right.as_ref().id(),
-            dist: pair.apart.unwrap_or(0),
-        })?;
-    } else {
-        named.needs.push(pair)?;
-    }
-    Ok(())
-}
-
-// Adds the pair of an object with the other item.
-// It stands apart from the loops over entries, as `add_subtree` does: few entries have a pair.
-#[inline(never)]
-fn add_object(
-    probe: JoinProbe,
-    named: &mut Named,
-    entry: &LeafEntry,
-    apart: Option<u64>,
-) -> Result<(), Memory>
-    ensures hits { OnOk result (named.new.hits.items ≡ named.old.hits.items ++ hits_among
-        (paired probe.entry.need.now (object_entry entry.now).item apart ∷ [])) }
-    ensures needs { OnOk result (named.new.needs.items ≡ named.old.needs.items ++ needs_among
-        (paired probe.entry.need.now (object_entry entry.now).item apart ∷ [])) }
-{
-    let item = SharedItem::new(probe.alloc, Item::of_object(probe.alloc, entry)?)?;
-    push_pair(named, probe.need.with(item, apart)?)
-}
-
 // Adds the pair of an object that is marked Near.
 fn name_object(
     probe: JoinProbe,
-    named: &mut Named,
+    named: &mut Matches,
     entry: &LeafEntry,
     mark: Mark,
     apart: Option<u64>,
@@ -196,33 +136,15 @@ fn name_object(
         (near_ones (paired probe.entry.need.now (object_entry entry.now).item apart ∷ []) (mark ∷ []))) }
 {
     match mark {
-        Mark::Near => add_object(probe, named, entry, apart),
+        Mark::Near => named.add_object(probe, entry, apart),
         Mark::Skip | Mark::Far => Ok(()),
     }
-}
-
-// Adds the pair of a subtree at a level with the other item.
-#[inline(never)]
-fn add_subtree(
-    probe: JoinProbe,
-    named: &mut Named,
-    level: u8,
-    entry: &InnerEntry,
-    apart: Option<u64>,
-) -> Result<(), Memory>
-    ensures hits { OnOk result (named.new.hits.items ≡ named.old.hits.items ++ hits_among
-        (paired probe.entry.need.now (subtree_entry level entry.now).item apart ∷ [])) }
-    ensures needs { OnOk result (named.new.needs.items ≡ named.old.needs.items ++ needs_among
-        (paired probe.entry.need.now (subtree_entry level entry.now).item apart ∷ [])) }
-{
-    let item = SharedItem::new(probe.alloc, Item::of_subtree(probe.alloc, level, entry)?)?;
-    push_pair(named, probe.need.with(item, apart)?)
 }
 
 // Adds the pair of a subtree at a level that is marked Near.
 fn name_subtree(
     probe: JoinProbe,
-    named: &mut Named,
+    named: &mut Matches,
     level: u8,
     entry: &InnerEntry,
     mark: Mark,
@@ -234,7 +156,7 @@ fn name_subtree(
         (near_ones (paired probe.entry.need.now (subtree_entry level entry.now).item apart ∷ []) (mark ∷ []))) }
 {
     match mark {
-        Mark::Near => add_subtree(probe, named, level, entry, apart),
+        Mark::Near => named.add_subtree(probe, level, entry, apart),
         Mark::Skip | Mark::Far => Ok(()),
     }
 }
@@ -245,7 +167,7 @@ fn check_leaf<R: Ruler>(
     probe: JoinProbe,
     entries: &[LeafEntry],
     marks: &[Mark],
-    named: &mut Named,
+    named: &mut Matches,
 ) -> Result<Option<u32>, Memory>
     requires long { length marks.now ≡ length entries.now }
     requires few { length entries.now < 2 ^ 32 }
@@ -279,7 +201,7 @@ fn check_inner<R: Ruler>(
     level: u8,
     entries: &[InnerEntry],
     marks: &[Mark],
-    named: &mut Named,
+    named: &mut Matches,
 ) -> Result<Option<u32>, Memory>
     requires long { length marks.now ≡ length entries.now }
     requires few { length entries.now < 2 ^ 32 }
@@ -315,7 +237,7 @@ pub fn check_node<R: Ruler>(
     probe: JoinProbe,
     node: &Node,
     marks: &[Mark],
-    named: &mut Named,
+    named: &mut Matches,
 ) -> Result<Option<u32>, Memory>
     requires long { length marks.now ≡ entry_count node.now }
     requires few { entry_count node.now < 2 ^ 32 }

@@ -11,9 +11,9 @@ ghost use Rattle.log_verify.specs.JoinJudged.{is_of, read_of, join_walked};
 ghost use Rattle.log_verify.specs.Causes.{IsNodeFault, verdict_of, IsJoinPageVerdict, HasJoinCause, AskBothUpTo};
 
 use crate::JoinVerdict;
-use crate::join_checking::{JoinProbe, Named, check_node};
+use crate::join_checking::check_node;
 use crate::walking::put_on_top;
-use log_model::{JoinNeed, JoinRecord, Memory, entry_count};
+use log_model::{JoinNeed, JoinProbe, JoinRecord, Matches, Memory, entry_count};
 use metric_laws::Ruler;
 use page_store::{PageFault, Pages, SharedNode};
 use scan_model::Pair;
@@ -28,7 +28,7 @@ pub struct JoinWalk {
     /// The number of records that were taken.
     pub taken: u64,
     /// The answers that these records name, and room for the pairs that one node needs.
-    pub named: Named,
+    pub named: Matches,
     /// The pairs that are needed, the next one last.
     pub stack: Vec<JoinNeed>,
 }
@@ -47,7 +47,7 @@ impl JoinWalk {
         Ok(JoinWalk {
             rho,
             taken: 0,
-            named: Named {
+            named: Matches {
                 hits: Vec::new(alloc),
                 needs: Vec::new(alloc),
             },

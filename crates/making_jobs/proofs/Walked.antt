@@ -17,7 +17,7 @@ use Rattle.tree_shape.proofs.Published.{few}
 use Rattle.page_store.specs.declared.pages.PageFault.{PageFault}
 use Rattle.page_store.specs.declared.pages.PageFault.TheVariants.{Disk, Bad, Outside, Memory, Repeats, Level}
 use Rattle.page_store.specs.Reading.{Read, nodes_of, node_or_none}
-use Rattle.page_store.specs.Shelf.{Shelf, HoldsSame, IsNodeOf, HasPageCause, IsPassing}
+use Rattle.page_store.specs.Shelf.{Shelf, HoldsSame, HasPageCause, IsPassing}
 use Rattle.log_model.proofs.Published.{same_node}
 use Rattle.making_jobs.specs.Collecting.{IsOpened}
 use Rattle.page_store.proofs.Published.{holds_both, told_then}

@@ -1,7 +1,5 @@
 -- A new index, and what stands in it once it is filled.
 use Rattle.std.specs.Prelude.{◌≡◌, ◌≢◌, ◌⊎◌, ℕ, ◌<◌, List, [], length, codes, IsTrue}
-use Rattle.metric_laws.specs.Space.{Space}
-use Rattle.metric_mix.specs.MixSpaces.{mix_space}
 use Rattle.metric_mix.specs.declared.mix_space.MixSpace.{MixSpace}
 use Rattle.outside_io.specs.Causes.{Rose}
 use Rattle.outside_io.specs.Sinks.{SinkState, Tells}

@@ -51,11 +51,11 @@ module _ (j : JoinSearch) (n : JoinNeed) (e : Entry) (point : List ℕ) (centre 
   is_least = least ∙ sym (least_same j n e point centre)
 
   -- an entry that is ruled out leaves no pair
-  pub takes_none : mark ≢ Near → new.hits ≡ old.hits → new.needs ≡ old.needs → TakesEntries j n (e ∷ []) old new
+  pub takes_none : mark ≢ Near → new.matches.hits ≡ old.matches.hits → new.matches.needs ≡ old.matches.needs → TakesEntries j n (e ∷ []) old new
   takes_none far hits needs = record {
     marks = marked ∙ ap (λ (m : Mark). old.marks.items ++ m ∷ []) is_least;
-    hits = rw (← is_least, none mark far) (ap (λ v. v.items) hits ∙ nothing old.hits.items);
-    needs = rw (← is_least, none mark far) (ap (λ v. v.items) needs ∙ nothing old.needs.items);
+    hits = rw (← is_least, none mark far) (ap (λ v. v.items) hits ∙ nothing old.matches.hits.items);
+    needs = rw (← is_least, none mark far) (ap (λ v. v.items) needs ∙ nothing old.matches.needs.items);
   }
     where
       none : (m : Mark) → m ≢ Near → near_ones (e ∷ []) (m ∷ []) ≡ []
@@ -69,13 +69,13 @@ module _ (j : JoinSearch) (n : JoinNeed) (e : Entry) (point : List ℕ) (centre 
 
   -- an entry that is marked Near leaves its pair
   pub takes_pair : mark ≡ Near → (pair : JoinNeed) (apart : Option ℕ) → apart ≡ apart_from j.space n point → pair ≡ paired n e.item apart →
-      new.hits.items ≡ old.hits.items ++ hits_among (pair ∷ []) → new.needs.items ≡ old.needs.items ++ needs_among (pair ∷ []) → TakesEntries j n (e ∷ []) old new
+      new.matches.hits.items ≡ old.matches.hits.items ++ hits_among (pair ∷ []) → new.matches.needs.items ≡ old.matches.needs.items ++ needs_among (pair ∷ []) → TakesEntries j n (e ∷ []) old new
   takes_pair near pair apart far is hits needs =
       let same : pair ≡ with_entry j.space n e = is ∙ ap (paired n e.item) (far ∙ sym (apart_same j.space n e point centre)) ∙ paired_same j.space n e in
       record {
         marks = marked ∙ ap (λ (m : Mark). old.marks.items ++ m ∷ []) is_least;
-        hits = rw (← is_least, near) (hits ∙ ap (λ (p : JoinNeed). old.hits.items ++ hits_among (p ∷ [])) same);
-        needs = rw (← is_least, near) (needs ∙ ap (λ (p : JoinNeed). old.needs.items ++ needs_among (p ∷ [])) same);
+        hits = rw (← is_least, near) (hits ∙ ap (λ (p : JoinNeed). old.matches.hits.items ++ hits_among (p ∷ [])) same);
+        needs = rw (← is_least, near) (needs ∙ ap (λ (p : JoinNeed). old.matches.needs.items ++ needs_among (p ∷ [])) same);
       }
 
 -- entries one after the other
@@ -118,7 +118,7 @@ takes_next j h n entry es i e start old new same low is one so_far last rest =
 
 -- nothing is left to take
 pub takes_nothing : (j : JoinSearch) (n : JoinNeed) (a : Opening) → TakesEntries j n [] a a
-takes_nothing j n a = record { marks = nothing a.marks.items; hits = nothing a.hits.items; needs = nothing a.needs.items }
+takes_nothing j n a = record { marks = nothing a.marks.items; hits = nothing a.matches.hits.items; needs = nothing a.matches.needs.items }
   where
     nothing : {X : Type 0} (l : List X) → l ≡ l ++ []
     nothing [] = refl

@@ -44,16 +44,11 @@ marks_for j n es = map (least_for_entry j n) es
 abbrev pub pairs_for : JoinSearch → JoinNeed → List Entry → List JoinNeed
 pairs_for j n es = map (with_entry j.space n) (near_ones es (marks_for j n es))
 
--- a pair was added: to the answers, or to the pairs that are still needed
-pub record AddsPair (pair : JoinNeed) (old new : Opening) : Type 0 where
-  pub hits : new.hits.items ≡ old.hits.items ++ hits_among (pair ∷ [])
-  pub needs : new.needs.items ≡ old.needs.items ++ needs_among (pair ∷ [])
-
 -- these entries were marked, and the pairs that they leave were added
 pub record TakesEntries (j : JoinSearch) (n : JoinNeed) (es : List Entry) (old new : Opening) : Type 0 where
   pub marks : new.marks.items ≡ old.marks.items ++ marks_for j n es
-  pub hits : new.hits.items ≡ old.hits.items ++ hits_among (pairs_for j n es)
-  pub needs : new.needs.items ≡ old.needs.items ++ needs_among (pairs_for j n es)
+  pub hits : new.matches.hits.items ≡ old.matches.hits.items ++ hits_among (pairs_for j n es)
+  pub needs : new.matches.needs.items ≡ old.matches.needs.items ++ needs_among (pairs_for j n es)
 
 -- the pairs that wait, and how much there is still to walk
 abbrev pub needs_in : List Waiting → List JoinNeed

@@ -4,12 +4,11 @@ ghost use Rattle.metric_laws.specs.Counts.{CountsUpTo};
 ghost use Rattle.log_model.specs.Counts.{measured_by};
 ghost use Rattle.log_model.specs.declared.marks.Mark.TheVariants.{Near};
 ghost use Rattle.log_model.specs.JoinWalk.{object_entry, subtree_entry, entries_of, far_stored, other, radius_of};
-ghost use Rattle.log_model.specs.JoinSteps.{search_within, apart_from, paired, hits_among, needs_among};
-ghost use Rattle.metric_join.specs.Steps.{measured_at, marks_for, pairs_for, AddsPair, TakesEntries, CountsMarks};
+ghost use Rattle.log_model.specs.JoinSteps.{search_within, apart_from, hits_among, needs_among};
+ghost use Rattle.metric_join.specs.Steps.{measured_at, marks_for, pairs_for, TakesEntries, CountsMarks};
 
-use log_model::{Item, JoinNeed, Mark, Memory, SharedItem, entry_count, is_far, is_skipped};
+use log_model::{JoinNeed, JoinProbe, Mark, Matches, Memory, entry_count, is_far, is_skipped};
 use metric_laws::Ruler;
-use scan_model::Pair;
 use std::alloc::Global;
 use tree_shape::{InnerEntry, LeafEntry, Node};
 
@@ -18,24 +17,8 @@ use tree_shape::{InnerEntry, LeafEntry, Node};
 pub struct Opening {
     /// One mark for each entry of the node.
     pub marks: Vec<Mark>,
-    /// The pairs of two objects that are marked Near.
-    pub hits: Vec<Pair>,
-    /// The other pairs that are marked Near, in the node's order.
-    pub needs: Vec<JoinNeed>,
-}
-
-/// What the tests of an entry need.
-#[derive(Clone, Copy)]
-pub struct JoinProbe<'a> {
-    /// The allocator of copied points.
-    pub alloc: Global,
-    /// The pair whose item of greater rank is opened.
-    pub need: &'a JoinNeed,
-    /// The radius that prunes.
-    pub rho: u64,
-    /// The covering radius of the other item.
-    pub reach: u64,
-    ghost reaches: { reach ≡ radius_of (other need.now) },
+    /// The pairs of the entries that are marked Near, in the node's order.
+    pub matches: Matches,
 }
 
 // What was found of an entry that is not skipped.
@@ -68,63 +51,17 @@ impl Opening {
     fn new(alloc: Global, entries: usize, needs: Vec<JoinNeed>) -> Result<Self, Memory>
         requires { needs.items ≡ [] }
         ensures marks { IfOk result (λ opening. opening.marks.items ≡ []) }
-        ensures hits { IfOk result (λ opening. opening.hits.items ≡ []) }
-        ensures needs { IfOk result (λ opening. opening.needs.items ≡ []) }
+        ensures hits { IfOk result (λ opening. opening.matches.hits.items ≡ []) }
+        ensures needs { IfOk result (λ opening. opening.matches.needs.items ≡ []) }
     {
         Ok(Opening {
             marks: Vec::with_capacity(alloc, entries)?,
-            hits: Vec::new(alloc),
-            needs,
+            matches: Matches {
+                hits: Vec::new(alloc),
+                needs,
+            },
         })
     }
-
-    // Adds a pair: an answer where both items are objects, else a pair that is needed.
-    fn push_pair(&mut self, pair: JoinNeed) -> Result<(), Memory>
-        ensures marks { self.new.marks.items ≡ self.old.marks.items }
-        ensures pair { OnOk result (AddsPair pair self.old self.new) }
-    {
-        if pair.left.as_ref().is_object() && pair.right.as_ref().is_object() {
-            self.hits.push(Pair {
-                left: pair.left.as_ref().id(),
-                right: pair.right.as_ref().id(),
-                dist: pair.apart.unwrap_or(0),
-            })?;
-        } else {
-            self.needs.push(pair)?;
-        }
-        Ok(())
-    }
-}
-
-// Adds the pair of an object with the other item.
-#[inline(never)]
-fn add_object(
-    probe: JoinProbe,
-    entry: &LeafEntry,
-    apart: Option<u64>,
-    opening: &mut Opening,
-) -> Result<(), Memory>
-    ensures marks { opening.new.marks.items ≡ opening.old.marks.items }
-    ensures pair { OnOk result (AddsPair (paired probe.entry.need.now (object_entry entry.now).item apart) opening.old opening.new) }
-{
-    let item = SharedItem::new(probe.alloc, Item::of_object(probe.alloc, entry)?)?;
-    opening.push_pair(probe.need.with(item, apart)?)
-}
-
-// Adds the pair of a subtree that an inner node of this level names with the other item.
-#[inline(never)]
-fn add_subtree(
-    probe: JoinProbe,
-    level: u8,
-    entry: &InnerEntry,
-    apart: Option<u64>,
-    opening: &mut Opening,
-) -> Result<(), Memory>
-    ensures marks { opening.new.marks.items ≡ opening.old.marks.items }
-    ensures pair { OnOk result (AddsPair (paired probe.entry.need.now (subtree_entry level entry.now).item apart) opening.old opening.new) }
-{
-    let item = SharedItem::new(probe.alloc, Item::of_subtree(probe.alloc, level, entry)?)?;
-    opening.push_pair(probe.need.with(item, apart)?)
 }
 
 // Marks an object that is not skipped, and adds its pair where it is marked Near.
@@ -144,7 +81,7 @@ fn measure_object<R: Ruler>(
     let marked = measured_mark(ruler, probe, entry.point.as_slice(), 0);
     opening.marks.push(marked.mark)?;
     if let Mark::Near = marked.mark {
-        add_object(probe, entry, marked.apart, opening)?;
+        opening.matches.add_object(probe, entry, marked.apart)?;
     }
     Ok(())
 }
@@ -189,7 +126,9 @@ fn measure_subtree<R: Ruler>(
     let marked = measured_mark(ruler, probe, entry.point.as_slice(), entry.radius);
     opening.marks.push(marked.mark)?;
     if let Mark::Near = marked.mark {
-        add_subtree(probe, level, entry, marked.apart, opening)?;
+        opening
+            .matches
+            .add_subtree(probe, level, entry, marked.apart)?;
     }
     Ok(())
 }
@@ -273,10 +212,10 @@ pub fn open_node<R: Ruler>(
         opening.marks.items ≡ marks_for (search_within (R.M.space (R.metric ruler.old)) probe.entry.rho) probe.entry.need.now
         (entries_of node.now)) }
     ensures hits { IfOk result (λ opening.
-        opening.hits.items ≡ hits_among
+        opening.matches.hits.items ≡ hits_among
         (pairs_for (search_within (R.M.space (R.metric ruler.old)) probe.entry.rho) probe.entry.need.now (entries_of node.now))) }
     ensures needs { IfOk result (λ opening.
-        opening.needs.items ≡ needs_among
+        opening.matches.needs.items ≡ needs_among
         (pairs_for (search_within (R.M.space (R.metric ruler.old)) probe.entry.rho) probe.entry.need.now (entries_of node.now))) }
 {
     let mut opening = Opening::new(probe.alloc, entry_count(node), needs)?;

@@ -10,8 +10,8 @@ ghost use Rattle.metric_join.specs.Steps.{following, record_for, weight, weight_
 
 use crate::JoinFault;
 use crate::faults::fault_of;
-use crate::opening::{JoinProbe, Opening, open_node};
-use log_model::{JoinNeed, JoinRecord, Memory};
+use crate::opening::{Opening, open_node};
+use log_model::{JoinNeed, JoinProbe, JoinRecord, Memory};
 use metric_laws::{BOUND, Listed, Ruler};
 use page_store::{PageFault, Pages, SharedNode};
 use scan_model::Pair;
@@ -99,17 +99,17 @@ impl JoinWalk {
     fn take(&mut self, waiting: &Waiting, opening: Opening) -> Result<(), Memory>
         ensures rho { self.new.rho ≡ self.old.rho }
         ensures records { OnOk result (self.new.records.items ≡ self.old.records.items ++ record_for waiting.now opening.marks.items ∷ []) }
-        ensures hits { OnOk result (self.new.hits.items ≡ self.old.hits.items ++ opening.hits.items) }
-        ensures stack { OnOk result (reverse self.new.stack.items ≡ map (following waiting.now) opening.needs.items ++ reverse self.old.stack.items) }
+        ensures hits { OnOk result (self.new.hits.items ≡ self.old.hits.items ++ opening.matches.hits.items) }
+        ensures stack { OnOk result (reverse self.new.stack.items ≡ map (following waiting.now) opening.matches.needs.items ++ reverse self.old.stack.items) }
     {
         self.records.push(JoinRecord {
             right: waiting.need.opens_right(),
             page: waiting.need.opened().page(),
             marks: Listed::new(opening.marks),
         })?;
-        let mut hits = opening.hits;
-        self.hits.append(&mut hits)?;
-        self.spare = Spare::of(put_on_top(&mut self.stack, waiting, opening.needs)?);
+        let mut matches = opening.matches;
+        self.hits.append(&mut matches.hits)?;
+        self.spare = Spare::of(put_on_top(&mut self.stack, waiting, matches.needs)?);
         Ok(())
     }
 }

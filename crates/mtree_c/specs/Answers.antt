@@ -1,8 +1,6 @@
 -- What a query is answered on the bytes of a file.
 use Rattle.std.specs.Prelude.{◌≡◌, ◌≢◌, ◌⊎◌, ◌<◌, ℕ, List, [], ◌∷◌, length, false, Some, Result, Ok, Err}
 use Rattle.std.specs.declared.alloc.AllocError.{AllocError}
-use Rattle.metric_laws.specs.Space.{Space}
-use Rattle.metric_mix.specs.MixSpaces.{mix_space}
 use Rattle.scan_model.specs.declared.hit.Hit.{Hit}
 use Rattle.tree_shape.specs.declared.live.Live.{Live}
 use Rattle.node_page.specs.declared.head.Head.{Head}

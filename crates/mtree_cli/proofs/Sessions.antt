@@ -34,7 +34,7 @@ use Rattle.rows_text.specs.Meaning.{State}
 use Rattle.rows_text.specs.Script.{script}
 use Rattle.session_run.specs.declared.stop.Stop.{Stop}
 use Rattle.session_run.specs.declared.stop.Stop.TheVariants as stop
-use Rattle.session_run.specs.Session.{Grew, HasRun, HasStopCause, HoldsState, IsAsking, IsDamage, IsDamageIn, StandsBy, no_cursors, setting_of, state_on}
+use Rattle.session_run.specs.Session.{Grew, HasRun, HasStopCause, HoldsState, IsAsking, IsDamageIn, StandsBy, no_cursors, setting_of, state_on}
 use Rattle.answer_texts.specs.Answered.{commands_of, framed, logs_of, texts_of}
 use Rattle.answer_texts.specs.Asked.{Held, held_in}
 use Rattle.answer_texts.specs.Ending.{IsTold}

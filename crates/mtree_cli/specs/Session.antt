@@ -5,8 +5,6 @@ use Rattle.std.specs.Io.KnownBytes.{Appends}
 use Rattle.outside_io.specs.Causes.{Rose}
 use Rattle.outside_io.specs.Sinks.{SinkState, Tells}
 use Rattle.disk_model.specs.Disk.{DiskState, EachImage, EachImageOnce, LeavesOnly, MayLeave}
-use Rattle.metric_laws.specs.Space.{Space}
-use Rattle.metric_mix.specs.MixSpaces.{mix_space}
 use Rattle.node_page.specs.declared.head.Head.{Head}
 use Rattle.node_page.specs.Opening.{OpensTo}
 use Rattle.tree_shape.specs.declared.live.Live.{Live}

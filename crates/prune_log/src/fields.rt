@@ -52,7 +52,8 @@ pub fn front_at(bytes: &[u8], count: u64) -> Result<(&[u8], &[u8]), LogFault>
 
 /// Writes a number of four bytes at the end.
 pub fn put_u32(out: &mut Vec<u8>, n: u32) -> Result<(), Memory>
-    ensures { OnOk result (out.new.items ≡ out.old.items ++ big_bytes 4 n) }
+    ensures ok { OnOk result (out.new.items ≡ out.old.items ++ big_bytes 4 n) }
+    ensures err { OnErr result (out.new.items ≡ out.old.items) }
 {
     let mut bytes = [0u8; 4];
     BigEndian::write_u32(&mut bytes, n);

@@ -1,6 +1,5 @@
 use Rattle.std.proofs.Common.{◌≡◌}
 use Rattle.tree_shape.specs.Tree.{Nodes, points_by_id, tags_by_id}
-use Rattle.tree_audit.specs.Audited.{audit_fault}
 use Rattle.making_jobs.specs.declared.filling.Objects.{Objects}
 use Rattle.making_jobs.proofs.OldFiles.{if_still, still_taking}
 use Rattle.making_jobs.proofs.migrating.audited.Goals as goal

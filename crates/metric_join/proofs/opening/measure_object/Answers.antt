@@ -11,8 +11,8 @@ returns-in_ok-add_object-clause-counted g c =
     let n : JoinNeed = c.args.probe.need.now in
     let marked = c.measured_mark-marked in
     let some = marked.ensures.counted in
-    counts_one (g.R.Ruler.used c.args.ruler.now) (g.R.Ruler.used marked.new.ruler) some.0 c.args.opening.now.marks.items c.add_object.new.opening.marks.items marked.result.mark
-    (rw (measured_one j n c.as_slice.result.now 0 marked.result.mark marked.ensures.mark) some.1) some.2 (cc (c.add_object.ensures.marks, c.in_ok-push.ensures.items))
+    counts_one (g.R.Ruler.used c.args.ruler.now) (g.R.Ruler.used marked.new.ruler) some.0 c.args.opening.now.marks.items c.push.new.self.items marked.result.mark
+    (rw (measured_one j n c.as_slice.result.now 0 marked.result.mark marked.ensures.mark) some.1) some.2 c.in_ok-push.ensures.items
 
 pub returns-in_ok-add_object-clause-taken : goal.returns-in_ok-add_object-clause-taken
 returns-in_ok-add_object-clause-taken g c =
@@ -23,9 +23,9 @@ returns-in_ok-add_object-clause-taken g c =
     let unskipped : far_stored n.apart c.args.entry.now.parent j.rho (0 + radius_of (other n)) ≡ false = rw bare c.requires in
     takes_pair j n (object_entry c.args.entry.now) c.as_slice.result.now (ap (λ (p : List ℕ). Some p) (sym c.as_slice.ensures)) marked.result.mark
     (least_unskipped j n c.as_slice.result.now c.args.entry.now.parent 0 marked.result.mark unskipped marked.ensures.mark)
-    c.args.opening.now c.add_object.new.opening (cc (c.add_object.ensures.marks, c.in_ok-push.ensures.items))
+    c.args.opening.now (record { marks = c.push.new.self; matches = c.add_object.new.self }) c.in_ok-push.ensures.items
     c.in-Near.is (paired n (object_entry c.args.entry.now).item marked.result.apart) marked.result.apart (marked.ensures.apart) refl
-    c.in_ok-add_object.ensures.pair.hits c.in_ok-add_object.ensures.pair.needs
+    c.in_ok-add_object.ensures.hits c.in_ok-add_object.ensures.needs
 
 pub returns-in_default : goal.returns-in_default
 returns-in_default g c =
@@ -40,6 +40,6 @@ returns-in_default g c =
       counted = counts_one (g.R.Ruler.used c.args.ruler.now) (g.R.Ruler.used marked.new.ruler) some.0 c.args.opening.now.marks.items c.push.new.self.items marked.result.mark (rw (measured_one j n c.as_slice.result.now 0 marked.result.mark marked.ensures.mark) some.1) some.2 c.in_ok-push.ensures.items;
       taken = takes_none j n (object_entry c.args.entry.now) c.as_slice.result.now (ap (λ (p : List ℕ). Some p) (sym c.as_slice.ensures)) marked.result.mark
           (least_unskipped j n c.as_slice.result.now c.args.entry.now.parent 0 marked.result.mark unskipped marked.ensures.mark)
-          c.args.opening.now (record { marks = c.push.new.self; hits = c.args.opening.now.hits; needs = c.args.opening.now.needs }) c.in_ok-push.ensures.items
+          c.args.opening.now (record { marks = c.push.new.self; matches = c.args.opening.now.matches }) c.in_ok-push.ensures.items
           c.in_default.not-Near refl refl;
     }

@@ -11,8 +11,8 @@ returns-in_ok-add_subtree-clause-counted g c =
     let n : JoinNeed = c.args.probe.need.now in
     let marked = c.measured_mark-marked in
     let some = marked.ensures.counted in
-    counts_one (g.R.Ruler.used c.args.ruler.now) (g.R.Ruler.used marked.new.ruler) some.0 c.args.opening.now.marks.items c.add_subtree.new.opening.marks.items marked.result.mark
-    (rw (measured_one j n c.as_slice.result.now c.args.entry.now.radius marked.result.mark marked.ensures.mark) some.1) some.2 (cc (c.add_subtree.ensures.marks, c.in_ok-push.ensures.items))
+    counts_one (g.R.Ruler.used c.args.ruler.now) (g.R.Ruler.used marked.new.ruler) some.0 c.args.opening.now.marks.items c.push.new.self.items marked.result.mark
+    (rw (measured_one j n c.as_slice.result.now c.args.entry.now.radius marked.result.mark marked.ensures.mark) some.1) some.2 c.in_ok-push.ensures.items
 
 pub returns-in_ok-add_subtree-clause-taken : goal.returns-in_ok-add_subtree-clause-taken
 returns-in_ok-add_subtree-clause-taken g c =
@@ -22,9 +22,9 @@ returns-in_ok-add_subtree-clause-taken g c =
     let unskipped : far_stored n.apart c.args.entry.now.parent j.rho (c.args.entry.now.radius + radius_of (other n)) ≡ false = c.requires in
     takes_pair j n (subtree_entry c.args.level c.args.entry.now) c.as_slice.result.now (ap (λ (p : List ℕ). Some p) (sym c.as_slice.ensures)) marked.result.mark
     (least_unskipped j n c.as_slice.result.now c.args.entry.now.parent c.args.entry.now.radius marked.result.mark unskipped marked.ensures.mark)
-    c.args.opening.now c.add_subtree.new.opening (cc (c.add_subtree.ensures.marks, c.in_ok-push.ensures.items))
+    c.args.opening.now (record { marks = c.push.new.self; matches = c.add_subtree.new.self }) c.in_ok-push.ensures.items
     c.in-Near.is (paired n (subtree_entry c.args.level c.args.entry.now).item marked.result.apart) marked.result.apart (marked.ensures.apart) refl
-    c.in_ok-add_subtree.ensures.pair.hits c.in_ok-add_subtree.ensures.pair.needs
+    c.in_ok-add_subtree.ensures.hits c.in_ok-add_subtree.ensures.needs
 
 pub returns-in_default : goal.returns-in_default
 returns-in_default g c =
@@ -38,6 +38,6 @@ returns-in_default g c =
       counted = counts_one (g.R.Ruler.used c.args.ruler.now) (g.R.Ruler.used marked.new.ruler) some.0 c.args.opening.now.marks.items c.push.new.self.items marked.result.mark (rw (measured_one j n c.as_slice.result.now c.args.entry.now.radius marked.result.mark marked.ensures.mark) some.1) some.2 c.in_ok-push.ensures.items;
       taken = takes_none j n (subtree_entry c.args.level c.args.entry.now) c.as_slice.result.now (ap (λ (p : List ℕ). Some p) (sym c.as_slice.ensures)) marked.result.mark
           (least_unskipped j n c.as_slice.result.now c.args.entry.now.parent c.args.entry.now.radius marked.result.mark unskipped marked.ensures.mark)
-          c.args.opening.now (record { marks = c.push.new.self; hits = c.args.opening.now.hits; needs = c.args.opening.now.needs }) c.in_ok-push.ensures.items
+          c.args.opening.now (record { marks = c.push.new.self; matches = c.args.opening.now.matches }) c.in_ok-push.ensures.items
           c.in_default.not-Near refl refl;
     }

@@ -9,7 +9,7 @@ use Rattle.index_core.specs.Files.{IsLawfulFile, nodes_on}
 use Rattle.index_core.specs.Index.{OpenIndex, AreSpare}
 use Rattle.index_core.specs.Lending.{same_room_by_none}
 use Rattle.index_core.specs.Writing.{HasWritten, IsCommitted}
-use Rattle.index_core.specs.declared.faults.IndexFault.TheVariants.{Commit, Memory}
+use Rattle.index_core.specs.declared.faults.IndexFault.TheVariants.{Memory}
 use Rattle.index_core.proofs.Outcome.{committed_of, done_written, failed_written, next_list, spare_of, unspared}
 use Rattle.index_core.proofs.Written.{refused_written}
 use Rattle.index_core.proofs.index.Index.commit_placed.Goals as goal

@@ -1,4 +1,4 @@
-use Rattle.std.proofs.Common.{sym, ap, subst, ◌∙◌, take}
+use Rattle.std.proofs.Common.{sym, ap, subst, ◌∙◌}
 use Rattle.std.specs.Prelude.{IsTrue}
 use Rattle.tree_shape.specs.Tree.{IsSoundTree}
 use Rattle.page_store.specs.Numbers.{AreNumbers}

@@ -1,0 +1,82 @@
+//! What the entries of an opened node are tested against, and the pairs that they make.
+
+ghost use Rattle.std.specs.Prelude.{◌≡◌, OnOk};
+ghost use Rattle.log_model.specs.JoinWalk.{object_entry, other, radius_of, subtree_entry};
+ghost use Rattle.log_model.specs.JoinSteps.{paired};
+ghost use Rattle.log_model.specs.Matches.{AddsPair};
+
+use crate::{Item, JoinNeed, Memory, SharedItem};
+use scan_model::Pair;
+use std::alloc::Global;
+use tree_shape::{InnerEntry, LeafEntry};
+
+/// What the tests of an opened node's entries need.
+#[derive(Clone, Copy)]
+pub struct JoinProbe<'a> {
+    /// The allocator of copied points.
+    pub alloc: Global,
+    /// The pair whose item of greater rank is opened.
+    pub need: &'a JoinNeed,
+    /// The radius that prunes.
+    pub rho: u64,
+    /// The covering radius of the other item.
+    pub reach: u64,
+    ghost reaches: { reach ≡ radius_of (other need.now) },
+}
+
+/// The pairs that entries of opened nodes make with the other item.
+#[derive(Drop)]
+pub struct Matches {
+    /// The pairs of two objects, which are answers.
+    pub hits: Vec<Pair>,
+    /// The other pairs, which are needed, in order.
+    pub needs: Vec<JoinNeed>,
+}
+
+impl Matches {
+    // Adds a pair: an answer where both items are objects, else a pair that is needed.
+    fn add(&mut self, pair: JoinNeed) -> Result<(), Memory>
+        ensures { OnOk result (AddsPair pair self.old self.new) }
+    {
+        if pair.left.as_ref().is_object() && pair.right.as_ref().is_object() {
+            self.hits.push(Pair {
+                left: pair.left.as_ref().id(),
+                right: pair.right.as_ref().id(),
+                dist: pair.apart.unwrap_or(0),
+            })?;
+        } else {
+            self.needs.push(pair)?;
+        }
+        Ok(())
+    }
+
+    /// Adds the pair of a leaf's object with the other item, from which it is so far.
+    // It stands apart from the loops over entries, as `add_subtree` does: few entries have a pair.
+    #[inline(never)]
+    pub fn add_object(
+        &mut self,
+        probe: JoinProbe,
+        entry: &LeafEntry,
+        apart: Option<u64>,
+    ) -> Result<(), Memory>
+        ensures { OnOk result (AddsPair (paired probe.entry.need.now (object_entry entry.now).item apart) self.old self.new) }
+    {
+        let item = SharedItem::new(probe.alloc, Item::of_object(probe.alloc, entry)?)?;
+        self.add(probe.need.with(item, apart)?)
+    }
+
+    /// Adds the pair of a subtree that an inner node of this level names with the other item, from which its centre is so far.
+    #[inline(never)]
+    pub fn add_subtree(
+        &mut self,
+        probe: JoinProbe,
+        level: u8,
+        entry: &InnerEntry,
+        apart: Option<u64>,
+    ) -> Result<(), Memory>
+        ensures { OnOk result (AddsPair (paired probe.entry.need.now (subtree_entry level entry.now).item apart) self.old self.new) }
+    {
+        let item = SharedItem::new(probe.alloc, Item::of_subtree(probe.alloc, level, entry)?)?;
+        self.add(probe.need.with(item, apart)?)
+    }
+}
