@@ -1,5 +1,7 @@
 -- How the run of a script ends, and what then stands on both outputs.
-use Rattle.std.specs.Prelude.{◌≡◌, ◌≢◌, ◌⊎◌, ℕ, List, [], codes}
+use Rattle.std.specs.Prelude.{◌≡◌, ◌≢◌, ◌⊎◌, ℕ, ◌≤◌, List, [], codes}
+use Rattle.std.specs.Io.KnownBytes.{Appends}
+use Rattle.outside_io.specs.Sinks.{SinkState, Tells}
 use Rattle.rows_text.specs.declared.command.Command.{Command}
 use Rattle.plain_scan.specs.Written.{IsFrontOf}
 use Rattle.answer_texts.specs.Answered.{Answered}
@@ -22,3 +24,20 @@ pub record Ends (Failed : Type 0) (IsCutShort : List ℕ → List ℕ → Type 0
   -- a sound file is an index, and no page of it is damaged
   pub index : status ≢ 6
   pub undamaged : status ≢ 9
+
+-- ---- on any file
+
+-- Some bytes were put, and last of all this line; or a front of it, where an output failed meanwhile.
+pub record EndsIn (out0 out1 : SinkState) (line : List ℕ) : Type 0 where
+  pub mid : SinkState
+  pub bytes : List ℕ
+  pub grew : Appends out0.written mid.written bytes
+  pub later : out0.faults ≤ mid.faults
+  pub told : Tells mid out1 line
+
+-- where the status is that of a fault, its line is the last that was put
+pub record TellsFault (status : ℕ) (out0 out1 : SinkState) : Type 0 where
+  pub input : status ≡ 3 → EndsIn out0 out1 (codes "fault input\n")
+  pub disk : status ≡ 5 → EndsIn out0 out1 (codes "fault disk\n")
+  pub long : status ≡ 7 → EndsIn out0 out1 (codes "fault long\n")
+  pub memory : status ≡ 8 → EndsIn out0 out1 (codes "fault memory\n")

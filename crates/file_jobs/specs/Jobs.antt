@@ -34,6 +34,10 @@ pub record Creates (head : Head) (disk0 disk1 : DiskState) (out0 out1 : SinkStat
 
 -- ---- opening
 
+-- the file opens, and is of the second version
+abbrev pub IsIndex : List ℕ → Type 0
+IsIndex file = (head : Head) × (live : Live) × OpensTo file head live × (head.version ≡ 2)
+
 -- the file does not open, or is of the first version, as this word says
 abbrev pub IsNoIndex : List ℕ → List ℕ → Type 0
 IsNoIndex file name =

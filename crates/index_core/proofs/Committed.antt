@@ -1,5 +1,5 @@
 -- What a commit of placed nodes needs, and what it leaves.
-use Rattle.std.proofs.Common.{◌≡◌, ◌⊎◌, ℕ, zero, suc, ◌+◌, ◌≤◌, Bool, true, false, List, [], ◌∷◌, ◌++◌, inl, inr, refl, sym, ap, subst, arith, length, take, min, Option, Some, None, Result, Ok, Err}
+use Rattle.std.proofs.Common.{◌≡◌, ◌⊎◌, ℕ, zero, suc, ◌≤◌, Bool, true, false, List, [], ◌∷◌, ◌++◌, inl, inr, refl, sym, ap, subst, arith, length, take, min, Option, Some, None, Result, Ok, Err}
 use Rattle.std.specs.Prelude.{IsSome, ◌==◌}
 use Rattle.std.specs.List.{AllByRecursion}
 use Rattle.std.proofs.lemmas.Bool.Decides.{nat_tests}
@@ -75,6 +75,14 @@ module _ (head : Head) (t : Live) (f : FreePages) (asked added : ℕ) (placed : 
     images = λ image left. subst (KeepsTree head.dim t disk.bytes) (sym (only image left)) (record { opens = record { head = head; opens = opens }; tree = λ p i. refl });
     beside = new_is_beside (nodes_in head.dim t disk.bytes) t placed.next tree placed.staged stands (news tree stands.within beside);
   }
+
+  -- no new node gets a page that is left
+  pub unshared : (nodes : Nodes) (tree : List ℕ) → StandsOnPages nodes t tree → LiesBeside tree f → Follows nodes t placed → (page : ℕ) → IsIn page (pages_of placed.staged) → IsIn page placed.left → ⊥
+  unshared nodes tree stands beside turn page new l =
+      (news tree stands.within beside).outside page new (elim turn [
+        | inl takes ↦ stand_on_pages.reached nodes t tree page stands (all_in _ placed.left page takes.left l)
+        | inr alone ↦ elim (subst (λ (ps : List ℕ). IsIn page ps) alone.1 l) [ inl same ↦ subst (λ (p : ℕ). IsIn p tree) (sym same) stands.root | inr none ↦ absurd none ]
+      ])
 
   -- after the commit the next tree stands beside the free and held pages
   pub next_spare : (old new : List ℕ) (used generation : ℕ) (tree : List ℕ) → t.side ≤ 1 → 3 ≤ t.pages → AllByRecursion (IsWithin t.pages) placed.left →

@@ -30,7 +30,7 @@ use Rattle.page_store.specs.Shelf.{IsPassing}
 use Rattle.page_store.specs.Tours.{children}
 use Rattle.free_pages.specs.Walk.{IsWalkFault, on_children, outside_pages, tree_walk, walked}
 use Rattle.index_core.specs.declared.faults.IndexFault.{IndexFault}
-use Rattle.index_core.specs.Causes.{BlamesNoPage, HasListCause, read_fault}
+use Rattle.index_core.specs.Causes.{BlamesNoPage, HasListCause, IsMadeList, LieOutside, read_fault}
 use Rattle.index_core.specs.Files.{OpenFile, pages_on}
 use Rattle.index_core.specs.Index.{AreSpare, IsLawfulFree}
 use Rattle.index_core.specs.Writing.{Inserts, IsMadeBy, IsPlacedFor}
@@ -42,6 +42,10 @@ above low x (y ∷ xs) up i = elim i [ inl s ↦ (let h = up.0 in omega arith) |
 -- nothing of a fresh list is held
 none_held : (f : FreePages) (page : ℕ) → IsFresh f → IsIn page (held_pages f.held) → ⊥
 none_held f page fresh i = subst (λ hs. IsIn page (held_pages hs)) fresh.held i
+
+-- a fresh list is made by the walk of the file
+pub fresh_made : {M : Type 0} (file : OpenFile M) (disk : DiskState) (f : FreePages) → (IsTrue disk.tells → LieOutside (pages_on file disk 0).read file.live f.free) → IsFresh f → IsMadeList file disk f
+fresh_made file disk f outside fresh = record { free = outside; held = fresh.held; pins = fresh.pins }
 
 pub fresh_lawful : (t : Live) (f : FreePages) → AreNumbers t.pages f.free → IsFresh f → IsLawfulFree t f
 fresh_lawful t f numbers fresh = record {

@@ -93,13 +93,14 @@ counts n m k e none = omega arith
 -- a refusal that touched nothing
 pub nothing_written : {M : Type 0} (s : Space) (write : Write) (old : OpenIndex M) (disk : DiskState) (fault : IndexFault) → IsLawfulFile s.words old.file → StandsOn old.file disk →
     (IsTrue disk.tells → LeavesOnly disk disk.bytes) → (fault ≡ Commit → ⊥) → HasWritten s write old old disk disk (Err fault)
-nothing_written s write old disk fault lawful stands only other = refused_written s write old old disk disk fault lawful stands only other (refused_here old disk)
+nothing_written s write old disk fault lawful stands only other =
+    refused_written s write old old disk disk fault lawful stands only other (refused_here old disk) (λ points tags has exact. exact)
 
 -- a commit's refusal, as one of the load
 pub commit_cause : {M : Type 0} (s : Space) (old new : OpenIndex M) (rows : List (List ℕ)) (labels : List ℕ) (before after : DiskState) (write : Write) (result : Result ℕ IndexFault) →
-    HasWritten s write old new before after result → IfErr result (λ fault. (fault ≡ Memory) ⊎ (fault ≡ Commit)) → IfErr result (HasLoadingCause s old new rows labels before after.faults)
+    HasWritten s write old new before after result → IfErr result (λ fault. (fault ≡ Memory) ⊎ (fault ≡ Commit)) → IfErr result (HasLoadingCause s old rows labels before after.faults)
 commit_cause s old new rows labels before after write (Ok n) written refused = tt
 commit_cause s old new rows labels before after write (Err fault) written refused = elim refused [
-  | inl memory ↦ subst (HasLoadingCause s old new rows labels before after.faults) (sym memory) tt
-  | inr commit ↦ subst (HasLoadingCause s old new rows labels before after.faults) (sym commit) (written.stops commit).1
+  | inl memory ↦ subst (HasLoadingCause s old rows labels before after.faults) (sym memory) tt
+  | inr commit ↦ subst (HasLoadingCause s old rows labels before after.faults) (sym commit) (written.stops commit).1
 ]

@@ -1,7 +1,8 @@
 -- What a commit of what was placed makes of an index.
-use Rattle.std.proofs.Common.{◌≡◌, ◌⊎◌, ℕ, zero, suc, ◌+◌, ◌≤◌, true, List, [], ◌∷◌, inl, inr, refl, sym, ap, subst, ◌∙◌, arith, drop, max, Some, Ok, Err}
-use Rattle.std.specs.Prelude.{IsTrue}
-use Rattle.std.specs.List.{AllByRecursion}
+use Rattle.std.proofs.Common.{◌≡◌, ◌⊎◌, ℕ, zero, suc, ◌+◌, ◌≤◌, true, List, [], ◌∷◌, inl, inr, refl, sym, ap, subst, ◌∙◌, arith, drop, length, map, max, Option, None, Some, Ok, Err}
+use Rattle.std.specs.Prelude.{IsTrue, MatchOption}
+use Rattle.std.specs.List.{AllByRecursion, range_with_len}
+use Rattle.std.proofs.lemmas.List.{length-map}
 use Rattle.metric_laws.specs.Lists.{IsIn}
 use Rattle.metric_laws.specs.Space.{Space}
 use Rattle.metric_laws.proofs.Published.{all_in, all_weaker}
@@ -10,12 +11,14 @@ use Rattle.disk_model.specs.Disk.{DiskState, MayLeave, LeavesOnly, EachImage}
 use Rattle.disk_model.specs.Moments.{weakened}
 use Rattle.tree_shape.specs.declared.live.Live.{Live}
 use Rattle.tree_shape.specs.Plain.{tree_of}
-use Rattle.tree_shape.specs.Tree.{Nodes, IsSoundTree, points_by_id, tags_by_id}
+use Rattle.tree_shape.specs.Tree.{Nodes, IsSoundTree, points_by_id, tags_by_id, times}
 use Rattle.node_page.specs.Opening.{page_of}
 use Rattle.page_store.specs.declared.staging.Placed.{Placed}
 use Rattle.page_store.specs.declared.staging.StagedNode.{StagedNode}
 use Rattle.page_store.specs.Files.{IsSoundFile, nodes_in}
-use Rattle.page_store.specs.Placing.{IsOver, live_pages}
+use Rattle.page_store.specs.Numbers.{number_at}
+use Rattle.page_store.specs.Placing.{AreOutside as AreBeside, IsOver, live_pages}
+use Rattle.page_store.proofs.Published.{in_times, times_in}
 use Rattle.page_store.specs.Reading.{IsWithin}
 use Rattle.page_store.specs.Staging.{pages_of}
 use Rattle.page_store.specs.Succession.{IsWritten}
@@ -28,9 +31,20 @@ use Rattle.free_pages.proofs.Published.{keep_outside, guard, pins_left}
 use Rattle.index_core.specs.declared.faults.IndexFault.TheVariants.{Commit}
 use Rattle.index_core.specs.Files.{OpenFile, StandsOn, IsLawfulFile, nodes_on}
 use Rattle.index_core.specs.Index.{OpenIndex, AreSpare, IsLawfulFree}
-use Rattle.index_core.specs.Writing.{Write, added_by, answer_to, points_after, tags_after, tree_after, HasObjects, HoldsObjects, LeavesEither, IsCommitted, IsExactFor, IsMadeBy, IsPlacedFor, IsPlacedOn, KeepsPages, HasWritten}
-use Rattle.index_core.proofs.Committed.{exchange}
+use Rattle.index_core.specs.Writing.{Write, added_by, answer_to, offered_to, points_after, tags_after, tree_after, AreLeastPages, Follows, HasObjects, HoldsObjects, LeavesEither, IsCommitted, IsExactFor, IsMadeBy, IsNumberedFor, IsPlacedFor, IsPlacedOn, KeepsPages, HasWritten}
+use Rattle.index_core.proofs.Committed.{exchange, unshared}
 use Rattle.index_core.proofs.Settled.{can_follow}
+
+-- a page that is in no place of a list stands there no times
+none_times : (page : ℕ) (xs : List ℕ) → (IsIn page xs → ⊥) → times page xs ≡ 0
+none_times page xs never = small (times page xs) (λ some. never (times_in page xs some))
+  where
+    small : (n : ℕ) → (1 ≤ n → ⊥) → n ≡ 0
+    small zero none = refl
+    small (suc n) none = absurd (none (omega arith))
+
+beside_none : (nodes : Nodes) (t : Live) (pages : List ℕ) (page : ℕ) → AreBeside nodes t pages → IsIn page pages → times page (live_pages nodes t) ≡ 0
+beside_none nodes t pages page apart i = all_in (λ n. times n (live_pages nodes t) ≡ 0) pages page apart i
 
 newest_left : (generation : ℕ) (left : List ℕ) (f : FreePages) → f.newest ≤ generation → (with_all_left generation left f).newest ≤ generation
 newest_left generation [] f low = low
@@ -143,6 +157,37 @@ module _ {M : Type 0} (s : Space) (write : Write) (file : OpenFile M) (f : FreeP
         (record { given = exchanged.given; uses = exchanged.uses; more = exchanged.more; fresh = exchanged.fresh; once = exchanged.once; left_within = exchanged.left_within }) exact has.sound.once has.sound.within
         (made has).balance))
 
+    -- the pages of the new tree that the old one has not
+    pub least_pages : ((page : ℕ) → IsIn page (pages_of placed.staged) → IsIn page placed.left → ⊥) → IsNumberedFor write file f placed → (points : List (List ℕ)) (tags : List ℕ) → HasObjects s file before points tags →
+        AreLeastPages (offered_to write file.live f) file.live.pages (live_pages (nodes_on file before) file.live) (live_pages (nodes_on new after) new.live)
+    least_pages apart numbered points tags has =
+        next_live (λ t. AreLeastPages (offered_to write file.live f) file.live.pages (live_pages (nodes_on file before) file.live) (live_pages (nodes_on new after) t)) (record {
+          made = pages_of placed.staged;
+          numbered = numbered ∙ ap (λ (n : ℕ). map (number_at (offered_to write file.live f) file.live.pages) (range_with_len 0 n)) (sym (let long : length (pages_of placed.staged) ≡ length placed.staged = rw length-map refl in long));
+          are_new = λ page. (λ i. (in_new page i, in_old page i), λ j. made_there page j.0 j.1);
+        })
+      where
+        in_old : (page : ℕ) → IsIn page (pages_of placed.staged) → IsIn page (live_pages (nodes_on file before) file.live) → ⊥
+        in_old page i o =
+            let none = beside_none (nodes_on file before) file.live (pages_of placed.staged) page (fits has.tells has.sound).apart i in
+            let some = in_times page (live_pages (nodes_on file before) file.live) o in
+            omega (arith, none, some)
+
+        in_new : (page : ℕ) → IsIn page (pages_of placed.staged) → IsIn page (live_pages (nodes_on new after) placed.next)
+        in_new page i = times_in page (live_pages (nodes_on new after) placed.next) (
+            let none = beside_none (nodes_on file before) file.live (pages_of placed.staged) page (fits has.tells has.sound).apart i in
+            let some = in_times page (pages_of placed.staged) i in
+            let unleft = none_times page placed.left (apart page i) in
+            let balance = (made has).balance page in
+            omega (arith, none, some, unleft, balance))
+
+        made_there : (page : ℕ) → IsIn page (live_pages (nodes_on new after) placed.next) → (IsIn page (live_pages (nodes_on file before) file.live) → ⊥) → IsIn page (pages_of placed.staged)
+        made_there page n never = times_in page (pages_of placed.staged) (
+            let none = none_times page (live_pages (nodes_on file before) file.live) never in
+            let some = in_times page (live_pages (nodes_on new after) placed.next) n in
+            let balance = (made has).balance page in
+            omega (arith, none, some, balance))
+
     pub guarded_after : (generation : ℕ) (tree : List ℕ) → generation ≤ file.live.generation → IsGuarded file.live.pages generation f tree → IsGuarded new.live.pages generation g tree
     guarded_after generation tree low guarded =
         next_live (λ t. IsGuarded t.pages generation g tree)
@@ -156,16 +201,18 @@ module _ {M : Type 0} (s : Space) (write : Write) (old : OpenIndex M) (f : FreeP
     (fits : IsTrue before.tells → IsSoundTree s (nodes_on old.file before) old.file.live → IsPlacedFor s old.file.head write (nodes_on old.file before) old.file.live placed)
     (moments : IsTrue before.tells → EachImage before after (IsBeforeOrAfter old.file.head.dim old.file.live placed.next placed.staged before)) where
   -- the commit failed
-  pub failed_written : (new : OpenIndex M) → new.stopped ≡ true → Rose before.faults after.faults → HasWritten s write (record old { free = Some f }) new before after (Err Commit)
-  failed_written new stopped rose = record {
+  pub failed_written : (new : OpenIndex M) → new.stopped ≡ true → new.free ≡ None → Rose before.faults after.faults → HasWritten s write (record old { free = Some f }) new before after (Err Commit)
+  failed_written new stopped none rose = record {
     answer = tt;
     next = tt;
     refused = λ no. absurd (no refl);
     stops = λ is. (stopped, rose);
+    forgets = λ is. none;
     moments = either s write old.file f f.spare used placed lawful kept list.within on before after stands only fits moments;
     objects = λ points tags has. tt;
     tree = λ points tags has. tt;
-    exact = λ points tags has exact. tt;
+    least = tt;
+    exact = λ points tags has exact. subst (λ (free : Option FreePages). MatchOption free (Unit {0}) (λ g. IsExactFor new.file g after)) (sym none) tt;
     guarded = λ generation tree guards. tt;
     kept = λ generation tree tells guards. pages_kept s write old.file f f.spare used placed lawful kept list.within on before after stands only fits moments generation tree tells guards;
   }
@@ -173,8 +220,9 @@ module _ {M : Type 0} (s : Space) (write : Write) (old : OpenIndex M) (f : FreeP
   -- the commit was done
   pub done_written : (file : OpenFile M) (g : FreePages) (answer : ℕ) → (IsTrue after.tells → MayLeave after after.bytes) → after.tells ≡ before.tells → IsCommitted old.file file f g used placed before after →
       placed.next.count ≡ old.file.live.count + added_by write → answer ≡ answer_to write old.file.live.count →
+      (IsTrue before.tells → AreSpare (nodes_on old.file before) old.file.live f) → (IsTrue before.tells → Follows (nodes_on old.file before) old.file.live placed) → IsNumberedFor write old.file f placed →
       HasWritten s write (record old { free = Some f }) (record old { file = file; free = Some g }) before after (Ok answer)
-  done_written file g answer image told did count is = record {
+  done_written file g answer image told did count is beside follows numbered = record {
     answer = is;
     next = record {
       live = placed.next;
@@ -187,9 +235,18 @@ module _ {M : Type 0} (s : Space) (write : Write) (old : OpenIndex M) (f : FreeP
     };
     refused = tt;
     stops = tt;
+    forgets = tt;
     moments = either s write old.file f f.spare used placed lawful kept list.within on before after stands only fits moments;
     objects = objects_after s write old.file f f.spare used placed lawful kept list.within on before after stands only fits moments file g image told did;
     tree = tree_is s write old.file f f.spare used placed lawful kept list.within on before after stands only fits moments file g image told did;
+    least = record {
+      list = f;
+      is = refl;
+      pages = λ points tags has.
+          least_pages s write old.file f f.spare used placed lawful kept list.within on before after stands only fits moments file g image told did
+          (let spare = beside has.tells in
+          unshared old.file.head old.file.live f on.asked on.added placed kept list.within on.placement (nodes_on old.file before) spare.tree spare.stands spare.beside (follows has.tells)) numbered points tags has;
+    };
     exact = exact_after s write old.file f f.spare used placed lawful kept list.within on before after stands only fits moments file g image told did;
     guarded = λ generation tree guards.
         guarded_after s write old.file f f.spare used placed lawful kept list.within on before after stands only fits moments file g image told did generation tree

@@ -13,6 +13,7 @@ use Rattle.page_store.proofs.Published.{stand_on_pages}
 use Rattle.free_pages.specs.Commits.{AreOutside, IsGuarded}
 use Rattle.free_pages.specs.Keeping.{FreePages, IsFreeOrHeld, without_pin}
 use Rattle.free_pages.proofs.Published.{guard, pins_keep}
+use Rattle.index_core.specs.Causes.{IsListOf, IsMadeList}
 use Rattle.index_core.specs.Files.{OpenFile, StandsOn, OnlyReads, nodes_on}
 use Rattle.index_core.specs.Index.{OpenIndex, AreSpare, IsLawfulFree, StandsAlone}
 use Rattle.index_core.specs.Pinning.{AreReached, LiesBesideTree, LiesOutside, pinned, unpinned}
@@ -63,7 +64,7 @@ pin_guards nodes t f tree spare reached =
 
 -- an index whose free list was taken out, and put back with a pin or without
 module _ {M : Type 0} (old : OpenIndex M) (file : OpenFile M) (f : FreePages) (before after : DiskState) (reads : OnlyReads old.file file before after)
-    (list : MatchOption old.free (f.pins ≡ []) (λ o. f ≡ o)) where
+    (list : IsListOf old before f) where
   pub pinned_guards : (tree : List ℕ) → AreSpare (nodes_on old.file before) old.file.live f → AreReached (nodes_on old.file before) old.file.live.root tree →
       GuardsPages old.file.live.generation tree (record old { file = file; free = Some (pinned old.file.live.generation f) })
   pinned_guards tree spare reached =
@@ -76,7 +77,7 @@ module _ {M : Type 0} (old : OpenIndex M) (file : OpenFile M) (f : FreePages) (b
   still_guarded g stays generation tree guards =
       subst (λ (o : OpenFile M). IsGuarded o.live.pages generation g tree) (sym reads.rest) (stays generation tree (by_list old.free list guards))
     where
-      by_list : (free : Option FreePages) → MatchOption free (f.pins ≡ []) (λ o. f ≡ o) → MatchOption free ⊥ (λ o. IsGuarded old.file.live.pages generation o tree) → IsGuarded old.file.live.pages generation f tree
+      by_list : (free : Option FreePages) → MatchOption free (IsMadeList old.file before f) (λ o. f ≡ o) → MatchOption free ⊥ (λ o. IsGuarded old.file.live.pages generation o tree) → IsGuarded old.file.live.pages generation f tree
       by_list None l i = absurd i
       by_list (Some o) l i = subst (λ (h : FreePages). IsGuarded old.file.live.pages generation h tree) (sym l) i
 

@@ -19,11 +19,11 @@ use Rattle.tree_shape.specs.Plain.{Object}
 use Rattle.page_store.specs.declared.staging.Placed.{Placed}
 use Rattle.page_store.specs.Placing.{live_pages}
 use Rattle.index_core.specs.Answers.{IsSoundOn}
-use Rattle.index_core.specs.Causes.{HasInsertCause}
+use Rattle.index_core.specs.Causes.{HasInsertCause, IsListOf, IsMadeList}
 use Rattle.index_core.specs.Files.{OpenFile, StandsOn, OnlyReads, IsLawfulFile, nodes_on}
 use Rattle.index_core.specs.Index.{OpenIndex}
 use Rattle.index_core.specs.Lending.{same_room_by_none, same_room_by_both}
-use Rattle.index_core.specs.Writing.{Write, added_by, answer_to, points_after, tags_after, tree_after, HasObjects, HoldsObjects, LeavesEither, IsExact, IsExactFor, IsNext, IsPlacedFor, IsRefused, GuardsPages, KeepsPages, HasWritten}
+use Rattle.index_core.specs.Writing.{Write, added_by, answer_to, offered_to, points_after, tags_after, tree_after, AreLeastPages, HasObjects, HoldsObjects, LeavesEither, IsExact, IsExactFor, IsNext, IsPlacedFor, IsRefused, GuardsPages, KeepsPages, HasWritten, StandsOnLeast}
 use Rattle.outside_io.proofs.Published.{rose_before}
 
 -- the file of an index on a disk that tells, with these objects
@@ -67,19 +67,30 @@ pages_still tree before after only same =
 
 -- a refusal that only read
 pub refused_written : {M : Type 0} (s : Space) (write : Write) (old new : OpenIndex M) (before after : DiskState) (fault : IndexFault) → IsLawfulFile s.words old.file → StandsOn old.file before →
-    (IsTrue before.tells → LeavesOnly before before.bytes) → (fault ≡ Commit → ⊥) → IsRefused old new before after → HasWritten s write old new before after (Err fault)
-refused_written s write old new before after fault lawful stands only other refused = record {
+    (IsTrue before.tells → LeavesOnly before before.bytes) → (fault ≡ Commit → ⊥) → IsRefused old new before after →
+    ((points : List (List ℕ)) (tags : List ℕ) → HasObjects s old.file before points tags → IsExact old before → IsExact new after) → HasWritten s write old new before after (Err fault)
+refused_written s write old new before after fault lawful stands only other refused exact = record {
   answer = tt;
   next = tt;
   refused = λ no. refused;
   stops = λ is. absurd (other is);
+  forgets = λ is. absurd (other is);
   moments = λ points tags has. either_still s old.file write points tags before after lawful stands (only has.tells) refused.same has;
   objects = λ points tags has. tt;
   tree = λ points tags has. tt;
-  exact = λ points tags has exact. tt;
+  least = tt;
+  exact = exact;
   guarded = λ generation tree guards. tt;
   kept = λ generation tree tells guards. pages_still tree before after (only tells) refused.same;
 }
+
+-- the list that the index has, if it has one
+pub list_is : {M : Type 0} (index : OpenIndex M) (disk : DiskState) (f : FreePages) → IsListOf index disk f → MatchOption index.free (Unit {0}) (λ g. f ≡ g)
+list_is index disk f is = known index.free is
+  where
+    known : (free : Option FreePages) → MatchOption free (IsMadeList index.file disk f) (λ g. f ≡ g) → MatchOption free (Unit {0}) (λ g. f ≡ g)
+    known None l = tt
+    known (Some g) l = l
 
 -- A write of the index whose free list was taken out, after calls that only read: a write of the index as it stood before them.
 module _ {M : Type 0} (s : Space) (write : Write) (old new : OpenIndex M) (file : OpenFile M) (f : FreePages) (before mid after : DiskState) where
@@ -117,21 +128,34 @@ module _ {M : Type 0} (s : Space) (write : Write) (old new : OpenIndex M) (file 
       with_list None l g = absurd g
       with_list (Some g) l guards = subst (λ (h : FreePages). IsGuarded old.file.live.pages generation h tree) (sym l) guards
 
+  least_then : OnlyReads old.file file before mid → IsListOf old before f → StandsOnLeast s write (record old { file = file; free = Some f }) new mid after → StandsOnLeast s write old new before after
+  least_then reads listed least = record {
+    list = least.list;
+    is = subst (IsListOf old before) (sym least.is) listed;
+    pages = λ points tags has.
+        subst (λ (bytes : List ℕ). AreLeastPages (offered_to write old.file.live least.list) old.file.live.pages (live_pages (nodes_of (reading old.file.head.dim old.file.live.pages bytes)) old.file.live)
+        (live_pages (nodes_on new.file after) new.file.live)) reads.same.same_bytes
+        (subst (λ (o : OpenFile M). AreLeastPages (offered_to write o.live least.list) o.live.pages (live_pages (nodes_on o mid) o.live) (live_pages (nodes_on new.file after) new.file.live)) reads.rest
+        (least.pages points tags (has_still s old.file file before mid points tags reads has)));
+  }
+
   pub then_written : (result : Result ℕ IndexFault) → IsLawfulFile s.words old.file → StandsOn old.file before → (IsTrue before.tells → LeavesOnly before before.bytes) →
-      OnlyReads old.file file before mid → MatchOption old.free (Unit {0}) (λ g. f ≡ g) →
+      OnlyReads old.file file before mid → IsListOf old before f →
       ((points : List (List ℕ)) (tags : List ℕ) → HasObjects s old.file before points tags → IsExact old before → IsExactFor file f mid) →
       HasWritten s write (record old { file = file; free = Some f }) new mid after result → HasWritten s write old new before after result
-  then_written result lawful stands only reads list exact_list written = record {
+  then_written result lawful stands only reads listed exact_list written = let list = list_is old before f listed in record {
     answer = answer result written.answer;
     next = each_ok result (next_then reads) written.next;
     refused = each_err result (λ fault h no. refused_then reads list (h no)) written.refused;
     stops = each_err result (λ fault h is. ((h is).0, rose_before before.faults mid.faults after.faults reads.later (h is).1)) written.stops;
+    forgets = written.forgets;
     moments = λ points tags has.
         joined before mid after (λ image. HoldsObjects s old.file.head points tags image ⊎ HoldsObjects s old.file.head (points_after write points) (tags_after write tags) image)
         (either_still s old.file write points tags before mid lawful stands (only has.tells) reads.same has)
         (subst (λ (o : OpenFile M). LeavesEither s o.head write points tags mid after) reads.rest (written.moments points tags (has_still s old.file file before mid points tags reads has)));
     objects = λ points tags has. written.objects points tags (has_still s old.file file before mid points tags reads has);
     tree = λ points tags has. each_ok result (tree_then has) (written.tree points tags (has_still s old.file file before mid points tags reads has));
+    least = each_ok result (least_then reads listed) written.least;
     exact = λ points tags has exact. written.exact points tags (has_still s old.file file before mid points tags reads has) (exact_list points tags has exact);
     guarded = λ generation tree guards. written.guarded generation tree (guards_then generation tree reads list guards);
     kept = λ generation tree tells guards.
@@ -176,11 +200,6 @@ reads_both {M} a b c before mid after first second = record {
   same = then_unchanged before mid after first.same second.same;
   later = let l = first.later in let m = second.later in omega arith;
 }
-
--- the list that the index has, if it has one
-pub list_is : (free : Option FreePages) (f : FreePages) → MatchOption free (f.pins ≡ []) (λ g. f ≡ g) → MatchOption free (Unit {0}) (λ g. f ≡ g)
-list_is None f l = tt
-list_is (Some g) f l = l
 
 pub refused_by : {M : Type 0} (old : OpenIndex M) (file : OpenFile M) (f : FreePages) (before after : DiskState) → OnlyReads old.file file before after → MatchOption old.free (Unit {0}) (λ g. f ≡ g) →
     IsRefused old (record old { file = file; free = Some f }) before after

@@ -1,11 +1,12 @@
 -- Why a call of an opened index refuses.
-use Rattle.std.specs.Prelude.{◌≡◌, ◌≢◌, ◌⊎◌, ℕ, IsTrue, List, take, true, Err, None, Some, MatchOption}
+use Rattle.std.specs.Prelude.{◌≡◌, ◌≢◌, ◌⊎◌, ℕ, ◌+◌, ◌*◌, IsTrue, List, [], take, true, Ok, Err, None, Some, MatchOption}
 use Rattle.disk_model.specs.Disk.{DiskState}
 use Rattle.tree_shape.specs.declared.live.Live.{Live}
 use Rattle.node_page.specs.declared.head.Head.{Head}
 use Rattle.node_page.specs.declared.head.HeadFault.TheVariants.{Version, Space}
 use Rattle.node_page.specs.Opening.{OpensTo}
 use Rattle.page_store.specs.declared.pages.PageFault.{PageFault}
+use Rattle.page_store.specs.Reading.{Read}
 use Rattle.page_store.specs.Shelf.{IsDamage}
 use Rattle.page_store.specs.declared.pages.PageFault.TheVariants as page
 use Rattle.shadow_root.specs.Opening.{HasOpenCause}
@@ -20,7 +21,7 @@ use Rattle.insert_path.specs.declared.faults.PlaceFault.TheVariants as place
 use Rattle.insert_path.specs.Causes.{HasPlaceCause}
 use Rattle.insert_path.specs.Placing.{place_fault as faults_of_path}
 use Rattle.free_pages.specs.Keeping.{FreePages}
-use Rattle.free_pages.specs.Walk.{tree_walk}
+use Rattle.free_pages.specs.Walk.{outside_pages, tree_walk}
 use Rattle.index_core.specs.Files.{OpenFile, pages_on}
 use Rattle.index_core.specs.Index.{OpenIndex}
 use Rattle.index_core.specs.declared.faults.IndexFault.{IndexFault}
@@ -77,6 +78,11 @@ IsPathDamage _ = ⊥
 abbrev pub rules_of : {M : Type 0} → Metrized → OpenFile M → Rules
 rules_of s file = rules s file.head.promote file.head.split
 
+-- the free pages that an insertion may use, the least ones first: a split of each node from the leaf up and a new root take so many
+-- at the most
+abbrev pub offered_pages : Live → FreePages → List ℕ
+offered_pages t f = take (2 * t.height + 3) f.free
+
 -- Why an object was not placed: the disk failed, memory ran out, or the first fault of its walk; or the new nodes that get none of
 -- the free pages need more pages than a file may have.
 abbrev pub HasPathCause : {M : Type 0} → Metrized → OpenFile M → FreePages → Object → DiskState → DiskState → IndexFault → Type 0
@@ -84,7 +90,7 @@ HasPathCause s file f o old new Disk = Rose old.faults new.faults
 HasPathCause s file f o old new (Damaged fault) =
     IsPathDamage fault × (IsTrue old.tells → faults_of_path s (rules_of s file) (pages_on file old 0).read file.live o ≡ Some fault)
 HasPathCause s file f o old new (NoRoom pages needed) =
-    (asked : ℕ) × HasPlaceCause s (rules_of s file) (take asked f.free) file.live o (pages_on file old 0) (pages_on file new 0) (place.NoRoom pages needed)
+    HasPlaceCause s (rules_of s file) (offered_pages file.live f) file.live o (pages_on file old 0) (pages_on file new 0) (place.NoRoom pages needed)
 HasPathCause s file f o old new Memory = Unit {0}
 HasPathCause s file f o old new _ = ⊥
 
@@ -101,12 +107,22 @@ HasListCause file old faults (Damaged fault) = IsDamage fault × (IsTrue old.tel
 HasListCause file old faults Memory = Unit {0}
 HasListCause file old faults _ = ⊥
 
--- the free list is the one that the index has, if it has one
-abbrev pub IsListOf : {M : Type 0} → OpenIndex M → FreePages → Type 0
-IsListOf index f = MatchOption index.free (Unit {0}) (λ g. f ≡ g)
+-- the walk of a tree by child numbers is whole, and these are the pages from 3 up to which it does not come
+abbrev pub LieOutside : Read → Live → List ℕ → Type 0
+LieOutside read t free = (tree : List ℕ) × (tree_walk read t ≡ Ok tree) × (free ≡ outside_pages t.pages tree)
+
+-- the free list that a walk makes: no page is held or pinned
+pub record IsMadeList {M : Type 0} (file : OpenFile M) (disk : DiskState) (f : FreePages) : Type 0 where
+  pub free : IsTrue disk.tells → LieOutside (pages_on file disk 0).read file.live f.free
+  pub held : f.held ≡ []
+  pub pins : f.pins ≡ []
+
+-- the free list is the one that the index has, or else the one that a walk makes
+abbrev pub IsListOf : {M : Type 0} → OpenIndex M → DiskState → FreePages → Type 0
+IsListOf index disk f = MatchOption index.free (IsMadeList index.file disk f) (λ g. f ≡ g)
 
 -- Why an object was not inserted: a commit failed before; the disk failed; a page is damaged to which the walk came that makes the free
--- list, or that of the insertion; the new nodes have no room; memory ran out; or the disk failed in the commit. That the index is full
+-- list, or else, once there is a list, that of the insertion; the new nodes have no room; memory ran out; or the disk failed in the commit. That the index is full
 -- or worn is said by itself.
 abbrev pub HasInsertCause : {M : Type 0} → Metrized → OpenIndex M → Object → DiskState → DiskState → IndexFault → Type 0
 HasInsertCause s index o old new Stopped = index.stopped ≡ true
@@ -115,11 +131,11 @@ HasInsertCause s index o old new Worn = Unit {0}
 HasInsertCause s index o old new Disk = Rose old.faults new.faults
 HasInsertCause s index o old new (Damaged fault) =
     ((index.free ≡ None) × HasListCause index.file old new.faults (Damaged fault))
-    ⊎ (IsPathDamage fault × (IsTrue old.tells →
+    ⊎ (IsPathDamage fault × ((f : FreePages) × IsListOf index old f) × (IsTrue old.tells →
     faults_of_path s (rules_of s index.file) (pages_on index.file old 0).read index.file.live o ≡ Some fault))
 HasInsertCause s index o old new (NoRoom pages needed) =
-    (f : FreePages) × IsListOf index f × (asked : ℕ)
-    × HasPlaceCause s (rules_of s index.file) (take asked f.free) index.file.live o (pages_on index.file old 0)
+    (f : FreePages) × IsListOf index old f
+    × HasPlaceCause s (rules_of s index.file) (offered_pages index.file.live f) index.file.live o (pages_on index.file old 0)
     (pages_on index.file new 0) (place.NoRoom pages needed)
 HasInsertCause s index o old new Memory = Unit {0}
 HasInsertCause s index o old new Commit = Rose old.faults new.faults

@@ -1,5 +1,5 @@
 -- Why a load of an opened index refuses.
-use Rattle.std.specs.Prelude.{◌≡◌, ℕ, ◌==◌, ◌-◌, ◌^◌, nat_lt, List, Option, Some, None, MatchOption, if◌then◌else◌}
+use Rattle.std.specs.Prelude.{◌≡◌, ℕ, ◌==◌, ◌-◌, ◌^◌, nat_lt, List, Option, Some, None, if◌then◌else◌}
 use Rattle.std.specs.List.{range_with_len}
 use Rattle.metric_laws.specs.Space.{Space}
 use Rattle.outside_io.specs.Causes.{Rose}
@@ -8,7 +8,7 @@ use Rattle.bulk_load.specs.declared.faults.BuildFault.{BuildFault}
 use Rattle.bulk_load.specs.declared.faults.BuildFault.TheVariants as build
 use Rattle.free_pages.specs.Keeping.{FreePages}
 use Rattle.disk_model.specs.Disk.{DiskState}
-use Rattle.index_core.specs.Causes.{HasListCause}
+use Rattle.index_core.specs.Causes.{HasListCause, IsListOf}
 use Rattle.index_core.specs.Files.{OpenFile}
 use Rattle.index_core.specs.Index.{OpenIndex}
 use Rattle.index_core.specs.declared.faults.IndexFault.{IndexFault}
@@ -42,9 +42,9 @@ HasLoadCause s file f rows labels _ = ⊥
 
 -- Why a load that nothing refused at once was refused: the rows were not placed on the pages of the free list; the disk failed in the
 -- commit; or the walk that makes the list, which wasn't made yet, came to a fault.
-abbrev pub HasLoadingCause : {M : Type 0} → Space → OpenIndex M → OpenIndex M → List (List ℕ) → List ℕ → DiskState → ℕ → IndexFault → Type 0
-HasLoadingCause s old new rows labels before faults (NoRoom pages needed) =
-    MatchOption new.free ⊥ (λ f. HasLoadCause s old.file f rows labels (NoRoom pages needed))
-HasLoadingCause s old new rows labels before faults Memory = Unit {0}
-HasLoadingCause s old new rows labels before faults Commit = Rose before.faults faults
-HasLoadingCause s old new rows labels before faults fault = (old.free ≡ None) × HasListCause old.file before faults fault
+abbrev pub HasLoadingCause : {M : Type 0} → Space → OpenIndex M → List (List ℕ) → List ℕ → DiskState → ℕ → IndexFault → Type 0
+HasLoadingCause s old rows labels before faults (NoRoom pages needed) =
+    (f : FreePages) × IsListOf old before f × HasLoadCause s old.file f rows labels (NoRoom pages needed)
+HasLoadingCause s old rows labels before faults Memory = Unit {0}
+HasLoadingCause s old rows labels before faults Commit = Rose before.faults faults
+HasLoadingCause s old rows labels before faults fault = (old.free ≡ None) × HasListCause old.file before faults fault

@@ -1,6 +1,7 @@
 -- What a write makes of an index, and what a crash in it may leave.
-use Rattle.std.specs.Prelude.{◌≡◌, ◌≢◌, ◌⊎◌, ℕ, ◌+◌, ◌-◌, ◌≤◌, true, IsTrue, List, [], ◌∷◌, ◌++◌, length, take, min, Option, Some, None, MatchOption, Result, IfOk, IfErr, OnOk}
-use Rattle.std.specs.List.{AllByRecursion}
+use Rattle.std.specs.Prelude.{◌≡◌, ◌≢◌, ◌⊎◌, ◌↔◌, ℕ, ◌+◌, ◌-◌, ◌≤◌, true, IsTrue, List, [], ◌∷◌, ◌++◌, length, map, take, min, Option, Some, None, MatchOption, Result, IfOk, IfErr, OnOk}
+use Rattle.std.specs.List.{AllByRecursion, range_with_len}
+use Rattle.metric_laws.specs.Lists.{IsIn}
 use Rattle.metric_laws.specs.Space.{Space}
 use Rattle.outside_io.specs.Causes.{Rose}
 use Rattle.disk_model.specs.Disk.{DiskState, LeavesOnly, EachImage, IsUnchanged}
@@ -13,6 +14,7 @@ use Rattle.node_page.specs.declared.head.Head.{Head}
 use Rattle.node_page.specs.Opening.{page_of}
 use Rattle.page_store.specs.declared.staging.Placed.{Placed}
 use Rattle.page_store.specs.Placing.{AreOutside as AreBeside, IsOver, IsPlacement, live_pages}
+use Rattle.page_store.specs.Numbers.{number_at}
 use Rattle.page_store.specs.Staging.{pages_of}
 use Rattle.page_store.specs.Reading.{IsWithin}
 use Rattle.page_store.specs.Succession.{TakesPlace, StandsByItself}
@@ -24,6 +26,7 @@ use Rattle.free_pages.specs.Commits.{after_commit, AreOutside, AreWithin, IsGuar
 use Rattle.index_core.specs.declared.faults.IndexFault.{IndexFault}
 use Rattle.index_core.specs.declared.faults.IndexFault.TheVariants.{Commit}
 use Rattle.index_core.specs.Answers.{points_on, tags_on}
+use Rattle.index_core.specs.Causes.{IsListOf, offered_pages}
 use Rattle.index_core.specs.Files.{OpenFile, StandsOn, nodes_on}
 use Rattle.index_core.specs.Index.{OpenIndex, AreSpare}
 use Rattle.index_core.specs.Lending.{SameRoom}
@@ -86,6 +89,29 @@ IsExactFor file f disk = AreOutside file.live.pages (live_pages (nodes_on file d
 abbrev pub IsExact : {M : Type 0} → OpenIndex M → DiskState → Type 0
 IsExact index disk = MatchOption index.free (Unit {0}) (λ f. IsExactFor index.file f disk)
 
+-- ---- on which pages new nodes stand
+
+-- the free pages that a write may use, the least ones first: a load may use all of them
+abbrev pub offered_to : Write → Live → FreePages → List ℕ
+offered_to (Inserts point tag) t f = offered_pages t f
+offered_to (Loads rows labels) t f = f.free
+
+-- The pages of a new tree that the old one has not are the first of these numbers and, where they are too few, the pages from the
+-- file's end on.
+pub record AreLeastPages (numbers : List ℕ) (end : ℕ) (old new : List ℕ) : Type 0 where
+  pub made : List ℕ
+  pub numbered : made ≡ map (number_at numbers end) (range_with_len 0 (length made))
+  pub are_new : (page : ℕ) → IsIn page made ↔ (IsIn page new × (IsIn page old → ⊥))
+
+-- The new nodes of a write stand on the least free pages. These are of the list that the index has, or else of the one that a walk
+-- makes.
+pub record StandsOnLeast {M : Type 0} (s : Space) (write : Write) (old new : OpenIndex M) (before after : DiskState) : Type 0 where
+  pub list : FreePages
+  pub is : IsListOf old before list
+  pub pages : (points : List (List ℕ)) (tags : List ℕ) → HasObjects s old.file before points tags →
+      AreLeastPages (offered_to write old.file.live list) old.file.live.pages (live_pages (nodes_on old.file before) old.file.live)
+      (live_pages (nodes_on new.file after) new.file.live)
+
 -- ---- on any file
 
 -- the next live slot; nothing else of the index changes but what is kept of its pages and its free list
@@ -113,14 +139,16 @@ GuardsPages generation tree index = MatchOption index.free ⊥ (λ f. IsGuarded 
 abbrev pub KeepsPages : List ℕ → DiskState → DiskState → Type 0
 KeepsPages tree before after = EachImage before after (λ image. AllByRecursion (λ page. page_of image page ≡ page_of before.bytes page) tree)
 
--- What a write does, on any file. Commit comes where the disk failed in the commit, and stops the index. On a sound file a crash at
--- any moment leaves the objects before or after, and after Ok the file has the tree after. What a pin guards stays guarded, and
--- holds what it held at every moment.
+-- What a write does, on any file. Commit comes where the disk failed in the commit, and stops the index, which then has no free list
+-- and no pins any more. On a sound file a crash at any moment leaves the objects before or after, and after Ok the file has the tree
+-- after, whose new nodes stand on the least pages; where free and held pages were exactly those outside the tree they are so again,
+-- whatever the answer. What a pin guards stays guarded, and holds what it held at every moment.
 pub record HasWritten {M : Type 0} (s : Space) (write : Write) (old new : OpenIndex M) (before after : DiskState) (result : Result ℕ IndexFault) : Type 0 where
   pub answer : IfOk result (λ n. n ≡ answer_to write old.file.live.count)
   pub next : OnOk result (IsNext write old new)
   pub refused : IfErr result (λ fault. fault ≢ Commit → IsRefused old new before after)
   pub stops : IfErr result (λ fault. fault ≡ Commit → (new.stopped ≡ true) × Rose before.faults after.faults)
+  pub forgets : IfErr result (λ fault. fault ≡ Commit → new.free ≡ None)
   pub moments : (points : List (List ℕ)) (tags : List ℕ) → HasObjects s old.file before points tags →
       LeavesEither s old.file.head write points tags before after
   pub objects : (points : List (List ℕ)) (tags : List ℕ) → HasObjects s old.file before points tags →
@@ -128,7 +156,8 @@ pub record HasWritten {M : Type 0} (s : Space) (write : Write) (old new : OpenIn
   pub tree : (points : List (List ℕ)) (tags : List ℕ) → HasObjects s old.file before points tags →
       OnOk result (tree_of (nodes_on new.file after) new.file.live ≡ tree_after s old.file.head write old.file.live.count
       (tree_of (nodes_on old.file before) old.file.live))
-  pub exact : (points : List (List ℕ)) (tags : List ℕ) → HasObjects s old.file before points tags → IsExact old before → OnOk result (IsExact new after)
+  pub least : OnOk result (StandsOnLeast s write old new before after)
+  pub exact : (points : List (List ℕ)) (tags : List ℕ) → HasObjects s old.file before points tags → IsExact old before → IsExact new after
   pub guarded : (generation : ℕ) (tree : List ℕ) → GuardsPages generation tree old → OnOk result (GuardsPages generation tree new)
   pub kept : (generation : ℕ) (tree : List ℕ) → IsTrue before.tells → GuardsPages generation tree old → KeepsPages tree before after
 
@@ -141,6 +170,11 @@ pub record IsPlacedOn {M : Type 0} (file : OpenFile M) (f : FreePages) (used : �
   pub placement : IsPlacement file.head file.live (take asked f.free) added placed
   pub used_is : used ≡ min (length placed.staged) (length (take asked f.free))
   pub left_within : AllByRecursion (IsWithin file.live.pages) placed.left
+
+-- they stand on the pages that are offered to this write, and then on those from the file's end on
+abbrev pub IsNumberedFor : {M : Type 0} → Write → OpenFile M → FreePages → Placed → Type 0
+IsNumberedFor write file f placed =
+    pages_of placed.staged ≡ map (number_at (offered_to write file.live f) file.live.pages) (range_with_len 0 (length placed.staged))
 
 -- they take the place of the left ones, or are a tree by themselves in place of the root
 abbrev pub Follows : Nodes → Live → Placed → Type 0

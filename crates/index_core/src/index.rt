@@ -2,8 +2,9 @@ ghost use Rattle.std.specs.Prelude.{◌≡◌, ◌⊎◌, ◌+◌, ◌≤◌, []
 ghost use Rattle.lru.specs.LruCache.{lru_cache};
 ghost use Rattle.scan_model.specs.declared.query.Query.TheVariants.{Range, Nearest};
 ghost use Rattle.disk_model.specs.Disk.{MayLeave, LeavesOnly, EachImage};
+ghost use Rattle.nearest_search.specs.Searched.{IsFront};
 ghost use Rattle.page_store.specs.Shelf.{Shelf};
-ghost use Rattle.index_core.specs.Files.{IsLawfulFile, OnlyReads};
+ghost use Rattle.index_core.specs.Files.{IsLawfulFile, OnlyReads, nodes_on};
 ghost use Rattle.index_core.specs.Index.{StandsAlone, MayGoOn};
 ghost use Rattle.index_core.specs.Causes.{HasReaderCause};
 ghost use Rattle.index_core.specs.Damage.{BlamesDamage};
@@ -192,6 +193,9 @@ impl<M: Metric> Index<M> {
         ensures rest { self.new ≡ record self.old { file = self.new.file } }
         ensures searched { self.old.stopped ≡ false → HasSearched (M.space self.old.file.metric) self.old.file (Nearest q.now k)
             (D.state disk.old) (D.state disk.new) result }
+        // On any file: the records are a front of a walk with the least marks, and the answers those that it names.
+        ensures front { IfOk result (λ found. IsTrue (D.state disk.old).tells →
+            IsFront (M.space self.old.file.metric) (nodes_on self.old.file (D.state disk.old)) self.old.file.live q.now k found) }
         ensures cause { self.old.stopped ≡ false → IfErr result (HasReachCause self.old.file (D.state disk.old) (D.state disk.new)) }
         // A page that it blames is damaged.
         ensures damage { IfErr result (BlamesDamage self.old.file (D.state disk.old)) }

@@ -7,7 +7,7 @@ ghost use Rattle.index_core.specs.Causes.{BlamesNoPage, HasInsertCause};
 ghost use Rattle.index_core.specs.Damage.{BlamesDamage};
 ghost use Rattle.index_core.specs.Files.{StandsOn, nodes_on};
 ghost use Rattle.index_core.specs.Index.{AreSpare, IsLawfulFree, MayGoOn};
-ghost use Rattle.index_core.specs.Writing.{Follows, HasWritten, Inserts, IsPlacedFor, IsPlacedOn, Write, added_by, answer_to};
+ghost use Rattle.index_core.specs.Writing.{Follows, HasWritten, Inserts, IsNumberedFor, IsPlacedFor, IsPlacedOn, Write, added_by, answer_to};
 
 use crate::IndexFault;
 use crate::index::Index;
@@ -41,6 +41,7 @@ impl<M: Metric> Index<M> {
             (IsSoundOn (M.space self.old.file.metric) self.old.file (D.state disk.old) →
             IsPlacedFor (M.space self.old.file.metric) self.old.file.head write (nodes_on self.old.file (D.state disk.old))
             self.old.file.live placement.now.placed) →
+            IsNumberedFor write self.old.file free placement.now.placed →
             HasWritten (M.space self.old.file.metric) write (record self.old { free = Some free }) self.new (D.state disk.old) (D.state disk.new) result }
         ensures refusals { IfErr result (λ fault. (fault ≡ IndexFault.Memory) ⊎ (fault ≡ IndexFault.Commit)) }
         ensures rose { IfErr result (λ fault. fault ≡ IndexFault.Commit → Rose (D.state disk.old).faults (D.state disk.new).faults) }

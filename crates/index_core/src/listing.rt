@@ -1,8 +1,8 @@
 // The free list of an index, which is made when it is first needed.
-ghost use Rattle.std.specs.Prelude.{◌≡◌, [], List, ℕ, None, IsTrue, IsSome, IfOk, IfErr, MatchOption};
+ghost use Rattle.std.specs.Prelude.{◌≡◌, None, IsTrue, IsSome, IfOk, IfErr};
 ghost use Rattle.free_pages.specs.Keeping.{IsKept};
 ghost use Rattle.index_core.specs.Answers.{IsSoundOn};
-ghost use Rattle.index_core.specs.Causes.{BlamesNoPage, HasListCause};
+ghost use Rattle.index_core.specs.Causes.{BlamesNoPage, HasListCause, IsListOf, IsMadeList};
 ghost use Rattle.index_core.specs.Files.{StandsOn, OnlyReads, nodes_on};
 ghost use Rattle.index_core.specs.Index.{AreSpare, IsLawfulFree, StandsAlone};
 ghost use Rattle.index_core.specs.Writing.{IsExact, IsExactFor};
@@ -23,7 +23,7 @@ impl<M: Metric> View<M> {
         ensures stands { StandsOn self.new (D.state disk.new) }
         ensures reads { OnlyReads self.old self.new (D.state disk.old) (D.state disk.new) }
         ensures kept { IfOk result IsKept }
-        ensures fresh { IfOk result (λ f. f.pins ≡ []) }
+        ensures made { IfOk result (IsMadeList self.old (D.state disk.old)) }
         ensures lawful { IfOk result (IsLawfulFree self.old.live) }
         ensures beside { IfOk result (λ f. IsTrue (D.state disk.old).tells → AreSpare (nodes_on self.old (D.state disk.old)) self.old.live f) }
         ensures exact { IfOk result (λ f. IsSoundOn (M.space self.old.metric) self.old (D.state disk.old) → IsExactFor self.old f (D.state disk.old)) }
@@ -55,7 +55,7 @@ impl<M: Metric> Index<M> {
         ensures stands { StandsOn self.new.file (D.state disk.new) }
         ensures reads { OnlyReads self.old.file self.new.file (D.state disk.old) (D.state disk.new) }
         ensures rest { self.new ≡ record self.old { file = self.new.file; free = None } }
-        ensures list { IfOk result (λ f. MatchOption self.old.free (f.pins ≡ []) (λ old. f ≡ old)) }
+        ensures list { IfOk result (IsListOf self.old (D.state disk.old)) }
         ensures kept { IfOk result IsKept }
         ensures lawful { IfOk result (IsLawfulFree self.old.file.live) }
         ensures beside { IfOk result (λ f. IsTrue (D.state disk.old).tells → AreSpare (nodes_on self.old.file (D.state disk.old)) self.old.file.live f) }

@@ -10,7 +10,7 @@ ghost use Rattle.index_core.specs.Damage.{BlamesDamage};
 ghost use Rattle.index_core.specs.Files.{StandsOn, nodes_on};
 ghost use Rattle.index_core.specs.Index.{AreSpare, IsLawfulFree, MayGoOn};
 ghost use Rattle.index_core.specs.Loading.{HasLoadCause, HasLoadingCause, build_fault, ids, load_fault};
-ghost use Rattle.index_core.specs.Writing.{HasWritten, IsPlacedFor, IsPlacedOn, Loads};
+ghost use Rattle.index_core.specs.Writing.{HasWritten, IsNumberedFor, IsPlacedFor, IsPlacedOn, Loads};
 
 use crate::index::Index;
 use crate::placing::Placement;
@@ -56,6 +56,7 @@ impl<M: Metric> View<M> {
         requires few_workers { workers ≤ 64 }
         requires within { AreWithin self.now.live.pages free.now }
         ensures placed { IfOk result (λ placement. IsPlacedOn self.now free.now placement.used placement.placed) }
+        ensures numbered { IfOk result (λ placement. IsNumberedFor (Loads rows.now.points tags.now) self.now free.now placement.placed) }
         ensures many { IfOk result (λ placement. placement.placed.next.count ≡ length rows.now.points) }
         ensures by_itself { IfOk result (λ placement. StandsByItself placement.placed × (placement.placed.left ≡ self.now.live.root ∷ [])) }
         ensures loads { IfOk result (λ placement. (nodes : Nodes) → IsSoundTree (M.space self.now.metric) nodes self.now.live →
@@ -143,7 +144,7 @@ impl<M: Metric> Index<M> {
         ensures stands { MayGoOn self.new (D.state disk.new) }
         ensures written { HasWritten (M.space self.old.file.metric) (Loads rows.now.points tags.now) (record self.old { free = Some free }) self.new
             (D.state disk.old) (D.state disk.new) result }
-        ensures cause { IfErr result (HasLoadingCause (M.space self.old.file.metric) (record self.old { free = Some free }) self.new rows.now.points tags.now
+        ensures cause { IfErr result (HasLoadingCause (M.space self.old.file.metric) (record self.old { free = Some free }) rows.now.points tags.now
             (D.state disk.old) (D.state disk.new).faults) }
         ensures undamaged { IfErr result BlamesNoPage }
         ensures tells { (D.state disk.new).tells ≡ (D.state disk.old).tells }
@@ -182,7 +183,7 @@ impl<M: Metric> Index<M> {
             HasWritten (M.space self.old.file.metric) (Loads rows.now.points (ids (length rows.now.points))) self.old self.new
             (D.state disk.old) (D.state disk.new) result }
         ensures cause { load_fault self.old (length rows.now.points) ≡ None →
-            IfErr result (HasLoadingCause (M.space self.old.file.metric) self.old self.new rows.now.points
+            IfErr result (HasLoadingCause (M.space self.old.file.metric) self.old rows.now.points
             (ids (length rows.now.points)) (D.state disk.old) (D.state disk.new).faults) }
         // A page that it blames is damaged.
         ensures damage { IfErr result (BlamesDamage self.old.file (D.state disk.old)) }
@@ -227,7 +228,7 @@ impl<M: Metric> Index<M> {
         ensures written { self.old.stopped ≡ false →
             HasWritten (M.space self.old.file.metric) (Loads rows.now.points tags.now) self.old self.new (D.state disk.old) (D.state disk.new) result }
         ensures cause { load_fault self.old (length rows.now.points) ≡ None →
-            IfErr result (HasLoadingCause (M.space self.old.file.metric) self.old self.new rows.now.points tags.now
+            IfErr result (HasLoadingCause (M.space self.old.file.metric) self.old rows.now.points tags.now
             (D.state disk.old) (D.state disk.new).faults) }
         // A page that it blames is damaged.
         ensures damage { IfErr result (BlamesDamage self.old.file (D.state disk.old)) }

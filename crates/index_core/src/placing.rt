@@ -6,7 +6,7 @@ ghost use Rattle.index_core.specs.Answers.{IsSoundOn};
 ghost use Rattle.index_core.specs.Causes.{BlamesNoPage, HasPathCause};
 ghost use Rattle.index_core.specs.Files.{StandsOn, OnlyReads, nodes_on};
 ghost use Rattle.index_core.specs.Index.{AreSpare};
-ghost use Rattle.index_core.specs.Writing.{Inserts, IsPlacedFor, IsPlacedOn};
+ghost use Rattle.index_core.specs.Writing.{Inserts, IsNumberedFor, IsPlacedFor, IsPlacedOn};
 
 use crate::IndexFault;
 use crate::faults::place_fault;
@@ -45,6 +45,7 @@ impl<M: Metric> View<M> {
         ensures stands { StandsOn self.new (D.state disk.new) }
         ensures reads { OnlyReads self.old self.new (D.state disk.old) (D.state disk.new) }
         ensures placed { IfOk result (λ placement. IsPlacedOn self.old free.now placement.used placement.placed) }
+        ensures numbered { IfOk result (λ placement. IsNumberedFor (Inserts p.now tag) self.old free.now placement.placed) }
         ensures one { IfOk result (λ placement. placement.placed.next.count ≡ self.old.live.count + 1) }
         ensures takes_place { IfOk result (λ placement. IsTrue (D.state disk.old).tells →
             TakesPlace (nodes_on self.old (D.state disk.old)) self.old.live placement.placed) }

@@ -2,10 +2,11 @@ ghost use Rattle.std.specs.Prelude.{◌≡◌, ◌≤◌, ◌+◌, [], IsTrue, I
 ghost use Rattle.lru.specs.LruCache.{lru_cache};
 ghost use Rattle.scan_model.specs.declared.query.Query.TheVariants.{Range, Nearest};
 ghost use Rattle.disk_model.specs.Disk.{IsUnchanged};
+ghost use Rattle.nearest_search.specs.Searched.{IsFront};
 ghost use Rattle.page_store.specs.Shelf.{Shelf};
 ghost use Rattle.page_store.specs.Shelves.{disk_shelf};
 ghost use Rattle.index_core.specs.Lending.{lent_inner, lent_kept, lent_shelf, KeptAgrees};
-ghost use Rattle.index_core.specs.Files.{StandsOn, IsLawfulFile, OnlyReads, pages_on};
+ghost use Rattle.index_core.specs.Files.{StandsOn, IsLawfulFile, OnlyReads, nodes_on, pages_on};
 ghost use Rattle.index_core.specs.Causes.{HasReaderCause};
 ghost use Rattle.index_core.specs.Answers.{HasSearched, IsFoundOn, HasRangeCause, HasReachCause, HasDrawn};
 
@@ -184,6 +185,9 @@ impl<M: Metric> View<M> {
         ensures stands { StandsOn self.new (D.state disk.new) }
         ensures reads { OnlyReads self.old self.new (D.state disk.old) (D.state disk.new) }
         ensures searched { HasSearched (M.space self.old.metric) self.old (Nearest q.now k) (D.state disk.old) (D.state disk.new) result }
+        // On any file: the records are a front of a walk with the least marks, and the answers those that it names.
+        ensures front { IfOk result (λ found. IsTrue (D.state disk.old).tells →
+            IsFront (M.space self.old.metric) (nodes_on self.old (D.state disk.old)) self.old.live q.now k found) }
         ensures cause { IfErr result (HasReachCause self.old (D.state disk.old) (D.state disk.new)) }
     {
         let mut ruler = Meter::new(self.metric);

@@ -1,6 +1,6 @@
 -- What filling a new index leaves.
-use Rattle.std.proofs.Common.{◌≡◌, ◌⊎◌, inl, inr, ℕ, ◌≤◌, ◌^◌, ◌&&◌, nat_le, Bool, true, false, List, [], ◌∷◌, Option, Some, None, Result, Ok, refl, sym, ◌∙◌, ap, subst, arith, length}
-use Rattle.std.specs.Prelude.{All, IsTrue, MatchOption, nat_lt}
+use Rattle.std.proofs.Common.{◌≡◌, ◌⊎◌, inl, inr, ℕ, ◌≤◌, ◌^◌, ◌&&◌, nat_le, Bool, true, false, List, [], ◌∷◌, None, Result, Ok, refl, sym, ◌∙◌, ap, subst, arith, length}
+use Rattle.std.specs.Prelude.{All, IsTrue, nat_lt}
 use Rattle.std.specs.List.{AllByRecursion}
 use Rattle.std.proofs.lemmas.Bool.{leb-true, true≢false}
 use Rattle.std.proofs.lemmas.Bool.Decides.{nat_tests}
@@ -21,7 +21,6 @@ use Rattle.node_page.specs.Laws.{FaultIsNotOpen, OneLiveSlot}
 use Rattle.node_page.specs.Opening.{OpensTo, open_fault}
 use Rattle.page_store.specs.declared.pages.PageFault.TheVariants as page
 use Rattle.page_store.specs.Files.{IsSoundFile}
-use Rattle.free_pages.specs.Keeping.{FreePages}
 use Rattle.shadow_root.specs.declared.faults.OpenFault.{OpenFault}
 use Rattle.shadow_root.specs.declared.faults.OpenFault.TheVariants as open_fault
 use Rattle.shadow_root.specs.Making.{IsMade, first_live}
@@ -32,7 +31,7 @@ use Rattle.index_core.specs.Answers.{IsSoundOn}
 use Rattle.index_core.specs.Causes.{BlamesNoPage, HasReaderCause}
 use Rattle.index_core.specs.Files.{OpenFile}
 use Rattle.index_core.specs.Index.{OpenIndex}
-use Rattle.index_core.specs.Loading.{HasLoadCause, HasLoadingCause, load_fault}
+use Rattle.index_core.specs.Loading.{HasLoadingCause, load_fault}
 use Rattle.index_core.specs.Writing.{HasObjects, HasWritten, HoldsObjects, Loads}
 use Rattle.making_jobs.specs.declared.filling.FillFault.{FillFault}
 use Rattle.making_jobs.specs.declared.filling.FillFault.TheVariants as fill
@@ -138,20 +137,16 @@ filled_none head d2 i (p ∷ points) tags none same has = absurd (omega (arith, 
 
 -- ---- why nothing was loaded
 
-module _ (s : Space) (space : IsSpace s) (narrow : s.words ≤ 64) (i j : OpenIndex MixSpace) (points : List (List ℕ)) (tags : List ℕ) (fits : AllByRecursion (λ p. IsTrue (s.fits p)) points) (few : length points ≤ 2 ^ 24)
+module _ (s : Space) (space : IsSpace s) (narrow : s.words ≤ 64) (i : OpenIndex MixSpace) (points : List (List ℕ)) (tags : List ℕ) (fits : AllByRecursion (λ p. IsTrue (s.fits p)) points) (few : length points ≤ 2 ^ 24)
     (first : i.file.live ≡ first_live) (d0 d1 : DiskState) (later : d0.faults ≤ d1.faults) (d2 : DiskState) where
-  has_room : (pages needed : ℕ) → HasLoadingCause s i j points tags d1 d2.faults (index.NoRoom pages needed) → ⊥
-  has_room pages needed cause = from j.free cause
-    where
-      from : (free : Option FreePages) → MatchOption free ⊥ (λ f. HasLoadCause s i.file f points tags (index.NoRoom pages needed)) → ⊥
-      from None none = none
-      from (Some f) c =
-          let nodes = few_nodes s space narrow points tags fits in
-          let there : pages ≡ 4 = c.1 ∙ ap (λ (t : Live). t.pages) first in
-          let much = c.3 in let is = c.2 in
-          omega (arith, nodes, few, there, much, is)
+  has_room : (pages needed : ℕ) → HasLoadingCause s i points tags d1 d2.faults (index.NoRoom pages needed) → ⊥
+  has_room pages needed (f, list, c) =
+      let nodes = few_nodes s space narrow points tags fits in
+      let there : pages ≡ 4 = c.1 ∙ ap (λ (t : Live). t.pages) first in
+      let much = c.3 in let is = c.2 in
+      omega (arith, nodes, few, there, much, is)
 
-  pub load_cause : (fault : IndexFault) → HasLoadingCause s i j points tags d1 d2.faults fault → (IsTrue d0.tells → BlamesNoPage fault) → HasFillCause d0 d2 (fault_of fault)
+  pub load_cause : (fault : IndexFault) → HasLoadingCause s i points tags d1 d2.faults fault → (IsTrue d0.tells → BlamesNoPage fault) → HasFillCause d0 d2 (fault_of fault)
   load_cause index.Disk cause told = rose_before d0.faults d1.faults d2.faults later cause.1
   load_cause index.Commit cause told = rose_before d0.faults d1.faults d2.faults later cause
   load_cause index.Stopped cause told = absurd cause.1
@@ -203,12 +198,12 @@ module _ (law : OneLiveSlot) (head : Head) (d0 d1 d2 : DiskState) (i j : OpenInd
   loaded_filled n ok tells = filled law head d0 tells (made tells) (space_in i) (same_space head d0 d1 i o) i j d1 d2 points tags result o.heads o.lives o.bytes o.told (written o.going) n ok
 
   pub load_faults : HeadsHaveSpaces → IsLawfulHead head → All (λ p. IsTrue ((space_of head).fits p)) points → length points ≤ head.limit → d0.faults ≤ d1.faults → (fault : IndexFault) →
-      (load_fault i (length points) ≡ None → HasLoadingCause (space_in i) i j points tags d1 d2.faults fault) → (IsSoundOn (space_in i) i.file d1 → BlamesNoPage fault) → HasFillCause d0 d2 (fault_of fault)
+      (load_fault i (length points) ≡ None → HasLoadingCause (space_in i) i points tags d1 d2.faults fault) → (IsSoundOn (space_in i) i.file d1 → BlamesNoPage fault) → HasFillCause d0 d2 (fault_of fault)
   load_faults spaces lawful fits few later fault cause told =
       let has = space_by_head head.kind head.dim lawful.space in
       let lim = limit_by_head head.limit lawful.limit in
-      load_cause (space_of head) (spaces head lawful) has.high_dim i j points tags (recursion_from_All (λ p. IsTrue ((space_of head).fits p)) points fits) (omega (arith, few, lim)) o.lives d0 d1 later d2 fault
-      (subst (λ (s : Space). HasLoadingCause s i j points tags d1 d2.faults fault) (same_space head d0 d1 i o) (cause (may_load i (length points) o.going o.lives (rw o.heads few))))
+      load_cause (space_of head) (spaces head lawful) has.high_dim i points tags (recursion_from_All (λ p. IsTrue ((space_of head).fits p)) points fits) (omega (arith, few, lim)) o.lives d0 d1 later d2 fault
+      (subst (λ (s : Space). HasLoadingCause s i points tags d1 d2.faults fault) (same_space head d0 d1 i o) (cause (may_load i (length points) o.going o.lives (rw o.heads few))))
       (λ tells. subst (λ (s : Space). IsSoundOn s i.file d1 → BlamesNoPage fault) (same_space head d0 d1 i o) told
       (let none = has_none law head d0 tells (made tells) i.file d1 o.heads o.lives o.bytes o.told in (none.tells, none.sound)))
 

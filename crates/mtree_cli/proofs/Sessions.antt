@@ -37,8 +37,8 @@ use Rattle.session_run.specs.declared.stop.Stop.TheVariants as stop
 use Rattle.session_run.specs.Session.{Grew, HasRun, HasStopCause, HoldsState, IsAsking, IsDamageIn, StandsBy, no_cursors, setting_of, state_on}
 use Rattle.answer_texts.specs.Answered.{commands_of, framed, logs_of, texts_of}
 use Rattle.answer_texts.specs.Asked.{Held, held_in}
-use Rattle.answer_texts.specs.Ending.{IsTold}
-use Rattle.answer_texts.proofs.Published.{told_behind, disk_ends, input_ends, long_ends, memory_ends}
+use Rattle.answer_texts.specs.Ending.{IsTold, TellsFault}
+use Rattle.answer_texts.proofs.Published.{told_behind, disk_ends, input_ends, long_ends, memory_ends, line_alone, disk_told, input_told, long_told, memory_told, none_told}
 use Rattle.session_run.specs.Turns.{AreTurns, Turn, answers_of, held_on}
 use Rattle.mtree_cli.proofs.ProgramLemmas.{always, read_whole, weaker}
 use Rattle.file_jobs.specs.Spaces.{space_of}
@@ -165,41 +165,68 @@ module _ (show : Bool) (bytes : List ℕ) (head : Head) (live : Live) (file : Li
 
 -- why it ended, on any file
 pub finished : (Sound : Type 0) (head : Head) (disk0 disk1 : DiskState) (out0 out1 out2 log0 log1 : SinkState) (why : Stop) (status : ℕ) → out1.faults ≤ out2.faults → HasEnded why out1 out2 status →
-    HasStopCause Sound disk0 disk1 out0 out1 log0 log1 why → StandsBy head disk1 why → disk1.tells ≡ disk0.tells → Grew out0 out1 → HasFinished head disk0 disk1 out0 out2 log0 log1 status
-finished Sound head disk0 disk1 out0 out1 out2 log0 log1 stop.Sink status later ended cause stands told grew = record {
+    HasStopCause Sound disk0 disk1 out0 out1 log0 log1 why → StandsBy head disk1 why → disk1.tells ≡ disk0.tells → Grew out0 out1 → out0.faults ≤ out1.faults → HasFinished head disk0 disk1 out0 out2 log0 log1 status
+finished Sound head disk0 disk1 out0 out1 out2 log0 log1 stop.Sink status later ended cause stands told grew grown = record {
+  lines = none_told status out0 out2 (λ e. omega (arith, ended.0, e)) (λ e. omega (arith, ended.0, e)) (λ e. omega (arith, ended.0, e)) (λ e. omega (arith, ended.0, e));
   tells = told;
   output = λ e. rw ended.1 cause;
   disk = λ e. absurd (omega (arith, ended.0));
   damaged = λ e. absurd (omega (arith, ended.0));
   statuses = inr (inl ended.0);
 }
-finished Sound head disk0 disk1 out0 out1 out2 log0 log1 stop.Disk status later ended cause stands told grew = record {
+finished Sound head disk0 disk1 out0 out1 out2 log0 log1 stop.Disk status later ended cause stands told grew grown = record {
+  lines = disk_told status out0 out2 ended.0 (record { mid = out1; bytes = grew.0; grew = grew.1; later = grown; told = ended.1 });
   tells = told;
   output = λ e. absurd (omega (arith, ended.0));
   disk = λ e. cause;
   damaged = λ e. absurd (omega (arith, ended.0));
   statuses = inr (inr (inl ended.0));
 }
-finished Sound head disk0 disk1 out0 out1 out2 log0 log1 stop.Memory status later ended cause stands told grew = record {
+finished Sound head disk0 disk1 out0 out1 out2 log0 log1 stop.Memory status later ended cause stands told grew grown = record {
+  lines = memory_told status out0 out2 ended.0 (record { mid = out1; bytes = grew.0; grew = grew.1; later = grown; told = ended.1 });
   tells = told;
   output = λ e. absurd (omega (arith, ended.0));
   disk = λ e. absurd (omega (arith, ended.0));
   damaged = λ e. absurd (omega (arith, ended.0));
   statuses = inr (inr (inr (inl ended.0)));
 }
-finished Sound head disk0 disk1 out0 out1 out2 log0 log1 (stop.Damaged fault) status later (inl ended) cause stands told grew = record {
+finished Sound head disk0 disk1 out0 out1 out2 log0 log1 (stop.Damaged fault) status later (inl ended) cause stands told grew grown = record {
+  lines = none_told status out0 out2 (λ e. omega (arith, ended.0, e)) (λ e. omega (arith, ended.0, e)) (λ e. omega (arith, ended.0, e)) (λ e. omega (arith, ended.0, e));
   tells = told;
   output = λ e. absurd (omega (arith, ended.0));
   disk = λ e. absurd (omega (arith, ended.0));
-  damaged = λ e. record { fault = fault; mid = out1; is = cause.0; stands = stands; grew = grew; told = ended.1 };
+  damaged = λ e. record { fault = fault; is = cause.0; stands = stands; line = record { mid = out1; bytes = grew.0; grew = grew.1; later = grown; told = ended.1 } };
   statuses = inr (inr (inr (inr ended.0)));
 }
-finished Sound head disk0 disk1 out0 out1 out2 log0 log1 (stop.Damaged fault) status later (inr ended) cause stands told grew = record {
+finished Sound head disk0 disk1 out0 out1 out2 log0 log1 (stop.Damaged fault) status later (inr ended) cause stands told grew grown = record {
+  lines = memory_told status out0 out2 ended.0 (record { mid = out1; bytes = grew.0; grew = grew.1; later = grown; told = ended.1 });
   tells = told;
   output = λ e. absurd (omega (arith, ended.0));
   disk = λ e. absurd (omega (arith, ended.0));
   damaged = λ e. absurd (omega (arith, ended.0));
   statuses = inr (inr (inr (inl ended.0)));
+}
+
+-- it was not stopped
+pub done_finished : (head : Head) (disk0 disk1 : DiskState) (out0 out1 log0 log1 : SinkState) → disk1.tells ≡ disk0.tells → HasFinished head disk0 disk1 out0 out1 log0 log1 0
+done_finished head disk0 disk1 out0 out1 log0 log1 told = record {
+  tells = told;
+  output = λ e. absurd (omega (arith, e));
+  disk = λ e. absurd (omega (arith, e));
+  damaged = λ e. absurd (omega (arith, e));
+  lines = none_told 0 out0 out1 (λ e. omega (arith, e)) (λ e. omega (arith, e)) (λ e. omega (arith, e)) (λ e. omega (arith, e));
+  statuses = inl refl;
+}
+
+-- there was no memory for it
+pub memory_finished : (head : Head) (disk : DiskState) (out0 out1 log : SinkState) (status : ℕ) → status ≡ 8 → Tells out0 out1 (codes "fault memory\n") → HasFinished head disk disk out0 out1 log log status
+memory_finished head disk out0 out1 log status is told = record {
+  tells = refl;
+  output = λ e. absurd (omega (arith, e, is));
+  disk = λ e. absurd (omega (arith, e, is));
+  damaged = λ e. absurd (omega (arith, e, is));
+  lines = memory_told status out0 out1 is (line_alone out0 out1 (codes "fault memory\n") told);
+  statuses = inr (inr (inr (inl is)));
 }
 
 -- ---- on an opened index
@@ -315,6 +342,11 @@ left_since head state disk0 disk1 disk2 opening turns more left = inr (once disk
 
 -- ---- opening
 
+-- another status
+unfinished : (n k : ℕ) → n ≡ k → k ≢ 0 → k ≢ 9 → (n ≡ 0) ⊎ (n ≡ 9) → ⊥
+unfinished n k is a b (inl e) = a (sym is ∙ e)
+unfinished n k is a b (inr e) = b (sym is ∙ e)
+
 -- what was there before the opening
 pub opening : (disk0 disk1 disk2 : DiskState) → IsUnchanged disk0 disk1 → EachImage disk1 disk2 (MayLeave disk1) → EachImage disk0 disk2 (MayLeave disk0)
 opening disk0 disk1 disk2 same time = joined disk0 disk1 disk2 (MayLeave disk0) same.time (weakened disk1 disk2 (MayLeave disk1) (MayLeave disk0) time (λ image left. (same.same_images image).0 left))
@@ -328,6 +360,39 @@ refused_runs faults one show bytes disk0 disk1 out0 out1 log status same refuses
       (λ rest line. disk_ends (Rose out0.faults out1.faults) _ (script head.dim bytes) rest [] status five line) (λ e. absurd (omega arith))
   | inr six ↦ let named = refuses.not_index six in absurd (no_index_unsound faults one disk0.bytes named.0 (named.2 tells) head live sound)
 ]
+
+pub refused_ends : (disk0 disk1 : DiskState) (out0 out1 log : SinkState) (status : ℕ) → Refuses disk0 disk1 out0 out1 status → HasRefused disk0 disk1 out0 out1 log log status
+refused_ends disk0 disk1 out0 out1 log status refuses = elim refuses.statuses [
+  | inl five ↦ record {
+    output = λ e. absurd (omega (arith, five, e));
+    disk = λ e. (refuses.disk five).0;
+    not_index = λ e. absurd (omega (arith, five, e));
+    damaged = λ e. absurd (omega (arith, five, e));
+    lines = disk_told status out0 out1 five (line_alone out0 out1 (codes "fault disk\n") (refuses.disk five).1);
+    index = λ these. absurd (unfinished status 5 five (λ e. omega (arith, e)) (λ e. omega (arith, e)) these);
+    statuses = inr (inr (inl five));
+  }
+  | inr six ↦ record {
+    output = λ e. absurd (omega (arith, six, e));
+    disk = λ e. absurd (omega (arith, six, e));
+    not_index = refuses.not_index;
+    damaged = λ e. absurd (omega (arith, six, e));
+    lines = none_told status out0 out1 (λ e. omega (arith, six, e)) (λ e. omega (arith, six, e)) (λ e. omega (arith, six, e)) (λ e. omega (arith, six, e));
+    index = λ these. absurd (unfinished status 6 six (λ e. omega (arith, e)) (λ e. omega (arith, e)) these);
+    statuses = inr (inr (inr (inl six)));
+  }
+]
+
+pub memory_ends_it : (disk0 disk1 : DiskState) (out0 out1 log : SinkState) (status : ℕ) → status ≡ 8 → Tells out0 out1 (codes "fault memory\n") → HasRefused disk0 disk1 out0 out1 log log status
+memory_ends_it disk0 disk1 out0 out1 log status is told = record {
+  output = λ e. absurd (omega (arith, is, e));
+  disk = λ e. absurd (omega (arith, is, e));
+  not_index = λ e. absurd (omega (arith, is, e));
+  damaged = λ e. absurd (omega (arith, is, e));
+  lines = memory_told status out0 out1 is (line_alone out0 out1 (codes "fault memory\n") told);
+  index = λ these. absurd (unfinished status 8 is (λ e. omega (arith, e)) (λ e. omega (arith, e)) these);
+  statuses = inr (inr (inr (inr (inl is))));
+}
 
 -- a line is all that a session puts that is refused while it opens the index
 pub memory_runs : (show : Bool) (bytes : List ℕ) (disk0 disk1 disk2 : DiskState) (out0 out1 log : SinkState) (status : ℕ) → IsUnchanged disk0 disk1 → EachImage disk1 disk2 (MayLeave disk1) → status ≡ 8 →
@@ -380,6 +445,14 @@ module _ (faults : FaultIsNotOpen) (one : OneLiveSlot) (show : Bool) (bytes : Li
     disk = λ is. rose_of (five is) cause;
     not_index = λ is. (named why (six is), subst (Tells out0 out1) (text_of why (six is)) line, λ tells. absurd (never tells (six is)));
     damaged = λ e. elim statuses [ inl is ↦ absurd (omega arith) | inr is ↦ absurd (omega arith) ];
+    lines = elim statuses [
+      | inl is ↦ disk_told status out0 out1 is (line_alone out0 out1 (codes "fault disk\n") (subst (λ (w : OpenFault). Tells out0 out1 (unopened_text w)) (five is) line))
+      | inr is ↦ none_told status out0 out1 (λ e. omega (arith, is, e)) (λ e. omega (arith, is, e)) (λ e. omega (arith, is, e)) (λ e. omega (arith, is, e))
+    ];
+    index = λ these. absurd (elim statuses [
+      | inl is ↦ unfinished status 5 is (λ e. omega (arith, e)) (λ e. omega (arith, e)) these
+      | inr is ↦ unfinished status 6 is (λ e. omega (arith, e)) (λ e. omega (arith, e)) these
+    ]);
     statuses = elim statuses [ inl is ↦ inr (inr (inl is)) | inr is ↦ inr (inr (inr (inl is))) ];
   }
     where
@@ -471,20 +544,20 @@ module _ {M : Type 0} (kind_of dim_of : M → ℕ) (one : OneLiveSlot) (show : B
       record { logs = few.logs; logged = few.logged; reads = let r = few.reads in omega (arith, first, second, r) }
 
 -- what ended it
-pub refused_of : (here : Head) (disk0 disk1 disk2 : DiskState) (out0 out1 log0 log1 : SinkState) (status : ℕ) → disk0.faults ≤ disk1.faults → disk1.tells ≡ disk0.tells →
-    (IsTrue disk0.tells → (head : Head) (live : Live) → OpensTo disk0.bytes head live → here ≡ head) → HasFinished here disk1 disk2 out0 out1 log0 log1 status → HasRefused disk0 disk2 out0 out1 log0 log1 status
-refused_of here disk0 disk1 disk2 out0 out1 log0 log1 status later same_tells same_head ended = record {
+pub refused_of : (here : Head) (opened : Head × Live) (disk0 disk1 disk2 : DiskState) (out0 out1 log0 log1 : SinkState) (status : ℕ) → disk0.faults ≤ disk1.faults → disk1.tells ≡ disk0.tells →
+    (IsTrue disk0.tells → OpensTo disk0.bytes opened.0 opened.1) → opened.0.version ≡ 2 → (IsTrue disk0.tells → (head : Head) (live : Live) → OpensTo disk0.bytes head live → here ≡ head) → HasFinished here disk1 disk2 out0 out1 log0 log1 status → HasRefused disk0 disk2 out0 out1 log0 log1 status
+refused_of here opened disk0 disk1 disk2 out0 out1 log0 log1 status later same_tells opens version same_head ended = record {
   output = ended.output;
   disk = λ is. rose_before _ _ _ later (ended.disk is);
   not_index = λ is. absurd (six is ended.statuses);
   damaged = λ is. let damage = ended.damaged is in record {
     fault = damage.fault;
-    mid = damage.mid;
     is = damage.is;
     stands = λ tells head live opens. subst (λ (h : Head). IsDamageIn h disk2.bytes damage.fault) (same_head tells head live opens) (damage.stands (rw (ended.tells, same_tells) tells));
-    grew = damage.grew;
-    told = damage.told;
+    line = damage.line;
   };
+  lines = ended.lines;
+  index = λ these tells. (opened.0, opened.1, opens tells, version);
   statuses = wider ended.statuses;
 }
   where
@@ -505,11 +578,11 @@ refused_of here disk0 disk1 disk2 out0 out1 log0 log1 status later same_tells sa
 -- ---- reading the script
 
 -- the script was not read: the line of a fault is all that was put
-pub unread_session : (show : Bool) (input : Option (List ℕ)) (disk : DiskState) (out0 out1 log : SinkState) (status : ℕ) (line : List ℕ) → Tells out0 out1 line → status ≢ 0 → status ≢ 5 → status ≢ 6 → status ≢ 9 →
+pub unread_session : (show : Bool) (input : Option (List ℕ)) (disk : DiskState) (out0 out1 log : SinkState) (status : ℕ) (line : List ℕ) → Tells out0 out1 line → status ≢ 0 → status ≢ 5 → status ≢ 6 → status ≢ 9 → TellsFault status out0 out1 →
     ((bytes : List ℕ) (head : Head) (live : Live) (rest : List ℕ) → IsTold (Rose out0.faults out1.faults) rest line →
     SessionEnds (Rose out0.faults out1.faults) status head show (state_in head live disk.bytes) (held_in head.dim live disk.bytes) [] (script head.dim bytes) rest []) →
     RunsSession show input disk disk out0 out1 log log status
-unread_session show input disk out0 out1 log status line told zero five six nine ends = record {
+unread_session show input disk out0 out1 log status line told zero five six nine lines ends = record {
   runs = always input _ (λ bytes tells head live sound.
       unread show bytes head live disk.bytes disk disk out0 out1 log line (Leaves head (state_in head live disk.bytes) disk disk) told (inl (refl, started disk (MayLeave disk) (λ image left. left))) status
       (λ rest l. ends bytes head live rest l) zero);
@@ -517,21 +590,26 @@ unread_session show input disk out0 out1 log status line told zero five six nine
   disk = λ is. absurd (five is);
   not_index = λ is. absurd (six is);
   damaged = λ is. absurd (nine is);
+  lines = lines;
+  index = λ these. absurd (unfinished status status refl zero nine these);
 }
 
 pub input_session : (show : Bool) (input : Option (List ℕ)) (disk : DiskState) (out0 out1 log : SinkState) (status : ℕ) → status ≡ 3 → Tells out0 out1 (codes "fault input\n") → RunsSession show input disk disk out0 out1 log log status
 input_session show input disk out0 out1 log status is told =
     unread_session show input disk out0 out1 log status (codes "fault input\n") told (λ e. absurd (omega arith)) (λ e. absurd (omega arith)) (λ e. absurd (omega arith)) (λ e. absurd (omega arith))
+    (input_told status out0 out1 is (line_alone out0 out1 (codes "fault input\n") told))
     (λ bytes head live rest line. input_ends (Rose out0.faults out1.faults) _ (script head.dim bytes) rest status is line)
 
 pub long_session : (show : Bool) (input : Option (List ℕ)) (disk : DiskState) (out0 out1 log : SinkState) (status : ℕ) → status ≡ 7 → Tells out0 out1 (codes "fault long\n") → RunsSession show input disk disk out0 out1 log log status
 long_session show input disk out0 out1 log status is told =
     unread_session show input disk out0 out1 log status (codes "fault long\n") told (λ e. absurd (omega arith)) (λ e. absurd (omega arith)) (λ e. absurd (omega arith)) (λ e. absurd (omega arith))
+    (long_told status out0 out1 is (line_alone out0 out1 (codes "fault long\n") told))
     (λ bytes head live rest line. long_ends (Rose out0.faults out1.faults) _ (script head.dim bytes) rest status is line)
 
 pub memory_session : (show : Bool) (input : Option (List ℕ)) (disk : DiskState) (out0 out1 log : SinkState) (status : ℕ) → status ≡ 8 → Tells out0 out1 (codes "fault memory\n") → RunsSession show input disk disk out0 out1 log log status
 memory_session show input disk out0 out1 log status is told =
     unread_session show input disk out0 out1 log status (codes "fault memory\n") told (λ e. absurd (omega arith)) (λ e. absurd (omega arith)) (λ e. absurd (omega arith)) (λ e. absurd (omega arith))
+    (memory_told status out0 out1 is (line_alone out0 out1 (codes "fault memory\n") told))
     (λ bytes head live rest line. memory_ends (Rose out0.faults out1.faults) _ (script head.dim bytes) rest [] status is line)
 
 -- ---- a script that was read whole
@@ -547,6 +625,8 @@ ran_session show input rest bytes read disk0 disk1 out0 out1 log0 log1 status ta
   disk = refused.disk;
   not_index = refused.not_index;
   damaged = refused.damaged;
+  lines = refused.lines;
+  index = refused.index;
 }
 
 -- it is done, but for want of memory

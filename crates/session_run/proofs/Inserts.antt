@@ -1,5 +1,5 @@
 -- Inserts and loads of a session, by what the index says of them.
-use Rattle.std.proofs.Common.{◌≡◌, ◌≢◌, ◌↔◌, ℕ, zero, suc, ◌+◌, ◌-◌, ◌^◌, ◌≤◌, ◌<◌, Bool, true, false, List, [], ◌∷◌, ◌++◌, length, take, inl, inr, refl, sym, ap, subst, ◌∙◌, arith, Some, None, Result, Ok, Err}
+use Rattle.std.proofs.Common.{◌≡◌, ◌≢◌, ◌↔◌, ℕ, zero, suc, ◌+◌, ◌-◌, ◌^◌, ◌≤◌, ◌<◌, Bool, true, false, List, [], ◌∷◌, ◌++◌, length, inl, inr, refl, sym, ap, subst, ◌∙◌, arith, Some, None, Result, Ok, Err}
 use Rattle.std.specs.Prelude.{IsTrue, IfErr, nat_lt}
 use Rattle.std.specs.List.{range_with_len}
 use Rattle.metric_laws.specs.Space.{Space}
@@ -19,7 +19,7 @@ use Rattle.index_core.specs.declared.faults.IndexFault.{IndexFault}
 use Rattle.index_core.specs.declared.faults.IndexFault.TheVariants as fault
 use Rattle.index_core.specs.Answers.{IsSoundOn, points_on, tags_on}
 use Rattle.page_store.specs.Shelf.{IsDamage as IsWalkDamage}
-use Rattle.index_core.specs.Causes.{BlamesNoPage, HasInsertCause, IsPathDamage}
+use Rattle.index_core.specs.Causes.{BlamesNoPage, HasInsertCause, IsPathDamage, offered_pages}
 use Rattle.index_core.specs.Damage.{BlamesDamage}
 use Rattle.index_core.specs.Files.{IsLawfulFile, nodes_on}
 use Rattle.index_core.specs.Index.{OpenIndex, StandsAlone}
@@ -131,8 +131,9 @@ module _ {M : Type 0} (s : Space) (show : Bool) (old new : OpenIndex M) (cursors
 
       hinders : (pages needed : ℕ) → HasInsertCause s old (record { id = old.file.live.count; tag = tag; point = point }) before after (fault.NoRoom pages needed) → IsSoundOn s old.file before →
           Hinders s old.file.head (held_on old.file before) refusal.NoRoom (Inserts point tag)
-      hinders pages needed (f, is, asked, cause) sound =
-          let exact = (cause.2 sound.0).1 in (length (take asked f.free), room_of pages needed _ (length (take asked f.free)) cause.0 exact cause.1)
+      hinders pages needed (f, is, cause) sound =
+          let exact = (cause.2 sound.0).1 in
+          (length (offered_pages old.file.live f), room_of pages needed _ (length (offered_pages old.file.live f)) cause.0 exact cause.1)
 
       same : (f : PageFault) → result ≡ Err (fault.Damaged f) → after.bytes ≡ before.bytes
       same f is =

@@ -1,6 +1,6 @@
 -- Loads of a session, by what the index says of them.
 use Rattle.std.proofs.Common.{◌≡◌, ◌≢◌, ℕ, ◌-◌, ◌^◌, ◌≤◌, Bool, true, false, List, length, refl, sym, ap, subst, ◌∙◌, arith, Option, Some, None, Result, Ok, Err}
-use Rattle.std.specs.Prelude.{IsTrue, MatchOption, IfErr, nat_lt, ◌==◌}
+use Rattle.std.specs.Prelude.{IsTrue, IfErr, nat_lt, ◌==◌}
 use Rattle.metric_laws.specs.Space.{Space}
 use Rattle.disk_model.specs.Disk.{DiskState}
 use Rattle.metric_laws.specs.Rows.{Table}
@@ -11,7 +11,6 @@ use Rattle.rows_text.specs.declared.reply.Reply.TheVariants as reply
 use Rattle.rows_text.specs.Meaning.{State, Step, execute, has_points_of, load_step, step}
 use Rattle.plain_scan.specs.OpenCursors.{OpenCursors, with_cursors}
 use Rattle.page_store.specs.declared.pages.PageFault.{PageFault}
-use Rattle.free_pages.specs.Keeping.{FreePages}
 use Rattle.index_core.specs.declared.faults.IndexFault.{IndexFault}
 use Rattle.index_core.specs.declared.faults.IndexFault.TheVariants as fault
 use Rattle.index_core.specs.Answers.{IsSoundOn, points_on}
@@ -19,7 +18,7 @@ use Rattle.index_core.specs.Causes.{BlamesNoPage}
 use Rattle.index_core.specs.Damage.{BlamesDamage}
 use Rattle.index_core.specs.Files.{IsLawfulFile}
 use Rattle.index_core.specs.Index.{OpenIndex, StandsAlone}
-use Rattle.index_core.specs.Loading.{HasLoadCause, HasLoadingCause, ids, load_fault}
+use Rattle.index_core.specs.Loading.{HasLoadingCause, ids, load_fault}
 use Rattle.index_core.specs.Writing.{Loads, HasWritten}
 use Rattle.session_run.specs.Session.{setting_of, state_on}
 use Rattle.session_run.specs.Steps.{HasStepCause, HasStepped, answer_of_fault, written_answer}
@@ -71,7 +70,7 @@ module _ {M : Type 0} (s : Space) (show : Bool) (old new : OpenIndex M) (cursors
   accepted : (old.file.live.count == 0) ≡ true → nat_lt old.file.head.limit (length rows) ≡ false → load_step old.file.head.limit state rows labels ≡ loaded_step
   accepted none few = let no : nat_lt 0 (length (points_on old.file before)) ≡ false = zero_of (length (points_on old.file before)) old.file.live.count count_on none in rw (no, few) refl
 
-  load_cause : (why : IndexFault) → (load_fault old (length rows) ≡ None → HasLoadingCause s old new rows labels before after.faults why) → (load_fault old (length rows) ≡ None) →
+  load_cause : (why : IndexFault) → (load_fault old (length rows) ≡ None → HasLoadingCause s old rows labels before after.faults why) → (load_fault old (length rows) ≡ None) →
       (IsSoundOn s old.file before → BlamesNoPage why) → IfErr (answer_of_fault why) (HasStepCause (IsSoundOn s old.file before) before after)
   load_cause fault.Disk cause none undamaged = (cause none).1
   load_cause (fault.Damaged f) cause none undamaged = (walk_damage f (cause none).1.0, undamaged)
@@ -83,17 +82,13 @@ module _ {M : Type 0} (s : Space) (show : Bool) (old new : OpenIndex M) (cursors
   load_cause fault.Stopped cause none undamaged = absurd (cause none).1
   load_cause fault.Commit cause none undamaged = cause none
 
-  hinders : (pages needed : ℕ) → HasLoadingCause s old new rows labels before after.faults (fault.NoRoom pages needed) → Hinders s old.file.head (held_on old.file before) refusal.NoRoom (Loads rows labels)
-  hinders pages needed cause = given new.free cause
-    where
-      given : (free : Option FreePages) → MatchOption free ⊥ (λ f. HasLoadCause s old.file f rows labels (fault.NoRoom pages needed)) → Hinders s old.file.head (held_on old.file before) refusal.NoRoom (Loads rows labels)
-      given None cause = absurd cause
-      given (Some f) (other, at, exact, over) = (length f.free, rw (at, exact) at over)
+  hinders : (pages needed : ℕ) → HasLoadingCause s old rows labels before after.faults (fault.NoRoom pages needed) → Hinders s old.file.head (held_on old.file before) refusal.NoRoom (Loads rows labels)
+  hinders pages needed (f, is, other, at, exact, over) = (length f.free, rw (at, exact) at over)
 
   -- a load
   pub load_stepped : (result : Result ℕ IndexFault) → HasWritten s (Loads rows labels) old new before after result →
       ((why : IndexFault) → load_fault old (length rows) ≡ Some why → result ≡ Err why) →
-      (load_fault old (length rows) ≡ None → IfErr result (HasLoadingCause s old new rows labels before after.faults)) →
+      (load_fault old (length rows) ≡ None → IfErr result (HasLoadingCause s old rows labels before after.faults)) →
       IfErr result (λ why. IsSoundOn s old.file before → BlamesNoPage why) → IfErr result (BlamesDamage old.file before) →
       write_of old.file.live.count c ≡ Some (Loads rows labels) → answered_query s c ≡ None →
       step (setting_of s old.file) state c ≡ load_step old.file.head.limit state rows labels →
@@ -186,7 +181,7 @@ module _ {M : Type 0} (s : Space) (show : Bool) (old new : OpenIndex M) (cursors
 
   pub loaded_stepped : (result : Result ℕ IndexFault) → c ≡ command.Load rows → HasWritten s (Loads rows.points (ids (length rows.points))) old new before after result →
       ((why : IndexFault) → load_fault old (length rows.points) ≡ Some why → result ≡ Err why) →
-      (load_fault old (length rows.points) ≡ None → IfErr result (HasLoadingCause s old new rows.points (ids (length rows.points)) before after.faults)) →
+      (load_fault old (length rows.points) ≡ None → IfErr result (HasLoadingCause s old rows.points (ids (length rows.points)) before after.faults)) →
       IfErr result (λ why. IsSoundOn s old.file before → BlamesNoPage why) → IfErr result (BlamesDamage old.file before) → HasStepped s show old new cursors cursors before after c (written_answer (λ count. reply.Loaded count) result)
   loaded_stepped result is written refused cause undamaged blames =
       load_stepped s show old new cursors before after c rows.points (ids (length rows.points)) lawful alone going told later result written refused cause undamaged blames
@@ -195,7 +190,7 @@ module _ {M : Type 0} (s : Space) (show : Bool) (old new : OpenIndex M) (cursors
 
   pub tag_loaded_stepped : (tags : List ℕ) (result : Result ℕ IndexFault) → c ≡ command.TagLoad tags rows → HasWritten s (Loads rows.points tags) old new before after result →
       ((why : IndexFault) → load_fault old (length rows.points) ≡ Some why → result ≡ Err why) →
-      (load_fault old (length rows.points) ≡ None → IfErr result (HasLoadingCause s old new rows.points tags before after.faults)) →
+      (load_fault old (length rows.points) ≡ None → IfErr result (HasLoadingCause s old rows.points tags before after.faults)) →
       IfErr result (λ why. IsSoundOn s old.file before → BlamesNoPage why) → IfErr result (BlamesDamage old.file before) → HasStepped s show old new cursors cursors before after c (written_answer (λ count. reply.Loaded count) result)
   tag_loaded_stepped tags result is written refused cause undamaged blames =
       load_stepped s show old new cursors before after c rows.points tags lawful alone going told later result written refused cause undamaged blames (rw is refl) (unasked (rw is refl)) (executed (command.TagLoad tags rows) is)

@@ -19,7 +19,7 @@ use Rattle.batch_run.specs.declared.images.ImageFault.{ImageFault}
 use Rattle.batch_run.specs.declared.images.ImageFault.TheVariants as fault
 use Rattle.batch_run.specs.Images.{HasImageCause, ImagesHoldTheFile, IsImageOf}
 use Rattle.answer_texts.specs.Asked.{Held, held_in}
-use Rattle.answer_texts.proofs.Published.{disk_ends, input_ends, long_ends, memory_ends}
+use Rattle.answer_texts.proofs.Published.{disk_ends, disk_told, input_ends, line_alone, long_ends, long_told, memory_ends, memory_told, none_told}
 use Rattle.image_answers.specs.Outcomes.{HasDamage}
 use Rattle.file_jobs.specs.Spaces.{space_of}
 use Rattle.batch_run.specs.Jobs.Batches.{HasFinished, HasOpened, RunsOn, RunsScript}
@@ -31,6 +31,10 @@ pub not_these : (n k : ℕ) → n ≡ k → k ≢ 0 → k ≢ 4 → k ≢ 9 → 
 not_these n k is a b c (inl e) = a (sym is ∙ e)
 not_these n k is a b c (inr (inl e)) = b (sym is ∙ e)
 not_these n k is a b c (inr (inr e)) = c (sym is ∙ e)
+
+pub not_done : (n k : ℕ) → n ≡ k → k ≢ 0 → k ≢ 9 → (n ≡ 0) ⊎ (n ≡ 9) → ⊥
+not_done n k is a b (inl e) = a (sym is ∙ e)
+not_done n k is a b (inr e) = b (sym is ∙ e)
 
 -- a line is all that was put
 module _ (show : Bool) (bytes : List ℕ) (disk0 : DiskState) (out0 out1 log : SinkState) (status : ℕ) where
@@ -65,6 +69,8 @@ refused faults one show bytes disk0 disk1 out0 out1 log status same refuses = el
     not_index = refuses.not_index;
     long = λ e. absurd (omega arith);
     damaged = λ e. absurd (omega arith);
+    lines = disk_told status out0 out1 five (line_alone out0 out1 (codes "fault disk\n") (refuses.disk five).1);
+    index = λ these. absurd (not_done status 5 five (omega arith) (omega arith) these);
     large = λ tells is these. not_these status 5 five (omega arith) (omega arith) (omega arith) these;
     statuses = inr (inr (inl five));
   }
@@ -76,13 +82,15 @@ refused faults one show bytes disk0 disk1 out0 out1 log status same refuses = el
     not_index = refuses.not_index;
     long = λ e. absurd (omega arith);
     damaged = λ e. absurd (omega arith);
+    lines = none_told status out0 out1 (λ e. omega arith) (λ e. omega arith) (λ e. omega arith) (λ e. omega arith);
+    index = λ these. absurd (not_done status 6 six (omega arith) (omega arith) these);
     large = λ tells is these. not_these status 6 six (omega arith) (omega arith) (omega arith) these;
     statuses = inr (inr (inr (inl six)));
   }
 ]
 
 module _ (show : Bool) (bytes : List ℕ) (disk0 disk1 disk2 : DiskState) (head : Head) (live : Live) (same : IsUnchanged disk0 disk1) (later : disk0.faults ≤ disk1.faults)
-    (opens : IsTrue disk0.tells → OpensTo disk0.bytes head live) (still : IsUnchanged disk1 disk2) where
+    (opens : IsTrue disk0.tells → OpensTo disk0.bytes head live) (version : head.version ≡ 2) (still : IsUnchanged disk1 disk2) where
   -- the index was not read into memory
   pub unread_image : (out0 out1 log : SinkState) (status : ℕ) (why : ImageFault) → HasImageCause live.pages disk1.faults disk2.faults why →
       (status ≡ 7 → (why ≡ fault.TooLong) × Tells out0 out1 (codes "fault long\n")) → (status ≡ 5 → (why ≡ fault.Disk) × Tells out0 out1 (codes "fault disk\n")) →
@@ -95,6 +103,8 @@ module _ (show : Bool) (bytes : List ℕ) (disk0 disk1 disk2 : DiskState) (head 
     not_index = λ e. absurd (omega arith);
     long = λ e. absurd (omega arith);
     damaged = λ e. absurd (omega arith);
+    lines = disk_told status out0 out1 five (line_alone out0 out1 (codes "fault disk\n") (disk five).1);
+    index = λ these. absurd (not_done status 5 five (omega arith) (omega arith) these);
     large = λ tells is these. not_these status 5 five (omega arith) (omega arith) (omega arith) these;
     statuses = inr (inr (inl five));
   }
@@ -106,6 +116,8 @@ module _ (show : Bool) (bytes : List ℕ) (disk0 disk1 disk2 : DiskState) (head 
     not_index = λ e. absurd (omega arith);
     long = λ e tells. (head, live, opens tells, subst (HasImageCause live.pages disk1.faults disk2.faults) (long seven).0 cause);
     damaged = λ e. absurd (omega arith);
+    lines = long_told status out0 out1 seven (line_alone out0 out1 (codes "fault long\n") (long seven).1);
+    index = λ these. absurd (not_done status 7 seven (omega arith) (omega arith) these);
     large = λ tells is these. not_these status 7 seven (omega arith) (omega arith) (omega arith) these;
     statuses = inr (inr (inr (inr (inl seven))));
   }
@@ -117,6 +129,8 @@ module _ (show : Bool) (bytes : List ℕ) (disk0 disk1 disk2 : DiskState) (head 
     not_index = λ e. absurd (omega arith);
     long = λ e. absurd (omega arith);
     damaged = λ e. absurd (omega arith);
+    lines = memory_told status out0 out1 eight (line_alone out0 out1 (codes "fault memory\n") (memory eight));
+    index = λ these. absurd (not_done status 8 eight (omega arith) (omega arith) these);
     large = λ tells is these. not_these status 8 eight (omega arith) (omega arith) (omega arith) these;
     statuses = inr (inr (inr (inr (inr (inl eight)))));
   }
@@ -147,15 +161,16 @@ module _ (show : Bool) (bytes : List ℕ) (disk0 disk1 disk2 : DiskState) (head 
       damaged = λ e. (let d = finished.damaged e in (
         d.0,
         d.1,
-        d.2,
         λ tells. record {
           head = head;
           live = live;
           opens = opens tells;
-          asked = d.3.0;
-          damage = subst (λ (read : Read). HasDamage (space_of head) live read d.3.0 d.0) (read_is tells) d.3.1;
+          asked = d.2.0;
+          damage = subst (λ (read : Read). HasDamage (space_of head) live read d.2.0 d.0) (read_is tells) d.2.1;
         },
       ));
+      lines = record { input = λ e. absurd (none_of_three e); disk = λ e. absurd (none_of e); long = λ e. absurd (none_of_seven e); memory = finished.memory };
+      index = λ these tells. (head, live, opens tells, version);
       large = λ tells is these. (let slot = one disk0.bytes is.0 head is.1 live is.2 (opens tells) in absurd (omega (arith, few, is.3, ap (λ (l : Live). l.pages) slot.1)));
       statuses = among finished.statuses;
     }
@@ -166,6 +181,9 @@ module _ (show : Bool) (bytes : List ℕ) (disk0 disk1 disk2 : DiskState) (head 
 
         none_of : status ≡ 5 → ⊥
         none_of e = elim finished.statuses [ inl a ↦ omega arith | inr b ↦ elim b [ inl a ↦ omega arith | inr d ↦ elim d [ inl a ↦ omega arith | inr a ↦ omega arith ] ] ]
+
+        none_of_three : status ≡ 3 → ⊥
+        none_of_three e = elim finished.statuses [ inl a ↦ omega arith | inr b ↦ elim b [ inl a ↦ omega arith | inr d ↦ elim d [ inl a ↦ omega arith | inr a ↦ omega arith ] ] ]
 
         none_of_six : status ≡ 6 → ⊥
         none_of_six e = elim finished.statuses [ inl a ↦ omega arith | inr b ↦ elim b [ inl a ↦ omega arith | inr d ↦ elim d [ inl a ↦ omega arith | inr a ↦ omega arith ] ] ]

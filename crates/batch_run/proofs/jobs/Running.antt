@@ -1,5 +1,6 @@
 -- A batch on an image.
 use Rattle.std.proofs.Common.{◌≡◌, ◌≢◌, ◌⊎◌, ℕ, ◌≤◌, Bool, List, [], ◌∷◌, ◌++◌, inl, inr, refl, sym, ap, subst, ◌∙◌, arith, Option, Some, None, Result, Ok, Err}
+use Rattle.std.specs.Prelude.{codes}
 use Rattle.std.specs.List.{AllByRecursion, AllZip, concat}
 use Rattle.std.specs.Io.KnownBytes.{Appends}
 use Rattle.std.proofs.KnownBytes.{Appends-nil}
@@ -19,7 +20,7 @@ use Rattle.answer_texts.specs.Answered.{Answered, commands_of, framed, if_any, l
 use Rattle.answer_texts.specs.Asked.{Held, answered_query, held_in}
 use Rattle.answer_texts.specs.Ending.{Ends, IsTold}
 use Rattle.answer_texts.specs.Put.{AreCut}
-use Rattle.answer_texts.proofs.Published.{framed_both, told_behind}
+use Rattle.answer_texts.proofs.Published.{framed_both, line_alone, told_behind}
 use Rattle.image_answers.specs.declared.outcome.Outcome.{Outcome}
 use Rattle.image_answers.specs.declared.outcome.Outcome.TheVariants as outcome
 use Rattle.image_answers.specs.Outcomes.{HasDamage, IsOutcomeOf, IsTold as IsAnswered, IsTurn}
@@ -217,24 +218,36 @@ module _ (s : Space) (live : Live) (image : List ℕ) (show : Bool) where
       at (c ∷ ds) zip = damage_by c zip.0.0 fault zip.0.1 zip.0.2
 
   pub finished : (commands : List Command) (all : List Prepared) (out0 out1 out2 log0 log1 : SinkState) (why : Stop) (status : ℕ) → AllZip (IsPreparedFor s live image show) commands all →
-      ArePut all out0 out1 log0 log1 (Err why) → out1.faults ≤ out2.faults → HasEnded why out1 out2 status →
+      ArePut all out0 out1 log0 log1 (Err why) → out0.faults ≤ out1.faults → out1.faults ≤ out2.faults → HasEnded why out1 out2 status →
       (why ≡ stop.Sink → Rose out0.faults out1.faults ⊎ Rose log0.faults log1.faults) → HasFinished s live image out0 out2 log0 log1 status
-  finished commands all out0 out1 out2 log0 log1 stop.Sink status zipped put later ended rose = record {
+  finished commands all out0 out1 out2 log0 log1 stop.Sink status zipped put grown later ended rose = record {
     output = λ e. subst (λ (o : SinkState). Rose out0.faults o.faults ⊎ Rose log0.faults log1.faults) (sym ended.1) (rose refl);
     damaged = λ e. absurd (omega (arith, ended.0));
+    memory = λ e. absurd (omega (arith, ended.0));
     statuses = inr (inl ended.0);
   }
-  finished commands all out0 out1 out2 log0 log1 (stop.Damaged fault) status zipped put later ended rose =
+  finished commands all out0 out1 out2 log0 log1 (stop.Damaged fault) status zipped put grown later ended rose =
       let damage = damage_of commands all put.put put.left put.follows.0.0 fault zipped put.whole put.follows.0.1 in
       elim (ended damage.1.damage) [
         | inl nine ↦ record {
           output = λ e. absurd (omega (arith, nine.0));
-          damaged = λ e. (fault, out1, nine.1, damage);
+          damaged = λ e. (fault, record { mid = out1; bytes = all_said put.put ++ put.rest; grew = put.written; later = grown; told = nine.1 }, damage);
+          memory = λ e. absurd (omega (arith, nine.0));
           statuses = inr (inr (inr nine.0));
         }
         | inr eight ↦ record {
           output = λ e. absurd (omega (arith, eight.0));
           damaged = λ e. absurd (omega (arith, eight.0));
+          memory = λ e. record { mid = out1; bytes = all_said put.put ++ put.rest; grew = put.written; later = grown; told = eight.1 };
           statuses = inr (inr (inl eight.0));
         }
       ]
+
+-- there was no memory before the first put
+pub out_of_memory : (s : Space) (live : Live) (image : List ℕ) (out0 out1 log : SinkState) (status : ℕ) → status ≡ 8 → Tells out0 out1 (codes "fault memory\n") → HasFinished s live image out0 out1 log log status
+out_of_memory s live image out0 out1 log status is told = record {
+  output = λ e. absurd (omega arith);
+  damaged = λ e. absurd (omega arith);
+  memory = λ e. line_alone out0 out1 (codes "fault memory\n") told;
+  statuses = inr (inr (inl is));
+}

@@ -7,7 +7,9 @@ use Rattle.outside_io.specs.Sinks.{SinkState, Tells}
 use Rattle.disk_model.specs.Disk.{DiskState, IsUnchanged, MayLeave}
 use Rattle.disk_model.specs.Moments.{started}
 use Rattle.batch_run.specs.Jobs.Batches.{HasOpened, RunsBatch, RunsScript}
-use Rattle.batch_run.proofs.jobs.Opened.{input_line, long_line, memory_line, not_these}
+use Rattle.answer_texts.specs.Ending.{TellsFault}
+use Rattle.answer_texts.proofs.Published.{input_told, line_alone, long_told, memory_told}
+use Rattle.batch_run.proofs.jobs.Opened.{input_line, long_line, memory_line, not_done, not_these}
 
 unchanged_self : (disk : DiskState) → IsUnchanged disk disk
 unchanged_self disk = record { same_tells = refl; same_bytes = refl; same_images = λ image. (λ left. left, λ left. left); time = started disk (MayLeave disk) (λ image left. left) }
@@ -29,26 +31,30 @@ whole show left0 left1 bytes disk0 disk1 out0 out1 log0 log1 status took end ope
   disk = opened.disk;
   not_index = opened.not_index;
   damaged = opened.damaged;
+  lines = opened.lines;
+  index = opened.index;
   large = opened.large;
 }
 
 -- a line is all that was put
 module _ (show : Bool) (input : Option (List ℕ)) (disk : DiskState) (out0 out1 log : SinkState) (status : ℕ) where
-  only_line : (k : ℕ) → status ≡ k → k ≢ 0 → k ≢ 4 → k ≢ 5 → k ≢ 6 → k ≢ 9 → ((bytes : List ℕ) → RunsScript show bytes disk out0 out1 log log status) → RunsBatch show input disk disk out0 out1 log log status
-  only_line k is done cut failed named damaged runs = record {
+  only_line : (k : ℕ) → status ≡ k → k ≢ 0 → k ≢ 4 → k ≢ 5 → k ≢ 6 → k ≢ 9 → TellsFault status out0 out1 → ((bytes : List ℕ) → RunsScript show bytes disk out0 out1 log log status) → RunsBatch show input disk disk out0 out1 log log status
+  only_line k is done cut failed named damaged lines runs = record {
     runs = always input (λ bytes. RunsScript show bytes disk out0 out1 log log status) runs;
     unchanged = unchanged_self disk;
     disk = λ e. absurd (failed (let same : k ≡ 5 = omega arith in same));
     not_index = λ e. absurd (named (let same : k ≡ 6 = omega arith in same));
     damaged = λ e. absurd (damaged (let same : k ≡ 9 = omega arith in same));
+    lines = lines;
+    index = λ these. absurd (not_done status k is done damaged these);
     large = λ tells large these. not_these status k is done cut damaged these;
   }
 
   pub input_failed : status ≡ 3 → Tells out0 out1 (codes "fault input\n") → RunsBatch show input disk disk out0 out1 log log status
-  input_failed is told = only_line 3 is (omega arith) (omega arith) (omega arith) (omega arith) (omega arith) (λ bytes. input_line show bytes disk out0 out1 log status is told)
+  input_failed is told = only_line 3 is (omega arith) (omega arith) (omega arith) (omega arith) (omega arith) (input_told status out0 out1 is (line_alone out0 out1 (codes "fault input\n") told)) (λ bytes. input_line show bytes disk out0 out1 log status is told)
 
   pub too_long : status ≡ 7 → Tells out0 out1 (codes "fault long\n") → RunsBatch show input disk disk out0 out1 log log status
-  too_long is told = only_line 7 is (omega arith) (omega arith) (omega arith) (omega arith) (omega arith) (λ bytes. long_line show bytes disk out0 out1 log status is told)
+  too_long is told = only_line 7 is (omega arith) (omega arith) (omega arith) (omega arith) (omega arith) (long_told status out0 out1 is (line_alone out0 out1 (codes "fault long\n") told)) (λ bytes. long_line show bytes disk out0 out1 log status is told)
 
   pub out_of_memory : status ≡ 8 → Tells out0 out1 (codes "fault memory\n") → RunsBatch show input disk disk out0 out1 log log status
-  out_of_memory is told = only_line 8 is (omega arith) (omega arith) (omega arith) (omega arith) (omega arith) (λ bytes. memory_line show bytes disk out0 out1 log status is told)
+  out_of_memory is told = only_line 8 is (omega arith) (omega arith) (omega arith) (omega arith) (omega arith) (memory_told status out0 out1 is (line_alone out0 out1 (codes "fault memory\n") told)) (λ bytes. memory_line show bytes disk out0 out1 log status is told)

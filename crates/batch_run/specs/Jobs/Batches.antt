@@ -1,5 +1,5 @@
 -- What a batch does and writes, by the status with which it ends.
-use Rattle.std.specs.Prelude.{◌≡◌, ◌⊎◌, ℕ, ◌+◌, ◌^◌, ◌<◌, ◌≤◌, Bool, List, [], ◌∷◌, ◌++◌, length, Option, IsTrue, IfSome}
+use Rattle.std.specs.Prelude.{◌≡◌, ◌⊎◌, ℕ, ◌+◌, ◌^◌, ◌<◌, ◌≤◌, Bool, List, [], ◌∷◌, ◌++◌, codes, length, Option, IsTrue, IfSome}
 use Rattle.std.specs.List.{AllByRecursion, concat}
 use Rattle.std.specs.Io.KnownBytes.{Appends, Consumes}
 use Rattle.metric_laws.specs.Space.{Space}
@@ -16,11 +16,11 @@ use Rattle.node_page.specs.Opening.{OpensTo}
 use Rattle.page_store.specs.declared.pages.PageFault.{PageFault}
 use Rattle.page_store.specs.Files.{IsSoundFile, IsLarge}
 use Rattle.page_store.specs.Reading.{reading}
-use Rattle.file_jobs.specs.Jobs.{IsNoIndex}
+use Rattle.file_jobs.specs.Jobs.{IsIndex, IsNoIndex}
 use Rattle.file_jobs.specs.Lines.{not_index_text, damaged_text}
 use Rattle.answer_texts.specs.Answered.{Answered, commands_of, framed, if_any, logs_of, texts_of}
 use Rattle.answer_texts.specs.Asked.{Held, held_in}
-use Rattle.answer_texts.specs.Ending.{Ends}
+use Rattle.answer_texts.specs.Ending.{Ends, EndsIn, TellsFault}
 use Rattle.answer_texts.specs.Put.{AreCut}
 use Rattle.image_answers.specs.Outcomes.{HasDamage, IsTurn}
 use Rattle.file_jobs.specs.Spaces.{space_of}
@@ -61,9 +61,9 @@ pub record HasDamagedPage (file : List ℕ) (fault : PageFault) : Type 0 where
   pub asked : Query
   pub damage : HasDamage (space_of head) live (reading head.dim live.pages file) asked fault
 
--- where out told its bytes before the last line, that line names a damaged page
-abbrev pub TellsDamage : DiskState → SinkState → Type 0
-TellsDamage disk0 out1 = (fault : PageFault) × (mid : SinkState) × Tells mid out1 (damaged_text fault) × (IsTrue disk0.tells → HasDamagedPage disk0.bytes fault)
+-- the last line names a damaged page
+abbrev pub TellsDamage : DiskState → SinkState → SinkState → Type 0
+TellsDamage disk0 out0 out1 = (fault : PageFault) × EndsIn out0 out1 (damaged_text fault) × (IsTrue disk0.tells → HasDamagedPage disk0.bytes fault)
 
 -- What a batch does with a file and a script: on a sound file this, and on any file its refusals have their causes. Nothing is changed.
 pub record RunsBatch (show : Bool) (input : Option (List ℕ)) (disk0 disk1 : DiskState) (out0 out1 log0 log1 : SinkState) (status : ℕ) : Type 0 where
@@ -71,7 +71,10 @@ pub record RunsBatch (show : Bool) (input : Option (List ℕ)) (disk0 disk1 : Di
   pub unchanged : IsUnchanged disk0 disk1
   pub disk : status ≡ 5 → Rose disk0.faults disk1.faults
   pub not_index : status ≡ 6 → (name : List ℕ) × Tells out0 out1 (not_index_text name) × (IsTrue disk0.tells → IsNoIndex disk0.bytes name)
-  pub damaged : status ≡ 9 → TellsDamage disk0 out1
+  pub damaged : status ≡ 9 → TellsDamage disk0 out0 out1
+  -- whatever the file is: the line of a fault stands there, and only an index is searched
+  pub lines : TellsFault status out0 out1
+  pub index : (status ≡ 0) ⊎ (status ≡ 9) → IsTrue disk0.tells → IsIndex disk0.bytes
   -- a file with too many pages is answered nothing else, but where it isn't read so far
   pub large : IsTrue disk0.tells → IsLarge disk0.bytes → (status ≡ 0) ⊎ ((status ≡ 4) ⊎ (status ≡ 9)) → ⊥
 
@@ -92,8 +95,9 @@ IsBatchStatus n = (n ≡ 0) ⊎ ((n ≡ 3) ⊎ ((n ≡ 4) ⊎ ((n ≡ 5) ⊎ ((n
 -- What ends a batch on an image of a file, on any file: an output failed, a search came to a damaged page, or memory ran out.
 pub record HasFinished (s : Space) (live : Live) (image : List ℕ) (out0 out1 log0 log1 : SinkState) (status : ℕ) : Type 0 where
   pub output : status ≡ 4 → Rose out0.faults out1.faults ⊎ Rose log0.faults log1.faults
-  pub damaged : status ≡ 9 → (fault : PageFault) × (mid : SinkState) × Tells mid out1 (damaged_text fault)
+  pub damaged : status ≡ 9 → (fault : PageFault) × EndsIn out0 out1 (damaged_text fault)
       × ((asked : Query) × HasDamage s live (reading s.words live.pages image) asked fault)
+  pub memory : status ≡ 8 → EndsIn out0 out1 (codes "fault memory\n")
   pub statuses : (status ≡ 0) ⊎ ((status ≡ 4) ⊎ ((status ≡ 8) ⊎ (status ≡ 9)))
 
 -- what a batch that opens its index does with the script
@@ -104,6 +108,8 @@ pub record HasOpened (show : Bool) (bytes : List ℕ) (disk0 disk1 : DiskState) 
   pub disk : status ≡ 5 → Rose disk0.faults disk1.faults
   pub not_index : status ≡ 6 → (name : List ℕ) × Tells out0 out1 (not_index_text name) × (IsTrue disk0.tells → IsNoIndex disk0.bytes name)
   pub long : status ≡ 7 → IsTrue disk0.tells → IsLarge disk0.bytes
-  pub damaged : status ≡ 9 → TellsDamage disk0 out1
+  pub damaged : status ≡ 9 → TellsDamage disk0 out0 out1
+  pub lines : TellsFault status out0 out1
+  pub index : (status ≡ 0) ⊎ (status ≡ 9) → IsTrue disk0.tells → IsIndex disk0.bytes
   pub large : IsTrue disk0.tells → IsLarge disk0.bytes → (status ≡ 0) ⊎ ((status ≡ 4) ⊎ (status ≡ 9)) → ⊥
   pub statuses : (status ≡ 0) ⊎ ((status ≡ 4) ⊎ ((status ≡ 5) ⊎ ((status ≡ 6) ⊎ ((status ≡ 7) ⊎ ((status ≡ 8) ⊎ (status ≡ 9))))))

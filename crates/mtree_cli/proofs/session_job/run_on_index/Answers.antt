@@ -2,13 +2,23 @@ use Rattle.std.proofs.Common.{inl, inr, ap, ◌∙◌, arith}
 use Rattle.metric_mix.specs.MixKinds.{mix_dim, mix_kind}
 use Rattle.metric_mix.specs.declared.mix_space.MixSpace.{MixSpace}
 use Rattle.index_core.specs.Index.{OpenIndex}
-use Rattle.mtree_cli.proofs.Sessions.{head_is, memory_runs, reads_since, refused_of, refused_runs, since_opening, unopened_ends, unopened_runs}
+use Rattle.mtree_cli.proofs.Sessions.{head_is, memory_ends_it, memory_runs, reads_since, refused_ends, refused_of, refused_runs, since_opening, unopened_ends, unopened_runs}
 use Rattle.mtree_cli.proofs.session_job.run_on_index.Goals as goal
 
 pub returns-in-Err-clause-runs : goal.returns-in-Err-clause-runs
 returns-in-Err-clause-runs g c =
     refused_runs c.fault_is_not_open.ensures c.one_live_slot.ensures c.args.show_tags c.args.bytes.now (g.D.Disk.state c.args.index.now) (g.D.Disk.state c.open_index.new.disk) (g.K.Sink.state c.args.out.now)
     (g.K.Sink.state c.open_index.new.out) (g.T.Sink.state c.args.log_out.now) c.in-Err.status.0 c.in-Err.ensures.same c.in-Err.ensures.refuses
+
+pub returns-in-Err-clause-ends : goal.returns-in-Err-clause-ends
+returns-in-Err-clause-ends g c =
+    refused_ends (g.D.Disk.state c.args.index.now) (g.D.Disk.state c.open_index.new.disk) (g.K.Sink.state c.args.out.now) (g.K.Sink.state c.open_index.new.out) (g.T.Sink.state c.args.log_out.now) c.in-Err.status.0
+    c.in-Err.ensures.refuses
+
+pub returns-in_default-clause-ends : goal.returns-in_default-clause-ends
+returns-in_default-clause-ends g c =
+    memory_ends_it (g.D.Disk.state c.args.index.now) (g.D.Disk.state c.open_write.new.disk) (g.K.Sink.state c.args.out.now) (g.K.Sink.state c.end_with.new.out) (g.T.Sink.state c.args.log_out.now) c.end_with.result.0
+    c.end_with.ensures.status (rw c.in-Ok.ensures.silent at c.end_with.ensures.line)
 
 pub returns-in-Err-open_write-clause-runs : goal.returns-in-Err-open_write-clause-runs
 returns-in-Err-open_write-clause-runs g c =
@@ -57,9 +67,9 @@ pub returns-clause-ends : goal.returns-clause-ends
 returns-clause-ends g c =
     let head_here = ap (λ (i : OpenIndex MixSpace). i.file.head) c.in-Ok-use_cache.ensures.ok ∙ ap (λ (i : OpenIndex MixSpace). i.file.head) c.set_workers.ensures in
     let live_here = ap (λ (i : OpenIndex MixSpace). i.file.live) c.in-Ok-use_cache.ensures.ok ∙ ap (λ (i : OpenIndex MixSpace). i.file.live) c.set_workers.ensures in
-    refused_of c.use_cache.new.self.file.head (g.D.Disk.state c.args.index.now) (g.D.Disk.state c.open_write.new.disk) (g.D.Disk.state c.run_opened.new.index) (g.K.Sink.state c.args.out.now)
+    refused_of c.use_cache.new.self.file.head c.in-Ok.opened (g.D.Disk.state c.args.index.now) (g.D.Disk.state c.open_write.new.disk) (g.D.Disk.state c.run_opened.new.index) (g.K.Sink.state c.args.out.now)
     (g.K.Sink.state c.run_opened.new.out) (g.T.Sink.state c.args.log_out.now) (g.T.Sink.state c.run_opened.new.log_out) c.run_opened.result.0 (omega (arith, c.in-Ok.ensures.later, c.open_write.ensures.later))
-    (c.open_write.ensures.tells ∙ c.in-Ok.ensures.same.same_tells)
+    (c.open_write.ensures.tells ∙ c.in-Ok.ensures.same.same_tells) c.in-Ok.ensures.opens c.in-Ok.ensures.version
     (λ tells head live is.
     (head_is c.one_live_slot.ensures c.use_cache.new.self c.in-Ok.opened (g.D.Disk.state c.args.index.now) (g.D.Disk.state c.open_index.new.disk) (g.D.Disk.state c.open_write.new.disk) c.in-Ok.ensures.same
     c.open_write.ensures.bytes c.open_write.ensures.tells (λ told. rw (head_here, live_here) (c.in-Ok-open_write.ensures.stands.stands.opens told)) c.in-Ok.ensures.opens tells head live is))

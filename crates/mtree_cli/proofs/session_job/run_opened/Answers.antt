@@ -5,7 +5,7 @@ use Rattle.rows_text.specs.Script.{script}
 use Rattle.index_core.specs.Answers.{IsSoundOn}
 use Rattle.answer_texts.proofs.Published.{memory_ends}
 use Rattle.mtree_cli.specs.Session.{LeavesAll, state_in}
-use Rattle.mtree_cli.proofs.Sessions.{few_read, finished, held, is_done, is_stopped, not_done, nothing_left, unread}
+use Rattle.mtree_cli.proofs.Sessions.{done_finished, few_read, finished, held, is_done, is_stopped, memory_finished, not_done, nothing_left, unread}
 use Rattle.mtree_cli.proofs.session_job.run_opened.Goals as goal
 
 pub returns-in-None-clause-runs : goal.returns-in-None-clause-runs
@@ -40,7 +40,17 @@ returns-clause-finished g c =
     (g.D.Disk.state c.args.index.now)
     (g.D.Disk.state c.session-ended.new.disk) (g.K.Sink.state c.args.out.now) (g.K.Sink.state c.session-ended.new.out) (g.K.Sink.state c.end_stopped.new.out) (g.T.Sink.state c.args.log_out.now)
     (g.T.Sink.state c.session-ended.new.log_out) c.in-Some.why c.end_stopped.result.0 c.end_stopped.ensures.later c.end_stopped.ensures.ended (rw c.in-Some.is at c.session-ended.ensures.cause)
-    (rw c.in-Some.is at c.session-ended.ensures.damage) c.session-ended.ensures.tells c.session-ended.ensures.grew
+    (rw c.in-Some.is at c.session-ended.ensures.damage) c.session-ended.ensures.tells c.session-ended.ensures.grew c.session-ended.ensures.out_later
+
+pub returns-in-None-clause-finished : goal.returns-in-None-clause-finished
+returns-in-None-clause-finished g c =
+    done_finished c.args.opened.now.file.head (g.D.Disk.state c.args.index.now) (g.D.Disk.state c.session-ended.new.disk) (g.K.Sink.state c.args.out.now) (g.K.Sink.state c.session-ended.new.out)
+    (g.T.Sink.state c.args.log_out.now) (g.T.Sink.state c.session-ended.new.log_out) c.session-ended.ensures.tells
+
+pub returns-in_default-clause-finished : goal.returns-in_default-clause-finished
+returns-in_default-clause-finished g c =
+    memory_finished c.args.opened.now.file.head (g.D.Disk.state c.args.index.now) (g.K.Sink.state c.args.out.now) (g.K.Sink.state c.end_with.new.out) (g.T.Sink.state c.args.log_out.now)
+    c.end_with.result.0 c.end_with.ensures.status c.end_with.ensures.line
 
 pub returns-in-None-clause-reads : goal.returns-in-None-clause-reads
 returns-in-None-clause-reads g c = λ zero tells kind dim sound asks.

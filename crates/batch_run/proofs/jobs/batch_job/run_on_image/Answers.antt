@@ -11,7 +11,7 @@ use Rattle.batch_run.specs.Dealing.{Rounds}
 use Rattle.batch_run.specs.Jobs.Preparing.{AreStacked, IsPreparedFor}
 use Rattle.batch_run.proofs.jobs.Piling.{stacked, zipped_in}
 use Rattle.file_jobs.specs.Spaces.{space_of}
-use Rattle.batch_run.proofs.jobs.Running.{all_put, finished, stopped, unread}
+use Rattle.batch_run.proofs.jobs.Running.{all_put, finished, out_of_memory, stopped, unread}
 use Rattle.batch_run.proofs.jobs.batch_job.run_on_image.Goals as goal
 
 pub returns-in_default-clause-runs : goal.returns-in_default-clause-runs
@@ -80,5 +80,14 @@ returns-clause-finished g c =
     zipped_in (mix_space (mix_kind c.space_of-space.result) (mix_dim c.space_of-space.result)) (space_of head) c.args.live.now (bytes_in c.args.image) c.args.task.now.show_tags c.deref.result.now d c.len-2.result
     c.deref-2.result.now c.deref-3.result.now same count (rw c.deref-2.ensures.value c.in-Ok-prepare_all.ensures) (rw c.deref-3.ensures.value c.in-Ok-in_turn.ensures) in
     finished (space_of head) c.args.live.now (bytes_in c.args.image) c.args.task.now.show_tags c.deref.result.now c.deref-3.result.now (g.K.Sink.state c.args.out.now) (g.K.Sink.state c.put_all.new.out)
-    (g.K.Sink.state c.end_stopped.new.out) (g.T.Sink.state c.args.log_out.now) (g.T.Sink.state c.put_all.new.log_out) c.in-Err.why c.end_stopped.result.0 zipped c.in-Err.ensures.put c.end_stopped.ensures.later
+    (g.K.Sink.state c.end_stopped.new.out) (g.T.Sink.state c.args.log_out.now) (g.T.Sink.state c.put_all.new.log_out) c.in-Err.why c.end_stopped.result.0 zipped c.in-Err.ensures.put c.put_all.ensures.later c.end_stopped.ensures.later
     c.end_stopped.ensures.ended (λ is. c.in-Err.ensures.rose (rw is refl))
+
+pub returns-in_default-clause-finished : goal.returns-in_default-clause-finished
+returns-in_default-clause-finished g c = out_of_memory (space_of c.args.head.now) c.args.live.now (bytes_in c.args.image) (g.K.Sink.state c.args.out.now) (g.K.Sink.state c.end_with.new.out) (g.T.Sink.state c.args.log_out.now) c.end_with.result.0 c.end_with.ensures.status c.end_with.ensures.line
+
+pub returns-in_default-prepare_all-clause-finished : goal.returns-in_default-prepare_all-clause-finished
+returns-in_default-prepare_all-clause-finished g c = out_of_memory (space_of c.args.head.now) c.args.live.now (bytes_in c.args.image) (g.K.Sink.state c.args.out.now) (g.K.Sink.state c.end_with-in_default-prepare_all.new.out) (g.T.Sink.state c.args.log_out.now) c.end_with-in_default-prepare_all.result.0 c.end_with-in_default-prepare_all.ensures.status c.end_with-in_default-prepare_all.ensures.line
+
+pub returns-in_default-in_turn-clause-finished : goal.returns-in_default-in_turn-clause-finished
+returns-in_default-in_turn-clause-finished g c = out_of_memory (space_of c.args.head.now) c.args.live.now (bytes_in c.args.image) (g.K.Sink.state c.args.out.now) (g.K.Sink.state c.end_with-in_default-in_turn.new.out) (g.T.Sink.state c.args.log_out.now) c.end_with-in_default-in_turn.result.0 c.end_with-in_default-in_turn.ensures.status c.end_with-in_default-in_turn.ensures.line

@@ -15,7 +15,7 @@ use Rattle.index_core.proofs.Written.{refused_written}
 use Rattle.index_core.proofs.index.Index.commit_placed.Goals as goal
 
 pub returns-in_default-clause-written : goal.returns-in_default-clause-written
-returns-in_default-clause-written g c = λ write count is fits.
+returns-in_default-clause-written g c = λ write count is fits numbered.
     let lawful = subst (λ (i : OpenIndex g.row.M.Denot). IsLawfulFile (g.M.Metric.space i.file.metric).words i.file) c.self.view_is c.is_lawful.ensures in
     let same = ap (λ (i : OpenIndex g.row.M.Denot). record i { free = Some c.reserve.new.self }) c.self.view_is ∙ ap (λ (f : FreePages). record c.args.self.now { free = Some f }) c.in_default.ensures.err in
     subst (λ (n : OpenIndex g.row.M.Denot). HasWritten (g.M.Metric.space c.args.self.now.file.metric) write (record c.args.self.now { free = Some c.args.free }) n (g.D.Disk.state c.args.disk.now) (g.D.Disk.state c.args.disk.now) (Err Memory))
@@ -26,7 +26,7 @@ returns-in_default-clause-written g c = λ write count is fits.
       room = same_room_by_none c.args.self.now.file.kept;
       free = refl;
       same = unchanged_by_none (g.D.Disk.state c.args.disk.now);
-    }))
+    }) (λ points tags has exact. exact))
 
 pub write-requires-clause-beside : goal.write-requires-clause-beside
 write-requires-clause-beside g c = λ κs bounds tells.
@@ -40,14 +40,14 @@ write-requires-clause-within g c = λ κs bounds.
     (subst (AreWithin c.args.self.now.file.live.pages) (sym c.in-Ok.ensures.ok) c.requires.lawful.within)
 
 pub returns-in_default-write-clause-written : goal.returns-in_default-write-clause-written
-returns-in_default-write-clause-written g c = λ write count is fits.
+returns-in_default-write-clause-written g c = λ write count is fits numbered.
     let lawful = subst (λ (i : OpenIndex g.row.M.Denot). IsLawfulFile (g.M.Metric.space i.file.metric).words i.file) c.self.view_is c.is_lawful.ensures in
     let kept = unspared c.args.free _ (subst IsKept c.in-Ok.ensures.ok c.reserve.ensures.kept) in
     let moments = subst (λ (i : OpenIndex g.row.M.Denot). IsTrue (g.D.Disk.state c.args.disk.now).tells →
     EachImage (g.D.Disk.state c.args.disk.now) (g.D.Disk.state c.write.new.disk) (IsBeforeOrAfter i.file.head.dim i.file.live c.args.placement.now.placed.next c.args.placement.now.placed.staged
     (g.D.Disk.state c.args.disk.now))) c.self.view_is c.write.ensures.moments in
     failed_written (g.M.Metric.space c.args.self.now.file.metric) write c.args.self.now c.args.free c.args.placement.now.used c.args.placement.now.placed lawful kept c.requires.lawful c.requires.placed
-    (g.D.Disk.state c.args.disk.now) (g.D.Disk.state c.write.new.disk) c.requires.stands c.requires.only (λ tells sound. fits (tells, sound)) moments _ refl c.in_default-write.ensures.cause.failed
+    (g.D.Disk.state c.args.disk.now) (g.D.Disk.state c.write.new.disk) c.requires.stands c.requires.only (λ tells sound. fits (tells, sound)) moments _ refl refl c.in_default-write.ensures.cause.failed
 
 pub invariant_of-self-2 : goal.invariant_of-self-2
 invariant_of-self-2 g c =
@@ -63,7 +63,7 @@ invariant_of-self-2 g c =
     }
 
 pub returns-clause-written : goal.returns-clause-written
-returns-clause-written g c = λ write count is fits.
+returns-clause-written g c = λ write count is fits numbered.
     let lawful = subst (λ (i : OpenIndex g.row.M.Denot). IsLawfulFile (g.M.Metric.space i.file.metric).words i.file) c.self.view_is c.is_lawful.ensures in
     let kept = unspared c.args.free _ (subst IsKept c.in-Ok.ensures.ok c.reserve.ensures.kept) in
     let moments = subst (λ (i : OpenIndex g.row.M.Denot). IsTrue (g.D.Disk.state c.args.disk.now).tells →
@@ -78,4 +78,4 @@ returns-clause-written g c = λ write count is fits.
     (g.D.Disk.state c.write.new.disk) (Ok c.args.answer)) (sym (ap (λ (i : OpenIndex g.row.M.Denot). record i { file = c.write.new.self; free = Some c.write.new.free }) c.self.view_is))
     (done_written (g.M.Metric.space c.args.self.now.file.metric) write c.args.self.now c.args.free c.args.placement.now.used c.args.placement.now.placed lawful kept c.requires.lawful c.requires.placed
     (g.D.Disk.state c.args.disk.now) (g.D.Disk.state c.write.new.disk) c.requires.stands c.requires.only (λ tells sound. fits (tells, sound)) moments c.write.new.self c.write.new.free c.args.answer
-    (g.met.D.Disk.read_is_image c.write.new.disk) c.write.ensures.tells whole count is)
+    (g.met.D.Disk.read_is_image c.write.new.disk) c.write.ensures.tells whole count is c.requires.beside c.requires.follows numbered)

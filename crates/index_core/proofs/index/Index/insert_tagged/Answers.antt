@@ -4,7 +4,7 @@ use Rattle.index_core.specs.Causes.{HasPathCause}
 use Rattle.index_core.specs.Damage.{BlamesDamage}
 use Rattle.index_core.specs.Files.{OpenFile, IsLawfulFile, OnlyReads}
 use Rattle.index_core.specs.Index.{OpenIndex}
-use Rattle.index_core.specs.Writing.{HasWritten, Inserts}
+use Rattle.index_core.specs.Writing.{HasWritten, Inserts, IsNumberedFor}
 use Rattle.index_core.specs.declared.faults.IndexFault.{IndexFault}
 use Rattle.index_core.specs.declared.faults.IndexFault.TheVariants.{Full, Worn}
 use Rattle.index_core.proofs.Damaged.{commit_blames, list_blames, moved_blames, path_blames}
@@ -15,13 +15,13 @@ pub returns-then-count-head-clause-written : goal.returns-then-count-head-clause
 returns-then-count-head-clause-written g c = λ going.
     let lawful = subst (λ (i : OpenIndex g.row.M.Denot). IsLawfulFile (g.M.Metric.space i.file.metric).words i.file) c.self.view_is c.is_lawful.ensures in
     refused_written (g.M.Metric.space c.args.self.now.file.metric) (Inserts c.args.p.now c.args.tag) c.args.self.now c.args.self.now (g.D.Disk.state c.args.disk.now) (g.D.Disk.state c.args.disk.now) Full lawful
-    (c.requires.stands going).stands (c.requires.stands going).only (λ e. cc) (refused_here c.args.self.now (g.D.Disk.state c.args.disk.now))
+    (c.requires.stands going).stands (c.requires.stands going).only (λ e. cc) (refused_here c.args.self.now (g.D.Disk.state c.args.disk.now)) (λ points tags has exact. exact)
 
 pub returns-then-generation-eq-LAST_GENERATION-clause-written : goal.returns-then-generation-eq-LAST_GENERATION-clause-written
 returns-then-generation-eq-LAST_GENERATION-clause-written g c = λ going.
     let lawful = subst (λ (i : OpenIndex g.row.M.Denot). IsLawfulFile (g.M.Metric.space i.file.metric).words i.file) c.self.view_is c.is_lawful.ensures in
     refused_written (g.M.Metric.space c.args.self.now.file.metric) (Inserts c.args.p.now c.args.tag) c.args.self.now c.args.self.now (g.D.Disk.state c.args.disk.now) (g.D.Disk.state c.args.disk.now) Worn lawful
-    (c.requires.stands going).stands (c.requires.stands going).only (λ e. cc) (refused_here c.args.self.now (g.D.Disk.state c.args.disk.now))
+    (c.requires.stands going).stands (c.requires.stands going).only (λ e. cc) (refused_here c.args.self.now (g.D.Disk.state c.args.disk.now)) (λ points tags has exact. exact)
 
 pub place-requires-clause-within : goal.place-requires-clause-within
 place-requires-clause-within g c = λ κs bounds.
@@ -34,13 +34,14 @@ returns-in-Err-place-clause-written g c = λ going.
     let second = subst (λ (i : OpenIndex g.row.M.Denot). OnlyReads i.file c.place.new.self (g.D.Disk.state c.take_free.new.disk) (g.D.Disk.state c.place.new.disk)) c.self-2.view_is c.place.ensures.reads in
     let reads = reads_both c.args.self.now.file c.take_free.new.self.file c.place.new.self (g.D.Disk.state c.args.disk.now) (g.D.Disk.state c.take_free.new.disk) (g.D.Disk.state c.place.new.disk)
     c.take_free.ensures.reads second in
-    let list = list_is c.args.self.now.free c.in-Ok.free c.in-Ok.ensures.list in
+    let list = list_is c.args.self.now (g.D.Disk.state c.args.disk.now) c.in-Ok.free c.in-Ok.ensures.list in
     subst (λ (n : OpenIndex g.row.M.Denot). HasWritten (g.M.Metric.space c.args.self.now.file.metric) (Inserts c.args.p.now c.args.tag) c.args.self.now n (g.D.Disk.state c.args.disk.now) (g.D.Disk.state c.place.new.disk)
     (Err c.in-Err-place.fault)) (sym (ap (λ (i : OpenIndex g.row.M.Denot). record i { file = c.place.new.self; free = Some c.in-Ok.free }) (c.self-2.view_is ∙ c.take_free.ensures.rest)))
     (refused_written (g.M.Metric.space c.args.self.now.file.metric) (Inserts c.args.p.now c.args.tag) c.args.self.now (record c.args.self.now { file = c.place.new.self; free = Some c.in-Ok.free })
     (g.D.Disk.state c.args.disk.now) (g.D.Disk.state c.place.new.disk) c.in-Err-place.fault lawful (c.requires.stands going).stands (c.requires.stands going).only
     (λ e. subst (λ (fault : IndexFault). HasPathCause (g.M.Metric.space c.self-2.inside.view.metric) c.self-2.inside.view c.in-Ok.free (record { id = c.self-2.inside.view.live.count; tag = c.args.tag; point = c.args.p.now }) (g.D.Disk.state c.take_free.new.disk) (g.D.Disk.state c.place.new.disk) fault) e c.in-Err-place.ensures.cause)
-    (refused_by c.args.self.now c.place.new.self c.in-Ok.free (g.D.Disk.state c.args.disk.now) (g.D.Disk.state c.place.new.disk) reads list))
+    (refused_by c.args.self.now c.place.new.self c.in-Ok.free (g.D.Disk.state c.args.disk.now) (g.D.Disk.state c.place.new.disk) reads list)
+    (λ points tags has exact. exact_moved c.in-Ok.free c.args.self.now.file c.place.new.self (g.D.Disk.state c.args.disk.now) (g.D.Disk.state c.place.new.disk) reads (c.in-Ok.ensures.exact (has.tells, has.sound) exact)))
 
 pub returns-clause-written : goal.returns-clause-written
 returns-clause-written g c = λ going.
@@ -48,16 +49,16 @@ returns-clause-written g c = λ going.
     let second = subst (λ (i : OpenIndex g.row.M.Denot). OnlyReads i.file c.place.new.self (g.D.Disk.state c.take_free.new.disk) (g.D.Disk.state c.place.new.disk)) c.self-2.view_is c.place.ensures.reads in
     let reads = reads_both c.args.self.now.file c.take_free.new.self.file c.place.new.self (g.D.Disk.state c.args.disk.now) (g.D.Disk.state c.take_free.new.disk) (g.D.Disk.state c.place.new.disk)
     c.take_free.ensures.reads second in
-    let list = list_is c.args.self.now.free c.in-Ok.free c.in-Ok.ensures.list in
     let count = c.in-Ok-place.ensures.one ∙ ap (λ (f : OpenFile g.row.M.Denot). f.live.count + 1) (sym c.place.ensures.reads.rest) in
     let answer = ap (λ t. t.count) c.live-generation.ensures ∙ (ap (λ (i : OpenIndex g.row.M.Denot). i.file.live.count) c.self.view_is ∙ ap (λ (f : OpenFile g.row.M.Denot). f.live.count) (sym reads.rest)) in
     let written = c.commit_placed.ensures.written (Inserts c.args.p.now c.args.tag) count answer
     (fits_moved g.M.Metric.space (Inserts c.args.p.now c.args.tag) c.in-Ok-place.placement.placed c.self-2.inside.view c.place.new.self (g.D.Disk.state c.take_free.new.disk) (g.D.Disk.state c.place.new.disk)
-    c.place.ensures.reads c.in-Ok-place.ensures.inserts) in
+    c.place.ensures.reads c.in-Ok-place.ensures.inserts)
+    (subst (λ (f : OpenFile g.row.M.Denot). IsNumberedFor (Inserts c.args.p.now c.args.tag) f c.in-Ok.free c.in-Ok-place.placement.placed) (sym c.place.ensures.reads.rest) c.in-Ok-place.ensures.numbered) in
     let measured = subst (λ (f : OpenFile g.row.M.Denot). HasWritten (g.M.Metric.space f.metric) (Inserts c.args.p.now c.args.tag) (record { file = c.place.new.self; free = Some c.in-Ok.free; stopped = c.self-2.inside.stopped; workers = c.self-2.inside.workers }) c.commit_placed.new.self (g.D.Disk.state c.place.new.disk)
     (g.D.Disk.state c.commit_placed.new.disk) c.commit_placed.result) reads.rest written in
     then_written (g.M.Metric.space c.args.self.now.file.metric) (Inserts c.args.p.now c.args.tag) c.args.self.now c.commit_placed.new.self c.place.new.self c.in-Ok.free (g.D.Disk.state c.args.disk.now)
-    (g.D.Disk.state c.place.new.disk) (g.D.Disk.state c.commit_placed.new.disk) c.commit_placed.result lawful (c.requires.stands going).stands (c.requires.stands going).only reads list
+    (g.D.Disk.state c.place.new.disk) (g.D.Disk.state c.commit_placed.new.disk) c.commit_placed.result lawful (c.requires.stands going).stands (c.requires.stands going).only reads c.in-Ok.ensures.list
     (λ points tags has exact. exact_moved c.in-Ok.free c.args.self.now.file c.place.new.self (g.D.Disk.state c.args.disk.now) (g.D.Disk.state c.place.new.disk) reads (c.in-Ok.ensures.exact (has.tells, has.sound) exact))
     (subst (λ (i : OpenIndex g.row.M.Denot). HasWritten (g.M.Metric.space c.args.self.now.file.metric) (Inserts c.args.p.now c.args.tag) (record i { file = c.place.new.self; free = Some c.in-Ok.free }) c.commit_placed.new.self
     (g.D.Disk.state c.place.new.disk) (g.D.Disk.state c.commit_placed.new.disk) c.commit_placed.result) (c.self-2.view_is ∙ c.take_free.ensures.rest) measured)

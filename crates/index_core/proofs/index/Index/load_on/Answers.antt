@@ -4,7 +4,7 @@ use Rattle.free_pages.specs.Commits.{AreWithin}
 use Rattle.index_core.specs.Files.{IsLawfulFile}
 use Rattle.index_core.specs.Index.{OpenIndex, AreSpare}
 use Rattle.index_core.specs.Loading.{HasLoadCause}
-use Rattle.index_core.specs.Writing.{HasWritten, IsPlacedFor, Loads}
+use Rattle.index_core.specs.Writing.{HasWritten, IsNumberedFor, IsPlacedFor, Loads}
 use Rattle.index_core.proofs.Loaded.{commit_cause, counts, may_be_loaded, nothing_written}
 use Rattle.index_core.proofs.index.Index.load_on.Goals as goal
 
@@ -18,6 +18,7 @@ returns-in-Ok-clause-written g c =
     let loads = subst (λ (i : OpenIndex g.row.M.Denot). (nodes : Nodes) → IsSoundTree (g.M.Metric.space i.file.metric) nodes i.file.live → AreSpare nodes i.file.live c.args.free →
     IsPlacedFor (g.M.Metric.space i.file.metric) i.file.head (Loads c.args.rows.now.points c.args.tags.now) nodes i.file.live c.in-Ok.placement.placed) c.self.view_is c.in-Ok.ensures.loads in
     c.commit_placed.ensures.written (Loads c.args.rows.now.points c.args.tags.now) (counts _ _ _ c.in-Ok.ensures.many none) c.in-Ok.ensures.many (λ sound. loads _ sound.1 (c.requires.beside sound.0))
+    (subst (λ (i : OpenIndex g.row.M.Denot). IsNumberedFor (Loads c.args.rows.now.points c.args.tags.now) i.file c.args.free c.in-Ok.placement.placed) c.self.view_is c.in-Ok.ensures.numbered)
 
 pub returns-in-Ok-clause-cause : goal.returns-in-Ok-clause-cause
 returns-in-Ok-clause-cause g c =

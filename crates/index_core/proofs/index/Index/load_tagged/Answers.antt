@@ -4,7 +4,7 @@ use Rattle.index_core.specs.Index.{OpenIndex}
 use Rattle.index_core.specs.Writing.{HasWritten, Loads}
 use Rattle.index_core.proofs.Damaged.{list_blames, load_blames, result_blames_nothing}
 use Rattle.index_core.proofs.Loaded.{at_once, nothing_written}
-use Rattle.index_core.proofs.Written.{exact_moved, list_is, then_written}
+use Rattle.index_core.proofs.Written.{exact_moved, then_written}
 use Rattle.index_core.proofs.index.Index.load_tagged.Goals as goal
 
 pub returns-in-Err-clause-written : goal.returns-in-Err-clause-written
@@ -19,7 +19,7 @@ returns-clause-written g c = λ going.
     let lawful = subst (λ (i : OpenIndex g.row.M.Denot). IsLawfulFile (g.M.Metric.space i.file.metric).words i.file) c.self.view_is c.is_lawful.ensures in
     let alone = c.requires.stands going in
     then_written (g.M.Metric.space c.args.self.now.file.metric) (Loads c.args.rows.now.points c.args.tags.now) c.args.self.now c.load_on.new.self c.take_free.new.self.file c.in-Ok.free
-    (g.D.Disk.state c.args.disk.now) (g.D.Disk.state c.take_free.new.disk) (g.D.Disk.state c.load_on.new.disk) c.load_on.result lawful alone.stands alone.only c.in-Ok.ensures.reads (list_is c.args.self.now.free c.in-Ok.free c.in-Ok.ensures.list)
+    (g.D.Disk.state c.args.disk.now) (g.D.Disk.state c.take_free.new.disk) (g.D.Disk.state c.load_on.new.disk) c.load_on.result lawful alone.stands alone.only c.in-Ok.ensures.reads c.in-Ok.ensures.list
     (λ points tags has exact. exact_moved c.in-Ok.free c.args.self.now.file c.take_free.new.self.file (g.D.Disk.state c.args.disk.now) (g.D.Disk.state c.take_free.new.disk) c.in-Ok.ensures.reads
     (c.in-Ok.ensures.exact (has.tells, has.sound) exact))
     (subst (λ (o : OpenFile g.row.M.Denot). HasWritten (g.M.Metric.space o.metric) (Loads c.args.rows.now.points c.args.tags.now) (record c.args.self.now { file = c.take_free.new.self.file; free = Some c.in-Ok.free })

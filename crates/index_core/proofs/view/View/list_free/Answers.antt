@@ -6,14 +6,22 @@ use Rattle.page_store.specs.Reading.{nodes_of}
 use Rattle.page_store.specs.Shelf.{Shelf}
 use Rattle.free_pages.specs.Commits.{AreOutside}
 use Rattle.index_core.specs.Answers.{IsSoundOn}
-use Rattle.index_core.specs.Files.{OpenFile, nodes_on}
+use Rattle.index_core.specs.Causes.{LieOutside}
+use Rattle.index_core.specs.Files.{OpenFile, nodes_on, pages_on}
 use Rattle.index_core.specs.Index.{AreSpare, IsLawfulFree}
 use Rattle.index_core.specs.Writing.{IsExactFor}
 use Rattle.page_store.specs.Shelves.{disk_shelf}
 use Rattle.page_store.specs.declared.disk_pages.DiskPages.{DiskPages}
 use Rattle.index_core.specs.Lending.{lent_shelf}
-use Rattle.index_core.proofs.Listed.{fresh_lawful, fresh_spare, fresh_exact, list_cause}
+use Rattle.index_core.proofs.Listed.{fresh_lawful, fresh_made, fresh_spare, fresh_exact, list_cause}
 use Rattle.index_core.proofs.view.View.list_free.Goals as goal
+
+pub returns-clause-made : goal.returns-clause-made
+returns-clause-made g c =
+    fresh_made c.args.self.now (g.D.Disk.state c.args.disk.now) c.in-Ok.free (λ tells.
+    subst (λ (f : OpenFile g.row.M.Denot). LieOutside (pages_on c.args.self.now (g.D.Disk.state c.args.disk.now) 0).read f.live c.in-Ok.free.free) c.self.view_is
+    (subst (λ (h : Shelf). LieOutside h.read c.self.inside.live c.in-Ok.free.free) c.lend-pages.ensures.shelf
+    (let o = c.in-Ok.ensures.outside (subst (λ (h : Shelf). IsTrue h.tells) (sym c.lend-pages.ensures.shelf) tells) in (o.tree, o.walk, o.outside)))) c.in-Ok.ensures.fresh
 
 pub returns-clause-lawful : goal.returns-clause-lawful
 returns-clause-lawful g c =
