@@ -9,6 +9,8 @@ use Rattle.tree_shape.specs.declared.live.Live.{Live}
 use Rattle.node_page.specs.declared.head.Head.{Head}
 use Rattle.node_page.specs.Opening.{OpensTo}
 use Rattle.page_store.specs.Reading.{reading}
+use Rattle.page_store.specs.Shelves.{disk_shelf}
+use Rattle.page_cache.specs.Keeping.{Pairs, Agrees}
 use Rattle.log_model.specs.declared.logs.Log.{Log}
 use Rattle.log_verify.specs.declared.faults.Verdict.{Verdict}
 use Rattle.log_verify.specs.Judged.{log_fault}
@@ -28,6 +30,10 @@ use Rattle.page_store.specs.Files.{IsLarge}
 -- the first fault of a log over an opened file
 abbrev pub judged : List ℕ → Head → Live → Log → Option Verdict
 judged file head live log = log_fault (space_of head) (reading head.dim live.pages file) live log
+
+-- what is kept of the pages of an opened file is what they hold on this disk
+abbrev pub IsKeptOf : DiskState → Head → Live → Pairs → Type 0
+IsKeptOf disk head live kept = Agrees kept (disk_shelf false head.dim live.pages disk 0)
 
 abbrev pub carried_line : ℕ → List ℕ
 carried_line i = frame i ++ codes " carried\n"

@@ -17,7 +17,7 @@ ghost use Rattle.seal_log.specs.Laws.{CarriedLogsAreAccepted};
 ghost use Rattle.file_jobs.specs.Lines.{not_index_text};
 ghost use Rattle.file_jobs.specs.Jobs.{IsNoIndex};
 ghost use Rattle.page_store.specs.Files.{IsLarge};
-ghost use Rattle.seal_jobs.specs.Carries.{CarriesLogs, CarriesOn, EndsCarried, HasCarried, HasHalted, IsCarriedLogsStatus, IsCarryStatus, IsDone, IsHaltStatus, PutsLog, Stops, StopsCarrying, StopsLog, TellsLog, carried_end, carried_line, judged};
+ghost use Rattle.seal_jobs.specs.Carries.{CarriesLogs, CarriesOn, EndsCarried, HasCarried, HasHalted, IsCarriedLogsStatus, IsCarryStatus, IsDone, IsHaltStatus, IsKeptOf, PutsLog, Stops, StopsCarrying, StopsLog, TellsLog, carried_end, carried_line, judged};
 
 use crate::opening::open_small;
 use crate::proof_lines::rejected_text;
@@ -30,6 +30,8 @@ use log_verify::{Verdict, verify};
 use metric_laws::{Meter, Metric};
 use node_page::Head;
 use outside_io::{Memory, ReadAll, Sink, Source, Status, read_all};
+use page_cache::laws::empty_cache_agrees;
+use page_cache::{Cached, KEPT_NODES, Kept};
 use page_store::{DiskPages, PageFault, Pages};
 use prune_log::{LogFault, decode_frames, frame};
 use seal_log::laws::carried_logs_are_accepted;
@@ -61,25 +63,32 @@ fn judge_by<M: Metric, P: Pages>(
     }
 }
 
-// The first fault of a log over an opened index.
+// The first fault of a log over an opened index. What is kept of its pages is given back.
 fn judge_log<D: Disk>(
     alloc: Global,
     index: &mut D,
     opened: &(Head, Live),
+    kept: Kept,
     log: &Log,
-) -> Result<Option<Verdict>, Halt>
+) -> Result<(Option<Verdict>, Kept), Halt>
     requires head { IsLawfulHead opened.now.0 }
     requires few { opened.now.1.pages ≤ 262144 }
+    requires kept { IsKeptOf (D.state index.old) opened.now.0 opened.now.1 kept }
     requires lawful { IsLawfulLog log.now }
     ensures same { IsUnchanged (D.state index.old) (D.state index.new) }
-    ensures told { IfOk result (λ found. IsTrue (D.state index.old).tells → judged (D.state index.old).bytes opened.now.0 opened.now.1 log.now ≡ found) }
+    ensures told { IfOk result (λ x. IsTrue (D.state index.old).tells → judged (D.state index.old).bytes opened.now.0 opened.now.1 log.now ≡ x.0) }
+    ensures kept { IfOk result (λ x. IsKeptOf (D.state index.new) opened.now.0 opened.now.1 x.1) }
     ensures disk { IsErrOf result Halt.Disk → Rose (D.state index.old).faults (D.state index.new).faults }
     ensures not_sink { IsErrOf result Halt.Sink → ⊥ }
     ensures later { (D.state index.old).faults ≤ (D.state index.new).faults }
 {
     let (head, live) = opened;
-    let mut pages = DiskPages::new(index, head.dim, live.pages);
-    judge_by(alloc, space_of(head), &mut pages, live, log)
+    let pages = DiskPages::new(index, head.dim, live.pages);
+    let mut pages = Cached::from_parts(pages, kept);
+    let judged = judge_by(alloc, space_of(head), &mut pages, live, log);
+    let (inner, kept) = pages.into_parts();
+    let _index = inner.disk;
+    Ok((judged?, kept))
 }
 
 // Whether all records name pages of a file.
@@ -130,7 +139,7 @@ fn carried_frame<D: Disk>(
     }
 }
 
-// The frame and the line of a log, and whether it has no fault.
+// The frame and the line of a log with this first fault, or with none, and whether it has none.
 fn log_texts<D: Disk>(
     alloc: Global,
     index: &mut D,
@@ -138,6 +147,7 @@ fn log_texts<D: Disk>(
     tree: &Tree,
     number: u64,
     log: &Log,
+    found: Option<Verdict>,
 ) -> Result<(Vec<u8>, Vec<u8>, bool), Halt>
     requires head { IsLawfulHead opened.now.0 }
     requires some { 4 ≤ opened.now.1.pages }
@@ -145,6 +155,7 @@ fn log_texts<D: Disk>(
     requires size { length tree.now ≡ opened.now.1.pages }
     requires sealed { IsTrue (D.state index.old).tells → tree.now ≡ leaf_digests (D.state index.old).bytes opened.now.1.pages }
     requires lawful { IsLawfulLog log.now }
+    requires told { IsTrue (D.state index.old).tells → judged (D.state index.old).bytes opened.now.0 opened.now.1 log.now ≡ found }
     ensures same { IsUnchanged (D.state index.old) (D.state index.new) }
     ensures tells { IfOk result (λ x. IsTrue (D.state index.old).tells →
         TellsLog (D.state index.old).bytes opened.now.0 opened.now.1 number log.now x.0.items x.1.items x.2) }
@@ -152,7 +163,7 @@ fn log_texts<D: Disk>(
     ensures not_sink { IsErrOf result Halt.Sink → ⊥ }
     ensures later { (D.state index.old).faults ≤ (D.state index.new).faults }
 {
-    if let Some(why) = judge_log(alloc, index, opened, log)? {
+    if let Some(why) = found {
         let line = rejected_text(alloc, number, ProofFault::Verdict(why))?;
         return Ok((Vec::new(alloc), line, false));
     }
@@ -160,29 +171,32 @@ fn log_texts<D: Disk>(
     Ok((put, carried_text(alloc, number)?, true))
 }
 
-// Puts the frame and then the line of a log. The answer is whether it has no fault.
+// Puts the frame and then the line of a log. The answer is whether it has no fault, and what is kept of the pages.
 fn carry_log<D: Disk, K: Sink, L: Sink>(
     alloc: Global,
     index: &mut D,
     opened: &(Head, Live),
     tree: &Tree,
+    kept: Kept,
     number: u64,
     log: &Log,
     out: &mut K,
     log_out: &mut L,
-) -> Result<bool, Halt>
+) -> Result<(bool, Kept), Halt>
     requires head { IsLawfulHead opened.now.0 }
     requires some { 4 ≤ opened.now.1.pages }
     requires few { opened.now.1.pages ≤ 262144 }
     requires size { length tree.now ≡ opened.now.1.pages }
     requires sealed { IsTrue (D.state index.old).tells → tree.now ≡ leaf_digests (D.state index.old).bytes opened.now.1.pages }
+    requires kept { IsKeptOf (D.state index.old) opened.now.0 opened.now.1 kept }
     requires lawful { IsLawfulLog log.now }
     ensures same { IsUnchanged (D.state index.old) (D.state index.new) }
-    ensures puts { IfOk result (λ accepted. IsTrue (D.state index.old).tells →
-        PutsLog (D.state index.old).bytes opened.now.0 opened.now.1 number log.now accepted
+    ensures puts { IfOk result (λ x. IsTrue (D.state index.old).tells →
+        PutsLog (D.state index.old).bytes opened.now.0 opened.now.1 number log.now x.0
         (L.state log_out.old).written (L.state log_out.new).written (K.state out.old).written (K.state out.new).written) }
     ensures stops { IfErr result (λ why. IsTrue (D.state index.old).tells → StopsLog (D.state index.old).bytes opened.now.0 opened.now.1 number log.now why
         (L.state log_out.old).written (L.state log_out.new).written (K.state out.old).written (K.state out.new).written) }
+    ensures kept { IfOk result (λ x. IsKeptOf (D.state index.new) opened.now.0 opened.now.1 x.1) }
     ensures disk { IsErrOf result Halt.Disk → Rose (D.state index.old).faults (D.state index.new).faults }
     ensures output { IsErrOf result Halt.Sink → Rose (K.state out.old).faults (K.state out.new).faults
         ⊎ Rose (L.state log_out.old).faults (L.state log_out.new).faults }
@@ -190,12 +204,13 @@ fn carry_log<D: Disk, K: Sink, L: Sink>(
     ensures out_later { (K.state out.old).faults ≤ (K.state out.new).faults }
     ensures log_later { (L.state log_out.old).faults ≤ (L.state log_out.new).faults }
 {
-    let (put, line, accepted) = log_texts(alloc, index, opened, tree, number, log)?;
+    let (found, kept) = judge_log(alloc, index, opened, kept, log)?;
+    let (put, line, accepted) = log_texts(alloc, index, opened, tree, number, log, found)?;
     if log_out.put(&put).is_err() {
         return Err(Halt::Sink);
     }
     match out.put(&line) {
-        Ok(()) => Ok(accepted),
+        Ok(()) => Ok((accepted, kept)),
         Err(_) => Err(Halt::Sink),
     }
 }
@@ -206,6 +221,7 @@ fn carry_all<D: Disk, K: Sink, L: Sink>(
     index: &mut D,
     opened: &(Head, Live),
     tree: &Tree,
+    mut kept: Kept,
     logs: Vec<Log>,
     out: &mut K,
     log_out: &mut L,
@@ -215,6 +231,7 @@ fn carry_all<D: Disk, K: Sink, L: Sink>(
     requires few { opened.now.1.pages ≤ 262144 }
     requires size { length tree.now ≡ opened.now.1.pages }
     requires sealed { IsTrue (D.state index.old).tells → tree.now ≡ leaf_digests (D.state index.old).bytes opened.now.1.pages }
+    requires kept { IsKeptOf (D.state index.old) opened.now.0 opened.now.1 kept }
     requires lawful { All IsLawfulLog logs.items }
     ensures same { IsUnchanged (D.state index.old) (D.state index.new) }
     ensures puts { IfOk result (λ accepted. IsTrue (D.state index.old).tells →
@@ -232,7 +249,10 @@ fn carry_all<D: Disk, K: Sink, L: Sink>(
     let mut number = 0;
     let mut accepted = true;
     for log in logs {
-        let is_accepted = carry_log(alloc, index, opened, tree, number, &log, out, log_out)?;
+        let (is_accepted, now_kept) = carry_log(
+            alloc, index, opened, tree, kept, number, &log, out, log_out,
+        )?;
+        kept = now_kept;
         accepted &= is_accepted;
         number += 1;
     }
@@ -264,7 +284,8 @@ fn put<K: Sink>(out: &mut K, line: &[u8]) -> Result<(), Halt>
     }
 }
 
-// Puts the frames and the lines of the logs that bytes spell, and the last line. The answer is the status.
+// Puts the frames and the lines of the logs that bytes spell, and the last line. All logs are judged behind one cache. The answer
+// is the status.
 fn carry_bytes<D: Disk, K: Sink, L: Sink>(
     alloc: Global,
     index: &mut D,
@@ -300,7 +321,9 @@ fn carry_bytes<D: Disk, K: Sink, L: Sink>(
             return Ok(Status(1));
         }
     };
-    let accepted = carry_all(alloc, index, opened, tree, logs, out, log_out)?;
+    empty_cache_agrees();
+    let kept = Kept::new(alloc, KEPT_NODES)?;
+    let accepted = carry_all(alloc, index, opened, tree, kept, logs, out, log_out)?;
     put(out, carried_end(accepted))?;
     Ok(Status(u8::from(!accepted)))
 }

@@ -8,6 +8,7 @@ loop-log-init g c =
     let all : c.into_iter-log-iterator.result.rest.items ≡ c.args.logs.items = search rules in
     record {
       same = unchanged (g.D.Disk.state c.args.index.now);
+      agrees = c.requires.kept;
       lawful = rw all c.requires.lawful;
       counted = omega (arith, ap length all);
       puts = λ tells. rw all (begun (g.D.Disk.state c.args.index.now).bytes c.args.opened.now.0 c.args.opened.now.1 c.args.logs.items (g.L.Sink.state c.args.log_out.now).written (g.K.Sink.state c.args.out.now).written);
@@ -25,6 +26,7 @@ loop-log-preserved g c =
     let d1 = g.D.Disk.state c.loop-log.index in
     record {
       same = then_unchanged d0 d1 (g.D.Disk.state c.carry_log.new.index) old.same now.same;
+      agrees = c.in_ok-is_accepted.ensures.kept;
       lawful = (let all = rw step at old.lawful in λ k d low. all (suc k) d (omega arith));
       counted = omega (arith, old.counted, ap length step);
       puts = one_more_by d0 d1 c.args.opened.now.0 c.args.opened.now.1 c.args.logs.items c.in-Some.log c.next.new.self.rest.items c.loop-log.number c.loop-log.accepted c.in_ok-is_accepted.is_accepted

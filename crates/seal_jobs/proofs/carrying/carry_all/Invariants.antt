@@ -2,13 +2,14 @@ use Rattle.std.proofs.Common.{◌≡◌, ◌+◌, ◌≤◌, length}
 use Rattle.std.specs.Prelude.{All, IsTrue}
 use Rattle.disk_model.specs.Disk.{IsUnchanged}
 use Rattle.log_model.specs.Grammar.{IsLawfulLog}
-use Rattle.seal_jobs.specs.Carries.{HasCarried}
+use Rattle.seal_jobs.specs.Carries.{HasCarried, IsKeptOf}
 use Rattle.seal_jobs.proofs.carrying.carry_all.Given as goal
 
 -- the frames and lines so far are put, and the other logs are to come
 abbrev pub invariant-loop-log : goal.invariant-loop-log
 invariant-loop-log g l = record {
   same : IsUnchanged (g.D.Disk.state l.fn.index) (g.D.Disk.state l.index);
+  agrees : IsKeptOf (g.D.Disk.state l.index) l.opened.0 l.opened.1 l.kept;
   lawful : All IsLawfulLog l.log-iterator.rest.items;
   counted : l.number + length l.log-iterator.rest.items ≡ length l.fn.logs.items;
   puts : IsTrue (g.D.Disk.state l.fn.index).tells → HasCarried (g.D.Disk.state l.fn.index).bytes l.opened.0 l.opened.1 l.fn.logs.items l.log-iterator.rest.items l.number l.accepted
