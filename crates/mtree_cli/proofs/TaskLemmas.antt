@@ -35,8 +35,8 @@ use Rattle.mtree_cli.specs.Run.Task.{Scans, Makes, Draws, Sessions, Generates, M
 use Rattle.seal_jobs.specs.Seals.{Seals as SealsIndex}
 use Rattle.seal_jobs.specs.Carries.{CarriesLogs}
 use Rattle.seal_jobs.specs.Proofs.{ProvesLogs}
-use Rattle.seal_jobs.specs.declared.stop.Halt.{Halt}
-use Rattle.seal_jobs.specs.declared.stop.Halt.TheVariants as halt
+use Rattle.file_jobs.specs.declared.logs.stop.Stop.{Stop}
+use Rattle.file_jobs.specs.declared.logs.stop.Stop.TheVariants as stop
 use Rattle.mtree_cli.proofs.ProgramLemmas.{always, fault_writes, memory_ends}
 
 -- the task of a job of the words
@@ -98,11 +98,11 @@ no_file_refused : (disk other : DiskState) → RefusesNothing disk other 8
 no_file_refused disk other tells told empty head points tags is = (λ e. absurd (omega (arith, e)), λ e. absurd (omega (arith, e)), λ e. absurd (omega (arith, e)))
 
 -- want of memory is no failed output
-is_no_sink : Halt → Type 0
-is_no_sink halt.Sink = ⊥
+is_no_sink : Stop → Type 0
+is_no_sink stop.Sink = ⊥
 is_no_sink other = Unit {0}
 
-no_output : halt.Memory ≢ halt.Sink
+no_output : stop.Memory ≢ stop.Sink
 unfolding is_no_sink
 no_output e = subst is_no_sink e tt
 

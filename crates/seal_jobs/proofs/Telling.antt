@@ -10,6 +10,7 @@ use Rattle.std.proofs.Math.Nat.{add-zero, zero-add}
 use Rattle.std.proofs.KnownBytes.{Appends-nil, Appends-trans}
 use Rattle.std.specs.Prelude.{IsTrue, codes}
 use Rattle.outside_io.specs.Bytes.{AppendsPrefix}
+use Rattle.outside_io.specs.Causes.{Rose}
 use Rattle.outside_io.specs.Sinks.{SinkState, Tells}
 use Rattle.disk_model.specs.Disk.{DiskState, IsUnchanged, MayLeave}
 use Rattle.disk_model.specs.Moments.{started}
@@ -18,9 +19,10 @@ use Rattle.node_page.specs.declared.head.Head.{Head}
 use Rattle.log_model.specs.declared.logs.Log.{Log}
 use Rattle.node_page.specs.Opening.{OpensTo}
 use Rattle.prune_log.specs.Reading.{frames_at, log_at}
-use Rattle.seal_jobs.specs.declared.stop.Halt.{Halt}
-use Rattle.seal_jobs.specs.declared.stop.Halt.TheVariants as halt
-use Rattle.seal_jobs.specs.Carries.{Told, IsTold, AreTold, PutsLog, HasCarried, carried_end, StopsLog, StopsCarrying, Stops, HasHalted}
+use Rattle.file_jobs.specs.declared.logs.stop.Stop.{Stop}
+use Rattle.file_jobs.specs.declared.logs.stop.Stop.TheVariants as stop
+use Rattle.file_jobs.specs.Logs.Jobs.{Stops as EndsStopped}
+use Rattle.seal_jobs.specs.Carries.{Told, IsTold, AreTold, PutsLog, HasCarried, carried_end, StopsLog, StopsCarrying, Stops, HasHalted, IsCarryStatus, IsDone}
 
 pub begun : (file : List ℕ) (head : Head) (live : Live) (logs : List Log) (l o : Option (List ℕ)) → HasCarried file head live logs logs 0 true l l o o
 begun file head live logs l o = record { told = []; logs_are = refl; are_told = tt; count = refl; all = refl; put = Appends-nil l; lines = Appends-nil o }
@@ -73,13 +75,13 @@ one_more_by d0 d1 head live logs log rest i accepted b l0 l1 l2 o0 o1 o2 same ol
 -- ---- when the job stops
 
 -- nothing of a log was put
-pub nothing_of : (file : List ℕ) (head : Head) (live : Live) (i : ℕ) (log : Log) (why : Halt) (l o : Option (List ℕ)) → why ≢ halt.Sink → StopsLog file head live i log why l l o o
-nothing_of file head live i log halt.Sink l o not_sink = absurd (not_sink refl)
-nothing_of file head live i log halt.Disk l o not_sink = (refl, refl)
-nothing_of file head live i log halt.Memory l o not_sink = (refl, refl)
+pub nothing_of : (file : List ℕ) (head : Head) (live : Live) (i : ℕ) (log : Log) (why : Stop) (l o : Option (List ℕ)) → why ≢ stop.Sink → StopsLog file head live i log why l l o o
+nothing_of file head live i log stop.Sink l o not_sink = absurd (not_sink refl)
+nothing_of file head live i log stop.Disk l o not_sink = (refl, refl)
+nothing_of file head live i log stop.Memory l o not_sink = (refl, refl)
 
 -- it stopped within a log, behind those in front
-pub log_stops : (d0 d1 : DiskState) (head : Head) (live : Live) (logs : List Log) (log : Log) (rest : List Log) (i : ℕ) (accepted : Bool) (why : Halt) (l0 l1 l2 o0 o1 o2 : Option (List ℕ)) → IsUnchanged d0 d1
+pub log_stops : (d0 d1 : DiskState) (head : Head) (live : Live) (logs : List Log) (log : Log) (rest : List Log) (i : ℕ) (accepted : Bool) (why : Stop) (l0 l1 l2 o0 o1 o2 : Option (List ℕ)) → IsUnchanged d0 d1
     → (IsTrue d0.tells → HasCarried d0.bytes head live logs (log ∷ rest) i accepted l0 l1 o0 o1) → (IsTrue d1.tells → StopsLog d1.bytes head live i log why l1 l2 o1 o2)
     → IsTrue d0.tells → StopsCarrying d0.bytes head live logs why l0 l2 o0 o2
 log_stops d0 d1 head live logs log rest i accepted why l0 l1 l2 o0 o1 o2 same old stops tells = record {
@@ -93,8 +95,8 @@ log_stops d0 d1 head live logs log rest i accepted why l0 l1 l2 o0 o1 o2 same ol
 }
 
 -- the last line was cut
-pub end_stops : (file : List ℕ) (head : Head) (live : Live) (bytes : List ℕ) (logs : List Log) (i : ℕ) (accepted : Bool) (why : Halt) (l0 l1 o0 o1 o2 : Option (List ℕ)) → frames_at log_at bytes ≡ Ok logs → HasCarried file head live logs [] i accepted l0 l1 o0 o1
-    → why ≡ halt.Sink → AppendsPrefix o1 o2 (carried_end accepted) → Stops file head live bytes why l0 l1 o0 o2
+pub end_stops : (file : List ℕ) (head : Head) (live : Live) (bytes : List ℕ) (logs : List Log) (i : ℕ) (accepted : Bool) (why : Stop) (l0 l1 o0 o1 o2 : Option (List ℕ)) → frames_at log_at bytes ≡ Ok logs → HasCarried file head live logs [] i accepted l0 l1 o0 o1
+    → why ≡ stop.Sink → AppendsPrefix o1 o2 (carried_end accepted) → Stops file head live bytes why l0 l1 o0 o2
 end_stops file head live bytes logs i accepted why l0 l1 o0 o1 o2 decoded carried is cut = inr (inr (
   logs,
   decoded,
@@ -113,14 +115,78 @@ tells_behind : (s0 s1 s2 : SinkState) (line : List ℕ) → s0.faults ≤ s1.fau
 tells_behind s0 s1 s2 line later told = ⊎_elim (λ whole. inl whole) (λ cut. inr (cut.0, (let rose = cut.1 in omega arith))) told
 
 -- by status
-pub halted : (file bytes : List ℕ) (head : Head) (live : Live) (why : Halt) (l0 l1 : Option (List ℕ)) (s0 s1 s2 : SinkState) (status : ℕ) → OpensTo file head live → Stops file head live bytes why l0 l1 s0.written s1.written → s0.faults ≤ s1.faults
-    → (status ≡ 4 → why ≡ halt.Sink) → (status ≡ 5 → why ≡ halt.Disk) → (status ≡ 8 → why ≡ halt.Memory) → (status ≡ 4 → s2.written ≡ s1.written)
-    → (status ≡ 5 → Tells s1 s2 (codes "fault disk\n")) → (status ≡ 8 → Tells s1 s2 (codes "fault memory\n")) → HasHalted file bytes l0 l1 s0 s2 status
-halted file bytes head live why l0 l1 s0 s1 s2 status opens stops later sink disk memory silent disk_line memory_line = record {
-  output = λ is. inr (head, live, opens, subst (λ (w : Halt). Stops file head live bytes w l0 l1 s0.written s2.written) (sink is) (subst (λ (o : Option (List ℕ)). Stops file head live bytes why l0 l1 s0.written o) (sym (silent is)) stops));
-  disk = λ is. (s1.written, inr (head, live, opens, subst (λ (w : Halt). Stops file head live bytes w l0 l1 s0.written s1.written) (disk is) stops), tells_behind s0 s1 s2 (codes "fault disk\n") later (disk_line is));
-  memory = λ is. (s1.written, inr (head, live, opens, subst (λ (w : Halt). Stops file head live bytes w l0 l1 s0.written s1.written) (memory is) stops), tells_behind s0 s1 s2 (codes "fault memory\n") later (memory_line is));
-}
+pub halted : (file bytes : List ℕ) (head : Head) (live : Live) (why : Stop) (l0 l1 : Option (List ℕ)) (s0 s1 s2 : SinkState) (status : ℕ) → OpensTo file head live → Stops file head live bytes why l0 l1 s0.written s1.written → s0.faults ≤ s1.faults
+    → EndsStopped why s1 s2 status → HasHalted file bytes l0 l1 s0 s2 status
+halted file bytes head live stop.Sink l0 l1 s0 s1 s2 status opens stops later ends =
+    let four = ends.0 in
+    record {
+      output = λ is. inr (head, live, opens, subst (λ (s : SinkState). Stops file head live bytes stop.Sink l0 l1 s0.written s.written) (sym ends.1) stops);
+      disk = λ is. absurd (omega (arith, four, is));
+      memory = λ is. absurd (omega (arith, four, is));
+    }
+halted file bytes head live stop.Disk l0 l1 s0 s1 s2 status opens stops later ends =
+    let five = ends.0 in
+    record {
+      output = λ is. absurd (omega (arith, five, is));
+      disk = λ is. (s1.written, inr (head, live, opens, stops), tells_behind s0 s1 s2 (codes "fault disk\n") later ends.1);
+      memory = λ is. absurd (omega (arith, five, is));
+    }
+halted file bytes head live stop.Memory l0 l1 s0 s1 s2 status opens stops later ends =
+    let eight = ends.0 in
+    record {
+      output = λ is. absurd (omega (arith, eight, is));
+      disk = λ is. absurd (omega (arith, eight, is));
+      memory = λ is. (s1.written, inr (head, live, opens, stops), tells_behind s0 s1 s2 (codes "fault memory\n") later ends.1);
+    }
+
+-- how a job that stopped ends
+pub record EndsAt (why : Stop) (status : ℕ) : Type 0 where
+  pub disk : status ≡ 5 → why ≡ stop.Disk
+  pub output : status ≡ 4 → why ≡ stop.Sink
+  pub statuses : IsCarryStatus status
+  pub not_done : IsDone status → ⊥
+  pub not_six : status ≡ 6 → ⊥
+  pub not_seven : status ≡ 7 → ⊥
+
+pub stopped_at : (why : Stop) (s1 s2 : SinkState) (status : ℕ) → EndsStopped why s1 s2 status → EndsAt why status
+stopped_at stop.Sink s1 s2 status ends =
+    let four = ends.0 in
+    record {
+      disk = λ is. absurd (omega (arith, four, is));
+      output = λ is. refl;
+      statuses = inr (inr (inl four));
+      not_done = λ done. ⊎_elim (λ is. (let no : ⊥ = omega (arith, four, is) in no)) (λ is. (let no : ⊥ = omega (arith, four, is) in no)) done;
+      not_six = λ is. omega (arith, four, is);
+      not_seven = λ is. omega (arith, four, is);
+    }
+stopped_at stop.Disk s1 s2 status ends =
+    let five = ends.0 in
+    record {
+      disk = λ is. refl;
+      output = λ is. absurd (omega (arith, five, is));
+      statuses = inr (inr (inr (inl five)));
+      not_done = λ done. ⊎_elim (λ is. (let no : ⊥ = omega (arith, five, is) in no)) (λ is. (let no : ⊥ = omega (arith, five, is) in no)) done;
+      not_six = λ is. omega (arith, five, is);
+      not_seven = λ is. omega (arith, five, is);
+    }
+stopped_at stop.Memory s1 s2 status ends =
+    let eight = ends.0 in
+    record {
+      disk = λ is. absurd (omega (arith, eight, is));
+      output = λ is. absurd (omega (arith, eight, is));
+      statuses = inr (inr (inr (inr (inr (inr eight)))));
+      not_done = λ done. ⊎_elim (λ is. (let no : ⊥ = omega (arith, eight, is) in no)) (λ is. (let no : ⊥ = omega (arith, eight, is) in no)) done;
+      not_six = λ is. omega (arith, eight, is);
+      not_seven = λ is. omega (arith, eight, is);
+    }
+
+rose_after : (a b c : ℕ) → Rose a b → b ≤ c → Rose a c
+rose_after a b c rose le = omega arith
+
+-- an output that failed has failed
+pub output_later : (o0 o1 o2 l0 l1 : ℕ) → Rose o0 o1 ⊎ Rose l0 l1 → o1 ≤ o2 → Rose o0 o2 ⊎ Rose l0 l1
+output_later o0 o1 o2 l0 l1 (inl rose) le = inl (rose_after o0 o1 o2 rose le)
+output_later o0 o1 o2 l0 l1 (inr rose) le = inr rose
 
 -- nothing was put but the line of the status
 pub halted_before : (file bytes : List ℕ) (l : Option (List ℕ)) (s0 s2 : SinkState) (status : ℕ) → status ≢ 4 → (status ≡ 5 → Tells s0 s2 (codes "fault disk\n")) → (status ≡ 8 → Tells s0 s2 (codes "fault memory\n")) → HasHalted file bytes l l s0 s2 status

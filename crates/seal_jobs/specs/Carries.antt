@@ -22,8 +22,8 @@ use Rattle.seal_log.specs.Digests.{leaf_digests}
 use Rattle.seal_log.specs.Carrying.{Carries}
 use Rattle.file_jobs.specs.Lines.{not_index_text}
 use Rattle.file_jobs.specs.Jobs.{IsNoIndex}
-use Rattle.seal_jobs.specs.declared.stop.Halt.{Halt}
-use Rattle.seal_jobs.specs.declared.stop.Halt.TheVariants as halt
+use Rattle.file_jobs.specs.declared.logs.stop.Stop.{Stop}
+use Rattle.file_jobs.specs.declared.logs.stop.Stop.TheVariants as stop
 use Rattle.file_jobs.specs.Spaces.{space_of}
 use Rattle.page_store.specs.Files.{IsLarge}
 
@@ -115,20 +115,20 @@ pub record CarriesOn (file bytes : List ℕ) (l0 l1 o0 o1 : Option (List ℕ)) (
 
 -- Within a log: nothing of it was put; or, where an output failed, a front of its frame and no line, or its whole frame and a front
 -- of its line.
-abbrev pub StopsLog : List ℕ → Head → Live → ℕ → Log → Halt → Option (List ℕ) → Option (List ℕ) → Option (List ℕ) → Option (List ℕ) → Type 0
-StopsLog file head live i log halt.Sink l0 l1 o0 o1 =
+abbrev pub StopsLog : List ℕ → Head → Live → ℕ → Log → Stop → Option (List ℕ) → Option (List ℕ) → Option (List ℕ) → Option (List ℕ) → Type 0
+StopsLog file head live i log stop.Sink l0 l1 o0 o1 =
     (put : List ℕ) × (line : List ℕ) × (b : Bool) × TellsLog file head live i log put line b
     × ((AppendsPrefix l0 l1 put × (o1 ≡ o0)) ⊎ (Appends l0 l1 put × AppendsPrefix o0 o1 line))
-StopsLog file head live i log halt.Disk l0 l1 o0 o1 = (l1 ≡ l0) × (o1 ≡ o0)
-StopsLog file head live i log halt.Memory l0 l1 o0 o1 = (l1 ≡ l0) × (o1 ≡ o0)
+StopsLog file head live i log stop.Disk l0 l1 o0 o1 = (l1 ≡ l0) × (o1 ≡ o0)
+StopsLog file head live i log stop.Memory l0 l1 o0 o1 = (l1 ≡ l0) × (o1 ≡ o0)
 
 -- the last line was cut
-abbrev pub StopsEnd : Bool → Halt → Option (List ℕ) → Option (List ℕ) → Option (List ℕ) → Option (List ℕ) → Type 0
-StopsEnd accepted why l0 l1 o0 o1 = (why ≡ halt.Sink) × (l1 ≡ l0) × AppendsPrefix o0 o1 (carried_end accepted)
+abbrev pub StopsEnd : Bool → Stop → Option (List ℕ) → Option (List ℕ) → Option (List ℕ) → Option (List ℕ) → Type 0
+StopsEnd accepted why l0 l1 o0 o1 = (why ≡ stop.Sink) × (l1 ≡ l0) × AppendsPrefix o0 o1 (carried_end accepted)
 
 -- The frames and the lines of the first logs were put, each whole, and then what was put of the next log, or of the last line. So a
 -- line, or a front of one, stands only where its frame stands.
-pub record StopsCarrying (file : List ℕ) (head : Head) (live : Live) (logs : List Log) (why : Halt) (l0 l1 o0 o1 : Option (List ℕ)) : Type 0 where
+pub record StopsCarrying (file : List ℕ) (head : Head) (live : Live) (logs : List Log) (why : Stop) (l0 l1 o0 o1 : Option (List ℕ)) : Type 0 where
   pub rest : List Log
   pub i : ℕ
   pub accepted : Bool
@@ -139,33 +139,33 @@ pub record StopsCarrying (file : List ℕ) (head : Head) (live : Live) (logs : L
       ⊎ ((rest ≡ []) × StopsEnd accepted why frames l1 lines o1)
 
 -- no output had failed and nothing was put
-abbrev pub StopsBefore : Halt → Option (List ℕ) → Option (List ℕ) → Option (List ℕ) → Option (List ℕ) → Type 0
-StopsBefore why l0 l1 o0 o1 = (why ≢ halt.Sink) × (l1 ≡ l0) × (o1 ≡ o0)
+abbrev pub StopsBefore : Stop → Option (List ℕ) → Option (List ℕ) → Option (List ℕ) → Option (List ℕ) → Type 0
+StopsBefore why l0 l1 o0 o1 = (why ≢ stop.Sink) × (l1 ≡ l0) × (o1 ≡ o0)
 
 -- the bytes are no logs, and that line was cut
-pub record StopsUndecoded (bytes : List ℕ) (why : Halt) (l0 l1 o0 o1 : Option (List ℕ)) : Type 0 where
+pub record StopsUndecoded (bytes : List ℕ) (why : Stop) (l0 l1 o0 o1 : Option (List ℕ)) : Type 0 where
   pub fault : LogFault
   pub undecoded : frames_at log_at bytes ≡ Err fault
-  pub output : why ≡ halt.Sink
+  pub output : why ≡ stop.Sink
   pub no_frame : l1 ≡ l0
   pub line : AppendsPrefix o0 o1 (undecoded_text fault)
 
-abbrev pub Stops : List ℕ → Head → Live → List ℕ → Halt → Option (List ℕ) → Option (List ℕ) → Option (List ℕ) → Option (List ℕ) → Type 0
+abbrev pub Stops : List ℕ → Head → Live → List ℕ → Stop → Option (List ℕ) → Option (List ℕ) → Option (List ℕ) → Option (List ℕ) → Type 0
 Stops file head live bytes why l0 l1 o0 o1 =
     StopsBefore why l0 l1 o0 o1
     ⊎ (StopsUndecoded bytes why l0 l1 o0 o1 ⊎ ((logs : List Log) × (frames_at log_at bytes ≡ Ok logs) × StopsCarrying file head live logs why l0 l1 o0 o1))
 
 -- before the file was opened, or on the file that opens
-abbrev pub StopsOn : List ℕ → List ℕ → Halt → Option (List ℕ) → Option (List ℕ) → Option (List ℕ) → Option (List ℕ) → Type 0
+abbrev pub StopsOn : List ℕ → List ℕ → Stop → Option (List ℕ) → Option (List ℕ) → Option (List ℕ) → Option (List ℕ) → Type 0
 StopsOn file bytes why l0 l1 o0 o1 =
     StopsBefore why l0 l1 o0 o1 ⊎ ((head : Head) × (live : Live) × OpensTo file head live × Stops file head live bytes why l0 l1 o0 o1)
 
 -- what stands on both outputs where the job stopped: behind that, on out, the line of its status
 pub record HasHalted (file bytes : List ℕ) (l0 l1 : Option (List ℕ)) (out0 out1 : SinkState) (status : ℕ) : Type 0 where
-  pub output : status ≡ 4 → StopsOn file bytes halt.Sink l0 l1 out0.written out1.written
-  pub disk : status ≡ 5 → (lines : Option (List ℕ)) × StopsOn file bytes halt.Disk l0 l1 out0.written lines
+  pub output : status ≡ 4 → StopsOn file bytes stop.Sink l0 l1 out0.written out1.written
+  pub disk : status ≡ 5 → (lines : Option (List ℕ)) × StopsOn file bytes stop.Disk l0 l1 out0.written lines
       × Tells (record out0 { written = lines }) out1 (codes "fault disk\n")
-  pub memory : status ≡ 8 → (lines : Option (List ℕ)) × StopsOn file bytes halt.Memory l0 l1 out0.written lines
+  pub memory : status ≡ 8 → (lines : Option (List ℕ)) × StopsOn file bytes stop.Memory l0 l1 out0.written lines
       × Tells (record out0 { written = lines }) out1 (codes "fault memory\n")
 
 -- ---- by status
@@ -189,9 +189,6 @@ pub record CarriesLogs (disk0 disk1 : DiskState) (left0 left1 l0 l1 : Option (Li
   pub long : status ≡ 7 → Tells out0 out1 (codes "fault long\n") × ((2 ^ 30 < length bytes) ⊎ (IsTrue disk0.tells → IsLarge disk0.bytes))
 
 -- ---- statuses
-
-abbrev pub IsHaltStatus : ℕ → Type 0
-IsHaltStatus n = (n ≡ 4) ⊎ ((n ≡ 5) ⊎ (n ≡ 8))
 
 abbrev pub IsCarryStatus : ℕ → Type 0
 IsCarryStatus n = (n ≡ 0) ⊎ ((n ≡ 1) ⊎ ((n ≡ 4) ⊎ ((n ≡ 5) ⊎ ((n ≡ 6) ⊎ ((n ≡ 7) ⊎ (n ≡ 8))))))

@@ -8,7 +8,6 @@ use Rattle.scan_model.specs.declared.hit.Hit.{Hit}
 use Rattle.scan_model.specs.declared.query.Query.{Query}
 use Rattle.fault_lines.specs.Lines.{head_fault_name, numbered}
 use Rattle.file_jobs.specs.Logs.Lines.{answers_text, frame, log_fault_name, rejected_line, verdict_text}
-use Rattle.node_page.specs.declared.head.Head.{Head}
 use Rattle.prune_log.specs.Spelling.{frame_bytes}
 use Rattle.seal_jobs.specs.declared.taking.Next.{Next}
 use Rattle.seal_jobs.specs.declared.taking.Next.TheVariants as next

@@ -17,19 +17,18 @@ ghost use Rattle.seal_log.specs.Laws.{CarriedLogsAreAccepted};
 ghost use Rattle.file_jobs.specs.Lines.{not_index_text};
 ghost use Rattle.file_jobs.specs.Jobs.{IsNoIndex};
 ghost use Rattle.page_store.specs.Files.{IsLarge};
-ghost use Rattle.seal_jobs.specs.Carries.{CarriesLogs, CarriesOn, EndsCarried, HasCarried, HasHalted, IsCarriedLogsStatus, IsCarryStatus, IsDone, IsHaltStatus, IsKeptOf, PutsLog, Stops, StopsCarrying, StopsLog, TellsLog, carried_end, carried_line, judged};
+ghost use Rattle.seal_jobs.specs.Carries.{CarriesLogs, CarriesOn, EndsCarried, HasCarried, HasHalted, IsCarriedLogsStatus, IsCarryStatus, IsDone, IsKeptOf, PutsLog, Stops, StopsCarrying, StopsLog, TellsLog, carried_end, carried_line, judged};
 
 use crate::opening::open_small;
 use crate::proof_lines::rejected_text;
-use crate::stop::Halt;
 use disk_model::Disk;
-use file_jobs::logs::{push_frame, undecoded_text};
-use file_jobs::{FAULT_DISK, FAULT_INPUT, FAULT_LONG, FAULT_MEMORY, MOST_LOGS, end_with, space_of};
+use file_jobs::logs::{Stop, end_stopped, push_frame, read_logs, undecoded_text};
+use file_jobs::space_of;
 use log_model::{Log, Record};
 use log_verify::{Verdict, verify};
 use metric_laws::{Meter, Metric};
 use node_page::Head;
-use outside_io::{Memory, ReadAll, Sink, Source, Status, read_all};
+use outside_io::{Memory, Sink, Source, Status};
 use page_cache::laws::empty_cache_agrees;
 use page_cache::{Cached, KEPT_NODES, Kept};
 use page_store::{DiskPages, PageFault, Pages};
@@ -46,19 +45,19 @@ fn judge_by<M: Metric, P: Pages>(
     pages: &mut P,
     live: &Live,
     log: &Log,
-) -> Result<Option<Verdict>, Halt>
+) -> Result<Option<Verdict>, Stop>
     requires { IsLawfulLog log.now }
     ensures same { HoldsSame (P.shelf pages.old) (P.shelf pages.new) }
     ensures keeps { P.keeps pages.old pages.new }
     ensures told { IfOk result (λ found. IsTrue (P.shelf pages.old).tells → log_fault (M.space metric) (P.shelf pages.old).read live.now log.now ≡ found) }
-    ensures disk { IsErrOf result Halt.Disk → Rose (P.shelf pages.old).faults (P.shelf pages.new).faults }
-    ensures not_sink { IsErrOf result Halt.Sink → ⊥ }
+    ensures disk { IsErrOf result Stop.Disk → Rose (P.shelf pages.old).faults (P.shelf pages.new).faults }
+    ensures not_sink { IsErrOf result Stop.Sink → ⊥ }
 {
     let mut ruler = Meter::new(metric);
     match verify(alloc, pages, &mut ruler, live, log) {
         Ok(_) => Ok(None),
-        Err(Verdict::Memory) => Err(Halt::Memory),
-        Err(Verdict::Page(PageFault::Disk)) => Err(Halt::Disk),
+        Err(Verdict::Memory) => Err(Stop::Memory),
+        Err(Verdict::Page(PageFault::Disk)) => Err(Stop::Disk),
         Err(why) => Ok(Some(why)),
     }
 }
@@ -70,7 +69,7 @@ fn judge_log<D: Disk>(
     opened: &(Head, Live),
     kept: Kept,
     log: &Log,
-) -> Result<(Option<Verdict>, Kept), Halt>
+) -> Result<(Option<Verdict>, Kept), Stop>
     requires head { IsLawfulHead opened.now.0 }
     requires few { opened.now.1.pages ≤ 262144 }
     requires kept { IsKeptOf (D.state index.old) opened.now.0 opened.now.1 kept }
@@ -78,8 +77,8 @@ fn judge_log<D: Disk>(
     ensures same { IsUnchanged (D.state index.old) (D.state index.new) }
     ensures told { IfOk result (λ x. IsTrue (D.state index.old).tells → judged (D.state index.old).bytes opened.now.0 opened.now.1 log.now ≡ x.0) }
     ensures kept { IfOk result (λ x. IsKeptOf (D.state index.new) opened.now.0 opened.now.1 x.1) }
-    ensures disk { IsErrOf result Halt.Disk → Rose (D.state index.old).faults (D.state index.new).faults }
-    ensures not_sink { IsErrOf result Halt.Sink → ⊥ }
+    ensures disk { IsErrOf result Stop.Disk → Rose (D.state index.old).faults (D.state index.new).faults }
+    ensures not_sink { IsErrOf result Stop.Sink → ⊥ }
     ensures later { (D.state index.old).faults ≤ (D.state index.new).faults }
 {
     let (head, live) = opened;
@@ -114,19 +113,19 @@ fn carried_frame<D: Disk>(
     index: &mut D,
     tree: &Tree,
     log: &Log,
-) -> Result<Vec<u8>, Halt>
+) -> Result<Vec<u8>, Stop>
     requires some { 4 ≤ length tree.now }
     requires few { length tree.now ≤ 262144 }
     requires lawful { IsLawfulLog log.now }
     ensures same { IsUnchanged (D.state index.old) (D.state index.new) }
     ensures carries { IfOk result (λ put. IsTrue (D.state index.old).tells → (bytes : List ℕ)
         × Carries (D.state index.old).bytes tree.now log.now bytes × (put.items ≡ frame_bytes bytes)) }
-    ensures disk { IsErrOf result Halt.Disk → Rose (D.state index.old).faults (D.state index.new).faults }
-    ensures not_sink { IsErrOf result Halt.Sink → ⊥ }
+    ensures disk { IsErrOf result Stop.Disk → Rose (D.state index.old).faults (D.state index.new).faults }
+    ensures not_sink { IsErrOf result Stop.Sink → ⊥ }
     ensures later { (D.state index.old).faults ≤ (D.state index.new).faults }
 {
     if !are_within(log.records.as_slice(), tree.pages()) {
-        return Err(Halt::Memory);
+        return Err(Stop::Memory);
     }
     match carry(alloc, index, tree, log) {
         Ok(bytes) => {
@@ -134,8 +133,8 @@ fn carried_frame<D: Disk>(
             frame(&bytes, &mut put)?;
             Ok(put)
         }
-        Err(SealFault::Disk) => Err(Halt::Disk),
-        Err(SealFault::Memory) => Err(Halt::Memory),
+        Err(SealFault::Disk) => Err(Stop::Disk),
+        Err(SealFault::Memory) => Err(Stop::Memory),
     }
 }
 
@@ -148,7 +147,7 @@ fn log_texts<D: Disk>(
     number: u64,
     log: &Log,
     found: Option<Verdict>,
-) -> Result<(Vec<u8>, Vec<u8>, bool), Halt>
+) -> Result<(Vec<u8>, Vec<u8>, bool), Stop>
     requires head { IsLawfulHead opened.now.0 }
     requires some { 4 ≤ opened.now.1.pages }
     requires few { opened.now.1.pages ≤ 262144 }
@@ -159,8 +158,8 @@ fn log_texts<D: Disk>(
     ensures same { IsUnchanged (D.state index.old) (D.state index.new) }
     ensures tells { IfOk result (λ x. IsTrue (D.state index.old).tells →
         TellsLog (D.state index.old).bytes opened.now.0 opened.now.1 number log.now x.0.items x.1.items x.2) }
-    ensures disk { IsErrOf result Halt.Disk → Rose (D.state index.old).faults (D.state index.new).faults }
-    ensures not_sink { IsErrOf result Halt.Sink → ⊥ }
+    ensures disk { IsErrOf result Stop.Disk → Rose (D.state index.old).faults (D.state index.new).faults }
+    ensures not_sink { IsErrOf result Stop.Sink → ⊥ }
     ensures later { (D.state index.old).faults ≤ (D.state index.new).faults }
 {
     if let Some(why) = found {
@@ -182,7 +181,7 @@ fn carry_log<D: Disk, K: Sink, L: Sink>(
     log: &Log,
     out: &mut K,
     log_out: &mut L,
-) -> Result<(bool, Kept), Halt>
+) -> Result<(bool, Kept), Stop>
     requires head { IsLawfulHead opened.now.0 }
     requires some { 4 ≤ opened.now.1.pages }
     requires few { opened.now.1.pages ≤ 262144 }
@@ -197,8 +196,8 @@ fn carry_log<D: Disk, K: Sink, L: Sink>(
     ensures stops { IfErr result (λ why. IsTrue (D.state index.old).tells → StopsLog (D.state index.old).bytes opened.now.0 opened.now.1 number log.now why
         (L.state log_out.old).written (L.state log_out.new).written (K.state out.old).written (K.state out.new).written) }
     ensures kept { IfOk result (λ x. IsKeptOf (D.state index.new) opened.now.0 opened.now.1 x.1) }
-    ensures disk { IsErrOf result Halt.Disk → Rose (D.state index.old).faults (D.state index.new).faults }
-    ensures output { IsErrOf result Halt.Sink → Rose (K.state out.old).faults (K.state out.new).faults
+    ensures disk { IsErrOf result Stop.Disk → Rose (D.state index.old).faults (D.state index.new).faults }
+    ensures output { IsErrOf result Stop.Sink → Rose (K.state out.old).faults (K.state out.new).faults
         ⊎ Rose (L.state log_out.old).faults (L.state log_out.new).faults }
     ensures later { (D.state index.old).faults ≤ (D.state index.new).faults }
     ensures out_later { (K.state out.old).faults ≤ (K.state out.new).faults }
@@ -207,11 +206,11 @@ fn carry_log<D: Disk, K: Sink, L: Sink>(
     let (found, kept) = judge_log(alloc, index, opened, kept, log)?;
     let (put, line, accepted) = log_texts(alloc, index, opened, tree, number, log, found)?;
     if log_out.put(&put).is_err() {
-        return Err(Halt::Sink);
+        return Err(Stop::Sink);
     }
     match out.put(&line) {
         Ok(()) => Ok((accepted, kept)),
-        Err(_) => Err(Halt::Sink),
+        Err(_) => Err(Stop::Sink),
     }
 }
 
@@ -225,7 +224,7 @@ fn carry_all<D: Disk, K: Sink, L: Sink>(
     logs: Vec<Log>,
     out: &mut K,
     log_out: &mut L,
-) -> Result<bool, Halt>
+) -> Result<bool, Stop>
     requires head { IsLawfulHead opened.now.0 }
     requires some { 4 ≤ opened.now.1.pages }
     requires few { opened.now.1.pages ≤ 262144 }
@@ -239,8 +238,8 @@ fn carry_all<D: Disk, K: Sink, L: Sink>(
         (L.state log_out.old).written (L.state log_out.new).written (K.state out.old).written (K.state out.new).written) }
     ensures stops { IfErr result (λ why. IsTrue (D.state index.old).tells → StopsCarrying (D.state index.old).bytes opened.now.0 opened.now.1 logs.items why
         (L.state log_out.old).written (L.state log_out.new).written (K.state out.old).written (K.state out.new).written) }
-    ensures disk { IsErrOf result Halt.Disk → Rose (D.state index.old).faults (D.state index.new).faults }
-    ensures output { IsErrOf result Halt.Sink → Rose (K.state out.old).faults (K.state out.new).faults
+    ensures disk { IsErrOf result Stop.Disk → Rose (D.state index.old).faults (D.state index.new).faults }
+    ensures output { IsErrOf result Stop.Sink → Rose (K.state out.old).faults (K.state out.new).faults
         ⊎ Rose (L.state log_out.old).faults (L.state log_out.new).faults }
     ensures later { (D.state index.old).faults ≤ (D.state index.new).faults }
     ensures out_later { (K.state out.old).faults ≤ (K.state out.new).faults }
@@ -271,16 +270,16 @@ fn carried_end(accepted: bool) -> &'static [u8]
 }
 
 // Puts a line.
-fn put<K: Sink>(out: &mut K, line: &[u8]) -> Result<(), Halt>
+fn put<K: Sink>(out: &mut K, line: &[u8]) -> Result<(), Stop>
     ensures puts { OnOk result (Appends (K.state out.old).written (K.state out.new).written line.now) }
     ensures later { (K.state out.old).faults ≤ (K.state out.new).faults }
-    ensures output { IsErrOf result Halt.Sink → Rose (K.state out.old).faults (K.state out.new).faults }
-    ensures cut { IfErr result (λ why. (why ≡ Halt.Sink) × AppendsPrefix (K.state out.old).written (K.state out.new).written line.now) }
-    ensures not_disk { IsErrOf result Halt.Disk → ⊥ }
+    ensures output { IsErrOf result Stop.Sink → Rose (K.state out.old).faults (K.state out.new).faults }
+    ensures cut { IfErr result (λ why. (why ≡ Stop.Sink) × AppendsPrefix (K.state out.old).written (K.state out.new).written line.now) }
+    ensures not_disk { IsErrOf result Stop.Disk → ⊥ }
 {
     match out.put(line) {
         Ok(()) => Ok(()),
-        Err(_) => Err(Halt::Sink),
+        Err(_) => Err(Stop::Sink),
     }
 }
 
@@ -294,7 +293,7 @@ fn carry_bytes<D: Disk, K: Sink, L: Sink>(
     bytes: &[u8],
     out: &mut K,
     log_out: &mut L,
-) -> Result<Status, Halt>
+) -> Result<Status, Stop>
     requires head { IsLawfulHead opened.now.0 }
     requires some { 4 ≤ opened.now.1.pages }
     requires few { opened.now.1.pages ≤ 262144 }
@@ -306,8 +305,8 @@ fn carry_bytes<D: Disk, K: Sink, L: Sink>(
     ensures stops { IfErr result (λ why. IsTrue (D.state index.old).tells → Stops (D.state index.old).bytes opened.now.0 opened.now.1 bytes.now why
         (L.state log_out.old).written (L.state log_out.new).written (K.state out.old).written (K.state out.new).written) }
     ensures statuses { IfOk result (λ status. IsDone status.0) }
-    ensures disk { IsErrOf result Halt.Disk → Rose (D.state index.old).faults (D.state index.new).faults }
-    ensures output { IsErrOf result Halt.Sink → Rose (K.state out.old).faults (K.state out.new).faults
+    ensures disk { IsErrOf result Stop.Disk → Rose (D.state index.old).faults (D.state index.new).faults }
+    ensures output { IsErrOf result Stop.Sink → Rose (K.state out.old).faults (K.state out.new).faults
         ⊎ Rose (L.state log_out.old).faults (L.state log_out.new).faults }
     ensures later { (D.state index.old).faults ≤ (D.state index.new).faults }
     ensures out_later { (K.state out.old).faults ≤ (K.state out.new).faults }
@@ -315,7 +314,7 @@ fn carry_bytes<D: Disk, K: Sink, L: Sink>(
 {
     let logs = match decode_frames(alloc, bytes) {
         Ok(logs) => logs,
-        Err(LogFault::Memory) => return Err(Halt::Memory),
+        Err(LogFault::Memory) => return Err(Stop::Memory),
         Err(fault) => {
             put(out, undecoded_text(fault))?;
             return Ok(Status(1));
@@ -336,7 +335,7 @@ fn carry_opened<D: Disk, K: Sink, L: Sink>(
     bytes: &[u8],
     out: &mut K,
     log_out: &mut L,
-) -> Result<Status, Halt>
+) -> Result<Status, Stop>
     requires head { IsLawfulHead opened.now.0 }
     requires some { 4 ≤ opened.now.1.pages }
     requires few { opened.now.1.pages ≤ 262144 }
@@ -346,8 +345,8 @@ fn carry_opened<D: Disk, K: Sink, L: Sink>(
     ensures stops { IfErr result (λ why. IsTrue (D.state index.old).tells → Stops (D.state index.old).bytes opened.now.0 opened.now.1 bytes.now why
         (L.state log_out.old).written (L.state log_out.new).written (K.state out.old).written (K.state out.new).written) }
     ensures statuses { IfOk result (λ status. IsDone status.0) }
-    ensures disk { IsErrOf result Halt.Disk → Rose (D.state index.old).faults (D.state index.new).faults }
-    ensures output { IsErrOf result Halt.Sink → Rose (K.state out.old).faults (K.state out.new).faults
+    ensures disk { IsErrOf result Stop.Disk → Rose (D.state index.old).faults (D.state index.new).faults }
+    ensures output { IsErrOf result Stop.Sink → Rose (K.state out.old).faults (K.state out.new).faults
         ⊎ Rose (L.state log_out.old).faults (L.state log_out.new).faults }
     ensures later { (D.state index.old).faults ≤ (D.state index.new).faults }
     ensures out_later { (K.state out.old).faults ≤ (K.state out.new).faults }
@@ -355,26 +354,8 @@ fn carry_opened<D: Disk, K: Sink, L: Sink>(
 {
     match seal(alloc, index, opened.1.pages) {
         Ok(tree) => carry_bytes(alloc, index, opened, &tree, bytes, out, log_out),
-        Err(SealFault::Disk) => Err(Halt::Disk),
-        Err(SealFault::Memory) => Err(Halt::Memory),
-    }
-}
-
-// Ends a job that stopped: with a line, but where an output failed.
-fn end_halted<K: Sink>(why: Halt, out: &mut K) -> Status
-    ensures statuses { IsHaltStatus result.0 }
-    ensures disk { result.0 ≡ 5 → why ≡ Halt.Disk }
-    ensures output { result.0 ≡ 4 → why ≡ Halt.Sink }
-    ensures memory { result.0 ≡ 8 → why ≡ Halt.Memory }
-    ensures silent { result.0 ≡ 4 → (K.state out.new).written ≡ (K.state out.old).written }
-    ensures disk_line { result.0 ≡ 5 → Tells (K.state out.old) (K.state out.new) (codes "fault disk\n") }
-    ensures memory_line { result.0 ≡ 8 → Tells (K.state out.old) (K.state out.new) (codes "fault memory\n") }
-    ensures later { (K.state out.old).faults ≤ (K.state out.new).faults }
-{
-    match why {
-        Halt::Sink => Status(4),
-        Halt::Disk => end_with(out, FAULT_DISK, 5),
-        Halt::Memory => end_with(out, FAULT_MEMORY, 8),
+        Err(SealFault::Disk) => Err(Stop::Disk),
+        Err(SealFault::Memory) => Err(Stop::Memory),
     }
 }
 
@@ -408,7 +389,7 @@ fn carry_index<D: Disk, K: Sink, L: Sink>(
     };
     match carry_opened(alloc, index, &opened, bytes, out, log_out) {
         Ok(status) => status,
-        Err(why) => end_halted(why, out),
+        Err(why) => end_stopped(why, out),
     }
 }
 
@@ -436,10 +417,8 @@ pub fn carry_logs<D: Disk, S: Source, K: Sink, L: Sink>(
         × ((L.state log_out.old).faults ≤ (L.state log_out.new).faults) }
 {
     carried_logs_are_accepted();
-    match read_all(alloc, log_in, MOST_LOGS) {
+    match read_logs(alloc, log_in, out) {
         Ok(bytes) => carry_index(alloc, index, &bytes, out, log_out),
-        Err(ReadAll::Fault) => end_with(out, FAULT_INPUT, 3),
-        Err(ReadAll::TooLong) => end_with(out, FAULT_LONG, 7),
-        Err(ReadAll::Memory) => end_with(out, FAULT_MEMORY, 8),
+        Err(status) => status,
     }
 }

@@ -1,7 +1,6 @@
 // Why a job stopped before its end.
 ghost use Rattle.std.specs.Prelude.{◌≡◌};
 ghost use Rattle.seal_jobs.specs.declared.stop.Stop.TheVariants.{Memory as NoMemory};
-ghost use Rattle.seal_jobs.specs.declared.stop.Halt.TheVariants.{Memory as NoHaltMemory};
 
 use std::alloc::AllocError;
 use thiserror::Error;
@@ -28,27 +27,5 @@ impl From<AllocError> for Stop {
 
     fn from(_error: AllocError) -> Stop {
         Stop::Memory
-    }
-}
-
-/// Why a job on an index stopped before its end.
-#[derive(Clone, Copy, Debug, PartialEq, Eq, Error)]
-pub enum Halt {
-    /// A text could not be put.
-    #[error("the output failed")]
-    Sink,
-    /// The disk failed.
-    #[error("the disk failed")]
-    Disk,
-    /// There was no memory.
-    #[error("out of memory")]
-    Memory,
-}
-
-impl From<AllocError> for Halt {
-    ghost from_gives = { λ _ e. e ≡ NoHaltMemory };
-
-    fn from(_error: AllocError) -> Halt {
-        Halt::Memory
     }
 }

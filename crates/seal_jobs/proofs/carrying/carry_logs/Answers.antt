@@ -1,25 +1,26 @@
-use Rattle.std.proofs.Common.{◌≢◌, ⊎_elim, arith}
+use Rattle.std.proofs.Common.{inl, ⊎_elim, arith}
+use Rattle.file_jobs.proofs.Published.{of_three}
 use Rattle.seal_jobs.proofs.Telling.{halted_before, unchanged}
 use Rattle.seal_jobs.proofs.carrying.carry_logs.Goals as goal
 
-pub returns-in-Err-Memory-clause-carries : goal.returns-in-Err-Memory-clause-carries
-returns-in-Err-Memory-clause-carries g c =
+pub returns-in-Err-clause-carries : goal.returns-in-Err-clause-carries
+returns-in-Err-clause-carries g c =
     let d = g.D.Disk.state c.args.index.now in
     let l = (g.L.Sink.state c.args.log_out.now).written in
     let out0 = g.K.Sink.state c.args.out.now in
-    let took = c.in-Err-Memory.ensures.too_long in
-    let end = c.end_with-in-Err-Memory in
-    let eight = end.ensures.status in
-    let not_four : end.result.0 ≢ 4 = λ is. omega (arith, eight, is) in
+    let out1 = g.K.Sink.state c.read_logs.new.out in
+    let unread = c.in-Err.ensures.unread in
+    let r = c.in-Err.status.0 in
+    let s = unread.statuses in
     record {
-      bytes = took.bytes;
-      taken = took.taken;
-      few = took.few;
-      too_many = λ more. cc (took.long.1 more);
+      bytes = unread.bytes;
+      taken = unread.taken;
+      few = unread.few;
+      too_many = unread.long.1;
       unchanged = unchanged d;
-      done = λ either. absurd (⊎_elim (λ e. (let other : ⊥ = omega (arith, e, eight) in other)) (λ e. (let other : ⊥ = omega (arith, e, eight) in other)) either);
-      halted = λ tells. halted_before d.bytes took.bytes l out0 (g.K.Sink.state end.new.out) end.result.0 not_four (λ is. absurd (omega (arith, eight, is))) (λ is. end.ensures.line);
-      input_line = λ is. absurd (omega (arith, eight, is));
-      not_index = λ is. absurd (omega (arith, eight, is));
-      long = λ is. absurd (omega (arith, eight, is));
+      done = λ either. ⊎_elim (λ is. of_three r 3 7 8 0 s is (omega arith) (omega arith) (omega arith)) (λ is. of_three r 3 7 8 1 s is (omega arith) (omega arith) (omega arith)) either;
+      halted = λ tells. halted_before d.bytes unread.bytes l out0 out1 r (λ is. of_three r 3 7 8 4 s is (omega arith) (omega arith) (omega arith)) (λ is. of_three r 3 7 8 5 s is (omega arith) (omega arith) (omega arith)) unread.memory_line;
+      input_line = unread.input_line;
+      not_index = λ is. of_three r 3 7 8 6 s is (omega arith) (omega arith) (omega arith);
+      long = λ is. (unread.long_line is, inl (unread.long.0 is));
     }
