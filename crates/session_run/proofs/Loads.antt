@@ -83,7 +83,7 @@ module _ {M : Type 0} (s : Space) (show : Bool) (old new : OpenIndex M) (cursors
   load_cause fault.Commit cause none undamaged = cause none
 
   hinders : (pages needed : ℕ) → HasLoadingCause s old rows labels before after.faults (fault.NoRoom pages needed) → Hinders s old.file.head (held_on old.file before) refusal.NoRoom (Loads rows labels)
-  hinders pages needed (f, is, other, at, exact, over) = (length f.free, rw (at, exact) at over)
+  hinders pages needed (f, is, (other, at, exact, over)) = (length f.free, rw (at, exact) at over)
 
   -- a load
   pub load_stepped : (result : Result ℕ IndexFault) → HasWritten s (Loads rows labels) old new before after result →
