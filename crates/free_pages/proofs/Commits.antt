@@ -105,7 +105,7 @@ keep_beside pages next_pages used generation f staged left tree next_tree kept e
   ]
 ]
 
-none_in : (page : ℕ) (xs : List ℕ) → (IsIn page xs → ⊥) → times page xs ≡ 0
+pub none_in : (page : ℕ) (xs : List ℕ) → (IsIn page xs → ⊥) → times page xs ≡ 0
 none_in page xs never = none (times page xs) refl
   where
     none : (n : ℕ) → times page xs ≡ n → n ≡ 0

@@ -66,6 +66,7 @@ impl Free {
         requires pages { live.now.pages ≡ (P.shelf pages.old).pages }
         ensures same { HoldsSame (P.shelf pages.old) (P.shelf pages.new) }
         ensures keeps { P.keeps pages.old pages.new }
+        ensures no_fault { OnOk result ((P.shelf pages.new).faults ≡ (P.shelf pages.old).faults) }
         ensures outside { IfOk result (λ f. IsTrue (P.shelf pages.old).tells → AreOutsideTree live.now (P.shelf pages.old) (P.shelf pages.new) f.free) }
         ensures sound { IfOk result (λ f. (s : Space) → IsTrue (P.shelf pages.old).tells → IsSoundTree s (nodes_of (P.shelf pages.old).read) live.now →
             f.free ≡ outside_pages live.now.pages (live_pages (nodes_of (P.shelf pages.old).read) live.now)) }

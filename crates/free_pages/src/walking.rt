@@ -75,6 +75,7 @@ fn visit<P: Pages>(
     ensures opened { OnOk result ((old : Shelf) (t : Live) →
         IsUnderWay old (P.shelf pages.old) t walk.old.count walk.old.opened.items (page ∷ reverse walk.old.coming.items) →
         IsUnderWay old (P.shelf pages.new) t walk.new.count walk.new.opened.items (reverse walk.new.coming.items)) }
+    ensures no_fault { OnOk result ((P.shelf pages.new).faults ≡ (P.shelf pages.old).faults) }
     ensures one { OnOk result (walk.new.count ≡ walk.old.count + 1) }
     ensures flags { length walk.new.opened.items ≡ length walk.old.opened.items }
     ensures err { IfErr result (λ fault. (old : Shelf) (t : Live) (coming : List ℕ) →
@@ -104,6 +105,7 @@ pub fn walk_tree<P: Pages>(alloc: Global, pages: &mut P, live: &Live) -> Result<
     ensures same { HoldsSame (P.shelf pages.old) (P.shelf pages.new) }
     ensures keeps { P.keeps pages.old pages.new }
     ensures few { IfOk result (λ walk. length walk.opened.items < 2 ^ 32) }
+    ensures no_fault { OnOk result ((P.shelf pages.new).faults ≡ (P.shelf pages.old).faults) }
     ensures ok { IfOk result (λ walk. IsUnderWay (P.shelf pages.old) (P.shelf pages.new) live.now walk.count walk.opened.items []) }
     ensures err { IfErr result (IsWalkFault (P.shelf pages.old) (P.shelf pages.new) (tree_walk (P.shelf pages.old).read live.now)) }
     ensures asked { 1 ≤ live.now.pages → (P.shelf pages.new).asked ≤ (P.shelf pages.old).asked + live.now.pages }

@@ -1,4 +1,4 @@
-ghost use Rattle.std.specs.Prelude.{◌≡◌, ◌≤◌, ◌+◌, [], ◌∷◌, length, vec_len, true, IsTrue, IfOk, IfErr};
+ghost use Rattle.std.specs.Prelude.{◌≡◌, ◌≤◌, ◌+◌, [], ◌∷◌, length, vec_len, true, IsTrue, IfOk, IfErr, OnOk};
 ghost use Rattle.std.specs.List.{AllZip};
 ghost use Rattle.metric_laws.specs.Space.{Space};
 ghost use Rattle.tree_shape.specs.Tree.{IsSoundTree};
@@ -29,6 +29,7 @@ fn walked_tags<P: Pages>(
     ensures keeps { P.keeps pages.old pages.new }
     ensures asked { CountsUpTo (P.shelf pages.old).asked (P.shelf pages.new).asked (length found.now.log.records) }
     ensures reads { (P.shelf pages.new).reads ≤ (P.shelf pages.old).reads + length found.now.log.records }
+    ensures no_fault { OnOk result ((P.shelf pages.new).faults ≡ (P.shelf pages.old).faults) }
     ensures each { IfOk result (λ tags. vec_len tags ≡ length found.now.hits) }
     ensures met { IfOk result (λ tags. IsTrue (P.shelf pages.old).tells →
         tags.items ≡ met_tags (nodes_of (P.shelf pages.old).read) live.now found.now) }
@@ -64,6 +65,7 @@ pub fn tags_of<P: Pages>(
     ensures keeps { P.keeps pages.old pages.new }
     ensures asked { CountsUpTo (P.shelf pages.old).asked (P.shelf pages.new).asked (length found.now.log.records) }
     ensures reads { (P.shelf pages.new).reads ≤ (P.shelf pages.old).reads + length found.now.log.records }
+    ensures no_fault { OnOk result ((P.shelf pages.new).faults ≡ (P.shelf pages.old).faults) }
 
     ensures each { IfOk result (λ tags. vec_len tags ≡ length found.now.hits) }
     ensures met { IfOk result (λ tags. IsTrue (P.shelf pages.old).tells →
@@ -97,6 +99,7 @@ pub fn marked_tags<P: Pages>(
     ensures keeps { P.keeps pages.old pages.new }
     ensures asked { CountsUpTo (P.shelf pages.old).asked (P.shelf pages.new).asked (length found.now.log.records) }
     ensures reads { (P.shelf pages.new).reads ≤ (P.shelf pages.old).reads + length found.now.log.records }
+    ensures no_fault { OnOk result ((P.shelf pages.new).faults ≡ (P.shelf pages.old).faults) }
     ensures each { IfOk result (λ tags. vec_len tags ≡ length found.now.hits) }
     ensures met { IfOk result (λ tags. IsTrue (P.shelf pages.old).tells →
         tags.items ≡ met_tags (nodes_of (P.shelf pages.old).read) live.now found.now) }

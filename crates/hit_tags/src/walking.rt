@@ -97,6 +97,7 @@ impl Walk {
         ensures keeps { P.keeps pages.old pages.new }
         ensures asked { CountsUpTo (P.shelf pages.old).asked (P.shelf pages.new).asked 1 }
         ensures reads { (P.shelf pages.new).reads ≤ (P.shelf pages.old).reads + 1 }
+        ensures no_fault { OnOk result ((P.shelf pages.new).faults ≡ (P.shelf pages.old).faults) }
         ensures ok { IfOk result (λ on. IsTrue (P.shelf pages.old).tells →
             HasFollowed (nodes_of (P.shelf pages.old).read) self.old told.now self.new on) }
         ensures cause { IfErr result (λ fault. (rs : List Record) →
@@ -143,6 +144,7 @@ impl Walk {
         ensures keeps { P.keeps pages.old pages.new }
         ensures asked { CountsUpTo (P.shelf pages.old).asked (P.shelf pages.new).asked (length records.now) }
         ensures reads { (P.shelf pages.new).reads ≤ (P.shelf pages.old).reads + length records.now }
+        ensures no_fault { OnOk result ((P.shelf pages.new).faults ≡ (P.shelf pages.old).faults) }
         ensures ok { OnOk result (IsTrue (P.shelf pages.old).tells →
             TakesIn self.old.wanted (met (nodes_of (P.shelf pages.old).read) (reverse self.old.stack.items) records.now) self.new.wanted) }
         ensures cause { IfErr result (HasTagsCause (P.shelf pages.old) (P.shelf pages.new) (reverse self.old.stack.items) records.now) }

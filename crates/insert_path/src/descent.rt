@@ -178,6 +178,7 @@ pub fn descend<P: Pages, R: Ruler>(
     ensures metric { R.metric ruler.new ≡ R.metric ruler.old }
     ensures asked { HasAsked (spot.now.level + 1) (P.shelf pages.old) (P.shelf pages.new) }
     ensures keeps { P.keeps pages.old pages.new }
+    ensures no_fault { OnOk result ((P.shelf pages.new).faults ≡ (P.shelf pages.old).faults) }
     ensures count { OnOk result (length written.new.nodes.items ≤ length written.old.nodes.items + 2 * (spot.now.level + 1)) }
     ensures descends { IfOk result (λ g.
         Descends (plan_of (R.M.space (R.metric ruler.old)) task.now.policy task.now.bounds

@@ -119,6 +119,7 @@ pub fn grow<P: Pages, R: Ruler>(
     ensures metric { R.metric ruler.new ≡ R.metric ruler.old }
     ensures asked { HasAsked (live.now.height + 1) (P.shelf pages.old) (P.shelf pages.new) }
     ensures keeps { P.keeps pages.old pages.new }
+    ensures no_fault { OnOk result ((P.shelf pages.new).faults ≡ (P.shelf pages.old).faults) }
     ensures count { IfOk result (λ grown. length grown.nodes.items < 2 ^ 9) }
     ensures added { IfOk result (λ grown. grown.added ≡ 1) }
     ensures walks { IfOk result (λ grown.

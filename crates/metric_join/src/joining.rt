@@ -1,4 +1,4 @@
-ghost use Rattle.std.specs.Prelude.{◌≡◌, ◌≤◌, ◌<◌, ◌^◌, length, IsTrue, IfOk, IfErr};
+ghost use Rattle.std.specs.Prelude.{◌≡◌, ◌≤◌, ◌<◌, ◌^◌, length, IsTrue, IfOk, IfErr, OnOk};
 ghost use Rattle.scan_model.specs.Join.{join_pairs};
 ghost use Rattle.tree_shape.specs.Tree.{IsSoundTree, points_by_id};
 ghost use Rattle.page_store.specs.Reading.{nodes_of};
@@ -64,8 +64,10 @@ pub fn join<P: Pages, Q: Pages, R: Ruler>(
     ensures metric { R.metric ruler.new ≡ R.metric ruler.old }
     ensures left_same { HoldsSame (P.shelf left.old) (P.shelf left.new) }
     ensures left_keeps { P.keeps left.old left.new }
+    ensures left_no_fault { OnOk result ((P.shelf left.new).faults ≡ (P.shelf left.old).faults) }
     ensures right_same { HoldsSame (Q.shelf right.old) (Q.shelf right.new) }
     ensures right_keeps { Q.keeps right.old right.new }
+    ensures right_no_fault { OnOk result ((Q.shelf right.new).faults ≡ (Q.shelf right.old).faults) }
 
     ensures joined { IfOk result (IsJoined (R.M.space (R.metric ruler.old)) ll.now lr.now r (P.shelf left.old) (P.shelf left.new)
         (Q.shelf right.old) (Q.shelf right.new) (R.used ruler.old) (R.used ruler.new)) }

@@ -30,6 +30,7 @@ fn open_page<P: Pages>(
 ) -> Result<(), PageFault>
     ensures same { HoldsSame (P.shelf pages.old) (P.shelf pages.new) }
     ensures keeps { P.keeps pages.old pages.new }
+    ensures no_fault { OnOk result ((P.shelf pages.new).faults ≡ (P.shelf pages.old).faults) }
     ensures opened { OnOk result (OpensPage (P.shelf pages.old) (P.shelf pages.new) page (reverse stack.old.items) (reverse stack.new.items)) }
     ensures cause { IfErr result (HasPageCause (P.shelf pages.old) (P.shelf pages.new) page) }
 {
@@ -45,6 +46,7 @@ fn open_page<P: Pages>(
 pub fn tour<P: Pages>(alloc: Global, pages: &mut P, live: &Live) -> Result<(), PageFault>
     ensures same { HoldsSame (P.shelf pages.old) (P.shelf pages.new) }
     ensures keeps { P.keeps pages.old pages.new }
+    ensures no_fault { OnOk result ((P.shelf pages.new).faults ≡ (P.shelf pages.old).faults) }
     ensures walked { OnOk result (IsWalked live.now (P.shelf pages.old) (P.shelf pages.new) 0) }
     ensures cause { IfErr result (HasTourCause live.now (P.shelf pages.old) (P.shelf pages.new)) }
 {

@@ -159,6 +159,7 @@ fn node_at<P: Pages>(
     ensures same { HoldsSame (P.shelf pages.old) (P.shelf pages.new) }
     ensures keeps { P.keeps pages.old pages.new }
     ensures ok { IfOk result (IsNodeOf (P.shelf pages.old) page) }
+    ensures no_fault { OnOk result ((P.shelf pages.new).faults ≡ (P.shelf pages.old).faults) }
     ensures asked { OnOk result ((P.shelf pages.new).asked ≡ next_count (P.shelf pages.old).asked) }
     ensures room { OnOk result (1 ≤ room) }
     ensures cause { IfErr result (HasStop room (P.shelf pages.old) (P.shelf pages.new) page) }
@@ -178,8 +179,10 @@ fn opened_node<P: Pages, Q: Pages>(
 ) -> Result<SharedNode, JoinFault>
     ensures left_same { HoldsSame (P.shelf left.old) (P.shelf left.new) }
     ensures left_keeps { P.keeps left.old left.new }
+    ensures left_no_fault { OnOk result ((P.shelf left.new).faults ≡ (P.shelf left.old).faults) }
     ensures right_same { HoldsSame (Q.shelf right.old) (Q.shelf right.new) }
     ensures right_keeps { Q.keeps right.old right.new }
+    ensures right_no_fault { OnOk result ((Q.shelf right.new).faults ≡ (Q.shelf right.old).faults) }
     ensures ok { IfOk result (IsOpened (P.shelf left.old) (P.shelf left.new) (Q.shelf right.old) (Q.shelf right.new) waiting.now) }
     ensures cause { IfErr result (HasStopped (P.shelf left.old) (P.shelf left.new) (Q.shelf right.old) (Q.shelf right.new) waiting.now) }
 {
@@ -209,8 +212,10 @@ fn open_pair<P: Pages, Q: Pages, R: Ruler>(
     ensures metric { R.metric ruler.new ≡ R.metric ruler.old }
     ensures left_same { HoldsSame (P.shelf left.old) (P.shelf left.new) }
     ensures left_keeps { P.keeps left.old left.new }
+    ensures left_no_fault { OnOk result ((P.shelf left.new).faults ≡ (P.shelf left.old).faults) }
     ensures right_same { HoldsSame (Q.shelf right.old) (Q.shelf right.new) }
     ensures right_keeps { Q.keeps right.old right.new }
+    ensures right_no_fault { OnOk result ((Q.shelf right.new).faults ≡ (Q.shelf right.old).faults) }
     ensures rho { walk.new.rho ≡ walk.old.rho }
     ensures on { OnOk result ((l r : Live) (left1 right1 : Shelf) (used1 : ℕ) →
         IsUnderWay (search_within (R.M.space (R.metric ruler.old)) walk.old.rho) l r left1 (P.shelf left.old) right1
@@ -246,8 +251,10 @@ pub fn walk_pairs<P: Pages, Q: Pages, R: Ruler>(
     ensures metric { R.metric ruler.new ≡ R.metric ruler.old }
     ensures left_same { HoldsSame (P.shelf left.old) (P.shelf left.new) }
     ensures left_keeps { P.keeps left.old left.new }
+    ensures left_no_fault { OnOk result ((P.shelf left.new).faults ≡ (P.shelf left.old).faults) }
     ensures right_same { HoldsSame (Q.shelf right.old) (Q.shelf right.new) }
     ensures right_keeps { Q.keeps right.old right.new }
+    ensures right_no_fault { OnOk result ((Q.shelf right.new).faults ≡ (Q.shelf right.old).faults) }
     ensures ok { IfOk result (λ walk. (l r : Live) →
         IsUnderWay (search_within (R.M.space (R.metric ruler.old)) begun.rho) l r (P.shelf left.old) (P.shelf left.old)
         (Q.shelf right.old) (Q.shelf right.old) (R.used ruler.old) (R.used ruler.old)

@@ -1,6 +1,6 @@
 //! Opens subtrees by least possible distance.
 
-ghost use Rattle.std.specs.Prelude.{◌≡◌, ◌+◌, ◌≤◌, [], ◌∷◌, IsTrue, IfOk, IfErr};
+ghost use Rattle.std.specs.Prelude.{◌≡◌, ◌+◌, ◌≤◌, [], ◌∷◌, IsTrue, IfOk, IfErr, OnOk};
 ghost use Rattle.std.specs.BinaryHeap.{heap_items};
 ghost use Rattle.tree_shape.specs.Tree.{IsSoundTree};
 ghost use Rattle.page_store.specs.Reading.{nodes_of};
@@ -43,6 +43,7 @@ pub fn explore<P: Pages, R: Ruler>(
     requires kept { machine.old.kept ≡ [] }
     ensures metric { R.metric ruler.new ≡ R.metric ruler.old }
     ensures same { HoldsSame (P.shelf pages.old) (P.shelf pages.new) }
+    ensures no_fault { OnOk result ((P.shelf pages.new).faults ≡ (P.shelf pages.old).faults) }
     ensures keeps { P.keeps pages.old pages.new }
     ensures ok { IfOk result (λ e. IsExplored (R.M.space (R.metric ruler.old)) (P.shelf pages.old) (P.shelf pages.new) live.now q.now machine.old.best.k
         (record { queue = machine.new.frontier; best = heap_items machine.new.best.heap; kept = kept_node machine.new.kept }) e.rho e.opened) }

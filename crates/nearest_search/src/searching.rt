@@ -1,4 +1,4 @@
-ghost use Rattle.std.specs.Prelude.{◌≡◌, ◌+◌, ◌≤◌, ◌^◌, IsTrue, IfOk, IfErr};
+ghost use Rattle.std.specs.Prelude.{◌≡◌, ◌+◌, ◌≤◌, ◌^◌, IsTrue, IfOk, IfErr, OnOk};
 ghost use Rattle.scan_model.specs.declared.query.Query.TheVariants.{Nearest};
 ghost use Rattle.tree_shape.specs.Tree.{IsSoundTree};
 ghost use Rattle.page_store.specs.Reading.{nodes_of};
@@ -37,6 +37,7 @@ pub fn nearest<P: Pages, R: Ruler>(
     requires some { 1 ≤ k }
     ensures metric { R.metric ruler.new ≡ R.metric ruler.old }
     ensures same { HoldsSame (P.shelf pages.old) (P.shelf pages.new) }
+    ensures no_fault { OnOk result ((P.shelf pages.new).faults ≡ (P.shelf pages.old).faults) }
     ensures keeps { P.keeps pages.old pages.new }
     ensures log { IfOk result (IsLogOf live.now (Nearest q.now k)) }
     ensures nearest { IfOk result (λ found. IsTrue (P.shelf pages.old).tells →

@@ -1,4 +1,4 @@
-ghost use Rattle.std.specs.Prelude.{◌≡◌, ◌+◌, ◌≤◌, [], false, IfOk, IfErr, IsSome, MatchResult, Some, None, Err};
+ghost use Rattle.std.specs.Prelude.{◌≡◌, ◌+◌, ◌≤◌, [], false, IfOk, IfErr, OnOk, IsSome, MatchResult, Some, None, Err};
 ghost use Rattle.lru.specs.LruCache.{lru_cache};
 ghost use Rattle.metric_laws.specs.Counts.{next_count};
 ghost use Rattle.tree_shape.specs.declared.entry.Node.{Node as TheNode};
@@ -113,6 +113,7 @@ impl<P: Pages> Pages for Cached<P> {
         ensures ok { IfOk result (IsNodeOf (asked_for (P.shelf self.old.inner) self.old.asked) page) }
         ensures cause { IfErr result (HasPageCause (asked_for (P.shelf self.old.inner) self.old.asked)
             (asked_for (P.shelf self.new.inner) self.new.asked) page) }
+        ensures no_fault { OnOk result ((P.shelf self.new.inner).faults ≡ (P.shelf self.old.inner).faults) }
         ensures outside { is_within (P.shelf self.old.inner).pages page ≡ false → result ≡ Err (Outside page) }
         ensures unread { is_within (P.shelf self.old.inner).pages page ≡ false → (P.shelf self.new.inner).reads ≡ (P.shelf self.old.inner).reads }
         ensures same { HoldsSame (asked_for (P.shelf self.old.inner) self.old.asked) (asked_for (P.shelf self.new.inner) self.new.asked) }

@@ -1,4 +1,4 @@
-ghost use Rattle.std.specs.Prelude.{◌≡◌, ◌+◌, ◌≤◌, IfOk, IfErr, Err, IsTrue, false};
+ghost use Rattle.std.specs.Prelude.{◌≡◌, ◌+◌, ◌≤◌, IfOk, IfErr, OnOk, Err, IsTrue, false};
 ghost use Rattle.metric_laws.specs.Counts.{next_count};
 ghost use Rattle.page_store.specs.Reading.{is_within};
 ghost use Rattle.page_store.specs.Shelf.{Shelf, HoldsSame, IsNodeOf, HasPageCause};
@@ -47,6 +47,7 @@ pub trait Pages {
     fn node(&mut self, alloc: Global, page: u32) -> Result<SharedNode, PageFault>
         ensures ok { IfOk result (IsNodeOf (shelf self.old) page) }
         ensures cause { IfErr result (HasPageCause (shelf self.old) (shelf self.new) page) }
+        ensures no_fault { OnOk result ((shelf self.new).faults ≡ (shelf self.old).faults) }
         ensures outside { is_within (shelf self.old).pages page ≡ false → result ≡ Err (Outside page) }
         ensures unread { is_within (shelf self.old).pages page ≡ false → (shelf self.new).reads ≡ (shelf self.old).reads }
         ensures same { HoldsSame (shelf self.old) (shelf self.new) }
@@ -65,6 +66,7 @@ pub trait Pages {
 pub fn own_node<P: Pages>(alloc: Global, pages: &mut P, page: u32) -> Result<Node, PageFault>
     ensures ok { IfOk result (IsNodeOf (P.shelf pages.old) page) }
     ensures cause { IfErr result (HasPageCause (P.shelf pages.old) (P.shelf pages.new) page) }
+    ensures no_fault { OnOk result ((P.shelf pages.new).faults ≡ (P.shelf pages.old).faults) }
     ensures same { HoldsSame (P.shelf pages.old) (P.shelf pages.new) }
     ensures asked { (P.shelf pages.new).asked ≡ next_count (P.shelf pages.old).asked }
     ensures reads { (P.shelf pages.new).reads ≤ (P.shelf pages.old).reads + 1 }

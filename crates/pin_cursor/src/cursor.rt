@@ -108,6 +108,7 @@ impl Cursor {
         requires some { 1 ≤ n }
         ensures metric { R.metric ruler.new ≡ R.metric ruler.old }
         ensures same { HoldsSame (P.shelf pages.old) (P.shelf pages.new) }
+        ensures no_fault { OnOk result ((P.shelf pages.new).faults ≡ (P.shelf pages.old).faults) }
         ensures keeps { P.keeps pages.old pages.new }
         ensures live { self.new.live ≡ self.old.live }
         ensures point { self.new.point ≡ self.old.point }

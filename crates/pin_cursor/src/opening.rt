@@ -66,6 +66,7 @@ pub fn open_page<P: Pages, R: Ruler>(
 ) -> Result<(), PageFault>
     ensures metric { R.metric ruler.new ≡ R.metric ruler.old }
     ensures same { HoldsSame (P.shelf pages.old) (P.shelf pages.new) }
+    ensures no_fault { OnOk result ((P.shelf pages.new).faults ≡ (P.shelf pages.old).faults) }
     ensures keeps { P.keeps pages.old pages.new }
     ensures asked { (P.shelf pages.new).asked ≡ next_count (P.shelf pages.old).asked }
     ensures reads { (P.shelf pages.new).reads ≤ (P.shelf pages.old).reads + 1 }

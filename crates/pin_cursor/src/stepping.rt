@@ -1,6 +1,6 @@
 //! Opens subtrees and gives candidates, the nearest first.
 
-ghost use Rattle.std.specs.Prelude.{◌≡◌, ◌+◌, ◌-◌, ◌*◌, ◌≤◌, [], length, IfOk, IfErr, IsTrue};
+ghost use Rattle.std.specs.Prelude.{◌≡◌, ◌+◌, ◌-◌, ◌*◌, ◌≤◌, [], length, IfOk, IfErr, OnOk, IsTrue};
 ghost use Rattle.tree_shape.specs.Tree.{Nodes, IsSoundTree};
 ghost use Rattle.page_store.specs.Shelf.{HoldsSame, IsPassing};
 ghost use Rattle.metric_laws.specs.Counts.{CountsUpTo};
@@ -40,6 +40,7 @@ pub fn advance<P: Pages, R: Ruler>(
     requires room { walk.old.given + length walk.old.candidates ≤ 32 * walk.old.opened }
     ensures metric { R.metric ruler.new ≡ R.metric ruler.old }
     ensures same { HoldsSame (P.shelf pages.old) (P.shelf pages.new) }
+    ensures no_fault { OnOk result ((P.shelf pages.new).faults ≡ (P.shelf pages.old).faults) }
     ensures keeps { P.keeps pages.old pages.new }
     ensures way { IfOk result (λ _. IsUnderWay (R.M.space (R.metric ruler.old)) (P.shelf pages.old) (P.shelf pages.new)
         (stage live.now goal.entry.q.now walk.old.given walk.old.opened walk.old.subtrees walk.old.candidates)

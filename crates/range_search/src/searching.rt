@@ -27,6 +27,7 @@ fn open_page<P: Pages, R: Ruler>(
 ) -> Result<(), PageFault>
     ensures metric { R.metric ruler.new ≡ R.metric ruler.old }
     ensures same { HoldsSame (P.shelf pages.old) (P.shelf pages.new) }
+    ensures no_fault { OnOk result ((P.shelf pages.new).faults ≡ (P.shelf pages.old).faults) }
     ensures keeps { P.keeps pages.old pages.new }
     ensures opened { OnOk result ((old : Shelf) (used root : ℕ) →
         IsUnderWay (search_at (R.M.space (R.metric ruler.old)) probe.entry.q.now probe.entry.rho) old (P.shelf pages.old) used (R.used ruler.old) root
@@ -55,6 +56,7 @@ fn follow<P: Pages, R: Ruler>(
 ) -> Result<Traversal, PageFault>
     ensures metric { R.metric ruler.new ≡ R.metric ruler.old }
     ensures same { HoldsSame (P.shelf pages.old) (P.shelf pages.new) }
+    ensures no_fault { OnOk result ((P.shelf pages.new).faults ≡ (P.shelf pages.old).faults) }
     ensures keeps { P.keeps pages.old pages.new }
     ensures ok { IfOk result (λ walk. IsUnderWay (search_at (R.M.space (R.metric ruler.old)) probe.entry.q.now probe.entry.rho)
         (P.shelf pages.old) (P.shelf pages.new)
@@ -101,6 +103,7 @@ pub fn range<P: Pages, R: Ruler>(
     requires few_pages { live.now.pages ≤ 2 ^ 24 }
     ensures metric { R.metric ruler.new ≡ R.metric ruler.old }
     ensures same { HoldsSame (P.shelf pages.old) (P.shelf pages.new) }
+    ensures no_fault { OnOk result ((P.shelf pages.new).faults ≡ (P.shelf pages.old).faults) }
     ensures keeps { P.keeps pages.old pages.new }
     ensures found { IfOk result (IsFound (R.M.space (R.metric ruler.old)) live.now (Range q.now r) (P.shelf pages.old)
         (P.shelf pages.new) (R.used ruler.old) (R.used ruler.new)) }

@@ -109,6 +109,7 @@ pub fn create<D: Disk>(disk: &mut D, head: &Head) -> Result<Live, CreateFault>
     ensures tells { (D.state disk.new).tells ≡ (D.state disk.old).tells }
     ensures reads { (D.state disk.new).reads ≡ (D.state disk.old).reads }
     ensures later { (D.state disk.old).faults ≤ (D.state disk.new).faults }
+    ensures no_fault { OnOk result ((D.state disk.new).faults ≡ (D.state disk.old).faults) }
 {
     let size = match disk.size() {
         Ok(size) => size,

@@ -1,5 +1,5 @@
 // Which of the two slots is live.
-ghost use Rattle.std.specs.Prelude.{◌≡◌, ◌+◌, ◌≤◌, ◌==◌, ◌&&◌, ℕ, List, false, length, IsTrue, IfOk, IfErr};
+ghost use Rattle.std.specs.Prelude.{◌≡◌, ◌+◌, ◌≤◌, ◌==◌, ◌&&◌, ℕ, List, false, length, IsTrue, OnOk, IfOk, IfErr};
 ghost use Rattle.disk_model.specs.Disk.{IsUnchanged};
 ghost use Rattle.node_page.specs.Bytes.{number_at};
 ghost use Rattle.node_page.specs.Heads.{IsLawfulHead, SpellsHead};
@@ -117,6 +117,7 @@ fn read_live<D: Disk>(disk: &mut D, limit: u32, size: u64) -> Result<Live, OpenF
     ensures same { IsUnchanged (D.state disk.old) (D.state disk.new) }
     ensures reads { (D.state disk.new).reads ≤ (D.state disk.old).reads + 2 }
     ensures later { (D.state disk.old).faults ≤ (D.state disk.new).faults }
+    ensures no_fault { OnOk result ((D.state disk.new).faults ≡ (D.state disk.old).faults) }
 {
     let mut first = [0; 4096];
     if read_page(disk, 1, &mut first).is_err() {
@@ -137,6 +138,7 @@ fn read_head<D: Disk>(disk: &mut D) -> Result<Head, OpenFault>
     ensures same { IsUnchanged (D.state disk.old) (D.state disk.new) }
     ensures reads { (D.state disk.new).reads ≤ (D.state disk.old).reads + 1 }
     ensures later { (D.state disk.old).faults ≤ (D.state disk.new).faults }
+    ensures no_fault { OnOk result ((D.state disk.new).faults ≡ (D.state disk.old).faults) }
 {
     let mut page = [0; 4096];
     if read_page(disk, 0, &mut page).is_err() {
@@ -159,6 +161,7 @@ pub fn open<D: Disk>(disk: &mut D) -> Result<(Head, Live), OpenFault>
     ensures same { IsUnchanged (D.state disk.old) (D.state disk.new) }
     ensures reads { (D.state disk.new).reads ≤ (D.state disk.old).reads + 3 }
     ensures later { (D.state disk.old).faults ≤ (D.state disk.new).faults }
+    ensures no_fault { OnOk result ((D.state disk.new).faults ≡ (D.state disk.old).faults) }
 {
     let size = match disk.size() {
         Ok(size) => size,

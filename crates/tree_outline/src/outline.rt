@@ -1,6 +1,6 @@
 // The shape of a tree, by a walk in pre-order.
 ghost use Rattle.std.specs.Prelude.{◌≡◌, ◌≤◌, ◌+◌, ◌++◌, [], ◌∷◌, map, length, reverse, Some, IsTrue, IfOk, IfErr, OnOk};
-ghost use Rattle.metric_laws.specs.Counts.{next_count, count_up};
+ghost use Rattle.metric_laws.specs.Counts.{next_count, count_up, CountsUpTo};
 ghost use Rattle.metric_laws.specs.Space.{Space};
 ghost use Rattle.tree_shape.specs.Tree.{IsSoundTree, inner_entries};
 ghost use Rattle.page_store.specs.Reading.{nodes_of};
@@ -108,6 +108,7 @@ fn draw<P: Pages>(
     ensures keeps { P.keeps pages.old pages.new }
     ensures asked { (P.shelf pages.new).asked ≡ next_count (P.shelf pages.old).asked }
     ensures reads { (P.shelf pages.new).reads ≤ (P.shelf pages.old).reads + 1 }
+    ensures no_fault { OnOk result ((P.shelf pages.new).faults ≡ (P.shelf pages.old).faults) }
     ensures drawn { OnOk result (IsDrawn (P.shelf pages.old) named lines.old.items lines.new.items (reverse coming.old.items) (reverse coming.new.items)) }
     ensures cause { IfErr result (HasPageCause (P.shelf pages.old) (P.shelf pages.new) named.page) }
 {
@@ -127,8 +128,12 @@ pub fn shape_of<P: Pages>(alloc: Global, pages: &mut P, live: &Live) -> Result<S
     ensures same { HoldsSame (P.shelf pages.old) (P.shelf pages.new) }
     ensures keeps { P.keeps pages.old pages.new }
     ensures counted { IfOk result (IsCounted live.now) }
-    ensures asked { IfOk result (λ shape. (P.shelf pages.new).asked ≡ count_up (P.shelf pages.old).asked (length shape.lines)) }
-    ensures reads { IfOk result (λ shape. (P.shelf pages.new).reads ≤ (P.shelf pages.old).reads + length shape.lines) }
+    ensures asked_once { IfOk result (λ shape. (P.shelf pages.new).asked ≡ count_up (P.shelf pages.old).asked (length shape.lines)) }
+    ensures read_once { IfOk result (λ shape. (P.shelf pages.new).reads ≤ (P.shelf pages.old).reads + length shape.lines) }
+    // Whatever the result, at most as many pages were asked for, and read, as the file has.
+    ensures asked { CountsUpTo (P.shelf pages.old).asked (P.shelf pages.new).asked live.now.pages }
+    ensures reads { (P.shelf pages.new).reads ≤ (P.shelf pages.old).reads + live.now.pages }
+    ensures no_fault { OnOk result ((P.shelf pages.new).faults ≡ (P.shelf pages.old).faults) }
     ensures lines { IfOk result (λ shape. IsTrue (P.shelf pages.old).tells → (s : Space) → IsSoundTree s (nodes_of (P.shelf pages.old).read) live.now →
         shape.lines ≡ tree_lines (nodes_of (P.shelf pages.old).read) live.now) }
     ensures walk { IfOk result (λ shape. IsTrue (P.shelf pages.old).tells →

@@ -30,8 +30,10 @@ loop-waiting-preserved g c =
     record {
       metric = c.open_pair.ensures.metric ∙ c.loop-waiting.invariant.metric;
       left_same = holds_both _ _ _ c.loop-waiting.invariant.left_same c.open_pair.ensures.left_same;
+      left_no_fault = c.in_ok-open_pair.ensures.left_no_fault ∙ c.loop-waiting.invariant.left_no_fault;
       left_keeps = g.met.P.Pages.keeps_both c.args.left.now c.loop-waiting.left c.open_pair.new.left c.loop-waiting.invariant.left_keeps c.open_pair.ensures.left_keeps;
       right_same = holds_both _ _ _ c.loop-waiting.invariant.right_same c.open_pair.ensures.right_same;
+      right_no_fault = c.in_ok-open_pair.ensures.right_no_fault ∙ c.loop-waiting.invariant.right_no_fault;
       right_keeps = g.met.Q.Pages.keeps_both c.args.right.now c.loop-waiting.right c.open_pair.new.right c.loop-waiting.invariant.right_keeps c.open_pair.ensures.right_keeps;
       rho = c.open_pair.ensures.rho ∙ c.loop-waiting.invariant.rho;
       way = λ l r begun.

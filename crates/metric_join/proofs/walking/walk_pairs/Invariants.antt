@@ -10,8 +10,10 @@ abbrev pub invariant-loop-waiting : goal.invariant-loop-waiting
 invariant-loop-waiting g l = record {
   metric : g.R.Ruler.metric l.ruler ≡ g.R.Ruler.metric l.fn.ruler;
   left_same : HoldsSame (g.P.Pages.shelf l.fn.left) (g.P.Pages.shelf l.left);
+  left_no_fault : (g.P.Pages.shelf l.left).faults ≡ (g.P.Pages.shelf l.fn.left).faults;
   left_keeps : g.P.Pages.keeps l.fn.left l.left;
   right_same : HoldsSame (g.Q.Pages.shelf l.fn.right) (g.Q.Pages.shelf l.right);
+  right_no_fault : (g.Q.Pages.shelf l.right).faults ≡ (g.Q.Pages.shelf l.fn.right).faults;
   right_keeps : g.Q.Pages.keeps l.fn.right l.right;
   rho : l.walk.rho ≡ l.fn.begun.rho;
   way : (ll lr : Live) →

@@ -12,6 +12,7 @@ pub loop-next-init : goal.loop-next-init
 loop-next-init g c = record {
   metric = refl;
   keeps = g.met.P.Pages.keeps_none c.args.pages.now;
+  no_fault = refl;
   count = refl;
   exploring = rw (c.requires.queue, c.requires.best, c.requires.kept)
       (explore_begins (g.R.M.Metric.space (g.R.Ruler.metric c.args.ruler.now)) (g.met.R.Ruler.axioms c.args.ruler.now) (g.P.Pages.shelf c.args.pages.now) c.args.live.now c.args.q.now c.requires.point c.args.machine.now.best.k);
@@ -49,6 +50,7 @@ pub loop-next-preserved : goal.loop-next-preserved
 loop-next-preserved g c = record {
   metric = c.open_page.ensures.metric ∙ c.loop-next.invariant.metric;
   keeps = g.met.P.Pages.keeps_both c.args.pages.now c.loop-next.pages c.open_page.new.pages c.loop-next.invariant.keeps c.open_page.ensures.keeps;
+  no_fault = c.in-Ok.ensures.no_fault ∙ c.loop-next.invariant.no_fault;
   count = c.open_page.ensures.count ∙ c.loop-next.invariant.count;
   exploring = explore_steps (g.R.M.Metric.space (g.R.Ruler.metric c.args.ruler.now)) (g.met.R.Ruler.axioms c.args.ruler.now) (g.P.Pages.shelf c.args.pages.now) c.args.live.now c.args.q.now c.requires.point c.args.machine.now.best.k
       (g.P.Pages.shelf c.loop-next.pages) (record { queue = c.loop-next.machine.frontier; best = heap_items c.loop-next.machine.best.heap; kept = kept_node c.loop-next.machine.kept }) c.loop-next.opened

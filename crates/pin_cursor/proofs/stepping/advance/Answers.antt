@@ -8,6 +8,7 @@ pub loop-alloc-init : goal.loop-alloc-init
 loop-alloc-init g c = record {
   metric = refl;
   keeps = g.met.P.Pages.keeps_none c.args.pages.now;
+  no_fault = refl;
   long = rw c.requires.hits (omega arith);
   way = rw (c.requires.hits, c.requires.tags) (way_begins (g.R.M.Metric.space (g.R.Ruler.metric c.args.ruler.now)) (g.met.R.Ruler.axioms c.args.ruler.now) (g.P.Pages.shelf c.args.pages.now) c.args.live.now
       c.args.goal.q.now c.requires.point c.args.walk.now.given c.args.walk.now.opened c.args.walk.now.subtrees c.args.walk.now.candidates c.requires.few c.requires.room);
@@ -51,6 +52,7 @@ pub loop-alloc-preserved-in-Ok : goal.loop-alloc-preserved-in-Ok
 loop-alloc-preserved-in-Ok g c = record {
   metric = c.open_page.ensures.metric ∙ c.loop-alloc.invariant.metric;
   keeps = g.met.P.Pages.keeps_both c.args.pages.now c.loop-alloc.pages c.open_page.new.pages c.loop-alloc.invariant.keeps c.open_page.ensures.keeps;
+  no_fault = c.in-Ok.ensures.no_fault ∙ c.loop-alloc.invariant.no_fault;
   long = rw c.open_page.ensures.hits c.loop-alloc.invariant.long;
   way = rw (c.open_page.ensures.given, c.open_page.ensures.opened, c.open_page.ensures.hits, c.open_page.ensures.tags)
       (way_opens (g.R.M.Metric.space (g.R.Ruler.metric c.args.ruler.now)) (g.met.R.Ruler.axioms c.args.ruler.now) (g.P.Pages.shelf c.args.pages.now) c.args.live.now c.args.goal.q.now c.requires.point
@@ -72,6 +74,7 @@ pub loop-alloc-preserved : goal.loop-alloc-preserved
 loop-alloc-preserved g c = record {
   metric = c.loop-alloc.invariant.metric;
   keeps = c.loop-alloc.invariant.keeps;
+  no_fault = c.loop-alloc.invariant.no_fault;
   long = rw c.in-Ok-give.ensures.hits (let l = length-append c.loop-alloc.walk.hits.items (hit_of c.in-Some-take_first.next ∷ []) in omega arith);
   way = rw (c.in-Ok-give.ensures.given, c.give.ensures.opened, c.give.ensures.subtrees, c.in_default.ensures.same, c.give.ensures.candidates, c.in-Ok-give.ensures.hits, c.in-Ok-give.ensures.tags)
       (way_gives (g.R.M.Metric.space (g.R.Ruler.metric c.args.ruler.now)) (g.met.R.Ruler.axioms c.args.ruler.now) (g.P.Pages.shelf c.args.pages.now) c.args.live.now c.args.goal.q.now c.requires.point

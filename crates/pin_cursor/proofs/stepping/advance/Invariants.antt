@@ -6,6 +6,7 @@ abbrev pub invariant-loop-alloc : goal.invariant-loop-alloc
 invariant-loop-alloc g l = record {
   metric : g.R.Ruler.metric l.ruler ≡ g.R.Ruler.metric l.fn.ruler;
   keeps : g.P.Pages.keeps l.fn.pages l.pages;
+  no_fault : (g.P.Pages.shelf l.pages).faults ≡ (g.P.Pages.shelf l.fn.pages).faults;
   long : length l.walk.hits.items ≤ l.goal.n;
   way : IsUnderWay (g.R.M.Metric.space (g.R.Ruler.metric l.fn.ruler)) (g.P.Pages.shelf l.fn.pages) (g.P.Pages.shelf l.pages)
       (stage l.live l.goal.q.now l.fn.walk.given l.fn.walk.opened l.fn.walk.subtrees l.fn.walk.candidates)

@@ -12,6 +12,7 @@ loop-need-preserved g c =
     record {
       metric = c.open_page.ensures.metric ∙ c.loop-need.invariant.metric;
       keeps = g.met.P.Pages.keeps_both c.args.pages.now c.loop-need.pages c.open_page.new.pages c.loop-need.invariant.keeps c.open_page.ensures.keeps;
+      no_fault = c.in-Ok-open_page.ensures.no_fault ∙ c.loop-need.invariant.no_fault;
       count = (let l = c.in-Ok-open_page.ensures.longer in let n = c.loop-need.invariant.count in omega arith);
       low = omega arith;
       way = goes_on (search_at (g.R.M.Metric.space (g.R.Ruler.metric c.args.ruler.now)) c.args.probe.q.now c.args.probe.rho)

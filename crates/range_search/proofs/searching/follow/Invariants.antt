@@ -7,6 +7,7 @@ abbrev pub invariant-loop-need : goal.invariant-loop-need
 invariant-loop-need g l = record {
   metric : g.R.Ruler.metric l.ruler ≡ g.R.Ruler.metric l.fn.ruler;
   keeps : g.P.Pages.keeps l.fn.pages l.pages;
+  no_fault : (g.P.Pages.shelf l.pages).faults ≡ (g.P.Pages.shelf l.fn.pages).faults;
   count : l.opened ≡ length l.walk.records.items;
   low : l.opened ≤ l.live.pages;
   way : IsUnderWay (search_at (g.R.M.Metric.space (g.R.Ruler.metric l.fn.ruler)) l.probe.q.now l.probe.rho) (g.P.Pages.shelf l.fn.pages) (g.P.Pages.shelf l.pages)

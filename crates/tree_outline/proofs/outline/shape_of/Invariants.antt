@@ -5,6 +5,7 @@ use Rattle.tree_outline.proofs.outline.shape_of.Given as goal
 abbrev pub invariant-loop-named : goal.invariant-loop-named
 invariant-loop-named g l = record {
   keeps : g.P.Pages.keeps l.fn.pages l.pages;
+  no_fault : (g.P.Pages.shelf l.pages).faults ≡ (g.P.Pages.shelf l.fn.pages).faults;
   count : l.nodes ≡ length l.lines.items;
   low : l.nodes ≤ l.live.pages;
   drawing : IsDrawing (g.P.Pages.shelf l.fn.pages) (g.P.Pages.shelf l.pages) l.live l.lines.items (reverse l.coming.items);

@@ -50,6 +50,7 @@ loop-told-preserved g c =
       keeps = g.met.P.Pages.keeps_both c.args.pages.now c.loop-told.pages c.follow.new.pages c.loop-told.invariant.keeps c.follow.ensures.keeps;
       asked = upto_both _ _ _ _ _ c.loop-told.invariant.asked c.follow.ensures.asked;
       reads = omega (arith, c.loop-told.invariant.reads, c.follow.ensures.reads);
+      no_fault = c.in_ok-follow.ensures.no_fault ∙ c.loop-told.invariant.no_fault;
       way = λ tells.
           way_on (nodes_of old.read) c.args.self.now c.args.records.now c.loop-told.self c.loop-told.told-index c.told-item.result c.loop-told-test.true c.told-item.is (c.loop-told.invariant.way tells) c.follow.new.self
           (followed tells (drop (suc c.loop-told.told-index) c.args.records.now));
@@ -64,6 +65,7 @@ loop-told-preserved-then-is_none_near g c =
       keeps = c.loop-told.invariant.keeps;
       asked = upto_more _ _ c.loop-told.told-index (c.loop-told.told-index + 1) (omega arith) c.loop-told.invariant.asked;
       reads = omega (arith, c.loop-told.invariant.reads);
+      no_fault = c.loop-told.invariant.no_fault;
       way = λ tells.
           way_past (nodes_of old.read) c.args.self.now c.args.records.now c.loop-told.self c.loop-told.told-index c.told-item.result c.loop-told-test.true c.told-item.is (c.loop-told.invariant.way tells) c.pass.new.self
           none c.pass.ensures.wanted c.pass.ensures.next (c.requires.marked c.if-are_marked.true tells);

@@ -1,4 +1,4 @@
-use Rattle.std.proofs.Common.{◌+◌, ◌≤◌, drop}
+use Rattle.std.proofs.Common.{◌≡◌, ◌+◌, ◌≤◌, drop}
 use Rattle.std.specs.Prelude.{IsTrue}
 use Rattle.page_store.specs.Reading.{nodes_of}
 use Rattle.page_store.specs.Shelf.{HoldsSame}
@@ -13,5 +13,6 @@ invariant-loop-told g l = record {
   keeps : g.P.Pages.keeps l.fn.pages l.pages;
   asked : CountsUpTo (g.P.Pages.shelf l.fn.pages).asked (g.P.Pages.shelf l.pages).asked l.told-index;
   reads : (g.P.Pages.shelf l.pages).reads ≤ (g.P.Pages.shelf l.fn.pages).reads + l.told-index;
+  no_fault : (g.P.Pages.shelf l.pages).faults ≡ (g.P.Pages.shelf l.fn.pages).faults;
   way : IsTrue (g.P.Pages.shelf l.fn.pages).tells → IsUnderWay (nodes_of (g.P.Pages.shelf l.fn.pages).read) l.fn.self l.records l.self (drop l.told-index l.records);
 }
