@@ -38,8 +38,10 @@ pub fn verify_join<P: Pages, Q: Pages, R: Ruler>(
     ensures metric { R.metric ruler.new ≡ R.metric ruler.old }
     ensures left_same { HoldsSame (P.shelf left.old) (P.shelf left.new) }
     ensures left_keeps { P.keeps left.old left.new }
+    ensures left_no_fault { OnOk result ((P.shelf left.new).faults ≡ (P.shelf left.old).faults) }
     ensures right_same { HoldsSame (Q.shelf right.old) (Q.shelf right.new) }
     ensures right_keeps { Q.keeps right.old right.new }
+    ensures right_no_fault { OnOk result ((Q.shelf right.new).faults ≡ (Q.shelf right.old).faults) }
 
     ensures records { IfOk result (λ accepted. accepted.records ≡ length log.now.records) }
     ensures faultless { OnOk result (IsTrue (P.shelf left.old).tells → IsTrue (Q.shelf right.old).tells →

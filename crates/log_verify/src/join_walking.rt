@@ -67,6 +67,7 @@ fn is_of(need: &JoinNeed, told: &JoinRecord) -> bool
 fn node_at<P: Pages>(alloc: Global, pages: &mut P, page: u32) -> Result<SharedNode, PageFault>
     ensures same { HoldsSame (P.shelf pages.old) (P.shelf pages.new) }
     ensures keeps { P.keeps pages.old pages.new }
+    ensures no_fault { OnOk result ((P.shelf pages.new).faults ≡ (P.shelf pages.old).faults) }
     ensures few { IfOk result (λ node. entry_count node < 2 ^ 32) }
     ensures told { IfOk result (λ node. IsTrue (P.shelf pages.old).tells → (P.shelf pages.old).read page ≡ Ok node) }
     ensures cause { IfErr result (λ fault. IsNodeFault (P.shelf pages.old) (P.shelf pages.new) page fault) }
@@ -96,8 +97,10 @@ fn opened_node<P: Pages, Q: Pages>(
 ) -> Result<SharedNode, JoinVerdict>
     ensures left_same { HoldsSame (P.shelf left.old) (P.shelf left.new) }
     ensures left_keeps { P.keeps left.old left.new }
+    ensures left_no_fault { OnOk result ((P.shelf left.new).faults ≡ (P.shelf left.old).faults) }
     ensures right_same { HoldsSame (Q.shelf right.old) (Q.shelf right.new) }
     ensures right_keeps { Q.keeps right.old right.new }
+    ensures right_no_fault { OnOk result ((Q.shelf right.new).faults ≡ (Q.shelf right.old).faults) }
     ensures few { IfOk result (λ node. entry_count node < 2 ^ 32) }
     ensures told { IfOk result (λ node. IsTrue (P.shelf left.old).tells → IsTrue (Q.shelf right.old).tells →
         read_of (P.shelf left.old).read (Q.shelf right.old).read (opens_right need.now) (page_of (opened need.now)) ≡ Ok node) }
@@ -132,8 +135,10 @@ fn take_record<P: Pages, Q: Pages, R: Ruler>(
     ensures metric { R.metric ruler.new ≡ R.metric ruler.old }
     ensures left_same { HoldsSame (P.shelf left.old) (P.shelf left.new) }
     ensures left_keeps { P.keeps left.old left.new }
+    ensures left_no_fault { OnOk result ((P.shelf left.new).faults ≡ (P.shelf left.old).faults) }
     ensures right_same { HoldsSame (Q.shelf right.old) (Q.shelf right.new) }
     ensures right_keeps { Q.keeps right.old right.new }
+    ensures right_no_fault { OnOk result ((Q.shelf right.new).faults ≡ (Q.shelf right.old).faults) }
     ensures rho { walk.new.rho ≡ walk.old.rho }
     ensures taken { OnOk result (walk.new.taken ≡ walk.old.taken + 1) }
     ensures ok { OnOk result (IsTrue (P.shelf left.old).tells → IsTrue (Q.shelf right.old).tells → (rs : List JoinRecord) →
@@ -192,8 +197,10 @@ pub fn walk_records<P: Pages, Q: Pages, R: Ruler>(
     ensures metric { R.metric ruler.new ≡ R.metric ruler.old }
     ensures left_same { HoldsSame (P.shelf left.old) (P.shelf left.new) }
     ensures left_keeps { P.keeps left.old left.new }
+    ensures left_no_fault { OnOk result ((P.shelf left.new).faults ≡ (P.shelf left.old).faults) }
     ensures right_same { HoldsSame (Q.shelf right.old) (Q.shelf right.new) }
     ensures right_keeps { Q.keeps right.old right.new }
+    ensures right_no_fault { OnOk result ((Q.shelf right.new).faults ≡ (Q.shelf right.old).faults) }
     ensures ok { IfOk result (λ hits. IsTrue (P.shelf left.old).tells → IsTrue (Q.shelf right.old).tells →
         join_walked (search_within (R.M.space (R.metric ruler.old)) begun.rho) (P.shelf left.old).read
         (Q.shelf right.old).read begun.named.hits.items (reverse begun.stack.items) records.now 0 ≡ Ok hits.items) }

@@ -36,6 +36,7 @@ pub fn verify<P: Pages, R: Ruler>(
     ensures metric { R.metric ruler.new ≡ R.metric ruler.old }
     ensures same { HoldsSame (P.shelf pages.old) (P.shelf pages.new) }
     ensures keeps { P.keeps pages.old pages.new }
+    ensures no_fault { OnOk result ((P.shelf pages.new).faults ≡ (P.shelf pages.old).faults) }
 
     ensures records { IfOk result (λ accepted. accepted.records ≡ length log.now.records) }
     ensures faultless { OnOk result (IsTrue (P.shelf pages.old).tells →

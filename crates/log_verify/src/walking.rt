@@ -67,6 +67,7 @@ pub fn put_on_top<T: Drop>(stack: &mut Vec<T>, needs: &mut Vec<T>) -> Result<(),
 fn node_at<P: Pages>(alloc: Global, pages: &mut P, page: u32) -> Result<SharedNode, Verdict>
     ensures same { HoldsSame (P.shelf pages.old) (P.shelf pages.new) }
     ensures keeps { P.keeps pages.old pages.new }
+    ensures no_fault { OnOk result ((P.shelf pages.new).faults ≡ (P.shelf pages.old).faults) }
     ensures asked { (P.shelf pages.new).asked ≡ next_count (P.shelf pages.old).asked }
     ensures reads { (P.shelf pages.new).reads ≤ (P.shelf pages.old).reads + 1 }
     ensures few { IfOk result (λ node. entry_count node < 2 ^ 32) }
@@ -142,6 +143,7 @@ fn take_record<P: Pages, R: Ruler>(
     ensures metric { R.metric ruler.new ≡ R.metric ruler.old }
     ensures same { HoldsSame (P.shelf pages.old) (P.shelf pages.new) }
     ensures keeps { P.keeps pages.old pages.new }
+    ensures no_fault { OnOk result ((P.shelf pages.new).faults ≡ (P.shelf pages.old).faults) }
     ensures asked { OnOk result ((P.shelf pages.new).asked ≡ next_count (P.shelf pages.old).asked) }
     ensures few_asked { CountsUpTo (P.shelf pages.old).asked (P.shelf pages.new).asked 1 }
     ensures reads { (P.shelf pages.new).reads ≤ (P.shelf pages.old).reads + 1 }
@@ -193,6 +195,7 @@ pub fn walk_records<P: Pages, R: Ruler>(
     ensures metric { R.metric ruler.new ≡ R.metric ruler.old }
     ensures same { HoldsSame (P.shelf pages.old) (P.shelf pages.new) }
     ensures keeps { P.keeps pages.old pages.new }
+    ensures no_fault { OnOk result ((P.shelf pages.new).faults ≡ (P.shelf pages.old).faults) }
     ensures asked { OnOk result ((P.shelf pages.new).asked ≡ count_up (P.shelf pages.old).asked (length records.now)) }
     ensures few_asked { CountsUpTo (P.shelf pages.old).asked (P.shelf pages.new).asked (length records.now) }
     ensures reads { (P.shelf pages.new).reads ≤ (P.shelf pages.old).reads + length records.now }

@@ -1,5 +1,5 @@
 // The audit of a whole tree.
-ghost use Rattle.std.specs.Prelude.{◌≡◌, ◌+◌, ◌≤◌, ◌<◌, ◌^◌, [], None, length, max, IsTrue, IfOk, IfErr};
+ghost use Rattle.std.specs.Prelude.{◌≡◌, ◌+◌, ◌≤◌, ◌<◌, ◌^◌, [], None, length, max, IsTrue, IfOk, OnOk, IfErr};
 ghost use Rattle.tree_shape.specs.Fill.{root_least};
 ghost use Rattle.tree_shape.specs.Tree.{pages_at};
 ghost use Rattle.page_store.specs.Reading.{nodes_of};
@@ -61,6 +61,7 @@ pub fn audit<P: Pages, R: Ruler>(
     ensures metric { R.metric ruler.new ≡ R.metric ruler.old }
     ensures same { HoldsSame (P.shelf pages.old) (P.shelf pages.new) }
     ensures keeps { P.keeps pages.old pages.new }
+    ensures no_fault { OnOk result ((P.shelf pages.new).faults ≡ (P.shelf pages.old).faults) }
     // It is sound exactly where no fault stands.
     ensures ok { IfOk result (λ a. IsTrue (P.shelf pages.old).tells → audit_fault (R.M.space (R.metric ruler.old)) (P.shelf pages.old).read live.now ≡ None) }
     ensures objects { IfOk result (λ a. a.objects ≡ live.now.count) }

@@ -47,6 +47,7 @@ fn walk_entry<P: Pages, R: Ruler>(
     ensures metric { R.metric ruler.new ≡ R.metric ruler.old }
     ensures same { HoldsSame (P.shelf pages.old) (P.shelf pages.new) }
     ensures keeps { P.keeps pages.old pages.new }
+    ensures no_fault { OnOk result ((P.shelf pages.new).faults ≡ (P.shelf pages.old).faults) }
     ensures ok { OnOk result (IsTrue (P.shelf pages.old).tells
         → entry_told (R.M.space (R.metric ruler.old)) (P.shelf pages.old).read visits.old.ids.limit root.now.level [] root.now.page
         place entry.now (seen_of visits.old) ≡ Ok (seen_of visits.new)) }
@@ -86,6 +87,7 @@ pub fn audit_part<P: Pages, R: Ruler>(
     ensures metric { R.metric ruler.new ≡ R.metric ruler.old }
     ensures same { HoldsSame (P.shelf pages.old) (P.shelf pages.new) }
     ensures keeps { P.keeps pages.old pages.new }
+    ensures no_fault { OnOk result ((P.shelf pages.new).faults ≡ (P.shelf pages.old).faults) }
     ensures ok { IfOk result (λ part. IsTrue (P.shelf pages.old).tells →
         part_told (R.M.space (R.metric ruler.old)) (P.shelf pages.old).read live.now place entry.now ≡ Ok (met_in part)) }
     ensures err { IfErr result (IsWalkFault (P.shelf pages.old) (P.shelf pages.new)

@@ -181,6 +181,7 @@ fn open_page<P: Pages>(alloc: Global, pages: &mut P, page: u32) -> Result<Shared
     ensures asked { (P.shelf pages.new).asked ≡ next_count (P.shelf pages.old).asked }
     ensures reads { (P.shelf pages.new).reads ≤ (P.shelf pages.old).reads + 1 }
     ensures keeps { P.keeps pages.old pages.new }
+    ensures no_fault { OnOk result ((P.shelf pages.new).faults ≡ (P.shelf pages.old).faults) }
 {
     match pages.node(alloc, page) {
         Ok(node) => Ok(node),
@@ -248,6 +249,7 @@ fn arrive<P: Pages>(
     ensures asked { (P.shelf pages.new).asked ≤ (P.shelf pages.old).asked + 1 }
     ensures reads { (P.shelf pages.new).reads ≤ (P.shelf pages.old).reads + 1 }
     ensures keeps { P.keeps pages.old pages.new }
+    ensures no_fault { OnOk result ((P.shelf pages.new).faults ≡ (P.shelf pages.old).faults) }
 {
     if seen.has(page) {
         return Err(AuditFault::Twice(page));
@@ -342,6 +344,7 @@ pub fn walk<P: Pages, R: Ruler>(
     ensures metric { R.metric ruler.new ≡ R.metric ruler.old }
     ensures same { HoldsSame (P.shelf pages.old) (P.shelf pages.new) }
     ensures keeps { P.keeps pages.old pages.new }
+    ensures no_fault { OnOk result ((P.shelf pages.new).faults ≡ (P.shelf pages.old).faults) }
     ensures pages_limit { visits.new.pages.limit ≡ visits.old.pages.limit }
     ensures ids_limit { visits.new.ids.limit ≡ visits.old.ids.limit }
     ensures path { OnOk result (path.new.items ≡ path.old.items) }

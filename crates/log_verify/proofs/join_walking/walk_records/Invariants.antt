@@ -14,8 +14,10 @@ invariant-loop-told g l = record {
   metric : g.R.Ruler.metric l.ruler ≡ g.R.Ruler.metric l.fn.ruler;
   left_same : HoldsSame (g.P.Pages.shelf l.fn.left) (g.P.Pages.shelf l.left);
   left_keeps : g.P.Pages.keeps l.fn.left l.left;
+  left_no_fault : (g.P.Pages.shelf l.left).faults ≡ (g.P.Pages.shelf l.fn.left).faults;
   right_same : HoldsSame (g.Q.Pages.shelf l.fn.right) (g.Q.Pages.shelf l.right);
   right_keeps : g.Q.Pages.keeps l.fn.right l.right;
+  right_no_fault : (g.Q.Pages.shelf l.right).faults ≡ (g.Q.Pages.shelf l.fn.right).faults;
   rho : l.walk.rho ≡ l.fn.begun.rho;
   taken : l.walk.taken ≡ l.told-index;
   asked : AskBothUpTo (g.P.Pages.shelf l.fn.left) (g.P.Pages.shelf l.left) (g.Q.Pages.shelf l.fn.right) (g.Q.Pages.shelf l.right) l.told-index;

@@ -33,6 +33,7 @@ loop-told-preserved g c =
       metric = c.take_record.ensures.metric ∙ c.loop-told.invariant.metric;
       same = holds_both _ _ _ c.loop-told.invariant.same c.take_record.ensures.same;
       keeps = g.met.P.Pages.keeps_both c.args.pages.now c.loop-told.pages c.take_record.new.pages c.loop-told.invariant.keeps c.take_record.ensures.keeps;
+      no_fault = c.in_ok-take_record.ensures.no_fault ∙ c.loop-told.invariant.no_fault;
       asked = asked_next _ _ _ c.loop-told.told-index c.loop-told.invariant.asked c.in_ok-take_record.ensures.asked;
       reads = omega (arith, c.loop-told.invariant.reads, c.take_record.ensures.reads);
       counted = cost_next _ _ _ c.args.records.now c.loop-told.told-index c.told-item.result c.loop-told-test.true c.told-item.is c.loop-told.invariant.counted c.in_ok-take_record.ensures.counted;

@@ -13,6 +13,7 @@ invariant-loop-told g l = record {
   metric : g.R.Ruler.metric l.ruler ≡ g.R.Ruler.metric l.fn.ruler;
   same : HoldsSame (g.P.Pages.shelf l.fn.pages) (g.P.Pages.shelf l.pages);
   keeps : g.P.Pages.keeps l.fn.pages l.pages;
+  no_fault : (g.P.Pages.shelf l.pages).faults ≡ (g.P.Pages.shelf l.fn.pages).faults;
   asked : (g.P.Pages.shelf l.pages).asked ≡ count_up (g.P.Pages.shelf l.fn.pages).asked l.told-index;
   reads : (g.P.Pages.shelf l.pages).reads ≤ (g.P.Pages.shelf l.fn.pages).reads + l.told-index;
   counted : g.R.Ruler.used l.ruler ≡ count_up (g.R.Ruler.used l.fn.ruler) (measured (take l.told-index l.records));

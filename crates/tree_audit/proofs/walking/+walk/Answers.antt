@@ -62,6 +62,7 @@ loop-place-init g t c =
       metric = refl;
       same = c.in-Ok.ensures.same;
       keeps = c.in-Ok.ensures.keeps;
+      no_fault = c.in-Ok.ensures.no_fault;
       pages_limit = c.in-Ok.ensures.limit;
       ids_limit = refl;
       path = refl;

@@ -13,6 +13,7 @@ invariant-loop-place g l = record {
   metric : g.R.Ruler.metric l.ruler ≡ g.R.Ruler.metric l.fn.ruler;
   same : HoldsSame (g.P.Pages.shelf l.fn.pages) (g.P.Pages.shelf l.pages);
   keeps : g.P.Pages.keeps l.fn.pages l.pages;
+  no_fault : (g.P.Pages.shelf l.pages).faults ≡ (g.P.Pages.shelf l.fn.pages).faults;
   pages_limit : l.visits.pages.limit ≡ l.fn.visits.pages.limit;
   ids_limit : l.visits.ids.limit ≡ l.fn.visits.ids.limit;
   path : l.path.items ≡ l.fn.path.items;
