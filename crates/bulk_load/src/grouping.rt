@@ -33,7 +33,8 @@ fn add_member(lists: &mut Vec<Vec<u32>>, group: usize, row: u32) -> Result<(), M
     ensures { OnOk result (lists_in lists.new.items ≡ slice_set (lists_in lists.old.items) group
         (slice_index_or (lists_in lists.old.items) group [] ++ row ∷ [])) }
 {
-    Ok(lists[group].push(row)?)
+    lists[group].push(row)?;
+    Ok(())
 }
 
 // The members of each of so many groups, by one pass over the objects.
