@@ -27,21 +27,13 @@ use Rattle.shadow_root.specs.Placements.{IsFileOf, IsTreeOf, KeepsBytes, alone_k
 use Rattle.shadow_root.proofs.Published.{in_place_is_written, commits_keep_lists}
 use Rattle.free_pages.specs.Keeping.{FreePages, IsKept, with_left}
 use Rattle.free_pages.specs.Commits.{with_all_left, AreOutside, AreWithin, IsExchange, IsGuarded}
-use Rattle.free_pages.proofs.Published.{keep_outside, guard, pins_left}
+use Rattle.free_pages.proofs.Published.{keep_outside, guard, none_in, pins_left}
 use Rattle.index_core.specs.declared.faults.IndexFault.TheVariants.{Commit}
 use Rattle.index_core.specs.Files.{OpenFile, StandsOn, IsLawfulFile, nodes_on}
 use Rattle.index_core.specs.Index.{OpenIndex, AreSpare, IsLawfulFree}
 use Rattle.index_core.specs.Writing.{Write, added_by, answer_to, offered_to, points_after, tags_after, tree_after, AreLeastPages, Follows, HasObjects, HoldsObjects, LeavesEither, IsCommitted, IsExactFor, IsMadeBy, IsNumberedFor, IsPlacedFor, IsPlacedOn, KeepsPages, HasWritten}
 use Rattle.index_core.proofs.Committed.{exchange, unshared}
 use Rattle.index_core.proofs.Settled.{can_follow}
-
--- a page that is in no place of a list stands there no times
-none_times : (page : ℕ) (xs : List ℕ) → (IsIn page xs → ⊥) → times page xs ≡ 0
-none_times page xs never = small (times page xs) (λ some. never (times_in page xs some))
-  where
-    small : (n : ℕ) → (1 ≤ n → ⊥) → n ≡ 0
-    small zero none = refl
-    small (suc n) none = absurd (none (omega arith))
 
 beside_none : (nodes : Nodes) (t : Live) (pages : List ℕ) (page : ℕ) → AreBeside nodes t pages → IsIn page pages → times page (live_pages nodes t) ≡ 0
 beside_none nodes t pages page apart i = all_in (λ n. times n (live_pages nodes t) ≡ 0) pages page apart i
@@ -177,13 +169,13 @@ module _ {M : Type 0} (s : Space) (write : Write) (file : OpenFile M) (f : FreeP
         in_new page i = times_in page (live_pages (nodes_on new after) placed.next) (
             let none = beside_none (nodes_on file before) file.live (pages_of placed.staged) page (fits has.tells has.sound).apart i in
             let some = in_times page (pages_of placed.staged) i in
-            let unleft = none_times page placed.left (apart page i) in
+            let unleft = none_in page placed.left (apart page i) in
             let balance = (made has).balance page in
             omega (arith, none, some, unleft, balance))
 
         made_there : (page : ℕ) → IsIn page (live_pages (nodes_on new after) placed.next) → (IsIn page (live_pages (nodes_on file before) file.live) → ⊥) → IsIn page (pages_of placed.staged)
         made_there page n never = times_in page (pages_of placed.staged) (
-            let none = none_times page (live_pages (nodes_on file before) file.live) never in
+            let none = none_in page (live_pages (nodes_on file before) file.live) never in
             let some = in_times page (live_pages (nodes_on new after) placed.next) n in
             let balance = (made has).balance page in
             omega (arith, none, some, balance))

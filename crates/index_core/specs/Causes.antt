@@ -122,8 +122,8 @@ abbrev pub IsListOf : {M : Type 0} → OpenIndex M → DiskState → FreePages �
 IsListOf index disk f = MatchOption index.free (IsMadeList index.file disk f) (λ g. f ≡ g)
 
 -- Why an object was not inserted: a commit failed before; the disk failed; a page is damaged to which the walk came that makes the free
--- list, or else, once there is a list, that of the insertion; the new nodes have no room; memory ran out; or the disk failed in the commit. That the index is full
--- or worn is said by itself.
+-- list, or else, once there is a list, that of the insertion; the new nodes have no room; memory ran out; or the disk failed in the
+-- commit. That the index is full or worn is said by itself.
 abbrev pub HasInsertCause : {M : Type 0} → Metrized → OpenIndex M → Object → DiskState → DiskState → IndexFault → Type 0
 HasInsertCause s index o old new Stopped = index.stopped ≡ true
 HasInsertCause s index o old new Full = Unit {0}

@@ -66,6 +66,7 @@ impl<M: Metric> Index<M> {
         ensures synced { IfErr result (λ fault. (fault ≡ OpenFault.Disk) ⊎ LeavesOnly (D.state disk.new) (D.state disk.new).bytes) }
         ensures reads { (D.state disk.new).reads ≤ (D.state disk.old).reads + 3 }
         ensures later { (D.state disk.old).faults ≤ (D.state disk.new).faults }
+        ensures no_fault { OnOk result ((D.state disk.new).faults ≡ (D.state disk.old).faults) }
     {
         if disk.sync().is_err() {
             return Err(OpenFault::Disk);
@@ -160,6 +161,7 @@ impl<M: Metric> Index<M> {
         ensures stopped { self.old.stopped ≡ true → (result ≡ Err IndexFault.Stopped) × (self.new ≡ self.old) × (disk.new ≡ disk.old) }
         ensures stands { MayGoOn self.new (D.state disk.new) }
         ensures reads { OnlyReads self.old.file self.new.file (D.state disk.old) (D.state disk.new) }
+        ensures no_fault { OnOk result ((D.state disk.new).faults ≡ (D.state disk.old).faults) }
         ensures rest { self.new ≡ record self.old { file = self.new.file } }
         ensures searched { self.old.stopped ≡ false → HasSearched (M.space self.old.file.metric) self.old.file (Range q.now r)
             (D.state disk.old) (D.state disk.new) result }
@@ -190,6 +192,7 @@ impl<M: Metric> Index<M> {
         ensures stopped { self.old.stopped ≡ true → (result ≡ Err IndexFault.Stopped) × (self.new ≡ self.old) × (disk.new ≡ disk.old) }
         ensures stands { MayGoOn self.new (D.state disk.new) }
         ensures reads { OnlyReads self.old.file self.new.file (D.state disk.old) (D.state disk.new) }
+        ensures no_fault { OnOk result ((D.state disk.new).faults ≡ (D.state disk.old).faults) }
         ensures rest { self.new ≡ record self.old { file = self.new.file } }
         ensures searched { self.old.stopped ≡ false → HasSearched (M.space self.old.file.metric) self.old.file (Nearest q.now k)
             (D.state disk.old) (D.state disk.new) result }
@@ -213,6 +216,7 @@ impl<M: Metric> Index<M> {
         ensures stopped { self.old.stopped ≡ true → (result ≡ Err IndexFault.Stopped) × (self.new ≡ self.old) × (disk.new ≡ disk.old) }
         ensures stands { MayGoOn self.new (D.state disk.new) }
         ensures reads { OnlyReads self.old.file self.new.file (D.state disk.old) (D.state disk.new) }
+        ensures no_fault { OnOk result ((D.state disk.new).faults ≡ (D.state disk.old).faults) }
         ensures rest { self.new ≡ record self.old { file = self.new.file } }
         ensures drawn { self.old.stopped ≡ false → HasDrawn (M.space self.old.file.metric) self.old.file (D.state disk.old) (D.state disk.new) result }
     {

@@ -1,5 +1,5 @@
 // Inserts into an index, each of them one commit.
-ghost use Rattle.std.specs.Prelude.{◌≡◌, ◌≢◌, ◌↔◌, ◌⊎◌, ◌+◌, ◌-◌, ◌^◌, ◌≤◌, false, true, Some, Err, IsTrue, IsSome, IfErr};
+ghost use Rattle.std.specs.Prelude.{◌≡◌, ◌≢◌, ◌↔◌, ◌⊎◌, ◌+◌, ◌-◌, ◌^◌, ◌≤◌, false, true, Some, Err, IsTrue, IsSome, IfErr, OnOk};
 ghost use Rattle.outside_io.specs.Causes.{Rose};
 ghost use Rattle.disk_model.specs.Disk.{LeavesOnly};
 ghost use Rattle.index_core.specs.Answers.{IsSoundOn};
@@ -48,6 +48,7 @@ impl<M: Metric> Index<M> {
         ensures tells { (D.state disk.new).tells ≡ (D.state disk.old).tells }
         ensures reads { (D.state disk.new).reads ≤ (D.state disk.old).reads + 1 }
         ensures later { (D.state disk.old).faults ≤ (D.state disk.new).faults }
+        ensures no_fault { OnOk result ((D.state disk.new).faults ≡ (D.state disk.old).faults) }
     {
         self.view.is_lawful();
         let mut free = free;
@@ -89,8 +90,11 @@ impl<M: Metric> Index<M> {
         // A page that it blames is damaged.
         ensures damage { IfErr result (BlamesDamage self.old.file (D.state disk.old)) }
         ensures undamaged { IfErr result (λ fault. IsSoundOn (M.space self.old.file.metric) self.old.file (D.state disk.old) → BlamesNoPage fault) }
+        ensures few { IsSome self.old.free → (D.state disk.new).reads ≤ (D.state disk.old).reads + (self.old.file.live.height + 2) }
+        ensures most { (D.state disk.new).reads ≤ (D.state disk.old).reads + (self.old.file.live.pages + (self.old.file.live.height + 2)) }
         ensures tells { (D.state disk.new).tells ≡ (D.state disk.old).tells }
         ensures later { (D.state disk.old).faults ≤ (D.state disk.new).faults }
+        ensures no_fault { OnOk result ((D.state disk.new).faults ≡ (D.state disk.old).faults) }
     {
         let tag = u64::from(self.view.count());
         self.insert_tagged(alloc, disk, p, tag)
@@ -127,8 +131,10 @@ impl<M: Metric> Index<M> {
         ensures damage { IfErr result (BlamesDamage self.old.file (D.state disk.old)) }
         ensures undamaged { IfErr result (λ fault. IsSoundOn (M.space self.old.file.metric) self.old.file (D.state disk.old) → BlamesNoPage fault) }
         ensures few { IsSome self.old.free → (D.state disk.new).reads ≤ (D.state disk.old).reads + (self.old.file.live.height + 2) }
+        ensures most { (D.state disk.new).reads ≤ (D.state disk.old).reads + (self.old.file.live.pages + (self.old.file.live.height + 2)) }
         ensures tells { (D.state disk.new).tells ≡ (D.state disk.old).tells }
         ensures later { (D.state disk.old).faults ≤ (D.state disk.new).faults }
+        ensures no_fault { OnOk result ((D.state disk.new).faults ≡ (D.state disk.old).faults) }
     {
         if self.stopped {
             return Err(IndexFault::Stopped);

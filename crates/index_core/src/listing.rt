@@ -1,5 +1,5 @@
 // The free list of an index, which is made when it is first needed.
-ghost use Rattle.std.specs.Prelude.{◌≡◌, None, IsTrue, IsSome, IfOk, IfErr};
+ghost use Rattle.std.specs.Prelude.{◌≡◌, ◌+◌, ◌≤◌, None, IsTrue, IsSome, IfOk, IfErr, OnOk};
 ghost use Rattle.free_pages.specs.Keeping.{IsKept};
 ghost use Rattle.index_core.specs.Answers.{IsSoundOn};
 ghost use Rattle.index_core.specs.Causes.{BlamesNoPage, HasListCause, IsListOf, IsMadeList};
@@ -22,6 +22,8 @@ impl<M: Metric> View<M> {
         requires stands { StandsOn self.old (D.state disk.old) }
         ensures stands { StandsOn self.new (D.state disk.new) }
         ensures reads { OnlyReads self.old self.new (D.state disk.old) (D.state disk.new) }
+        ensures no_fault { OnOk result ((D.state disk.new).faults ≡ (D.state disk.old).faults) }
+        ensures few { (D.state disk.new).reads ≤ (D.state disk.old).reads + self.old.live.pages }
         ensures kept { IfOk result IsKept }
         ensures made { IfOk result (IsMadeList self.old (D.state disk.old)) }
         ensures lawful { IfOk result (IsLawfulFree self.old.live) }
@@ -54,6 +56,8 @@ impl<M: Metric> Index<M> {
         requires stands { StandsAlone self.old (D.state disk.old) }
         ensures stands { StandsOn self.new.file (D.state disk.new) }
         ensures reads { OnlyReads self.old.file self.new.file (D.state disk.old) (D.state disk.new) }
+        ensures no_fault { OnOk result ((D.state disk.new).faults ≡ (D.state disk.old).faults) }
+        ensures few { (D.state disk.new).reads ≤ (D.state disk.old).reads + self.old.file.live.pages }
         ensures rest { self.new ≡ record self.old { file = self.new.file; free = None } }
         ensures list { IfOk result (IsListOf self.old (D.state disk.old)) }
         ensures kept { IfOk result IsKept }

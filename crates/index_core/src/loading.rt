@@ -150,6 +150,7 @@ impl<M: Metric> Index<M> {
         ensures tells { (D.state disk.new).tells ≡ (D.state disk.old).tells }
         ensures reads { (D.state disk.new).reads ≤ (D.state disk.old).reads + 1 }
         ensures later { (D.state disk.old).faults ≤ (D.state disk.new).faults }
+        ensures no_fault { OnOk result ((D.state disk.new).faults ≡ (D.state disk.old).faults) }
     {
         self.view.is_lawful();
         match self.view.build(rt, alloc, self.workers, &free, rows, tags) {
@@ -189,8 +190,10 @@ impl<M: Metric> Index<M> {
         ensures damage { IfErr result (BlamesDamage self.old.file (D.state disk.old)) }
         ensures undamaged { IfErr result (λ fault. IsSoundOn (M.space self.old.file.metric) self.old.file (D.state disk.old) → BlamesNoPage fault) }
         ensures few { IsSome self.old.free → (D.state disk.new).reads ≤ (D.state disk.old).reads + 1 }
+        ensures most { (D.state disk.new).reads ≤ (D.state disk.old).reads + (self.old.file.live.pages + 1) }
         ensures tells { (D.state disk.new).tells ≡ (D.state disk.old).tells }
         ensures later { (D.state disk.old).faults ≤ (D.state disk.new).faults }
+        ensures no_fault { OnOk result ((D.state disk.new).faults ≡ (D.state disk.old).faults) }
     {
         self.view.is_lawful();
         if let Err(fault) = self.may_load(rows.len()) {
@@ -234,8 +237,10 @@ impl<M: Metric> Index<M> {
         ensures damage { IfErr result (BlamesDamage self.old.file (D.state disk.old)) }
         ensures undamaged { IfErr result (λ fault. IsSoundOn (M.space self.old.file.metric) self.old.file (D.state disk.old) → BlamesNoPage fault) }
         ensures few { IsSome self.old.free → (D.state disk.new).reads ≤ (D.state disk.old).reads + 1 }
+        ensures most { (D.state disk.new).reads ≤ (D.state disk.old).reads + (self.old.file.live.pages + 1) }
         ensures tells { (D.state disk.new).tells ≡ (D.state disk.old).tells }
         ensures later { (D.state disk.old).faults ≤ (D.state disk.new).faults }
+        ensures no_fault { OnOk result ((D.state disk.new).faults ≡ (D.state disk.old).faults) }
     {
         self.view.is_lawful();
         if let Err(fault) = self.may_load(rows.len()) {

@@ -1,5 +1,5 @@
 // Pins of the trees of an index, for readers that come back.
-ghost use Rattle.std.specs.Prelude.{◌≡◌, ◌≢◌, List, ℕ, None, Some, MatchOption, Err, true, false, IsTrue, IfOk, IfErr, OnOk};
+ghost use Rattle.std.specs.Prelude.{◌≡◌, ◌≢◌, ◌+◌, ◌≤◌, List, ℕ, None, Some, MatchOption, Err, true, false, IsTrue, IfOk, IfErr, OnOk};
 ghost use Rattle.tree_shape.specs.Tree.{Nodes};
 ghost use Rattle.index_core.specs.Answers.{IsSoundOn};
 ghost use Rattle.index_core.specs.Causes.{BlamesNoPage, HasListCause};
@@ -27,6 +27,8 @@ impl<M: Metric> Index<M> {
         ensures stopped { self.old.stopped ≡ true → (result ≡ Err IndexFault.Stopped) × (self.new ≡ self.old) × (disk.new ≡ disk.old) }
         ensures stands { MayGoOn self.new (D.state disk.new) }
         ensures reads { OnlyReads self.old.file self.new.file (D.state disk.old) (D.state disk.new) }
+        ensures no_fault { OnOk result ((D.state disk.new).faults ≡ (D.state disk.old).faults) }
+        ensures few { (D.state disk.new).reads ≤ (D.state disk.old).reads + self.old.file.live.pages }
         ensures rest { self.new ≡ record self.old { file = self.new.file; free = self.new.free } }
         ensures live { IfOk result (λ live. live ≡ self.old.file.live) }
         ensures pinned { OnOk result (HasPinned self.old.file.live.generation self.old self.new) }

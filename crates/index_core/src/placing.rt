@@ -1,5 +1,5 @@
 // What an insertion places for a file.
-ghost use Rattle.std.specs.Prelude.{◌≡◌, ◌≢◌, ◌+◌, ◌-◌, ◌^◌, ◌≤◌, IsTrue, IfOk, IfErr};
+ghost use Rattle.std.specs.Prelude.{◌≡◌, ◌≢◌, ◌+◌, ◌-◌, ◌^◌, ◌≤◌, IsTrue, IfOk, IfErr, OnOk};
 ghost use Rattle.page_store.specs.Succession.{TakesPlace};
 ghost use Rattle.free_pages.specs.Commits.{AreWithin};
 ghost use Rattle.index_core.specs.Answers.{IsSoundOn};
@@ -44,6 +44,7 @@ impl<M: Metric> View<M> {
         requires within { AreWithin self.old.live.pages free.now }
         ensures stands { StandsOn self.new (D.state disk.new) }
         ensures reads { OnlyReads self.old self.new (D.state disk.old) (D.state disk.new) }
+        ensures no_fault { OnOk result ((D.state disk.new).faults ≡ (D.state disk.old).faults) }
         ensures placed { IfOk result (λ placement. IsPlacedOn self.old free.now placement.used placement.placed) }
         ensures numbered { IfOk result (λ placement. IsNumberedFor (Inserts p.now tag) self.old free.now placement.placed) }
         ensures one { IfOk result (λ placement. placement.placed.next.count ≡ self.old.live.count + 1) }

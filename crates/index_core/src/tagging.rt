@@ -1,5 +1,5 @@
 // The tags of what a query of an opened index found.
-ghost use Rattle.std.specs.Prelude.{◌≡◌, true, false, Err, IfErr};
+ghost use Rattle.std.specs.Prelude.{◌≡◌, true, false, Err, IfErr, OnOk};
 ghost use Rattle.index_core.specs.Answers.{HasTagged};
 ghost use Rattle.index_core.specs.Damage.{BlamesDamage};
 ghost use Rattle.index_core.specs.Files.{StandsOn, OnlyReads};
@@ -29,6 +29,7 @@ impl<M: Metric> View<M> {
         requires stands { StandsOn self.old (D.state disk.old) }
         ensures stands { StandsOn self.new (D.state disk.new) }
         ensures reads { OnlyReads self.old self.new (D.state disk.old) (D.state disk.new) }
+        ensures no_fault { OnOk result ((D.state disk.new).faults ≡ (D.state disk.old).faults) }
         ensures tagged { HasTagged (M.space self.old.metric) self.old found.now (D.state disk.old) (D.state disk.new) result }
     {
         let live = self.live;
@@ -53,6 +54,7 @@ impl<M: Metric> Index<M> {
         ensures stopped { self.old.stopped ≡ true → (result ≡ Err IndexFault.Stopped) × (self.new ≡ self.old) × (disk.new ≡ disk.old) }
         ensures stands { MayGoOn self.new (D.state disk.new) }
         ensures reads { OnlyReads self.old.file self.new.file (D.state disk.old) (D.state disk.new) }
+        ensures no_fault { OnOk result ((D.state disk.new).faults ≡ (D.state disk.old).faults) }
         ensures rest { self.new ≡ record self.old { file = self.new.file } }
         ensures tagged { self.old.stopped ≡ false → HasTagged (M.space self.old.file.metric) self.old.file found.now
             (D.state disk.old) (D.state disk.new) result }

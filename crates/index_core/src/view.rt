@@ -61,6 +61,7 @@ impl<M: Metric> View<M> {
         ensures same { IsUnchanged (D.state disk.old) (D.state disk.new) }
         ensures reads { (D.state disk.new).reads ≤ (D.state disk.old).reads + 3 }
         ensures later { (D.state disk.old).faults ≤ (D.state disk.new).faults }
+        ensures no_fault { OnOk result ((D.state disk.new).faults ≡ (D.state disk.old).faults) }
     {
         let (head, live) = match open(disk) {
             Ok(opened) => opened,
@@ -157,6 +158,7 @@ impl<M: Metric> View<M> {
         requires point { IsTrue ((M.space self.old.metric).fits q.now) }
         ensures stands { StandsOn self.new (D.state disk.new) }
         ensures reads { OnlyReads self.old self.new (D.state disk.old) (D.state disk.new) }
+        ensures no_fault { OnOk result ((D.state disk.new).faults ≡ (D.state disk.old).faults) }
         ensures searched { HasSearched (M.space self.old.metric) self.old (Range q.now r) (D.state disk.old) (D.state disk.new) result }
         ensures found { IfOk result (IsFoundOn (M.space self.old.metric) self.old (Range q.now r) (D.state disk.old) (D.state disk.new)) }
         ensures cause { IfErr result (HasRangeCause (M.space self.old.metric) self.old q.now r (D.state disk.old) (D.state disk.new)) }
@@ -184,6 +186,7 @@ impl<M: Metric> View<M> {
         requires some { 1 ≤ k }
         ensures stands { StandsOn self.new (D.state disk.new) }
         ensures reads { OnlyReads self.old self.new (D.state disk.old) (D.state disk.new) }
+        ensures no_fault { OnOk result ((D.state disk.new).faults ≡ (D.state disk.old).faults) }
         ensures searched { HasSearched (M.space self.old.metric) self.old (Nearest q.now k) (D.state disk.old) (D.state disk.new) result }
         // On any file: the records are a front of a walk with the least marks, and the answers those that it names.
         ensures front { IfOk result (λ found. IsTrue (D.state disk.old).tells →
@@ -206,6 +209,7 @@ impl<M: Metric> View<M> {
         requires stands { StandsOn self.old (D.state disk.old) }
         ensures stands { StandsOn self.new (D.state disk.new) }
         ensures reads { OnlyReads self.old self.new (D.state disk.old) (D.state disk.new) }
+        ensures no_fault { OnOk result ((D.state disk.new).faults ≡ (D.state disk.old).faults) }
         ensures drawn { HasDrawn (M.space self.old.metric) self.old (D.state disk.old) (D.state disk.new) result }
     {
         let mut pages = self.lend(disk);

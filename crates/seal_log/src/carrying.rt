@@ -60,6 +60,7 @@ fn put_page<D: Disk>(
         out.new.items ≡ out.old.items ++ page_bytes (page_with_path (D.state disk.old).bytes tree.now page)) }
     ensures disk { IsErrOf result SealFault.Disk → Rose (D.state disk.old).faults (D.state disk.new).faults }
     ensures later { (D.state disk.old).faults ≤ (D.state disk.new).faults }
+    ensures no_fault { OnOk result ((D.state disk.new).faults ≡ (D.state disk.old).faults) }
     ensures same { IsUnchanged (D.state disk.old) (D.state disk.new) }
     ensures reads { (D.state disk.new).reads ≤ (D.state disk.old).reads + 1 }
 {
@@ -86,6 +87,7 @@ fn put_pages<D: Disk>(
     ensures put { OnOk result (IsTrue (D.state disk.old).tells → out.new.items ≡ out.old.items ++ pages_bytes (D.state disk.old).bytes tree.now pages.now) }
     ensures disk { IsErrOf result SealFault.Disk → Rose (D.state disk.old).faults (D.state disk.new).faults }
     ensures later { (D.state disk.old).faults ≤ (D.state disk.new).faults }
+    ensures no_fault { OnOk result ((D.state disk.new).faults ≡ (D.state disk.old).faults) }
     ensures same { IsUnchanged (D.state disk.old) (D.state disk.new) }
     ensures reads { (D.state disk.new).reads ≤ (D.state disk.old).reads + length pages.now }
 {
@@ -120,6 +122,7 @@ pub fn carry<D: Disk>(
     ensures carries { IfOk result (λ bytes. IsTrue (D.state disk.old).tells → Carries (D.state disk.old).bytes tree.now log.now bytes.items) }
     ensures disk { IsErrOf result SealFault.Disk → Rose (D.state disk.old).faults (D.state disk.new).faults }
     ensures later { (D.state disk.old).faults ≤ (D.state disk.new).faults }
+    ensures no_fault { OnOk result ((D.state disk.new).faults ≡ (D.state disk.old).faults) }
     ensures same { IsUnchanged (D.state disk.old) (D.state disk.new) }
     ensures reads { (D.state disk.new).reads ≤ (D.state disk.old).reads + (3 + length log.now.records) }
 {

@@ -1,5 +1,5 @@
 // The seal of a file.
-ghost use Rattle.std.specs.Prelude.{◌≡◌, ◌+◌, ◌≤◌, ◌<◌, ◌^◌, length, IsTrue, IfOk, IsErrOf};
+ghost use Rattle.std.specs.Prelude.{◌≡◌, ◌+◌, ◌≤◌, ◌<◌, ◌^◌, length, IsTrue, IfOk, OnOk, IsErrOf};
 ghost use Rattle.outside_io.specs.Causes.{Rose};
 ghost use Rattle.disk_model.specs.Disk.{IsUnchanged};
 ghost use Rattle.node_page.specs.Opening.{page_of};
@@ -18,6 +18,7 @@ fn seal_page<D: Disk>(disk: &mut D, page: u32) -> Result<[u8; 32], SealFault>
     ensures sealed { IfOk result (λ digest. IsTrue (D.state disk.old).tells → digest ≡ sha256 (leaf_message (page_of (D.state disk.old).bytes page))) }
     ensures disk { IsErrOf result SealFault.Disk → Rose (D.state disk.old).faults (D.state disk.new).faults }
     ensures later { (D.state disk.old).faults ≤ (D.state disk.new).faults }
+    ensures no_fault { OnOk result ((D.state disk.new).faults ≡ (D.state disk.old).faults) }
     ensures same { IsUnchanged (D.state disk.old) (D.state disk.new) }
     ensures reads { (D.state disk.new).reads ≤ (D.state disk.old).reads + 1 }
 {
@@ -37,6 +38,7 @@ pub fn seal<D: Disk>(alloc: Global, disk: &mut D, pages: u32) -> Result<Tree, Se
     ensures size { IfOk result (λ tree. length tree ≡ pages) }
     ensures disk { IsErrOf result SealFault.Disk → Rose (D.state disk.old).faults (D.state disk.new).faults }
     ensures later { (D.state disk.old).faults ≤ (D.state disk.new).faults }
+    ensures no_fault { OnOk result ((D.state disk.new).faults ≡ (D.state disk.old).faults) }
     ensures same { IsUnchanged (D.state disk.old) (D.state disk.new) }
     ensures reads { (D.state disk.new).reads ≤ (D.state disk.old).reads + pages }
 {

@@ -9,6 +9,7 @@ invariant-loop-page g l = record {
   sealed : IsTrue (g.D.Disk.state l.fn.disk).tells → l.leaves.items ≡ leaf_digests (g.D.Disk.state l.fn.disk).bytes l.page;
   size : length l.leaves.items ≡ l.page;
   later : (g.D.Disk.state l.fn.disk).faults ≤ (g.D.Disk.state l.disk).faults;
+  no_fault : (g.D.Disk.state l.disk).faults ≡ (g.D.Disk.state l.fn.disk).faults;
   same : IsUnchanged (g.D.Disk.state l.fn.disk) (g.D.Disk.state l.disk);
   reads : (g.D.Disk.state l.disk).reads ≤ (g.D.Disk.state l.fn.disk).reads + l.page;
 }
