@@ -96,6 +96,7 @@ pub fn audit_opened<D: Disk>(
     ensures err { IfErr result (HasFault (D.state disk.old) (D.state disk.new).faults
         (audit_fault (space_of head.now) (reading head.now.dim live.now.pages (D.state disk.old).bytes) live.now)) }
     ensures later { (D.state disk.old).faults ≤ (D.state disk.new).faults }
+    ensures no_fault { OnOk result ((D.state disk.new).faults ≡ (D.state disk.old).faults) }
 {
     let mut pages = DiskPages::new(disk, head.dim, live.pages);
     let mut ruler = Meter::new(space_of(head));
@@ -161,12 +162,14 @@ pub fn open_index<D: Disk, K: Sink>(disk: &mut D, out: &mut K) -> Result<(Head, 
     ensures version { IfOk result (λ opened. opened.0.version ≡ 2) }
     // Also of a disk that does not tell its bytes what is answered is lawful.
     ensures head { IfOk result (λ opened. IsLawfulHead opened.0) }
+    ensures some { IfOk result (λ opened. 4 ≤ opened.1.pages) }
     ensures pages { IfOk result (λ opened. opened.1.pages ≤ 2 ^ 24) }
     ensures height { IfOk result (λ opened. opened.1.height ≤ 14) }
     ensures silent { OnOk result (out.new ≡ out.old) }
     ensures refuses { IfErr result (λ status. Refuses (D.state disk.old) (D.state disk.new) (K.state out.old) (K.state out.new) status.0) }
     ensures reads { (D.state disk.new).reads ≤ (D.state disk.old).reads + 3 }
     ensures later { (D.state disk.old).faults ≤ (D.state disk.new).faults }
+    ensures no_fault { OnOk result ((D.state disk.new).faults ≡ (D.state disk.old).faults) }
     ensures written_later { (K.state out.old).faults ≤ (K.state out.new).faults }
 {
     match open(disk) {

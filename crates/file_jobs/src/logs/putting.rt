@@ -1,5 +1,7 @@
 // What a job puts.
-ghost use Rattle.std.specs.Prelude.{◌≡◌, ◌≤◌, ◌∷◌, [], IfOk, IsErrOf};
+ghost use Rattle.std.specs.Prelude.{◌≡◌, ◌≤◌, ◌∷◌, [], IfOk, IfErr, OnOk, IsErrOf};
+ghost use Rattle.std.specs.Io.KnownBytes.{Appends};
+ghost use Rattle.outside_io.specs.Bytes.{AppendsPrefix};
 ghost use Rattle.outside_io.specs.Causes.{Rose};
 ghost use Rattle.file_jobs.specs.Logs.Jobs.{Puts, stop_of};
 ghost use Rattle.file_jobs.specs.Logs.Sayings.{end_text, file_text};
@@ -13,6 +15,8 @@ use tree_audit::AuditFault;
 
 /// Puts a text.
 pub fn put<K: Sink>(out: &mut K, text: &[u8]) -> Result<(), Stop>
+    ensures whole { OnOk result (Appends (K.state out.old).written (K.state out.new).written text.now) }
+    ensures cut { IfErr result (λ why. (why ≡ Stop.Sink) × AppendsPrefix (K.state out.old).written (K.state out.new).written text.now) }
     ensures puts { Puts (text.now ∷ []) (K.state out.old).written (K.state out.new).written (stop_of result) }
     ensures later { (K.state out.old).faults ≤ (K.state out.new).faults }
     ensures output { IsErrOf result Stop.Sink → Rose (K.state out.old).faults (K.state out.new).faults }
