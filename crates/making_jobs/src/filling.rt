@@ -1,5 +1,5 @@
 // A new index, and all its objects at once.
-ghost use Rattle.std.specs.Prelude.{◌≡◌, ◌≤◌, ◌<◌, false, length, All, IsTrue, IfOk, IfErr};
+ghost use Rattle.std.specs.Prelude.{◌≡◌, ◌≤◌, ◌<◌, false, length, All, IsTrue, IfOk, IfErr, OnOk};
 ghost use Rattle.disk_model.specs.Disk.{EachImage, LeavesOnly};
 ghost use Rattle.metric_mix.specs.MixKinds.{mix_kind, mix_dim};
 ghost use Rattle.node_page.specs.Heads.{IsLawfulHead};
@@ -105,6 +105,7 @@ pub fn fill<R: Threads + Sync, D: Disk>(
     ensures cause { IfErr result (HasFillCause (D.state disk.old) (D.state disk.new)) }
     ensures tells { (D.state disk.new).tells ≡ (D.state disk.old).tells }
     ensures later { (D.state disk.old).faults ≤ (D.state disk.new).faults }
+    ensures no_fault { OnOk result ((D.state disk.new).faults ≡ (D.state disk.old).faults) }
 {
     fault_is_not_open();
     one_live_slot();

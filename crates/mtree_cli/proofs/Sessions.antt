@@ -28,6 +28,7 @@ use Rattle.index_core.specs.Files.{IsLawfulFile, nodes_on}
 use Rattle.index_core.specs.Index.{OpenIndex, StandsAlone}
 use Rattle.index_core.proofs.Published.{holds}
 use Rattle.session_run.proofs.Published.{objects_on}
+use Rattle.batch_run.proofs.Published.{unfinished}
 use Rattle.file_jobs.specs.Lines.{not_index_text, unopened_name, unopened_text}
 use Rattle.rows_text.specs.declared.command.Command.{Command}
 use Rattle.rows_text.specs.Meaning.{State}
@@ -341,11 +342,6 @@ pub left_since : (head : Head) (state : State) (disk0 disk1 disk2 : DiskState) �
 left_since head state disk0 disk1 disk2 opening turns more left = inr (once disk0 disk1 disk2 (HoldsFront head state turns more) opening left.0, left.1)
 
 -- ---- opening
-
--- another status
-unfinished : (n k : ℕ) → n ≡ k → k ≢ 0 → k ≢ 9 → (n ≡ 0) ⊎ (n ≡ 9) → ⊥
-unfinished n k is a b (inl e) = a (sym is ∙ e)
-unfinished n k is a b (inr e) = b (sym is ∙ e)
 
 -- what was there before the opening
 pub opening : (disk0 disk1 disk2 : DiskState) → IsUnchanged disk0 disk1 → EachImage disk1 disk2 (MayLeave disk1) → EachImage disk0 disk2 (MayLeave disk0)

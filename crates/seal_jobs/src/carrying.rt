@@ -22,7 +22,7 @@ ghost use Rattle.seal_jobs.specs.Carries.{CarriesLogs, CarriesOn, EndsCarried, H
 use crate::opening::open_small;
 use crate::proof_lines::rejected_text;
 use disk_model::Disk;
-use file_jobs::logs::{Stop, end_stopped, push_frame, read_logs, undecoded_text};
+use file_jobs::logs::{Stop, end_stopped, push_frame, put, read_logs, undecoded_text};
 use file_jobs::space_of;
 use log_model::{Log, Record};
 use log_verify::{Verdict, verify};
@@ -266,20 +266,6 @@ fn carried_end(accepted: bool) -> &'static [u8]
         b"log carried\n"
     } else {
         b"log rejected\n"
-    }
-}
-
-// Puts a line.
-fn put<K: Sink>(out: &mut K, line: &[u8]) -> Result<(), Stop>
-    ensures puts { OnOk result (Appends (K.state out.old).written (K.state out.new).written line.now) }
-    ensures later { (K.state out.old).faults ≤ (K.state out.new).faults }
-    ensures output { IsErrOf result Stop.Sink → Rose (K.state out.old).faults (K.state out.new).faults }
-    ensures cut { IfErr result (λ why. (why ≡ Stop.Sink) × AppendsPrefix (K.state out.old).written (K.state out.new).written line.now) }
-    ensures not_disk { IsErrOf result Stop.Disk → ⊥ }
-{
-    match out.put(line) {
-        Ok(()) => Ok(()),
-        Err(_) => Err(Stop::Sink),
     }
 }
 

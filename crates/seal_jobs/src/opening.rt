@@ -6,10 +6,9 @@ ghost use Rattle.node_page.specs.Opening.{OpensTo};
 ghost use Rattle.seal_jobs.specs.Seals.{Refuses};
 
 use disk_model::Disk;
-use file_jobs::{FAULT_LONG, FAULT_VERSION, MOST_WHOLE_PAGES, end_unopened, end_with};
+use file_jobs::{FAULT_LONG, MOST_WHOLE_PAGES, end_with, open_index};
 use node_page::Head;
 use outside_io::{Sink, Status};
-use shadow_root::open;
 use tree_shape::Live;
 
 /// Opens an index of version 2 with up to 262144 pages. Else it writes why it is none, and answers the status: 5 where the
@@ -26,16 +25,12 @@ pub fn open_small<D: Disk, K: Sink>(disk: &mut D, out: &mut K) -> Result<(Head, 
     ensures later { (D.state disk.old).faults ≤ (D.state disk.new).faults }
     ensures written_later { (K.state out.old).faults ≤ (K.state out.new).faults }
 {
-    match open(disk) {
-        Ok((head, live)) => {
-            if head.version != 2 {
-                return Err(end_with(out, FAULT_VERSION, 6));
-            }
-            if live.pages > MOST_WHOLE_PAGES {
-                return Err(end_with(out, FAULT_LONG, 7));
-            }
-            Ok((head, live))
-        }
-        Err(fault) => Err(end_unopened(fault, out)),
+    let (head, live) = match open_index(disk, out) {
+        Ok(opened) => opened,
+        Err(status) => return Err(status),
+    };
+    if live.pages > MOST_WHOLE_PAGES {
+        return Err(end_with(out, FAULT_LONG, 7));
     }
+    Ok((head, live))
 }

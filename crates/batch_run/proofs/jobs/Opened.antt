@@ -32,9 +32,9 @@ not_these n k is a b c (inl e) = a (sym is ∙ e)
 not_these n k is a b c (inr (inl e)) = b (sym is ∙ e)
 not_these n k is a b c (inr (inr e)) = c (sym is ∙ e)
 
-pub not_done : (n k : ℕ) → n ≡ k → k ≢ 0 → k ≢ 9 → (n ≡ 0) ⊎ (n ≡ 9) → ⊥
-not_done n k is a b (inl e) = a (sym is ∙ e)
-not_done n k is a b (inr e) = b (sym is ∙ e)
+pub unfinished : (n k : ℕ) → n ≡ k → k ≢ 0 → k ≢ 9 → (n ≡ 0) ⊎ (n ≡ 9) → ⊥
+unfinished n k is a b (inl e) = a (sym is ∙ e)
+unfinished n k is a b (inr e) = b (sym is ∙ e)
 
 -- a line is all that was put
 module _ (show : Bool) (bytes : List ℕ) (disk0 : DiskState) (out0 out1 log : SinkState) (status : ℕ) where
@@ -70,7 +70,7 @@ refused faults one show bytes disk0 disk1 out0 out1 log status same refuses = el
     long = λ e. absurd (omega arith);
     damaged = λ e. absurd (omega arith);
     lines = disk_told status out0 out1 five (line_alone out0 out1 (codes "fault disk\n") (refuses.disk five).1);
-    index = λ these. absurd (not_done status 5 five (omega arith) (omega arith) these);
+    index = λ these. absurd (unfinished status 5 five (omega arith) (omega arith) these);
     large = λ tells is these. not_these status 5 five (omega arith) (omega arith) (omega arith) these;
     statuses = inr (inr (inl five));
   }
@@ -83,7 +83,7 @@ refused faults one show bytes disk0 disk1 out0 out1 log status same refuses = el
     long = λ e. absurd (omega arith);
     damaged = λ e. absurd (omega arith);
     lines = none_told status out0 out1 (λ e. omega arith) (λ e. omega arith) (λ e. omega arith) (λ e. omega arith);
-    index = λ these. absurd (not_done status 6 six (omega arith) (omega arith) these);
+    index = λ these. absurd (unfinished status 6 six (omega arith) (omega arith) these);
     large = λ tells is these. not_these status 6 six (omega arith) (omega arith) (omega arith) these;
     statuses = inr (inr (inr (inl six)));
   }
@@ -104,7 +104,7 @@ module _ (show : Bool) (bytes : List ℕ) (disk0 disk1 disk2 : DiskState) (head 
     long = λ e. absurd (omega arith);
     damaged = λ e. absurd (omega arith);
     lines = disk_told status out0 out1 five (line_alone out0 out1 (codes "fault disk\n") (disk five).1);
-    index = λ these. absurd (not_done status 5 five (omega arith) (omega arith) these);
+    index = λ these. absurd (unfinished status 5 five (omega arith) (omega arith) these);
     large = λ tells is these. not_these status 5 five (omega arith) (omega arith) (omega arith) these;
     statuses = inr (inr (inl five));
   }
@@ -117,7 +117,7 @@ module _ (show : Bool) (bytes : List ℕ) (disk0 disk1 disk2 : DiskState) (head 
     long = λ e tells. (head, live, opens tells, subst (HasImageCause live.pages disk1.faults disk2.faults) (long seven).0 cause);
     damaged = λ e. absurd (omega arith);
     lines = long_told status out0 out1 seven (line_alone out0 out1 (codes "fault long\n") (long seven).1);
-    index = λ these. absurd (not_done status 7 seven (omega arith) (omega arith) these);
+    index = λ these. absurd (unfinished status 7 seven (omega arith) (omega arith) these);
     large = λ tells is these. not_these status 7 seven (omega arith) (omega arith) (omega arith) these;
     statuses = inr (inr (inr (inr (inl seven))));
   }
@@ -130,7 +130,7 @@ module _ (show : Bool) (bytes : List ℕ) (disk0 disk1 disk2 : DiskState) (head 
     long = λ e. absurd (omega arith);
     damaged = λ e. absurd (omega arith);
     lines = memory_told status out0 out1 eight (line_alone out0 out1 (codes "fault memory\n") (memory eight));
-    index = λ these. absurd (not_done status 8 eight (omega arith) (omega arith) these);
+    index = λ these. absurd (unfinished status 8 eight (omega arith) (omega arith) these);
     large = λ tells is these. not_these status 8 eight (omega arith) (omega arith) (omega arith) these;
     statuses = inr (inr (inr (inr (inr (inl eight)))));
   }

@@ -9,7 +9,7 @@ use Rattle.disk_model.specs.Moments.{started}
 use Rattle.batch_run.specs.Jobs.Batches.{HasOpened, RunsBatch, RunsScript}
 use Rattle.answer_texts.specs.Ending.{TellsFault}
 use Rattle.answer_texts.proofs.Published.{input_told, line_alone, long_told, memory_told}
-use Rattle.batch_run.proofs.jobs.Opened.{input_line, long_line, memory_line, not_done, not_these}
+use Rattle.batch_run.proofs.jobs.Opened.{input_line, long_line, memory_line, unfinished, not_these}
 
 unchanged_self : (disk : DiskState) → IsUnchanged disk disk
 unchanged_self disk = record { same_tells = refl; same_bytes = refl; same_images = λ image. (λ left. left, λ left. left); time = started disk (MayLeave disk) (λ image left. left) }
@@ -46,7 +46,7 @@ module _ (show : Bool) (input : Option (List ℕ)) (disk : DiskState) (out0 out1
     not_index = λ e. absurd (named (let same : k ≡ 6 = omega arith in same));
     damaged = λ e. absurd (damaged (let same : k ≡ 9 = omega arith in same));
     lines = lines;
-    index = λ these. absurd (not_done status k is done damaged these);
+    index = λ these. absurd (unfinished status k is done damaged these);
     large = λ tells large these. not_these status k is done cut damaged these;
   }
 

@@ -10,7 +10,7 @@ returns-in-Err g c = record {
     fault = search rules;
     rejected = refl;
     no_frame = refl;
-    line = rw c.undecoded_text.ensures at c.in_ok-put-in-Err.ensures.puts;
+    line = rw c.undecoded_text.ensures at c.in_ok-put-in-Err.ensures.whole;
   });
   stops = tt;
   statuses = inr refl;
