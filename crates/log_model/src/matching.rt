@@ -34,23 +34,8 @@ pub struct Matches {
 }
 
 impl Matches {
-    // Adds a pair: an answer where both items are objects, else a pair that is needed.
-    fn add(&mut self, pair: JoinNeed) -> Result<(), Memory>
-        ensures { OnOk result (AddsPair pair self.old self.new) }
-    {
-        if pair.left.as_ref().is_object() && pair.right.as_ref().is_object() {
-            self.hits.push(Pair {
-                left: pair.left.as_ref().id(),
-                right: pair.right.as_ref().id(),
-                dist: pair.apart.unwrap_or(0),
-            })?;
-        } else {
-            self.needs.push(pair)?;
-        }
-        Ok(())
-    }
-
-    /// Adds the pair of a leaf's object with the other item, from which it is so far.
+    /// Adds the pair of a leaf's object with the other item, from which it is so far: an answer where that is an object too,
+    /// for which no item is made, else a pair that is needed.
     // It stands apart from the loops over entries, as `add_subtree` does: few entries have a pair.
     #[inline(never)]
     pub fn add_object(
@@ -61,11 +46,17 @@ impl Matches {
     ) -> Result<(), Memory>
         ensures { OnOk result (AddsPair (paired probe.entry.need.now (object_entry entry.now).item apart) self.old self.new) }
     {
+        if probe.need.other().is_object() {
+            self.hits.push(probe.need.answer(entry.id, apart))?;
+            return Ok(());
+        }
         let item = SharedItem::new(probe.alloc, Item::of_object(probe.alloc, entry)?)?;
-        self.add(probe.need.with(item, apart)?)
+        self.needs.push(probe.need.with(item, apart)?)?;
+        Ok(())
     }
 
-    /// Adds the pair of a subtree that an inner node of this level names with the other item, from which its centre is so far.
+    /// Adds the pair of a subtree that an inner node of this level names with the other item, from which its centre is so
+    /// far. It is needed.
     #[inline(never)]
     pub fn add_subtree(
         &mut self,
@@ -77,6 +68,7 @@ impl Matches {
         ensures { OnOk result (AddsPair (paired probe.entry.need.now (subtree_entry level entry.now).item apart) self.old self.new) }
     {
         let item = SharedItem::new(probe.alloc, Item::of_subtree(probe.alloc, level, entry)?)?;
-        self.add(probe.need.with(item, apart)?)
+        self.needs.push(probe.need.with(item, apart)?)?;
+        Ok(())
     }
 }

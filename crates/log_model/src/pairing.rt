@@ -4,12 +4,14 @@
 ghost use Rattle.std.specs.Prelude.{◌≡◌, ◌+◌, Some, Ok, IfOk};
 ghost use Rattle.std.specs.Option.{option_copied};
 ghost use Rattle.metric_laws.specs.Counts.{CountsUpTo};
-ghost use Rattle.log_model.specs.JoinWalk.{rank_of, centre_of, radius_of, page_of, id_of, is_object, object_entry, subtree_entry, opens_right, opened, other, far_apart, far_stored};
+ghost use Rattle.log_model.specs.JoinWalk.{rank_of, centre_of, radius_of, page_of, id_of, is_object, object_entry, subtree_entry, opens_right, opened, other, far_apart, far_stored, pair_of};
+ghost use Rattle.log_model.specs.declared.pairs.Item.{Item as TheItem};
 ghost use Rattle.log_model.specs.JoinSteps.{apart_from, paired};
 ghost use Rattle.log_model.specs.SoundJoin.{root_item, root_pair};
 
 use crate::{Item, JoinNeed, Memory, SharedItem};
 use metric_laws::{Listed, Point, Ruler, pair_test};
+use scan_model::Pair;
 use std::alloc::Global;
 use tree_shape::{InnerEntry, LeafEntry, Live};
 
@@ -148,6 +150,26 @@ impl JoinNeed {
                 right: self.right.share()?,
                 apart,
             })
+        }
+    }
+
+    /// The answer of an object in the place of the opened item with the other item, from which it is so far.
+    pub(crate) fn answer(&self, id: u32, apart: Option<u64>) -> Pair
+        ensures { (item : TheItem) → id_of item ≡ id → result ≡ pair_of (paired self.now item apart) }
+    {
+        let dist = apart.unwrap_or(0);
+        if self.opens_right() {
+            Pair {
+                left: self.left.as_ref().id(),
+                right: id,
+                dist,
+            }
+        } else {
+            Pair {
+                left: id,
+                right: self.right.as_ref().id(),
+                dist,
+            }
         }
     }
 
