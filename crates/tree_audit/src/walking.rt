@@ -1,5 +1,5 @@
 // The walk of an audit.
-ghost use Rattle.std.specs.Prelude.{◌≡◌, ◌≢◌, ◌⊎◌, ℕ, List, [], ◌∷◌, ◌++◌, ◌+◌, ◌-◌, ◌≤◌, ◌<◌, ◌^◌, ◌==◌, ◌&&◌, nat_le, length, Option, None, Result, Ok, Err, IsTrue, IfOk, OnOk, OnErr, IfErr};
+ghost use Rattle.std.specs.Prelude.{◌≡◌, ◌≢◌, ◌⊎◌, ℕ, List, [], ◌∷◌, ◌++◌, ◌+◌, ◌-◌, ◌≤◌, ◌<◌, ◌^◌, ◌==◌, ◌&&◌, nat_le, length, slice_index_or, Option, None, Result, Ok, Err, IsTrue, IfOk, OnOk, OnErr, IfErr};
 ghost use Rattle.metric_laws.specs.Counts.{next_count};
 ghost use Rattle.tree_shape.specs.Fill.{least_for, most_for};
 ghost use Rattle.metric_laws.specs.Space.{Space};
@@ -63,13 +63,29 @@ fn parent_of<R: Ruler>(ruler: &mut R, path: &[Step], p: &[u32]) -> u64
     }
 }
 
+// How far a point is from that of a step. From the last one it is as far as is stored beside it, which was measured.
+fn distance_to<R: Ruler>(ruler: &mut R, path: &[Step], i: usize, p: &[u32], stored: u64) -> u64
+    requires i { i < length path.now }
+    requires stored { stored ≡ parent_distance (R.M.space (R.metric ruler.old)) (last_point path.now) p.now }
+    ensures same { R.metric ruler.new ≡ R.metric ruler.old }
+    ensures value { (step : Step) → step ≡ slice_index_or path.now i step → result ≡ (R.M.space (R.metric ruler.old)).dist p.now step.point }
+{
+    if i + 1 == path.len() {
+        stored
+    } else {
+        ruler.dist(p, path[i].point.as_slice())
+    }
+}
+
 // Whether the object lies within the radius of each step, from the root down.
 fn audit_inside<R: Ruler>(
     ruler: &mut R,
     path: &[Step],
     p: &[u32],
+    stored: u64,
     id: u32,
 ) -> Result<(), AuditFault>
+    requires { stored ≡ parent_distance (R.M.space (R.metric ruler.old)) (last_point path.now) p.now }
     ensures same { R.metric ruler.new ≡ R.metric ruler.old }
     ensures ok { OnOk result (first_outside (R.M.space (R.metric ruler.old)) path.now p.now ≡ None) }
     ensures err { IfErr result (λ v. (rest : Result Seen AuditFault) →
@@ -77,7 +93,7 @@ fn audit_inside<R: Ruler>(
 {
     for i in 0..path.len() {
         let step = &path[i];
-        if ruler.dist(p, step.point.as_slice()) > step.radius {
+        if distance_to(ruler, path, i, p, stored) > step.radius {
             return Err(AuditFault::Radius(step.page, step.place, id));
         }
     }
@@ -110,7 +126,7 @@ fn audit_object<R: Ruler>(
     if object.parent != parent_of(ruler, path, point) {
         return Err(AuditFault::ParentDistance(page, place));
     }
-    if let Err(fault) = audit_inside(ruler, path, point, object.id) {
+    if let Err(fault) = audit_inside(ruler, path, point, object.parent, object.id) {
         return Err(fault);
     }
     if object.id >= ids.limit() || ids.has(object.id) {
