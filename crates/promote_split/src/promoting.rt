@@ -1,4 +1,4 @@
-ghost use Rattle.std.specs.Prelude.{◌≡◌, ◌≤◌, ◌<◌, length, max, IfOk, slice_index_or, if◌then◌else◌, nat_lt};
+ghost use Rattle.std.specs.Prelude.{◌≡◌, ◌≢◌, ◌≤◌, ◌<◌, ℕ, length, max, true, IfOk, slice_index_or, if◌then◌else◌, nat_lt};
 ghost use Rattle.std.specs.List.{AllByRecursion};
 ghost use Rattle.metric_laws.specs.Space.{bound};
 ghost use Rattle.metric_laws.specs.Pruning.{capped};
@@ -97,6 +97,51 @@ fn better(best: Best, pair: (usize, usize), cost: u64) -> Best
     }
 }
 
+// Whether a pair costs this much or more, whatever the policy is: an entry reaches so far from both promoted ones, and it
+// belongs to the group of one of them.
+fn is_dear(matrix: &Matrix, pair: Promoted, cost: u64) -> bool
+    requires a { pair.a < size matrix.now }
+    requires b { pair.b < size matrix.now }
+    requires differ { pair.a ≢ pair.b }
+    requires two { 2 ≤ size matrix.now }
+    ensures { result ≡ true → (promote split least : ℕ) → cost ≤ pair_cost matrix.now promote split least (pair.a, pair.b) }
+{
+    let first = matrix.row(pair.a);
+    let second = matrix.row(pair.b);
+    let radii = matrix.radii();
+    for i in 0..matrix.len() {
+        if cap(first[i], radii[i]) >= cost && cap(second[i], radii[i]) >= cost {
+            return true;
+        }
+    }
+    false
+}
+
+// The better one of a pair and the best so far. Nothing is dealt around a pair that can be no better.
+fn try_pair(
+    matrix: &Matrix,
+    policy: Policy,
+    least: usize,
+    pair: Promoted,
+    best: Best,
+    sides: &mut Vec<Side>,
+) -> Result<Best, Memory>
+    requires a { pair.a < size matrix.now }
+    requires b { pair.b < size matrix.now }
+    requires differ { pair.a ≢ pair.b }
+    requires two { 2 ≤ size matrix.now }
+    ensures pair { IfOk result (λ r. r.pair ≡ (if nat_lt (pair_cost matrix.now policy.promote policy.split least (pair.a, pair.b)) best.cost
+        then (pair.a, pair.b) else best.pair)) }
+    ensures cost { IfOk result (λ r. r.cost ≡ (if nat_lt (pair_cost matrix.now policy.promote policy.split least (pair.a, pair.b)) best.cost
+        then pair_cost matrix.now policy.promote policy.split least (pair.a, pair.b) else best.cost)) }
+{
+    if is_dear(matrix, pair, best.cost) {
+        return Ok(best);
+    }
+    let cost = cost(matrix, policy, least, pair, sides)?;
+    Ok(better(best, (pair.a, pair.b), cost))
+}
+
 // Tries the pairs of one entry with the later ones.
 fn try_with(
     matrix: &Matrix,
@@ -116,8 +161,7 @@ fn try_with(
     let mut best = best;
     let count = matrix.len();
     for b in a + 1..count {
-        let cost = cost(matrix, policy, least, Promoted { a, b }, sides)?;
-        best = better(best, (a, b), cost);
+        best = try_pair(matrix, policy, least, Promoted { a, b }, best, sides)?;
     }
     Ok(best)
 }
