@@ -146,7 +146,7 @@ impl<M: Metric> View<M> {
 
     /// Every object within `r` of `q`, by distance, then by id, and the log that shows it. `Damaged` holds `Bad`, `Outside`
     /// or `Repeats` with the page to which the walk came; none of these comes on a sound file. `Disk` comes where the disk
-    /// failed. The disk is read at most once per record of the log.
+    /// failed. The disk is read at most once per record of the log, and never more often than the file has pages.
     pub fn range<D: Disk>(
         &mut self,
         alloc: Global,
@@ -159,6 +159,7 @@ impl<M: Metric> View<M> {
         ensures stands { StandsOn self.new (D.state disk.new) }
         ensures reads { OnlyReads self.old self.new (D.state disk.old) (D.state disk.new) }
         ensures no_fault { OnOk result ((D.state disk.new).faults ≡ (D.state disk.old).faults) }
+        ensures few { (D.state disk.new).reads ≤ (D.state disk.old).reads + self.old.live.pages }
         ensures searched { HasSearched (M.space self.old.metric) self.old (Range q.now r) (D.state disk.old) (D.state disk.new) result }
         ensures found { IfOk result (IsFoundOn (M.space self.old.metric) self.old (Range q.now r) (D.state disk.old) (D.state disk.new)) }
         ensures cause { IfErr result (HasRangeCause (M.space self.old.metric) self.old q.now r (D.state disk.old) (D.state disk.new)) }
@@ -173,7 +174,7 @@ impl<M: Metric> View<M> {
     }
 
     /// The `k` objects nearest to `q`, by distance, then by id, and the log that shows it. The refusals are those of `range`.
-    /// On a sound file the disk is read at most once per record of the log.
+    /// On a sound file the disk is read at most once per record of the log, and on any file never more often than it has pages.
     pub fn nearest<D: Disk>(
         &mut self,
         alloc: Global,
@@ -187,6 +188,7 @@ impl<M: Metric> View<M> {
         ensures stands { StandsOn self.new (D.state disk.new) }
         ensures reads { OnlyReads self.old self.new (D.state disk.old) (D.state disk.new) }
         ensures no_fault { OnOk result ((D.state disk.new).faults ≡ (D.state disk.old).faults) }
+        ensures few { (D.state disk.new).reads ≤ (D.state disk.old).reads + self.old.live.pages }
         ensures searched { HasSearched (M.space self.old.metric) self.old (Nearest q.now k) (D.state disk.old) (D.state disk.new) result }
         // On any file: the records are a front of a walk with the least marks, and the answers those that it names.
         ensures front { IfOk result (λ found. IsTrue (D.state disk.old).tells →
@@ -204,12 +206,13 @@ impl<M: Metric> View<M> {
 
     /// The height, the number of objects, and of each node of the tree, in pre-order, its level, its number of entries, and
     /// the routing point and the covering radius by which it is named. The refusals are those of `range`, where the walk by
-    /// child numbers comes to such a page.
+    /// child numbers comes to such a page. The disk is read at most once per line, and never more often than the file has pages.
     pub fn shape<D: Disk>(&mut self, alloc: Global, disk: &mut D) -> Result<Shape, IndexFault>
         requires stands { StandsOn self.old (D.state disk.old) }
         ensures stands { StandsOn self.new (D.state disk.new) }
         ensures reads { OnlyReads self.old self.new (D.state disk.old) (D.state disk.new) }
         ensures no_fault { OnOk result ((D.state disk.new).faults ≡ (D.state disk.old).faults) }
+        ensures few { (D.state disk.new).reads ≤ (D.state disk.old).reads + self.old.live.pages }
         ensures drawn { HasDrawn (M.space self.old.metric) self.old (D.state disk.old) (D.state disk.new) result }
     {
         let mut pages = self.lend(disk);
