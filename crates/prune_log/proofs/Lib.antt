@@ -1,3 +1,4 @@
+pub mod Marks
 pub mod Loop
 pub mod Exact
 pub mod Things

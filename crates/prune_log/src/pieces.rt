@@ -1,5 +1,5 @@
 // The things that a log lists, and lists of them.
-ghost use Rattle.std.specs.Prelude.{◌≡◌, ◌++◌, ℕ, List, Bool, true, OnOk, Result, Option, None, ◌≤◌, ◌<◌, ◌^◌, length};
+ghost use Rattle.std.specs.Prelude.{◌≡◌, ◌++◌, [], ◌∷◌, ℕ, List, take, Bool, true, OnOk, Result, Option, None, ◌≤◌, ◌<◌, ◌^◌, length};
 ghost use Rattle.std.specs.Option.{option_copied};
 ghost use Rattle.std.specs.List.{flat_map, AllByRecursion};
 ghost use Rattle.prune_log.specs.declared.fault.LogFault.{LogFault};
@@ -92,6 +92,17 @@ impl Piece for Hit {
     }
 }
 
+// The byte of a mark.
+fn mark_byte(mark: Mark) -> u8
+    ensures { mark_bytes mark ≡ result ∷ [] }
+{
+    match mark {
+        Mark::Skip => 0,
+        Mark::Far => 1,
+        Mark::Near => 2,
+    }
+}
+
 impl Piece for Mark {
     ghost can_put = { λ _. Unit {0} };
 
@@ -102,12 +113,7 @@ impl Piece for Mark {
     ghost follows = { always };
 
     fn put(&self, out: &mut Vec<u8>) -> Result<(), Memory> {
-        let byte = match self {
-            Mark::Skip => 0,
-            Mark::Far => 1,
-            Mark::Near => 2,
-        };
-        out.push(byte)?;
+        out.push(mark_byte(*self))?;
         Ok(())
     }
 
@@ -170,13 +176,27 @@ fn marks_at(alloc: Global, bytes: &[u8]) -> Result<(Listed<Mark>, &[u8]), LogFau
     Ok((Listed::new(marks), rest))
 }
 
-// Writes the marks of a node at the end.
+// The bytes of a node's marks, at the front of an array.
+fn marks_in_bytes(marks: &[Mark]) -> [u8; ENTRIES as usize]
+    requires { length marks.now ≤ 32 }
+    ensures { take (length marks.now) result ≡ flat_map mark_bytes marks.now }
+{
+    let mut bytes = [0u8; ENTRIES as usize];
+    for place in 0..marks.len() {
+        bytes[place] = mark_byte(marks[place]);
+    }
+    bytes
+}
+
+// Writes the marks of a node at the end, all at once, since they are most of a log.
 fn put_marks(out: &mut Vec<u8>, marks: &[Mark]) -> Result<(), Memory>
     requires { length marks.now ≤ 32 }
     ensures { OnOk result (out.new.items ≡ out.old.items ++ listed 1 mark_bytes marks.now) }
 {
+    let bytes = marks_in_bytes(marks);
     out.push(marks.len() as u8)?;
-    put_all(out, marks)
+    out.extend_from_slice(&bytes[..marks.len()])?;
+    Ok(())
 }
 
 impl Piece for Record {
