@@ -4,6 +4,7 @@
 ghost use Rattle.std.specs.Prelude.{◌≡◌, ◌≤◌, ◌⊎◌, ◌++◌, true, IfOk, OnOk, OnErr, MatchOption};
 ghost use Rattle.std.specs.Io.KnownBytes.{Appends};
 ghost use Rattle.outside_io.specs.Causes.{Rose};
+ghost use Rattle.outside_io.specs.Memory.{next_count};
 ghost use Rattle.rows_text.specs.Meaning.{TagsAre};
 ghost use Rattle.rows_text.specs.Texts.{text};
 ghost use Rattle.log_model.specs.Grammar.{IsLawfulLog};
@@ -79,6 +80,8 @@ pub fn put_texts<K: Sink, T: Sink>(
     ensures cut { OnErr result (IsCut (K.state out.old) (K.state out.new) (T.state log_out.old) (T.state log_out.new) reply.now frame.now) }
     ensures rose { OnErr result (Rose (K.state out.old).faults (K.state out.new).faults
         ⊎ Rose (T.state log_out.old).faults (T.state log_out.new).faults) }
+    // A reply goes out whole in one put, so a reader of a pipe never sees a part of it.
+    ensures one_put { OnOk result (K.puts out.new ≡ next_count (K.puts out.old)) }
     ensures later { (K.state out.old).faults ≤ (K.state out.new).faults }
     ensures log_later { (T.state log_out.old).faults ≤ (T.state log_out.new).faults }
 {
@@ -97,6 +100,7 @@ impl Texts {
             self.now.reply.items self.now.frame.items) }
         ensures rose { OnErr result (Rose (K.state out.old).faults (K.state out.new).faults
             ⊎ Rose (T.state log_out.old).faults (T.state log_out.new).faults) }
+        ensures one_put { OnOk result (K.puts out.new ≡ next_count (K.puts out.old)) }
         ensures later { (K.state out.old).faults ≤ (K.state out.new).faults }
         ensures log_later { (T.state log_out.old).faults ≤ (T.state log_out.new).faults }
     {

@@ -12,7 +12,7 @@ use std::thread::Threads;
 /// changes from round to round: so neither a stretch of dear places nor every so many-th place is one worker's alone.
 ///
 /// A worker has a seat for each round. Those of the first worker come first.
-#[derive(Clone, Copy, Debug)]
+#[derive(Clone, Copy)]
 pub struct Deal {
     /// How many rounds there are, at least 1.
     pub rounds: usize,

@@ -1,7 +1,7 @@
 ghost use Rattle.std.specs.Prelude.{◌≡◌, ℕ, List};
 
 /// What the record of a disk in memory holds of a call.
-#[derive(Clone, Copy, Debug, PartialEq, Eq)]
+#[derive(Clone, Copy, PartialEq, Eq)]
 pub enum Kind {
     /// Nothing changed: a size, a read, or a sync that failed.
     Look,
@@ -12,7 +12,7 @@ pub enum Kind {
 }
 
 /// A recorded call. Its bytes stand elsewhere.
-#[derive(Clone, Copy, Debug, PartialEq, Eq)]
+#[derive(Clone, Copy, PartialEq, Eq)]
 pub struct Entry {
     pub number: u64,
     pub kind: Kind,

@@ -16,6 +16,7 @@ pub struct FileDisk {
     file: File,
     faults: u64,
     reads: u64,
+    last_fault: Option<i32>,
 }
 
 impl Model for FileDisk {
@@ -35,7 +36,13 @@ impl FileDisk {
             file,
             faults: 0,
             reads: 0,
+            last_fault: None,
         }
+    }
+
+    /// The system's error number of the last fault, where the system gave one. No contract can say which.
+    pub fn last_fault(&self) -> Option<i32> {
+        self.last_fault
     }
 
     // Tells of a fault of the file, and counts it.
@@ -45,8 +52,9 @@ impl FileDisk {
     {
         match outcome {
             Ok(value) => Ok(value),
-            Err(_) => {
+            Err(error) => {
                 self.faults = self.faults.saturating_add(1);
+                self.last_fault = error.raw_os_error();
                 Err(Failed)
             }
         }

@@ -24,7 +24,7 @@ use tree_shape::Live;
 
 /// The pages of a file that its live tree doesn't need. New nodes get the least of the free ones. A page that a commit to a
 /// generation left is held while a generation below is pinned, and is free otherwise.
-#[derive(Debug, Drop)]
+#[derive(Drop)]
 pub struct Free {
     // In ascending order, so that the least is in front, and pages go in at the nearer end.
     free: VecDeque<u32>,

@@ -1,5 +1,5 @@
 /// A page that is held back.
-#[derive(Clone, Copy, Debug)]
+#[derive(Clone, Copy)]
 pub struct Held {
     /// The page.
     pub page: u32,

@@ -11,7 +11,7 @@ use std::alloc::Global;
 use tree_shape::{InnerEntry, Live, Node};
 
 /// A walk by child numbers.
-#[derive(Debug, Drop)]
+#[derive(Drop)]
 pub struct Walk {
     /// For each page whether it was opened.
     pub opened: Vec<bool>,

@@ -5,7 +5,7 @@ use page_store::PageFault;
 use rows_text::{Refusal, Reply};
 
 /// What becomes of one command on a file in memory.
-#[derive(Debug, Drop)]
+#[derive(Drop)]
 pub enum Outcome {
     /// It was answered.
     Done {

@@ -1,7 +1,7 @@
 use metric_laws::Point;
 
 /// A new page with its routing point and covering radius.
-#[derive(Debug, Drop)]
+#[derive(Drop)]
 pub struct Stem {
     pub page: u32,
     pub point: Point,
@@ -9,7 +9,7 @@ pub struct Stem {
 }
 
 /// What a node has grown to: one new page, or two halves.
-#[derive(Debug, Drop)]
+#[derive(Drop)]
 pub enum Grew {
     One(u32),
     Two(Stem, Stem),

@@ -3,7 +3,7 @@ use promote_split::Policy;
 use tree_shape::{Bounds, Node};
 
 /// The object to insert.
-#[derive(Clone, Copy, Debug)]
+#[derive(Clone, Copy)]
 pub struct NewObject<'a> {
     pub id: u32,
     pub tag: u64,
@@ -11,7 +11,7 @@ pub struct NewObject<'a> {
 }
 
 /// What an insertion goes by.
-#[derive(Clone, Copy, Debug)]
+#[derive(Clone, Copy)]
 pub struct Task<'a> {
     /// How nodes are split.
     pub policy: Policy,
@@ -24,7 +24,7 @@ pub struct Task<'a> {
 }
 
 /// Where a descent stands.
-#[derive(Clone, Copy, Debug)]
+#[derive(Clone, Copy)]
 pub struct Spot<'a> {
     /// The level that the page's node should have.
     pub level: u8,
@@ -36,7 +36,7 @@ pub struct Spot<'a> {
 }
 
 /// What a descent has written so far.
-#[derive(Debug, Drop)]
+#[derive(Drop)]
 pub struct Written {
     /// The new nodes.
     pub nodes: Vec<Node>,

@@ -9,7 +9,7 @@ use std::alloc::Global;
 use thiserror::Error;
 
 /// The files that a job works on. A name is there exactly where the job has it.
-#[derive(Clone, Copy, Debug, PartialEq, Eq)]
+#[derive(Clone, Copy, PartialEq, Eq)]
 pub struct FileNames<Name> {
     /// The index, INDEX.
     pub index: Option<Name>,

@@ -3,7 +3,7 @@ use thiserror::Error;
 
 /// What the words ask for: a variant for each row of the table of commands, with the values of its words and the
 /// values that hold where a word isn't given. `Name` is what names a file.
-#[derive(Clone, Copy, Debug, PartialEq, Eq)]
+#[derive(Clone, Copy, PartialEq, Eq)]
 pub enum Job<Name> {
     /// `scan`: a script on a plain list of at most `limit` objects.
     Scan {

@@ -2,7 +2,7 @@ ghost use Rattle.std.specs.Prelude.{◌≡◌};
 ghost use Rattle.job_words.specs.Names.{kind_of, metric_named, promote_named, promote_number, split_named, split_number};
 
 /// The metrics, in the order of their kinds.
-#[derive(Clone, Copy, Debug, PartialEq, Eq)]
+#[derive(Clone, Copy, PartialEq, Eq)]
 pub enum MetricName {
     Hamming,
     L1,
@@ -15,28 +15,28 @@ pub enum MetricName {
 }
 
 /// The promotion policies: m_RAD and mM_RAD of VLDB 1997.
-#[derive(Clone, Copy, Debug, PartialEq, Eq)]
+#[derive(Clone, Copy, PartialEq, Eq)]
 pub enum Promote {
     Mrad,
     Mmrad,
 }
 
 /// The partition policies of VLDB 1997.
-#[derive(Clone, Copy, Debug, PartialEq, Eq)]
+#[derive(Clone, Copy, PartialEq, Eq)]
 pub enum Split {
     Hyperplane,
     Balanced,
 }
 
 /// A space: its metric, and its dimension from 1 to 64, even where the metric halves its points.
-#[derive(Clone, Copy, Debug, PartialEq, Eq)]
+#[derive(Clone, Copy, PartialEq, Eq)]
 pub struct SpaceName {
     pub metric: MetricName,
     pub dim: u8,
 }
 
 /// How a full node is split.
-#[derive(Clone, Copy, Debug, PartialEq, Eq)]
+#[derive(Clone, Copy, PartialEq, Eq)]
 pub struct PolicyNames {
     pub promote: Promote,
     pub split: Split,

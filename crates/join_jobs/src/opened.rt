@@ -22,7 +22,7 @@ use tree_shape::Live;
 pub const REJECTED_SPACES: &[u8] = b"rejected spaces\n";
 
 /// The heads and the live slots of two opened indexes.
-#[derive(Clone, Copy, Debug)]
+#[derive(Clone, Copy)]
 pub struct Trees {
     /// Of the index.
     pub left: (Head, Live),
@@ -41,7 +41,7 @@ impl Trees {
 }
 
 /// The bytes of logs that are to be judged, and what is said of a log that is accepted.
-#[derive(Clone, Copy, Debug)]
+#[derive(Clone, Copy)]
 pub struct Docket<'a> {
     /// What is said.
     pub report: Report,

@@ -8,7 +8,7 @@ use std::alloc::Global;
 use tree_shape::Live;
 
 /// A query, its answers, and every decision that was made on the way to them.
-#[derive(Debug, Drop)]
+#[derive(Drop)]
 pub struct Log {
     /// The generation of the tree that was searched.
     pub generation: u64,
@@ -23,7 +23,7 @@ pub struct Log {
 }
 
 /// A join of two trees, its answers, and every decision that was made on the way to them.
-#[derive(Debug, Drop)]
+#[derive(Drop)]
 pub struct JoinLog {
     /// The generation of the left tree and the page of its root.
     pub left: (u64, u32),
@@ -38,7 +38,7 @@ pub struct JoinLog {
 }
 
 /// What a search answers: its hits, and the log that shows them.
-#[derive(Debug, Drop)]
+#[derive(Drop)]
 pub struct Found {
     /// The answers, by distance, then by id.
     pub hits: Listed<Hit>,
@@ -47,7 +47,7 @@ pub struct Found {
 }
 
 /// What a join answers: its pairs, and the log that shows them.
-#[derive(Debug, Drop)]
+#[derive(Drop)]
 pub struct Joined {
     /// The answers, by the left id, then by the right.
     pub pairs: Listed<Pair>,

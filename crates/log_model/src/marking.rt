@@ -11,7 +11,7 @@ use scan_model::Hit;
 use tree_shape::{InnerEntry, LeafEntry};
 
 /// What a walk prunes by.
-#[derive(Clone, Copy, Debug)]
+#[derive(Clone, Copy)]
 pub struct Probe<'a> {
     /// The query's point.
     pub q: &'a [u32],

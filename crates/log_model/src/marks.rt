@@ -1,7 +1,7 @@
 use metric_laws::Listed;
 
 /// What a search decided of an entry of a node.
-#[derive(Clone, Copy, Debug, PartialEq, Eq)]
+#[derive(Clone, Copy, PartialEq, Eq)]
 pub enum Mark {
     /// Ruled out by the parent test: by the distances to the routing point above (VLDB 1997, section 4.1).
     Skip,
@@ -12,7 +12,7 @@ pub enum Mark {
 }
 
 /// The decisions on one node.
-#[derive(Debug, Drop)]
+#[derive(Drop)]
 pub struct Record {
     /// The node's page.
     pub page: u32,
@@ -21,7 +21,7 @@ pub struct Record {
 }
 
 /// The decisions of a join on one node of either side.
-#[derive(Debug, Drop)]
+#[derive(Drop)]
 pub struct JoinRecord {
     /// Whether the node stands in the right tree.
     pub right: bool,
@@ -32,7 +32,7 @@ pub struct JoinRecord {
 }
 
 /// A page that a walk has still to open.
-#[derive(Clone, Copy, Debug, PartialEq, Eq)]
+#[derive(Clone, Copy, PartialEq, Eq)]
 pub struct Need {
     /// The page.
     pub page: u32,

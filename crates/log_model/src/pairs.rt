@@ -7,7 +7,7 @@ use std::marker::Model;
 use std::rc::Rc;
 
 /// What a join pairs: a subtree or an object of one of its trees.
-#[derive(Debug, Drop)]
+#[derive(Drop)]
 pub enum Item {
     /// A node that is not opened yet.
     Subtree {

@@ -14,7 +14,7 @@ use std::alloc::Global;
 use tree_shape::Node;
 
 /// What a walk named and recorded so far, and what it has still to open.
-#[derive(Debug, Drop)]
+#[derive(Drop)]
 pub struct Traversal {
     /// The objects that are marked Near, in the order of the walk.
     pub hits: Vec<Hit>,

@@ -19,7 +19,7 @@ use std::alloc::Global;
 use tree_shape::Node;
 
 /// A walk from the root, half way.
-#[derive(Debug, Drop)]
+#[derive(Drop)]
 pub struct Walk {
     /// The number of records that were taken.
     pub taken: u64,

@@ -22,7 +22,7 @@ use std::alloc::Global;
 use tree_shape::Live;
 
 /// What came of a query.
-#[derive(Clone, Copy, Debug, PartialEq, Eq)]
+#[derive(Clone, Copy, PartialEq, Eq)]
 pub struct Asked {
     /// How many objects were found.
     pub hits: u64,
@@ -31,7 +31,7 @@ pub struct Asked {
 }
 
 /// What came of eight queries.
-#[derive(Clone, Copy, Debug, PartialEq, Eq)]
+#[derive(Clone, Copy, PartialEq, Eq)]
 pub struct Tally {
     /// How many objects they found together.
     pub hits: u64,

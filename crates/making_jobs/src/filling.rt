@@ -44,7 +44,7 @@ pub enum FillFault {
 }
 
 /// Objects by their ids, from 0 on.
-#[derive(Debug, Drop)]
+#[derive(Drop)]
 pub struct Objects {
     /// Their points.
     pub rows: Rows,

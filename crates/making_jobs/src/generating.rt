@@ -155,7 +155,7 @@ fn summary_of<M: Metric, D: Disk>(
 }
 
 /// What `gen` is asked for.
-#[derive(Clone, Copy, Debug, PartialEq, Eq)]
+#[derive(Clone, Copy, PartialEq, Eq)]
 pub struct Generation {
     /// The head of the new index.
     pub head: Head,

@@ -6,7 +6,7 @@ use std::alloc::Global;
 use std::marker::Model;
 
 /// One list of coordinates. Up to 16 of them stand in the value itself, with no allocation of their own.
-#[derive(Clone, Debug, Drop)]
+#[derive(Clone, Drop)]
 pub struct Point {
     coordinates: SmallVec<u32, 16>,
 }

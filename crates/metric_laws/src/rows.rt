@@ -6,7 +6,7 @@ use std::alloc::{AllocError, Global};
 use std::marker::Model;
 
 /// Points of one length.
-#[derive(Debug, Drop)]
+#[derive(Drop)]
 pub struct Rows {
     cells: Vec<u32>,
     words: usize,

@@ -31,7 +31,7 @@ pub trait Ruler {
 }
 
 /// A metric with a count of the distances that it gave.
-#[derive(Clone, Copy, Debug)]
+#[derive(Clone, Copy)]
 pub struct Meter<M: Metric> {
     metric: M,
     used: u64,

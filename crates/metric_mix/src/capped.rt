@@ -7,7 +7,6 @@ use metric_laws::Metric;
 use std::alloc::AllocError;
 
 /// A metric of which no distance counts for more than `most`.
-#[derive(Debug)]
 pub struct Capped<M: Metric> {
     pub metric: M,
     pub most: u64,

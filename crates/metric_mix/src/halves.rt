@@ -4,7 +4,7 @@ use crate::{Most, Sum};
 use vector_kinds::{Hamming, L1};
 
 /// A number of coordinates that is even: L1 measures the first half and Hamming the second.
-#[derive(Clone, Copy, Debug, PartialEq, Eq)]
+#[derive(Clone, Copy, PartialEq, Eq)]
 pub struct Halves {
     pub dim: u8,
     ghost some: { 1 ≤ dim },

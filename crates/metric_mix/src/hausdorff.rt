@@ -8,7 +8,7 @@ use vector_kinds::L1;
 
 /// Takes the greatest distance from a number of either set to the nearest number of the other (F. Hausdorff, 1914).
 /// A set of 1 to `dim` numbers is spelled in strictly ascending order, the greatest repeated to `dim` places.
-#[derive(Clone, Copy, Debug, PartialEq, Eq)]
+#[derive(Clone, Copy, PartialEq, Eq)]
 pub struct Hausdorff {
     pub dim: u8,
     ghost some: { 1 ≤ dim },

@@ -6,7 +6,7 @@ use crate::{joined, permutations};
 use metric_laws::Metric;
 
 /// Counts the pairs of places that two permutations order differently (M. G. Kendall, 1938).
-#[derive(Clone, Copy, Debug, PartialEq, Eq)]
+#[derive(Clone, Copy, PartialEq, Eq)]
 pub struct Kendall {
     pub dim: u8,
     ghost some: { 1 ≤ dim },

@@ -9,7 +9,7 @@ use vector_kinds::{Hamming, L1, Max, Space, SpaceFault};
 const MOST: u64 = 65535;
 
 /// One of eight metrics, chosen when the program runs.
-#[derive(Clone, Copy, Debug, PartialEq, Eq)]
+#[derive(Clone, Copy, PartialEq, Eq)]
 pub enum MixSpace {
     /// `hamming`, `l1` and `max`.
     Plain(Space),

@@ -7,7 +7,6 @@ use metric_laws::Metric;
 use std::alloc::AllocError;
 
 /// Takes the greater of the distances of two metrics.
-#[derive(Debug)]
 pub struct Most<A: Metric, B: Metric> {
     pub first: A,
     pub second: B,

@@ -7,7 +7,6 @@ use metric_laws::{Metric, cap};
 use std::alloc::AllocError;
 
 /// Adds the distances of two metrics, at most the greatest distance.
-#[derive(Debug)]
 pub struct Sum<A: Metric, B: Metric> {
     pub first: A,
     pub second: B,

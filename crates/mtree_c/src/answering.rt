@@ -29,7 +29,7 @@ use tree_shape::Live;
 
 /// An object that a query is answered with.
 #[repr(C)]
-#[derive(Clone, Copy, Debug, PartialEq, Eq)]
+#[derive(Clone, Copy, PartialEq, Eq)]
 pub struct TaggedHit {
     /// The object's place in the order of acceptance, from 0.
     pub id: u32,
@@ -41,7 +41,7 @@ pub struct TaggedHit {
 
 /// How much a query's answer takes.
 #[repr(C)]
-#[derive(Clone, Copy, Debug, PartialEq, Eq)]
+#[derive(Clone, Copy, PartialEq, Eq)]
 pub struct Sizes {
     /// The number of hits.
     pub hits: usize,

@@ -18,7 +18,7 @@ use std::alloc::Global;
 
 /// The root digest of an index file.
 #[repr(C)]
-#[derive(Clone, Copy, Debug, PartialEq, Eq)]
+#[derive(Clone, Copy, PartialEq, Eq)]
 pub struct RootDigest {
     /// Its bytes.
     pub bytes: [u8; 32],

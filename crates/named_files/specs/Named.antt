@@ -1,5 +1,6 @@
 -- A file that a word may name: what it means where there is no such word.
 use Rattle.std.specs.Prelude.{◌<◌, ℕ, List, [], Option, Some, None, length, set, slice_index, IsTrue}
+use Rattle.outside_io.specs.Memory.{most_counted}
 use Rattle.outside_io.specs.Sinks.{SinkState}
 use Rattle.disk_model.specs.Disk.{DiskState, MayLeave}
 use Rattle.disk_model.specs.FileCounts.{state_of, told_nothing}
@@ -25,6 +26,11 @@ named_faults faults (Some source) = faults source
 abbrev pub named_sink : {K : Type 0} → (K → SinkState) → Option K → SinkState
 named_sink state None = record { written = None; faults = 0 }
 named_sink state (Some sink) = state sink
+
+-- without a name, the count of puts stands at its end
+abbrev pub named_puts : {K : Type 0} → (K → ℕ) → Option K → ℕ
+named_puts puts None = most_counted
+named_puts puts (Some sink) = puts sink
 
 -- ---- the laws of disks
 

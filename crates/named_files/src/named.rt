@@ -1,5 +1,5 @@
 // Files that words may name.
-ghost use Rattle.named_files.specs.Named.{named_disk, named_faults, named_left, named_mix, named_read, named_sink};
+ghost use Rattle.named_files.specs.Named.{named_disk, named_faults, named_left, named_mix, named_puts, named_read, named_sink};
 
 use disk_model::{Disk, Failed, SharedDisk};
 use outside_io::{Sink, Source};
@@ -76,6 +76,8 @@ impl<S: Source> Source for Named<S> {
 
 impl<K: Sink> Sink for Named<K> {
     ghost state = { λ named. named_sink K.state named.0 };
+
+    ghost puts = { λ named. named_puts K.puts named.0 };
 
     fn put(&mut self, bytes: &[u8]) -> Result<(), Failed> {
         match &mut self.0 {

@@ -16,7 +16,7 @@ pub struct Opened<I, L, T> {
 }
 
 /// A file could not be opened, or one that is written is one that is read.
-#[derive(Clone, Copy, Debug, PartialEq, Eq)]
+#[derive(Clone, Copy, PartialEq, Eq)]
 pub struct Refused;
 
 // The index of a name, where there is one.

@@ -19,7 +19,7 @@ use std::alloc::Global;
 use tree_shape::Live;
 
 /// What was explored.
-#[derive(Clone, Copy, Debug)]
+#[derive(Clone, Copy)]
 pub struct Explored {
     /// The final radius: nothing that is not opened is nearer.
     pub rho: u64,

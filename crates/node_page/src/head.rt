@@ -5,7 +5,7 @@ use crate::bytes::{are_zero, clear, get_u16, get_u32, get_u64, put_u8, put_u16, 
 use thiserror::Error;
 
 /// What an index file says of itself, in its first page.
-#[derive(Clone, Copy, Debug, PartialEq, Eq)]
+#[derive(Clone, Copy, PartialEq, Eq)]
 pub struct Head {
     /// The version of the format: 2, or 1 for a file whose objects have no tags.
     pub version: u16,

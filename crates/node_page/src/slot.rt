@@ -5,7 +5,7 @@ ghost use Rattle.node_page.specs.Slots.{SpellsSlot, HasSlotRest, slot_of};
 use crate::bytes::{are_zero, clear, get_u32, get_u64, put_u8, put_u32, put_u64};
 
 /// One of the two pages that say which tree counts.
-#[derive(Clone, Copy, Debug, PartialEq, Eq)]
+#[derive(Clone, Copy, PartialEq, Eq)]
 pub struct Slot {
     /// Whether the slot counts.
     pub gate: bool,
@@ -82,7 +82,7 @@ pub fn decode_slot(page: &[u8; 4096]) -> Option<Slot>
 }
 
 /// What is looked at of a slot before it is known which of the two is live.
-#[derive(Clone, Copy, Debug, PartialEq, Eq)]
+#[derive(Clone, Copy, PartialEq, Eq)]
 pub struct Gate {
     /// Whether the slot counts.
     pub open: bool,

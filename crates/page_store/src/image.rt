@@ -5,7 +5,7 @@ ghost use Rattle.page_store.specs.Images.{bytes_in};
 use crate::parts::Parts;
 
 /// The bytes of a file in memory.
-#[derive(Clone, Copy, Debug)]
+#[derive(Clone, Copy)]
 pub enum Image<'a> {
     /// They stand in one place.
     Whole(&'a [u8]),

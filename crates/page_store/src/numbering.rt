@@ -2,7 +2,7 @@ ghost use Rattle.std.specs.Prelude.{◌≡◌, ◌≤◌, ◌^◌};
 ghost use Rattle.page_store.specs.Numbers.{number_at};
 
 /// Which pages new nodes get.
-#[derive(Clone, Copy, Debug)]
+#[derive(Clone, Copy)]
 pub struct Numbering<'a> {
     /// Pages for the first new nodes, in strictly ascending order.
     pub numbers: &'a [u32],

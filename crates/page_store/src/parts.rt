@@ -8,7 +8,7 @@ use std::marker::Model;
 
 /// The bytes of a file in parts: each has as many pages as the others, but the last may have fewer. So several threads can read
 /// a file, each a part.
-#[derive(Debug, Drop)]
+#[derive(Drop)]
 pub struct Parts {
     parts: Vec<Listed<u8>>,
     // How many pages of 4096 bytes a part has.

@@ -15,7 +15,7 @@ use thiserror::Error;
 use tree_shape::{Live, MOST_PAGES, Node};
 
 /// A tree whose new nodes have no pages yet.
-#[derive(Debug, Drop)]
+#[derive(Drop)]
 pub struct NewTree {
     /// The new nodes, in the order in which they get their pages.
     pub nodes: Vec<Node>,

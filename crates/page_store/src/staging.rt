@@ -9,7 +9,7 @@ use std::marker::Model;
 use tree_shape::{Live, Node};
 
 /// A node for the next commit.
-#[derive(Debug, Drop)]
+#[derive(Drop)]
 pub struct StagedNode {
     /// The page that it will stand on.
     pub page: u32,
@@ -18,7 +18,7 @@ pub struct StagedNode {
 }
 
 /// The new nodes of one commit, in the order of staging. No two are for one page.
-#[derive(Debug, Drop)]
+#[derive(Drop)]
 pub struct Staged {
     nodes: Vec<StagedNode>,
 }
@@ -114,7 +114,7 @@ impl Staged {
 }
 
 /// What an insertion or a bulk load makes of a tree.
-#[derive(Debug, Drop)]
+#[derive(Drop)]
 pub struct Placed {
     /// The new nodes.
     pub staged: Staged,

@@ -41,7 +41,7 @@ impl Model for Cursor {
 }
 
 /// What a step gives.
-#[derive(Debug, Drop)]
+#[derive(Drop)]
 pub struct Stepped {
     /// The next hits, by distance, then by id.
     pub hits: Listed<Hit>,

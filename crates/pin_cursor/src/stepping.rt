@@ -15,7 +15,7 @@ use std::alloc::Global;
 use tree_shape::Live;
 
 /// What a step is for.
-#[derive(Clone, Copy, Debug)]
+#[derive(Clone, Copy)]
 pub struct Goal<'a> {
     /// The cursor's point.
     pub q: &'a [u32],

@@ -1,5 +1,5 @@
 /// A subtree that is not opened yet. Subtrees are ordered by their least possible distance, then by page.
-#[derive(Clone, Copy, Debug, PartialEq, Eq, PartialOrd, Ord)]
+#[derive(Clone, Copy, PartialEq, Eq, PartialOrd, Ord)]
 pub struct Subtree {
     /// No object below the page is nearer to the cursor's point than this.
     pub low: u64,
@@ -8,7 +8,7 @@ pub struct Subtree {
 }
 
 /// An object that was met and is not given yet. Candidates are ordered by distance, then by id.
-#[derive(Clone, Copy, Debug, PartialEq, Eq, PartialOrd, Ord)]
+#[derive(Clone, Copy, PartialEq, Eq, PartialOrd, Ord)]
 pub struct Candidate {
     /// Its distance from the cursor's point.
     pub dist: u64,

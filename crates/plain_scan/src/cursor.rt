@@ -7,7 +7,7 @@ use std::alloc::Global;
 use std::marker::Model;
 
 /// An open cursor: all hits of its query, and how many of them were given.
-#[derive(Debug, Drop)]
+#[derive(Drop)]
 pub struct OpenCursor {
     number: u32,
     hits: Vec<Hit>,

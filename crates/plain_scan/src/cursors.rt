@@ -13,7 +13,7 @@ use std::marker::Model;
 const MOST_CURSORS: usize = 16;
 
 /// The open cursors of a session, and the number of the next.
-#[derive(Debug, Drop)]
+#[derive(Drop)]
 pub struct Cursors {
     open: Vec<OpenCursor>,
     next: u32,

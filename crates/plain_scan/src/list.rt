@@ -13,7 +13,7 @@ use scan_model::{Hit, scan_nearest, scan_range};
 use std::alloc::Global;
 
 /// The objects accepted so far, and the open cursors.
-#[derive(Debug, Drop)]
+#[derive(Drop)]
 pub struct PlainList {
     rows: Rows,
     tags: Vec<u64>,

@@ -13,7 +13,7 @@ use rows_text::{Command, reply_text};
 use std::alloc::Global;
 
 /// Why a run ended before its script did.
-#[derive(Clone, Copy, Debug, PartialEq, Eq)]
+#[derive(Clone, Copy, PartialEq, Eq)]
 pub enum Stop {
     /// There was no memory.
     Memory,
@@ -22,7 +22,7 @@ pub enum Stop {
 }
 
 /// How a script is run on a plain list.
-#[derive(Clone, Copy, Debug)]
+#[derive(Clone, Copy)]
 pub struct Scan<M: Metric> {
     /// The metric of the space.
     pub metric: M,

@@ -19,7 +19,7 @@ pub fn is_same(on: Side, side: Side) -> bool
 }
 
 /// The places of the two promoted entries of a node.
-#[derive(Clone, Copy, Debug)]
+#[derive(Clone, Copy)]
 pub struct Promoted {
     /// The promoted entry of the first group.
     pub a: usize,

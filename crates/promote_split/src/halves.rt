@@ -2,7 +2,7 @@ use crate::Entry;
 use metric_laws::{Listed, Point};
 
 /// One half of a node that was split.
-#[derive(Debug, Drop)]
+#[derive(Drop)]
 pub struct Half<E: Entry> {
     /// The promoted entry's point, the half's routing point.
     pub point: Point,
@@ -13,7 +13,7 @@ pub struct Half<E: Entry> {
 }
 
 /// The two halves of a node.
-#[derive(Debug, Drop)]
+#[derive(Drop)]
 pub struct Halves<E: Entry> {
     /// The half of the first promoted entry.
     pub first: Half<E>,

@@ -11,7 +11,7 @@ use std::marker::Model;
 
 /// The radii of a node's entries and all their distances, each computed once. Contracts see the two lists, the distances
 /// row by row: a row has the distances of all entries to one.
-#[derive(Debug, Drop)]
+#[derive(Drop)]
 pub struct Matrix {
     radii: Vec<u64>,
     distances: Vec<u64>,

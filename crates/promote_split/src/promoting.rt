@@ -11,7 +11,7 @@ use std::alloc::Global;
 use tree_growth::Side;
 
 /// How a node is split.
-#[derive(Clone, Copy, Debug, PartialEq, Eq)]
+#[derive(Clone, Copy, PartialEq, Eq)]
 pub struct Policy {
     /// How the two entries are promoted: 1 by the least sum of the radii, m_RAD, else by the least greater radius, mM_RAD
     /// (VLDB 1997, section 4.2).

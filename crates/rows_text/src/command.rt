@@ -2,7 +2,7 @@ use crate::Refusal;
 use metric_laws::{Listed, Point, Rows};
 
 /// One command of a script.
-#[derive(Debug, Drop)]
+#[derive(Drop)]
 pub enum Command {
     /// Adds an object whose tag is its id.
     Insert(Point),

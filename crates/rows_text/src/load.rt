@@ -9,7 +9,7 @@ use metric_laws::{Listed, Rows};
 use std::alloc::{AllocError, Global};
 
 /// A load whose rows are being read.
-#[derive(Debug, Drop)]
+#[derive(Drop)]
 pub struct OpenLoad {
     /// The number of coordinates of a point.
     words: usize,

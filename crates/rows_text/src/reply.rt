@@ -3,7 +3,7 @@ use metric_laws::Listed;
 use scan_model::{Hit, Pair};
 
 /// What a command is answered.
-#[derive(Debug, Drop)]
+#[derive(Drop)]
 pub enum Reply {
     /// The id of the object that was added.
     Id(u32),

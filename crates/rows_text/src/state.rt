@@ -4,7 +4,7 @@ use crate::Command;
 use crate::load::OpenLoad;
 
 /// What a record of a script starts.
-#[derive(Debug, Drop)]
+#[derive(Drop)]
 pub enum Start {
     /// A command by itself.
     Single(Command),
@@ -13,7 +13,7 @@ pub enum Start {
 }
 
 /// A script that is being read.
-#[derive(Debug, Drop)]
+#[derive(Drop)]
 pub struct Reading {
     /// The number of coordinates of a point.
     pub words: usize,

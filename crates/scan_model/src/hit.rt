@@ -6,7 +6,7 @@ ghost use Rattle.std.specs.Ordering.{nat_cmp, on, then_cmp, as_partial_cmp};
 use std::cmp::Ordering;
 
 /// An object and its distance from a query's point. Hits are ordered by distance, then by id.
-#[derive(Clone, Copy, Debug, PartialEq, Eq)]
+#[derive(Clone, Copy, PartialEq, Eq)]
 pub struct Hit {
     /// The object's place in the list, from 0.
     pub id: u32,
@@ -39,7 +39,7 @@ impl PartialOrd for Hit {
 }
 
 /// An object of the left list, an object of the right list, and their distance.
-#[derive(Clone, Copy, Debug, PartialEq, Eq)]
+#[derive(Clone, Copy, PartialEq, Eq)]
 pub struct Pair {
     /// The place in the left list, from 0.
     pub left: u32,

@@ -1,7 +1,7 @@
 use metric_laws::Point;
 
 /// What is asked of a list of points.
-#[derive(Debug, Drop)]
+#[derive(Drop)]
 pub enum Query {
     /// Every object within the radius `r` of `q`.
     Range { q: Point, r: u64 },

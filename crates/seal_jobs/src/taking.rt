@@ -14,7 +14,7 @@ use std::alloc::Global;
 const PIECE: usize = 4096;
 
 /// What stands next in a source of frames.
-#[derive(Debug, Drop)]
+#[derive(Drop)]
 pub enum Next {
     /// The bytes of a whole frame.
     Frame(Vec<u8>),

@@ -26,7 +26,7 @@ use tree_shape::Live;
 
 /// A carried log that was read: each of its pages leads to one root digest, the first three open to a head and a live slot,
 /// and its log has a spelling.
-#[derive(Debug, Drop)]
+#[derive(Drop)]
 pub struct Carried {
     root: [u8; 32],
     pages: Listed<CarriedPage>,

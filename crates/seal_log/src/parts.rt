@@ -19,7 +19,7 @@ pub const VERSION: u8 = 1;
 const LEAST_PAGES: u32 = 3;
 
 /// A page that is carried, with the path of its digest.
-#[derive(Debug, Drop)]
+#[derive(Drop)]
 pub struct CarriedPage {
     /// Its number.
     pub page: u32,
@@ -30,7 +30,7 @@ pub struct CarriedPage {
 }
 
 /// What stands before the log.
-#[derive(Debug, Drop)]
+#[derive(Drop)]
 pub struct Parts {
     /// The number of the file's pages.
     pub pages: u32,

@@ -9,7 +9,7 @@ use std::alloc::Global;
 use std::marker::Model;
 
 /// The digests of a file's pages, and those of all levels over them. Contracts see the digests of the pages.
-#[derive(Debug, Drop)]
+#[derive(Drop)]
 pub struct Tree {
     // From the pages' digests up to a level of one.
     levels: Vec<Listed<[u8; 32]>>,

@@ -55,7 +55,7 @@ fn is_within(pages: u32, page: u32) -> bool
 }
 
 /// What an accepted carried log shows.
-#[derive(Debug, Drop)]
+#[derive(Drop)]
 pub struct Proved {
     /// What was asked.
     pub query: Query,

@@ -1,7 +1,7 @@
 use page_store::PageFault;
 
 /// Why a session ended before its script did.
-#[derive(Clone, Copy, Debug, PartialEq, Eq)]
+#[derive(Clone, Copy, PartialEq, Eq)]
 pub enum Stop {
     /// There was no memory.
     Memory,

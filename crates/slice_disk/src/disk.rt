@@ -6,7 +6,7 @@ use std::alloc::Global;
 
 /// The bytes of a file in memory, as a disk. A read past their end gives 0. Writes and syncs fail, and leave the bytes as
 /// they are.
-#[derive(Debug, Drop)]
+#[derive(Drop)]
 pub struct SliceDisk<'a> {
     /// The file.
     pub bytes: &'a [u8],

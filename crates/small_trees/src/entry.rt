@@ -1,5 +1,5 @@
 /// An entry of a node.
-#[derive(Clone, Copy, Debug)]
+#[derive(Clone, Copy)]
 pub struct Entry {
     /// The object's id, or the child's page.
     pub id: u32,

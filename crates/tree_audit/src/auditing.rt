@@ -15,7 +15,7 @@ use std::alloc::Global;
 use tree_shape::Live;
 
 /// The numbers of a sound tree.
-#[derive(Clone, Copy, Debug, PartialEq, Eq)]
+#[derive(Clone, Copy, PartialEq, Eq)]
 pub struct Audited {
     /// How many objects it holds.
     pub objects: u32,

@@ -8,7 +8,7 @@ use std::alloc::Global;
 use std::marker::Model;
 
 /// Numbers below a limit that were met, in the order of meeting.
-#[derive(Debug, Drop)]
+#[derive(Drop)]
 pub struct Met {
     flags: Vec<bool>,
     numbers: Vec<u32>,

@@ -19,7 +19,7 @@ use std::alloc::Global;
 use tree_shape::{InnerEntry, Live};
 
 /// What the walk of one part of a tree met, in the order of meeting.
-#[derive(Debug, Drop)]
+#[derive(Drop)]
 pub struct Part {
     /// The pages.
     pub pages: Vec<u32>,

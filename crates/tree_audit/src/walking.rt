@@ -18,7 +18,7 @@ use std::alloc::Global;
 use tree_shape::{InnerEntry, LeafEntry, Node, fill};
 
 /// A routing entry on the way from the root.
-#[derive(Debug, Drop)]
+#[derive(Drop)]
 pub struct Step {
     /// The page of its node.
     pub page: u32,
@@ -31,7 +31,7 @@ pub struct Step {
 }
 
 /// The pages that the walk went to and the ids that it met.
-#[derive(Debug, Drop)]
+#[derive(Drop)]
 pub struct Visits {
     /// The pages, all of them below the live slot's number of pages.
     pub pages: Met,
@@ -40,7 +40,7 @@ pub struct Visits {
 }
 
 /// Where the walk stands.
-#[derive(Clone, Copy, Debug)]
+#[derive(Clone, Copy)]
 pub struct Spot {
     /// The page.
     pub page: u32,

@@ -1,7 +1,7 @@
 use metric_laws::Listed;
 
 /// The group of an entry while a node is split (VLDB 1997, section 3.3).
-#[derive(Clone, Copy, Debug, PartialEq, Eq)]
+#[derive(Clone, Copy, PartialEq, Eq)]
 pub enum Side {
     /// The group of the first promoted point.
     First,
@@ -12,7 +12,7 @@ pub enum Side {
 }
 
 /// An entry of an inner node as a new point sees it (VLDB 1997, section 3.2).
-#[derive(Clone, Copy, Debug, PartialEq, Eq)]
+#[derive(Clone, Copy, PartialEq, Eq)]
 pub struct Aim {
     /// The entry's place in its node, from 0.
     pub place: usize,
@@ -23,7 +23,7 @@ pub struct Aim {
 }
 
 /// An object's group while a bulk load parts a set, by this project's own procedure.
-#[derive(Clone, Copy, Debug, PartialEq, Eq)]
+#[derive(Clone, Copy, PartialEq, Eq)]
 pub struct Member {
     /// The group's number, from 0.
     pub group: u32,
@@ -32,7 +32,7 @@ pub struct Member {
 }
 
 /// A group of a bulk load, by the places of its objects.
-#[derive(Debug, Drop)]
+#[derive(Drop)]
 pub struct Group {
     /// The seed's place, whose point is the routing point.
     pub seed: u32,

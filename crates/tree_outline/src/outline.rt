@@ -15,7 +15,7 @@ use std::alloc::Global;
 use tree_shape::{InnerEntry, Live, Node};
 
 /// A node of an index's tree.
-#[derive(Debug, Drop)]
+#[derive(Drop)]
 pub struct ShapeLine {
     /// The node's level: 0 for a leaf.
     pub level: u8,
@@ -28,7 +28,7 @@ pub struct ShapeLine {
 }
 
 /// The tree of an index.
-#[derive(Debug, Drop)]
+#[derive(Drop)]
 pub struct Shape {
     /// The root's level.
     pub height: u32,
@@ -41,7 +41,7 @@ pub struct Shape {
 }
 
 /// A node that a walk has still to open, as the entry above it names it.
-#[derive(Debug, Drop)]
+#[derive(Drop)]
 pub struct Named {
     /// The node's page.
     pub page: u32,

@@ -1,7 +1,7 @@
 use metric_laws::{Listed, Point};
 
 /// An object in a leaf (VLDB 1997, section 3.1).
-#[derive(Debug, Drop)]
+#[derive(Drop)]
 pub struct LeafEntry {
     /// The object's place in the order of acceptance, from 0.
     pub id: u32,
@@ -14,7 +14,7 @@ pub struct LeafEntry {
 }
 
 /// A subtree in an inner node (VLDB 1997, section 3.1).
-#[derive(Debug, Drop)]
+#[derive(Drop)]
 pub struct InnerEntry {
     /// The page of the subtree's node.
     pub child: u32,
@@ -27,7 +27,7 @@ pub struct InnerEntry {
 }
 
 /// A page of the tree.
-#[derive(Debug, Drop)]
+#[derive(Drop)]
 pub enum Node {
     /// A node of level 0.
     Leaf(Listed<LeafEntry>),

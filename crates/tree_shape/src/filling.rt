@@ -2,7 +2,7 @@ ghost use Rattle.std.specs.Prelude.{◌≡◌, ◌≤◌};
 ghost use Rattle.tree_shape.specs.Fill.{most_for, least_for};
 
 /// How many entries a node may have.
-#[derive(Clone, Copy, Debug, PartialEq, Eq)]
+#[derive(Clone, Copy, PartialEq, Eq)]
 pub struct Bounds {
     /// The most entries of a node: as many as a page holds, and at most 32.
     pub most: usize,

@@ -1,5 +1,5 @@
 /// The live tree of a file: what its live slot says.
-#[derive(Clone, Copy, Debug, PartialEq, Eq)]
+#[derive(Clone, Copy, PartialEq, Eq)]
 pub struct Live {
     /// The side of the slot, 0 or 1.
     pub side: u8,

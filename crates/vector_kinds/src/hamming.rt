@@ -6,7 +6,7 @@ use crate::differences;
 use metric_laws::{BOUND, Metric};
 
 /// Counts the places that differ (R. W. Hamming, 1950).
-#[derive(Clone, Copy, Debug, PartialEq, Eq)]
+#[derive(Clone, Copy, PartialEq, Eq)]
 pub struct Hamming {
     pub dim: u8,
     ghost some: { 1 ≤ dim },

@@ -9,7 +9,7 @@ use metric_laws::{BOUND, Metric};
 const LONGEST_PLAIN: usize = 1 << 32;
 
 /// Adds the differences of the coordinates.
-#[derive(Clone, Copy, Debug, PartialEq, Eq)]
+#[derive(Clone, Copy, PartialEq, Eq)]
 pub struct L1 {
     pub dim: u8,
     ghost some: { 1 ≤ dim },

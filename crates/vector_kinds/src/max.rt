@@ -6,7 +6,7 @@ use crate::differences;
 use metric_laws::Metric;
 
 /// Takes the greatest difference of two coordinates.
-#[derive(Clone, Copy, Debug, PartialEq, Eq)]
+#[derive(Clone, Copy, PartialEq, Eq)]
 pub struct Max {
     pub dim: u8,
     ghost some: { 1 ≤ dim },

@@ -16,7 +16,7 @@ pub enum SpaceFault {
 }
 
 /// One of the three metrics, chosen when the program runs.
-#[derive(Clone, Copy, Debug, PartialEq, Eq)]
+#[derive(Clone, Copy, PartialEq, Eq)]
 pub enum Space {
     Hamming(Hamming),
     L1(L1),

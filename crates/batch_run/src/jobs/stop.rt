@@ -1,7 +1,7 @@
 use page_store::PageFault;
 
 /// Why a batch ended before its script did.
-#[derive(Clone, Copy, Debug, PartialEq, Eq)]
+#[derive(Clone, Copy, PartialEq, Eq)]
 pub enum Stop {
     /// A reply or a log could not be written.
     Sink,

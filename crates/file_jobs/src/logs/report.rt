@@ -1,5 +1,5 @@
 /// What is said of a log that is accepted.
-#[derive(Clone, Copy, Debug, PartialEq, Eq)]
+#[derive(Clone, Copy, PartialEq, Eq)]
 pub enum Report {
     /// That it is accepted. No file is audited.
     Verdicts,
