@@ -1,26 +1,37 @@
 ghost use Rattle.std.specs.Prelude.{◌≡◌};
 ghost use Rattle.job_words.specs.Jobs.{job_of};
 ghost use Rattle.job_words.specs.Words.{texts_of};
-ghost use Rattle.job_words.specs.Files.{AnswersFiles, files_of, no_files, on_index};
+ghost use Rattle.job_words.specs.Files.{AnswersFiles, files_of, made_log, no_files, on_index};
 
 use crate::job::{Job, JobFault};
 use crate::reading::read_job;
 use std::alloc::Global;
 use thiserror::Error;
 
+/// The one file that a job makes.
+#[derive(Clone, Copy, PartialEq, Eq)]
+pub enum Makes<Name> {
+    /// The job makes no file.
+    Nothing,
+    /// `create`, `gen` and `migrate` make INDEX.
+    Index,
+    /// The file of logs or proofs with this name is made anew.
+    Log(Name),
+}
+
 /// The files that a job works on. A name is there exactly where the job has it.
 #[derive(Clone, Copy, PartialEq, Eq)]
 pub struct FileNames<Name> {
     /// The index, INDEX.
     pub index: Option<Name>,
-    /// Whether the job makes the index.
-    pub make: bool,
-    /// The second file, `--other`.
+    /// Whether the job writes an index that is there: only `session` does.
+    pub writes: bool,
+    /// The second index, `--other`, which is only read.
     pub other: Option<Name>,
     /// The logs that the job reads.
     pub log_in: Option<Name>,
-    /// The logs or proofs that the job writes.
-    pub log_out: Option<Name>,
+    /// The file that the job makes.
+    pub makes: Makes<Name>,
 }
 
 /// Why there are no files.
@@ -40,10 +51,10 @@ pub fn no_files<Name>() -> FileNames<Name>
 {
     FileNames {
         index: None,
-        make: false,
+        writes: false,
         other: None,
         log_in: None,
-        log_out: None,
+        makes: Makes::Nothing,
     }
 }
 
@@ -57,6 +68,16 @@ fn on_index<Name: Drop>(index: Name) -> FileNames<Name>
     }
 }
 
+// The log, where one is made.
+fn made_log<Name: Drop>(log: Option<Name>) -> Makes<Name>
+    ensures { result ≡ made_log log }
+{
+    match log {
+        Some(log) => Makes::Log(log),
+        None => Makes::Nothing,
+    }
+}
+
 /// The files of a job.
 pub fn files_of<Name: Copy>(job: Job<Name>) -> FileNames<Name>
     ensures { result ≡ files_of job }
@@ -64,11 +85,16 @@ pub fn files_of<Name: Copy>(job: Job<Name>) -> FileNames<Name>
     match job {
         Job::Scan { .. } => no_files(),
         Job::Create { index, .. } | Job::Gen { index, .. } => FileNames {
-            make: true,
+            makes: Makes::Index,
             ..on_index(index)
         },
-        Job::Session { index, log, .. } | Job::Batch { index, log, .. } => FileNames {
-            log_out: log,
+        Job::Session { index, log, .. } => FileNames {
+            writes: true,
+            makes: made_log(log),
+            ..on_index(index)
+        },
+        Job::Batch { index, log, .. } => FileNames {
+            makes: made_log(log),
             ..on_index(index)
         },
         Job::Shape { index } | Job::Audit { index, .. } | Job::Seal { index } => on_index(index),
@@ -84,17 +110,17 @@ pub fn files_of<Name: Copy>(job: Job<Name>) -> FileNames<Name>
             ..
         } => FileNames {
             other: Some(other),
-            log_out: log,
+            makes: made_log(log),
             ..on_index(index)
         },
         Job::Migrate { index, other } => FileNames {
-            make: true,
             other: Some(other),
+            makes: Makes::Index,
             ..on_index(index)
         },
         Job::Carry { index, log, proof } => FileNames {
             log_in: Some(log),
-            log_out: Some(proof),
+            makes: Makes::Log(proof),
             ..on_index(index)
         },
         Job::Prove { log, .. } => FileNames {
@@ -106,7 +132,7 @@ pub fn files_of<Name: Copy>(job: Job<Name>) -> FileNames<Name>
 
 /// The files that the words after the program's name ask for.
 ///
-/// [`PlacesFault::Usage`] comes only where the words are no job, and nothing but want of memory comes beside it there.
+/// [`PlacesFault::Usage`] is answered only where the words are no job, and [`PlacesFault::Memory`] only where memory runs out.
 pub fn places(alloc: Global, words: &[String]) -> Result<FileNames<&str>, PlacesFault>
     ensures { AnswersFiles (job_of (texts_of words.now)) result }
 {

@@ -14,7 +14,7 @@ mod reading;
 mod rows;
 mod values;
 
-pub use files::{FileNames, PlacesFault, files_of, no_files, places};
+pub use files::{FileNames, Makes, PlacesFault, files_of, no_files, places};
 pub use job::{Job, JobFault};
 pub use law::reads_as_clap;
 pub use names::{MetricName, PolicyNames, Promote, SpaceName, Split};

@@ -1,51 +1,54 @@
-ghost use Rattle.std.specs.Prelude.{ℕ, List, Bool, IfSome, IfNone, IsTrue, ◌≡◌, false};
+ghost use Rattle.std.specs.Prelude.{◌≡◌, IfOk, IfErr, IsTrue, true, false};
+ghost use Rattle.named_files.specs.Folders.{IsIndexDenied, IsLogDenied, IsMakingDenied, Meaning};
 
+use crate::Denial;
 use disk_model::SharedDisk;
 use outside_io::{Sink, Source};
 
-/// Where files are opened by their names.
-pub trait Folder {
+/// Where files are opened by their names. Making a file takes the folder, so a folder that is still there has made none.
+pub trait Folder: Drop {
     /// A file that is an index.
     type Index: SharedDisk;
     /// A file of logs that is read.
     type LogIn: Source + Drop;
     /// A file that logs or proofs are written to.
     type LogOut: Sink + Drop;
+    /// What the system says where it refuses a call.
+    type Reason: Drop;
 
-    /// The index is the file of this name, opened to be made or not.
-    ghost is_index: { Self → List ℕ → Bool → Self.Index → Type 0 };
-
-    /// The logs are the file of this name.
-    ghost is_log_in: { Self → List ℕ → Self.LogIn → Type 0 };
-
-    /// The output is the file of this name, which was made anew and empty.
-    ghost is_log_out: { Self → List ℕ → Self.LogOut → Type 0 };
-
-    /// A file of this name could not be opened.
-    ghost is_closed: { Self → List ℕ → Type 0 };
-
-    /// Two names name one file; they name two files.
-    ghost are_one: { Self → List ℕ → List ℕ → Type 0 };
-
-    ghost are_apart: { Self → List ℕ → List ℕ → Type 0 };
+    /// What the folder's answers mean.
+    ghost meaning: { Self → Meaning Self.Index Self.LogIn Self.LogOut };
 
     /// Whether two names name one file.
     fn is_one_file(&self, one: &str, other: &str) -> bool
-        ensures one { IsTrue result → are_one self.now one.now other.now }
-        ensures apart { result ≡ false → are_apart self.now one.now other.now };
+        ensures one { IsTrue result → (meaning self.now).are_one one.now other.now }
+        ensures apart { result ≡ false → (meaning self.now).are_apart one.now other.now };
 
-    /// Opens an index, for writing too where it is to be made, and then makes its file where it isn't there.
-    fn open_index(&self, name: &str, make: bool) -> Option<Self::Index>
-        ensures some { IfSome result (is_index self.now name.now make) }
-        ensures none { IfNone result (is_closed self.now name.now) };
+    /// Opens the index `name`, to be written too where `writes` says so, and holds it against other processes.
+    fn open_index(&self, name: &str, writes: bool) -> Result<Self::Index, Denial<Self::Reason>>
+        ensures opened { IfOk result ((meaning self.now).is_index name.now writes) }
+        ensures held { IfOk result ((meaning self.now).is_held name.now writes) }
+        ensures denied { IfErr result (IsIndexDenied (meaning self.now) name.now) };
 
-    /// Opens a file of logs.
-    fn open_log(&self, name: &str) -> Option<Self::LogIn>
-        ensures some { IfSome result (is_log_in self.now name.now) }
-        ensures none { IfNone result (is_closed self.now name.now) };
+    /// Opens the file of logs `name`.
+    fn open_log(&self, name: &str) -> Result<Self::LogIn, Denial<Self::Reason>>
+        ensures opened { IfOk result ((meaning self.now).is_log_in name.now) }
+        ensures denied { IfErr result (IsLogDenied (meaning self.now) name.now) };
 
-    /// Makes a file anew, and empty.
-    fn make_log(&self, name: &str) -> Option<Self::LogOut>
-        ensures some { IfSome result (is_log_out self.now name.now) }
-        ensures none { IfNone result (is_closed self.now name.now) };
+    /// Opens the index `name` to be written, and holds it. Makes its file where it is not there. Gives the folder back where no
+    /// file was made.
+    fn make_index(self, name: &str) -> Result<Self::Index, (Denial<Self::Reason>, Self)>
+        ensures opened { IfOk result ((meaning self).is_made name.now) }
+        ensures held { IfOk result ((meaning self).is_held name.now true) }
+        ensures denied { IfErr result (λ e. IsIndexDenied (meaning self) name.now e.0) }
+        ensures given_back { IfErr result (λ e. e.1 ≡ self) };
+
+    /// Makes the file `name` anew, and empty, unless it begins as an index. Gives the folder back where no file was made or emptied.
+    fn make_log(self, name: &str) -> Result<Self::LogOut, (Denial<Self::Reason>, Self)>
+        ensures opened { IfOk result ((meaning self).is_log_out name.now) }
+        ensures denied { IfErr result (λ e. IsMakingDenied (meaning self) name.now e.0) }
+        ensures given_back { IfErr result (λ e. e.1 ≡ self) };
+
+    /// What the system said of the index's last fault, where it said something.
+    fn last_fault(index: &Self::Index) -> Option<Self::Reason>;
 }

@@ -1,13 +1,22 @@
-ghost use Rattle.std.specs.Prelude.{◌≡◌, ◌≢◌};
+ghost use Rattle.std.specs.Prelude.{List, ℕ, IfErr};
+ghost use Rattle.named_files.specs.Folders.{IsIndexDenied, IsMakingDenied};
+ghost use Rattle.named_files.specs.Host.{host_meaning};
 
-use crate::Folder;
+use crate::{Denial, Folder};
 use disk_model::FileDisk;
 use outside_io::{StdSink, StdSource};
-use std::fs::{self, File, OpenOptions};
-use std::os::unix::fs::MetadataExt;
+use std::fs::{self, File, OpenOptions, TryLockError};
+use std::io::{self, ErrorKind};
+use std::os::unix::fs::{FileExt, MetadataExt};
 
-/// The real files. No contract can say what one holds, nor that a name is its own; so nothing is told of what is opened. Of
-/// two names for which the program goes on it is told that they are not equal.
+/// The letters with which an index begins.
+const INDEX_LETTERS: &[u8; 8] = b"MTREEIDX";
+
+/// The real files. No contract can say what one holds, that a name is its own, nor what another process does; so nothing is told of
+/// what is opened. Of two names for which the program goes on it is told that they are not equal.
+///
+/// An index is held by the system's advisory lock on its file: shared where it is read, exclusive where it is written. The system
+/// gives the lock back when the file is closed, also where the process is killed.
 #[derive(Drop)]
 pub struct HostFolder<'a> {
     rt: &'a HostRuntime,
@@ -16,6 +25,98 @@ pub struct HostFolder<'a> {
 impl<'a> HostFolder<'a> {
     pub fn new(rt: &'a HostRuntime) -> HostFolder<'a> {
         HostFolder { rt }
+    }
+
+    // Opens an index that is there, to be written too where `writes` says so. One that may not be written can still be read.
+    fn open(&self, name: &str, writes: bool) -> io::Result<File> {
+        if !writes {
+            return File::open(self.rt, name);
+        }
+        let mut options = OpenOptions::new();
+        options.read(true).write(true);
+        match options.open(self.rt, name) {
+            Err(error) if may_read_alone(error.kind()) => File::open(self.rt, name),
+            opened => opened,
+        }
+    }
+
+    // Opens an index to be written, and makes its file where it is not there.
+    fn make(&self, name: &str) -> io::Result<File> {
+        let mut options = OpenOptions::new();
+        options.read(true).write(true).create(true);
+        options.open(self.rt, name)
+    }
+
+    // Makes a file of logs anew and empty. A plain file is looked at first, through the handle by which it is emptied.
+    fn empty(&self, name: &str) -> Result<File, Denial<io::Error>>
+        ensures { IfErr result (IsMakingDenied host_meaning name.now) }
+    {
+        let mut options = OpenOptions::new();
+        options.write(true).create(true);
+        if !is_plain_file(self.rt, name) {
+            return options
+                .truncate(true)
+                .open(self.rt, name)
+                .map_err(Denial::System);
+        }
+        let file = options
+            .read(true)
+            .open(self.rt, name)
+            .map_err(Denial::System)?;
+        if begins_as_index(&file).map_err(Denial::System)? {
+            return Err(Denial::IsIndex);
+        }
+        file.set_len(0).map_err(Denial::System)?;
+        Ok(file)
+    }
+}
+
+// Whether a file that may not be written may still be read.
+fn may_read_alone(kind: ErrorKind) -> bool {
+    matches!(
+        kind,
+        ErrorKind::PermissionDenied | ErrorKind::ReadOnlyFilesystem
+    )
+}
+
+// Whether the name is that of a plain file, and not of a pipe or a device.
+fn is_plain_file(rt: &HostRuntime, name: &str) -> bool {
+    match fs::metadata(rt, name) {
+        Ok(found) => found.is_file(),
+        Err(_) => false,
+    }
+}
+
+// Whether a file begins with the letters of an index.
+fn begins_as_index(file: &File) -> io::Result<bool> {
+    let mut front = [0; 8];
+    let count = file.read_at(&mut front, 0)?;
+    Ok(count == front.len() && front == *INDEX_LETTERS)
+}
+
+// Holds an index: alone where it is written, beside other readers where it is read. Does not wait.
+fn hold(file: File, writes: bool) -> Result<FileDisk, Denial<io::Error>>
+    ensures { IfErr result (λ why. (name : List ℕ) → IsIndexDenied host_meaning name why) }
+{
+    let held = if writes {
+        file.try_lock()
+    } else {
+        file.try_lock_shared()
+    };
+    match held {
+        Ok(()) => Ok(FileDisk::new(file)),
+        Err(TryLockError::WouldBlock) => Err(Denial::InUse),
+        Err(TryLockError::Error(error)) => Err(Denial::System(error)),
+    }
+}
+
+// Holds an index that was opened.
+fn hold_opened(opened: io::Result<File>, writes: bool) -> Result<FileDisk, Denial<io::Error>>
+    ensures { IfErr result (λ why. (name : List ℕ) → IsIndexDenied host_meaning name why) }
+{
+    match opened {
+        Ok(file) => hold(file, writes),
+        Err(error) => Err(Denial::System(error)),
     }
 }
 
@@ -26,17 +127,11 @@ impl Folder for HostFolder<'_> {
 
     type LogOut = StdSink<File>;
 
-    ghost is_index = { λ folder name made index. Unit {0} };
+    type Reason = io::Error;
 
-    ghost is_log_in = { λ folder name log. Unit {0} };
+    ghost use Rattle.named_files.specs.Host.{host_meaning};
 
-    ghost is_log_out = { λ folder name log. Unit {0} };
-
-    ghost is_closed = { λ folder name. Unit {0} };
-
-    ghost are_one = { λ folder one other. Unit {0} };
-
-    ghost are_apart = { λ folder one other. one ≢ other };
+    ghost meaning = { λ folder. host_meaning };
 
     fn is_one_file(&self, one: &str, other: &str) -> bool {
         if one == other {
@@ -48,29 +143,35 @@ impl Folder for HostFolder<'_> {
         }
     }
 
-    fn open_index(&self, name: &str, make: bool) -> Option<FileDisk> {
-        let mut options = OpenOptions::new();
-        options.read(true).write(true).create(make);
-        let file = match options.open(self.rt, name) {
-            Ok(file) => file,
-            // A file that may not be written may still be read.
-            Err(_) if !make => File::open(self.rt, name).ok()?,
-            Err(_) => return None,
-        };
-        Some(FileDisk::new(file))
+    fn open_index(&self, name: &str, writes: bool) -> Result<FileDisk, Denial<io::Error>> {
+        hold_opened(self.open(name, writes), writes)
     }
 
-    fn open_log(&self, name: &str) -> Option<StdSource<File>> {
-        Some(StdSource::new(File::open(self.rt, name).ok()?))
+    fn open_log(&self, name: &str) -> Result<StdSource<File>, Denial<io::Error>> {
+        match File::open(self.rt, name) {
+            Ok(file) => Ok(StdSource::new(file)),
+            Err(error) => Err(Denial::System(error)),
+        }
     }
 
-    fn make_log(&self, name: &str) -> Option<StdSink<File>> {
-        let mut options = OpenOptions::new();
-        let file = options
-            .write(true)
-            .create(true)
-            .truncate(true)
-            .open(self.rt, name);
-        Some(StdSink::new(file.ok()?))
+    fn make_index(self, name: &str) -> Result<FileDisk, (Denial<io::Error>, Self)> {
+        match hold_opened(self.make(name), true) {
+            Ok(index) => Ok(index),
+            Err(why) => Err((why, self)),
+        }
+    }
+
+    fn make_log(self, name: &str) -> Result<StdSink<File>, (Denial<io::Error>, Self)> {
+        match self.empty(name) {
+            Ok(file) => Ok(StdSink::new(file)),
+            Err(why) => Err((why, self)),
+        }
+    }
+
+    fn last_fault(index: &FileDisk) -> Option<io::Error> {
+        match index.last_fault() {
+            Some(code) => Some(io::Error::from_raw_os_error(code)),
+            None => None,
+        }
     }
 }

@@ -1,12 +1,12 @@
 // The opening of all files that the words name.
-ghost use Rattle.std.specs.Prelude.{◌≡◌, List, ℕ, Some, IfSome, IfOk, OnOk, OnErr, IsTrue, false};
+ghost use Rattle.std.specs.Prelude.{◌≡◌, ◌⊎◌, Some, IfSome, IfNone, IfOk, IfErr, IsTrue, false, true};
 ghost use Rattle.job_words.specs.Files.{file_texts};
-ghost use Rattle.named_files.specs.Folders.{AreApart, AreFilesOf, AreRefused, IsFileOf, IsLogApart, IsMadeApart, text_of};
+ghost use Rattle.named_files.specs.Folders.{AreApart, AreFilesOf, Denies, IsFileOf, IsIndexDenied, IsIndexOf, IsLogDenied, IsMakingDenied, IsRefused, Meets, log_name, text_of};
 
-use crate::{Folder, Named};
-use job_words::FileNames;
+use crate::{Denial, Folder, Named, Refusal};
+use job_words::{FileNames, Makes};
 
-/// The objects of a run, each there where its file is named.
+/// The objects of a run. Each is there where its file is named.
 #[derive(Drop)]
 pub struct Opened<I, L, T> {
     pub index: Named<I>,
@@ -15,112 +15,227 @@ pub struct Opened<I, L, T> {
     pub log_out: Named<T>,
 }
 
-/// A file could not be opened, or one that is written is one that is read.
-#[derive(Clone, Copy, PartialEq, Eq)]
-pub struct Refused;
+/// Why the files were not opened, and the folder, in which no file was made or emptied.
+#[derive(Drop)]
+pub struct Unopened<Name, F: Folder> {
+    pub refusal: Refusal<Name, F::Reason>,
+    pub folder: F,
+}
 
-// The index of a name, where there is one.
-fn open_index<F: Folder>(
+// The name `read`, where its file is the one of `made`.
+fn met<'a, F: Folder>(folder: &F, made: &str, read: Option<&'a str>) -> Option<&'a str>
+    ensures met { IfSome result (λ name. (text_of read.entry ≡ Some name.now) × (F.meaning folder.now).are_one made.now name.now) }
+    ensures apart { IfNone result (IfSome (text_of read.entry) ((F.meaning folder.now).are_apart made.now)) }
+{
+    let name = read?;
+    if folder.is_one_file(made, name) {
+        Some(name)
+    } else {
+        None
+    }
+}
+
+// The first of three names whose file is the one of `made`.
+fn first_met<'a, F: Folder>(
     folder: &F,
-    name: Option<&str>,
-    make: bool,
-) -> Result<Named<F::Index>, Refused>
-    ensures ok { IfOk result (λ file. IsFileOf (λ text. F.is_index folder.now text make) (text_of name.entry) file.0) }
-    ensures err { OnErr result ((text : List ℕ) × (text_of name.entry ≡ Some text) × F.is_closed folder.now text) }
+    made: &str,
+    index: Option<&'a str>,
+    other: Option<&'a str>,
+    log_in: Option<&'a str>,
+) -> Option<&'a str>
+    ensures met { IfSome result (λ name. ((text_of index.entry ≡ Some name.now)
+        ⊎ ((text_of other.entry ≡ Some name.now) ⊎ (text_of log_in.entry ≡ Some name.now))) × (F.meaning folder.now).are_one made.now name.now) }
+    ensures apart { IfNone result (IfSome (text_of index.entry) ((F.meaning folder.now).are_apart made.now)
+        × IfSome (text_of other.entry) ((F.meaning folder.now).are_apart made.now)
+        × IfSome (text_of log_in.entry) ((F.meaning folder.now).are_apart made.now)) }
+{
+    if let Some(name) = met(folder, made, index) {
+        return Some(name);
+    }
+    if let Some(name) = met(folder, made, other) {
+        return Some(name);
+    }
+    met(folder, made, log_in)
+}
+
+// The file that is made and the one that is read, where they are one.
+fn meeting<'a, F: Folder>(
+    folder: &F,
+    names: &FileNames<&'a str>,
+) -> Option<Refusal<&'a str, F::Reason>>
+    ensures met { IfSome result (Meets (F.meaning folder.now) (file_texts names.now)) }
+    ensures apart { IfNone result (AreApart (F.meaning folder.now) (file_texts names.now) (file_texts names.now).makes) }
+{
+    let (made, index) = match names.makes {
+        Makes::Nothing => return None,
+        Makes::Index => (names.index?, None),
+        Makes::Log(log) => (log, names.index),
+    };
+    let read = first_met(folder, made, index, names.other, names.log_in)?;
+    Some(Refusal::OneFile { made, read })
+}
+
+// The index of a name, where there is one. It is not made.
+fn open_index<'a, F: Folder>(
+    folder: &F,
+    name: Option<&'a str>,
+    writes: bool,
+) -> Result<Named<F::Index>, Refusal<&'a str, F::Reason>>
+    ensures opened { IfOk result (λ file. IsFileOf (λ text index. (F.meaning folder.now).is_index text writes index
+        × (F.meaning folder.now).is_held text writes index) (text_of name.entry) file.0) }
+    ensures denied { IfErr result (Denies (IsIndexDenied (F.meaning folder.now)) (text_of name.entry)) }
 {
     let Some(name) = name else {
         return Ok(Named(None));
     };
-    match folder.open_index(name, make) {
-        Some(file) => Ok(Named(Some(file))),
-        None => Err(Refused),
+    match folder.open_index(name, writes) {
+        Ok(index) => Ok(Named(Some(index))),
+        Err(why) => Err(Refusal::Denied { name, why }),
     }
 }
 
 // The logs of a name, where there is one.
-fn open_log<F: Folder>(folder: &F, name: Option<&str>) -> Result<Named<F::LogIn>, Refused>
-    ensures ok { IfOk result (λ file. IsFileOf (F.is_log_in folder.now) (text_of name.entry) file.0) }
-    ensures err { OnErr result ((text : List ℕ) × (text_of name.entry ≡ Some text) × F.is_closed folder.now text) }
+fn open_log<'a, F: Folder>(
+    folder: &F,
+    name: Option<&'a str>,
+) -> Result<Named<F::LogIn>, Refusal<&'a str, F::Reason>>
+    ensures opened { IfOk result (λ file. IsFileOf (F.meaning folder.now).is_log_in (text_of name.entry) file.0) }
+    ensures denied { IfErr result (Denies (IsLogDenied (F.meaning folder.now)) (text_of name.entry)) }
 {
     let Some(name) = name else {
         return Ok(Named(None));
     };
     match folder.open_log(name) {
-        Some(file) => Ok(Named(Some(file))),
-        None => Err(Refused),
+        Ok(log) => Ok(Named(Some(log))),
+        Err(why) => Err(Refusal::Denied { name, why }),
     }
 }
 
-// The output of a name, where there is one.
-fn make_log<F: Folder>(folder: &F, name: Option<&str>) -> Result<Named<F::LogOut>, Refused>
-    ensures ok { IfOk result (λ file. IsFileOf (F.is_log_out folder.now) (text_of name.entry) file.0) }
-    ensures err { OnErr result ((text : List ℕ) × (text_of name.entry ≡ Some text) × F.is_closed folder.now text) }
+// The log that is made, where one is named.
+fn make_log<'a, F: Folder>(
+    folder: F,
+    name: Option<&'a str>,
+) -> Result<Named<F::LogOut>, Unopened<&'a str, F>>
+    ensures opened { IfOk result (λ file. IsFileOf (F.meaning folder).is_log_out (text_of name.entry) file.0) }
+    ensures denied { IfErr result (λ e. Denies (IsMakingDenied (F.meaning folder)) (text_of name.entry) e.refusal) }
+    ensures given_back { IfErr result (λ e. e.folder ≡ folder) }
 {
     let Some(name) = name else {
         return Ok(Named(None));
     };
     match folder.make_log(name) {
-        Some(file) => Ok(Named(Some(file))),
-        None => Err(Refused),
+        Ok(log) => Ok(Named(Some(log))),
+        Err((why, folder)) => Err(Unopened {
+            refusal: Refusal::Denied { name, why },
+            folder,
+        }),
     }
 }
 
-// Whether the name's file is another one than that of the second name, where there is one.
-fn is_apart<F: Folder>(folder: &F, name: &str, other: Option<&str>) -> bool
-    ensures apart { IsTrue result → IfSome (text_of other.entry) (F.are_apart folder.now name.now) }
-    ensures one { result ≡ false → (text : List ℕ) × (text_of other.entry ≡ Some text) × F.are_one folder.now name.now text }
+// The index that is made, where one is named.
+fn make_index<'a, F: Folder>(
+    folder: F,
+    name: Option<&'a str>,
+) -> Result<Named<F::Index>, Unopened<&'a str, F>>
+    ensures opened { IfOk result (λ file. IsFileOf (λ text index. (F.meaning folder).is_made text index
+        × (F.meaning folder).is_held text true index) (text_of name.entry) file.0) }
+    ensures denied { IfErr result (λ e. Denies (IsIndexDenied (F.meaning folder)) (text_of name.entry) e.refusal) }
+    ensures given_back { IfErr result (λ e. e.folder ≡ folder) }
 {
-    match other {
-        Some(other) => !folder.is_one_file(name, other),
-        None => true,
+    let Some(name) = name else {
+        return Ok(Named(None));
+    };
+    match folder.make_index(name) {
+        Ok(index) => Ok(Named(Some(index))),
+        Err((why, folder)) => Err(Unopened {
+            refusal: Refusal::Denied { name, why },
+            folder,
+        }),
     }
 }
 
-// Whether the output is none of the other files.
-fn is_log_apart<F: Folder>(folder: &F, names: &FileNames<&str>) -> bool
-    ensures apart { IsTrue result → IsLogApart (F.are_apart folder.now) (file_texts names.now) }
-    ensures one { result ≡ false → AreRefused (F.is_closed folder.now) (F.are_one folder.now) (file_texts names.now) }
+// The index that is there, and then the log that is made.
+fn open_then_make<'a, F: Folder>(
+    folder: F,
+    index: Option<&'a str>,
+    writes: bool,
+    log: Option<&'a str>,
+) -> Result<(Named<F::Index>, Named<F::LogOut>), Unopened<&'a str, F>>
+    ensures index { IfOk result (λ x. IsFileOf (λ text file. (F.meaning folder).is_index text writes file
+        × (F.meaning folder).is_held text writes file) (text_of index.entry) x.0.0) }
+    ensures log { IfOk result (λ x. IsFileOf (F.meaning folder).is_log_out (text_of log.entry) x.1.0) }
+    ensures denied { IfErr result (λ e. Denies (IsIndexDenied (F.meaning folder)) (text_of index.entry) e.refusal
+        ⊎ Denies (IsMakingDenied (F.meaning folder)) (text_of log.entry) e.refusal) }
+    ensures given_back { IfErr result (λ e. e.folder ≡ folder) }
 {
-    match names.log_out {
-        Some(log) => {
-            is_apart(folder, log, names.index)
-                && is_apart(folder, log, names.other)
-                && is_apart(folder, log, names.log_in)
+    let index = match open_index(&folder, index, writes) {
+        Ok(index) => index,
+        Err(refusal) => return Err(Unopened { refusal, folder }),
+    };
+    let log = make_log(folder, log)?;
+    Ok((index, log))
+}
+
+// The index, and the log that is made. This is the last step, since a file may be made in it.
+fn take_written<'a, F: Folder>(
+    folder: F,
+    names: &FileNames<&'a str>,
+) -> Result<(Named<F::Index>, Named<F::LogOut>), Unopened<&'a str, F>>
+    ensures index { IfOk result (λ x. IsFileOf (IsIndexOf (F.meaning folder) (file_texts names.now).makes names.now.writes) (file_texts names.now).index x.0.0) }
+    ensures log { IfOk result (λ x. IsFileOf (F.meaning folder).is_log_out (log_name (file_texts names.now).makes) x.1.0) }
+    ensures denied { IfErr result (λ e. Denies (IsIndexDenied (F.meaning folder)) (file_texts names.now).index e.refusal
+        ⊎ Denies (IsMakingDenied (F.meaning folder)) (log_name (file_texts names.now).makes) e.refusal) }
+    ensures given_back { IfErr result (λ e. e.folder ≡ folder) }
+{
+    match names.makes {
+        Makes::Nothing => open_then_make(folder, names.index, names.writes, None),
+        Makes::Log(log) => open_then_make(folder, names.index, names.writes, Some(log)),
+        Makes::Index => {
+            match make_index(folder, names.index) {
+                Ok(index) => Ok((index, Named(None))),
+                Err(unopened) => Err(unopened),
+            }
         }
-        None => true,
     }
 }
 
-// Whether an index that is made is none of the files that are read.
-fn is_made_apart<F: Folder>(folder: &F, names: &FileNames<&str>) -> bool
-    ensures apart { IsTrue result → IsMadeApart (F.are_apart folder.now) (file_texts names.now) }
-    ensures one { result ≡ false → AreRefused (F.is_closed folder.now) (F.are_one folder.now) (file_texts names.now) }
-{
-    match names.index {
-        Some(index) if names.make => {
-            is_apart(folder, index, names.other) && is_apart(folder, index, names.log_in)
-        }
-        _ => true,
-    }
-}
-
-/// Opens all files that are named, those that are only read first. Where one that is written would be one that is read, none is
-/// opened.
-pub fn open_files<F: Folder>(
+// The other index and the logs, which are only read.
+fn open_read<'a, F: Folder>(
     folder: &F,
-    names: &FileNames<&str>,
-) -> Result<Opened<F::Index, F::LogIn, F::LogOut>, Refused>
-    ensures opened { IfOk result (AreFilesOf (F.is_index folder.now) (F.is_log_in folder.now) (F.is_log_out folder.now) (file_texts names.now)) }
-    ensures apart { OnOk result (AreApart (F.are_apart folder.now) (file_texts names.now)) }
-    ensures refused { OnErr result (AreRefused (F.is_closed folder.now) (F.are_one folder.now) (file_texts names.now)) }
+    names: &FileNames<&'a str>,
+) -> Result<(Named<F::Index>, Named<F::LogIn>), Refusal<&'a str, F::Reason>>
+    ensures other { IfOk result (λ x. IsFileOf (λ text index. (F.meaning folder.now).is_index text false index
+        × (F.meaning folder.now).is_held text false index) (file_texts names.now).other x.0.0) }
+    ensures log { IfOk result (λ x. IsFileOf (F.meaning folder.now).is_log_in (file_texts names.now).log_in x.1.0) }
+    ensures denied { IfErr result (λ e. Denies (IsIndexDenied (F.meaning folder.now)) (file_texts names.now).other e
+        ⊎ Denies (IsLogDenied (F.meaning folder.now)) (file_texts names.now).log_in e) }
 {
-    if !is_log_apart(folder, names) || !is_made_apart(folder, names) {
-        return Err(Refused);
-    }
     let other = open_index(folder, names.other, false)?;
     let log_in = open_log(folder, names.log_in)?;
-    let index = open_index(folder, names.index, names.make)?;
-    let log_out = make_log(folder, names.log_out)?;
+    Ok((other, log_in))
+}
+
+/// Opens all files that `names` holds, those that are only read first, and the one that is made last.
+///
+/// Refuses where the file that is made is one that is read, where a file can't be opened, where another process holds an index, and
+/// where the log that is made begins as an index. Then no file was made or emptied, and the folder is given back.
+pub fn open_files<'a, F: Folder>(
+    folder: F,
+    names: &FileNames<&'a str>,
+) -> Result<Opened<F::Index, F::LogIn, F::LogOut>, Unopened<&'a str, F>>
+    ensures opened { IfOk result (AreFilesOf (F.meaning folder) (file_texts names.now)) }
+    ensures apart { IfOk result (λ files. AreApart (F.meaning folder) (file_texts names.now) (file_texts names.now).makes) }
+    ensures refused { IfErr result (λ e. IsRefused (F.meaning folder) (file_texts names.now) e.refusal) }
+    ensures given_back { IfErr result (λ e. e.folder ≡ folder) }
+{
+    if let Some(refusal) = meeting(&folder, names) {
+        return Err(Unopened { refusal, folder });
+    }
+    let (other, log_in) = match open_read(&folder, names) {
+        Ok(read) => read,
+        Err(refusal) => return Err(Unopened { refusal, folder }),
+    };
+    let (index, log_out) = take_written(folder, names)?;
     Ok(Opened {
         index,
         other,
