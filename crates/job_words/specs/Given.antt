@@ -72,14 +72,18 @@ show_or (Some text) =
 abbrev pub show_given : Given → Option Bool
 show_given given = show_or (given (codes "tags"))
 
+-- `--dim`: 1 to 64
+abbrev pub dim_given : Given → Option ℕ
+dim_given = number_given (codes "dim") 1 64 None
+
 -- a space, where the metric may have the dimension
 abbrev pub space_of : Option MetricName → Option ℕ → Option SpaceName
 space_of (Some metric) (Some dim) = if is_halved metric && dim % 2 == 1 then None else Some (record { metric = metric; dim = dim })
 space_of _ _ = None
 
--- `--metric` and `--dim`: 1 to 64
+-- `--metric` and `--dim`
 abbrev pub space_given : Given → Option SpaceName
-space_given given = space_of (option_and_then metric_named (given (codes "metric"))) (number_given (codes "dim") 1 64 None given)
+space_given given = space_of (option_and_then metric_named (given (codes "metric"))) (dim_given given)
 
 -- a space whose points the generator makes
 abbrev pub generated_space : SpaceName → Option SpaceName

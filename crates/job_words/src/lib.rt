@@ -5,6 +5,7 @@
 #![tactic(auto)]
 
 mod command_line;
+mod complaint;
 mod files;
 mod job;
 mod law;
@@ -14,6 +15,7 @@ mod reading;
 mod rows;
 mod values;
 
+pub use complaint::{Complaint, complaint_on};
 pub use files::{FileNames, Makes, PlacesFault, files_of, no_files, places};
 pub use job::{Job, JobFault};
 pub use law::reads_as_clap;

@@ -12,12 +12,44 @@ use crate::values::{
 };
 use clap::ArgMatches;
 
+// What each command takes. What it needs stands first.
+
+pub const SCAN: [&str; 4] = ["metric", "dim", "max", "tags"];
+
+pub const CREATE: [&str; 6] = ["INDEX", "metric", "dim", "promote", "split", "max"];
+
+pub const SESSION: [&str; 4] = ["INDEX", "log", "workers", "tags"];
+
+pub const SHAPE: [&str; 1] = ["INDEX"];
+
+pub const AUDIT: [&str; 2] = ["INDEX", "workers"];
+
+pub const VERIFY: [&str; 3] = ["INDEX", "log", "other"];
+
+pub const CHECK: [&str; 3] = ["INDEX", "log", "other"];
+
+pub const JOIN: [&str; 4] = ["INDEX", "other", "radius", "log"];
+
+pub const GEN: [&str; 8] = [
+    "INDEX", "metric", "dim", "count", "seed", "promote", "split", "workers",
+];
+
+pub const MIGRATE: [&str; 2] = ["INDEX", "other"];
+
+pub const BATCH: [&str; 4] = ["INDEX", "workers", "log", "tags"];
+
+pub const SEAL: [&str; 1] = ["INDEX"];
+
+pub const CARRY: [&str; 3] = ["INDEX", "log", "proof"];
+
+pub const PROVE: [&str; 2] = ["log", "root"];
+
 /// The row of `scan`.
 pub fn scan<'a>(matches: &ArgMatches<'a>) -> Option<Job<&'a str>>
     ensures job { option_map texts_in result ≡ scan_in (given_in matches.now) }
     ensures lawful { IfSome result IsLawful }
 {
-    if has_other(matches, &["metric", "dim", "max", "tags"]) {
+    if has_other(matches, &SCAN) {
         return None;
     }
     Some(Job::Scan {
@@ -32,10 +64,7 @@ pub fn create<'a>(matches: &ArgMatches<'a>) -> Option<Job<&'a str>>
     ensures job { option_map texts_in result ≡ create_in (given_in matches.now) }
     ensures lawful { IfSome result IsLawful }
 {
-    if has_other(
-        matches,
-        &["INDEX", "metric", "dim", "promote", "split", "max"],
-    ) {
+    if has_other(matches, &CREATE) {
         return None;
     }
     Some(Job::Create {
@@ -51,7 +80,7 @@ pub fn session<'a>(matches: &ArgMatches<'a>) -> Option<Job<&'a str>>
     ensures job { option_map texts_in result ≡ session_in (given_in matches.now) }
     ensures lawful { IfSome result IsLawful }
 {
-    if has_other(matches, &["INDEX", "log", "workers", "tags"]) {
+    if has_other(matches, &SESSION) {
         return None;
     }
     Some(Job::Session {
@@ -67,7 +96,7 @@ pub fn shape<'a>(matches: &ArgMatches<'a>) -> Option<Job<&'a str>>
     ensures job { option_map texts_in result ≡ shape_in (given_in matches.now) }
     ensures lawful { IfSome result IsLawful }
 {
-    if has_other(matches, &["INDEX"]) {
+    if has_other(matches, &SHAPE) {
         return None;
     }
     Some(Job::Shape {
@@ -80,7 +109,7 @@ pub fn audit<'a>(matches: &ArgMatches<'a>) -> Option<Job<&'a str>>
     ensures job { option_map texts_in result ≡ audit_in (given_in matches.now) }
     ensures lawful { IfSome result IsLawful }
 {
-    if has_other(matches, &["INDEX", "workers"]) {
+    if has_other(matches, &AUDIT) {
         return None;
     }
     Some(Job::Audit {
@@ -94,7 +123,7 @@ pub fn verify<'a>(matches: &ArgMatches<'a>) -> Option<Job<&'a str>>
     ensures job { option_map texts_in result ≡ verify_in (given_in matches.now) }
     ensures lawful { IfSome result IsLawful }
 {
-    if has_other(matches, &["INDEX", "log", "other"]) {
+    if has_other(matches, &VERIFY) {
         return None;
     }
     Some(Job::Verify {
@@ -109,7 +138,7 @@ pub fn check<'a>(matches: &ArgMatches<'a>) -> Option<Job<&'a str>>
     ensures job { option_map texts_in result ≡ check_in (given_in matches.now) }
     ensures lawful { IfSome result IsLawful }
 {
-    if has_other(matches, &["INDEX", "log", "other"]) {
+    if has_other(matches, &CHECK) {
         return None;
     }
     Some(Job::Check {
@@ -124,7 +153,7 @@ pub fn join<'a>(matches: &ArgMatches<'a>) -> Option<Job<&'a str>>
     ensures job { option_map texts_in result ≡ join_in (given_in matches.now) }
     ensures lawful { IfSome result IsLawful }
 {
-    if has_other(matches, &["INDEX", "other", "radius", "log"]) {
+    if has_other(matches, &JOIN) {
         return None;
     }
     Some(Job::Join {
@@ -140,12 +169,7 @@ pub fn generate<'a>(matches: &ArgMatches<'a>) -> Option<Job<&'a str>>
     ensures job { option_map texts_in result ≡ gen_in (given_in matches.now) }
     ensures lawful { IfSome result IsLawful }
 {
-    if has_other(
-        matches,
-        &[
-            "INDEX", "metric", "dim", "count", "seed", "promote", "split", "workers",
-        ],
-    ) {
+    if has_other(matches, &GEN) {
         return None;
     }
     Some(Job::Gen {
@@ -163,7 +187,7 @@ pub fn migrate<'a>(matches: &ArgMatches<'a>) -> Option<Job<&'a str>>
     ensures job { option_map texts_in result ≡ migrate_in (given_in matches.now) }
     ensures lawful { IfSome result IsLawful }
 {
-    if has_other(matches, &["INDEX", "other"]) {
+    if has_other(matches, &MIGRATE) {
         return None;
     }
     Some(Job::Migrate {
@@ -177,7 +201,7 @@ pub fn batch<'a>(matches: &ArgMatches<'a>) -> Option<Job<&'a str>>
     ensures job { option_map texts_in result ≡ batch_in (given_in matches.now) }
     ensures lawful { IfSome result IsLawful }
 {
-    if has_other(matches, &["INDEX", "workers", "log", "tags"]) {
+    if has_other(matches, &BATCH) {
         return None;
     }
     Some(Job::Batch {
@@ -193,7 +217,7 @@ pub fn seal<'a>(matches: &ArgMatches<'a>) -> Option<Job<&'a str>>
     ensures job { option_map texts_in result ≡ seal_in (given_in matches.now) }
     ensures lawful { IfSome result IsLawful }
 {
-    if has_other(matches, &["INDEX"]) {
+    if has_other(matches, &SEAL) {
         return None;
     }
     Some(Job::Seal {
@@ -206,7 +230,7 @@ fn carry<'a>(matches: &ArgMatches<'a>) -> Option<Job<&'a str>>
     ensures job { option_map texts_in result ≡ carry_in (given_in matches.now) }
     ensures lawful { IfSome result IsLawful }
 {
-    if has_other(matches, &["INDEX", "log", "proof"]) {
+    if has_other(matches, &CARRY) {
         return None;
     }
     Some(Job::Carry {
@@ -221,7 +245,7 @@ fn prove<'a>(matches: &ArgMatches<'a>) -> Option<Job<&'a str>>
     ensures job { option_map texts_in result ≡ prove_in (given_in matches.now) }
     ensures lawful { IfSome result IsLawful }
 {
-    if has_other(matches, &["log", "root"]) {
+    if has_other(matches, &PROVE) {
         return None;
     }
     Some(Job::Prove {

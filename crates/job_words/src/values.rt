@@ -2,7 +2,7 @@ ghost use Rattle.std.specs.Prelude.{◌≡◌, ◌≤◌, map, option_map, IfSom
 ghost use Rattle.std.specs.List.{list_any};
 ghost use Rattle.std.specs.Str.{bytes_eq};
 ghost use Rattle.job_words.specs.Found.{given_in};
-ghost use Rattle.job_words.specs.Given.{is_other, has_other, number_given, limit_given, workers_given, count_given, seed_given, radius_given, show_given, space_given, generated_space_given, policies_given, digest_of, root_given, promote_or, split_or, is_lower_digit};
+ghost use Rattle.job_words.specs.Given.{is_other, has_other, number_given, dim_given, limit_given, workers_given, count_given, seed_given, radius_given, show_given, space_given, generated_space_given, policies_given, digest_of, root_given, promote_or, split_or, is_lower_digit};
 ghost use Rattle.job_words.specs.Lawful.{AreWorkers, IsCount, IsGeneratedSpace, IsLawfulSpace, IsLimit};
 ghost use Rattle.job_words.specs.Names.{is_halved, is_generated};
 
@@ -142,13 +142,22 @@ fn is_halved(metric: MetricName) -> bool
     matches!(metric, MetricName::MixSum | MetricName::MixMax)
 }
 
+/// The dimension, `--dim`.
+pub fn dim_in(matches: &ArgMatches<'_>) -> Option<u8>
+    ensures value { result ≡ dim_given (given_in matches.now) }
+    ensures within { IfSome result (λ dim. (1 ≤ dim) × (dim ≤ 64)) }
+{
+    let dim = number_in(matches, "dim", 1, 64, None)?;
+    Some(dim as u8)
+}
+
 /// The space of `--metric` and `--dim`.
 pub fn space_in(matches: &ArgMatches<'_>) -> Option<SpaceName>
     ensures value { result ≡ space_given (given_in matches.now) }
     ensures lawful { IfSome result IsLawfulSpace }
 {
     let metric = metric_named(value(matches, "metric")?)?;
-    let dim = number_in(matches, "dim", 1, 64, None)? as u8;
+    let dim = dim_in(matches)?;
     if is_halved(metric) && dim % 2 == 1 {
         return None;
     }

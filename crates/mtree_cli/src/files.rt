@@ -3,16 +3,25 @@ ghost use Rattle.std.specs.Prelude.{◌≡◌, IfOk};
 ghost use Rattle.job_words.specs.Files.{file_texts};
 ghost use Rattle.job_words.specs.Words.{texts_of};
 ghost use Rattle.job_words.specs.Jobs.{job_of};
-ghost use Rattle.named_files.specs.Folders.{AreApart, AreFilesOf, AreRefused};
-ghost use Rattle.mtree_cli.specs.Files.{AnswersOnFiles, opened_names};
+ghost use Rattle.mtree_cli.specs.Files.{EndsOnFiles, opened_names};
 
 use crate::program::run;
 use file_jobs::{FAULT_MEMORY, end_with};
 use job_words::{FileNames, JobFault, files_of, no_files, read_job};
-use named_files::{Folder, open_files};
+use named_files::{Folder, Named, Opened, Refusal, open_files};
 use outside_io::{Sink, Source, Status};
 use std::alloc::Global;
 use std::thread::Threads;
+
+/// How a run ended, and what there is to tell of it besides.
+#[derive(Drop)]
+pub struct Ended<'a, Reason> {
+    pub status: Status,
+    /// Why the files were not opened, at the status 10.
+    pub refusal: Option<Refusal<&'a str, Reason>>,
+    /// The index whose last fault the system gave a reason for, and the reason.
+    pub fault: Option<(&'a str, Reason)>,
+}
 
 // The files that are opened for words.
 fn opened_names(alloc: Global, words: &[String]) -> Result<FileNames<&str>, JobFault>
@@ -25,28 +34,65 @@ fn opened_names(alloc: Global, words: &[String]) -> Result<FileNames<&str>, JobF
     }
 }
 
-/// Runs the job of the words on the files that they name, of which `create`, `gen` and `migrate` make the index where it is
-/// not there. Status 10:
-/// a file could not be opened, or one that would be written is one that would be read; then none was opened.
-pub fn run_on_files<R: Threads + Sync, F: Folder, S: Source, K: Sink>(
+// What the system said of the last fault of an index, and its name.
+fn fault_of<'a, F: Folder>(
+    name: Option<&'a str>,
+    index: &Named<F::Index>,
+) -> Option<(&'a str, F::Reason)> {
+    match (name, &index.0) {
+        (Some(name), Some(index)) => match F::last_fault(index) {
+            Some(reason) => Some((name, reason)),
+            None => None,
+        },
+        _ => None,
+    }
+}
+
+// The same of the first of both indexes that has one.
+fn first_fault<'a, F: Folder>(
+    names: &FileNames<&'a str>,
+    files: &Opened<F::Index, F::LogIn, F::LogOut>,
+) -> Option<(&'a str, F::Reason)> {
+    match fault_of::<F>(names.index, &files.index) {
+        Some(fault) => Some(fault),
+        None => fault_of::<F>(names.other, &files.other),
+    }
+}
+
+/// Runs the job of `words` on the files that they name. `create`, `gen` and `migrate` make the index where it is not there.
+///
+/// Each index is held against other processes from its opening to the end of the run. The status is 10 where a file could not be
+/// opened, where another process holds an index, where the log to be made begins as an index, or where the file to be made is one
+/// that is read. Then no file was made or emptied, and nothing was written.
+pub fn run_on_files<'a, R: Threads + Sync, F: Folder, S: Source, K: Sink>(
     rt: &R,
     alloc: Global,
-    words: &[String],
-    folder: &F,
+    words: &'a [String],
+    folder: F,
     input: &mut S,
     out: &mut K,
-) -> Status
-    ensures { AnswersOnFiles F.Index.state F.LogIn.left F.LogOut.state (AreFilesOf (F.is_index folder.now) (F.is_log_in folder.now) (F.is_log_out folder.now))
-        (AreApart (F.are_apart folder.now)) (AreRefused (F.is_closed folder.now) (F.are_one folder.now))
-        (job_of (texts_of words.now)) (S.left input.old) (K.state out.old) (K.state out.new) result.0 }
+) -> Ended<'a, F::Reason>
+    ensures { EndsOnFiles F.Index.state F.LogIn.left F.LogOut.state (F.meaning folder) (job_of (texts_of words.now)) (S.left input.old)
+        (K.state out.old) (K.state out.new) result.status.0 result.refusal }
 {
     let Ok(names) = opened_names(alloc, words) else {
-        return end_with(out, FAULT_MEMORY, 8);
+        return Ended {
+            status: end_with(out, FAULT_MEMORY, 8),
+            refusal: None,
+            fault: None,
+        };
     };
-    let Ok(mut files) = open_files(folder, &names) else {
-        return Status(10);
+    let mut files = match open_files(folder, &names) {
+        Ok(files) => files,
+        Err(unopened) => {
+            return Ended {
+                status: Status(10),
+                refusal: Some(unopened.refusal),
+                fault: None,
+            };
+        }
     };
-    run(
+    let status = run(
         rt,
         alloc,
         words,
@@ -56,5 +102,10 @@ pub fn run_on_files<R: Threads + Sync, F: Folder, S: Source, K: Sink>(
         &mut files.log_in,
         out,
         &mut files.log_out,
-    )
+    );
+    Ended {
+        status,
+        refusal: None,
+        fault: first_fault::<F>(&names, &files),
+    }
 }

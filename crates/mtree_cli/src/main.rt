@@ -15,8 +15,10 @@ mod scan_job;
 mod session_job;
 #[cfg(test)]
 mod session_tests;
+mod telling;
 #[cfg(test)]
 mod tests;
+mod watched;
 
 use file_jobs::{FAULT_MEMORY, end_with, put_line};
 use files::run_on_files;
@@ -27,8 +29,10 @@ use program::USAGE;
 use std::env;
 use std::io::{self, ErrorKind};
 use std::process::ExitCode;
+use telling::{tell_not_text, tell_of};
+use watched::Watched;
 
-// Why the words could not be read: one is no text, or there was no memory.
+// Why the words could not be read: one is no text, or memory ran out.
 fn words_fault(error: io::Error) -> JobFault {
     match error.kind() {
         ErrorKind::OutOfMemory => JobFault::Memory,
@@ -49,17 +53,24 @@ fn read_words(rt: &HostRuntime) -> Result<Vec<String>, JobFault> {
 
 fn main(rt: HostRuntime) -> ExitCode {
     let mut input = StdSource::new(rt.stdin());
-    let mut out = StdSink::new(rt.stdout());
+    let mut out = Watched::new(StdSink::new(rt.stdout()));
     let status = match read_words(&rt) {
-        Ok(words) => run_on_files(
-            &rt,
-            rt.alloc(),
-            &words,
-            &HostFolder::new(&rt),
-            &mut input,
-            &mut out,
-        ),
-        Err(JobFault::Usage) => put_line(&mut out, USAGE, 2),
+        Ok(words) => {
+            let ended = run_on_files(
+                &rt,
+                rt.alloc(),
+                &words,
+                HostFolder::new(&rt),
+                &mut input,
+                &mut out,
+            );
+            tell_of(&rt, &words, &ended, &out.replies);
+            ended.status
+        }
+        Err(JobFault::Usage) => {
+            tell_not_text(&rt);
+            put_line(&mut out, USAGE, 2)
+        }
         Err(JobFault::Memory) => end_with(&mut out, FAULT_MEMORY, 8),
     };
     ExitCode::from(status.0)

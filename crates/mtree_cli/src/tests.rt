@@ -207,8 +207,9 @@ fn named_files(rt: HostRuntime) -> Result<(), Fail> {
         let mut input = MemorySource::new(Vec::new(alloc), 1, Vec::new(alloc));
         let mut out = MemorySink::new(alloc, 1000, Vec::new(alloc))?;
         let folder = HostFolder::new(&rt);
-        let found = run_on_files(&rt, alloc, &words, &folder, &mut input, &mut out);
-        assert!(rt; found == Status(*status), "{}", line);
+        let found = run_on_files(&rt, alloc, &words, folder, &mut input, &mut out);
+        assert!(rt; found.status == Status(*status), "{}", line);
+        assert!(rt; found.refusal.is_some() == (*status == 10), "{}", line);
     }
     fs::remove_file(&rt, "a.mt")?;
     fs::remove_file(&rt, "a.log")?;

@@ -1,4 +1,5 @@
 ghost use Rattle.std.specs.Prelude.{◌≡◌, ◌≤◌, ◌<◌, ◌+◌, ◌-◌, ◌^◌, length, OnOk, IsErrOf, All};
+ghost use Rattle.metric_laws.specs.Counts.{count_up, next_count};
 ghost use Rattle.outside_io.specs.Causes.{Rose};
 ghost use Rattle.rows_text.specs.Meaning.{nothing_yet, replies, step};
 ghost use Rattle.rows_text.specs.Readable.{IsReadable};
@@ -52,6 +53,7 @@ fn answer<M: Metric, K: Sink>(
         (state_of list.old) command).state) }
     ensures list { IsListOf (M.space scan.now.metric) scan.now.limit list.new }
     ensures numbers { list.new.cursors.next ≤ list.old.cursors.next + 1 }
+    ensures one_put { OnOk result (K.puts out.new ≡ next_count (K.puts out.old)) }
     ensures later { (K.state out.old).faults ≤ (K.state out.new).faults }
     ensures rose { IsErrOf result Stop.Sink → Rose (K.state out.old).faults (K.state out.new).faults }
 {
@@ -70,7 +72,7 @@ fn answer<M: Metric, K: Sink>(
 
 /// Does each command of a script in turn on an empty list, and writes its reply.
 ///
-/// After [`Stop::Sink`] a front of the next reply may be written; [`Stop::Memory`] comes only for want of memory.
+/// After [`Stop::Sink`] a front of the next reply may be written. [`Stop::Memory`] is answered only where memory runs out.
 pub fn run_script<M: Metric, K: Sink>(
     alloc: Global,
     scan: &Scan<M>,
@@ -83,6 +85,8 @@ pub fn run_script<M: Metric, K: Sink>(
     ensures wrote { Writes (K.state out.old).written (K.state out.new).written
         (reply_texts (record { space = M.space scan.now.metric; limit = scan.now.limit }) scan.now.show_tags commands.items)
         result }
+    // Each reply goes out whole in one put, so a reader of a pipe never sees a part of one.
+    ensures puts { OnOk result (K.puts out.new ≡ count_up (K.puts out.old) (length commands.items)) }
     ensures later { (K.state out.old).faults ≤ (K.state out.new).faults }
     ensures rose { IsErrOf result Stop.Sink → Rose (K.state out.old).faults (K.state out.new).faults }
 {

@@ -1,6 +1,6 @@
 use job_words::{
-    FileNames, Job, JobFault, MetricName, PlacesFault, PolicyNames, Promote, SpaceName, Split,
-    places, read_job, reads_as_clap,
+    Complaint, FileNames, Job, JobFault, Makes, MetricName, PlacesFault, PolicyNames, Promote,
+    SpaceName, Split, complaint_on, places, read_job, reads_as_clap,
 };
 use std::alloc::{AllocError, Global};
 use std::process::Abort;
@@ -372,36 +372,40 @@ fn words_stand_in_any_order(rt: HostRuntime) -> Result<(), Fail> {
 
 const NO_FILES: FileNames<&str> = FileNames {
     index: None,
-    make: false,
+    writes: false,
     other: None,
     log_in: None,
-    log_out: None,
+    makes: Makes::Nothing,
 };
 
 const INDEX: FileNames<&str> = FileNames {
     index: Some("a.mt"),
-    make: false,
+    writes: false,
     other: None,
     log_in: None,
-    log_out: None,
+    makes: Makes::Nothing,
 };
 
 #[test]
 fn jobs_name_their_files(rt: HostRuntime) -> Result<(), Fail> {
     let alloc = rt.alloc();
     let made = FileNames {
-        make: true,
+        makes: Makes::Index,
+        ..INDEX
+    };
+    let written = FileNames {
+        writes: true,
         ..INDEX
     };
     let cases = [
         ("scan --metric l1 --dim 2", NO_FILES),
         ("create a.mt --metric l1 --dim 2", made),
-        ("session a.mt", INDEX),
+        ("session a.mt", written),
         (
             "session a.mt --log a.log",
             FileNames {
-                log_out: Some("a.log"),
-                ..INDEX
+                makes: Makes::Log("a.log"),
+                ..written
             },
         ),
         ("shape a.mt", INDEX),
@@ -425,7 +429,7 @@ fn jobs_name_their_files(rt: HostRuntime) -> Result<(), Fail> {
             "join a.mt --other b.mt --radius 1 --log a.log",
             FileNames {
                 other: Some("b.mt"),
-                log_out: Some("a.log"),
+                makes: Makes::Log("a.log"),
                 ..INDEX
             },
         ),
@@ -440,7 +444,7 @@ fn jobs_name_their_files(rt: HostRuntime) -> Result<(), Fail> {
         (
             "batch a.mt --log a.log",
             FileNames {
-                log_out: Some("a.log"),
+                makes: Makes::Log("a.log"),
                 ..INDEX
             },
         ),
@@ -449,7 +453,7 @@ fn jobs_name_their_files(rt: HostRuntime) -> Result<(), Fail> {
             "proof a.mt --log a.log --proof a.proof",
             FileNames {
                 log_in: Some("a.log"),
-                log_out: Some("a.proof"),
+                makes: Makes::Log("a.proof"),
                 ..INDEX
             },
         ),
@@ -497,4 +501,60 @@ fn names_have_their_numbers(rt: HostRuntime) -> Result<(), Fail> {
     assert!(rt; Split::Balanced.number() == 2);
     reads_as_clap();
     Ok(())
+}
+
+// What is wrong with words that are no job, and that nothing is wrong with a job.
+#[test]
+fn words_that_are_no_job_are_explained(rt: HostRuntime) -> Result<(), Fail> {
+    let alloc = rt.alloc();
+    let cases = [
+        ("list a.mt", "there is no command list"),
+        ("scan --dim 2", "scan needs --metric"),
+        ("create --metric l1 --dim 2", "create needs INDEX"),
+        ("proof --log a.log", "proof needs --root"),
+        ("proof a.mt --log a.log", "proof needs --proof"),
+        ("scan a.mt --metric l1 --dim 2", "scan takes no INDEX"),
+        ("audit a.mt --radius 3", "audit takes no --radius"),
+        (
+            "scan --metric l2 --dim 2",
+            "--metric may not be l2: it is hamming, l1, max, kendall, hausdorff, mixsum, mixmax or l1cap",
+        ),
+        (
+            "scan --metric l1 --dim 65",
+            "--dim may not be 65: it is a whole number from 1 to 64",
+        ),
+        (
+            "scan --metric mixsum --dim 3",
+            "--dim may not be 3: it is an even number where the metric is mixsum or mixmax",
+        ),
+        (
+            "gen a.mt --metric kendall --dim 2 --count 5",
+            "--metric may not be kendall: it is hamming, l1, max, mixsum, mixmax or l1cap, the metrics that gen makes points of",
+        ),
+        (
+            "batch a.mt --workers 0",
+            "--workers may not be 0: it is a whole number from 1 to 64",
+        ),
+        (
+            "session a.mt --tags on",
+            "--tags may not be on: it is show or hide",
+        ),
+    ];
+    for (line, expected) in cases {
+        let words = words(alloc, line)?;
+        match complaint_on(alloc, &words)? {
+            Some(complaint) => {
+                let text = format!(in alloc; "{}", complaint)?;
+                assert!(rt; text.as_str() == expected, "{line}: {}", text);
+            }
+            None => panic!(rt; "{line}: no complaint"),
+        }
+    }
+    let job = words(alloc, "scan --metric l1 --dim 2")?;
+    assert!(rt; complaint_on(alloc, &job)?.is_none());
+    let none = Vec::new(alloc);
+    match complaint_on(alloc, &none)? {
+        Some(Complaint::NoCommand) => Ok(()),
+        _ => panic!(rt; "a command where there is no word"),
+    }
 }

@@ -16,6 +16,7 @@ loop-command-init g c =
       list = record { words = c.new-list.ensures.words ∙ c.words.ensures; points = rw points (λ k d low. absurd (omega arith)); few = rw points (omega arith); tagged = rw (points, tags) refl };
       readable = rw all c.requires.readable;
       numbers = rw all (omega (arith, next, c.requires.few));
+      puts = rw all refl;
       later = omega arith;
     }
 
@@ -26,6 +27,7 @@ loop-command-preserved g c =
       wrote = rw c.in_ok-answer.ensures.state (written_more _ _ _ _ _ _ so_far c.in_ok-answer.ensures.puts);
       list = c.in_ok-answer.ensures.list;
       readable = (let all = rw c.in-Some.ensures.steps.0 at c.loop-command.invariant.readable in λ k d low. all (suc k) d (omega arith));
+      puts = (let so_far = rw c.in-Some.ensures.steps.0 at c.loop-command.invariant.puts in rw c.in_ok-answer.ensures.one_put so_far);
       numbers = omega (arith, c.in_ok-answer.ensures.numbers, c.loop-command.invariant.numbers, ap length c.in-Some.ensures.steps.0);
       later = omega (arith, c.in_ok-answer.ensures.later, c.loop-command.invariant.later);
     }

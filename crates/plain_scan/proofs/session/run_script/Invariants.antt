@@ -1,5 +1,6 @@
-use Rattle.std.proofs.Common.{◌≤◌, ◌<◌, ◌+◌, ◌^◌, length}
+use Rattle.std.proofs.Common.{◌≡◌, ◌≤◌, ◌<◌, ◌+◌, ◌^◌, length}
 use Rattle.std.specs.Prelude.{All, map}
+use Rattle.metric_laws.specs.Counts.{count_up}
 use Rattle.rows_text.specs.Meaning.{replies}
 use Rattle.rows_text.specs.Readable.{IsReadable}
 use Rattle.rows_text.specs.Texts.{text}
@@ -16,5 +17,6 @@ invariant-loop-command g l = record {
   list : IsListOf (g.M.Metric.space l.scan.metric) l.scan.limit l.list;
   readable : All (IsReadable (g.M.Metric.space l.scan.metric).words) l.command-iterator.rest.items;
   numbers : l.list.cursors.next + length l.command-iterator.rest.items < 2 ^ 32;
+  puts : count_up (g.K.Sink.puts l.out) (length l.command-iterator.rest.items) ≡ count_up (g.K.Sink.puts l.fn.out) (length l.fn.commands.items);
   later : (g.K.Sink.state l.fn.out).faults ≤ (g.K.Sink.state l.out).faults;
 }

@@ -1,0 +1,98 @@
+// What the program tells its user on standard error: why a run did not do what was asked. Its results stand on standard output.
+
+use crate::files::Ended;
+use crate::watched::Replies;
+use job_words::{Complaint, complaint_on};
+use named_files::{Denial, Refusal};
+use std::io;
+
+// The first line of a text of several lines, without the word that clap begins with.
+fn first_line(text: &str) -> &str {
+    let line = match text.split_once('\n') {
+        Some((line, _)) => line,
+        None => text,
+    };
+    match line.strip_prefix("error: ") {
+        Some(rest) => rest,
+        None => line,
+    }
+}
+
+// Tells why a file was not opened.
+fn tell_denied(rt: &HostRuntime, name: &str, why: &Denial<io::Error>) {
+    let _ = match why {
+        Denial::System(reason) => eprintln!(rt; "mtree: {}: {}", name, reason),
+        Denial::InUse => eprintln!(rt;
+            "mtree: {} is in use: another process writes it, or reads it while this command would write it",
+            name
+        ),
+        Denial::IsIndex => eprintln!(rt; "mtree: {} is an index, so it is not emptied", name),
+    };
+}
+
+// Tells why the files of a run were not opened.
+fn tell_refused(rt: &HostRuntime, refusal: &Refusal<&str, io::Error>) {
+    match refusal {
+        Refusal::Denied { name, why } => tell_denied(rt, name, why),
+        Refusal::OneFile { made, read } => {
+            let _ = eprintln!(rt;
+                "mtree: {} and {} are one file, which would be read and written",
+                made, read
+            );
+        }
+    }
+}
+
+// Tells what is wrong with words that are no job.
+fn tell_complaint(rt: &HostRuntime, words: &[String]) {
+    let Ok(Some(complaint)) = complaint_on(rt.alloc(), words) else {
+        return;
+    };
+    let _ = match &complaint {
+        Complaint::Words(error) => match format!(in rt.alloc(); "{}", error) {
+            Ok(text) => eprintln!(rt; "mtree: {}", first_line(&text)),
+            Err(_) => Ok(()),
+        },
+        other => eprintln!(rt; "mtree: {}", other),
+    };
+}
+
+// Tells how many commands of a script were refused, and which was the first.
+fn tell_replies(rt: &HostRuntime, replies: &Replies) {
+    if let Some(first) = &replies.first {
+        let _ = eprintln!(rt;
+            "mtree: {} of {} commands were refused, the first at record {}: {}",
+            replies.refused,
+            replies.count,
+            first.record,
+            first.text()
+        );
+    }
+}
+
+/// Tells the user why the words are no text.
+pub fn tell_not_text(rt: &HostRuntime) {
+    let _ = eprintln!(rt; "mtree: a word of the command line is no UTF-8 text");
+}
+
+/// Tells the user why a run did not do what was asked: why a file was refused, what is wrong with the words, what the system says of a
+/// failed index, and how many commands were refused.
+pub fn tell_of(
+    rt: &HostRuntime,
+    words: &[String],
+    ended: &Ended<'_, io::Error>,
+    replies: &Replies,
+) {
+    if let Some(refusal) = &ended.refusal {
+        tell_refused(rt, refusal);
+    }
+    if ended.status.0 == 2 {
+        tell_complaint(rt, words);
+    }
+    if ended.status.0 == 5 {
+        if let Some((name, reason)) = &ended.fault {
+            let _ = eprintln!(rt; "mtree: {}: {}", name, reason);
+        }
+    }
+    tell_replies(rt, replies);
+}

@@ -1,0 +1,124 @@
+use outside_io::{Failed, Sink};
+
+/// What the replies that passed a sink tell the user at the end. A reply is one put; the line of a fault is none.
+#[derive(Clone, Copy)]
+pub struct Replies {
+    /// How many there were.
+    pub count: u64,
+    /// How many of them refuse their command.
+    pub refused: u64,
+    /// The first of those.
+    pub first: Option<FirstRefusal>,
+    records: u64,
+}
+
+/// The first reply that refuses a command.
+#[derive(Clone, Copy)]
+pub struct FirstRefusal {
+    /// The number of the command's record in the script, from 1.
+    pub record: u64,
+    line: [u8; 40],
+    length: usize,
+}
+
+impl FirstRefusal {
+    /// The reply, without the end of its line.
+    pub fn text(&self) -> &str {
+        match self.line.get(..self.length) {
+            Some(line) => str::from_utf8(line).unwrap_or("refused"),
+            None => "refused",
+        }
+    }
+}
+
+// The front of a reply, up to the end of its first line.
+fn first_line(record: u64, reply: &[u8]) -> FirstRefusal {
+    let mut line = [0; 40];
+    let mut length = 0;
+    for byte in reply {
+        if *byte == b'\n' || length == line.len() {
+            break;
+        }
+        line[length] = *byte;
+        length += 1;
+    }
+    FirstRefusal {
+        record,
+        line,
+        length,
+    }
+}
+
+// How many rows a load took, by its reply: those of `loaded N`, and none otherwise.
+fn loaded_rows(reply: &[u8]) -> u64 {
+    let Some(digits) = reply.strip_prefix(b"loaded ") else {
+        return 0;
+    };
+    let mut rows = 0u64;
+    for byte in digits {
+        if !byte.is_ascii_digit() {
+            break;
+        }
+        rows = rows
+            .saturating_mul(10)
+            .saturating_add(u64::from(*byte - b'0'));
+    }
+    rows
+}
+
+impl Replies {
+    /// No reply yet.
+    pub fn none() -> Self {
+        Replies {
+            count: 0,
+            refused: 0,
+            first: None,
+            records: 0,
+        }
+    }
+
+    // Takes in one reply. Up to the first refusal a command is one record, and a load has one more for each of its rows.
+    fn note(&mut self, reply: &[u8]) {
+        if reply.starts_with(b"fault ") {
+            return;
+        }
+        self.count = self.count.saturating_add(1);
+        self.records = self.records.saturating_add(1);
+        if reply.starts_with(b"refused ") {
+            self.refused = self.refused.saturating_add(1);
+            if self.first.is_none() {
+                self.first = Some(first_line(self.records, reply));
+            }
+        }
+        self.records = self.records.saturating_add(loaded_rows(reply));
+    }
+}
+
+/// A sink that looks at the replies that it passes on.
+#[derive(Drop)]
+pub struct Watched<K: Sink + Drop> {
+    inner: K,
+    /// What passed.
+    pub replies: Replies,
+}
+
+impl<K: Sink + Drop> Watched<K> {
+    /// A sink that nothing has passed yet.
+    pub fn new(inner: K) -> Self {
+        Watched {
+            inner,
+            replies: Replies::none(),
+        }
+    }
+}
+
+impl<K: Sink + Drop> Sink for Watched<K> {
+    ghost state = { λ s. K.state s.inner };
+
+    ghost puts = { λ s. K.puts s.inner };
+
+    fn put(&mut self, bytes: &[u8]) -> Result<(), Failed> {
+        self.replies.note(bytes);
+        self.inner.put(bytes)
+    }
+}
