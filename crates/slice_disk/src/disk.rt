@@ -53,13 +53,14 @@ fn copy_out(file: &[u8], at: usize, buf: &mut [u8])
 }
 
 impl Disk for SliceDisk<'_> {
-    ghost use Rattle.slice_disk.specs.Held.{held};
+    ghost use Rattle.slice_disk.specs.Held.{held, mixed};
+    ghost use Rattle.std.proofs.Common.{refl};
 
     ghost state = { λ d. held d.bytes.now d.faults d.reads };
 
-    ghost read_is_image = { λ d told. tt };
+    ghost read_is_image = { λ d told refused. refl };
 
-    ghost places_mix = { λ d one other i first second _ _. tt };
+    ghost places_mix = { λ d one other i first second _ _ refused. mixed d.bytes.now one other i (first refused) (second refused) };
 
     fn size(&mut self) -> Result<u64, Failed> {
         Ok(self.bytes.len() as u64)

@@ -1,4 +1,4 @@
-use Rattle.std.proofs.Common.{rules, length, ◌+◌, ◌-◌}
+use Rattle.std.proofs.Common.{rules, length, ◌+◌}
 use Rattle.slice_disk.proofs.Copying.{copied_out}
 use Rattle.slice_disk.proofs.disk.copy_out.Goals as goal
 
