@@ -83,13 +83,13 @@ by_status file head live c asked opens version query (Err memory) came un = reco
   no_query = λ e. absurd (omega (arith, e));
   no_index = λ e. absurd (omega (arith, e));
   damaged = λ e. absurd (omega (arith, e));
-  statuses = inr (inr (inr (inl refl)));
+  statuses = inr (inr (inl refl));
 }
 by_status file head live c asked opens version query (Ok (outcome.Damaged fault)) came un = record {
   no_query = λ e. absurd (omega (arith, e));
   no_index = λ e. absurd (omega (arith, e));
   damaged = λ e. (fault, record { head = head; live = live; opens = opens; version = version; outcome = came });
-  statuses = inr (inr (inr (inr refl)));
+  statuses = inr (inr (inr refl));
 }
 by_status file head live c asked opens version query (Ok (outcome.Done r log)) came un = record {
   no_query = λ e. inr (

@@ -1,12 +1,13 @@
 -- What a job says of a disk, a source and a sink is said of their bytes.
-use Rattle.std.proofs.Common.{◌≡◌, ◌≢◌, ◌⊎◌, inl, inr, ⊎_elim, ℕ, ◌+◌, ◌<◌, List, [], ◌++◌, length, Option, Some, None, sym, subst, ◌∙◌, ap, arith}
+use Rattle.std.proofs.Common.{◌≡◌, ◌≢◌, ◌⊎◌, inl, inr, ⊎_elim, ℕ, ◌+◌, ◌<◌, List, [], ◌∷◌, ◌++◌, length, length-append, append_assoc, Option, Some, None, sym, subst, ◌∙◌, ap, arith}
 use Rattle.std.specs.Prelude.{codes, IsTrue, ◌≤◌}
 use Rattle.std.proofs.lemmas.List.{append-nil}
 use Rattle.std.specs.List.{concat, flat_map}
 use Rattle.std.specs.Io.KnownBytes.{Appends, Consumes, IsAtEnd}
 use Rattle.outside_io.specs.Causes.{Rose}
 use Rattle.outside_io.specs.Sinks.{SinkState, Tells}
-use Rattle.disk_model.specs.Disk.{DiskState}
+use Rattle.disk_model.specs.Disk.{DiskState, IsUnchanged}
+use Rattle.slice_disk.specs.Held.{held}
 use Rattle.file_jobs.specs.Jobs.{Audits, IsAuditStatus, IsAudited, IsNoIndex, IsSoundWith}
 use Rattle.file_jobs.specs.Lines.{not_index_text, rejected_text, sound_text}
 use Rattle.file_jobs.specs.declared.logs.report.Report.{Report}
@@ -14,11 +15,19 @@ use Rattle.file_jobs.specs.Logs.Jobs.{IsLogStatus}
 use Rattle.file_jobs.specs.Logs.Sayings.{Saying}
 use Rattle.log_jobs.specs.Jobs.{JudgesLogs, Says}
 use Rattle.mtree_c.specs.Rooms.{HandsText, StandAtFront}
+use Rattle.prune_log.specs.Spelling.{frame_bytes}
 use Rattle.seal_jobs.specs.Proofs.{IsProofStatus, ProvesLogs, Shown}
 use Rattle.mtree_c.specs.Texts.{IsAuditText, IsLogText, IsProofText, IsUnopenedText}
 
 pub unmoved : Rose 0 0 → ⊥
 unmoved rose = omega (arith, rose)
+
+-- bytes to which no write was tried did not fail
+pub unwritten : (file0 file1 : List ℕ) (n0 n1 r0 r1 : ℕ) → n0 ≡ 0 → IsUnchanged (held file0 n0 r0) (held file1 n1 r1) → Rose n0 n1 → ⊥
+unwritten file0 file1 n0 n1 r0 r1 fresh unchanged rose =
+    let left = (unchanged.same_images (file1 ++ 0 ∷ [])).1 (λ some. absurd (omega (arith, some, fresh))) in
+    let longer : length (file1 ++ 0 ∷ []) ≡ length file1 = ap length (left (omega (arith, rose))) in
+    omega (arith, longer, length-append file1 (0 ∷ []))
 
 -- a sink that held nothing and never failed holds what was put
 appended : (a b : Option (List ℕ)) (text bytes : List ℕ) → a ≡ Some [] → b ≡ Some text → Appends a b bytes → text ≡ bytes
@@ -49,33 +58,33 @@ taken_all a b logs left bytes had has taken end =
 taken_front : (a b : Option (List ℕ)) (logs left bytes : List ℕ) → a ≡ Some logs → b ≡ Some left → Consumes a b bytes → length bytes ≤ length logs
 taken_front a b logs left bytes had has taken =
     let took : logs ≡ bytes ++ left = subst (λ (y : Option (List ℕ)). Consumes (Some logs) y bytes) has (subst (λ (x : Option (List ℕ)). Consumes x b bytes) had taken) in
-    omega (arith, ap length took, Rattle.std.proofs.Common.length-append bytes left)
+    omega (arith, ap length took, length-append bytes left)
 
 module _ (d0 d1 : DiskState) (o0 o1 : SinkState) (file text : List ℕ) (tells : IsTrue d0.tells) (bytes_are : d0.bytes ≡ file)
     (empty : o0.written ≡ Some []) (holds : o1.written ≡ Some text) (none : o0.faults ≡ 0) (never : o1.faults ≡ 0) where
   unopened : (name : List ℕ) → Tells o0 o1 (not_index_text name) → (IsTrue d0.tells → IsNoIndex d0.bytes name) → IsUnopenedText file text
   unopened name line why = (name, subst (λ (x : List ℕ). IsNoIndex x name) bytes_are (why tells), told o0 o1 text (not_index_text name) empty holds none never line)
 
-  audit_ends : (status : ℕ) → IsAuditStatus status → status ≢ 4 → status ≢ 8 → (status ≡ 0) ⊎ ((status ≡ 1) ⊎ ((status ≡ 5) ⊎ (status ≡ 6)))
-  audit_ends status (inl is) a b = inl is
-  audit_ends status (inr (inl is)) a b = inr (inl is)
-  audit_ends status (inr (inr (inl is))) a b = absurd (a is)
-  audit_ends status (inr (inr (inr (inl is)))) a b = inr (inr (inl is))
-  audit_ends status (inr (inr (inr (inr (inl is))))) a b = inr (inr (inr is))
-  audit_ends status (inr (inr (inr (inr (inr is))))) a b = absurd (b is)
+  audit_ends : (status : ℕ) → IsAuditStatus status → status ≢ 4 → status ≢ 5 → status ≢ 8 → (status ≡ 0) ⊎ ((status ≡ 1) ⊎ (status ≡ 6))
+  audit_ends status (inl is) a n b = inl is
+  audit_ends status (inr (inl is)) a n b = inr (inl is)
+  audit_ends status (inr (inr (inl is))) a n b = absurd (a is)
+  audit_ends status (inr (inr (inr (inl is)))) a n b = absurd (n is)
+  audit_ends status (inr (inr (inr (inr (inl is))))) a n b = inr (inr is)
+  audit_ends status (inr (inr (inr (inr (inr is))))) a n b = absurd (b is)
 
-  pub audit_text : (status : ℕ) → Audits d0 d1 o0 o1 status → IsAuditStatus status → status ≢ 4 → status ≢ 8 → IsAuditText file text status
-  audit_text status audits statuses not_short not_memory = record {
+  pub audit_text : (status : ℕ) → Audits d0 d1 o0 o1 status → IsAuditStatus status → status ≢ 4 → status ≢ 5 → status ≢ 8 → IsAuditText file text status
+  audit_text status audits statuses not_short not_disk not_memory = record {
     sound = λ is. let s = audits.sound is in (s.0, s.1, subst (λ (x : List ℕ). IsSoundWith x s.0 s.1) bytes_are (s.3 tells), appended o0.written o1.written text (sound_text s.0 s.1) empty holds s.2);
     rejected = λ is. let r = audits.rejected is in (r.0, subst (λ (x : List ℕ). IsAudited x (Some r.0)) bytes_are (r.2 tells), appended o0.written o1.written text (rejected_text r.0) empty holds r.1);
     no_index = λ is. let n = audits.not_index is in unopened n.0 n.1 n.2;
-    statuses = audit_ends status statuses not_short not_memory;
+    statuses = audit_ends status statuses not_short not_disk not_memory;
   }
 
   -- ---- logs
 
   module _ (what : Report) (l0 l1 : Option (List ℕ)) (logs left : List ℕ) (had : l0 ≡ Some logs) (has : l1 ≡ Some left) (status : ℕ) (judged : JudgesLogs what d0 d1 l0 l1 o0 o1 status)
-      (not_input : status ≢ 3) (not_short : status ≢ 4) (not_memory : status ≢ 8) where
+      (not_input : status ≢ 3) (not_short : status ≢ 4) (not_disk : status ≢ 5) (not_memory : status ≢ 8) where
     all_taken : status ≢ 7 → judged.bytes ≡ logs
     all_taken other = taken_all l0 l1 logs left judged.bytes had has judged.taken (judged.all not_input other not_memory)
 
@@ -88,14 +97,14 @@ module _ (d0 d1 : DiskState) (o0 o1 : SinkState) (file text : List ℕ) (tells :
         let put : text ≡ concat w.2.put = appended o0.written o1.written text (concat w.2.put) empty holds (subst (λ (m : Option (List ℕ)). Appends o0.written m (concat w.2.put)) (sym e.2) w.2.written) in
         (w.0, subst (λ (x : List ℕ). Says what x logs w.0) bytes_are (subst (λ (x : List ℕ). Says what d0.bytes x w.0) (all_taken other) w.1), put ∙ ap concat (sym whole), e.0)
 
-    log_ends : IsLogStatus status → (status ≡ 0) ⊎ ((status ≡ 1) ⊎ ((status ≡ 5) ⊎ ((status ≡ 6) ⊎ (status ≡ 7))))
+    log_ends : IsLogStatus status → (status ≡ 0) ⊎ ((status ≡ 1) ⊎ ((status ≡ 6) ⊎ (status ≡ 7)))
     log_ends (inl is) = absurd (not_input is)
-    log_ends (inr (inl is)) = inr (inr (inr (inr is)))
+    log_ends (inr (inl is)) = inr (inr (inr is))
     log_ends (inr (inr (inl is))) = inl is
     log_ends (inr (inr (inr (inl is)))) = inr (inl is)
     log_ends (inr (inr (inr (inr (inl is))))) = absurd (not_short is)
-    log_ends (inr (inr (inr (inr (inr (inl is)))))) = inr (inr (inl is))
-    log_ends (inr (inr (inr (inr (inr (inr (inl is))))))) = inr (inr (inr (inl is)))
+    log_ends (inr (inr (inr (inr (inr (inl is)))))) = absurd (not_disk is)
+    log_ends (inr (inr (inr (inr (inr (inr (inl is))))))) = inr (inr (inl is))
     log_ends (inr (inr (inr (inr (inr (inr (inr is))))))) = absurd (not_memory is)
 
     pub log_text : IsLogStatus status → IsLogText what file logs text status
@@ -108,6 +117,16 @@ module _ (d0 d1 : DiskState) (o0 o1 : SinkState) (file text : List ℕ) (tells :
 
 -- ---- carried logs
 
+-- what was taken stands at the front
+taken_then : (a b : Option (List ℕ)) (logs left bytes : List ℕ) → a ≡ Some logs → b ≡ Some left → Consumes a b bytes → logs ≡ bytes ++ left
+taken_then a b logs left bytes had has taken = subst (λ (y : Option (List ℕ)). Consumes (Some logs) y bytes) has (subst (λ (x : Option (List ℕ)). Consumes x b bytes) had taken)
+
+-- a sink that never failed took the whole line
+whole_line : (o0 o1 : SinkState) (middle : Option (List ℕ)) (line : List ℕ) → o0.faults ≡ 0 → o1.faults ≡ 0 → Tells (record o0 { written = middle }) o1 line
+    → Appends middle o1.written line
+whole_line o0 o1 middle line none never (inl put) = put
+whole_line o0 o1 middle line none never (inr part) = absurd (unmoved (subst (λ (x : ℕ). Rose x 0) none (subst (λ (x : ℕ). Rose o0.faults x) never part.1)))
+
 appended_twice : (a m b : Option (List ℕ)) (text first second : List ℕ) → a ≡ Some [] → b ≡ Some text → Appends a m first → Appends m b second → text ≡ first ++ second
 appended_twice a m b text first second empty holds one two =
     go m (subst (λ (x : Option (List ℕ)). Appends x m first) empty one) (subst (λ (x : Option (List ℕ)). Appends m x second) holds two)
@@ -117,8 +136,8 @@ appended_twice a m b text first second empty holds one two =
     go (Some y) put more = more ∙ ap (λ (x : List ℕ). x ++ second) put
 
 pub proof_text : (root logs left text : List ℕ) (l0 l1 : Option (List ℕ)) (o0 o1 : SinkState) (status : ℕ) → l0 ≡ Some logs → l1 ≡ Some left → o0.written ≡ Some [] → o1.written ≡ Some text
-    → ProvesLogs root l0 l1 o0 o1 status → IsProofStatus status → status ≢ 3 → status ≢ 4 → status ≢ 8 → IsProofText root logs text status
-proof_text root logs left text l0 l1 o0 o1 status had has empty holds proves statuses not_input not_short not_memory = record {
+    → o0.faults ≡ 0 → o1.faults ≡ 0 → ProvesLogs root l0 l1 o0 o1 status → IsProofStatus status → status ≢ 3 → status ≢ 4 → status ≢ 8 → IsProofText root logs text status
+proof_text root logs left text l0 l1 o0 o1 status had has empty holds none never proves statuses not_input not_short not_memory = record {
   shown = λ is.
       let d = proves.done is in
       let b = proves.before in (
@@ -130,7 +149,17 @@ proof_text root logs left text l0 l1 o0 o1 status had has empty holds proves sta
         d.1.1,
         appended_twice o0.written proves.middle o1.written text (flat_map (λ (f : Shown). f.text) b.shown) d.1.0 empty holds b.written d.1.2,
       );
-  long = λ is. omega (arith, proves.long.0 is, taken_front l0 l1 logs left proves.bytes had has proves.taken);
+  long = λ is.
+      let b = proves.before in (
+        omega (arith, proves.long.0 is, taken_front l0 l1 logs left proves.bytes had has proves.taken),
+        b.shown,
+        b.rest ++ left,
+        taken_then l0 l1 logs left proves.bytes had has proves.taken ∙ ap (λ (x : List ℕ). x ++ left) b.framed
+            ∙ append_assoc (flat_map (λ (f : Shown). frame_bytes f.body) b.shown) b.rest left,
+        b.told,
+        appended_twice o0.written proves.middle o1.written text (flat_map (λ (f : Shown). f.text) b.shown) (codes "fault long\n") empty holds b.written
+            (whole_line o0 o1 proves.middle (codes "fault long\n") none never (proves.long_line is).1),
+      );
   statuses = ends statuses;
 }
   where

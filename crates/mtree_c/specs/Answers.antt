@@ -48,7 +48,7 @@ pub record HasNoAnswer (file : List ℕ) (c : Command) (status : ℕ) : Type 0 w
   pub no_query : status ≡ 2 → IsNoQuery file c
   pub no_index : status ≡ 6 → (name : List ℕ) × IsNoIndex file name
   pub damaged : status ≡ 9 → (fault : PageFault) × ComesTo file c (outcome.Damaged fault)
-  pub statuses : (status ≡ 2) ⊎ ((status ≡ 5) ⊎ ((status ≡ 6) ⊎ ((status ≡ 8) ⊎ (status ≡ 9))))
+  pub statuses : (status ≡ 2) ⊎ ((status ≡ 6) ⊎ ((status ≡ 8) ⊎ (status ≡ 9)))
 
 -- the status of an outcome that is no answer to a query
 abbrev pub status_of : Result Outcome AllocError → ℕ

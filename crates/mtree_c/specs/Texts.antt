@@ -19,7 +19,7 @@ pub record IsAuditText (file text : List ℕ) (status : ℕ) : Type 0 where
   pub sound : status ≡ 0 → (objects : ℕ) × (nodes : ℕ) × IsSoundWith file objects nodes × (text ≡ sound_text objects nodes)
   pub rejected : status ≡ 1 → (fault : AuditFault) × IsAudited file (Some fault) × (text ≡ rejected_text fault)
   pub no_index : status ≡ 6 → IsUnopenedText file text
-  pub statuses : (status ≡ 0) ⊎ ((status ≡ 1) ⊎ ((status ≡ 5) ⊎ (status ≡ 6)))
+  pub statuses : (status ≡ 0) ⊎ ((status ≡ 1) ⊎ (status ≡ 6))
 
 -- The text on logs. Status 0 and 1: what is to be said of the file and of them; 6: it is no file of version 2; 7: there are more than
 -- 2^30 bytes of logs.
@@ -27,13 +27,15 @@ pub record IsLogText (what : Report) (file logs text : List ℕ) (status : ℕ) 
   pub judged : (status ≡ 0) ⊎ (status ≡ 1) → (said : Saying) × Says what file logs said × (text ≡ concat said.texts) × (status ≡ said.status)
   pub no_index : status ≡ 6 → IsUnopenedText file text
   pub long : status ≡ 7 → (2 ^ 30 < length logs) × (text ≡ codes "fault long\n")
-  pub statuses : (status ≡ 0) ⊎ ((status ≡ 1) ⊎ ((status ≡ 5) ⊎ ((status ≡ 6) ⊎ (status ≡ 7))))
+  pub statuses : (status ≡ 0) ⊎ ((status ≡ 1) ⊎ ((status ≡ 6) ⊎ (status ≡ 7)))
 
--- The text on carried logs. Status 0 and 1: the whole frames were shown in order, and then the last line; 7: there are more than 2^30
--- bytes.
+-- The text on carried logs. Status 0 and 1: the whole frames were shown in order, and then the last line. Status 7: there are more than
+-- 2^30 bytes; the first whole frames were shown in order, and then the line that says so.
 pub record IsProofText (root logs text : List ℕ) (status : ℕ) : Type 0 where
   pub shown : (status ≡ 0) ⊎ (status ≡ 1) →
       (frames : List Shown) × (rest : List ℕ) × (line : List ℕ) × (logs ≡ flat_map (λ (f : Shown). frame_bytes f.body) frames ++ rest) × AreShown root 0 frames
       × IsEnd rest (all_accepted frames) line status × (text ≡ flat_map (λ (f : Shown). f.text) frames ++ line)
-  pub long : status ≡ 7 → 2 ^ 30 < length logs
+  pub long : status ≡ 7 → (2 ^ 30 < length logs)
+      × ((frames : List Shown) × (rest : List ℕ) × (logs ≡ flat_map (λ (f : Shown). frame_bytes f.body) frames ++ rest) × AreShown root 0 frames
+      × (text ≡ flat_map (λ (f : Shown). f.text) frames ++ codes "fault long\n"))
   pub statuses : (status ≡ 0) ⊎ ((status ≡ 1) ⊎ (status ≡ 7))

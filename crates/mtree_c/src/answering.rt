@@ -66,7 +66,7 @@ fn open_file(alloc: Global, file: &[u8]) -> Result<(Head, Live), u8>
     ensures version { IfOk result (λ opened. opened.0.version ≡ 2) }
     ensures head { IfOk result (λ opened. IsLawfulHead opened.0) }
     ensures pages { IfOk result (λ opened. opened.1.pages ≤ 2 ^ 24) }
-    ensures status { IfErr result (λ status. (status ≡ 5) ⊎ ((status ≡ 6) × ((name : List ℕ) × IsNoIndex file.now name))) }
+    ensures status { IfErr result (λ status. (status ≡ 6) × ((name : List ℕ) × IsNoIndex file.now name)) }
 {
     let mut disk = SliceDisk::new(file);
     let mut line = Gathered::new(alloc);

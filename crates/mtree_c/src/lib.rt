@@ -1,8 +1,7 @@
 //! The index for programs in other languages. Each call takes the bytes of an index file, which the caller holds in memory or
 //! maps, and answers into the caller's own buffers. Nothing is kept between calls, and no call writes a file. A status is one
 //! of the program's own table: 0 done, 1 rejected, 2 no query, 4 a buffer is too small, 6 no index of version 2, 7 too long,
-//! 8 want of memory, 9 a damaged page. 5, the status of a disk that failed, would be that of a write to the bytes, which none
-//! of the calls tries.
+//! 8 out of memory, 9 a damaged page. 5, the status of a disk that failed, never comes: the bytes can always be read.
 #![tactic(auto)]
 
 mod answering;

@@ -2,7 +2,7 @@ use Rattle.std.proofs.Common.{refl, ap, List, ℕ}
 use Rattle.std.specs.Prelude.{Some}
 use Rattle.slice_disk.specs.Held.{held}
 use Rattle.mtree_c.specs.Texts.{IsAuditText}
-use Rattle.mtree_c.proofs.Told.{hands_text, audit_text}
+use Rattle.mtree_c.proofs.Told.{hands_text, audit_text, unwritten}
 use Rattle.mtree_c.proofs.judging.mtree_audit.Goals as goal
 
 pub returns : goal.returns
@@ -16,4 +16,5 @@ returns c =
     (λ no not_short not_memory. audit_text (held before.bytes.now before.faults before.reads) (held after.bytes.now after.faults after.reads)
     (record { written = Some c.new-out.result.bytes.items; faults = c.new-out.result.faults }) (record { written = Some out.bytes.items; faults = out.faults })
     c.args.file.now out.bytes.items refl c.new-disk.ensures.bytes (ap (λ (x : List ℕ). Some x) c.new-out.ensures.bytes) refl c.new-out.ensures.faults no
-    job.result.0 job.ensures.audits job.ensures.statuses not_short not_memory)
+    job.result.0 job.ensures.audits job.ensures.statuses not_short
+    (λ e. unwritten before.bytes.now after.bytes.now before.faults after.faults before.reads after.reads c.new-disk.ensures.faults job.ensures.audits.unchanged (job.ensures.audits.disk e).0) not_memory)

@@ -12,5 +12,5 @@ returns-clause-text c =
     c.hand_text.ensures.done c.hand_text.ensures.short c.hand_text.ensures.memory
     (λ none not_short not_memory. proof_text c.args.root.now.bytes c.args.logs.now job.new.log_in.left.now out.bytes.items (Some c.new-source.result.left.now) (Some job.new.log_in.left.now)
     (record { written = Some c.new-out.result.bytes.items; faults = c.new-out.result.faults }) (record { written = Some out.bytes.items; faults = out.faults }) job.result.0
-    (ap (λ (x : List ℕ). Some x) c.new-source.ensures) refl (ap (λ (x : List ℕ). Some x) c.new-out.ensures.bytes) refl job.ensures.proves job.ensures.statuses
+    (ap (λ (x : List ℕ). Some x) c.new-source.ensures) refl (ap (λ (x : List ℕ). Some x) c.new-out.ensures.bytes) refl c.new-out.ensures.faults none job.ensures.proves job.ensures.statuses
     (λ e. unmoved (job.ensures.input e)) not_short not_memory)
