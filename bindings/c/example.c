@@ -1,17 +1,18 @@
 /* example INDEX: maps an index file, and answers the queries on standard input, each a line `range,R,C1,..,CD` or
-   `nearest,K,C1,..,CD`, as the program's `batch` does. */
+   `nearest,K,C1,..,CD`, as the program's `batch` does. It holds the file meanwhile, so no process writes it. */
 #include "mtree.h"
 #include <fcntl.h>
 #include <stdio.h>
 #include <stdlib.h>
 #include <string.h>
+#include <sys/file.h>
 #include <sys/mman.h>
 #include <sys/stat.h>
 
 int main(int count, char **words) {
     struct stat about;
     int device = count == 2 ? open(words[1], O_RDONLY) : -1;
-    if (device < 0 || fstat(device, &about) != 0) return 10;
+    if (device < 0 || flock(device, LOCK_SH | LOCK_NB) != 0 || fstat(device, &about) != 0) return 10;
     const uint8_t *file = about.st_size ? mmap(NULL, about.st_size, PROT_READ, MAP_PRIVATE, device, 0) : NULL;
     if (file == MAP_FAILED) return 10;
 

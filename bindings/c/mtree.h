@@ -3,6 +3,15 @@
    Each call takes the bytes of an index file, read or mapped, and answers into the caller's buffers. The library keeps nothing
    between calls, opens no file, and writes none; every call may run in any thread, beside others.
 
+   The caller owes that no process writes the file while a call reads it. The programs of mtree hold a file by an advisory lock,
+   shared where they read it and exclusive where they write it. A caller does the same:
+
+       int handle = open(name, O_RDONLY);
+       if (flock(handle, LOCK_SH | LOCK_NB) != 0)
+           return in_use();                       // another process writes the index
+       map the file, and call; a file that has grown since is mapped anew
+       flock(handle, LOCK_UN);
+
    A buffer is a pointer and a number of elements; the pointer of an empty one may be NULL. The caller owes that each buffer is
    valid for its length, that nothing writes to what a call reads while it runs, and that no two buffers of a call overlap where
    one of them is written. The other pointers point to one value each.
@@ -14,9 +23,9 @@
      4  a buffer is too small; the sizes tell what is needed, and the buffers are as they were
      6  the bytes are no index of version 2
      7  there are more than 2^30 bytes of logs (verify, check, proof)
-     8  want of memory
+     8  out of memory
      9  the search came to a damaged page; audit names the file's fault (range, nearest)
-   5, the status of a device that failed, would be that of a write to the bytes, which no call tries. */
+   5, the status of a device that failed, never comes: the bytes can always be read. */
 #ifndef MTREE_H
 #define MTREE_H
 

@@ -4,6 +4,7 @@ Use: compare.py PROGRAM EXAMPLE, in an empty folder, where EXAMPLE is bindings/c
 
 import array
 import ctypes
+import fcntl
 import os
 import subprocess
 import sys
@@ -24,7 +25,7 @@ def same(found, wanted, about):
 
 def run(*words, given=""):
     """The status of the program, and what it writes."""
-    done = subprocess.run([PROGRAM, *words], input=given.encode(), stdout=subprocess.PIPE)
+    done = subprocess.run([PROGRAM, *words], input=given.encode(), stdout=subprocess.PIPE, stderr=subprocess.DEVNULL)
     return done.returncode, done.stdout.decode()
 
 
@@ -37,7 +38,7 @@ def told(report):
 
 
 def queries(dim, most, count):
-    """So many queries of points below `most`, as lines and as calls."""
+    """`count` queries of points below `most`, as lines and as calls."""
     seed = 12345
     for number in range(count):
         point = []
@@ -99,6 +100,64 @@ def compare_file(name, dim, most):
     hidden = run("batch", name, given=lines(asked))[1]
     found = subprocess.run([EXAMPLE, name], input=lines(asked).encode(), stdout=subprocess.PIPE)
     same((found.returncode, found.stdout.decode()), (0, hidden), f"the example in C on {name}")
+
+
+def raises(kind, call, about, words=""):
+    """The call raises this kind of exception, whose words hold these."""
+    try:
+        same(call(), kind.__name__, about)
+    except kind as error:
+        same(words in str(error), True, f"{about}: {error}")
+
+
+def compare_arguments(name, dim):
+    """What a caller may hand in, and what is refused in words."""
+    with mtree.Index(name) as index:
+        point = list(range(dim))
+        wanted = index.nearest(point, 3)
+        same(index.nearest((c for c in point), 3), wanted, "a point that is an iterator")
+        same(index.nearest([float(c) for c in point], 3), wanted, "floats that are whole")
+        same(index.range(point, 9.5), index.range(point, 9), "a radius with a fraction")
+        same(len(index.range(point, float("inf"))), len(index.range(point, 1 << 63)), "an infinite radius")
+        raises(mtree.NoQuery, lambda: index.nearest((c for c in [-1] * dim), 3), "an iterator of negative numbers")
+        raises(mtree.NoQuery, lambda: index.nearest([0.5] * dim, 3), "floats that are not whole", "0.5")
+        raises(mtree.NoQuery, lambda: index.nearest(["a"] * dim, 3), "words", "'a'")
+        raises(mtree.NoQuery, lambda: index.nearest(point + [1], 3), "a point too long", f"has {dim + 1} numbers, the index {dim}")
+        raises(mtree.NoQuery, lambda: index.nearest(point, 0), "none of the nearest", "at least 1")
+        raises(mtree.NoQuery, lambda: index.nearest(point, 2.7), "a count with a fraction", "2.7")
+        raises(mtree.NoQuery, lambda: index.range(point, float("nan")), "a radius that is no number", "nan")
+        raises(mtree.NoQuery, lambda: index.range(point, -1), "a negative radius", "-1")
+        log = index.nearest_with_log(point, 3)[1]
+        for held in (bytearray(log), memoryview(log), array.array("B", log)):
+            same(told(index.verify(held)), told(index.verify(log)), f"a log as {type(held).__name__}")
+        raises(TypeError, lambda: index.verify("abc"), "a log that is a text")
+        raises(TypeError, lambda: mtree.prove(3, bytes(32)), "a carried log that is a number")
+    raises(ValueError, lambda: index.nearest(point, 3), "a closed index", "is closed")
+
+
+def compare_changes(name):
+    """An index that another process writes between the calls, and while they run."""
+    run("create", name, "--metric", "l1", "--dim", "1")
+    with mtree.Index(name) as index:
+        same(index.range([0], 1 << 40), [], "an empty index")
+        for round in range(6):
+            run("session", name, given="".join(f"insert,{round * 50 + i}\n" for i in range(50)))
+            same(len(index.range([0], 1 << 40)), (round + 1) * 50, f"after {(round + 1) * 50} inserts of another process")
+        holder = open(name, "rb")
+        fcntl.flock(holder, fcntl.LOCK_EX)
+        raises(mtree.InUse, lambda: index.nearest([0], 1), "an index that another process writes", "another process writes it")
+        holder.close()
+        same(len(index.nearest([0], 7)), 7, "after the writer has gone")
+        fcntl.flock(open(name, "rb"), fcntl.LOCK_EX | fcntl.LOCK_NB)
+        session = subprocess.Popen([PROGRAM, "session", name], stdin=subprocess.PIPE, stdout=subprocess.DEVNULL, stderr=subprocess.DEVNULL)
+        session.stdin.write("".join(f"insert,{i}\n" for i in range(300)).encode())
+        session.stdin.close()
+        while session.poll() is None:
+            try:
+                same(len(index.range([0], 1 << 40)) in (300, 600), True, "beside a session that inserts")
+            except mtree.InUse:
+                pass
+        same(len(index.range([0], 1 << 40)) in (300, 600), True, "after a session that inserts")
 
 
 def compare_scan(name, dim, count):
@@ -177,6 +236,8 @@ def main():
     compare_file("empty.mt", 4, 20)
     compare_scan("many.mt", 3, 3000)
     compare_rooms("wide.mt", 5)
+    compare_arguments("wide.mt", 5)
+    compare_changes("changing.mt")
     compare_damage("tags.mt", 2)
     print(f"bindings: {compared} comparisons, {failed} failed")
     return 1 if failed else 0

@@ -7,19 +7,26 @@ objects. Every method may be called from several threads at once, and a call hol
         for hit in index.nearest([252, 9, 6], 2):
             print(hit.id, hit.distance)
 
-A point is a list of whole numbers below 2^32, or an array of numpy, which is taken without a copy where its type is uint32 and it is
-contiguous. The library is `libmtree.so` beside this file, or the file that the variable MTREE_LIBRARY names.
+A point is an iterable of whole numbers below 2^32, or an array of numpy of any integer type. An array of uint32 that is contiguous is
+taken without a copy. The library is `libmtree.so` beside this file, or the file that the variable MTREE_LIBRARY names.
+
+A call holds the system's shared lock on the file while it runs, so no process writes the file under it. Where one writes it, the call
+raises `InUse`. What another process added between two calls is seen by the second.
 """
 
 from __future__ import annotations
 
+import contextlib
 import ctypes
+import fcntl
+import math
 import mmap
+import operator
 import os
 import threading
-from typing import Any, Callable, Iterable, List, NamedTuple, Sequence, Tuple
+from typing import Any, Callable, Iterable, Iterator, List, NamedTuple, Optional, Tuple
 
-__all__ = ["Index", "prove", "Hit", "Report", "Error", "NoIndex", "NoQuery", "Damaged", "TooLong"]
+__all__ = ["Index", "prove", "Hit", "Report", "Error", "InUse", "NoIndex", "NoQuery", "Damaged", "TooLong"]
 
 
 class Hit(NamedTuple):
@@ -43,7 +50,11 @@ class Report(NamedTuple):
 
 
 class Error(Exception):
-    """A call that came to no answer. Its words are the program's."""
+    """A call that has no answer. Its words are the program's."""
+
+
+class InUse(Error):
+    """Another process writes the file."""
 
 
 class NoIndex(Error):
@@ -51,7 +62,7 @@ class NoIndex(Error):
 
 
 class NoQuery(Error, ValueError):
-    """The point is none of the file's space, or none of the nearest are asked for."""
+    """The point is not of the file's space, or a radius or a count is not what it may be."""
 
 
 class Damaged(Error):
@@ -75,7 +86,11 @@ _SHORT = 4
 
 def _load() -> ctypes.CDLL:
     beside = os.path.join(os.path.dirname(os.path.abspath(__file__)), "libmtree.so")
-    library = ctypes.CDLL(os.environ.get("MTREE_LIBRARY", beside))
+    name = os.environ.get("MTREE_LIBRARY", beside)
+    try:
+        library = ctypes.CDLL(name)
+    except OSError as reason:
+        raise ImportError(f"mtree needs its library: {reason}. Run bindings/build, or name the library in MTREE_LIBRARY.") from None
     place, size, number = ctypes.c_void_p, ctypes.c_size_t, ctypes.c_uint64
     query = [place, size, place, size, number, place, size, place, size, place]
     calls = {
@@ -95,21 +110,38 @@ def _load() -> ctypes.CDLL:
 _library = _load()
 
 
+def _coordinate(given: Any) -> int:
+    """A coordinate, as a whole number below 2^32. A float that is whole is taken."""
+    try:
+        whole = operator.index(given)
+    except TypeError:
+        try:
+            is_whole = float(given).is_integer()
+        except (TypeError, ValueError):
+            raise NoQuery(f"a point is a list of whole numbers, and {given!r} is none") from None
+        if not is_whole:
+            raise NoQuery(f"a coordinate is a whole number, and {given!r} is none")
+        whole = int(given)
+    if not 0 <= whole < 1 << 32:
+        raise NoQuery(f"a coordinate is a whole number from 0 to 4294967295, and {given!r} is none")
+    return whole
+
+
 def _point(point: Any) -> Tuple[Any, int, Any]:
-    """The place and the length of a point's coordinates, and what has to live while they are read."""
+    """The place and the number of a point's coordinates, and what has to live while they are read."""
     about = getattr(point, "__array_interface__", None)
     if about is not None:
-        if about["typestr"] == "<u4" and about.get("strides") is None and len(about["shape"]) == 1:
+        if len(about["shape"]) != 1:
+            raise NoQuery(f"a point is an array of one dimension, and this one has {len(about['shape'])}")
+        if about["typestr"] == "<u4" and about.get("strides") is None:
             return about["data"][0], about["shape"][0], point
         point = point.tolist()
     try:
-        whole = [int(c) for c in point]
+        given = list(point)
     except TypeError:
         raise NoQuery("a point is a list of whole numbers") from None
-    if any(c < 0 or c >= 1 << 32 or c != given for c, given in zip(whole, point)):
-        raise NoQuery("a coordinate is a whole number below 2^32")
-    held = (ctypes.c_uint32 * len(whole))(*whole)
-    return ctypes.addressof(held), len(whole), held
+    held = (ctypes.c_uint32 * len(given))(*map(_coordinate, given))
+    return ctypes.addressof(held), len(given), held
 
 
 class _Rooms(threading.local):
@@ -121,15 +153,16 @@ class _Rooms(threading.local):
 
 
 class Index:
-    """An index file, mapped."""
+    """An index file, mapped. It is opened at once, and read only within the calls."""
 
     def __init__(self, path: "os.PathLike[str] | str") -> None:
-        with open(path, "rb") as file:
-            self._size = os.fstat(file.fileno()).st_size
-            # A private map can be handed to ctypes; nothing writes to it, so no page of it is ever copied.
-            self._map = mmap.mmap(file.fileno(), 0, access=mmap.ACCESS_COPY) if self._size else None
-        self._held = (ctypes.c_char * self._size).from_buffer(self._map) if self._map is not None else None
-        self._file = ctypes.addressof(self._held) if self._held is not None else None
+        self._path = os.fspath(path)
+        self._handle: Optional[Any] = open(path, "rb", buffering=0)
+        self._readers = 0
+        self._turn = threading.Lock()
+        self._map: Optional[mmap.mmap] = None
+        self._held: Optional[Any] = None
+        self._seen: Optional[Tuple[int, int]] = None
         self._rooms = _Rooms()
 
     def __enter__(self) -> "Index":
@@ -139,46 +172,92 @@ class Index:
         self.close()
 
     def close(self) -> None:
-        """Lets go of the file. No call may be running, and none may follow."""
-        self._file, self._held = None, None
-        self._size = 0
+        """Lets go of the file. No call may be running. A call that follows raises ValueError."""
+        with self._turn:
+            self._unmap()
+            if self._handle is not None:
+                self._handle.close()
+                self._handle = None
+
+    def _unmap(self) -> None:
+        self._held, self._seen = None, None
         if self._map is not None:
             self._map.close()
             self._map = None
 
-    def range(self, point: Sequence[int], radius: int) -> List[Hit]:
-        """Every object within `radius` of a point, by distance, then by id."""
-        return self._ask(_library.mtree_range, point, _number(radius), False)[0]
+    def _map_anew(self, handle: Any) -> None:
+        """Maps the file where it is not mapped, or was changed since."""
+        now = os.fstat(handle.fileno())
+        seen = (now.st_size, now.st_mtime_ns)
+        if seen == self._seen:
+            return
+        self._unmap()
+        if now.st_size:
+            # A private map can be handed to ctypes; nothing writes to it, so no page of it is ever copied.
+            self._map = mmap.mmap(handle.fileno(), 0, access=mmap.ACCESS_COPY)
+            self._held = (ctypes.c_char * now.st_size).from_buffer(self._map)
+        self._seen = seen
 
-    def nearest(self, point: Sequence[int], count: int) -> List[Hit]:
+    @contextlib.contextmanager
+    def _reading(self) -> Iterator[Tuple[Any, int]]:
+        """The place and the size of the file's bytes. The file is held by a shared lock meanwhile, which all threads' calls share."""
+        with self._turn:
+            if self._handle is None:
+                raise ValueError(f"the index {self._path} is closed")
+            if self._readers == 0:
+                try:
+                    fcntl.flock(self._handle, fcntl.LOCK_SH | fcntl.LOCK_NB)
+                except BlockingIOError:
+                    raise InUse(f"{self._path} is in use: another process writes it") from None
+                try:
+                    self._map_anew(self._handle)
+                except BaseException:
+                    fcntl.flock(self._handle, fcntl.LOCK_UN)
+                    raise
+            self._readers += 1
+            held = self._held
+        try:
+            yield (None, 0) if held is None else (ctypes.addressof(held), len(held))
+        finally:
+            del held
+            with self._turn:
+                self._readers -= 1
+                if self._readers == 0 and self._handle is not None:
+                    fcntl.flock(self._handle, fcntl.LOCK_UN)
+
+    def range(self, point: Iterable[int], radius: float) -> List[Hit]:
+        """Every object within `radius` of a point, by distance, then by id. Distances are whole numbers; math.inf is every object."""
+        return self._ask(_library.mtree_range, point, _radius(radius), False)[0]
+
+    def nearest(self, point: Iterable[int], count: int) -> List[Hit]:
         """The `count` objects nearest to a point, by distance, then by id."""
-        return self._ask(_library.mtree_nearest, point, _number(count), False)[0]
+        return self._ask(_library.mtree_nearest, point, _count(count), False)[0]
 
-    def range_with_log(self, point: Sequence[int], radius: int) -> Tuple[List[Hit], bytes]:
+    def range_with_log(self, point: Iterable[int], radius: float) -> Tuple[List[Hit], bytes]:
         """The answer of `range`, and the frame of the log that shows it."""
-        return self._ask(_library.mtree_range, point, _number(radius), True)
+        return self._ask(_library.mtree_range, point, _radius(radius), True)
 
-    def nearest_with_log(self, point: Sequence[int], count: int) -> Tuple[List[Hit], bytes]:
+    def nearest_with_log(self, point: Iterable[int], count: int) -> Tuple[List[Hit], bytes]:
         """The answer of `nearest`, and the frame of the log that shows it."""
-        return self._ask(_library.mtree_nearest, point, _number(count), True)
+        return self._ask(_library.mtree_nearest, point, _count(count), True)
 
-    def range_of_each(self, points: Iterable[Sequence[int]], radius: int, threads: int = 1) -> List[List[Hit]]:
-        """The answer of `range` for each point, in their order, by so many threads."""
+    def range_of_each(self, points: Iterable[Iterable[int]], radius: float, threads: int = 1) -> List[List[Hit]]:
+        """The answer of `range` for each point, in their order, by `threads` threads."""
         return self._each(lambda point: self.range(point, radius), points, threads)
 
-    def nearest_of_each(self, points: Iterable[Sequence[int]], count: int, threads: int = 1) -> List[List[Hit]]:
-        """The answer of `nearest` for each point, in their order, by so many threads."""
+    def nearest_of_each(self, points: Iterable[Iterable[int]], count: int, threads: int = 1) -> List[List[Hit]]:
+        """The answer of `nearest` for each point, in their order, by `threads` threads."""
         return self._each(lambda point: self.nearest(point, count), points, threads)
 
     def audit(self) -> Report:
         """Audits the file."""
         return self._say(_library.mtree_audit)
 
-    def verify(self, logs: bytes) -> Report:
+    def verify(self, logs: Any) -> Report:
         """Judges logs, which stand in frames, by the file, which is not audited."""
         return self._say(_library.mtree_verify, logs)
 
-    def check(self, logs: bytes) -> Report:
+    def check(self, logs: Any) -> Report:
         """Audits the file, and where it is sound judges the logs by it and says their answers."""
         return self._say(_library.mtree_check, logs)
 
@@ -194,36 +273,52 @@ class Index:
     def _ask(self, call: Any, point: Any, bound: int, with_log: bool) -> Tuple[List[Hit], bytes]:
         place, coordinates, held = _point(point)
         rooms, sizes = self._rooms, _Sizes()
-        while True:
-            log_room = len(rooms.log) if with_log else 0
-            status = call(self._file, self._size, place, coordinates, bound, rooms.hits, len(rooms.hits), rooms.log, log_room,
-                          ctypes.byref(sizes))
-            if status != _SHORT:
-                break
-            if sizes.hits > len(rooms.hits):
-                rooms.hits = (_Hit * sizes.hits)()
-            if sizes.log > len(rooms.log):
-                rooms.log = (ctypes.c_uint8 * sizes.log)()
-        del held
-        if status != 0:
-            raise self._error(status)
+        with self._reading() as (file, size):
+            while True:
+                log_room = len(rooms.log) if with_log else 0
+                status = call(file, size, place, coordinates, bound, rooms.hits, len(rooms.hits), rooms.log, log_room, ctypes.byref(sizes))
+                if status != _SHORT:
+                    break
+                if sizes.hits > len(rooms.hits):
+                    rooms.hits = (_Hit * sizes.hits)()
+                if sizes.log > len(rooms.log):
+                    rooms.log = (ctypes.c_uint8 * sizes.log)()
+            del held
+            if status == 2:
+                raise NoQuery(_no_query(coordinates, ctypes.string_at(file + _DIMENSION_AT, 1)[0]))
+            if status != 0:
+                raise _error(status, "" if status == 8 else _text(_library.mtree_audit, file, size)[1])
         hits = [Hit(hit.id, hit.distance, hit.tag) for hit in rooms.hits[: sizes.hits]]
         return hits, bytes(memoryview(rooms.log)[: sizes.log])
 
-    def _say(self, call: Any, *logs: bytes) -> Report:
-        return _report(call, self._file, self._size, *(part for log in logs for part in (log, len(log))))
-
-    def _error(self, status: int) -> Exception:
-        if status == 2:
-            return NoQuery("the point is none of the file's space, or none of the nearest are asked for")
-        return _error(status, "" if status == 8 else _text(_library.mtree_audit, self._file, self._size)[1])
+    def _say(self, call: Any, *logs: Any) -> Report:
+        parts = [_bytes(log) for log in logs]
+        with self._reading() as (file, size):
+            return _report(call, file, size, *(part for log in parts for part in (log, len(log))))
 
 
-def prove(logs: bytes, root: bytes) -> Report:
+# Where the head of a file of version 2 holds its dimension.
+_DIMENSION_AT = 11
+
+
+def _no_query(coordinates: int, dimension: int) -> str:
+    """What is wrong with a point of these coordinates, on an index of this dimension."""
+    if coordinates != dimension:
+        return f"the point has {coordinates} numbers, the index {dimension}"
+    return "the point is not of the index's space: kendall takes rankings, and hausdorff sets of numbers"
+
+
+def _bytes(given: Any) -> bytes:
+    """Any bytes-like object as bytes. All else raises TypeError."""
+    return given if isinstance(given, bytes) else bytes(memoryview(given))
+
+
+def prove(logs: Any, root: Any) -> Report:
     """Judges carried logs, which stand in frames, by the root digest of 32 bytes of an index file, without the file."""
-    if len(root) != 32:
-        raise ValueError("a root digest has 32 bytes")
-    return _report(_library.mtree_proof, logs, len(logs), bytes(root))
+    carried, digest = _bytes(logs), _bytes(root)
+    if len(digest) != 32:
+        raise ValueError(f"a root digest has 32 bytes, and this one {len(digest)}")
+    return _report(_library.mtree_proof, carried, len(carried), digest)
 
 
 def _text(call: Any, *given: Any) -> Tuple[int, str]:
@@ -252,8 +347,22 @@ def _error(status: int, words: str) -> Exception:
     return kinds.get(status, Error)(words.strip())
 
 
-def _number(number: int) -> int:
-    """A radius or a count, as the library takes it: at most 2^64 - 1."""
-    if number < 0:
-        raise NoQuery("a radius or a count is no negative number")
-    return min(int(number), (1 << 64) - 1)
+def _radius(radius: float) -> int:
+    """A radius, as the library takes it. Distances are whole numbers below 2^39, so a fraction is cut off and a greater radius is all."""
+    try:
+        if not radius >= 0:
+            raise NoQuery(f"a radius is a number from 0 on, and {radius!r} is none")
+        return (1 << 64) - 1 if radius >= 1 << 64 else math.floor(radius)
+    except TypeError:
+        raise NoQuery(f"a radius is a number from 0 on, and {radius!r} is none") from None
+
+
+def _count(count: int) -> int:
+    """How many of the nearest are asked for, as the library takes it: at least 1."""
+    try:
+        whole = operator.index(count)
+    except TypeError:
+        raise NoQuery(f"how many are asked for is a whole number, and {count!r} is none") from None
+    if whole < 1:
+        raise NoQuery(f"at least 1 of the nearest is to be asked for, and not {whole}")
+    return min(whole, (1 << 64) - 1)
