@@ -1,5 +1,5 @@
 -- The beginning and the end of the machine, on a sound tree.
-use Rattle.std.proofs.Common.{◌≡◌, ℕ, zero, suc, ◌+◌, ◌<◌, ◌≤◌, true, false, List, [], ◌∷◌, refl, sym, ap, inl, inr, arith, ◌∙◌, length, take, subst, Some, None}
+use Rattle.std.proofs.Common.{◌≡◌, ℕ, zero, suc, ◌+◌, ◌<◌, ◌≤◌, true, false, List, [], ◌∷◌, refl, sym, ap, inl, inr, arith, ◌∙◌, length, take, subst, Option, Some, None}
 use Rattle.std.specs.Prelude.{IsTrue, nat_le, IsPermutation}
 use Rattle.std.specs.List.{AllByRecursion}
 use Rattle.std.proofs.lemmas.Bool.Decides.{nat_tests}
@@ -11,19 +11,20 @@ use Rattle.scan_model.specs.declared.query.Query.TheVariants.{Nearest}
 use Rattle.tree_shape.specs.declared.live.Live.{Live}
 use Rattle.tree_shape.specs.declared.entry.LeafEntry.{LeafEntry}
 use Rattle.tree_shape.specs.declared.entry.InnerEntry.{InnerEntry}
-use Rattle.tree_shape.specs.declared.entry.Node.{Node}
 use Rattle.tree_shape.specs.Fill.{root_least}
 use Rattle.tree_shape.specs.Tree.{Nodes, IsSoundTree, IsNodePage, objects_at, objects, pages_at, inner_entries}
 use Rattle.tree_shape.proofs.Published.{few}
 use Rattle.log_model.specs.declared.marks.Record.{Record}
+use Rattle.log_model.specs.declared.marks.Need.{Need}
 use Rattle.log_model.specs.InOrder.{in_order, hit_before}
 use Rattle.log_model.specs.Sound.{pruning_radius}
-use Rattle.log_model.specs.Walk.{Search, away, search_at, WalksBy, AreLeast, AreAllowed, root_need}
+use Rattle.log_model.specs.Walk.{Search, away, search_at, WalksBy, ReachesBy, AreLeast, AreAllowed, root_need}
 use Rattle.log_model.proofs.Published.{Spot, answers_in, walks_wider, least_allowed, root_names}
 use Rattle.nearest_search.specs.declared.pending.Pending.{Pending}
 use Rattle.nearest_search.specs.Counts.{IsRadius}
-use Rattle.nearest_search.specs.Machine.{level_of, objects_below, count_near, pending_of, pending_root, reaches, opens, opens_of, IsFinal, IsPending, IsKept, Holds}
-use Rattle.nearest_search.specs.Relog.{IsRelogged}
+use Rattle.nearest_search.specs.Machine.{level_of, objects_below, count_near, pending_of, pending_root, reaches, opens, opens_of, IsFinal, IsPending, Holds}
+use Rattle.nearest_search.specs.Relog.{IsStopped}
+use Rattle.nearest_search.specs.Keeping.{Sheets, IsKept}
 use Rattle.nearest_search.proofs.Totals.{total-none, total-permutation}
 use Rattle.nearest_search.proofs.Near.{level_is}
 use Rattle.nearest_search.proofs.Steps.{final_at_end, next_low}
@@ -46,14 +47,13 @@ module _ (s : Space) (axioms : IsSpace s) (nodes : Nodes) (live : Live) (q : Lis
   pub level : level_of (nodes root) ≡ live.height
   level = level_is s nodes live.height (root_least live.height) None live.root sound.parts
 
-  pub begins : Holds s nodes q k root (λ page. None) (pending_root root ∷ []) [] 0
+  pub begins : Holds s nodes q k root (λ page above. None) (pending_root root ∷ []) [] 0
   begins = record {
     queued = λ x i. elim i [ inl e ↦ subst (λ (y : Pending). IsPending (search_at s q 0) nodes y) (sym e) whole | inr w ↦ absurd w ];
     counts = λ r low. omega arith;
-    agrees = λ page node is. absurd (cc);
     closed = λ rho final. record {
       begun = inr (inl refl);
-      reached = λ page node is e i far. absurd (cc);
+      reached = λ page above kept e i far. absurd (let is = kept.1 in cc);
       counted = (let z : nat_le 0 rho ≡ true = grind (arith, nat_tests) in rw z (omega arith));
     };
   }
@@ -77,7 +77,7 @@ module _ (s : Space) (axioms : IsSpace s) (nodes : Nodes) (live : Live) (q : Lis
       rw level (omega arith)
 
   -- the search never comes to the limit
-  pub room : (kept : Nodes) (queue : List Pending) (best : List ℕ) (opened : ℕ) → Holds s nodes q k root kept queue best opened → (rho : ℕ) → IsRadius k best rho →
+  pub room : (kept : Sheets) (queue : List Pending) (best : List ℕ) (opened : ℕ) → Holds s nodes q k root kept queue best opened → (rho : ℕ) → IsRadius k best rho →
       (x : Pending) (rest : List Pending) → IsPermutation queue (x ∷ rest) → x.low ≤ rho → ((y : Pending) → IsIn y queue → x.low ≤ y.low) → opened < live.pages
   room kept queue best opened holds rho radius x rest popped low first =
       let final = has_final k (λ r. count_near (search_at s q 0) r (objects_below nodes root)) in
@@ -90,7 +90,7 @@ module _ (s : Space) (axioms : IsSpace s) (nodes : Nodes) (live : Live) (q : Lis
       let here : opens_of (search_at s q final.0) nodes x ≡ opens (search_at s q final.0) nodes (level_of (nodes x.page)) x.page = rw is_low refl in
       omega arith
 
-  module _ (some : 1 ≤ k) (kept : Nodes) (queue : List Pending) (best : List ℕ) (opened : ℕ) (holds : Holds s nodes q k root kept queue best opened) (rho : ℕ) (radius : IsRadius k best rho)
+  module _ (some : 1 ≤ k) (kept : Sheets) (queue : List Pending) (best : List ℕ) (opened : ℕ) (holds : Holds s nodes q k root kept queue best opened) (rho : ℕ) (radius : IsRadius k best rho)
       (beyond : (x : Pending) → IsIn x queue → rho < x.low) where
     abbrev pub f : Search
     f = search_at s q rho
@@ -101,10 +101,10 @@ module _ (s : Space) (axioms : IsSpace s) (nodes : Nodes) (live : Live) (q : Lis
     pub not_queued : (e : InnerEntry) → IsTrue (reaches f e) → IsIn (pending_of f e) queue → ⊥
     not_queued e far i = let b = beyond (pending_of f e) i in let l : away f e.point ≤ rho + e.radius = grind (arith, nat_tests) in omega arith
 
-    pub children_kept : (page : ℕ) (node : Node) → kept page ≡ Some node → (e : InnerEntry) → IsIn e (inner_entries (Some node)) → IsTrue (reaches f e) → IsKept kept e.child
-    children_kept page node is e i far = elim ((holds.closed rho final).reached page node is e i far) [ inl w ↦ w | inr w ↦ absurd (not_queued e far w) ]
+    pub children_kept : (page : ℕ) (above : Option ℕ) → IsKept kept page above → (e : InnerEntry) → IsIn e (inner_entries (nodes page)) → IsTrue (reaches f e) → IsKept kept e.child (Some (away f e.point))
+    children_kept page above here e i far = elim ((holds.closed rho final).reached page above here e i far) [ inl w ↦ w | inr w ↦ absurd (not_queued e far w) ]
 
-    pub root_kept : IsKept kept root
+    pub root_kept : IsKept kept root None
     root_kept = elim (holds.closed rho final).begun [ inl w ↦ w | inr w ↦ absurd (let b = beyond (pending_root root) w in low b) ]
       where
         low : rho < 0 → ⊥
@@ -123,13 +123,13 @@ module _ (s : Space) (axioms : IsSpace s) (nodes : Nodes) (live : Live) (q : Lis
     pub final_objects : IsFinal k (λ r. count_near (search_at s q 0) r (objects nodes live)) rho
     final_objects = subst (λ (os : List LeafEntry). IsFinal k (λ r. count_near (search_at s q 0) r os) rho) (ap (λ l. objects_at nodes l root) level) final
 
-    -- the log that is written of the kept nodes is the least one, and its answers are the scan's
-    pub ends : (hits : List Hit) (records : List Record) → IsRelogged f kept live records hits →
+    -- the log that is written of what is kept is the least one, and its answers are the scan's
+    pub ends : (hits : List Hit) (records : List Record) (left : List Need) → ReachesBy AreLeast f nodes (root_need root ∷ []) records hits left → IsStopped kept live records left →
         WalksBy AreLeast f nodes (root_need live.root ∷ []) records hits × (length records ≡ opened) × (pruning_radius (Nearest q k) (take k (in_order hit_before hits)) ≡ rho)
-    ends hits records logged = (walk, long, prunes)
+    ends hits records left reached stopped = (walk, long, prunes)
       where
         walk : WalksBy AreLeast f nodes (root_need live.root ∷ []) records hits
-        walk = relog_whole f nodes kept holds.agrees children_kept live sound root_kept records hits logged
+        walk = relog_whole f nodes kept children_kept live sound root_kept records hits left reached stopped
 
         named : hits ≡ answers_in f (objects nodes live)
         named = root_names s axioms nodes live sound f refl q_fits records hits (walks_wider AreLeast AreAllowed f nodes (least_allowed f) (root_need live.root ∷ []) records hits walk)
