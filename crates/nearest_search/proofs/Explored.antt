@@ -41,10 +41,10 @@ use Rattle.nearest_search.specs.declared.seen.Seen.{Seen}
 use Rattle.nearest_search.specs.declared.seen.Seen.TheVariants.{Objects, Subtrees}
 use Rattle.nearest_search.specs.Seeing.{IsSeenOf, object_sight, subtree_sight, sights, mark_at, is_near, seen_near, hit_seen, need_seen, hits_seen, record_seen}
 use Rattle.nearest_search.specs.Keeping.{Sheets, kept_seen, IsKept, AreSeenOf, KeepsFew}
-use Rattle.nearest_search.specs.Machine.{pending_root, pending_of, pendings_of, dists_of}
+use Rattle.nearest_search.specs.Machine.{pending_root, pending_of, pendings_of, dists_of, entries_in, entries_of}
 use Rattle.nearest_search.specs.Opened.{State, Takes, IsOpened}
 use Rattle.nearest_search.specs.Relog.{TakesSeen, IsRelogging, IsRelogged, IsStopped}
-use Rattle.nearest_search.specs.Searched.{IsReachedBy, IsReached, IsExploring, IsExplored, HasNearestCause, IsFront, IsNearest}
+use Rattle.nearest_search.specs.Searched.{marks_in, IsReachedBy, IsReached, IsExploring, IsExplored, HasNearestCause, IsFront, IsNearest}
 use Rattle.nearest_search.proofs.Totals.{in-permutation, in-permutation_back, within_all}
 use Rattle.nearest_search.proofs.Steps.{step}
 use Rattle.nearest_search.proofs.Ends.{begins, room, ends}
@@ -132,11 +132,11 @@ queued_child f above (Inner level es) x k =
     let from = in-map (pending_of f) (near_ones es (least_marks f above (Inner level es))) x k in
     (from.0, near-in es (least_marks f above (Inner level es)) from.0 from.1, ap (λ (y : Pending). y.page) from.2)
 
-abbrev pub first_state : Live → State
-first_state live = record { queue = pending_root live.root ∷ []; best = []; kept = kept_seen [] }
+abbrev pub first_state : Live → ℕ → State
+first_state live used = record { queue = pending_root live.root ∷ []; best = []; kept = kept_seen []; used = used }
 
-module _ (s : Space) (axioms : IsSpace s) (old : Shelf) (live : Live) (q : List ℕ) (q_fits : IsTrue (s.fits q)) (k : ℕ) where
-  pub explore_begins : IsExploring s old old live q k (first_state live) 0
+module _ (s : Space) (axioms : IsSpace s) (old : Shelf) (live : Live) (q : List ℕ) (q_fits : IsTrue (s.fits q)) (k used : ℕ) where
+  pub explore_begins : IsExploring s old old live q k (first_state live used) 0 used
   explore_begins = record {
     same = record { dim = refl; pages = refl; tells = refl; read = refl; faults = (omega arith) };
     asked = refl;
@@ -147,20 +147,23 @@ module _ (s : Space) (axioms : IsSpace s) (old : Shelf) (live : Live) (q : List 
     agrees = λ tells rho radius page above seen is. absurd (cc);
     reached = λ tells x k. elim k [ inl e ↦ ([], sym (ap (λ (y : Pending). y.page) e)) | inr w ↦ absurd w ];
     walk = λ tells. record { opened = []; walk = λ k. omega arith; count_is = refl };
+    pages = [];
+    long = refl;
+    spent = λ tells. omega arith;
     holds = λ tells sound. begins s axioms (nodes_of old.read) live q q_fits k sound;
   }
 
-  module _ (now : Shelf) (state : State) (opened : ℕ) (before : IsExploring s old now live q k state opened) (rho : ℕ) (radius : IsRadius k state.best rho) (next : Pending) (rest : List Pending) (first : IsNext rho state.queue next rest) where
+  module _ (now : Shelf) (state : State) (opened : ℕ) (before : IsExploring s old now live q k state opened used) (rho : ℕ) (radius : IsRadius k state.best rho) (next : Pending) (rest : List Pending) (first : IsNext rho state.queue next rest) where
     next_reached : IsTrue old.tells → IsReached (nodes_of old.read) live.root next.page
     next_reached tells = before.reached tells next (in-permutation_back state.queue (next ∷ rest) next first.popped (inl refl))
 
     pub explore_steps : (f : Search) (j : ℕ) (new : Shelf) (after : State) → f ≡ search_at s q rho → j ≡ k →
-        IsOpened f now j next (record { queue = rest; best = state.best; kept = state.kept }) after → HoldsSame now new →
-        new.asked ≡ next_count now.asked → new.reads ≤ now.reads + 1 → opened < live.pages → IsExploring s old new live q k after (opened + 1)
+        IsOpened f now j next (record { queue = rest; best = state.best; kept = state.kept; used = state.used }) after → HoldsSame now new →
+        new.asked ≡ next_count now.asked → new.reads ≤ now.reads + 1 → opened < live.pages → IsExploring s old new live q k after (opened + 1) used
     explore_steps f j new after is_search is_k does same asked reads low =
-        let done : IsOpened (search_at s q rho) now k next (record { queue = rest; best = state.best; kept = state.kept }) after =
-        subst (λ (n : ℕ). IsOpened (search_at s q rho) now n next (record { queue = rest; best = state.best; kept = state.kept }) after) is_k
-        (subst (λ (g : Search). IsOpened g now j next (record { queue = rest; best = state.best; kept = state.kept }) after) is_search does) in
+        let done : IsOpened (search_at s q rho) now k next (record { queue = rest; best = state.best; kept = state.kept; used = state.used }) after =
+        subst (λ (n : ℕ). IsOpened (search_at s q rho) now n next (record { queue = rest; best = state.best; kept = state.kept; used = state.used }) after) is_k
+        (subst (λ (g : Search). IsOpened g now j next (record { queue = rest; best = state.best; kept = state.kept; used = state.used }) after) is_search does) in
         record {
           same = holds_both old now new before.same same;
           asked = asked ∙ ap next_count before.asked ∙ count_up_more old.asked opened ∙ ap (count_up old.asked) (let e : suc opened ≡ opened + 1 = omega arith in e);
@@ -197,7 +200,12 @@ module _ (s : Space) (axioms : IsSpace s) (old : Shelf) (live : Live) (q : List 
           walk = λ tells.
               walk_opens (nodes_of old.read) (live.root ∷ []) opened state.queue rest next first.popped (before.walk tells) (search_at s q rho) next.above done.node after.queue
               (told_then old now next.page done.node before.same done.is tells) done.pushed;
-          holds = λ tells sound. step s axioms q q_fits (nodes_of old.read) k live.root state.kept state.queue state.best opened (before.holds tells sound) rho radius next rest first.popped first.low first.first
+          pages = next.page ∷ before.pages;
+          long = (let l = before.long in omega arith);
+          spent = λ tells.
+              (let b = before.spent tells in let m = done.measured in
+              let here : entries_of (nodes_of old.read) next.page ≡ entry_count done.node = ap entries_in (told_then old now next.page done.node before.same done.is tells) in omega arith);
+          holds = λ tells sound. step s axioms q q_fits (nodes_of old.read) k live.root state.kept state.queue state.best before.pages (before.holds tells sound) rho radius next rest first.popped first.low first.first
               done.node (told_then old now next.page done.node before.same done.is tells) after.queue done.pushed after.best done.noted after.kept done.seen done.here done.others;
         }
 
@@ -255,7 +263,8 @@ module _ (s : Space) (axioms : IsSpace s) (old : Shelf) (live : Live) (q : List 
 
     pub explore_room : opened ≡ live.pages → IsTrue old.tells → IsSoundTree s (nodes_of old.read) live → ⊥
     explore_room all tells sound =
-        let r = room s axioms (nodes_of old.read) live q q_fits k sound state.kept state.queue state.best opened (before.holds tells sound) rho radius next rest first.popped first.low first.first in
+        let r = room s axioms (nodes_of old.read) live q q_fits k sound state.kept state.queue state.best before.pages (before.holds tells sound) rho radius next rest first.popped first.low first.first in
+        let l = before.long in
         omega arith
 
   -- the log that is written at the end
@@ -275,13 +284,13 @@ module _ (s : Space) (axioms : IsSpace s) (old : Shelf) (live : Live) (q : List 
             (rw query answers) (omega arith) (rw are (omega arith)) (rw are logged.few_marks);
       }
 
-  pub nearest_ends : 1 ≤ k → (now : Shelf) (state : State) (rho opened : ℕ) → IsExplored s old now live q k state rho opened → (records : List Record) (hits : List Hit) → IsRelogged rho state.kept live records hits →
+  pub nearest_ends : 1 ≤ k → (now : Shelf) (state : State) (rho opened : ℕ) → IsExplored s old now live q k state rho opened used → (records : List Record) (hits : List Hit) → IsRelogged rho state.kept live records hits →
       (found : Found) → found.log.records ≡ records → found.log.answers ≡ selected (Nearest q k) hits → IsLogOf live (Nearest q k) found →
       IsTrue old.tells → IsSoundTree s (nodes_of old.read) live → IsNearest s (nodes_of old.read) live q k old now found
   nearest_ends some now state rho opened explored records hits logged found are answers named tells sound =
-      let end = ends s axioms (nodes_of old.read) live q q_fits k sound some state.kept state.queue state.best opened (explored.exploring.holds tells sound) rho explored.radius explored.beyond hits records logged.left
+      let end = ends s axioms (nodes_of old.read) live q q_fits k sound some state.kept state.queue state.best explored.exploring.pages (explored.exploring.holds tells sound) rho explored.radius explored.beyond hits records logged.left
       (logged.walk s q (nodes_of old.read) (explored.exploring.agrees tells rho explored.radius)) logged.ends in
-      let long : length found.log.records ≡ opened = ap length are ∙ end.1 in
+      let long : length found.log.records ≡ opened = ap length are ∙ end.1 ∙ explored.exploring.long in
       let search : search_at s q rho ≡ search_for s found.log.query found.log.answers =
       ap (search_at s q) (sym end.2) ∙ (λ i. search_for s (sym named.query_is i) (sym answers i)) in
       let least : IsLeastLog s (nodes_of old.read) live (Nearest q k) found.log = (
@@ -305,8 +314,17 @@ module _ (s : Space) (axioms : IsSpace s) (old : Shelf) (live : Live) (q : List 
         reads = (let r = explored.exploring.reads in omega arith);
       }
 
+  -- on a sound tree at most one distance was computed for each entry that the log marks
+  pub nearest_spent : 1 ≤ k → (now : Shelf) (state : State) (rho opened : ℕ) → IsExplored s old now live q k state rho opened used → (records : List Record) (hits : List Hit) → IsRelogged rho state.kept live records hits →
+      (found : Found) → found.log.records ≡ records → IsTrue old.tells → IsSoundTree s (nodes_of old.read) live → state.used ≤ used + marks_in found.log.records
+  nearest_spent some now state rho opened explored records hits logged found are tells sound =
+      let end = ends s axioms (nodes_of old.read) live q q_fits k sound some state.kept state.queue state.best explored.exploring.pages (explored.exploring.holds tells sound) rho explored.radius explored.beyond hits records logged.left
+      (logged.walk s q (nodes_of old.read) (explored.exploring.agrees tells rho explored.radius)) logged.ends in
+      let spent = explored.exploring.spent tells in
+      rw are (let entries = end.3 in omega arith)
+
   -- on any tree the log is a front of the walk, with the root's record
-  pub nearest_front : (now : Shelf) (state : State) (rho opened : ℕ) → IsExplored s old now live q k state rho opened → (records : List Record) (hits : List Hit) →
+  pub nearest_front : (now : Shelf) (state : State) (rho opened : ℕ) → IsExplored s old now live q k state rho opened used → (records : List Record) (hits : List Hit) →
       IsRelogged rho state.kept live records hits → (found : Found) → found.log.records ≡ records → found.log.answers ≡ selected (Nearest q k) hits → IsTrue old.tells →
       IsFront s (nodes_of old.read) live q k found
   nearest_front now state rho opened explored records hits logged found are answers tells = record {

@@ -106,7 +106,7 @@ module _ (s : Space) (axioms : IsSpace s) (q : List ℕ) (q_fits : IsTrue (s.fit
     abbrev pub counted : ℕ → ℕ
     counted r = count_near (at 0) r (objects_below nodes root)
 
-    module _ (kept : Sheets) (queue : List Pending) (best : List ℕ) (opened : ℕ) (holds : Holds s nodes q k root kept queue best opened) (rho : ℕ) (radius : IsRadius k best rho) where
+    module _ (kept : Sheets) (queue : List Pending) (best : List ℕ) (opened : List ℕ) (holds : Holds s nodes q k root kept queue best opened) (rho : ℕ) (radius : IsRadius k best rho) where
       -- where all that waits is beyond r, the least distances tell how many are within
       pub all_beyond : (r : ℕ) → r ≤ bound → ((x : Pending) → IsIn x queue → r < x.low) → min k (within r best) ≡ min k (counted r)
       all_beyond r low far =
@@ -167,17 +167,17 @@ module _ (s : Space) (axioms : IsSpace s) (q : List ℕ) (q_fits : IsTrue (s.fit
       (map-in (pending_of (at rho)) (filter (reaches (at rho)) sound.0) e (filter-in (reaches (at rho)) sound.0 e w far))))
 
   -- the pages that the final walk opens below an opened page are those below what it queues, and itself
-  pub opens_more : (rho final : ℕ) → final ≤ rho → (h least : ℕ) (above : Option (List ℕ)) (page : ℕ) (node : Node) → IsSoundAt s nodes h least above page → FitsUp s above → nodes page ≡ Some node →
-      opens (at final) nodes h page ≡ suc (total (opens_of (at final) nodes) (pendings_of (at rho) (far_above (at 0) above) node))
-  opens_more rho final low zero least above page node sound fit is =
+  pub opens_more : (w : ℕ → ℕ) (rho final : ℕ) → final ≤ rho → (h least : ℕ) (above : Option (List ℕ)) (page : ℕ) (node : Node) → IsSoundAt s nodes h least above page → FitsUp s above → nodes page ≡ Some node →
+      opens w (at final) nodes h page ≡ w page + total (opens_of w (at final) nodes) (pendings_of (at rho) (far_above (at 0) above) node)
+  opens_more w rho final low zero least above page node sound fit is =
       let same : node ≡ Leaf sound.0 = same_node (nodes page) node (Leaf sound.0) is sound.1 in
-      subst (λ (n : Node). 1 ≡ suc (total (opens_of (at final) nodes) (pendings_of (at rho) (far_above (at 0) above) n))) (sym same) refl
-  opens_more rho final low (suc h) least above page node sound fit is =
+      subst (λ (n : Node). w page ≡ w page + total (opens_of w (at final) nodes) (pendings_of (at rho) (far_above (at 0) above) n)) (sym same) (omega arith)
+  opens_more w rho final low (suc h) least above page node sound fit is =
       let same : node ≡ Inner (suc h) sound.0 = same_node (nodes page) node (Inner (suc h) sound.0) is sound.1 in
       rw (same, sound.1, far_above_at s q 0 rho above, above_same (at rho) above, near_reaches (at rho) axioms q_fits nodes h above (fits_same s above fit) sound.0 sound.3)
-      (ap suc (opens_covered (at rho) (at final) refl nodes h above sound.0 sound.3 (λ p. refl) low))
+      (ap (λ n. w page + n) (opens_covered w (at rho) (at final) refl nodes h above sound.0 sound.3 (λ p. refl) low))
 
-  module _ (k root : ℕ) (kept : Sheets) (queue : List Pending) (best : List ℕ) (opened : ℕ) (holds : Holds s nodes q k root kept queue best opened) (rho : ℕ) (radius : IsRadius k best rho) where
+  module _ (k root : ℕ) (kept : Sheets) (queue : List Pending) (best : List ℕ) (opened : List ℕ) (holds : Holds s nodes q k root kept queue best opened) (rho : ℕ) (radius : IsRadius k best rho) where
     module _ (x : Pending) (rest : List Pending) (popped : IsPermutation queue (x ∷ rest)) (low : x.low ≤ rho) (first : (y : Pending) → IsIn y queue → x.low ≤ y.low) (node : Node) (is : nodes x.page ≡ Some node) where
       pub waited : IsPending (at 0) nodes x
       waited = holds.queued x (in-permutation_back queue (x ∷ rest) x popped (inl refl))
@@ -196,13 +196,13 @@ module _ (s : Space) (axioms : IsSpace s) (q : List ℕ) (q_fits : IsTrue (s.fit
           queues_sound rho waited.height waited.least waited.above x.page node waited.sound waited.fits is y
           (subst (λ (o : Option ℕ). IsIn y (pendings_of (at rho) o node)) waited.above_is i)
 
-      pub opens_here : (final : ℕ) → final ≤ rho → x.low ≤ final → opens_of (at final) nodes x ≡ suc (total (opens_of (at final) nodes) (pendings_of (at rho) x.above node))
-      opens_here final high reach =
+      pub opens_here : (w : ℕ → ℕ) (final : ℕ) → final ≤ rho → x.low ≤ final → opens_of w (at final) nodes x ≡ w x.page + total (opens_of w (at final) nodes) (pendings_of (at rho) x.above node)
+      opens_here w final high reach =
           let yes_low : nat_le x.low final ≡ true = grind (arith, nat_tests) in
-          let deep : opens_of (at final) nodes x ≡ opens (at final) nodes waited.height x.page =
+          let deep : opens_of w (at final) nodes x ≡ opens w (at final) nodes waited.height x.page =
           rw (yes_low, level_is s nodes waited.height waited.least waited.above x.page waited.sound) refl in
-          deep ∙ opens_more rho final high waited.height waited.least waited.above x.page node waited.sound waited.fits is
-          ∙ ap (λ (o : Option ℕ). suc (total (opens_of (at final) nodes) (pendings_of (at rho) o node))) (sym waited.above_is)
+          deep ∙ opens_more w rho final high waited.height waited.least waited.above x.page node waited.sound waited.fits is
+          ∙ ap (λ (o : Option ℕ). w x.page + total (opens_of w (at final) nodes) (pendings_of (at rho) o node)) (sym waited.above_is)
 
       -- the state after the page was opened
       module _ (queue' : List Pending) (pushed : IsPermutation (pendings_of (at rho) x.above node ++ rest) queue') (best' : List ℕ)
@@ -247,13 +247,13 @@ module _ (s : Space) (axioms : IsSpace s) (q : List ℕ) (q_fits : IsTrue (s.fit
               | inr w ↦ inr (in-permutation (pendings_of (at rho) x.above node ++ rest) queue' y pushed (in-append_right (pendings_of (at rho) x.above node) rest y w))
             ]
 
-        pub closed_after : (final : ℕ) → IsFinal k (λ r. count_near (at 0) r (objects_below nodes root)) final → IsClosed (at final) nodes kept' root queue' (opened + 1)
+        pub closed_after : (final : ℕ) → IsFinal k (λ r. count_near (at 0) r (objects_below nodes root)) final → IsClosed (at final) nodes kept' root queue' (x.page ∷ opened)
         closed_after final final_is = record {
           begun = elim old.begun [ inl w ↦ inl (kept_after root None w) | inr w ↦ waits_after (pending_root root) w ];
           reached = λ page above k' e i far. cases page above k' e i far (others page above);
-          counted =
-              (let o = old.counted in let a = total_after (opens_of (at final) nodes) in let b = total_before (opens_of (at final) nodes) in
-              let h = opens_here final high (next_low k root kept queue best opened holds rho radius x low first final final_is) in omega arith);
+          weighed = λ w.
+              (let o = old.weighed w in let a = total_after (opens_of w (at final) nodes) in let b = total_before (opens_of w (at final) nodes) in
+              let h = opens_here w final high (next_low k root kept queue best opened holds rho radius x low first final final_is) in omega arith);
         }
           where
             old : IsClosed (at final) nodes kept root queue opened
@@ -275,7 +275,7 @@ module _ (s : Space) (axioms : IsSpace s) (q : List ℕ) (q_fits : IsTrue (s.fit
                 elim (old.reached page above (k'.0, sym same ∙ k'.1) e i far) [ inl w ↦ inl (kept_after e.child (Some (away (at final) e.point)) w) | inr w ↦ waits_after (pending_of (at final) e) w ]
 
         -- one step keeps what holds
-        pub step : Holds s nodes q k root kept' queue' best' (opened + 1)
+        pub step : Holds s nodes q k root kept' queue' best' (x.page ∷ opened)
         step = record {
           queued = queued_after;
           counts = counts_after;

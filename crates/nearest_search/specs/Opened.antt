@@ -1,9 +1,10 @@
 -- What opening a page does.
-use Rattle.std.specs.Prelude.{◌≡◌, ◌⊎◌, ℕ, ◌+◌, List, ◌++◌, map, min, Option, Some, IsPermutation}
+use Rattle.std.specs.Prelude.{◌≡◌, ◌⊎◌, ℕ, ◌+◌, ◌≤◌, List, ◌++◌, map, min, Option, Some, IsPermutation}
 use Rattle.tree_shape.specs.declared.entry.LeafEntry.{LeafEntry}
 use Rattle.tree_shape.specs.declared.entry.InnerEntry.{InnerEntry}
 use Rattle.tree_shape.specs.declared.entry.Node.{Node}
 use Rattle.page_store.specs.Shelf.{Shelf, IsNodeOf}
+use Rattle.log_model.specs.Counts.{entry_count}
 use Rattle.log_model.specs.Walk.{Search, near_ones, hit_of, leaf_marks, inner_marks}
 use Rattle.nearest_search.specs.declared.pending.Pending.{Pending}
 use Rattle.nearest_search.specs.declared.seen.Seen.{Seen}
@@ -24,11 +25,13 @@ inner_pendings f above es = map (pending_of f) (near_ones es (inner_marks f abov
 abbrev pub Takes : ℕ → List ℕ → List ℕ → List ℕ → Type 0
 Takes k old new ds = (r : ℕ) → min k (within r new) ≡ min k (within r old + within r ds)
 
--- what a search knows in the middle: the subtrees that are not opened yet, the least distances, and what was seen of the opened pages
+-- what a search knows in the middle: the subtrees that are not opened yet, the least distances, what was seen of the opened pages, and the
+-- count of the distances that were computed
 pub record State : Type 0 where
   pub queue : List Pending
   pub best : List ℕ
   pub kept : Sheets
+  pub used : ℕ
 
 -- the page of x was read at the search's radius
 pub record IsOpened (f : Search) (shelf : Shelf) (k : ℕ) (x : Pending) (old new : State) : Type 0 where
@@ -38,5 +41,6 @@ pub record IsOpened (f : Search) (shelf : Shelf) (k : ℕ) (x : Pending) (old ne
   pub noted : Takes k old.best new.best (dists_of f x.above node)
   pub seen : Seen
   pub seen_is : IsSeenOf f.space f.point f.rho x.above node seen
+  pub measured : new.used ≤ old.used + entry_count node
   pub here : new.kept x.page x.above ≡ Some seen
   pub others : (page : ℕ) (above : Option ℕ) → ((page ≡ x.page) × (above ≡ x.above)) ⊎ (new.kept page above ≡ old.kept page above)

@@ -16,13 +16,14 @@ use Rattle.page_store.specs.Reading.{IsWithin, is_within, nodes_of}
 use Rattle.page_store.specs.Shelf.{Shelf, HoldsSame}
 use Rattle.log_model.specs.declared.logs.Found.{Found}
 use Rattle.log_model.specs.declared.marks.Need.{Need}
+use Rattle.log_model.specs.declared.marks.Record.{Record}
 use Rattle.metric_laws.specs.Counts.{count_up}
 use Rattle.log_model.specs.Sound.{IsLeastLog, selected}
 use Rattle.log_model.specs.Walk.{search_at, ReachesBy, AreLeast, root_need}
 use Rattle.nearest_search.specs.declared.pending.Pending.{Pending}
-use Rattle.nearest_search.specs.Counts.{IsRadius}
+use Rattle.nearest_search.specs.Counts.{IsRadius, total}
 use Rattle.nearest_search.specs.Keeping.{IsKept, AreSeenOf, KeepsFew}
-use Rattle.nearest_search.specs.Machine.{Holds, pending_root}
+use Rattle.nearest_search.specs.Machine.{Holds, entries_of, pending_root}
 use Rattle.nearest_search.specs.Opened.{State}
 use Rattle.nearest_search.specs.Walks.{HasOpened, OpensBefore}
 
@@ -37,7 +38,7 @@ IsReached nodes root p = (path : List ℕ) × IsReachedBy nodes root path p
 -- A search has opened so many pages, the root first, and asked for each of them once. Where the pages tell what they hold,
 -- what it keeps was seen of their nodes, and it is a walk that may come to what it queues; where they tell a sound tree, what it knows is true of that
 -- tree.
-pub record IsExploring (s : Space) (old now : Shelf) (live : Live) (q : List ℕ) (k : ℕ) (state : State) (opened : ℕ) : Type 0 where
+pub record IsExploring (s : Space) (old now : Shelf) (live : Live) (q : List ℕ) (k : ℕ) (state : State) (opened used : ℕ) : Type 0 where
   pub same : HoldsSame old now
   pub asked : now.asked ≡ count_up old.asked opened
   pub reads : now.reads ≤ old.reads + opened
@@ -47,13 +48,16 @@ pub record IsExploring (s : Space) (old now : Shelf) (live : Live) (q : List ℕ
   pub agrees : IsTrue old.tells → (rho : ℕ) → IsRadius k state.best rho → AreSeenOf s q rho (nodes_of old.read) state.kept
   pub reached : IsTrue old.tells → (x : Pending) → IsIn x state.queue → IsReached (nodes_of old.read) live.root x.page
   pub walk : IsTrue old.tells → HasOpened (nodes_of old.read) (live.root ∷ []) opened (map (λ x. x.page) state.queue)
-  pub holds : IsTrue old.tells → IsSoundTree s (nodes_of old.read) live → Holds s (nodes_of old.read) q k live.root state.kept state.queue state.best opened
+  pub pages : List ℕ
+  pub long : length pages ≡ opened
+  pub spent : IsTrue old.tells → state.used ≤ used + total (entries_of (nodes_of old.read)) pages
+  pub holds : IsTrue old.tells → IsSoundTree s (nodes_of old.read) live → Holds s (nodes_of old.read) q k live.root state.kept state.queue state.best pages
 
 -- nothing within the radius waits
-pub record IsExplored (s : Space) (old now : Shelf) (live : Live) (q : List ℕ) (k : ℕ) (state : State) (rho opened : ℕ) : Type 0 where
+pub record IsExplored (s : Space) (old now : Shelf) (live : Live) (q : List ℕ) (k : ℕ) (state : State) (rho opened used : ℕ) : Type 0 where
   pub radius : IsRadius k state.best rho
   pub beyond : (x : Pending) → IsIn x state.queue → rho < x.low
-  pub exploring : IsExploring s old now live q k state opened
+  pub exploring : IsExploring s old now live q k state opened used
 
 -- So many pages were asked for, at most as many as is said, and at most 32 distances were computed for each of them: one for each of
 -- the entries that a node may have.
@@ -76,6 +80,10 @@ HasNearestCause live old new (Repeats page) =
     (new.asked ≡ count_up old.asked live.pages)
     × (IsTrue old.tells → IsReached (nodes_of old.read) live.root page × OpensBefore (nodes_of old.read) (live.root ∷ []) live.pages page)
 HasNearestCause live old new (Level page) = ⊥
+
+-- the number of marks in a log, which is that of the entries of the nodes that its walk opens
+abbrev pub marks_in : List Record → ℕ
+marks_in rs = total (λ r. length r.marks) rs
 
 -- On a sound tree: the scan's first k, the least log of the query, and one page asked for per record of it.
 pub record IsNearest (s : Space) (nodes : Nodes) (live : Live) (q : List ℕ) (k : ℕ) (old new : Shelf) (found : Found) : Type 0 where

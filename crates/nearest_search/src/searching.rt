@@ -5,7 +5,7 @@ ghost use Rattle.page_store.specs.Reading.{nodes_of};
 ghost use Rattle.page_store.specs.Shelf.{HoldsSame, IsPassing};
 ghost use Rattle.metric_laws.specs.Counts.{CountsUpTo};
 ghost use Rattle.log_model.specs.Sound.{IsLogOf};
-ghost use Rattle.nearest_search.specs.Searched.{HasNearestCause, IsFront, IsFrugal, IsNearest};
+ghost use Rattle.nearest_search.specs.Searched.{HasNearestCause, IsFront, IsFrugal, IsNearest, marks_in};
 
 use crate::exploring::explore;
 use crate::logging::relog;
@@ -51,6 +51,10 @@ pub fn nearest<P: Pages, R: Ruler>(
     ensures reads { (P.shelf pages.new).reads ≤ (P.shelf pages.old).reads + live.now.pages }
     // At most one distance was computed for each entry of the pages that were asked for.
     ensures measured { IsFrugal live.now.pages (P.shelf pages.old).asked (R.used ruler.old) (P.shelf pages.new).asked (R.used ruler.new) }
+    // On a sound tree at most one distance was computed for each entry that the log marks.
+    ensures few_measured { IfOk result (λ found. IsTrue (P.shelf pages.old).tells →
+        IsSoundTree (R.M.space (R.metric ruler.old)) (nodes_of (P.shelf pages.old).read) live.now →
+        R.used ruler.new ≤ R.used ruler.old + marks_in found.log.records) }
     ensures sound { IfErr result (λ fault. IsTrue (P.shelf pages.old).tells →
         IsSoundTree (R.M.space (R.metric ruler.old)) (nodes_of (P.shelf pages.old).read) live.now → IsPassing fault) }
 {

@@ -12,7 +12,7 @@ invariant-loop-next g l = record {
   no_fault : (g.P.Pages.shelf l.pages).faults ≡ (g.P.Pages.shelf l.fn.pages).faults;
   count : l.machine.best.k ≡ l.fn.machine.best.k;
   exploring : IsExploring (g.R.M.Metric.space (g.R.Ruler.metric l.fn.ruler)) (g.P.Pages.shelf l.fn.pages) (g.P.Pages.shelf l.pages) l.live l.q l.fn.machine.best.k
-      (record { queue = l.machine.frontier; best = heap_items l.machine.best.heap; kept = kept_seen l.machine.kept }) l.opened;
+      (record { queue = l.machine.frontier; best = heap_items l.machine.best.heap; kept = kept_seen l.machine.kept; used = g.R.Ruler.used l.ruler }) l.opened (g.R.Ruler.used l.fn.ruler);
 }
 
 abbrev pub decreases-loop-next : goal.decreases-loop-next

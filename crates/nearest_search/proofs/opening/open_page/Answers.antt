@@ -10,6 +10,7 @@ returns-in-Ok-put-clause-opened g c = record {
   noted = (rw c.as_ref.ensures at c.in-Ok.ensures.noted);
   seen = c.in-Ok.seen;
   seen_is = (rw c.as_ref.ensures at c.in-Ok.ensures.seen);
+  measured = (rw c.as_ref.ensures at c.see_node.ensures.used);
   here = c.in-Ok-put.ensures.here;
   others = subst (λ (k : Keeping). (page : ℕ) (above : Option ℕ) → ((page ≡ c.args.next.page) × (above ≡ c.args.next.above)) ⊎ (kept_seen c.put.new.self page above ≡ kept_seen k page above))
       c.see_node.ensures.kept c.in-Ok-put.ensures.others;
