@@ -1,6 +1,6 @@
 -- The walk from record to record: what it meets, where it ends, and why.
-use Rattle.std.proofs.Common.{◌≡◌, ℕ, suc, ◌+◌, ◌<◌, ◌≤◌, true, false, List, [], ◌∷◌, ◌++◌, length, drop, get_or, reverse, map, Option, Some, Result, Ok, Err, IfOk, refl, sym, ap, subst, ◌∙◌, arith, append_assoc, drop-cons, inr}
-use Rattle.std.specs.Prelude.{IsTrue, IfErr, ◌==◌}
+use Rattle.std.proofs.Common.{◌≡◌, add-one, Bool, ℕ, suc, ◌+◌, ◌<◌, ◌≤◌, true, false, List, [], ◌∷◌, ◌++◌, length, drop, get_or, reverse, map, Option, Some, Result, Ok, Err, IfOk, refl, sym, ap, subst, ◌∙◌, arith, append_assoc, drop-cons, inr}
+use Rattle.std.specs.Prelude.{IsTrue, IfErr, ◌==◌, not, if◌then◌else◌}
 use Rattle.std.proofs.lemmas.List.{append-nil}
 use Rattle.std.proofs.lemmas.Bool.Decides.{nat_tests}
 use Rattle.metric_laws.specs.Counts.{next_count, count_up, CountsUpTo}
@@ -21,6 +21,7 @@ use Rattle.log_model.specs.Counts.{entry_count}
 use Rattle.log_model.proofs.Published.{count_up_both}
 use Rattle.hit_tags.specs.declared.walking.Walk.{Walk}
 use Rattle.hit_tags.specs.Met.{near_objects, near_pages, marked_node, met, ComesTo, AreMarked, IsNoneNear}
+use Rattle.hit_tags.specs.Costs.{has_near, passes_over as is_passed, near_records, most_asked}
 use Rattle.hit_tags.specs.Tags.{HasTagsCause}
 use Rattle.hit_tags.specs.Wanted.{TakesIn, Tagging, first_tag}
 use Rattle.hit_tags.specs.Steps.{IsUnderWay, HasFollowed}
@@ -46,6 +47,21 @@ none_near (e ∷ es) [] none = refl
 none_near (e ∷ es) (Skip ∷ marks) none = none_near es marks none.1
 none_near (e ∷ es) (Far ∷ marks) none = none_near es marks none.1
 none_near (e ∷ es) (Near ∷ marks) none = absurd (none.0 refl)
+
+-- where it isn't so that something is marked Near, nothing is
+none_marked : (marks : List Mark) → has_near marks ≡ false → IsNoneNear marks
+none_marked [] lacks = tt
+none_marked (Skip ∷ marks) lacks = (λ e. absurd (cc), none_marked marks lacks)
+none_marked (Far ∷ marks) lacks = (λ e. absurd (cc), none_marked marks lacks)
+none_marked (Near ∷ marks) lacks = absurd (cc)
+
+pub passed_none : (are_marked : Bool) (marks : List Mark) → is_passed are_marked marks ≡ true → IsNoneNear marks × (are_marked ≡ true)
+passed_none false marks is = absurd (cc)
+passed_none true marks is = (none_marked marks (cases (has_near marks) is), refl)
+  where
+    cases : (b : Bool) → not b ≡ true → b ≡ false
+    cases true e = absurd (cc)
+    cases false e = refl
 
 no_objects : (node : Node) (marks : List Mark) → IsNoneNear marks → near_objects node marks ≡ []
 no_objects (Leaf es) marks none = none_near es marks none
@@ -175,8 +191,49 @@ upto_once a b is = (1, omega arith, is)
 pub upto_more : (a b m n : ℕ) → m ≤ n → CountsUpTo a b m → CountsUpTo a b n
 upto_more a b m n le few = (few.0, omega (arith, few.1), few.2)
 
-pub upto_both : (a b c m n : ℕ) → CountsUpTo a b m → CountsUpTo b c n → CountsUpTo a c (m + n)
-upto_both a b c m n one two = (one.0 + two.0, omega (arith, one.1, two.1), two.2 ∙ ap (λ (u : ℕ). count_up u two.0) one.2 ∙ count_up_both a one.0 two.0)
+-- a count that rose so far, where the rest may make it rise by so much
+abbrev pub SoFar : ℕ → ℕ → ℕ → ℕ → Type 0
+SoFar old now left most = (n : ℕ) × (n + left ≤ most) × (now ≡ count_up old n)
+
+pub far_next : (old now new left most : ℕ) → SoFar old now (suc left) most → CountsUpTo now new 1 → SoFar old new left most
+far_next old now new left most far one = (far.0 + one.0, omega (arith, far.1, one.1), one.2 ∙ ap (λ (u : ℕ). count_up u one.0) far.2 ∙ count_up_both old far.0 one.0)
+
+pub far_ends : (old now left most : ℕ) → SoFar old now left most → CountsUpTo old now most
+far_ends old now left most far = (far.0, omega (arith, far.1), far.2)
+
+module _ (are_marked : Bool) where
+  -- at most one page for each record
+  pub most_few : (rs : List Record) → most_asked are_marked rs ≤ length rs
+  most_few [] = omega arith
+  most_few (r ∷ rs) = cases (is_passed are_marked r.marks) (most_few rs)
+    where
+      cases : (b : Bool) → most_asked are_marked rs ≤ length rs → (if b then most_asked are_marked rs else suc (most_asked are_marked rs)) ≤ suc (length rs)
+      cases true ih = omega arith
+      cases false ih = omega arith
+
+  module _ (rs : List Record) (i : ℕ) (r : Record) (low : i < length rs) (is : r ≡ get_or rs i r) where
+    pub cost_passed : is_passed are_marked r.marks ≡ true → most_asked are_marked (drop i rs) ≡ most_asked are_marked (drop (i + 1) rs)
+    cost_passed passed = rw (add-one, drop-cons rs i r low, ← is, passed) refl
+
+    pub cost_taken : is_passed are_marked r.marks ≡ false → most_asked are_marked (drop i rs) ≡ suc (most_asked are_marked (drop (i + 1) rs))
+    cost_taken taken = rw (add-one, drop-cons rs i r low, ← is, taken) refl
+
+    pub far_passed : is_passed are_marked r.marks ≡ true → (old now most : ℕ) → SoFar old now (most_asked are_marked (drop i rs)) most → SoFar old now (most_asked are_marked (drop (i + 1) rs)) most
+    far_passed passed old now most far = subst (λ (n : ℕ). SoFar old now n most) (cost_passed passed) far
+
+    pub far_taken : is_passed are_marked r.marks ≡ false → (old now new most : ℕ) → SoFar old now (most_asked are_marked (drop i rs)) most → CountsUpTo now new 1 →
+        SoFar old new (most_asked are_marked (drop (i + 1) rs)) most
+    far_taken taken old now new most far one =
+        far_next old now new (most_asked are_marked (drop (i + 1) rs)) most (subst (λ (n : ℕ). SoFar old now n most) (cost_taken taken) far) one
+
+-- where the log is known to mark each node, one for each record of which something is marked Near
+pub most_near : (rs : List Record) → most_asked true rs ≡ near_records rs
+most_near [] = refl
+most_near (r ∷ rs) = cases (has_near r.marks) (most_near rs)
+  where
+    cases : (b : Bool) → most_asked true rs ≡ near_records rs → ◌≡◌ {A = ℕ} (if not b then most_asked true rs else suc (most_asked true rs)) (if b then suc (near_records rs) else near_records rs)
+    cases true ih = ap suc ih
+    cases false ih = ih
 
 -- ---- results
 

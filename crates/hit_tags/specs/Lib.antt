@@ -1,4 +1,5 @@
 pub mod Met
+pub mod Costs
 pub mod Tags
 pub mod Wanted
 pub mod Steps

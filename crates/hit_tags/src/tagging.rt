@@ -6,6 +6,7 @@ ghost use Rattle.page_store.specs.Reading.{nodes_of};
 ghost use Rattle.page_store.specs.Shelf.{HoldsSame, IsPassing};
 ghost use Rattle.metric_laws.specs.Counts.{CountsUpTo};
 ghost use Rattle.hit_tags.specs.Met.{AreMarked};
+ghost use Rattle.hit_tags.specs.Costs.{near_records, most_asked};
 ghost use Rattle.hit_tags.specs.Tags.{met_tags, object_tags, IsOwnTag, IsShown, HasTagsCause};
 
 use crate::walking::Walk;
@@ -27,8 +28,8 @@ fn walked_tags<P: Pages>(
         AreMarked (nodes_of (P.shelf pages.old).read) (live.now.root ∷ []) found.now.log.records }
     ensures same { HoldsSame (P.shelf pages.old) (P.shelf pages.new) }
     ensures keeps { P.keeps pages.old pages.new }
-    ensures asked { CountsUpTo (P.shelf pages.old).asked (P.shelf pages.new).asked (length found.now.log.records) }
-    ensures reads { (P.shelf pages.new).reads ≤ (P.shelf pages.old).reads + length found.now.log.records }
+    ensures asked { CountsUpTo (P.shelf pages.old).asked (P.shelf pages.new).asked (most_asked are_marked found.now.log.records) }
+    ensures reads { (P.shelf pages.new).reads ≤ (P.shelf pages.old).reads + most_asked are_marked found.now.log.records }
     ensures no_fault { OnOk result ((P.shelf pages.new).faults ≡ (P.shelf pages.old).faults) }
     ensures each { IfOk result (λ tags. vec_len tags ≡ length found.now.hits) }
     ensures met { IfOk result (λ tags. IsTrue (P.shelf pages.old).tells →
@@ -99,6 +100,9 @@ pub fn marked_tags<P: Pages>(
     ensures keeps { P.keeps pages.old pages.new }
     ensures asked { CountsUpTo (P.shelf pages.old).asked (P.shelf pages.new).asked (length found.now.log.records) }
     ensures reads { (P.shelf pages.new).reads ≤ (P.shelf pages.old).reads + length found.now.log.records }
+    // It asks for at most one page for each record of which something is marked Near.
+    ensures near { CountsUpTo (P.shelf pages.old).asked (P.shelf pages.new).asked (near_records found.now.log.records) }
+    ensures near_reads { (P.shelf pages.new).reads ≤ (P.shelf pages.old).reads + near_records found.now.log.records }
     ensures no_fault { OnOk result ((P.shelf pages.new).faults ≡ (P.shelf pages.old).faults) }
     ensures each { IfOk result (λ tags. vec_len tags ≡ length found.now.hits) }
     ensures met { IfOk result (λ tags. IsTrue (P.shelf pages.old).tells →

@@ -6,7 +6,8 @@ ghost use Rattle.page_store.specs.Shelf.{HoldsSame};
 ghost use Rattle.metric_laws.specs.Counts.{CountsUpTo};
 ghost use Rattle.log_model.specs.Counts.{entry_count};
 ghost use Rattle.log_model.specs.Walk.{near_ones};
-ghost use Rattle.hit_tags.specs.Met.{AreMarked, IsNoneNear, met, near_objects, near_pages};
+ghost use Rattle.hit_tags.specs.Met.{AreMarked, met, near_objects, near_pages};
+ghost use Rattle.hit_tags.specs.Costs.{has_near, passes_over, most_asked};
 ghost use Rattle.hit_tags.specs.Tags.{HasTagsCause};
 ghost use Rattle.log_model.specs.declared.marks.Record.{Record};
 ghost use Rattle.hit_tags.specs.Wanted.{held, TakesIn};
@@ -53,11 +54,18 @@ fn push_near(stack: &mut Vec<u32>, entries: &[InnerEntry], marks: &[Mark]) -> Re
     Ok(())
 }
 
-// Whether nothing is marked Near.
-fn is_none_near(marks: &[Mark]) -> bool
-    ensures { IsTrue result → IsNoneNear marks.now }
+// Whether something is marked Near.
+fn has_near(marks: &[Mark]) -> bool
+    ensures { result ≡ has_near marks.now }
 {
-    !marks.contains(&Mark::Near)
+    marks.contains(&Mark::Near)
+}
+
+// Whether a walk passes over a record with these marks: it does where it is known to mark its node and nothing is marked Near.
+fn passes_over(are_marked: bool, marks: &[Mark]) -> bool
+    ensures { result ≡ passes_over are_marked marks.now }
+{
+    are_marked && !has_near(marks)
 }
 
 impl Walk {
@@ -142,15 +150,15 @@ impl Walk {
             AreMarked (nodes_of (P.shelf pages.old).read) (reverse self.old.stack.items) records.now }
         ensures same { HoldsSame (P.shelf pages.old) (P.shelf pages.new) }
         ensures keeps { P.keeps pages.old pages.new }
-        ensures asked { CountsUpTo (P.shelf pages.old).asked (P.shelf pages.new).asked (length records.now) }
-        ensures reads { (P.shelf pages.new).reads ≤ (P.shelf pages.old).reads + length records.now }
+        ensures asked { CountsUpTo (P.shelf pages.old).asked (P.shelf pages.new).asked (most_asked are_marked records.now) }
+        ensures reads { (P.shelf pages.new).reads ≤ (P.shelf pages.old).reads + most_asked are_marked records.now }
         ensures no_fault { OnOk result ((P.shelf pages.new).faults ≡ (P.shelf pages.old).faults) }
         ensures ok { OnOk result (IsTrue (P.shelf pages.old).tells →
             TakesIn self.old.wanted (met (nodes_of (P.shelf pages.old).read) (reverse self.old.stack.items) records.now) self.new.wanted) }
         ensures cause { IfErr result (HasTagsCause (P.shelf pages.old) (P.shelf pages.new) (reverse self.old.stack.items) records.now) }
     {
         for told in records {
-            if are_marked && is_none_near(told.marks.as_slice()) {
+            if passes_over(are_marked, told.marks.as_slice()) {
                 self.pass();
                 continue;
             }

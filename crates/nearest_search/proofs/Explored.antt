@@ -1,7 +1,8 @@
 -- A search between two steps, over pages that may tell a sound tree or not.
-use Rattle.std.proofs.Common.{◌≡◌, ℕ, zero, suc, ◌+◌, ◌<◌, ◌≤◌, ◌^◌, Bool, true, false, List, [], ◌∷◌, ◌++◌, refl, sym, ap, arith, ◌∙◌, length, length-append, subst, Option, Some, None, Err, inl, inr, reverse}
-use Rattle.std.specs.Prelude.{IsTrue, ◌==◌}
+use Rattle.std.proofs.Common.{◌≡◌, ◌⊎◌, ℕ, zero, suc, ◌+◌, ◌<◌, ◌≤◌, ◌^◌, Bool, true, false, cond, List, [], ◌∷◌, ◌++◌, refl, sym, ap, arith, ◌∙◌, length, length-append, subst, Option, Some, None, Err, inl, inr, reverse}
+use Rattle.std.specs.Prelude.{IsTrue, map, nat_le}
 use Rattle.std.proofs.lemmas.Bool.Decides.{nat_tests}
+use Rattle.std.proofs.lemmas.List.{length-map}
 use Rattle.metric_laws.specs.Space.{Space, IsSpace}
 use Rattle.metric_laws.specs.Counts.{next_count, count_up}
 use Rattle.metric_laws.specs.Lists.{IsIn}
@@ -31,19 +32,23 @@ use Rattle.log_model.specs.Sound.{IsLogOf, IsLeastLog, selected, search_for}
 use Rattle.log_model.specs.Laws.{scan_answers}
 use Rattle.log_model.specs.Steps.{TakesNode}
 use Rattle.log_model.specs.Walk.{Search, search_at, AreLeast, WalksBy, ReachesBy, least_marks, near_ones, hits_of, needs_of, record_of, root_need}
-use Rattle.log_model.proofs.Published.{lawful_log, marks_long, hits_few, sound_complete, least_sound, count_up_more, reaches_more}
+use Rattle.log_model.proofs.Published.{lawful_log, sound_complete, least_sound, count_up_more, reaches_more}
 use Rattle.nearest_search.specs.declared.pending.Pending.{Pending}
 use Rattle.nearest_search.specs.Counts.{IsRadius}
 use Rattle.nearest_search.specs.Queue.{IsNext}
-use Rattle.nearest_search.specs.Keeping.{kept_node}
-use Rattle.nearest_search.specs.Machine.{pending_root, pending_of, pendings_of, IsKept}
-use Rattle.nearest_search.specs.Opened.{State, IsOpened}
-use Rattle.nearest_search.specs.Relog.{IsRelogging, IsRelogged, IsStopped}
-use Rattle.nearest_search.specs.Searched.{IsReachedBy, IsReached, KeepsFew, IsExploring, IsExplored, HasNearestCause, IsFront, IsNearest}
-use Rattle.nearest_search.proofs.Totals.{in-permutation, in-permutation_back}
+use Rattle.nearest_search.specs.declared.seen.Sight.{Sight}
+use Rattle.nearest_search.specs.declared.seen.Seen.{Seen}
+use Rattle.nearest_search.specs.declared.seen.Seen.TheVariants.{Objects, Subtrees}
+use Rattle.nearest_search.specs.Seeing.{IsSeenOf, object_sight, subtree_sight, sights, mark_at, is_near, seen_near, hit_seen, need_seen, hits_seen, record_seen}
+use Rattle.nearest_search.specs.Keeping.{Sheets, kept_seen, IsKept, AreSeenOf, KeepsFew}
+use Rattle.nearest_search.specs.Machine.{pending_root, pending_of, pendings_of, dists_of, entries_in, entries_of}
+use Rattle.nearest_search.specs.Opened.{State, Takes, IsOpened}
+use Rattle.nearest_search.specs.Relog.{TakesSeen, IsRelogging, IsRelogged, IsStopped}
+use Rattle.nearest_search.specs.Searched.{marks_in, IsReachedBy, IsReached, IsExploring, IsExplored, HasNearestCause, IsFront, IsNearest}
+use Rattle.nearest_search.proofs.Totals.{in-permutation, in-permutation_back, within_all}
 use Rattle.nearest_search.proofs.Steps.{step}
 use Rattle.nearest_search.proofs.Ends.{begins, room, ends}
-use Rattle.nearest_search.proofs.KeptWalk.{agrees_reach}
+use Rattle.nearest_search.proofs.Seeing.{objects_marked, objects_named, subtrees_marked, subtrees_needed}
 use Rattle.nearest_search.proofs.Walking.{walk_opens, opens_before}
 use Rattle.page_store.proofs.Published.{holds_both, told_then}
 
@@ -51,16 +56,62 @@ entries_few : (dim : ℕ) (node : Node) → IsLawfulNode dim node → entry_coun
 entries_few dim (Leaf es) lawful = let few = lawful.0 in omega arith
 entries_few dim (Inner level es) lawful = let few = lawful.3 in omega arith
 
--- a page that was kept anew has few entries, and so have the others
-keeps_few_then : (before after : Nodes) (page : ℕ) (node : Node) → KeepsFew before → entry_count node ≤ 32 → after page ≡ Some node → ((p : ℕ) → (p ≡ page → ⊥) → after p ≡ before p) → KeepsFew after
-keeps_few_then before after page node few new here others p n is = cases (p == page) refl
+-- as many entries were seen as the node has
+seen_all : (s : Space) (q : List ℕ) (rho : ℕ) (above : Option ℕ) (node : Node) (seen : Seen) → IsSeenOf s q rho above node seen → length (sights seen) ≡ entry_count node
+seen_all s q rho above (Leaf es) (Objects xs) is = ap length is.2 ∙ length-map es (object_sight (search_at s q is.0) above)
+seen_all s q rho above (Leaf es) (Subtrees xs) is = absurd is
+seen_all s q rho above (Inner level es) (Objects xs) is = absurd is
+seen_all s q rho above (Inner level es) (Subtrees xs) is = ap length is.2 ∙ length-map es (subtree_sight (search_at s q is.0) above)
+
+-- what was seen at a radius gives the marks at each lower one
+seen_lower : (s : Space) (q : List ℕ) (rho low : ℕ) → low ≤ rho → (above : Option ℕ) (node : Node) (seen : Seen) → IsSeenOf s q rho above node seen → IsSeenOf s q low above node seen
+seen_lower s q rho low le above (Leaf es) (Objects xs) is = (is.0, omega (arith, is.1), is.2)
+seen_lower s q rho low le above (Leaf es) (Subtrees xs) is = absurd is
+seen_lower s q rho low le above (Inner level es) (Objects xs) is = absurd is
+seen_lower s q rho low le above (Inner level es) (Subtrees xs) is = (is.0, omega (arith, is.1), is.2)
+
+-- the radius never rises
+radius_falls : (k : ℕ) (old new ds : List ℕ) (rho low : ℕ) → IsRadius k old rho → Takes k old new ds → IsRadius k new low → low ≤ rho
+radius_falls k old new ds rho low was takes now = cases (nat_le low rho) refl
   where
-    cases : (b : Bool) → (p == page) ≡ b → entry_count n ≤ 32
-    cases true e =
-        let same : p ≡ page = grind (arith, nat_tests) in
-        let one : n ≡ node = cc (is, here, same) in
-        rw one new
-    cases false e = few p n (sym (others p (λ same. let t : (p == page) ≡ true = grind (arith, nat_tests) in cc)) ∙ is)
+    cases : (b : Bool) → nat_le low rho ≡ b → low ≤ rho
+    cases true e = grind (arith, nat_tests)
+    cases false e =
+        let less : rho < low = grind (arith, nat_tests) in
+        let b = now.bounded in
+        let full = was.full (omega arith) in
+        let all = within_all rho old was.most in
+        let few = now.fewer rho less in
+        let t = takes rho in
+        absurd (omega arith)
+
+-- what is kept after a page was opened
+module _ (before after : Sheets) (page : ℕ) (above : Option ℕ) (seen : Seen) (here : after page above ≡ Some seen)
+    (others : (p : ℕ) (a : Option ℕ) → ((p ≡ page) × (a ≡ above)) ⊎ (after p a ≡ before p a)) where
+  one_seen : (p : ℕ) (a : Option ℕ) (n : Seen) → p ≡ page → a ≡ above → after p a ≡ Some n → n ≡ seen
+  one_seen p a n same level is =
+      let there : after page above ≡ Some n = subst (λ (x : ℕ). after x above ≡ Some n) same (subst (λ (x : Option ℕ). after p x ≡ Some n) level is) in
+      cc (there, here)
+
+  keeps_few_then : KeepsFew before → length (sights seen) ≤ 32 → KeepsFew after
+  keeps_few_then few new p a n is = elim (others p a) [
+    | inl same ↦ subst (λ (x : Seen). length (sights x) ≤ 32) (sym (one_seen p a n same.0 same.1 is)) new
+    | inr same ↦ few p a n (sym same ∙ is)
+  ]
+
+  kept_then : (p : ℕ) (a : Option ℕ) → IsKept before p a → IsKept after p a
+  kept_then p a was = elim (others p a) [ inl same ↦ (seen, rw (same.0, same.1) here) | inr same ↦ (was.0, same ∙ was.1) ]
+
+  seen_then : (s : Space) (q : List ℕ) (nodes : Nodes) (rho low : ℕ) → low ≤ rho → AreSeenOf s q rho nodes before → (node : Node) → nodes page ≡ Some node → IsSeenOf s q rho above node seen → AreSeenOf s q low nodes after
+  seen_then s q nodes rho low le was node is new p a n kept = elim (others p a) [
+    | inl same ↦ (
+      node,
+      ap nodes same.0 ∙ is,
+      subst (λ (x : Option ℕ). IsSeenOf s q low x node n) (sym same.1)
+          (subst (λ (x : Seen). IsSeenOf s q low above node x) (sym (one_seen p a n same.0 same.1 kept)) (seen_lower s q rho low le above node seen new)),
+    )
+    | inr same ↦ (let o = was p a n (sym same ∙ kept) in (o.0, o.1, seen_lower s q rho low le a o.0 n o.2))
+  ]
 
 -- a child of a reached page is reached
 child_reached : (nodes : Nodes) (page p : ℕ) (path : List ℕ) (e : InnerEntry) → IsIn e (inner_entries (nodes p)) → IsReachedBy nodes page path p → IsReachedBy nodes page (path ++ e.child ∷ []) e.child
@@ -81,52 +132,59 @@ queued_child f above (Inner level es) x k =
     let from = in-map (pending_of f) (near_ones es (least_marks f above (Inner level es))) x k in
     (from.0, near-in es (least_marks f above (Inner level es)) from.0 from.1, ap (λ (y : Pending). y.page) from.2)
 
-abbrev pub first_state : Live → State
-first_state live = record { queue = pending_root live.root ∷ []; best = []; kept = kept_node [] }
+abbrev pub first_state : Live → ℕ → State
+first_state live used = record { queue = pending_root live.root ∷ []; best = []; kept = kept_seen []; used = used }
 
-module _ (s : Space) (axioms : IsSpace s) (old : Shelf) (live : Live) (q : List ℕ) (q_fits : IsTrue (s.fits q)) (k : ℕ) where
-  pub explore_begins : IsExploring s old old live q k (first_state live) 0
+module _ (s : Space) (axioms : IsSpace s) (old : Shelf) (live : Live) (q : List ℕ) (q_fits : IsTrue (s.fits q)) (k used : ℕ) where
+  pub explore_begins : IsExploring s old old live q k (first_state live used) 0 used
   explore_begins = record {
     same = record { dim = refl; pages = refl; tells = refl; read = refl; faults = (omega arith) };
     asked = refl;
     reads = omega arith;
     few = omega arith;
-    keeps_few = λ page node is. absurd (cc);
+    keeps_few = λ page above seen is. absurd (cc);
     begun = inr (inl refl);
-    agrees = λ tells page node is. absurd (cc);
+    agrees = λ tells rho radius page above seen is. absurd (cc);
     reached = λ tells x k. elim k [ inl e ↦ ([], sym (ap (λ (y : Pending). y.page) e)) | inr w ↦ absurd w ];
     walk = λ tells. record { opened = []; walk = λ k. omega arith; count_is = refl };
+    pages = [];
+    long = refl;
+    spent = λ tells. omega arith;
     holds = λ tells sound. begins s axioms (nodes_of old.read) live q q_fits k sound;
   }
 
-  module _ (now : Shelf) (state : State) (opened : ℕ) (before : IsExploring s old now live q k state opened) (rho : ℕ) (radius : IsRadius k state.best rho) (next : Pending) (rest : List Pending) (first : IsNext rho state.queue next rest) where
+  module _ (now : Shelf) (state : State) (opened : ℕ) (before : IsExploring s old now live q k state opened used) (rho : ℕ) (radius : IsRadius k state.best rho) (next : Pending) (rest : List Pending) (first : IsNext rho state.queue next rest) where
     next_reached : IsTrue old.tells → IsReached (nodes_of old.read) live.root next.page
     next_reached tells = before.reached tells next (in-permutation_back state.queue (next ∷ rest) next first.popped (inl refl))
 
     pub explore_steps : (f : Search) (j : ℕ) (new : Shelf) (after : State) → f ≡ search_at s q rho → j ≡ k →
-        IsOpened f now j next (record { queue = rest; best = state.best; kept = state.kept }) after → HoldsSame now new →
-        new.asked ≡ next_count now.asked → new.reads ≤ now.reads + 1 → opened < live.pages → IsExploring s old new live q k after (opened + 1)
+        IsOpened f now j next (record { queue = rest; best = state.best; kept = state.kept; used = state.used }) after → HoldsSame now new →
+        new.asked ≡ next_count now.asked → new.reads ≤ now.reads + 1 → opened < live.pages → IsExploring s old new live q k after (opened + 1) used
     explore_steps f j new after is_search is_k does same asked reads low =
-        let done : IsOpened (search_at s q rho) now k next (record { queue = rest; best = state.best; kept = state.kept }) after =
-        subst (λ (n : ℕ). IsOpened (search_at s q rho) now n next (record { queue = rest; best = state.best; kept = state.kept }) after) is_k
-        (subst (λ (g : Search). IsOpened g now j next (record { queue = rest; best = state.best; kept = state.kept }) after) is_search does) in
+        let done : IsOpened (search_at s q rho) now k next (record { queue = rest; best = state.best; kept = state.kept; used = state.used }) after =
+        subst (λ (n : ℕ). IsOpened (search_at s q rho) now n next (record { queue = rest; best = state.best; kept = state.kept; used = state.used }) after) is_k
+        (subst (λ (g : Search). IsOpened g now j next (record { queue = rest; best = state.best; kept = state.kept; used = state.used }) after) is_search does) in
         record {
           same = holds_both old now new before.same same;
           asked = asked ∙ ap next_count before.asked ∙ count_up_more old.asked opened ∙ ap (count_up old.asked) (let e : suc opened ≡ opened + 1 = omega arith in e);
           reads = (let b = before.reads in omega arith);
           few = omega arith;
-          keeps_few = keeps_few_then state.kept after.kept next.page done.node before.keeps_few (entries_few now.dim done.node done.is.lawful) done.here done.others;
+          keeps_few = keeps_few_then state.kept after.kept next.page next.above done.seen done.here done.others before.keeps_few
+              (let all = seen_all s q rho next.above done.node done.seen done.seen_is in let few = entries_few now.dim done.node done.is.lawful in omega arith);
           begun = elim before.begun [
-            | inl w ↦ inl (omega arith, kept_then done.node done.here done.others live.root w.1)
+            | inl w ↦ inl (omega arith, kept_then state.kept after.kept next.page next.above done.seen done.here done.others live.root None w.1)
             | inr waits ↦
                 elim (in-permutation state.queue (next ∷ rest) (pending_root live.root) first.popped waits) [
-                  | inl e ↦ inl (omega arith, (done.node, ap after.kept (ap (λ (x : Pending). x.page) e) ∙ done.here))
+                  | inl e ↦ inl (omega arith, (done.seen, ap (λ (x : Pending). after.kept x.page x.above) e ∙ done.here))
                   | inr left ↦
                       inr (in-permutation (pendings_of (search_at s q rho) next.above done.node ++ rest) after.queue (pending_root live.root) done.pushed
                       (in-append_right (pendings_of (search_at s q rho) next.above done.node) rest (pending_root live.root) left))
                 ]
           ];
-          agrees = λ tells. agrees_then done.node done.here done.others (told_then old now next.page done.node before.same done.is tells) (before.agrees tells);
+          agrees = λ tells low then_radius.
+              seen_then state.kept after.kept next.page next.above done.seen done.here done.others s q (nodes_of old.read) rho low
+              (radius_falls k state.best after.best (dists_of (search_at s q rho) next.above done.node) rho low radius done.noted then_radius) (before.agrees tells rho radius)
+              done.node (told_then old now next.page done.node before.same done.is tells) done.seen_is;
           reached = λ tells x k.
               elim (in-append (pendings_of (search_at s q rho) next.above done.node) rest x (in-permutation_back (pendings_of (search_at s q rho) next.above done.node ++ rest) after.queue x done.pushed k)) [
                 | inl new ↦
@@ -142,26 +200,14 @@ module _ (s : Space) (axioms : IsSpace s) (old : Shelf) (live : Live) (q : List 
           walk = λ tells.
               walk_opens (nodes_of old.read) (live.root ∷ []) opened state.queue rest next first.popped (before.walk tells) (search_at s q rho) next.above done.node after.queue
               (told_then old now next.page done.node before.same done.is tells) done.pushed;
-          holds = λ tells sound. step s axioms q q_fits (nodes_of old.read) k live.root state.kept state.queue state.best opened (before.holds tells sound) rho radius next rest first.popped first.low first.first
-              done.node (told_then old now next.page done.node before.same done.is tells) after.queue done.pushed after.best done.noted after.kept done.here done.others;
+          pages = next.page ∷ before.pages;
+          long = (let l = before.long in omega arith);
+          spent = λ tells.
+              (let b = before.spent tells in let m = done.measured in
+              let here : entries_of (nodes_of old.read) next.page ≡ entry_count done.node = ap entries_in (told_then old now next.page done.node before.same done.is tells) in omega arith);
+          holds = λ tells sound. step s axioms q q_fits (nodes_of old.read) k live.root state.kept state.queue state.best before.pages (before.holds tells sound) rho radius next rest first.popped first.low first.first
+              done.node (told_then old now next.page done.node before.same done.is tells) after.queue done.pushed after.best done.noted after.kept done.seen done.here done.others;
         }
-      where
-        -- what was kept is kept
-        kept_then : (node : Node) → after.kept next.page ≡ Some node → ((p : ℕ) → (p ≡ next.page → ⊥) → after.kept p ≡ state.kept p) → (page : ℕ) → IsKept state.kept page → IsKept after.kept page
-        kept_then node here others page old = cases (page == next.page) refl
-          where
-            cases : (b : Bool) → (page == next.page) ≡ b → IsKept after.kept page
-            cases true e = (node, let same : page ≡ next.page = grind (arith, nat_tests) in rw same here)
-            cases false e = (old.0, others page (λ same. let t : (page == next.page) ≡ true = grind (arith, nat_tests) in cc) ∙ old.1)
-
-        -- what is kept are the nodes of the pages
-        agrees_then : (node : Node) → after.kept next.page ≡ Some node → ((p : ℕ) → (p ≡ next.page → ⊥) → after.kept p ≡ state.kept p) → nodes_of old.read next.page ≡ Some node →
-            ((page : ℕ) (n : Node) → state.kept page ≡ Some n → nodes_of old.read page ≡ Some n) → (page : ℕ) (n : Node) → after.kept page ≡ Some n → nodes_of old.read page ≡ Some n
-        agrees_then node here others is agrees page n k' = cases (page == next.page) refl
-          where
-            cases : (b : Bool) → (page == next.page) ≡ b → nodes_of old.read page ≡ Some n
-            cases true e = let same : page ≡ next.page = grind (arith, nat_tests) in cc (same, here, is, k')
-            cases false e = agrees page n (sym (others page (λ same. let t : (page == next.page) ≡ true = grind (arith, nat_tests) in cc)) ∙ k')
 
     pub explore_cause : (new : Shelf) (fault : PageFault) → HasPageCause now new next.page fault → HasNearestCause live old new fault
     explore_cause new Disk cause = (let l = before.same.faults in let c = cause in omega arith)
@@ -217,11 +263,12 @@ module _ (s : Space) (axioms : IsSpace s) (old : Shelf) (live : Live) (q : List 
 
     pub explore_room : opened ≡ live.pages → IsTrue old.tells → IsSoundTree s (nodes_of old.read) live → ⊥
     explore_room all tells sound =
-        let r = room s axioms (nodes_of old.read) live q q_fits k sound state.kept state.queue state.best opened (before.holds tells sound) rho radius next rest first.popped first.low first.first in
+        let r = room s axioms (nodes_of old.read) live q q_fits k sound state.kept state.queue state.best before.pages (before.holds tells sound) rho radius next rest first.popped first.low first.first in
+        let l = before.long in
         omega arith
 
   -- the log that is written at the end
-  pub nearest_log : 1 ≤ k → live.pages ≤ 2 ^ 24 → (kept : Nodes) (rho : ℕ) (records : List Record) (hits : List Hit) → IsRelogged (search_at s q rho) kept live records hits → (found : Found) →
+  pub nearest_log : 1 ≤ k → live.pages ≤ 2 ^ 24 → (kept : Sheets) (rho : ℕ) (records : List Record) (hits : List Hit) → IsRelogged rho kept live records hits → (found : Found) →
       found.log.generation ≡ live.generation → found.log.root ≡ live.root → found.log.query ≡ Nearest q k → found.log.records ≡ records → found.log.answers ≡ selected (Nearest q k) hits → found.hits ≡ found.log.answers →
       IsLogOf live (Nearest q k) found
   nearest_log some few kept rho records hits logged found generation root query are answers same =
@@ -237,12 +284,13 @@ module _ (s : Space) (axioms : IsSpace s) (old : Shelf) (live : Live) (q : List 
             (rw query answers) (omega arith) (rw are (omega arith)) (rw are logged.few_marks);
       }
 
-  pub nearest_ends : 1 ≤ k → (now : Shelf) (state : State) (rho opened : ℕ) → IsExplored s old now live q k state rho opened → (records : List Record) (hits : List Hit) → IsRelogged (search_at s q rho) state.kept live records hits →
+  pub nearest_ends : 1 ≤ k → (now : Shelf) (state : State) (rho opened : ℕ) → IsExplored s old now live q k state rho opened used → (records : List Record) (hits : List Hit) → IsRelogged rho state.kept live records hits →
       (found : Found) → found.log.records ≡ records → found.log.answers ≡ selected (Nearest q k) hits → IsLogOf live (Nearest q k) found →
       IsTrue old.tells → IsSoundTree s (nodes_of old.read) live → IsNearest s (nodes_of old.read) live q k old now found
   nearest_ends some now state rho opened explored records hits logged found are answers named tells sound =
-      let end = ends s axioms (nodes_of old.read) live q q_fits k sound some state.kept state.queue state.best opened (explored.exploring.holds tells sound) rho explored.radius explored.beyond hits records logged in
-      let long : length found.log.records ≡ opened = ap length are ∙ end.1 in
+      let end = ends s axioms (nodes_of old.read) live q q_fits k sound some state.kept state.queue state.best explored.exploring.pages (explored.exploring.holds tells sound) rho explored.radius explored.beyond hits records logged.left
+      (logged.walk s q (nodes_of old.read) (explored.exploring.agrees tells rho explored.radius)) logged.ends in
+      let long : length found.log.records ≡ opened = ap length are ∙ end.1 ∙ explored.exploring.long in
       let search : search_at s q rho ≡ search_for s found.log.query found.log.answers =
       ap (search_at s q) (sym end.2) ∙ (λ i. search_for s (sym named.query_is i) (sym answers i)) in
       let least : IsLeastLog s (nodes_of old.read) live (Nearest q k) found.log = (
@@ -266,27 +314,39 @@ module _ (s : Space) (axioms : IsSpace s) (old : Shelf) (live : Live) (q : List 
         reads = (let r = explored.exploring.reads in omega arith);
       }
 
+  -- on a sound tree at most one distance was computed for each entry that the log marks
+  pub nearest_spent : 1 ≤ k → (now : Shelf) (state : State) (rho opened : ℕ) → IsExplored s old now live q k state rho opened used → (records : List Record) (hits : List Hit) → IsRelogged rho state.kept live records hits →
+      (found : Found) → found.log.records ≡ records → IsTrue old.tells → IsSoundTree s (nodes_of old.read) live → state.used ≤ used + marks_in found.log.records
+  nearest_spent some now state rho opened explored records hits logged found are tells sound =
+      let end = ends s axioms (nodes_of old.read) live q q_fits k sound some state.kept state.queue state.best explored.exploring.pages (explored.exploring.holds tells sound) rho explored.radius explored.beyond hits records logged.left
+      (logged.walk s q (nodes_of old.read) (explored.exploring.agrees tells rho explored.radius)) logged.ends in
+      let spent = explored.exploring.spent tells in
+      rw are (let entries = end.3 in omega arith)
+
   -- on any tree the log is a front of the walk, with the root's record
-  pub nearest_front : (now : Shelf) (state : State) (rho opened : ℕ) → IsExplored s old now live q k state rho opened → (records : List Record) (hits : List Hit) →
-      IsRelogged (search_at s q rho) state.kept live records hits → (found : Found) → found.log.records ≡ records → found.log.answers ≡ selected (Nearest q k) hits → IsTrue old.tells →
+  pub nearest_front : (now : Shelf) (state : State) (rho opened : ℕ) → IsExplored s old now live q k state rho opened used → (records : List Record) (hits : List Hit) →
+      IsRelogged rho state.kept live records hits → (found : Found) → found.log.records ≡ records → found.log.answers ≡ selected (Nearest q k) hits → IsTrue old.tells →
       IsFront s (nodes_of old.read) live q k found
   nearest_front now state rho opened explored records hits logged found are answers tells = record {
     rho = rho;
     hits = hits;
     left = logged.left;
     walk = subst (λ (rs : List Record). ReachesBy AreLeast (search_at s q rho) (nodes_of old.read) (root_need live.root ∷ []) rs hits logged.left) (sym are)
-        (agrees_reach AreLeast (search_at s q rho) (nodes_of old.read) state.kept (explored.exploring.agrees tells) (root_need live.root ∷ []) records hits logged.left logged.walk);
-    some = rw are (root_opened records logged.left logged.walk logged.ends);
+        walked;
+    some = rw are (root_opened records logged.left walked logged.ends);
     answers_are = answers;
   }
     where
+      walked : ReachesBy AreLeast (search_at s q rho) (nodes_of old.read) (root_need live.root ∷ []) records hits logged.left
+      walked = logged.walk s q (nodes_of old.read) (explored.exploring.agrees tells rho explored.radius)
+
       beyond_root : IsIn (pending_root live.root) state.queue → ⊥
       beyond_root waits = let b : rho < 0 = explored.beyond (pending_root live.root) waits in omega arith
 
-      root_kept : (1 ≤ opened) × IsKept state.kept live.root
+      root_kept : (1 ≤ opened) × IsKept state.kept live.root None
       root_kept = elim explored.exploring.begun [ inl w ↦ w | inr waits ↦ absurd (beyond_root waits) ]
 
-      root_opened : (rs : List Record) (left : List Need) → ReachesBy AreLeast (search_at s q rho) state.kept (root_need live.root ∷ []) rs hits left → IsStopped state.kept live rs left → 1 ≤ length rs
+      root_opened : (rs : List Record) (left : List Need) → ReachesBy AreLeast (search_at s q rho) (nodes_of old.read) (root_need live.root ∷ []) rs hits left → IsStopped state.kept live rs left → 1 ≤ length rs
       root_opened (r ∷ rs) left walk stopped = omega arith
       root_opened [] left walk stopped =
           elim (subst (IsStopped state.kept live []) walk.1 stopped) [
@@ -294,28 +354,65 @@ module _ (s : Space) (axioms : IsSpace s) (old : Shelf) (live : Live) (q : List 
             | inr none ↦ absurd (let some = root_kept.1.1 in cc)
           ]
 
--- the walk over the kept nodes
+-- the walk over what is kept
 
-pub relog_begins : (f : Search) (kept : Nodes) (root : ℕ) (rs : List Record) (hits : List Hit) (stack : List Need) → rs ≡ [] → hits ≡ [] → stack ≡ root_need root ∷ [] → IsRelogging f kept root rs hits (reverse stack)
-relog_begins f kept root rs hits stack none no_hits one = rw (none, no_hits, one) (record { walk = (refl, refl); few_marks = tt; few_hits = omega arith })
+pub relog_begins : (rho : ℕ) (kept : Sheets) (root : ℕ) (rs : List Record) (hits : List Hit) (stack : List Need) → rs ≡ [] → hits ≡ [] → stack ≡ root_need root ∷ [] → IsRelogging rho kept root rs hits (reverse stack)
+relog_begins rho kept root rs hits stack none no_hits one = rw (none, no_hits, one) (record { walk = λ s q nodes seen. (refl, refl); few_marks = tt; few_hits = omega arith })
 
-pub relog_steps : (f g : Search) (kept : Nodes) (root : ℕ) (one other : Traversal) (n : Need) (rest : List Need) (node : Node) → g ≡ f → reverse one.stack.items ≡ n ∷ rest → KeepsFew kept → kept n.page ≡ Some node →
-    (mid : Traversal) → mid.records.items ≡ one.records.items → mid.hits.items ≡ one.hits.items → reverse mid.stack.items ≡ rest → TakesNode g n node mid other →
-    IsRelogging f kept root one.records.items one.hits.items (reverse one.stack.items) → IsRelogging f kept root other.records.items other.hits.items (reverse other.stack.items)
-relog_steps f g kept root one other n rest node same top few is mid records hits left takes before =
-    let taken : TakesNode f n node mid other = subst (λ (h : Search). TakesNode h n node mid other) same takes in
-    let rs : other.records.items ≡ one.records.items ++ record_of f n node ∷ [] = taken.records ∙ ap (λ (l : List Record). l ++ record_of f n node ∷ []) records in
-    let hs : other.hits.items ≡ one.hits.items ++ hits_of f node (least_marks f n.above node) = taken.hits ∙ ap (λ (l : List Hit). l ++ hits_of f node (least_marks f n.above node)) hits in
-    let ns : reverse other.stack.items ≡ needs_of f node (least_marks f n.above node) ++ rest = taken.needs ∙ ap (λ (l : List Need). needs_of f node (least_marks f n.above node) ++ l) left in
-    let entries = few n.page node is in
-    let many = marks_long f n.above node in
-    let named = hits_few f node (least_marks f n.above node) in
-    let long = length-append one.records.items (record_of f n node ∷ []) in
-    let more = length-append one.hits.items (hits_of f node (least_marks f n.above node)) in
+-- what was seen of a node is taken in as the node would be
+takes_node : (s : Space) (q : List ℕ) (rho : ℕ) (n : Need) (node : Node) (seen : Seen) (old new : Traversal) → IsSeenOf s q rho n.above node seen → TakesSeen rho n seen old new → TakesNode (search_at s q rho) n node old new
+takes_node s q rho n (Leaf es) (Objects xs) old new is takes = record {
+  hits = takes.hits ∙ ap (λ (hs : List Hit). old.hits.items ++ hs) (ap (λ (l : List Sight). map hit_seen (seen_near rho l)) is.2 ∙ objects_named s q rho is.0 is.1 n.above es);
+  records = takes.records ∙ ap (λ (ms : List Mark). old.records.items ++ record { page = n.page; marks = ms } ∷ []) (ap (λ (l : List Sight). map (mark_at rho) l) is.2 ∙ objects_marked s q rho is.0 is.1 n.above es);
+  needs = takes.needs;
+}
+takes_node s q rho n (Leaf es) (Subtrees xs) old new is takes = absurd is
+takes_node s q rho n (Inner level es) (Objects xs) old new is takes = absurd is
+takes_node s q rho n (Inner level es) (Subtrees xs) old new is takes = record {
+  hits = takes.hits;
+  records = takes.records ∙ ap (λ (ms : List Mark). old.records.items ++ record { page = n.page; marks = ms } ∷ []) (ap (λ (l : List Sight). map (mark_at rho) l) is.2 ∙ subtrees_marked s q rho is.0 is.1 n.above es);
+  needs = takes.needs ∙ ap (λ (ns : List Need). ns ++ reverse old.stack.items) (ap (λ (l : List Sight). map need_seen (seen_near rho l)) is.2 ∙ subtrees_needed s q rho is.0 is.1 n.above es);
+}
+
+few_near : (rho : ℕ) (xs : List Sight) → length (seen_near rho xs) ≤ length xs
+few_near rho [] = omega arith
+few_near rho (x ∷ xs) = cases (is_near (mark_at rho x)) (few_near rho xs)
+  where
+    cases : (b : Bool) → length (seen_near rho xs) ≤ length xs → length (cond b (x ∷ seen_near rho xs) (seen_near rho xs)) ≤ suc (length xs)
+    cases true ih = omega arith
+    cases false ih = omega arith
+
+few_named : (rho : ℕ) (seen : Seen) → length (hits_seen rho seen) ≤ length (sights seen)
+few_named rho (Objects xs) = let few = few_near rho xs.items in let same = length-map (seen_near rho xs.items) hit_seen in omega arith
+few_named rho (Subtrees xs) = omega arith
+
+pub relog_steps : (rho : ℕ) (kept : Sheets) (root : ℕ) (one other : Traversal) (n : Need) (rest : List Need) (seen : Seen) → reverse one.stack.items ≡ n ∷ rest → KeepsFew kept → kept n.page n.above ≡ Some seen →
+    (mid : Traversal) → mid.records.items ≡ one.records.items → mid.hits.items ≡ one.hits.items → reverse mid.stack.items ≡ rest → TakesSeen rho n seen mid other →
+    IsRelogging rho kept root one.records.items one.hits.items (reverse one.stack.items) → IsRelogging rho kept root other.records.items other.hits.items (reverse other.stack.items)
+relog_steps rho kept root one other n rest seen top few is mid records hits left takes before =
+    let rs : other.records.items ≡ one.records.items ++ record_seen rho n.page seen ∷ [] = takes.records ∙ ap (λ (l : List Record). l ++ record_seen rho n.page seen ∷ []) records in
+    let hs : other.hits.items ≡ one.hits.items ++ hits_seen rho seen = takes.hits ∙ ap (λ (l : List Hit). l ++ hits_seen rho seen) hits in
+    let entries = few n.page n.above seen is in
+    let many : length (map (mark_at rho) (sights seen)) ≡ length (sights seen) = length-map (sights seen) (mark_at rho) in
+    let named = few_named rho seen in
+    let long = length-append one.records.items (record_seen rho n.page seen ∷ []) in
+    let more = length-append one.hits.items (hits_seen rho seen) in
     let b = before.few_hits in
-    rw (rs, hs, ns) (record {
-      walk = reaches_more AreLeast f kept (root_need root ∷ []) one.records.items one.hits.items n rest node (least_marks f n.above node) is refl
-          (subst (λ (l : List Need). ReachesBy AreLeast f kept (root_need root ∷ []) one.records.items one.hits.items l) top before.walk);
-      few_marks = all_append (λ (r : Record). length r.marks ≤ 32) one.records.items (record_of f n node ∷ []) before.few_marks ((omega arith), tt);
-      few_hits = omega arith;
-    })
+    record {
+      walk = λ s q nodes are. walks s q nodes (before.walk s q nodes are) (are n.page n.above seen is);
+      few_marks = rw rs (all_append (λ (r : Record). length r.marks ≤ 32) one.records.items (record_seen rho n.page seen ∷ []) before.few_marks ((omega arith), tt));
+      few_hits = rw (rs, hs) (omega arith);
+    }
+  where
+    walks : (s : Space) (q : List ℕ) (nodes : Nodes) → ReachesBy AreLeast (search_at s q rho) nodes (root_need root ∷ []) one.records.items one.hits.items (reverse one.stack.items) →
+        (node : Node) × (nodes n.page ≡ Some node) × IsSeenOf s q rho n.above node seen →
+        ReachesBy AreLeast (search_at s q rho) nodes (root_need root ∷ []) other.records.items other.hits.items (reverse other.stack.items)
+    walks s q nodes walk node =
+        let f : Search = search_at s q rho in
+        let taken : TakesNode f n node.0 mid other = takes_node s q rho n node.0 seen mid other node.2 takes in
+        let rs : other.records.items ≡ one.records.items ++ record_of f n node.0 ∷ [] = taken.records ∙ ap (λ (l : List Record). l ++ record_of f n node.0 ∷ []) records in
+        let hs : other.hits.items ≡ one.hits.items ++ hits_of f node.0 (least_marks f n.above node.0) = taken.hits ∙ ap (λ (l : List Hit). l ++ hits_of f node.0 (least_marks f n.above node.0)) hits in
+        let ns : reverse other.stack.items ≡ needs_of f node.0 (least_marks f n.above node.0) ++ rest = taken.needs ∙ ap (λ (l : List Need). needs_of f node.0 (least_marks f n.above node.0) ++ l) left in
+        rw (rs, hs, ns)
+        (reaches_more AreLeast f nodes (root_need root ∷ []) one.records.items one.hits.items n rest node.0 (least_marks f n.above node.0) node.1 refl
+        (subst (λ (l : List Need). ReachesBy AreLeast f nodes (root_need root ∷ []) one.records.items one.hits.items l) top walk))

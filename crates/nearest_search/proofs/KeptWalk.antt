@@ -1,4 +1,4 @@
--- The walk with the least marks over kept nodes.
+-- The walk with the least marks over what is kept.
 use Rattle.std.proofs.Common.{◌≡◌, ℕ, Bool, true, false, List, [], ◌∷◌, ◌++◌, refl, sym, inl, inr, arith, subst, Option, Some, None}
 use Rattle.std.specs.Prelude.{IsTrue, map, if◌then◌else◌}
 use Rattle.std.specs.List.{AllByRecursion}
@@ -16,10 +16,11 @@ use Rattle.log_model.specs.declared.marks.Mark.{Mark}
 use Rattle.log_model.specs.declared.marks.Mark.TheVariants.{Skip, Far, Near}
 use Rattle.log_model.specs.declared.marks.Record.{Record}
 use Rattle.log_model.specs.declared.marks.Need.{Need}
-use Rattle.log_model.specs.Walk.{Search, Rule, ReachesBy, WalksBy, AreLeast, away, is_skipped, least_for_subtree, least_marks, near_ones, need_of, needs_of, root_need}
+use Rattle.log_model.specs.Walk.{Search, ReachesBy, WalksBy, AreLeast, away, is_skipped, least_for_subtree, least_marks, near_ones, need_of, needs_of, root_need}
 use Rattle.log_model.proofs.Published.{reached_inside, walks_whole}
-use Rattle.nearest_search.specs.Machine.{reaches, IsKept}
-use Rattle.nearest_search.specs.Relog.{IsRelogged, IsStopped}
+use Rattle.nearest_search.specs.Machine.{reaches}
+use Rattle.nearest_search.specs.Keeping.{Sheets, IsKept}
+use Rattle.nearest_search.specs.Relog.{IsStopped}
 
 -- what the least marks leave reaches
 pub near_reach : (f : Search) (above : Option ℕ) (es : List InnerEntry) →
@@ -41,54 +42,41 @@ near_reach f above (e ∷ es) = cases (is_skipped f above e.parent e.radius) (ce
     cases false true i rest = rest
     cases false false i rest = ((inl refl, near i), rest)
 
--- a walk over kept nodes is one over the file's
-pub agrees_reach : (rule : Rule) (f : Search) (nodes kept : Nodes) → ((page : ℕ) (node : Node) → kept page ≡ Some node → nodes page ≡ Some node) → (ns : List Need) (rs : List Record) (hits : List Hit) (left : List Need) →
-    ReachesBy rule f kept ns rs hits left → ReachesBy rule f nodes ns rs hits left
-agrees_reach rule f nodes kept agrees ns [] hits left walk = walk
-agrees_reach rule f nodes kept agrees [] (r ∷ rs) hits left walk = absurd walk
-agrees_reach rule f nodes kept agrees (n ∷ ns) (r ∷ rs) hits left walk = (
-  walk.0,
-  agrees n.page walk.0 walk.1,
-  walk.2,
-  walk.3,
-  (walk.4.0, agrees_reach rule f nodes kept agrees (needs_of f walk.0 r.marks ++ ns) rs walk.4.0 left walk.4.1, walk.4.2),
-)
-
-module _ (f : Search) (nodes kept : Nodes) (agrees : (page : ℕ) (node : Node) → kept page ≡ Some node → nodes page ≡ Some node)
-    (closed : (page : ℕ) (node : Node) → kept page ≡ Some node → (e : InnerEntry) → IsIn e (inner_entries (Some node)) → IsTrue (reaches f e) → IsKept kept e.child) where
+module _ (f : Search) (nodes : Nodes) (kept : Sheets)
+    (closed : (page : ℕ) (above : Option ℕ) → IsKept kept page above → (e : InnerEntry) → IsIn e (inner_entries (nodes page)) → IsTrue (reaches f e) → IsKept kept e.child (Some (away f e.point))) where
   abbrev pub AreKept : List Need → Type 0
-  AreKept ns = AllByRecursion (λ n. IsKept kept n.page) ns
+  AreKept ns = AllByRecursion (λ n. IsKept kept n.page n.above) ns
 
-  -- what a kept node needs is kept
-  pub needs_kept : (page : ℕ) (above : Option ℕ) (node : Node) → kept page ≡ Some node → AreKept (needs_of f node (least_marks f above node))
-  needs_kept page above (Leaf es) is = tt
-  needs_kept page above (Inner level es) is = each (near_ones es (least_marks f above (Inner level es))) (near_reach f above es)
+  -- what an opened page needs is kept
+  pub needs_kept : (page : ℕ) (above : Option ℕ) (node : Node) → IsKept kept page above → nodes page ≡ Some node → AreKept (needs_of f node (least_marks f above node))
+  needs_kept page above (Leaf es) here is = tt
+  needs_kept page above (Inner level es) here is = each (near_ones es (least_marks f above (Inner level es))) (near_reach f above es)
     where
       each : (xs : List InnerEntry) → AllByRecursion (λ e. IsIn e es × IsTrue (reaches f e)) xs → AreKept (map (need_of f) xs)
       each [] all = tt
-      each (x ∷ xs) all = (closed page (Inner level es) is x all.0.0 all.0.1, each xs all.1)
+      each (x ∷ xs) all = (closed page above here x (subst (λ (o : Option Node). IsIn x (inner_entries o)) (sym is) all.0.0) all.0.1, each xs all.1)
 
   -- what a walk needs that begins with kept pages is kept
-  pub left_kept : (rs : List Record) (ns : List Need) (hits : List Hit) (left : List Need) → AreKept ns → ReachesBy AreLeast f kept ns rs hits left → AreKept left
+  pub left_kept : (rs : List Record) (ns : List Need) (hits : List Hit) (left : List Need) → AreKept ns → ReachesBy AreLeast f nodes ns rs hits left → AreKept left
   left_kept [] ns hits left all walk = rw walk.1 all
   left_kept (r ∷ rs) [] hits left all walk = absurd walk
   left_kept (r ∷ rs) (n ∷ ns) hits left all walk =
       left_kept rs (needs_of f walk.0 r.marks ++ ns) walk.4.0 left
-      (all_append (λ (m : Need). IsKept kept m.page) (needs_of f walk.0 r.marks) ns
-      (subst (λ (ms : List Mark). AreKept (needs_of f walk.0 ms)) (sym walk.3) (needs_kept n.page n.above walk.0 walk.1)) all.1) walk.4.1
+      (all_append (λ (m : Need). IsKept kept m.page m.above) (needs_of f walk.0 r.marks) ns
+      (subst (λ (ms : List Mark). AreKept (needs_of f walk.0 ms)) (sym walk.3) (needs_kept n.page n.above walk.0 all.0 walk.1)) all.1) walk.4.1
 
-  -- on a sound tree the walk over the kept nodes is whole
-  pub relog_whole : (live : Live) → IsSoundTree f.space nodes live → IsKept kept live.root → (rs : List Record) (hits : List Hit) → IsRelogged f kept live rs hits →
-      WalksBy AreLeast f nodes (root_need live.root ∷ []) rs hits
-  relog_whole live sound root rs hits logged = ends logged.left logged.walk logged.ends
+  -- on a sound tree the walk over what is kept is whole
+  pub relog_whole : (live : Live) → IsSoundTree f.space nodes live → IsKept kept live.root None → (rs : List Record) (hits : List Hit) (left : List Need) →
+      ReachesBy AreLeast f nodes (root_need live.root ∷ []) rs hits left → IsStopped kept live rs left → WalksBy AreLeast f nodes (root_need live.root ∷ []) rs hits
+  relog_whole live sound root rs hits left walk stopped = ends left walk stopped
     where
-      unkept : (n : Need) → IsKept kept n.page → kept n.page ≡ None → ⊥
+      unkept : (n : Need) → IsKept kept n.page n.above → kept n.page n.above ≡ None → ⊥
       unkept n k none = let some = k.1 in cc
 
-      ends : (left : List Need) → ReachesBy AreLeast f kept (root_need live.root ∷ []) rs hits left → IsStopped kept live rs left → WalksBy AreLeast f nodes (root_need live.root ∷ []) rs hits
-      ends [] walk stopped = walks_whole AreLeast f nodes (root_need live.root ∷ []) rs hits (agrees_reach AreLeast f nodes kept agrees (root_need live.root ∷ []) rs hits [] walk)
+      ends : (left : List Need) → ReachesBy AreLeast f nodes (root_need live.root ∷ []) rs hits left → IsStopped kept live rs left → WalksBy AreLeast f nodes (root_need live.root ∷ []) rs hits
+      ends [] walk stopped = walks_whole AreLeast f nodes (root_need live.root ∷ []) rs hits walk
       ends (n ∷ ns) walk stopped =
-          let low = (reached_inside AreLeast f nodes live sound rs hits n ns (agrees_reach AreLeast f nodes kept agrees (root_need live.root ∷ []) rs hits (n ∷ ns) walk)).0 in
+          let low = (reached_inside AreLeast f nodes live sound rs hits n ns walk).0 in
           elim stopped [
             | inl all ↦ absurd (omega arith)
             | inr none ↦ absurd (unkept n (left_kept rs (root_need live.root ∷ []) hits (n ∷ ns) (root, tt) walk).0 none)

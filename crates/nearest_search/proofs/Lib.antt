@@ -6,6 +6,8 @@ pub mod Waits
 pub mod Steps
 pub mod Radius
 pub mod Fuel
+pub mod Turns
+pub mod Seeing
 pub mod KeptWalk
 pub mod Ends
 pub mod Walking

@@ -105,11 +105,11 @@ module _ (f : Search) (axioms : IsSpace f.space) (q_fits : IsTrue (f.space.fits 
       cases false i ih = let z = out_of_reach nodes h above e sound.0 i r low in omega arith
 
 -- the pages that the final walk opens below the entries, where the search at the time reached at least as far
-pub opens_covered : (f g : Search) → f.space ≡ g.space → (nodes : Nodes) (h : ℕ) (above : Option (List ℕ)) (es : List InnerEntry) → AllByRecursion (SoundSubtree f.space nodes h above) es →
+pub opens_covered : (w : ℕ → ℕ) (f g : Search) → f.space ≡ g.space → (nodes : Nodes) (h : ℕ) (above : Option (List ℕ)) (es : List InnerEntry) → AllByRecursion (SoundSubtree f.space nodes h above) es →
     ((p : List ℕ) → away f p ≡ away g p) → g.rho ≤ f.rho →
-    total (λ e. if reaches g e then opens g nodes h e.child else 0) es ≡ total (opens_of g nodes) (map (pending_of f) (filter (reaches f) es))
-opens_covered f g same nodes h above [] sound measure low = refl
-opens_covered f g same nodes h above (e ∷ es) sound measure low = cases (reaches f e) (reaches g e) refl refl (opens_covered f g same nodes h above es sound.1 measure low)
+    total (λ e. if reaches g e then opens w g nodes h e.child else 0) es ≡ total (opens_of w g nodes) (map (pending_of f) (filter (reaches f) es))
+opens_covered w f g same nodes h above [] sound measure low = refl
+opens_covered w f g same nodes h above (e ∷ es) sound measure low = cases (reaches f e) (reaches g e) refl refl (opens_covered w f g same nodes h above es sound.1 measure low)
   where
     wider : reaches g e ≡ true → reaches f e ≡ true
     wider i = let m = measure e.point in grind (arith, nat_tests)
@@ -119,9 +119,9 @@ opens_covered f g same nodes h above (e ∷ es) sound measure low = cases (reach
     lower false i = let m = measure e.point in grind (arith, nat_tests)
 
     cases : (b c : Bool) → reaches f e ≡ b → reaches g e ≡ c →
-        total (λ e. if reaches g e then opens g nodes h e.child else 0) es ≡ total (opens_of g nodes) (map (pending_of f) (filter (reaches f) es)) →
-        (if c then opens g nodes h e.child else 0) + total (λ e. if reaches g e then opens g nodes h e.child else 0) es
-        ≡ total (opens_of g nodes) (map (pending_of f) (cond b (e ∷ filter (reaches f) es) (filter (reaches f) es)))
-    cases true c i j ih = rw (lower c j, level_is f.space nodes h (least_for f.space.words) (Some e.point) e.child sound.0.1) (ap (λ n. (if c then opens g nodes h e.child else 0) + n) ih)
+        total (λ e. if reaches g e then opens w g nodes h e.child else 0) es ≡ total (opens_of w g nodes) (map (pending_of f) (filter (reaches f) es)) →
+        (if c then opens w g nodes h e.child else 0) + total (λ e. if reaches g e then opens w g nodes h e.child else 0) es
+        ≡ total (opens_of w g nodes) (map (pending_of f) (cond b (e ∷ filter (reaches f) es) (filter (reaches f) es)))
+    cases true c i j ih = rw (lower c j, level_is f.space nodes h (least_for f.space.words) (Some e.point) e.child sound.0.1) (ap (λ n. (if c then opens w g nodes h e.child else 0) + n) ih)
     cases false true i j ih = absurd (let w = wider j in cc)
     cases false false i j ih = omega arith

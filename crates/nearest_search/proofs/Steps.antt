@@ -1,6 +1,6 @@
 -- One step of the machine, and its end.
 use Rattle.std.proofs.Common.{◌≡◌, ℕ, zero, suc, ◌+◌, ◌-◌, ◌<◌, ◌≤◌, ◌⊎◌, Bool, true, false, List, [], ◌∷◌, ◌++◌, refl, sym, ap, inl, inr, arith, ◌∙◌, min, subst, Option, Some, None}
-use Rattle.std.specs.Prelude.{IsTrue, map, filter, nat_le, if◌then◌else◌, IsPermutation, ◌==◌}
+use Rattle.std.specs.Prelude.{IsTrue, map, filter, nat_le, if◌then◌else◌, IsPermutation}
 use Rattle.std.specs.List.{AllByRecursion}
 use Rattle.std.proofs.lemmas.Bool.Decides.{nat_tests}
 use Rattle.metric_laws.specs.Space.{Space, IsSpace, bound}
@@ -16,8 +16,10 @@ use Rattle.tree_shape.proofs.Published.{SoundSubtree}
 use Rattle.log_model.specs.Walk.{Search, away, search_at}
 use Rattle.log_model.proofs.Published.{FitsAbove, point_above, held, same_node}
 use Rattle.nearest_search.specs.declared.pending.Pending.{Pending}
+use Rattle.nearest_search.specs.declared.seen.Seen.{Seen}
+use Rattle.nearest_search.specs.Keeping.{Sheets, IsKept}
 use Rattle.nearest_search.specs.Counts.{total, one_within, within, IsRadius}
-use Rattle.nearest_search.specs.Machine.{objects_below, count_near, count_below, pending_of, pending_root, dists_of, pendings_of, reaches, opens, opens_of, IsFinal, far_above, FitsUp, IsPending, IsKept, IsClosed, Holds}
+use Rattle.nearest_search.specs.Machine.{objects_below, count_near, count_below, pending_of, pending_root, dists_of, pendings_of, reaches, opens, opens_of, IsFinal, far_above, FitsUp, IsPending, IsClosed, Holds}
 use Rattle.nearest_search.proofs.Totals.{total-append, total-flat_map, total-none, total-permutation, in-permutation, in-permutation_back, within_all, within_more}
 use Rattle.nearest_search.proofs.Near.{level_is, near_reaches, leaf_answers, leaf_covered, inner_covered, opens_covered}
 use Rattle.nearest_search.proofs.Arithmetic.{counts_step}
@@ -104,7 +106,7 @@ module _ (s : Space) (axioms : IsSpace s) (q : List ℕ) (q_fits : IsTrue (s.fit
     abbrev pub counted : ℕ → ℕ
     counted r = count_near (at 0) r (objects_below nodes root)
 
-    module _ (kept : Nodes) (queue : List Pending) (best : List ℕ) (opened : ℕ) (holds : Holds s nodes q k root kept queue best opened) (rho : ℕ) (radius : IsRadius k best rho) where
+    module _ (kept : Sheets) (queue : List Pending) (best : List ℕ) (opened : List ℕ) (holds : Holds s nodes q k root kept queue best opened) (rho : ℕ) (radius : IsRadius k best rho) where
       -- where all that waits is beyond r, the least distances tell how many are within
       pub all_beyond : (r : ℕ) → r ≤ bound → ((x : Pending) → IsIn x queue → r < x.low) → min k (within r best) ≡ min k (counted r)
       all_beyond r low far =
@@ -165,17 +167,17 @@ module _ (s : Space) (axioms : IsSpace s) (q : List ℕ) (q_fits : IsTrue (s.fit
       (map-in (pending_of (at rho)) (filter (reaches (at rho)) sound.0) e (filter-in (reaches (at rho)) sound.0 e w far))))
 
   -- the pages that the final walk opens below an opened page are those below what it queues, and itself
-  pub opens_more : (rho final : ℕ) → final ≤ rho → (h least : ℕ) (above : Option (List ℕ)) (page : ℕ) (node : Node) → IsSoundAt s nodes h least above page → FitsUp s above → nodes page ≡ Some node →
-      opens (at final) nodes h page ≡ suc (total (opens_of (at final) nodes) (pendings_of (at rho) (far_above (at 0) above) node))
-  opens_more rho final low zero least above page node sound fit is =
+  pub opens_more : (w : ℕ → ℕ) (rho final : ℕ) → final ≤ rho → (h least : ℕ) (above : Option (List ℕ)) (page : ℕ) (node : Node) → IsSoundAt s nodes h least above page → FitsUp s above → nodes page ≡ Some node →
+      opens w (at final) nodes h page ≡ w page + total (opens_of w (at final) nodes) (pendings_of (at rho) (far_above (at 0) above) node)
+  opens_more w rho final low zero least above page node sound fit is =
       let same : node ≡ Leaf sound.0 = same_node (nodes page) node (Leaf sound.0) is sound.1 in
-      subst (λ (n : Node). 1 ≡ suc (total (opens_of (at final) nodes) (pendings_of (at rho) (far_above (at 0) above) n))) (sym same) refl
-  opens_more rho final low (suc h) least above page node sound fit is =
+      subst (λ (n : Node). w page ≡ w page + total (opens_of w (at final) nodes) (pendings_of (at rho) (far_above (at 0) above) n)) (sym same) (omega arith)
+  opens_more w rho final low (suc h) least above page node sound fit is =
       let same : node ≡ Inner (suc h) sound.0 = same_node (nodes page) node (Inner (suc h) sound.0) is sound.1 in
       rw (same, sound.1, far_above_at s q 0 rho above, above_same (at rho) above, near_reaches (at rho) axioms q_fits nodes h above (fits_same s above fit) sound.0 sound.3)
-      (ap suc (opens_covered (at rho) (at final) refl nodes h above sound.0 sound.3 (λ p. refl) low))
+      (ap (λ n. w page + n) (opens_covered w (at rho) (at final) refl nodes h above sound.0 sound.3 (λ p. refl) low))
 
-  module _ (k root : ℕ) (kept : Nodes) (queue : List Pending) (best : List ℕ) (opened : ℕ) (holds : Holds s nodes q k root kept queue best opened) (rho : ℕ) (radius : IsRadius k best rho) where
+  module _ (k root : ℕ) (kept : Sheets) (queue : List Pending) (best : List ℕ) (opened : List ℕ) (holds : Holds s nodes q k root kept queue best opened) (rho : ℕ) (radius : IsRadius k best rho) where
     module _ (x : Pending) (rest : List Pending) (popped : IsPermutation queue (x ∷ rest)) (low : x.low ≤ rho) (first : (y : Pending) → IsIn y queue → x.low ≤ y.low) (node : Node) (is : nodes x.page ≡ Some node) where
       pub waited : IsPending (at 0) nodes x
       waited = holds.queued x (in-permutation_back queue (x ∷ rest) x popped (inl refl))
@@ -194,18 +196,18 @@ module _ (s : Space) (axioms : IsSpace s) (q : List ℕ) (q_fits : IsTrue (s.fit
           queues_sound rho waited.height waited.least waited.above x.page node waited.sound waited.fits is y
           (subst (λ (o : Option ℕ). IsIn y (pendings_of (at rho) o node)) waited.above_is i)
 
-      pub opens_here : (final : ℕ) → final ≤ rho → x.low ≤ final → opens_of (at final) nodes x ≡ suc (total (opens_of (at final) nodes) (pendings_of (at rho) x.above node))
-      opens_here final high reach =
+      pub opens_here : (w : ℕ → ℕ) (final : ℕ) → final ≤ rho → x.low ≤ final → opens_of w (at final) nodes x ≡ w x.page + total (opens_of w (at final) nodes) (pendings_of (at rho) x.above node)
+      opens_here w final high reach =
           let yes_low : nat_le x.low final ≡ true = grind (arith, nat_tests) in
-          let deep : opens_of (at final) nodes x ≡ opens (at final) nodes waited.height x.page =
+          let deep : opens_of w (at final) nodes x ≡ opens w (at final) nodes waited.height x.page =
           rw (yes_low, level_is s nodes waited.height waited.least waited.above x.page waited.sound) refl in
-          deep ∙ opens_more rho final high waited.height waited.least waited.above x.page node waited.sound waited.fits is
-          ∙ ap (λ (o : Option ℕ). suc (total (opens_of (at final) nodes) (pendings_of (at rho) o node))) (sym waited.above_is)
+          deep ∙ opens_more w rho final high waited.height waited.least waited.above x.page node waited.sound waited.fits is
+          ∙ ap (λ (o : Option ℕ). w x.page + total (opens_of w (at final) nodes) (pendings_of (at rho) o node)) (sym waited.above_is)
 
       -- the state after the page was opened
       module _ (queue' : List Pending) (pushed : IsPermutation (pendings_of (at rho) x.above node ++ rest) queue') (best' : List ℕ)
           (noted : (r : ℕ) → min k (within r best') ≡ min k (within r best + within r (dists_of (at rho) x.above node)))
-          (kept' : Nodes) (here : kept' x.page ≡ Some node) (others : (p : ℕ) → (p ≡ x.page → ⊥) → kept' p ≡ kept p) where
+          (kept' : Sheets) (seen : Seen) (here : kept' x.page x.above ≡ Some seen) (others : (page : ℕ) (above : Option ℕ) → ((page ≡ x.page) × (above ≡ x.above)) ⊎ (kept' page above ≡ kept page above)) where
         pub total_after : (g : Pending → ℕ) → total g queue' ≡ total g (pendings_of (at rho) x.above node) + total g rest
         total_after g = sym (total-permutation g (pendings_of (at rho) x.above node ++ rest) queue' pushed) ∙ total-append g (pendings_of (at rho) x.above node) rest
 
@@ -234,35 +236,24 @@ module _ (s : Space) (axioms : IsSpace s) (q : List ℕ) (q_fits : IsTrue (s.fit
             either [] fresh i = holds.queued y (in-permutation_back queue (x ∷ rest) y popped (inr i))
             either (z ∷ new) fresh i = elim i [ inl e ↦ fresh y (inl e) | inr w ↦ either new (λ v j. fresh v (inr j)) w ]
 
-        pub kept_after : (page : ℕ) → IsKept kept page → IsKept kept' page
-        kept_after page old = cases (page == x.page) refl
-          where
-            cases : (b : Bool) → (page == x.page) ≡ b → IsKept kept' page
-            cases true e = (node, let same : page ≡ x.page = grind (arith, nat_tests) in rw same here)
-            cases false e = (old.0, others page (λ same. let t : (page == x.page) ≡ true = grind (arith, nat_tests) in cc) ∙ old.1)
-
-        pub agrees_after : (page : ℕ) (n : Node) → kept' page ≡ Some n → nodes page ≡ Some n
-        agrees_after page n k' = cases (page == x.page) refl
-          where
-            cases : (b : Bool) → (page == x.page) ≡ b → nodes page ≡ Some n
-            cases true e = let same : page ≡ x.page = grind (arith, nat_tests) in cc (same, here, is, k')
-            cases false e = holds.agrees page n (sym (others page (λ same. let t : (page == x.page) ≡ true = grind (arith, nat_tests) in cc)) ∙ k')
+        pub kept_after : (page : ℕ) (above : Option ℕ) → IsKept kept page above → IsKept kept' page above
+        kept_after page above old = elim (others page above) [ inl same ↦ (seen, rw (same.0, same.1) here) | inr same ↦ (old.0, same ∙ old.1) ]
 
         -- what waited still waits, or was opened
-        pub waits_after : (y : Pending) → IsIn y queue → IsKept kept' y.page ⊎ IsIn y queue'
+        pub waits_after : (y : Pending) → IsIn y queue → IsKept kept' y.page y.above ⊎ IsIn y queue'
         waits_after y i =
             elim (in-permutation queue (x ∷ rest) y popped i) [
-              | inl e ↦ inl (node, ap kept' (ap (λ z. z.page) e) ∙ here)
+              | inl e ↦ inl (seen, ap (λ (z : Pending). kept' z.page z.above) e ∙ here)
               | inr w ↦ inr (in-permutation (pendings_of (at rho) x.above node ++ rest) queue' y pushed (in-append_right (pendings_of (at rho) x.above node) rest y w))
             ]
 
-        pub closed_after : (final : ℕ) → IsFinal k (λ r. count_near (at 0) r (objects_below nodes root)) final → IsClosed (at final) nodes kept' root queue' (opened + 1)
+        pub closed_after : (final : ℕ) → IsFinal k (λ r. count_near (at 0) r (objects_below nodes root)) final → IsClosed (at final) nodes kept' root queue' (x.page ∷ opened)
         closed_after final final_is = record {
-          begun = elim old.begun [ inl w ↦ inl (kept_after root w) | inr w ↦ waits_after (pending_root root) w ];
-          reached = λ page n k' e i far. cases page n k' e i far (page == x.page) refl;
-          counted =
-              (let o = old.counted in let a = total_after (opens_of (at final) nodes) in let b = total_before (opens_of (at final) nodes) in
-              let h = opens_here final high (next_low k root kept queue best opened holds rho radius x low first final final_is) in omega arith);
+          begun = elim old.begun [ inl w ↦ inl (kept_after root None w) | inr w ↦ waits_after (pending_root root) w ];
+          reached = λ page above k' e i far. cases page above k' e i far (others page above);
+          weighed = λ w.
+              (let o = old.weighed w in let a = total_after (opens_of w (at final) nodes) in let b = total_before (opens_of w (at final) nodes) in
+              let h = opens_here w final high (next_low k root kept queue best opened holds rho radius x low first final final_is) in omega arith);
         }
           where
             old : IsClosed (at final) nodes kept root queue opened
@@ -274,23 +265,19 @@ module _ (s : Space) (axioms : IsSpace s) (q : List ℕ) (q_fits : IsTrue (s.fit
             wider : (e : InnerEntry) → IsTrue (reaches (at final) e) → IsTrue (reaches (at rho) e)
             wider e far = let h = high in grind (arith, nat_tests)
 
-            cases : (page : ℕ) (n : Node) → kept' page ≡ Some n → (e : InnerEntry) → IsIn e (inner_entries (Some n)) → IsTrue (reaches (at final) e) →
-                (b : Bool) → (page == x.page) ≡ b → IsKept kept' e.child ⊎ IsIn (pending_of (at final) e) queue'
-            cases page n k' e i far true t =
-                let same : page ≡ x.page = grind (arith, nat_tests) in
-                let one : n ≡ node = same_node (kept' page) n node k' (rw same here) in
+            cases : (page : ℕ) (above : Option ℕ) → IsKept kept' page above → (e : InnerEntry) → IsIn e (inner_entries (nodes page)) → IsTrue (reaches (at final) e) →
+                ((page ≡ x.page) × (above ≡ x.above)) ⊎ (kept' page above ≡ kept page above) → IsKept kept' e.child (Some (away (at final) e.point)) ⊎ IsIn (pending_of (at final) e) queue'
+            cases page above k' e i far (inl same) =
                 inr (in-permutation (pendings_of (at rho) x.above node ++ rest) queue' (pending_of (at rho) e) pushed
                 (in-append_left (pendings_of (at rho) x.above node) rest (pending_of (at rho) e)
-                (queues_here e (subst (λ (m : Node). IsIn e (inner_entries (Some m))) one i) (wider e far))))
-            cases page n k' e i far false t =
-                let before : kept page ≡ Some n = sym (others page (λ same. let u : (page == x.page) ≡ true = grind (arith, nat_tests) in cc)) ∙ k' in
-                elim (old.reached page n before e i far) [ inl w ↦ inl (kept_after e.child w) | inr w ↦ waits_after (pending_of (at final) e) w ]
+                (queues_here e (subst (λ (o : Option Node). IsIn e (inner_entries o)) (ap nodes same.0 ∙ is) i) (wider e far))))
+            cases page above k' e i far (inr same) =
+                elim (old.reached page above (k'.0, sym same ∙ k'.1) e i far) [ inl w ↦ inl (kept_after e.child (Some (away (at final) e.point)) w) | inr w ↦ waits_after (pending_of (at final) e) w ]
 
         -- one step keeps what holds
-        pub step : Holds s nodes q k root kept' queue' best' (opened + 1)
+        pub step : Holds s nodes q k root kept' queue' best' (x.page ∷ opened)
         step = record {
           queued = queued_after;
           counts = counts_after;
-          agrees = agrees_after;
           closed = closed_after;
         }

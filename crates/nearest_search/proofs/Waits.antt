@@ -1,5 +1,5 @@
 -- The order of the queue.
-use Rattle.std.proofs.Common.{◌≡◌, Option, drop, drop-cons, add-one, get_or, ℕ, zero, suc, ◌+◌, ◌<◌, ◌≤◌, inl, inr, true, false, List, [], ◌∷◌, ◌++◌, refl, sym, ap, arith, length, min}
+use Rattle.std.proofs.Common.{◌≡◌, get_or, ℕ, zero, suc, ◌+◌, ◌<◌, ◌≤◌, inl, inr, false, List, [], ◌∷◌, ◌++◌, refl, sym, ap, arith, length, min}
 use Rattle.std.specs.Prelude.{map, IsPermutation}
 use Rattle.std.specs.Ordering.{nat_cmp, ordering_then, is_lt}
 use Rattle.std.specs.Option.{option_cmp}
@@ -12,11 +12,6 @@ use Rattle.metric_laws.specs.Lists.{IsIn}
 use Rattle.nearest_search.specs.declared.pending.Pending.{Pending}
 use Rattle.nearest_search.specs.Queue.{pending_order, IsNext, AllBeyond}
 use Rattle.nearest_search.proofs.Totals.{in-permutation}
-use Rattle.metric_laws.specs.Pruning.{centre_rules_out}
-use Rattle.tree_shape.specs.declared.entry.InnerEntry.{InnerEntry}
-use Rattle.log_model.specs.Walk.{Search, away, is_skipped}
-use Rattle.nearest_search.specs.Machine.{pending_of}
-use Rattle.nearest_search.specs.Opened.{inner_pendings}
 
 abbrev pub waiting : List (Reverse Pending) → List Pending
 waiting xs = map (λ r. r.0) xs
@@ -59,12 +54,6 @@ moved_one all P cur cur' x before pushed =
     (IsPermutation-trans (x ∷ (P ++ cur)) (P ++ x ∷ cur) (P ++ cur') (IsPermutation-sym (P ++ x ∷ cur) (x ∷ (P ++ cur)) (IsPermutation-middle P x cur))
     (IsPermutation-append_right P (x ∷ cur) cur' pushed))
 
--- what the rest will queue, after an entry that reaches
-pub pendings_drop : (f : Search) (above : Option ℕ) (es : List InnerEntry) (i : ℕ) (e : InnerEntry) → i < length es → e ≡ get_or es i e →
-    is_skipped f above e.parent e.radius ≡ false → centre_rules_out (away f e.point) f.rho e.radius ≡ false →
-    inner_pendings f above (drop i es) ≡ pending_of f e ∷ inner_pendings f above (drop (i + 1) es)
-pendings_drop f above es i e low is unskipped near = rw (add-one, drop-cons es i e low, ← is, unskipped, near) refl
-
 -- a list of one is in one order
 pub one_alone : (x : Pending) (ys : List Pending) → IsPermutation (x ∷ []) ys → ys ≡ x ∷ []
 one_alone x ys moved = only ys (length_permutation (x ∷ []) ys moved) (in-permutation (x ∷ []) ys x moved (inl refl))
@@ -73,12 +62,6 @@ one_alone x ys moved = only ys (length_permutation (x ∷ []) ys moved) (in-perm
     only [] long i = absurd i
     only (y ∷ []) long i = elim i [ inl e ↦ ap (λ (z : Pending). z ∷ []) (sym e) | inr w ↦ absurd w ]
     only (y ∷ z ∷ zs) long i = absurd (omega arith)
-
--- what the rest will queue, after an entry that doesn't reach
-pub pendings_far : (f : Search) (above : Option ℕ) (es : List InnerEntry) (i : ℕ) (e : InnerEntry) → i < length es → e ≡ get_or es i e →
-    is_skipped f above e.parent e.radius ≡ false → centre_rules_out (away f e.point) f.rho e.radius ≡ true →
-    inner_pendings f above (drop i es) ≡ inner_pendings f above (drop (i + 1) es)
-pendings_far f above es i e low is unskipped far = rw (add-one, drop-cons es i e low, ← is, unskipped, far) refl
 
 -- one of the distances that are still to come is taken in
 pub noted_next : (k b c o r t : ℕ) → min k c ≡ min k (o + b) → min k (b + (o + r)) ≡ t → min k (c + r) ≡ t

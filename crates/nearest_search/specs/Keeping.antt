@@ -1,15 +1,40 @@
--- The nodes of opened pages, which a search keeps.
-use Rattle.std.specs.Prelude.{ℕ, List}
-use Rattle.std.specs.Ordering.{nat_cmp}
+-- What a search keeps of each opening of a page.
+use Rattle.std.specs.Prelude.{◌≡◌, ℕ, ◌≤◌, List, length, Option, Some}
+use Rattle.std.specs.declared.cmp.Ordering.{Ordering}
+use Rattle.std.specs.Ordering.{nat_cmp, ordering_then}
+use Rattle.std.specs.Option.{option_cmp}
 use Rattle.std.specs.Map.{lookup}
 use Rattle.std.specs.BTreeMap.{is_at}
+use Rattle.metric_laws.specs.Space.{Space}
 use Rattle.tree_shape.specs.declared.entry.Node.{Node}
 use Rattle.tree_shape.specs.Tree.{Nodes}
+use Rattle.nearest_search.specs.declared.kept.Turn.{Turn}
+use Rattle.nearest_search.specs.declared.seen.Seen.{Seen}
+use Rattle.nearest_search.specs.Seeing.{IsSeenOf, sights}
 
--- pages with their nodes
+-- by page, then by the distance of the routing point above
+abbrev pub turn_order : Turn → Turn → Ordering
+turn_order a b = ordering_then (nat_cmp a.page b.page) (option_cmp nat_cmp a.above b.above)
+
+-- openings with what was seen at them
 abbrev pub Keeping : Type 0
-Keeping = List (ℕ × Node)
+Keeping = List (Turn × Seen)
 
--- the node of each kept page
-abbrev pub kept_node : Keeping → Nodes
-kept_node es page = lookup (is_at (nat_cmp page)) es
+-- what is kept of a page that was opened below a routing point at a distance
+abbrev pub Sheets : Type 0
+Sheets = ℕ → Option ℕ → Option Seen
+
+abbrev pub kept_seen : Keeping → Sheets
+kept_seen es page above = lookup (is_at (turn_order (record { page = page; above = above }))) es
+
+abbrev pub IsKept : Sheets → ℕ → Option ℕ → Type 0
+IsKept kept page above = (seen : Seen) × (kept page above ≡ Some seen)
+
+-- what is kept was seen of the pages' nodes, at radii of at least rho
+abbrev pub AreSeenOf : Space → List ℕ → ℕ → Nodes → Sheets → Type 0
+AreSeenOf s q rho nodes kept =
+    (page : ℕ) (above : Option ℕ) (seen : Seen) → kept page above ≡ Some seen → (node : Node) × (nodes page ≡ Some node) × IsSeenOf s q rho above node seen
+
+-- at most 32 entries were seen of each page
+abbrev pub KeepsFew : Sheets → Type 0
+KeepsFew kept = (page : ℕ) (above : Option ℕ) (seen : Seen) → kept page above ≡ Some seen → length (sights seen) ≤ 32

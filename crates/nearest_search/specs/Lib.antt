@@ -1,5 +1,6 @@
 pub mod Counts
 pub mod Queue
+pub mod Seeing
 pub mod Keeping
 pub mod Machine
 pub mod Opened

@@ -8,9 +8,11 @@ use Rattle.tree_shape.specs.declared.entry.InnerEntry.{InnerEntry}
 use Rattle.tree_shape.specs.declared.entry.Node.{Node}
 use Rattle.tree_shape.specs.declared.entry.Node.TheVariants.{Leaf, Inner}
 use Rattle.tree_shape.specs.Tree.{Nodes, IsSoundAt, objects_at, inner_entries}
+use Rattle.log_model.specs.Counts.{entry_count}
 use Rattle.log_model.specs.Walk.{Search, away, search_at, least_marks, near_ones, hits_of}
 use Rattle.nearest_search.specs.declared.pending.Pending.{Pending}
 use Rattle.nearest_search.specs.Counts.{total, one_within, within}
+use Rattle.nearest_search.specs.Keeping.{Sheets, IsKept}
 
 -- the level of a node
 abbrev pub level_of : Option Node → ℕ
@@ -48,13 +50,24 @@ pendings_of f above (Inner level es) = map (pending_of f) (near_ones es (least_m
 abbrev pub reaches : Search → InnerEntry → Bool
 reaches f e = nat_le (away f e.point) (f.rho + e.radius)
 
--- how many pages below this one, itself included, a walk with the least marks opens
-abbrev pub opens : Search → Nodes → ℕ → ℕ → ℕ
-opens f nodes zero page = 1
-opens f nodes (suc h) page = suc (total (λ e. if reaches f e then opens f nodes h e.child else 0) (inner_entries (nodes page)))
+-- a page's weight: 1, or the number of its node's entries
+abbrev pub one_page : ℕ → ℕ
+one_page page = 1
 
-abbrev pub opens_of : Search → Nodes → Pending → ℕ
-opens_of f nodes x = if nat_le x.low f.rho then opens f nodes (level_of (nodes x.page)) x.page else 0
+abbrev pub entries_in : Option Node → ℕ
+entries_in None = 0
+entries_in (Some node) = entry_count node
+
+abbrev pub entries_of : Nodes → ℕ → ℕ
+entries_of nodes page = entries_in (nodes page)
+
+-- the weight of the pages below this one, itself included, that a walk with the least marks opens
+abbrev pub opens : (ℕ → ℕ) → Search → Nodes → ℕ → ℕ → ℕ
+opens w f nodes zero page = w page
+opens w f nodes (suc h) page = w page + total (λ e. if reaches f e then opens w f nodes h e.child else 0) (inner_entries (nodes page))
+
+abbrev pub opens_of : (ℕ → ℕ) → Search → Nodes → Pending → ℕ
+opens_of w f nodes x = if nat_le x.low f.rho then opens w f nodes (level_of (nodes x.page)) x.page else 0
 
 -- the distance of the k-th answer, or the bound where there are fewer
 pub record IsFinal (k : ℕ) (count : ℕ → ℕ) (rho : ℕ) : Type 0 where
@@ -81,22 +94,17 @@ pub record IsPending (f : Search) (nodes : Nodes) (x : Pending) : Type 0 where
   pub above_is : x.above ≡ far_above f above
   pub low_is : AllByRecursion (λ o. x.low ≤ away f o.point) (objects_at nodes height x.page)
 
--- a page that is kept, or that waits in the queue
-abbrev pub IsKept : Nodes → ℕ → Type 0
-IsKept kept page = (node : Node) × (kept page ≡ Some node)
-
--- what holds of the kept nodes at the final radius
-pub record IsClosed (f : Search) (nodes kept : Nodes) (root : ℕ) (queue : List Pending) (opened : ℕ) : Type 0 where
-  pub begun : IsKept kept root ⊎ IsIn (pending_root root) queue
-  pub reached : (page : ℕ) (node : Node) → kept page ≡ Some node → (e : InnerEntry) → IsIn e (inner_entries (Some node)) → IsTrue (reaches f e) →
-      IsKept kept e.child ⊎ IsIn (pending_of f e) queue
-  pub counted : opened + total (opens_of f nodes) queue ≡ opens f nodes (level_of (nodes root)) root
+-- what holds of the openings that are kept, at the final radius: what they reach is kept, or waits in the queue
+pub record IsClosed (f : Search) (nodes : Nodes) (kept : Sheets) (root : ℕ) (queue : List Pending) (opened : List ℕ) : Type 0 where
+  pub begun : IsKept kept root None ⊎ IsIn (pending_root root) queue
+  pub reached : (page : ℕ) (above : Option ℕ) → IsKept kept page above → (e : InnerEntry) → IsIn e (inner_entries (nodes page)) → IsTrue (reaches f e) →
+      IsKept kept e.child (Some (away f e.point)) ⊎ IsIn (pending_of f e) queue
+  pub weighed : (w : ℕ → ℕ) → total w opened + total (opens_of w f nodes) queue ≡ opens w f nodes (level_of (nodes root)) root
 
 -- what holds between two steps, on a sound tree
-pub record Holds (s : Space) (nodes : Nodes) (q : List ℕ) (k root : ℕ) (kept : Nodes) (queue : List Pending) (best : List ℕ) (opened : ℕ) : Type 0 where
+pub record Holds (s : Space) (nodes : Nodes) (q : List ℕ) (k root : ℕ) (kept : Sheets) (queue : List Pending) (best : List ℕ) (opened : List ℕ) : Type 0 where
   pub queued : (x : Pending) → IsIn x queue → IsPending (search_at s q 0) nodes x
   pub counts : (r : ℕ) → r ≤ bound →
       min k (within r best + total (count_below (search_at s q 0) nodes r) queue) ≡ min k (count_near (search_at s q 0) r (objects_below nodes root))
-  pub agrees : (page : ℕ) (node : Node) → kept page ≡ Some node → nodes page ≡ Some node
   pub closed : (rho : ℕ) → IsFinal k (λ r. count_near (search_at s q 0) r (objects_below nodes root)) rho →
       IsClosed (search_at s q rho) nodes kept root queue opened

@@ -1,13 +1,16 @@
 -- What opening a page does.
-use Rattle.std.specs.Prelude.{◌≡◌, ℕ, ◌+◌, List, ◌++◌, map, min, Option, Some, IsPermutation}
+use Rattle.std.specs.Prelude.{◌≡◌, ◌⊎◌, ℕ, ◌+◌, ◌≤◌, List, ◌++◌, map, min, Option, Some, IsPermutation}
 use Rattle.tree_shape.specs.declared.entry.LeafEntry.{LeafEntry}
 use Rattle.tree_shape.specs.declared.entry.InnerEntry.{InnerEntry}
 use Rattle.tree_shape.specs.declared.entry.Node.{Node}
-use Rattle.tree_shape.specs.Tree.{Nodes}
 use Rattle.page_store.specs.Shelf.{Shelf, IsNodeOf}
+use Rattle.log_model.specs.Counts.{entry_count}
 use Rattle.log_model.specs.Walk.{Search, near_ones, hit_of, leaf_marks, inner_marks}
 use Rattle.nearest_search.specs.declared.pending.Pending.{Pending}
+use Rattle.nearest_search.specs.declared.seen.Seen.{Seen}
 use Rattle.nearest_search.specs.Counts.{within}
+use Rattle.nearest_search.specs.Seeing.{IsSeenOf}
+use Rattle.nearest_search.specs.Keeping.{Sheets}
 use Rattle.nearest_search.specs.Machine.{dists_of, pendings_of, pending_of}
 
 -- the distances of the objects that the least marks leave in a leaf
@@ -22,11 +25,13 @@ inner_pendings f above es = map (pending_of f) (near_ones es (inner_marks f abov
 abbrev pub Takes : ℕ → List ℕ → List ℕ → List ℕ → Type 0
 Takes k old new ds = (r : ℕ) → min k (within r new) ≡ min k (within r old + within r ds)
 
--- what a search knows in the middle: the subtrees that are not opened yet, the least distances, and the opened nodes
+-- what a search knows in the middle: the subtrees that are not opened yet, the least distances, what was seen of the opened pages, and the
+-- count of the distances that were computed
 pub record State : Type 0 where
   pub queue : List Pending
   pub best : List ℕ
-  pub kept : Nodes
+  pub kept : Sheets
+  pub used : ℕ
 
 -- the page of x was read at the search's radius
 pub record IsOpened (f : Search) (shelf : Shelf) (k : ℕ) (x : Pending) (old new : State) : Type 0 where
@@ -34,5 +39,8 @@ pub record IsOpened (f : Search) (shelf : Shelf) (k : ℕ) (x : Pending) (old ne
   pub is : IsNodeOf shelf x.page node
   pub pushed : IsPermutation (pendings_of f x.above node ++ old.queue) new.queue
   pub noted : Takes k old.best new.best (dists_of f x.above node)
-  pub here : new.kept x.page ≡ Some node
-  pub others : (p : ℕ) → (p ≡ x.page → ⊥) → new.kept p ≡ old.kept p
+  pub seen : Seen
+  pub seen_is : IsSeenOf f.space f.point f.rho x.above node seen
+  pub measured : new.used ≤ old.used + entry_count node
+  pub here : new.kept x.page x.above ≡ Some seen
+  pub others : (page : ℕ) (above : Option ℕ) → ((page ≡ x.page) × (above ≡ x.above)) ⊎ (new.kept page above ≡ old.kept page above)

@@ -1,5 +1,5 @@
 -- What a search for the nearest objects explores, what it answers, and why it may refuse.
-use Rattle.std.specs.Prelude.{◌≡◌, ◌≢◌, ℕ, ◌+◌, ◌≤◌, ◌<◌, ◌⊎◌, false, List, [], ◌∷◌, length, map, IsTrue, Some, Err}
+use Rattle.std.specs.Prelude.{◌≡◌, ◌≢◌, ℕ, ◌+◌, ◌*◌, ◌≤◌, ◌<◌, ◌⊎◌, false, List, [], ◌∷◌, length, map, IsTrue, None, Err}
 use Rattle.metric_laws.specs.Space.{Space}
 use Rattle.metric_laws.specs.Lists.{IsIn}
 use Rattle.outside_io.specs.Causes.{Rose}
@@ -8,7 +8,6 @@ use Rattle.scan_model.specs.declared.query.Query.TheVariants.{Nearest}
 use Rattle.scan_model.specs.Scan.{nearest_hits}
 use Rattle.tree_shape.specs.declared.live.Live.{Live}
 use Rattle.tree_shape.specs.declared.entry.InnerEntry.{InnerEntry}
-use Rattle.tree_shape.specs.declared.entry.Node.{Node}
 use Rattle.tree_shape.specs.Tree.{Nodes, IsSoundTree, points_by_id, inner_entries}
 use Rattle.node_page.specs.declared.node.NodeFault.TheVariants.{Memory as NodeMemory}
 use Rattle.page_store.specs.declared.pages.PageFault.{PageFault}
@@ -17,13 +16,14 @@ use Rattle.page_store.specs.Reading.{IsWithin, is_within, nodes_of}
 use Rattle.page_store.specs.Shelf.{Shelf, HoldsSame}
 use Rattle.log_model.specs.declared.logs.Found.{Found}
 use Rattle.log_model.specs.declared.marks.Need.{Need}
+use Rattle.log_model.specs.declared.marks.Record.{Record}
 use Rattle.metric_laws.specs.Counts.{count_up}
-use Rattle.log_model.specs.Counts.{entry_count}
 use Rattle.log_model.specs.Sound.{IsLeastLog, selected}
 use Rattle.log_model.specs.Walk.{search_at, ReachesBy, AreLeast, root_need}
 use Rattle.nearest_search.specs.declared.pending.Pending.{Pending}
-use Rattle.nearest_search.specs.Counts.{IsRadius}
-use Rattle.nearest_search.specs.Machine.{Holds, IsKept, pending_root}
+use Rattle.nearest_search.specs.Counts.{IsRadius, total}
+use Rattle.nearest_search.specs.Keeping.{IsKept, AreSeenOf, KeepsFew}
+use Rattle.nearest_search.specs.Machine.{Holds, entries_of, pending_root}
 use Rattle.nearest_search.specs.Opened.{State}
 use Rattle.nearest_search.specs.Walks.{HasOpened, OpensBefore}
 
@@ -35,30 +35,37 @@ IsReachedBy nodes page (c ∷ path) p = (e : InnerEntry) × IsIn e (inner_entrie
 abbrev pub IsReached : Nodes → ℕ → ℕ → Type 0
 IsReached nodes root p = (path : List ℕ) × IsReachedBy nodes root path p
 
--- each kept node has at most 32 entries
-abbrev pub KeepsFew : Nodes → Type 0
-KeepsFew kept = (page : ℕ) (node : Node) → kept page ≡ Some node → entry_count node ≤ 32
-
 -- A search has opened so many pages, the root first, and asked for each of them once. Where the pages tell what they hold,
--- it keeps their nodes, and is a walk that may come to what it queues; where they tell a sound tree, what it knows is true of that
+-- what it keeps was seen of their nodes, and it is a walk that may come to what it queues; where they tell a sound tree, what it knows is true of that
 -- tree.
-pub record IsExploring (s : Space) (old now : Shelf) (live : Live) (q : List ℕ) (k : ℕ) (state : State) (opened : ℕ) : Type 0 where
+pub record IsExploring (s : Space) (old now : Shelf) (live : Live) (q : List ℕ) (k : ℕ) (state : State) (opened used : ℕ) : Type 0 where
   pub same : HoldsSame old now
   pub asked : now.asked ≡ count_up old.asked opened
   pub reads : now.reads ≤ old.reads + opened
   pub few : opened ≤ live.pages
   pub keeps_few : KeepsFew state.kept
-  pub begun : ((1 ≤ opened) × IsKept state.kept live.root) ⊎ IsIn (pending_root live.root) state.queue
-  pub agrees : IsTrue old.tells → (page : ℕ) (node : Node) → state.kept page ≡ Some node → nodes_of old.read page ≡ Some node
+  pub begun : ((1 ≤ opened) × IsKept state.kept live.root None) ⊎ IsIn (pending_root live.root) state.queue
+  pub agrees : IsTrue old.tells → (rho : ℕ) → IsRadius k state.best rho → AreSeenOf s q rho (nodes_of old.read) state.kept
   pub reached : IsTrue old.tells → (x : Pending) → IsIn x state.queue → IsReached (nodes_of old.read) live.root x.page
   pub walk : IsTrue old.tells → HasOpened (nodes_of old.read) (live.root ∷ []) opened (map (λ x. x.page) state.queue)
-  pub holds : IsTrue old.tells → IsSoundTree s (nodes_of old.read) live → Holds s (nodes_of old.read) q k live.root state.kept state.queue state.best opened
+  pub pages : List ℕ
+  pub long : length pages ≡ opened
+  pub spent : IsTrue old.tells → state.used ≤ used + total (entries_of (nodes_of old.read)) pages
+  pub holds : IsTrue old.tells → IsSoundTree s (nodes_of old.read) live → Holds s (nodes_of old.read) q k live.root state.kept state.queue state.best pages
 
 -- nothing within the radius waits
-pub record IsExplored (s : Space) (old now : Shelf) (live : Live) (q : List ℕ) (k : ℕ) (state : State) (rho opened : ℕ) : Type 0 where
+pub record IsExplored (s : Space) (old now : Shelf) (live : Live) (q : List ℕ) (k : ℕ) (state : State) (rho opened used : ℕ) : Type 0 where
   pub radius : IsRadius k state.best rho
   pub beyond : (x : Pending) → IsIn x state.queue → rho < x.low
-  pub exploring : IsExploring s old now live q k state opened
+  pub exploring : IsExploring s old now live q k state opened used
+
+-- So many pages were asked for, at most as many as is said, and at most 32 distances were computed for each of them: one for each of
+-- the entries that a node may have.
+pub record IsFrugal (most asked used asked' used' : ℕ) : Type 0 where
+  pub opened : ℕ
+  pub few : opened ≤ most
+  pub asked_is : asked' ≡ count_up asked opened
+  pub used_few : used' ≤ used + 32 * opened
 
 -- why a search refuses: the disk failed or memory ran out; or a reached page holds no node, or is none of the file's; or a walk
 -- opened as many pages as there are, each asked for once, and comes to this reached one besides
@@ -73,6 +80,10 @@ HasNearestCause live old new (Repeats page) =
     (new.asked ≡ count_up old.asked live.pages)
     × (IsTrue old.tells → IsReached (nodes_of old.read) live.root page × OpensBefore (nodes_of old.read) (live.root ∷ []) live.pages page)
 HasNearestCause live old new (Level page) = ⊥
+
+-- the number of marks in a log, which is that of the entries of the nodes that its walk opens
+abbrev pub marks_in : List Record → ℕ
+marks_in rs = total (λ r. length r.marks) rs
 
 -- On a sound tree: the scan's first k, the least log of the query, and one page asked for per record of it.
 pub record IsNearest (s : Space) (nodes : Nodes) (live : Live) (q : List ℕ) (k : ℕ) (old new : Shelf) (found : Found) : Type 0 where

@@ -7,8 +7,8 @@ ghost use Rattle.page_store.specs.Reading.{nodes_of};
 ghost use Rattle.page_store.specs.Shelf.{HoldsSame, IsPassing};
 ghost use Rattle.metric_laws.specs.Counts.{CountsUpTo};
 ghost use Rattle.nearest_search.specs.Machine.{pending_root};
-ghost use Rattle.nearest_search.specs.Keeping.{kept_node};
-ghost use Rattle.nearest_search.specs.Searched.{IsExplored, HasNearestCause};
+ghost use Rattle.nearest_search.specs.Keeping.{kept_seen};
+ghost use Rattle.nearest_search.specs.Searched.{IsExplored, IsFrugal, HasNearestCause};
 
 use crate::machine::Machine;
 use crate::opening::open_page;
@@ -46,10 +46,12 @@ pub fn explore<P: Pages, R: Ruler>(
     ensures no_fault { OnOk result ((P.shelf pages.new).faults ≡ (P.shelf pages.old).faults) }
     ensures keeps { P.keeps pages.old pages.new }
     ensures ok { IfOk result (λ e. IsExplored (R.M.space (R.metric ruler.old)) (P.shelf pages.old) (P.shelf pages.new) live.now q.now machine.old.best.k
-        (record { queue = machine.new.frontier; best = heap_items machine.new.best.heap; kept = kept_node machine.new.kept }) e.rho e.opened) }
+        (record { queue = machine.new.frontier; best = heap_items machine.new.best.heap; kept = kept_seen machine.new.kept; used = R.used ruler.new }) e.rho e.opened
+        (R.used ruler.old)) }
     ensures cause { IfErr result (HasNearestCause live.now (P.shelf pages.old) (P.shelf pages.new)) }
     ensures asked { CountsUpTo (P.shelf pages.old).asked (P.shelf pages.new).asked live.now.pages }
     ensures reads { (P.shelf pages.new).reads ≤ (P.shelf pages.old).reads + live.now.pages }
+    ensures measured { IsFrugal live.now.pages (P.shelf pages.old).asked (R.used ruler.old) (P.shelf pages.new).asked (R.used ruler.new) }
     ensures sound { IfErr result (λ fault. IsTrue (P.shelf pages.old).tells →
         IsSoundTree (R.M.space (R.metric ruler.old)) (nodes_of (P.shelf pages.old).read) live.now → IsPassing fault) }
 {

@@ -1,16 +1,25 @@
-ghost use Rattle.std.specs.Prelude.{◌≡◌, ℕ, [], Some, OnOk};
+ghost use Rattle.std.specs.Prelude.{◌≡◌, ◌⊎◌, ℕ, Option, [], Some, OnOk};
 ghost use Rattle.std.specs.Option.{option_copied};
-ghost use Rattle.nearest_search.specs.Keeping.{Keeping, kept_node};
+ghost use Rattle.nearest_search.specs.Keeping.{Keeping, kept_seen};
 
-use page_store::SharedNode;
+use crate::seen::Seen;
 use std::alloc::{AllocError, Global};
 use std::collections::BTreeMap;
 use std::marker::Model;
 
-/// The nodes of opened pages, by page.
+/// An opening of a page.
+#[derive(Clone, Copy, PartialEq, Eq, PartialOrd, Ord)]
+pub struct Turn {
+    /// The page.
+    pub page: u32,
+    /// The distance from the query's point to the routing point above. None stands above the root.
+    pub above: Option<u64>,
+}
+
+/// What was seen at each opening of a page.
 #[derive(Drop)]
 pub struct Kept {
-    map: BTreeMap<u32, SharedNode>,
+    map: BTreeMap<Turn, Seen>,
 }
 
 impl Model for Kept {
@@ -20,7 +29,7 @@ impl Model for Kept {
 }
 
 impl Kept {
-    /// No nodes.
+    /// Nothing.
     pub fn new(alloc: Global) -> Self
         ensures { result ≡ [] }
     {
@@ -29,19 +38,20 @@ impl Kept {
         }
     }
 
-    /// The node of a page, where it is kept.
-    pub fn get(&self, page: u32) -> Option<&SharedNode>
-        ensures { option_copied result ≡ kept_node self.now page }
+    /// What was seen, where the page was opened below a routing point at this distance.
+    pub fn get(&self, turn: Turn) -> Option<&Seen>
+        ensures { option_copied result ≡ kept_seen self.now turn.page turn.above }
     {
-        self.map.get(&page)
+        self.map.get(&turn)
     }
 
-    /// Keeps the node of a page.
-    pub fn put(&mut self, page: u32, node: SharedNode) -> Result<(), AllocError>
-        ensures here { OnOk result (kept_node self.new page ≡ Some node) }
-        ensures others { OnOk result ((p : ℕ) → (p ≡ page → ⊥) → kept_node self.new p ≡ kept_node self.old p) }
+    /// Keeps what was seen.
+    pub fn put(&mut self, turn: Turn, seen: Seen) -> Result<(), AllocError>
+        ensures here { OnOk result (kept_seen self.new turn.page turn.above ≡ Some seen) }
+        ensures others { OnOk result ((page : ℕ) (above : Option ℕ) →
+            ((page ≡ turn.page) × (above ≡ turn.above)) ⊎ (kept_seen self.new page above ≡ kept_seen self.old page above)) }
     {
-        self.map.insert(page, node)?;
+        self.map.insert(turn, seen)?;
         Ok(())
     }
 }

@@ -10,5 +10,6 @@ mod machine;
 mod opening;
 mod pending;
 mod searching;
+mod seen;
 
 pub use searching::nearest;

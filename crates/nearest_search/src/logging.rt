@@ -1,29 +1,102 @@
 //! Writes the log of a search.
 
-ghost use Rattle.std.specs.Prelude.{◌≡◌, IfOk};
-ghost use Rattle.log_model.specs.Walk.{search_at};
-ghost use Rattle.nearest_search.specs.Keeping.{kept_node};
-ghost use Rattle.nearest_search.specs.Relog.{IsRelogged};
-ghost use Rattle.nearest_search.specs.Searched.{KeepsFew};
+ghost use Rattle.std.specs.Prelude.{◌≡◌, ◌++◌, [], ◌∷◌, map, reverse, IfOk, OnOk};
+ghost use Rattle.nearest_search.specs.Seeing.{mark_at, seen_near, hit_seen, need_seen};
+ghost use Rattle.nearest_search.specs.Keeping.{kept_seen, KeepsFew};
+ghost use Rattle.nearest_search.specs.Relog.{TakesSeen, IsRelogged};
 
-use crate::kept::Kept;
-use log_model::{Memory, Probe, Traversal};
-use metric_laws::Ruler;
+use crate::kept::{Kept, Turn};
+use crate::seen::{Seen, Sight};
+use log_model::{Mark, Memory, Need, Record, Traversal};
+use metric_laws::Listed;
+use scan_model::Hit;
 use std::alloc::Global;
 use tree_shape::Live;
 
-/// Walks the kept nodes with the least marks at the final radius. No page is read again.
-pub fn relog<R: Ruler>(
+// Appends the objects that are marked Near at a radius to the hits.
+fn push_hits(hits: &mut Vec<Hit>, rho: u64, seen: &[Sight]) -> Result<(), Memory>
+    ensures { OnOk result (hits.new.items ≡ hits.old.items ++ map hit_seen (seen_near rho seen.now)) }
+{
+    for sight in seen {
+        if !sight.is_near(rho) {
+            continue;
+        }
+        hits.push(Hit {
+            id: sight.name,
+            dist: sight.dist,
+        })?;
+    }
+    Ok(())
+}
+
+// Puts the subtrees that are marked Near at a radius on the stack, so that the first of them is on top.
+fn push_needs(stack: &mut Vec<Need>, rho: u64, seen: &[Sight]) -> Result<(), Memory>
+    ensures { OnOk result (reverse stack.new.items ≡ map need_seen (seen_near rho seen.now) ++ reverse stack.old.items) }
+{
+    for i in (0..seen.len()).rev() {
+        let sight = seen[i];
+        if !sight.is_near(rho) {
+            continue;
+        }
+        stack.push(Need {
+            page: sight.name,
+            above: Some(sight.dist),
+        })?;
+    }
+    Ok(())
+}
+
+// The least marks at a radius.
+fn marks_at(alloc: Global, rho: u64, seen: &[Sight]) -> Result<Vec<Mark>, Memory>
+    ensures { IfOk result (λ marks. marks.items ≡ map (mark_at rho) seen.now) }
+{
+    seen.iter().map(|sight| sight.mark(rho)).collect(alloc)
+}
+
+// Appends the record of a page with the least marks at a radius.
+fn push_record(
     alloc: Global,
-    ruler: &mut R,
-    probe: Probe,
-    live: &Live,
-    kept: &Kept,
-) -> Result<Traversal, Memory>
-    requires { KeepsFew (kept_node kept.now) }
-    ensures metric { R.metric ruler.new ≡ R.metric ruler.old }
-    ensures ok { IfOk result (λ walk. IsRelogged (search_at (R.M.space (R.metric ruler.old)) probe.entry.q.now probe.entry.rho)
-        (kept_node kept.now) live.now walk.records.items walk.hits.items) }
+    records: &mut Vec<Record>,
+    rho: u64,
+    page: u32,
+    seen: &[Sight],
+) -> Result<(), Memory>
+    ensures { OnOk result (records.new.items ≡ records.old.items ++ record { page = page; marks = map (mark_at rho) seen.now } ∷ []) }
+{
+    let marks = marks_at(alloc, rho, seen)?;
+    records.push(Record {
+        page,
+        marks: Listed::new(marks),
+    })?;
+    Ok(())
+}
+
+// Takes in a page that was needed, by what was seen of its entries, with the least marks at a radius.
+fn take_seen(
+    alloc: Global,
+    walk: &mut Traversal,
+    rho: u64,
+    need: Need,
+    seen: &Seen,
+) -> Result<(), Memory>
+    ensures { OnOk result (TakesSeen rho need seen.now walk.old walk.new) }
+{
+    match seen {
+        Seen::Objects(seen) => {
+            push_hits(&mut walk.hits, rho, seen.as_slice())?;
+            push_record(alloc, &mut walk.records, rho, need.page, seen.as_slice())
+        }
+        Seen::Subtrees(seen) => {
+            push_needs(&mut walk.stack, rho, seen.as_slice())?;
+            push_record(alloc, &mut walk.records, rho, need.page, seen.as_slice())
+        }
+    }
+}
+
+/// Walks over what is kept of the opened pages, with the least marks at the final radius. No page is read and no distance is computed.
+pub fn relog(alloc: Global, rho: u64, live: &Live, kept: &Kept) -> Result<Traversal, Memory>
+    requires { KeepsFew (kept_seen kept.now) }
+    ensures { IfOk result (λ walk. IsRelogged rho (kept_seen kept.now) live.now walk.records.items walk.hits.items) }
 {
     let mut walk = Traversal::begin(alloc, live.root)?;
     let mut opened = 0u32;
@@ -31,10 +104,14 @@ pub fn relog<R: Ruler>(
         if opened == live.pages {
             return Ok(walk);
         }
-        let Some(node) = kept.get(need.page) else {
+        let turn = Turn {
+            page: need.page,
+            above: need.above,
+        };
+        let Some(seen) = kept.get(turn) else {
             return Ok(walk);
         };
-        walk.take_node(alloc, ruler, probe, need, node.as_ref())?;
+        take_seen(alloc, &mut walk, rho, need, seen)?;
         opened += 1;
     }
     Ok(walk)

@@ -15,7 +15,7 @@ pub struct Machine {
     pub frontier: Frontier,
     /// The least distances so far.
     pub best: Best,
-    /// The nodes of the opened pages.
+    /// What was seen of the opened pages.
     pub kept: Kept,
 }
 

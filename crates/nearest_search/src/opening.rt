@@ -1,19 +1,24 @@
 //! Opens a page.
 
-ghost use Rattle.std.specs.Prelude.{◌≡◌, ℕ, ◌+◌, ◌≤◌, ◌++◌, IfErr, OnOk, IsPermutation};
+ghost use Rattle.std.specs.Prelude.{◌≡◌, ℕ, ◌+◌, ◌*◌, ◌≤◌, ◌++◌, map, length, IfOk, IfErr, OnOk, IsPermutation};
 ghost use Rattle.std.specs.BinaryHeap.{heap_items};
 ghost use Rattle.metric_laws.specs.Counts.{next_count};
 ghost use Rattle.page_store.specs.Shelf.{HoldsSame, HasPageCause};
+ghost use Rattle.log_model.specs.Counts.{entry_count};
 ghost use Rattle.log_model.specs.Walk.{search_at};
+ghost use Rattle.nearest_search.specs.Machine.{dists_of, pendings_of};
 ghost use Rattle.nearest_search.specs.Opened.{leaf_dists, inner_pendings, Takes, IsOpened};
-ghost use Rattle.nearest_search.specs.Keeping.{kept_node};
+ghost use Rattle.nearest_search.specs.Seeing.{object_sight, subtree_sight, IsSeenOf};
+ghost use Rattle.nearest_search.specs.Keeping.{kept_seen};
 
 use crate::frontier::Frontier;
+use crate::kept::Turn;
 use crate::kth::Best;
 use crate::machine::Machine;
 use crate::pending::Pending;
-use log_model::{Probe, is_ruled_out};
-use metric_laws::{Ruler, centre_test};
+use crate::seen::{Seen, Sight, look, skip_of};
+use log_model::Probe;
+use metric_laws::Ruler;
 use page_store::{PageFault, Pages};
 use std::alloc::{AllocError, Global};
 use tree_shape::{InnerEntry, LeafEntry, Node};
@@ -25,21 +30,24 @@ pub fn note_leaf<R: Ruler>(
     above: Option<u64>,
     entries: &[LeafEntry],
     best: &mut Best,
+    seen: &mut Vec<Sight>,
 ) -> Result<(), AllocError>
     ensures metric { R.metric ruler.new ≡ R.metric ruler.old }
+    ensures used { R.used ruler.new ≤ R.used ruler.old + length entries.now }
     ensures count { best.new.k ≡ best.old.k }
     ensures noted { OnOk result (Takes best.old.k (heap_items best.old.heap) (heap_items best.new.heap)
         (leaf_dists (search_at (R.M.space (R.metric ruler.old)) probe.entry.q.now probe.entry.rho) above entries.now)) }
+    ensures seen { OnOk result (seen.new.items ≡ seen.old.items
+        ++ map (object_sight (search_at (R.M.space (R.metric ruler.old)) probe.entry.q.now probe.entry.rho) above) entries.now) }
 {
     for entry in entries {
-        if is_ruled_out(above, entry.parent, probe.rho, 0) {
+        let skip = skip_of(above, entry.parent, 0);
+        let sight = look(ruler, probe, entry.point.as_slice(), entry.id, 0, skip);
+        seen.push(sight)?;
+        if !sight.is_near(probe.rho) {
             continue;
         }
-        let dist = ruler.dist(entry.point.as_slice(), probe.q);
-        if centre_test(dist, probe.rho, 0) {
-            continue;
-        }
-        best.keep(dist)?;
+        best.keep(sight.dist)?;
     }
     Ok(())
 }
@@ -51,30 +59,86 @@ pub fn queue_inner<R: Ruler>(
     above: Option<u64>,
     entries: &[InnerEntry],
     frontier: &mut Frontier,
+    seen: &mut Vec<Sight>,
 ) -> Result<(), AllocError>
     ensures metric { R.metric ruler.new ≡ R.metric ruler.old }
+    ensures used { R.used ruler.new ≤ R.used ruler.old + length entries.now }
     ensures queued { OnOk result
         (IsPermutation (inner_pendings (search_at (R.M.space (R.metric ruler.old)) probe.entry.q.now probe.entry.rho) above
         entries.now ++ frontier.old) frontier.new) }
+    ensures seen { OnOk result (seen.new.items ≡ seen.old.items
+        ++ map (subtree_sight (search_at (R.M.space (R.metric ruler.old)) probe.entry.q.now probe.entry.rho) above) entries.now) }
 {
     for entry in entries {
-        if is_ruled_out(above, entry.parent, probe.rho, entry.radius) {
-            continue;
-        }
-        let dist = ruler.dist(entry.point.as_slice(), probe.q);
-        if centre_test(dist, probe.rho, entry.radius) {
+        let skip = skip_of(above, entry.parent, entry.radius);
+        let sight = look(
+            ruler,
+            probe,
+            entry.point.as_slice(),
+            entry.child,
+            entry.radius,
+            skip,
+        );
+        seen.push(sight)?;
+        if !sight.is_near(probe.rho) {
             continue;
         }
         frontier.add(Pending {
-            low: dist.saturating_sub(entry.radius),
+            low: sight.far,
             page: entry.child,
-            above: Some(dist),
+            above: Some(sight.dist),
         })?;
     }
     Ok(())
 }
 
-/// Opens the page of a subtree at a radius, and keeps its node.
+// Takes in the node of a page that was opened below a routing point at a distance. What was seen of its entries.
+fn see_node<R: Ruler>(
+    alloc: Global,
+    ruler: &mut R,
+    probe: Probe,
+    above: Option<u64>,
+    node: &Node,
+    machine: &mut Machine,
+) -> Result<Seen, AllocError>
+    ensures metric { R.metric ruler.new ≡ R.metric ruler.old }
+    ensures used { R.used ruler.new ≤ R.used ruler.old + entry_count node.now }
+    ensures count { machine.new.best.k ≡ machine.old.best.k }
+    ensures kept { machine.new.kept ≡ machine.old.kept }
+    ensures pushed { IfOk result (λ seen. IsPermutation
+        (pendings_of (search_at (R.M.space (R.metric ruler.old)) probe.entry.q.now probe.entry.rho) above node.now ++ machine.old.frontier) machine.new.frontier) }
+    ensures noted { IfOk result (λ seen. Takes machine.old.best.k (heap_items machine.old.best.heap) (heap_items machine.new.best.heap)
+        (dists_of (search_at (R.M.space (R.metric ruler.old)) probe.entry.q.now probe.entry.rho) above node.now)) }
+    ensures seen { IfOk result (IsSeenOf (R.M.space (R.metric ruler.old)) probe.entry.q.now probe.entry.rho above node.now) }
+{
+    let mut seen = Vec::new(alloc);
+    match node {
+        Node::Leaf(entries) => {
+            note_leaf(
+                ruler,
+                probe,
+                above,
+                entries.as_slice(),
+                &mut machine.best,
+                &mut seen,
+            )?;
+            Ok(Seen::Objects(seen))
+        }
+        Node::Inner { entries, .. } => {
+            queue_inner(
+                ruler,
+                probe,
+                above,
+                entries.as_slice(),
+                &mut machine.frontier,
+                &mut seen,
+            )?;
+            Ok(Seen::Subtrees(seen))
+        }
+    }
+}
+
+/// Opens the page of a subtree at a radius, and keeps what was seen of its entries.
 pub fn open_page<P: Pages, R: Ruler>(
     alloc: Global,
     pages: &mut P,
@@ -84,6 +148,7 @@ pub fn open_page<P: Pages, R: Ruler>(
     machine: &mut Machine,
 ) -> Result<(), PageFault>
     ensures metric { R.metric ruler.new ≡ R.metric ruler.old }
+    ensures used { R.used ruler.new ≤ R.used ruler.old + 32 }
     ensures same { HoldsSame (P.shelf pages.old) (P.shelf pages.new) }
     ensures no_fault { OnOk result ((P.shelf pages.new).faults ≡ (P.shelf pages.old).faults) }
     ensures keeps { P.keeps pages.old pages.new }
@@ -92,31 +157,19 @@ pub fn open_page<P: Pages, R: Ruler>(
     ensures count { machine.new.best.k ≡ machine.old.best.k }
     ensures opened { OnOk result (IsOpened (search_at (R.M.space (R.metric ruler.old)) probe.entry.q.now probe.entry.rho)
         (P.shelf pages.old) machine.old.best.k next
-        (record { queue = machine.old.frontier; best = heap_items machine.old.best.heap; kept = kept_node machine.old.kept })
-        (record { queue = machine.new.frontier; best = heap_items machine.new.best.heap; kept = kept_node machine.new.kept })) }
+        (record { queue = machine.old.frontier; best = heap_items machine.old.best.heap; kept = kept_seen machine.old.kept; used = R.used ruler.old })
+        (record { queue = machine.new.frontier; best = heap_items machine.new.best.heap; kept = kept_seen machine.new.kept; used = R.used ruler.new })) }
     ensures cause { IfErr result (HasPageCause (P.shelf pages.old) (P.shelf pages.new) next.page) }
 {
     let node = pages.node(alloc, next.page)?;
-    let taken = match node.as_ref() {
-        Node::Leaf(entries) => note_leaf(
-            ruler,
-            probe,
-            next.above,
-            entries.as_slice(),
-            &mut machine.best,
-        ),
-        Node::Inner { entries, .. } => queue_inner(
-            ruler,
-            probe,
-            next.above,
-            entries.as_slice(),
-            &mut machine.frontier,
-        ),
-    };
-    if taken.is_err() {
+    let Ok(seen) = see_node(alloc, ruler, probe, next.above, node.as_ref(), machine) else {
         return Err(PageFault::Memory);
-    }
-    match machine.kept.put(next.page, node) {
+    };
+    let turn = Turn {
+        page: next.page,
+        above: next.above,
+    };
+    match machine.kept.put(turn, seen) {
         Ok(()) => Ok(()),
         Err(_) => Err(PageFault::Memory),
     }

@@ -5,12 +5,12 @@ ghost use Rattle.page_store.specs.Reading.{nodes_of};
 ghost use Rattle.page_store.specs.Shelf.{HoldsSame, IsPassing};
 ghost use Rattle.metric_laws.specs.Counts.{CountsUpTo};
 ghost use Rattle.log_model.specs.Sound.{IsLogOf};
-ghost use Rattle.nearest_search.specs.Searched.{HasNearestCause, IsFront, IsNearest};
+ghost use Rattle.nearest_search.specs.Searched.{HasNearestCause, IsFront, IsFrugal, IsNearest, marks_in};
 
 use crate::exploring::explore;
 use crate::logging::relog;
 use crate::machine::Machine;
-use log_model::{Found, Probe};
+use log_model::Found;
 use metric_laws::{Point, Ruler};
 use page_store::{PageFault, Pages};
 use scan_model::Query;
@@ -49,6 +49,12 @@ pub fn nearest<P: Pages, R: Ruler>(
     // Whatever the result, at most as many pages were asked for, and read, as the file has.
     ensures asked { CountsUpTo (P.shelf pages.old).asked (P.shelf pages.new).asked live.now.pages }
     ensures reads { (P.shelf pages.new).reads ≤ (P.shelf pages.old).reads + live.now.pages }
+    // At most one distance was computed for each entry of the pages that were asked for.
+    ensures measured { IsFrugal live.now.pages (P.shelf pages.old).asked (R.used ruler.old) (P.shelf pages.new).asked (R.used ruler.new) }
+    // On a sound tree at most one distance was computed for each entry that the log marks.
+    ensures few_measured { IfOk result (λ found. IsTrue (P.shelf pages.old).tells →
+        IsSoundTree (R.M.space (R.metric ruler.old)) (nodes_of (P.shelf pages.old).read) live.now →
+        R.used ruler.new ≤ R.used ruler.old + marks_in found.log.records) }
     ensures sound { IfErr result (λ fault. IsTrue (P.shelf pages.old).tells →
         IsSoundTree (R.M.space (R.metric ruler.old)) (nodes_of (P.shelf pages.old).read) live.now → IsPassing fault) }
 {
@@ -62,11 +68,7 @@ pub fn nearest<P: Pages, R: Ruler>(
         Ok(explored) => explored,
         Err(fault) => return Err(fault),
     };
-    let probe = Probe {
-        q,
-        rho: explored.rho,
-    };
-    let Ok(walk) = relog(alloc, ruler, probe, live, &machine.kept) else {
+    let Ok(walk) = relog(alloc, explored.rho, live, &machine.kept) else {
         return Err(PageFault::Memory);
     };
     let query = Query::Nearest { q: point, k };

@@ -1,21 +1,44 @@
-use Rattle.std.proofs.Common.{◌≡◌, ◌∙◌, ◌∷◌, ap, refl, arith, rules, reverse, length, length-append}
+use Rattle.std.proofs.Common.{◌≡◌, ◌∙◌, ◌∷◌, List, ap, sym, subst, inl, inr, refl, arith, rules, reverse, length, length-append}
 use Rattle.std.proofs.lemmas.Grind.{common_steps}
-use Rattle.log_model.specs.Walk.{search_at}
-use Rattle.nearest_search.specs.Keeping.{kept_node}
+use Rattle.std.specs.Option.{option_copied}
+use Rattle.log_model.specs.declared.marks.Need.{Need}
+use Rattle.nearest_search.specs.Keeping.{kept_seen}
+use Rattle.nearest_search.specs.Relog.{IsWalk}
 use Rattle.nearest_search.proofs.Explored.{relog_steps}
 use Rattle.nearest_search.proofs.logging.relog.Goals as goal
 
 pub loop-need-preserved : goal.loop-need-preserved
-loop-need-preserved g c =
+loop-need-preserved c =
     let stack : reverse c.loop-need.walk.stack.items ≡ c.in-Some.need ∷ reverse c.pop.new.self.items = grind (arith, common_steps, c.in-Some.ensures.items) in
-    let long = ap length c.in_ok-take_node.ensures.taken.records ∙ length-append c.loop-need.walk.records.items _ in
+    let long = ap length c.in_ok-take_seen.ensures.records ∙ length-append c.loop-need.walk.records.items _ in
     record {
-      metric = c.take_node.ensures.metric ∙ c.loop-need.invariant.metric;
       count = (let n = c.loop-need.invariant.count in omega arith);
       low = omega arith;
-      walk = relog_steps (search_at (g.R.M.Metric.space (g.R.Ruler.metric c.args.ruler.now)) c.args.probe.q.now c.args.probe.rho)
-          (search_at (g.R.M.Metric.space (g.R.Ruler.metric c.loop-need.ruler)) c.args.probe.q.now c.args.probe.rho) (kept_node c.args.kept.now) c.args.live.now.root c.loop-need.walk c.take_node.new.self
-          c.in-Some.need (reverse c.pop.new.self.items) c.in-Some-get.node.now
-          (ap (λ m. search_at (g.R.M.Metric.space m) c.args.probe.q.now c.args.probe.rho) c.loop-need.invariant.metric) stack c.requires (search rules)
-          (record { hits = c.loop-need.walk.hits; records = c.loop-need.walk.records; stack = c.pop.new.self }) refl refl refl (rw c.as_ref.ensures at c.in_ok-take_node.ensures.taken) c.loop-need.invariant.walk;
+      walk = relog_steps c.args.rho (kept_seen c.args.kept.now) c.args.live.now.root c.loop-need.walk c.take_seen.new.walk
+          c.in-Some.need (reverse c.pop.new.self.items) c.in-Some-get.seen.now stack c.requires (search rules)
+          (record { hits = c.loop-need.walk.hits; records = c.loop-need.walk.records; stack = c.pop.new.self }) refl refl refl c.in_ok-take_seen.ensures c.loop-need.invariant.walk;
+    }
+
+pub returns-then-opened-live : goal.returns-then-opened-live
+returns-then-opened-live c =
+    let stack : reverse c.loop-need.walk.stack.items ≡ c.in-Some.need ∷ reverse c.pop.new.self.items = grind (arith, common_steps, c.in-Some.ensures.items) in
+    record {
+      left = c.in-Some.need ∷ reverse c.pop.new.self.items;
+      walk = subst (λ (ns : List Need). IsWalk c.args.rho (kept_seen c.args.kept.now) c.args.live.now.root c.loop-need.walk.records.items c.loop-need.walk.hits.items ns) stack c.loop-need.invariant.walk.walk;
+      ends = inl (sym c.loop-need.invariant.count ∙ c.if-opened-live.true);
+      few = (let n = c.loop-need.invariant.count in let low = c.loop-need.invariant.low in omega arith);
+      few_marks = c.loop-need.invariant.walk.few_marks;
+      few_hits = c.loop-need.invariant.walk.few_hits;
+    }
+
+pub returns-in_default-get : goal.returns-in_default-get
+returns-in_default-get c =
+    let stack : reverse c.loop-need.walk.stack.items ≡ c.in-Some.need ∷ reverse c.pop.new.self.items = grind (arith, common_steps, c.in-Some.ensures.items) in
+    record {
+      left = c.in-Some.need ∷ reverse c.pop.new.self.items;
+      walk = subst (λ (ns : List Need). IsWalk c.args.rho (kept_seen c.args.kept.now) c.args.live.now.root c.loop-need.walk.records.items c.loop-need.walk.hits.items ns) stack c.loop-need.invariant.walk.walk;
+      ends = inr (sym c.get.ensures ∙ ap option_copied c.in_default-get.is);
+      few = (let n = c.loop-need.invariant.count in let low = c.loop-need.invariant.low in omega arith);
+      few_marks = c.loop-need.invariant.walk.few_marks;
+      few_hits = c.loop-need.invariant.walk.few_hits;
     }

@@ -1,0 +1,97 @@
+//! What a search keeps of the entries that it looked at.
+
+ghost use Rattle.std.specs.Prelude.{◌≡◌, ◌+◌, ◌≤◌, ◌^◌};
+ghost use Rattle.log_model.specs.Walk.{search_at};
+ghost use Rattle.nearest_search.specs.Seeing.{skip_of, sight_of, mark_at, is_near};
+
+use log_model::{Mark, Probe};
+use metric_laws::Ruler;
+
+/// What is known of an entry that was looked at. It gives the entry's mark at each radius up to that of the search at the time.
+#[derive(Clone, Copy)]
+pub struct Sight {
+    /// The object's id, or the child's page.
+    pub name: u32,
+    /// No object of the entry is nearer, by the distances to the routing point above.
+    pub skip: u64,
+    /// No object of the entry is nearer, by the entry's own distance. It is 0 where that was not computed.
+    pub far: u64,
+    /// The entry's distance. It is 0 where it was not computed.
+    pub dist: u64,
+}
+
+/// What is known of the entries of an opened node, in the node's order.
+#[derive(Drop)]
+pub enum Seen {
+    /// The objects of a leaf.
+    Objects(Vec<Sight>),
+    /// The subtrees of an inner node.
+    Subtrees(Vec<Sight>),
+}
+
+impl Sight {
+    /// The least mark of the entry at a radius.
+    pub fn mark(&self, rho: u64) -> Mark
+        ensures { result ≡ mark_at rho self.now }
+    {
+        if rho < self.skip {
+            return Mark::Skip;
+        }
+        if rho < self.far {
+            return Mark::Far;
+        }
+        Mark::Near
+    }
+
+    /// Whether the entry is marked Near at a radius.
+    pub fn is_near(&self, rho: u64) -> bool
+        ensures { result ≡ is_near (mark_at rho self.now) }
+    {
+        match self.mark(rho) {
+            Mark::Near => true,
+            Mark::Skip | Mark::Far => false,
+        }
+    }
+}
+
+/// What the parent test (VLDB 1997, section 4.1) says of an entry at any radius: no object of it is nearer than this. It is 0 where no
+/// routing point stands above.
+pub fn skip_of(above: Option<u64>, stored: u64, radius: u64) -> u64
+    ensures { result ≡ skip_of above stored radius }
+{
+    match above {
+        None => 0,
+        Some(dist) => dist.abs_diff(stored).saturating_sub(radius),
+    }
+}
+
+/// Looks at an entry: computes its distance, unless `skip` rules it out at the probe's radius.
+pub fn look<R: Ruler>(
+    ruler: &mut R,
+    probe: Probe,
+    point: &[u32],
+    name: u32,
+    radius: u64,
+    skip: u64,
+) -> Sight
+    ensures metric { R.metric ruler.new ≡ R.metric ruler.old }
+    ensures used { R.used ruler.new ≤ R.used ruler.old + 1 }
+    ensures bounded { result.dist ≤ 2 ^ 38 }
+    ensures sight { result ≡ sight_of (search_at (R.M.space (R.metric ruler.old)) probe.entry.q.now probe.entry.rho) name radius skip point.now }
+{
+    if probe.rho < skip {
+        return Sight {
+            name,
+            skip,
+            far: 0,
+            dist: 0,
+        };
+    }
+    let dist = ruler.dist(point, probe.q);
+    Sight {
+        name,
+        skip,
+        far: dist.saturating_sub(radius),
+        dist,
+    }
+}
