@@ -54,14 +54,15 @@ fn push_near(stack: &mut Vec<u32>, entries: &[InnerEntry], marks: &[Mark]) -> Re
     Ok(())
 }
 
-// Whether something is marked Near.
+// Tells whether something is marked Near.
 fn has_near(marks: &[Mark]) -> bool
     ensures { result ≡ has_near marks.now }
 {
     marks.contains(&Mark::Near)
 }
 
-// Whether a walk passes over a record with these marks: it does where it is known to mark its node and nothing is marked Near.
+// Tells whether a walk passes over a record with these marks. It does where the log is known to mark each node that the walk comes to,
+// and nothing is marked Near.
 fn passes_over(are_marked: bool, marks: &[Mark]) -> bool
     ensures { result ≡ passes_over are_marked marks.now }
 {

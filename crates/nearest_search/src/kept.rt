@@ -29,7 +29,7 @@ impl Model for Kept {
 }
 
 impl Kept {
-    /// Nothing.
+    /// Keeps nothing yet.
     pub fn new(alloc: Global) -> Self
         ensures { result ≡ [] }
     {
@@ -38,14 +38,14 @@ impl Kept {
         }
     }
 
-    /// What was seen, where the page was opened below a routing point at this distance.
+    /// Gives what was seen at the opening `turn`, where it is kept.
     pub fn get(&self, turn: Turn) -> Option<&Seen>
         ensures { option_copied result ≡ kept_seen self.now turn.page turn.above }
     {
         self.map.get(&turn)
     }
 
-    /// Keeps what was seen.
+    /// Keeps what was seen at the opening `turn`.
     pub fn put(&mut self, turn: Turn, seen: Seen) -> Result<(), AllocError>
         ensures here { OnOk result (kept_seen self.new turn.page turn.above ≡ Some seen) }
         ensures others { OnOk result ((page : ℕ) (above : Option ℕ) →

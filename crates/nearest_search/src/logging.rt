@@ -13,7 +13,7 @@ use scan_model::Hit;
 use std::alloc::Global;
 use tree_shape::Live;
 
-// Appends the objects that are marked Near at a radius to the hits.
+// Appends the objects of `seen` that are marked Near at the radius `rho` to `hits`.
 fn push_hits(hits: &mut Vec<Hit>, rho: u64, seen: &[Sight]) -> Result<(), Memory>
     ensures { OnOk result (hits.new.items ≡ hits.old.items ++ map hit_seen (seen_near rho seen.now)) }
 {
@@ -29,7 +29,7 @@ fn push_hits(hits: &mut Vec<Hit>, rho: u64, seen: &[Sight]) -> Result<(), Memory
     Ok(())
 }
 
-// Puts the subtrees that are marked Near at a radius on the stack, so that the first of them is on top.
+// Puts the subtrees of `seen` that are marked Near at the radius `rho` on the stack, so that the first of them is on top.
 fn push_needs(stack: &mut Vec<Need>, rho: u64, seen: &[Sight]) -> Result<(), Memory>
     ensures { OnOk result (reverse stack.new.items ≡ map need_seen (seen_near rho seen.now) ++ reverse stack.old.items) }
 {
@@ -46,14 +46,14 @@ fn push_needs(stack: &mut Vec<Need>, rho: u64, seen: &[Sight]) -> Result<(), Mem
     Ok(())
 }
 
-// The least marks at a radius.
+// Gives the least marks of `seen` at the radius `rho`.
 fn marks_at(alloc: Global, rho: u64, seen: &[Sight]) -> Result<Vec<Mark>, Memory>
     ensures { IfOk result (λ marks. marks.items ≡ map (mark_at rho) seen.now) }
 {
     seen.iter().map(|sight| sight.mark(rho)).collect(alloc)
 }
 
-// Appends the record of a page with the least marks at a radius.
+// Appends the record of `page` with the least marks at the radius `rho`.
 fn push_record(
     alloc: Global,
     records: &mut Vec<Record>,
@@ -71,7 +71,7 @@ fn push_record(
     Ok(())
 }
 
-// Takes in a page that was needed, by what was seen of its entries, with the least marks at a radius.
+// Takes in a page that was needed, by what was seen of its entries, with the least marks at the radius `rho`.
 fn take_seen(
     alloc: Global,
     walk: &mut Traversal,
@@ -93,7 +93,8 @@ fn take_seen(
     }
 }
 
-/// Walks over what is kept of the opened pages, with the least marks at the final radius. No page is read and no distance is computed.
+/// Walks over what is kept of the opened pages, with the least marks at the final radius `rho`. No page is read and no distance is
+/// computed.
 pub fn relog(alloc: Global, rho: u64, live: &Live, kept: &Kept) -> Result<Traversal, Memory>
     requires { KeepsFew (kept_seen kept.now) }
     ensures { IfOk result (λ walk. IsRelogged rho (kept_seen kept.now) live.now walk.records.items walk.hits.items) }
