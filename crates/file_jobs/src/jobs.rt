@@ -1,5 +1,5 @@
 // The jobs on files.
-ghost use Rattle.std.specs.Prelude.{◌≡◌, ◌≢◌, ◌⊎◌, ◌+◌, ◌≤◌, ◌^◌, ℕ, List, None, length, IsTrue, IfOk, IfErr, OnOk, codes};
+ghost use Rattle.std.specs.Prelude.{◌≡◌, ◌≢◌, ◌⊎◌, ◌+◌, ◌≤◌, ◌^◌, ℕ, List, None, length, max, IsTrue, IfOk, IfErr, OnOk, codes};
 ghost use Rattle.disk_model.specs.Disk.{IsUnchanged};
 ghost use Rattle.file_jobs.specs.Spaces.{space_of};
 ghost use Rattle.tree_shape.specs.Tree.{pages_at};
@@ -12,6 +12,7 @@ ghost use Rattle.outside_io.specs.Sinks.{Tells};
 ghost use Rattle.node_page.specs.Heads.{IsLawfulHead};
 ghost use Rattle.node_page.specs.Opening.{OpensTo};
 ghost use Rattle.file_jobs.specs.Jobs.{Creates, Refuses, Audits, HasFault, IsPassing, IsAuditStatus};
+ghost use Rattle.file_jobs.specs.Reads.{ReadsOnce, each_page};
 ghost use Rattle.file_jobs.specs.Lines.{unopened_text, rejected_text, sound_text};
 ghost use Rattle.metric_mix.specs.MixKinds.{mix_kind, mix_dim};
 
@@ -97,6 +98,8 @@ pub fn audit_opened<D: Disk>(
         (audit_fault (space_of head.now) (reading head.now.dim live.now.pages (D.state disk.old).bytes) live.now)) }
     ensures later { (D.state disk.old).faults ≤ (D.state disk.new).faults }
     ensures no_fault { OnOk result ((D.state disk.new).faults ≡ (D.state disk.old).faults) }
+    // Whatever the result, each page is read once at the most.
+    ensures reads { (D.state disk.new).reads ≤ (D.state disk.old).reads + max 1 live.now.pages }
 {
     let mut pages = DiskPages::new(disk, head.dim, live.pages);
     let mut ruler = Meter::new(space_of(head));
@@ -189,6 +192,7 @@ pub fn open_index<D: Disk, K: Sink>(disk: &mut D, out: &mut K) -> Result<(Head, 
 pub fn audit_index<D: Disk, K: Sink>(alloc: Global, disk: &mut D, out: &mut K) -> Status
     ensures audits { Audits (D.state disk.old) (D.state disk.new) (K.state out.old) (K.state out.new) result.0 }
     ensures statuses { IsAuditStatus result.0 }
+    ensures reads { ReadsOnce each_page (D.state disk.old) (D.state disk.new) }
     ensures later { (K.state out.old).faults ≤ (K.state out.new).faults }
     ensures rose { result.0 ≡ 4 → Rose (K.state out.old).faults (K.state out.new).faults }
 {

@@ -30,7 +30,7 @@ impl<P: Pages, Q: Pages> Court for JoinCourt<'_, '_, P, Q> {
 
     type Verdict = JoinVerdict;
 
-    ghost use Rattle.std.specs.Prelude.{IsTrue, ◌≡◌, ◌≤◌, ◌⊎◌};
+    ghost use Rattle.std.specs.Prelude.{IsTrue, ◌≡◌, ◌≤◌, ◌⊎◌, ◌+◌, length};
     ghost use Rattle.outside_io.specs.Causes.{Rose};
     ghost use Rattle.metric_mix.specs.MixSpaces.{mix_space};
     ghost use Rattle.metric_mix.specs.MixKinds.{mix_kind, mix_dim};
@@ -49,6 +49,12 @@ impl<P: Pages, Q: Pages> Court for JoinCourt<'_, '_, P, Q> {
 
     ghost judges = { λ c.
         judge_by (mix_space (mix_kind c.space) (mix_dim c.space)) (P.shelf c.left_pages.now) (Q.shelf c.right_pages.now) c.left c.right };
+
+    // Of both sides together.
+    ghost read_count = { λ c. (P.shelf c.left_pages.now).reads + (Q.shelf c.right_pages.now).reads };
+
+    // Each record is judged by one page of one side.
+    ghost most_reads = { λ log. length log.records };
 
     // The pages of both sides.
     ghost keeps = { λ c d.

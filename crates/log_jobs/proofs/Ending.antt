@@ -1,5 +1,6 @@
 -- What is said of an opened file, by what was put.
-use Rattle.std.proofs.Common.{◌≡◌, ◌⊎◌, ℕ, List, Some, None, refl, sym, subst}
+use Rattle.std.proofs.Common.{◌≡◌, ◌⊎◌, inr, ℕ, ◌+◌, ◌^◌, max, List, Some, None, refl, sym, subst, arith}
+use Rattle.std.proofs.Math.Nat.{max-eq_right}
 use Rattle.std.specs.Prelude.{◌≤◌, IsTrue}
 use Rattle.outside_io.specs.Sinks.{SinkState}
 use Rattle.disk_model.specs.Disk.{DiskState, IsUnchanged}
@@ -14,7 +15,8 @@ use Rattle.file_jobs.specs.Logs.Sayings.{Saying}
 use Rattle.file_jobs.specs.Logs.Jobs.{Puts, Stops, Writes}
 use Rattle.file_jobs.proofs.Published.{said_all, said_some}
 use Rattle.log_jobs.specs.Lines.{saying}
-use Rattle.log_jobs.specs.Jobs.{WritesOn, judge_of}
+use Rattle.file_jobs.specs.Reads.{ReadsOnce}
+use Rattle.log_jobs.specs.Jobs.{WritesOn, judge_of, most_reads}
 
 abbrev pub said_of : Report → List ℕ → List ℕ → Head → Live → Saying
 said_of what file bytes head live = saying what (fault_of file head live) (judge_of file head live) (frames_at log_at bytes)
@@ -40,3 +42,10 @@ says_some what d0 d1 bytes head live w0 w1 w2 status why same opens version late
   subst (λ (file : List ℕ). Writes status (said_of what file bytes head live) w0 w2) same.same_bytes
       (said_some (said_of what d1.bytes bytes head live) w0 w1 w2 status why later (puts (subst IsTrue (sym same.same_tells) tells)) ends),
 )
+
+-- what was opened, and how often the index was read then
+pub read_once : (what : Report) (d0 d1 d2 : DiskState) (bytes : List ℕ) (head : Head) (live : Live) → (IsTrue d0.tells → OpensTo d0.bytes head live) → head.version ≡ 2 → 4 ≤ live.pages → live.pages ≤ 2 ^ 24
+    → d1.reads ≤ d0.reads + 3 → d2.reads ≤ d1.reads + most_reads what bytes (max 1 live.pages) → ReadsOnce (most_reads what bytes) d0 d2
+read_once what d0 d1 d2 bytes head live opens version some few first next =
+    let most : d2.reads ≤ d1.reads + most_reads what bytes live.pages = subst (λ (n : ℕ). d2.reads ≤ d1.reads + most_reads what bytes n) (max-eq_right (omega (arith, some))) next in
+    inr (head, live, opens, version, few, omega (arith, first, most))

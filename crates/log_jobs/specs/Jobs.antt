@@ -1,15 +1,18 @@
 -- What the jobs on logs do and write, by the status with which they end.
-use Rattle.std.specs.Prelude.{◌≡◌, ℕ, List, Option, IsTrue}
+use Rattle.std.specs.Prelude.{◌≡◌, ◌+◌, ℕ, List, length, Option, IsTrue}
 use Rattle.outside_io.specs.Causes.{Rose}
 use Rattle.outside_io.specs.Sinks.{SinkState}
 use Rattle.disk_model.specs.Disk.{DiskState, IsUnchanged}
 use Rattle.tree_shape.specs.declared.live.Live.{Live}
 use Rattle.node_page.specs.declared.head.Head.{Head}
 use Rattle.node_page.specs.Opening.{OpensTo}
+use Rattle.log_model.specs.declared.logs.Log.{Log}
 use Rattle.log_verify.specs.Judged.{log_fault}
 use Rattle.prune_log.specs.Reading.{log_at, frames_at}
 use Rattle.file_jobs.specs.Jobs.{IsNoIndex}
+use Rattle.file_jobs.specs.Reads.{ReadsOnce, each_page, reads_of}
 use Rattle.file_jobs.specs.declared.logs.report.Report.{Report}
+use Rattle.file_jobs.specs.declared.logs.report.Report.TheVariants as report
 use Rattle.file_jobs.specs.Spaces.{space_of}
 use Rattle.file_jobs.specs.Logs.Files.{read_of, fault_of}
 use Rattle.file_jobs.specs.Logs.Sayings.{Saying}
@@ -32,10 +35,23 @@ pub record Says (what : Report) (file bytes : List ℕ) (said : Saying) : Type 0
 abbrev pub WritesOn : Report → DiskState → List ℕ → SinkState → SinkState → ℕ → Type 0
 WritesOn what disk bytes old new status = IsTrue disk.tells → (said : Saying) × Says what disk.bytes bytes said × Writes status said old new
 
+-- the number of records of the logs that bytes spell
+abbrev pub records_in : List ℕ → ℕ
+records_in bytes = reads_of (λ (log : Log). length log.records) (frames_at log_at bytes)
+
+-- the most reads besides those that open the index: each page once where it is audited, and a page for each record of the logs
+abbrev pub most_reads : Report → List ℕ → ℕ → ℕ
+most_reads report.Verdicts bytes pages = records_in bytes
+most_reads report.Answers bytes pages = each_page pages + records_in bytes
+
+-- the index is unchanged, and was read no more often than that
+abbrev pub IsOnlyRead : Report → DiskState → DiskState → List ℕ → Type 0
+IsOnlyRead what disk0 disk1 bytes = IsUnchanged disk0 disk1 × ReadsOnce (most_reads what bytes) disk0 disk1
+
 -- what a job does with an index and the bytes of its logs
 abbrev pub Judges : Report → DiskState → DiskState → List ℕ → SinkState → SinkState → ℕ → Type 0
 Judges what disk0 disk1 bytes out0 out1 status =
-    JudgesBytes (IsUnchanged disk0 disk1) (WritesOn what disk0 bytes out0 out1 status) (Rose disk0.faults disk1.faults)
+    JudgesBytes (IsOnlyRead what disk0 disk1 bytes) (WritesOn what disk0 bytes out0 out1 status) (Rose disk0.faults disk1.faults)
     (λ name. IsTrue disk0.tells → IsNoIndex disk0.bytes name) out0 out1 status
 
 -- what a job does that takes bytes of logs from `left0`

@@ -25,7 +25,7 @@ impl<P: Pages> Court for LogCourt<'_, P> {
 
     type Verdict = Verdict;
 
-    ghost use Rattle.std.specs.Prelude.{IsTrue, ◌≡◌, ◌≤◌};
+    ghost use Rattle.std.specs.Prelude.{IsTrue, ◌≡◌, ◌≤◌, length};
     ghost use Rattle.outside_io.specs.Causes.{Rose};
     ghost use Rattle.metric_mix.specs.MixSpaces.{mix_space};
     ghost use Rattle.metric_mix.specs.MixKinds.{mix_kind, mix_dim};
@@ -43,6 +43,11 @@ impl<P: Pages> Court for LogCourt<'_, P> {
     ghost tells = { λ c. IsTrue (P.shelf c.pages.now).tells };
 
     ghost judges = { λ c. log_fault (mix_space (mix_kind c.space) (mix_dim c.space)) (P.shelf c.pages.now).read c.live };
+
+    ghost read_count = { λ c. (P.shelf c.pages.now).reads };
+
+    // Each record is judged by one page.
+    ghost most_reads = { λ log. length log.records };
 
     ghost keeps = { λ c d. (d.pages.ghost_name ≡ c.pages.ghost_name)
         × ((P.shelf c.pages.now).faults ≤ (P.shelf d.pages.now).faults) × P.keeps c.pages.now d.pages.now };

@@ -1,5 +1,5 @@
 // What is said of an opened index and of its logs.
-ghost use Rattle.std.specs.Prelude.{◌≡◌, ◌⊎◌, ◌≤◌, ◌^◌, IsTrue, IfOk, IsErrOf};
+ghost use Rattle.std.specs.Prelude.{◌≡◌, ◌⊎◌, ◌≤◌, ◌+◌, ◌^◌, max, IsTrue, IfOk, IsErrOf};
 ghost use Rattle.outside_io.specs.Causes.{Rose};
 ghost use Rattle.disk_model.specs.Disk.{IsUnchanged};
 ghost use Rattle.node_page.specs.Heads.{IsLawfulHead};
@@ -8,7 +8,7 @@ ghost use Rattle.file_jobs.specs.Logs.Files.{fault_of};
 ghost use Rattle.file_jobs.specs.Logs.Jobs.{Puts, stop_of};
 ghost use Rattle.file_jobs.specs.Logs.Sayings.{on_logs};
 ghost use Rattle.log_jobs.specs.Lines.{log_words, saying};
-ghost use Rattle.log_jobs.specs.Jobs.{judge_of};
+ghost use Rattle.log_jobs.specs.Jobs.{judge_of, most_reads, records_in};
 
 use crate::court::LogCourt;
 use disk_model::Disk;
@@ -40,6 +40,7 @@ fn judge_opened<D: Disk, K: Sink>(
     ensures status { IfOk result (λ status. IsTrue (D.state index.old).tells →
         status.0 ≡ (on_logs log_words report (judge_of (D.state index.old).bytes opened.now.0 opened.now.1) (frames_at log_at bytes.now)).status) }
     ensures statuses { IfOk result (λ status. (status.0 ≡ 0) ⊎ (status.0 ≡ 1)) }
+    ensures reads { (D.state index.new).reads ≤ (D.state index.old).reads + records_in bytes.now }
     ensures later { (K.state out.old).faults ≤ (K.state out.new).faults }
     ensures output { IsErrOf result Stop.Sink → Rose (K.state out.old).faults (K.state out.new).faults }
     ensures disk { IsErrOf result Stop.Disk → Rose (D.state index.old).faults (D.state index.new).faults }
@@ -81,6 +82,7 @@ fn check_opened<D: Disk, K: Sink>(
         status.0 ≡ (saying Report.Answers (fault_of (D.state index.old).bytes opened.now.0 opened.now.1)
         (judge_of (D.state index.old).bytes opened.now.0 opened.now.1) (frames_at log_at bytes.now)).status) }
     ensures statuses { IfOk result (λ status. (status.0 ≡ 0) ⊎ (status.0 ≡ 1)) }
+    ensures reads { (D.state index.new).reads ≤ (D.state index.old).reads + (max 1 opened.now.1.pages + records_in bytes.now) }
     ensures later { (K.state out.old).faults ≤ (K.state out.new).faults }
     ensures output { IsErrOf result Stop.Sink → Rose (K.state out.old).faults (K.state out.new).faults }
     ensures disk { IsErrOf result Stop.Disk → Rose (D.state index.old).faults (D.state index.new).faults }
@@ -112,6 +114,7 @@ pub fn report_on<D: Disk, K: Sink>(
         status.0 ≡ (saying report (fault_of (D.state index.old).bytes opened.now.0 opened.now.1)
         (judge_of (D.state index.old).bytes opened.now.0 opened.now.1) (frames_at log_at bytes.now)).status) }
     ensures statuses { IfOk result (λ status. (status.0 ≡ 0) ⊎ (status.0 ≡ 1)) }
+    ensures reads { (D.state index.new).reads ≤ (D.state index.old).reads + most_reads report bytes.now (max 1 opened.now.1.pages) }
     ensures later { (K.state out.old).faults ≤ (K.state out.new).faults }
     ensures output { IsErrOf result Stop.Sink → Rose (K.state out.old).faults (K.state out.new).faults }
     ensures disk { IsErrOf result Stop.Disk → Rose (D.state index.old).faults (D.state index.new).faults }

@@ -1,5 +1,5 @@
 // The audit of a file before its logs are judged.
-ghost use Rattle.std.specs.Prelude.{◌≡◌, ◌≤◌, ◌^◌, ◌∷◌, [], IsTrue, IfOk, IsErrOf};
+ghost use Rattle.std.specs.Prelude.{◌≡◌, ◌≤◌, ◌+◌, ◌^◌, ◌∷◌, [], max, IsTrue, IfOk, IsErrOf};
 ghost use Rattle.std.specs.Option.{is_none};
 ghost use Rattle.outside_io.specs.Causes.{Rose};
 ghost use Rattle.disk_model.specs.Disk.{IsUnchanged};
@@ -32,6 +32,7 @@ fn audit_file<D: Disk>(
     ensures disk { IsErrOf result Stop.Disk → Rose (D.state disk.old).faults (D.state disk.new).faults }
     ensures not_sink { IsErrOf result Stop.Sink → ⊥ }
     ensures later { (D.state disk.old).faults ≤ (D.state disk.new).faults }
+    ensures reads { (D.state disk.new).reads ≤ (D.state disk.old).reads + max 1 opened.now.1.pages }
 {
     match audit_opened(alloc, disk, &opened.0, &opened.1) {
         Ok(_) => Ok(None),
@@ -58,6 +59,7 @@ pub fn put_audit<D: Disk, K: Sink>(
     ensures sound { IfOk result (λ sound. IsTrue (D.state disk.old).tells →
         sound ≡ is_none (fault_of (D.state disk.old).bytes opened.now.0 opened.now.1)) }
     ensures later { (D.state disk.old).faults ≤ (D.state disk.new).faults }
+    ensures reads { (D.state disk.new).reads ≤ (D.state disk.old).reads + max 1 opened.now.1.pages }
     ensures written_later { (K.state out.old).faults ≤ (K.state out.new).faults }
     ensures output { IsErrOf result Stop.Sink → Rose (K.state out.old).faults (K.state out.new).faults }
     ensures disk { IsErrOf result Stop.Disk → Rose (D.state disk.old).faults (D.state disk.new).faults }

@@ -1,4 +1,4 @@
-ghost use Rattle.std.specs.Prelude.{◌≡◌, ◌++◌, ℕ, List, Option, Result, All, IfOk, IsErrOf, OnOk};
+ghost use Rattle.std.specs.Prelude.{◌≡◌, ◌≤◌, ◌+◌, ◌++◌, ℕ, List, Option, Result, All, IfOk, IsErrOf, OnOk};
 ghost use Rattle.prune_log.specs.Reading.{Gives};
 ghost use Rattle.prune_log.specs.declared.fault.LogFault.{LogFault};
 ghost use Rattle.file_jobs.specs.Logs.Sayings.{Words};
@@ -30,6 +30,12 @@ pub trait Court {
     /// The first fault of each log, where it has one.
     ghost judges: { Self → Self.Log → Option Self.Verdict };
 
+    /// How often the disks of the pages were read.
+    ghost read_count: { Self → ℕ };
+
+    /// How often the judging of a log reads them at the most.
+    ghost most_reads: { Self.Log → ℕ };
+
     /// What every call keeps: whoever lends pages to a court learns by it what happened to them.
     ghost keeps: { Self → Self → Type 0 };
 
@@ -56,6 +62,7 @@ pub trait Court {
         ensures tells { tells self.old → tells self.new }
         ensures judges { judges self.new ≡ judges self.old }
         ensures keeps { keeps self.old self.new }
+        ensures few { read_count self.new ≤ read_count self.old + most_reads log.now }
         ensures disk { IsErrOf result Stop.Disk → failed self.old self.new }
         ensures not_sink { IsErrOf result Stop.Sink → ⊥ };
 

@@ -1,7 +1,8 @@
 // The judging of logs, frame by frame.
-ghost use Rattle.std.specs.Prelude.{◌≡◌, ◌⊎◌, ◌≤◌, ◌∷◌, [], All, IfOk, IsErrOf};
+ghost use Rattle.std.specs.Prelude.{◌≡◌, ◌⊎◌, ◌≤◌, ◌+◌, ◌∷◌, [], sum_by, All, IfOk, IsErrOf};
 ghost use Rattle.std.specs.Option.{is_none};
 ghost use Rattle.outside_io.specs.Causes.{Rose};
+ghost use Rattle.file_jobs.specs.Reads.{reads_of};
 ghost use Rattle.file_jobs.specs.Logs.Jobs.{Puts, stop_of};
 ghost use Rattle.file_jobs.specs.Logs.Sayings.{are_sound, frame_text, frame_texts, on_logs};
 
@@ -56,6 +57,7 @@ fn judge_frame<C: Court, K: Sink>(
     ensures tells { C.tells court.old → C.tells court.new }
     ensures judges { C.judges court.new ≡ C.judges court.old }
     ensures keeps { C.keeps court.old court.new }
+    ensures few { C.read_count court.new ≤ C.read_count court.old + C.most_reads log }
     ensures later { (K.state out.old).faults ≤ (K.state out.new).faults }
     ensures output { IsErrOf result Stop.Sink → Rose (K.state out.old).faults (K.state out.new).faults }
     ensures disk { IsErrOf result Stop.Disk → C.failed court.old court.new }
@@ -79,6 +81,7 @@ fn judge_frames<C: Court, K: Sink>(
         (K.state out.old).written (K.state out.new).written (stop_of result) }
     ensures sound { IfOk result (λ sound. C.tells court.old → sound ≡ are_sound (C.judges court.old) logs.items) }
     ensures keeps { C.keeps court.old court.new }
+    ensures few { C.read_count court.new ≤ C.read_count court.old + sum_by C.most_reads logs.items }
     ensures later { (K.state out.old).faults ≤ (K.state out.new).faults }
     ensures output { IsErrOf result Stop.Sink → Rose (K.state out.old).faults (K.state out.new).faults }
     ensures disk { IsErrOf result Stop.Disk → C.failed court.old court.new }
@@ -107,6 +110,7 @@ pub fn judge_bytes<C: Court, K: Sink>(
         status.0 ≡ (on_logs C.words report (C.judges court.old) (C.reads bytes.now)).status) }
     ensures statuses { IfOk result (λ status. (status.0 ≡ 0) ⊎ (status.0 ≡ 1)) }
     ensures keeps { C.keeps court.old court.new }
+    ensures few { C.read_count court.new ≤ C.read_count court.old + reads_of C.most_reads (C.reads bytes.now) }
     ensures later { (K.state out.old).faults ≤ (K.state out.new).faults }
     ensures output { IsErrOf result Stop.Sink → Rose (K.state out.old).faults (K.state out.new).faults }
     ensures disk { IsErrOf result Stop.Disk → C.failed court.old court.new }

@@ -69,3 +69,18 @@ returns-in-Err-audit_opened-clause-audits g c =
       not_index = λ is. none_of_four r 1 4 5 8 6 s is (omega arith) (omega arith) (omega arith) (omega arith);
       memory = λ is. rw c.in-Ok.ensures.silent at c.end_rejected.ensures.memory is;
     }
+
+pub returns-in-Err-clause-reads : goal.returns-in-Err-clause-reads
+returns-in-Err-clause-reads g c = inl c.in-Err.ensures.reads
+
+pub returns-in-Ok-audit_opened-clause-reads : goal.returns-in-Ok-audit_opened-clause-reads
+returns-in-Ok-audit_opened-clause-reads g c =
+    let first = c.in-Ok.ensures in
+    let opened = c.in-Ok.opened in
+    inr (opened.0, opened.1, first.opens, first.version, first.pages, grind (arith, first.reads, c.in-Ok-audit_opened.ensures.reads, first.some))
+
+pub returns-in-Err-audit_opened-clause-reads : goal.returns-in-Err-audit_opened-clause-reads
+returns-in-Err-audit_opened-clause-reads g c =
+    let first = c.in-Ok.ensures in
+    let opened = c.in-Ok.opened in
+    inr (opened.0, opened.1, first.opens, first.version, first.pages, grind (arith, first.reads, c.in-Err-audit_opened.ensures.reads, first.some))

@@ -1,8 +1,8 @@
-use Rattle.std.proofs.Common.{ap}
+use Rattle.std.proofs.Common.{ap, inl}
 use Rattle.std.specs.Prelude.{Err}
 use Rattle.disk_model.specs.Moments.{then_unchanged}
 use Rattle.file_jobs.proofs.Published.{judged_all, judged_some, judged_none}
-use Rattle.log_jobs.proofs.Ending.{says_all, says_some}
+use Rattle.log_jobs.proofs.Ending.{says_all, says_some, read_once}
 use Rattle.log_jobs.proofs.jobs.judge_index.Goals as goal
 use Rattle.outside_io.proofs.Published.{rose_before}
 
@@ -14,7 +14,9 @@ returns-in-Ok-report_on-clause-judges g c =
     let first = c.in-Ok.ensures in
     let told = c.in-Ok-report_on.ensures in
     let r = c.in-Ok-report_on.status.0 in
-    judged_all _ _ _ _ (then_unchanged d0 d1 d2 first.same told.same) _ _ r told.statuses
+    let opened = c.in-Ok.opened in
+    let reads = read_once c.args.report d0 d1 d2 c.args.bytes.now opened.0 opened.1 first.opens first.version first.some first.pages first.reads told.reads in
+    judged_all _ _ _ _ (then_unchanged d0 d1 d2 first.same told.same, reads) _ _ r told.statuses
     (says_all c.args.report d0 d1 c.args.bytes.now c.in-Ok.opened.0 c.in-Ok.opened.1 _ _ r first.same first.opens first.version told.statuses (rw first.silent at told.puts) told.status)
 
 pub returns-in-Err-report_on-clause-judges : goal.returns-in-Err-report_on-clause-judges
@@ -29,11 +31,13 @@ returns-in-Err-report_on-clause-judges g c =
     let why = c.in-Err-report_on.why in
     let r = c.end_stopped.result.0 in
     let ends = c.end_stopped.ensures.ends in
-    judged_some _ _ _ _ (then_unchanged d0 d1 d2 first.same told.same) why _ w1 w2 r ends
+    let opened = c.in-Ok.opened in
+    let reads = read_once c.args.report d0 d1 d2 c.args.bytes.now opened.0 opened.1 first.opens first.version first.some first.pages first.reads told.reads in
+    judged_some _ _ _ _ (then_unchanged d0 d1 d2 first.same told.same, reads) why _ w1 w2 r ends
     (says_some c.args.report d0 d1 c.args.bytes.now c.in-Ok.opened.0 c.in-Ok.opened.1 (g.K.Sink.state c.args.out.now) w1 w2 r why first.same first.opens first.version (rw first.silent at told.later) (rw first.silent at told.puts) ends)
     (λ is. rose_before d0.faults d1.faults d2.faults first.later (told.disk (ap (λ w. Err w) is)))
 
 pub returns-in-Err-clause-judges : goal.returns-in-Err-clause-judges
 returns-in-Err-clause-judges g c =
     let refuses = c.in-Err.ensures.refuses in
-    judged_none _ _ _ _ c.in-Err.ensures.same _ _ c.in-Err.status.0 refuses.statuses refuses.disk refuses.not_index
+    judged_none _ _ _ _ (c.in-Err.ensures.same, inl c.in-Err.ensures.reads) _ _ c.in-Err.status.0 refuses.statuses refuses.disk refuses.not_index

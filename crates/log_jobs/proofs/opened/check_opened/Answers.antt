@@ -1,4 +1,4 @@
-use Rattle.std.proofs.Common.{rules, ◌≡◌, ◌∙◌, true, false, List, ℕ, sym, subst}
+use Rattle.std.proofs.Common.{rules, ◌≡◌, ◌∙◌, true, false, List, ℕ, sym, subst, arith}
 use Rattle.std.specs.Prelude.{IsTrue, codes}
 use Rattle.std.proofs.lemmas.Result.{IfOk-weaker, err_from_is_err_and}
 use Rattle.outside_io.specs.declared.status.Status.{Status}
@@ -74,3 +74,12 @@ returns-clause-status g c =
 
 pub returns-clause-disk : goal.returns-clause-disk
 returns-clause-disk g c is = rose_before _ (g.D.Disk.state c.put_audit.new.disk).faults _ c.in_ok-sound.ensures.later (c.judge_opened.ensures.disk is)
+
+pub returns-in_err-sound-clause-reads : goal.returns-in_err-sound-clause-reads
+returns-in_err-sound-clause-reads g c = omega (arith, c.in_err-sound.ensures.reads)
+
+pub returns-then-not-sound-clause-reads : goal.returns-then-not-sound-clause-reads
+returns-then-not-sound-clause-reads g c = omega (arith, c.in_ok-sound.ensures.reads)
+
+pub returns-clause-reads : goal.returns-clause-reads
+returns-clause-reads g c = omega (arith, c.in_ok-sound.ensures.reads, c.judge_opened.ensures.reads)

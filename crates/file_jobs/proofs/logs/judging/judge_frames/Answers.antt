@@ -1,4 +1,6 @@
 use Rattle.std.proofs.Common.{rules, ◌≡◌, suc, length, ap, refl, ◌∙◌, arith}
+use Rattle.std.proofs.Math.Nat.{le_refl}
+use Rattle.std.proofs.lemmas.List.Sums.{sum_by-cons}
 use Rattle.std.proofs.lemmas.Result.{err_from_is_err_and}
 use Rattle.file_jobs.proofs.logs.Puts.{begun}
 use Rattle.file_jobs.proofs.logs.Frames.{frame_put, frame_stopped, frame_sound}
@@ -11,6 +13,7 @@ loop-log-init g c =
       tells = λ t. t;
       judges = refl;
       keeps = g.met.C.Court.keeps_none c.args.court.now;
+      few = rw all (le_refl _);
       lawful = rw all c.requires;
       counted = omega (arith, ap length all);
       puts = λ t. rw all (begun _ (g.K.Sink.state c.args.out.now).written);
@@ -36,6 +39,7 @@ loop-log-preserved g c =
       tells = λ t. c.judge_frame.ensures.tells (old.tells t);
       judges = c.judge_frame.ensures.judges ∙ old.judges;
       keeps = g.met.C.Court.keeps_both c.args.court.now c.loop-log.court c.judge_frame.new.court old.keeps c.judge_frame.ensures.keeps;
+      few = omega (arith, rw (step, sum_by-cons g.C.Court.most_reads c.in-Some.log c.next.new.self.rest.items) at old.few, c.judge_frame.ensures.few);
       lawful = (let all = rw step at old.lawful in λ k d low. all (suc k) d (omega arith));
       counted = omega (arith, old.counted, ap length step);
       puts = λ t. frame_put g.C.Court.words c.args.report first now c.loop-log.frame c.in-Some.log c.next.new.self.rest.items _ _ _ _ old.judges (rw step at old.puts t) (c.in_ok-is_sound.ensures.puts (old.tells t));

@@ -1,5 +1,5 @@
 use Rattle.std.proofs.Common.{◌≡◌, ◌+◌, ◌≤◌, ◌&&◌, length}
-use Rattle.std.specs.Prelude.{All}
+use Rattle.std.specs.Prelude.{All, sum_by}
 use Rattle.file_jobs.specs.Logs.Sayings.{frame_texts, are_sound}
 use Rattle.file_jobs.proofs.logs.Puts.{HasPut}
 use Rattle.file_jobs.proofs.logs.judging.judge_frames.Given as goal
@@ -10,6 +10,8 @@ invariant-loop-log g l = record {
   tells : g.C.Court.tells l.fn.court → g.C.Court.tells l.court;
   judges : g.C.Court.judges l.court ≡ g.C.Court.judges l.fn.court;
   keeps : g.C.Court.keeps l.fn.court l.court;
+  few : g.C.Court.read_count l.court + sum_by g.C.Court.most_reads l.log-iterator.rest.items
+      ≤ g.C.Court.read_count l.fn.court + sum_by g.C.Court.most_reads l.fn.logs.items;
   lawful : All g.C.Court.is_lawful l.log-iterator.rest.items;
   counted : l.frame + length l.log-iterator.rest.items ≡ length l.fn.logs.items;
   puts : g.C.Court.tells l.fn.court → HasPut
