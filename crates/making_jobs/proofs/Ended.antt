@@ -85,17 +85,17 @@ module _ (head : Head) (points : List (List ℕ)) (tags : List ℕ) (d0 : DiskSt
     not_empty = λ is. (codes "notempty", line, λ tells. (refl, cause.0 tells, cause.1));
     memory = λ is. absurd (omega (arith, six, is));
     damaged = λ is. absurd (omega (arith, six, is));
-    left = λ tells other. inl cause.1;
+    left = λ tells. inl cause.1;
   }
 
   -- the disk failed while the index was made
-  pub unmade : (d1 : DiskState) → Rose d0.faults d1.faults → status ≡ 5 → Tells out0 out1 (codes "fault disk\n") → IsUnfilled head points tags d0 d1 out0 out1 status
-  unmade d1 cause five line = record {
+  pub unmade : (d1 : DiskState) → Rose d0.faults d1.faults → d1.reads ≡ d0.reads → status ≡ 5 → Tells out0 out1 (codes "fault disk\n") → IsUnfilled head points tags d0 d1 out0 out1 status
+  unmade d1 cause reads five line = record {
     disk = λ is. (cause, line);
     not_empty = λ is. absurd (omega (arith, five, is));
     memory = λ is. absurd (omega (arith, five, is));
     damaged = λ is. absurd (omega (arith, five, is));
-    left = λ tells other. absurd (other five);
+    left = λ tells. inr (inr (five, reads));
   }
 
   -- it was made, but not filled
@@ -106,5 +106,5 @@ module _ (head : Head) (points : List (List ℕ)) (tags : List ℕ) (d0 : DiskSt
     not_empty = λ is. let e = ends.other is in (e.1.0, e.1.1, λ tells. absurd (never_other d1 d2 fault e.0 cause (rw told tells)));
     memory = λ is. ends.memory is;
     damaged = λ is. let e = ends.damaged is in ((λ tells. (let c : HasFillCause d1 d2 (fill.Damaged e.0) = subst (HasFillCause d1 d2) e.1 cause in c.1 (rw told tells))), e.0, e.2);
-    left = λ tells other. inr (filled_since head points tags d0 d1 d2 told run tells);
+    left = λ tells. inr (inl (filled_since head points tags d0 d1 d2 told run tells));
   }

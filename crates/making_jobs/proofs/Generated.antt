@@ -55,7 +55,7 @@ module _ (head : Head) (points : List (List ℕ)) (tags : List ℕ) (IsText : Li
       not_empty = λ is. absurd (omega (arith, is, eight));
       memory = λ is. line;
       damaged = λ is. absurd (omega (arith, is, eight));
-      left = λ tells other. inl (unchanged d0);
+      left = λ tells. inl (unchanged d0);
     };
   }
 
@@ -95,7 +95,7 @@ module _ (head : Head) (points : List (List ℕ)) (tags : List ℕ) (IsText : Li
       not_empty = λ is. absurd (elim statuses [ inl e ↦ omega (arith, e, is) | inr (inl e) ↦ omega (arith, e, is) | inr (inr e) ↦ omega (arith, e, is) ]);
       memory = eight;
       damaged = λ is. ((λ tells. never fault (nine is).0 cause (sound tells)), fault, (nine is).1);
-      left = λ tells other. inr (still_since tells);
+      left = λ tells. inr (inl (still_since tells));
     }) (elim statuses [ inl e ↦ inl e | inr (inl e) ↦ inr (inr (inl e)) | inr (inr e) ↦ inr (inr (inr e)) ])
       where
         never : (f : PageFault) → (IsPassing f → ⊥) → HasAskCause Sound d1 d2 f → Sound → ⊥
@@ -118,7 +118,7 @@ module _ (head : Head) (points : List (List ℕ)) (tags : List ℕ) (IsText : Li
         not_empty = λ six. absurd (elim statuses [ inl e ↦ omega (arith, e, six) | inr e ↦ omega (arith, e, six) ]);
         memory = λ eight. absurd (elim statuses [ inl e ↦ omega (arith, e, eight) | inr e ↦ omega (arith, e, eight) ]);
         damaged = λ nine. absurd (elim statuses [ inl e ↦ omega (arith, e, nine) | inr e ↦ omega (arith, e, nine) ]);
-        left = λ tells other. inr (still_since tells);
+        left = λ tells. inr (inl (still_since tells));
       };
     }
 

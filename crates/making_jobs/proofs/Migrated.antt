@@ -57,9 +57,9 @@ migrates_no_memory new old out0 out1 status eight line = record {
 
 -- ---- an index that was only looked at before it is filled
 
-pub fills_before : (head : Head) (points : List (List ℕ)) (tags : List ℕ) (IsText : List ℕ → List ℕ → Type 0) (d0 d1 d2 : DiskState) (out0 out1 : SinkState) (status : ℕ) → IsUnchanged d0 d1 → d0.faults ≤ d1.faults →
+pub fills_before : (head : Head) (points : List (List ℕ)) (tags : List ℕ) (IsText : List ℕ → List ℕ → Type 0) (d0 d1 d2 : DiskState) (out0 out1 : SinkState) (status : ℕ) → IsUnchanged d0 d1 → d0.faults ≤ d1.faults → d1.reads ≡ d0.reads →
     Fills head points tags IsText d1 d2 out0 out1 status → Fills head points tags IsText d0 d2 out0 out1 status
-fills_before head points tags IsText d0 d1 d2 out0 out1 status same later fills = record {
+fills_before head points tags IsText d0 d1 d2 out0 out1 status same later reads fills = record {
   filled = λ tells is. let f = fills.filled (told tells) is in (sym (ap length same.same_bytes) ∙ f.0, f.1, f.2);
   done = λ tells is. fills.done (told tells) is;
   part = λ tells is. fills.part (told tells) is;
@@ -70,7 +70,11 @@ fills_before head points tags IsText d0 d1 d2 out0 out1 status same later fills 
         (n.0, n.1, λ tells. (let m = n.2 (told tells) in (m.0, subst (λ (b : List ℕ). 0 < length b) same.same_bytes m.1, then_unchanged d0 d1 d2 same m.2)));
     memory = fills.unfilled.memory;
     damaged = λ is. let d = fills.unfilled.damaged is in ((λ tells. d.0 (told tells)), d.1, d.2);
-    left = λ tells other. ⊎_elim (λ u. inl (then_unchanged d0 d1 d2 same u)) (λ s. inr s) (fills.unfilled.left (told tells) other);
+    left = λ tells. elim (fills.unfilled.left (told tells)) [
+      | inl u ↦ inl (then_unchanged d0 d1 d2 same u)
+      | inr (inl s) ↦ inr (inl s)
+      | inr (inr u) ↦ inr (inr (u.0, u.1 ∙ reads))
+    ];
   };
 }
   where
@@ -87,9 +91,9 @@ module _ (new0 new1 old0 old1 : DiskState) (out0 out1 : SinkState) (status : ℕ
     pub refused : IsUnchanged new0 new1 → RefusesOld old0 old1 out0 out1 status → Migrates new0 new1 old0 old1 out0 out1 status
     refused unchanged refuses = record { old_same = same; ends = inr (empty, inl (unchanged, refuses)) }
 
-    pub moved : (between : DiskState) (head : Head) (points : List (List ℕ)) (tags : List ℕ) → (IsTrue old0.tells → IsOldFile head points tags old0.bytes) → IsUnchanged new0 between → new0.faults ≤ between.faults →
+    pub moved : (between : DiskState) (head : Head) (points : List (List ℕ)) (tags : List ℕ) → (IsTrue old0.tells → IsOldFile head points tags old0.bytes) → IsUnchanged new0 between → new0.faults ≤ between.faults → between.reads ≡ new0.reads →
         Fills (renewed head) points tags (λ file text. text ≡ migrated_text (length points)) between new1 out0 out1 status → IsFillStatus status → Migrates new0 new1 old0 old1 out0 out1 status
-    moved between head points tags old_is looked later fills statuses = record {
+    moved between head points tags old_is looked later reads fills statuses = record {
       old_same = same;
       ends = inr (
         empty,
@@ -98,7 +102,7 @@ module _ (new0 new1 old0 old1 : DiskState) (out0 out1 : SinkState) (status : ℕ
           points = points;
           tags = tags;
           old_is = old_is;
-          fills = fills_before (renewed head) points tags (λ file text. text ≡ migrated_text (length points)) new0 between new1 out0 out1 status looked later fills;
+          fills = fills_before (renewed head) points tags (λ file text. text ≡ migrated_text (length points)) new0 between new1 out0 out1 status looked later reads fills;
           statuses = statuses;
         }),
       );
@@ -117,7 +121,7 @@ module _ (h : Head) (points : List (List ℕ)) (tags : List ℕ) (d0 d1 : DiskSt
       not_empty = λ is. absurd (omega (arith, is, eight));
       memory = λ is. line;
       damaged = λ is. absurd (omega (arith, is, eight));
-      left = λ tells other. inr (since tells);
+      left = λ tells. inr (inl (since tells));
     };
   }
 

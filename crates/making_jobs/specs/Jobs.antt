@@ -1,5 +1,5 @@
 -- What the jobs that fill a new index do and write, by the status with which they end.
-use Rattle.std.specs.Prelude.{◌≡◌, ◌≢◌, ◌⊎◌, ℕ, ◌≤◌, ◌<◌, List, ◌++◌, length, codes, IsTrue}
+use Rattle.std.specs.Prelude.{◌≡◌, ◌⊎◌, ℕ, ◌≤◌, ◌<◌, List, ◌++◌, length, codes, IsTrue}
 use Rattle.std.specs.List.{range_with_len}
 use Rattle.std.specs.Io.KnownBytes.{Appends}
 use Rattle.outside_io.specs.Bytes.{AppendsPrefix}
@@ -37,6 +37,10 @@ pub record IsFilledSince (head : Head) (points : List (List ℕ)) (tags : List �
   pub within : from ≤ disk.clock
   pub after : (moment : ℕ) (image : List ℕ) → from ≤ moment → moment ≤ disk.clock → disk.images moment image → HoldsNoneOrAll head points tags image
 
+-- The disk failed while the index was made: nothing was read yet. Then nothing is said of the file.
+abbrev pub IsUnmade : DiskState → DiskState → ℕ → Type 0
+IsUnmade disk0 disk1 status = (status ≡ 5) × (disk1.reads ≡ disk0.reads)
+
 -- Why no new index was filled. Status 5: the disk failed; 6: the file held something, and holds it still; 8: memory ran out; 9: a page is
 -- damaged, which comes only on a disk that does not tell its bytes.
 pub record IsUnfilled (head : Head) (points : List (List ℕ)) (tags : List ℕ) (disk0 disk1 : DiskState) (out0 out1 : SinkState) (status : ℕ) : Type 0 where
@@ -45,8 +49,8 @@ pub record IsUnfilled (head : Head) (points : List (List ℕ)) (tags : List ℕ)
       × (IsTrue disk0.tells → (name ≡ codes "notempty") × (0 < length disk0.bytes) × IsUnchanged disk0 disk1)
   pub memory : status ≡ 8 → Tells out0 out1 (codes "fault memory\n")
   pub damaged : status ≡ 9 → (IsTrue disk0.tells → ⊥) × (fault : PageFault) × Tells out0 out1 (damaged_text fault)
-  -- what a crash leaves; where the disk failed it may have been while the index was made
-  pub left : IsTrue disk0.tells → status ≢ 5 → IsUnchanged disk0 disk1 ⊎ IsFilledSince head points tags disk1
+  -- what a crash leaves: what it left before; or the index, with no object or with all; or else the index was not made
+  pub left : IsTrue disk0.tells → IsUnchanged disk0 disk1 ⊎ (IsFilledSince head points tags disk1 ⊎ IsUnmade disk0 disk1 status)
 
 -- What a job does that makes an index of this head in an empty file, fills it with these objects, and then writes a text of the file.
 pub record Fills (head : Head) (points : List (List ℕ)) (tags : List ℕ) (IsText : List ℕ → List ℕ →

@@ -39,6 +39,7 @@ use tree_shape::Live;
 // Wants an empty file.
 fn want_empty<D: Disk, K: Sink>(disk: &mut D, out: &mut K) -> Result<(), Status>
     ensures same { IsUnchanged (D.state disk.old) (D.state disk.new) }
+    ensures reads { (D.state disk.new).reads ≡ (D.state disk.old).reads }
     ensures empty { OnOk result (IsTrue (D.state disk.old).tells → length (D.state disk.old).bytes ≡ 0) }
     ensures silent { OnOk result (out.new ≡ out.old) }
     ensures refuses { IfErr result (λ status. RefusesNew (D.state disk.old) (D.state disk.new) (K.state out.old) (K.state out.new) status.0) }

@@ -12,7 +12,7 @@ returns-in-Err-NotEmpty-clause-unfilled g c =
 pub returns-in-Err-Disk-clause-unfilled : goal.returns-in-Err-Disk-clause-unfilled
 returns-in-Err-Disk-clause-unfilled g c =
     unmade c.args.head.now c.args.objects.now.rows.points c.args.objects.now.tags.items (g.D.Disk.state c.args.disk.now) (g.K.Sink.state c.args.out.now) (g.K.Sink.state c.end_with-in-Err-Disk.new.out)
-    c.end_with-in-Err-Disk.result.0 (g.D.Disk.state c.create.new.disk) (subst (HasCreateCause (g.D.Disk.state c.args.disk.now) (g.D.Disk.state c.create.new.disk)) c.in-Err-Disk.field-0-is c.in-Err-Disk.ensures.fault) c.end_with-in-Err-Disk.ensures.status c.end_with-in-Err-Disk.ensures.line
+    c.end_with-in-Err-Disk.result.0 (g.D.Disk.state c.create.new.disk) (subst (HasCreateCause (g.D.Disk.state c.args.disk.now) (g.D.Disk.state c.create.new.disk)) c.in-Err-Disk.field-0-is c.in-Err-Disk.ensures.fault) c.create.ensures.reads c.end_with-in-Err-Disk.ensures.status c.end_with-in-Err-Disk.ensures.line
 
 pub fill-requires-clause-made : goal.fill-requires-clause-made
 fill-requires-clause-made g c = λ _ _ tells. c.in-Ok.ensures.made (subst IsTrue c.create.ensures.tells tells)
