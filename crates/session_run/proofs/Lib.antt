@@ -9,6 +9,7 @@ pub mod Trees
 pub mod Carrying
 pub mod Standing
 pub mod Pins
+pub mod Counts
 pub mod Stepped
 pub mod Turning
 pub mod Runs

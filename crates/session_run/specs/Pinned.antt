@@ -1,18 +1,19 @@
 -- The open cursors of a session: each goes through the tree of its opening, which a pin keeps.
-use Rattle.std.specs.Prelude.{◌≡◌, ℕ, ◌+◌, ◌^◌, ◌≤◌, IsTrue, IsSome, List, [], ◌∷◌}
-use Rattle.std.specs.List.{AllByRecursion, AllZip}
+use Rattle.std.specs.Prelude.{◌≡◌, ℕ, ◌+◌, ◌^◌, ◌≤◌, ◌==◌, Bool, Option, None, Some, IsTrue, IsSome, List, [], ◌∷◌, if◌then◌else◌}
+use Rattle.std.specs.List.{AllByRecursion, AllZip, list_any}
 use Rattle.metric_laws.specs.Lists.{IsIn}
 use Rattle.metric_laws.specs.Space.{Space}
 use Rattle.disk_model.specs.Disk.{DiskState}
 use Rattle.node_page.specs.Opening.{page_of}
 use Rattle.tree_shape.specs.declared.live.Live.{Live}
-use Rattle.tree_shape.specs.Tree.{Nodes, IsSoundTree}
+use Rattle.tree_shape.specs.Tree.{Nodes, IsSoundTree, times}
 use Rattle.page_store.specs.Placing.{live_pages}
 use Rattle.page_store.specs.Reached.{StandsOnPages}
 use Rattle.page_store.specs.Reading.{nodes_of, reading}
 use Rattle.rows_text.specs.Meaning.{Cursor}
 use Rattle.plain_scan.specs.OpenCursors.{OpenCursors}
 use Rattle.pin_cursor.specs.Cursor.{IsCursorOn, IsWalked, rest_of, tags_of}
+use Rattle.free_pages.specs.Keeping.{FreePages}
 use Rattle.index_core.specs.Answers.{IsSoundOn}
 use Rattle.index_core.specs.Index.{OpenIndex}
 use Rattle.index_core.specs.Pinning.{IsPinned}
@@ -63,6 +64,27 @@ pub record GoesThrough {M : Type 0} (index : OpenIndex M) (bytes : List ℕ) (c 
 -- all cursors do, where the disk tells its bytes
 abbrev pub AllGoThrough : {M : Type 0} → OpenIndex M → DiskState → PinnedCursors → Type 0
 AllGoThrough index disk pinned = IsTrue disk.tells → AllByRecursion (GoesThrough index disk.bytes) pinned.cursors.items
+
+-- ---- pins
+
+-- how often the generation is pinned
+abbrev pub pins_among : ℕ → Option FreePages → ℕ
+pins_among generation None = 0
+pins_among generation (Some f) = times generation f.pins
+
+-- one of these cursors goes through the tree of this generation
+abbrev pub is_walked : ℕ → List PinnedCursor → Bool
+is_walked generation cursors = list_any (λ c. c.cursor.live.generation == generation) cursors
+
+-- how many pins these cursors have of this generation: one for all that go through its tree
+abbrev pub pins_for : ℕ → List PinnedCursor → ℕ
+pins_for generation cursors = if is_walked generation cursors then 1 else 0
+
+-- Pins come and go with the cursors, and in no other way.
+abbrev pub PinsFollow : {M : Type 0} → OpenIndex M → OpenIndex M → List PinnedCursor → List PinnedCursor → Type 0
+PinsFollow old new before after =
+    (generation : ℕ) →
+    pins_among generation new.free + pins_for generation before ≡ pins_among generation old.free + pins_for generation after
 
 -- ---- on a sound file
 

@@ -1,6 +1,6 @@
 // The open cursors of a session.
-ghost use Rattle.std.specs.Prelude.{◌≡◌, ◌≤◌, ◌<◌, ◌+◌, ◌^◌, ◌==◌, ℕ, List, [], true, false, length, not, nat_lt, IsTrue, IfOk, IfErr, OnOk, OnErr};
-ghost use Rattle.std.specs.List.{AllByRecursion, filter, list_any, position};
+ghost use Rattle.std.specs.Prelude.{◌≡◌, ◌≤◌, ◌<◌, ◌+◌, ◌^◌, ◌==◌, ℕ, List, [], true, false, length, not, nat_lt, IsTrue, IfOk, IfErr, OnOk, OnErr, if◌then◌else◌};
+ghost use Rattle.std.specs.List.{AllByRecursion, filter, position};
 ghost use Rattle.disk_model.specs.Disk.{IsUnchanged};
 ghost use Rattle.tree_shape.specs.Tree.{Nodes, IsSoundTree};
 ghost use Rattle.page_store.specs.Reading.{nodes_of, reading};
@@ -18,7 +18,7 @@ ghost use Rattle.index_core.specs.Files.{OnlyReads, nodes_on};
 ghost use Rattle.index_core.specs.Index.{MayGoOn};
 ghost use Rattle.index_core.specs.Pinning.{AreReached, IsPinned, LiesBesideTree};
 ghost use Rattle.index_core.specs.Writing.{GuardsPages};
-ghost use Rattle.session_run.specs.Pinned.{AllGoThrough, AreKeptBy, CanGoOn, GoesThrough, HoldsTree, IsKeptBy, StandFor};
+ghost use Rattle.session_run.specs.Pinned.{AllGoThrough, AreKeptBy, CanGoOn, GoesThrough, HoldsTree, IsKeptBy, PinsFollow, StandFor, is_walked, pins_among, pins_for};
 ghost use Rattle.session_run.specs.Session.{StandsBy};
 ghost use Rattle.session_run.specs.Steps.{HasAdvanced, HasCarriedOut, HasClosed, HasStepCause, stop_of_page};
 
@@ -159,7 +159,7 @@ impl PinnedCursors {
 
     // Whether an open cursor goes through the tree of this generation.
     fn has_tree(&self, generation: u64) -> bool
-        ensures { result ≡ list_any (λ c. c.cursor.live.generation == generation) self.now.cursors.items }
+        ensures { result ≡ is_walked generation self.now.cursors.items }
     {
         self.cursors
             .iter()
@@ -263,6 +263,8 @@ impl PinnedCursors {
         ensures kept { AllByRecursion (IsKeptBy (M.space index.old.file.metric) index.new) self.now.cursors.items }
         ensures guarded { (other : ℕ) (tree : List ℕ) → IsPinned other index.new → GuardsPages other tree index.old → GuardsPages other tree index.new }
         ensures beside { (nodes : Nodes) → LiesBesideTree nodes index.old → LiesBesideTree nodes index.new }
+        ensures pins { (other : ℕ) → pins_among other index.new.free + (if generation == other then 1 else pins_for other self.now.cursors.items) ≡
+            pins_among other index.old.free + pins_for other self.now.cursors.items }
     {
         if self.has_tree(generation) {
             return;
@@ -300,12 +302,13 @@ impl PinnedCursors {
         Reply::Closed(number)
     }
 
-    /// Closes all open cursors: none of their trees is pinned any more.
+    /// Closes all open cursors, and takes back the pin of each of their trees.
     pub fn close_all<M: Metric>(&mut self, index: &mut Index<M>)
         requires kept { AllByRecursion (IsKeptBy (M.space index.old.file.metric) index.old) self.old.cursors.items }
         ensures only { index.new ≡ record index.old { free = index.new.free } }
         ensures beside { (nodes : Nodes) → LiesBesideTree nodes index.old → LiesBesideTree nodes index.new }
         ensures none { self.new.cursors.items ≡ [] }
+        ensures pins { PinsFollow index.old index.new self.old.cursors.items [] }
     {
         while let Some(pinned) = self.cursors.pop() {
             self.release(index, pinned.cursor.live().generation);
