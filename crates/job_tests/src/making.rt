@@ -98,6 +98,21 @@ fn generated_indexes(rt: HostRuntime) -> Result<(), Fail> {
             status: 5,
             text: "fault disk\n",
         },
+        // Each of the eight logs is judged by the file, which takes a read for its one record: the last call is such a read.
+        Case {
+            file: b"",
+            stop: Some(37),
+            fails: None,
+            status: 5,
+            text: "fault disk\n",
+        },
+        Case {
+            file: b"",
+            stop: Some(38),
+            fails: None,
+            status: 0,
+            text: summary,
+        },
     ];
     for case in &cases {
         check(&rt, case)?;
