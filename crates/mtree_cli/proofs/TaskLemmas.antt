@@ -171,6 +171,7 @@ does_at_memory Carries disk other input left v o0 o1 line = record {
   taken = Consumes-nil left;
   few = omega arith;
   too_many = λ many. absurd (omega arith);
+  all = λ a b other. absurd (b refl);
   unchanged = unchanged disk;
   done = λ is. ⊎_elim (λ e. absurd (omega arith)) (λ e. absurd (omega arith)) is;
   halted = λ tells. record {
@@ -179,6 +180,7 @@ does_at_memory Carries disk other input left v o0 o1 line = record {
     memory = λ is. (o0.written, inl (no_output, refl, refl), line);
   };
   input_line = λ is. absurd (omega arith);
+  no_frame = λ refusal. refl;
   not_index = λ is. absurd (omega arith);
   long = λ is. absurd (omega arith);
 }

@@ -201,3 +201,20 @@ pub not_halted : (file bytes : List ℕ) (l0 l1 : Option (List ℕ)) (s0 s1 : Si
 not_halted file bytes l0 l1 s0 s1 status either =
     let no : (n : ℕ) → 2 ≤ n → status ≡ n → ⊥ = λ n high is. ⊎_elim (λ e. (let no : ⊥ = omega (arith, e, is, high) in no)) (λ e. (let no : ⊥ = omega (arith, e, is, high) in no)) either in
     record { output = λ is. absurd (no 4 (omega arith) is); disk = λ is. absurd (no 5 (omega arith) is); memory = λ is. absurd (no 8 (omega arith) is) }
+
+-- ---- statuses that are not
+
+pub done_is_no_refusal : (n : ℕ) → IsDone n → (n ≡ 6) ⊎ (n ≡ 7) → ⊥
+done_is_no_refusal n (inl zero) (inl six) = omega (arith, zero, six)
+done_is_no_refusal n (inl zero) (inr seven) = omega (arith, zero, seven)
+done_is_no_refusal n (inr one) (inl six) = omega (arith, one, six)
+done_is_no_refusal n (inr one) (inr seven) = omega (arith, one, seven)
+
+pub carried_is_read : (n : ℕ) → IsCarryStatus n → n ≡ 3 → ⊥
+carried_is_read n (inl is) three = omega (arith, is, three)
+carried_is_read n (inr (inl is)) three = omega (arith, is, three)
+carried_is_read n (inr (inr (inl is))) three = omega (arith, is, three)
+carried_is_read n (inr (inr (inr (inl is)))) three = omega (arith, is, three)
+carried_is_read n (inr (inr (inr (inr (inl is))))) three = omega (arith, is, three)
+carried_is_read n (inr (inr (inr (inr (inr (inl is)))))) three = omega (arith, is, three)
+carried_is_read n (inr (inr (inr (inr (inr (inr is)))))) three = omega (arith, is, three)

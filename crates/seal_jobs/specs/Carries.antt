@@ -1,7 +1,7 @@
 -- What the job `proof` on an index does and writes.
 use Rattle.std.specs.Prelude.{◌≡◌, ◌≢◌, ◌⊎◌, ℕ, ◌+◌, ◌^◌, ◌<◌, ◌≤◌, Bool, true, false, List, [], ◌∷◌, ◌++◌, length, map, codes, Option, Some, None, Ok, Err, IsTrue, if◌then◌else◌}
 use Rattle.std.specs.List.{flat_map, list_all}
-use Rattle.std.specs.Io.KnownBytes.{Appends, Consumes}
+use Rattle.std.specs.Io.KnownBytes.{Appends, Consumes, IsAtEnd}
 use Rattle.outside_io.specs.Bytes.{AppendsPrefix}
 use Rattle.outside_io.specs.Sinks.{SinkState, Tells}
 use Rattle.disk_model.specs.Disk.{DiskState, IsUnchanged}
@@ -173,6 +173,10 @@ pub record HasHalted (file bytes : List ℕ) (l0 l1 : Option (List ℕ)) (out0 o
 abbrev pub IsDone : ℕ → Type 0
 IsDone status = (status ≡ 0) ⊎ (status ≡ 1)
 
+-- the logs could not be read, or are too many; or the file is no index, or has too many pages
+abbrev pub IsRefusal : ℕ → Type 0
+IsRefusal status = (status ≡ 3) ⊎ ((status ≡ 6) ⊎ (status ≡ 7))
+
 -- what the job does that takes bytes of logs from `left0`
 pub record CarriesLogs (disk0 disk1 : DiskState) (left0 left1 l0 l1 : Option (List ℕ)) (out0 out1 : SinkState) (status : ℕ) : Type 0 where
   pub bytes : List ℕ
@@ -180,10 +184,14 @@ pub record CarriesLogs (disk0 disk1 : DiskState) (left0 left1 l0 l1 : Option (Li
   -- at most 2 ^ 30 and a buffer more were taken, and more than 2 ^ 30 are told
   pub few : length bytes ≤ 2 ^ 30 + 4096
   pub too_many : 2 ^ 30 < length bytes → status ≡ 7
+  -- all that the source has were taken, unless it failed, memory ran out, or there are too many
+  pub all : status ≢ 3 → status ≢ 8 → length bytes ≤ 2 ^ 30 → IsAtEnd left1
   pub unchanged : IsUnchanged disk0 disk1
   pub done : IsDone status → IsTrue disk0.tells → CarriesOn disk0.bytes bytes l0 l1 out0.written out1.written status
   pub halted : IsTrue disk0.tells → HasHalted disk0.bytes bytes l0 l1 out0 out1 status
   pub input_line : status ≡ 3 → Tells out0 out1 (codes "fault input\n")
+  -- no frame was put, nor a front of one
+  pub no_frame : IsRefusal status → l1 ≡ l0
   pub not_index : status ≡ 6 → (name : List ℕ) × Tells out0 out1 (not_index_text name) × (IsTrue disk0.tells → IsNoIndex disk0.bytes name)
   -- there are too many bytes, or the file has too many pages
   pub long : status ≡ 7 → Tells out0 out1 (codes "fault long\n") × ((2 ^ 30 < length bytes) ⊎ (IsTrue disk0.tells → IsLarge disk0.bytes))

@@ -17,7 +17,7 @@ ghost use Rattle.seal_log.specs.Laws.{CarriedLogsAreAccepted};
 ghost use Rattle.file_jobs.specs.Lines.{not_index_text};
 ghost use Rattle.file_jobs.specs.Jobs.{IsNoIndex};
 ghost use Rattle.page_store.specs.Files.{IsLarge};
-ghost use Rattle.seal_jobs.specs.Carries.{CarriesLogs, CarriesOn, EndsCarried, HasCarried, HasHalted, IsCarriedLogsStatus, IsCarryStatus, IsDone, IsKeptOf, PutsLog, Stops, StopsCarrying, StopsLog, TellsLog, carried_end, carried_line, judged};
+ghost use Rattle.seal_jobs.specs.Carries.{CarriesLogs, CarriesOn, EndsCarried, HasCarried, HasHalted, IsCarriedLogsStatus, IsCarryStatus, IsDone, IsKeptOf, IsRefusal, PutsLog, Stops, StopsCarrying, StopsLog, TellsLog, carried_end, carried_line, judged};
 
 use crate::opening::open_small;
 use crate::proof_lines::rejected_text;
@@ -362,6 +362,7 @@ fn carry_index<D: Disk, K: Sink, L: Sink>(
         × (IsTrue (D.state index.old).tells → IsNoIndex (D.state index.old).bytes name) }
     ensures long { result.0 ≡ 7 → Tells (K.state out.old) (K.state out.new) (codes "fault long\n")
         × (IsTrue (D.state index.old).tells → IsLarge (D.state index.old).bytes) }
+    ensures kept { (result.0 ≡ 6) ⊎ (result.0 ≡ 7) → log_out.new ≡ log_out.old }
     ensures statuses { IsCarryStatus result.0 }
     ensures disk { result.0 ≡ 5 → Rose (D.state index.old).faults (D.state index.new).faults }
     ensures output { result.0 ≡ 4 → Rose (K.state out.old).faults (K.state out.new).faults ⊎ Rose (L.state log_out.old).faults (L.state log_out.new).faults }
@@ -383,7 +384,7 @@ fn carry_index<D: Disk, K: Sink, L: Sink>(
 /// to `out`; for another its first fault. The index is sealed once. Wherever it stops, each line on `out` has its whole frame
 /// on `log_out`. Status 1: a log is rejected, or the bytes are no logs; 3: they could not be read; 4: a frame or a line could
 /// not be written; 5: the disk failed; 6: the file is no index of version 2; 7: there are more than 2^30 bytes of logs, or the
-/// index has more than 262144 pages; 8: want of memory. The index is not changed.
+/// index has more than 262144 pages; 8: want of memory. With status 3, 6 and 7 nothing is put to `log_out`. The index is not changed.
 pub fn carry_logs<D: Disk, S: Source, K: Sink, L: Sink>(
     alloc: Global,
     index: &mut D,
@@ -393,6 +394,7 @@ pub fn carry_logs<D: Disk, S: Source, K: Sink, L: Sink>(
 ) -> Status
     ensures carries { CarriesLogs (D.state index.old) (D.state index.new) (S.left log_in.old) (S.left log_in.new)
         (L.state log_out.old).written (L.state log_out.new).written (K.state out.old) (K.state out.new) result.0 }
+    ensures kept { IsRefusal result.0 → log_out.new ≡ log_out.old }
     // A frame that is written for a sound log of a sound file is accepted under the file's root digest.
     ensures accepted { CarriedLogsAreAccepted }
     ensures statuses { IsCarriedLogsStatus result.0 }

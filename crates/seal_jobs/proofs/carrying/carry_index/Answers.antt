@@ -1,8 +1,8 @@
-use Rattle.std.proofs.Common.{List, ℕ, sym, subst, ap}
+use Rattle.std.proofs.Common.{List, ℕ, ⊎_elim, sym, subst, ap}
 use Rattle.std.specs.Prelude.{IsTrue, Err}
 use Rattle.outside_io.proofs.Published.{rose_before}
 use Rattle.seal_jobs.specs.Carries.{Stops}
-use Rattle.seal_jobs.proofs.Telling.{halted, stopped_at, output_later}
+use Rattle.seal_jobs.proofs.Telling.{halted, stopped_at, output_later, done_is_no_refusal}
 use Rattle.seal_jobs.proofs.carrying.carry_index.Goals as goal
 
 pub returns-in-Err-carry_opened-clause-halted : goal.returns-in-Err-carry_opened-clause-halted
@@ -44,3 +44,11 @@ returns-in-Err-carry_opened-clause-output g c = λ is.
     output_later (g.K.Sink.state c.args.out.now).faults (g.K.Sink.state c.carry_opened.new.out).faults (g.K.Sink.state c.end_stopped.new.out).faults
     (g.L.Sink.state c.args.log_out.now).faults (g.L.Sink.state c.carry_opened.new.log_out).faults
     (rw c.in-Ok.ensures.silent at c.in-Err-carry_opened.ensures.output (ap (λ w. Err w) why)) c.end_stopped.ensures.later
+
+pub returns-in-Err-carry_opened-clause-kept : goal.returns-in-Err-carry_opened-clause-kept
+returns-in-Err-carry_opened-clause-kept g c = λ either.
+    let ended = stopped_at c.in-Err-carry_opened.why _ _ c.end_stopped.result.0 c.end_stopped.ensures.ends in
+    absurd (⊎_elim ended.not_six ended.not_seven either)
+
+pub returns-in-Ok-carry_opened-clause-kept : goal.returns-in-Ok-carry_opened-clause-kept
+returns-in-Ok-carry_opened-clause-kept g c = λ either. absurd (done_is_no_refusal c.in-Ok-carry_opened.status.0 c.in-Ok-carry_opened.ensures.statuses either)
