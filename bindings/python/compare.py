@@ -160,6 +160,70 @@ def compare_changes(name):
         same(len(index.range([0], 1 << 40)) in (300, 600), True, "after a session that inserts")
 
 
+def compare_writing():
+    """An index that is made and filled from Python is the file that the program makes of the same rows."""
+    rows = [[(7 * i) % 256, (i * i) % 256, 255 - i % 256] for i in range(300)]
+    tags = [1000 + i for i in range(300)]
+    run("create", "script.mt", "--metric", "l1", "--dim", "3")
+    run("session", "script.mt", given="tload,300\n" + "".join(f"{tag},{','.join(map(str, row))}\n" for tag, row in zip(tags, rows)))
+    run("session", "script.mt", given="".join(f"insert,{i},{i},{i}\n" for i in range(40)))
+    with mtree.Index.from_array("made.mt", rows, metric="l1", tags=tags) as index:
+        same((index.metric, index.dim, index.max_objects, len(index)), ("l1", 3, 16777216, 300), "what an index tells of itself")
+        same(index.insert([[i, i, i] for i in range(40)]), list(range(300, 340)), "ids of inserts")
+        same(open("made.mt", "rb").read(), open("script.mt", "rb").read(), "a file that was made from Python")
+        same(index.nearest([7, 1, 254], 1), [mtree.Hit(1, 0, 1001)], "a row with its tag")
+        raises(mtree.NoQuery, lambda: index.insert([[1, 2, 0.5]]), "an insert of a fraction", "0.5")
+        raises(ValueError, lambda: index.insert([[1, 2, 3]], tags=[1, 2]), "two tags for one row", "2 tags for 1 rows")
+        try:
+            same(index.insert([[1, 1, 1], [1, 1], [2, 2, 2]]), "no answer", "a row of another dimension")
+        except mtree.Refused as refused:
+            same((refused.row, refused.ids), (1, [340]), "the row that was refused, and those before it")
+        raises(mtree.Refused, lambda: index.load(rows), "a load into an index that holds objects", "notempty")
+        held = open("made.mt", "rb")
+        fcntl.flock(held, fcntl.LOCK_SH)
+        raises(mtree.InUse, lambda: index.insert([[1, 1, 1]]), "an insert beside a reader", "is in use")
+        held.close()
+        same(len(index), 341, "the objects after all this")
+    raises(mtree.NoIndex, lambda: mtree.Index.create("made.mt", metric="l1", dim=3), "a file that holds an index", "notempty")
+    raises(ValueError, lambda: mtree.Index.create("other.mt", metric="l2", dim=3), "a metric that there is not", "l2")
+    raises(FileNotFoundError, lambda: mtree.Index("missing.mt"), "a file that there is not")
+    child = subprocess.Popen([PROGRAM, "session", "made.mt"], stdin=subprocess.PIPE, stdout=subprocess.PIPE, stderr=subprocess.DEVNULL)
+    child.stdin.write(b"insert,1,2,3\n" * 2000)
+    child.stdin.close()
+    acknowledged = [child.stdout.readline() for _ in range(30)]
+    child.kill()
+    acknowledged += child.stdout.readlines()
+    child.wait()
+    whole = sum(line.startswith(b"id ") and line.endswith(b"\n") for line in acknowledged)
+    with mtree.Index("made.mt") as index:
+        same(index.audit().accepted and whole <= len(index) - 341 <= whole + 1, True, f"{whole} acknowledged inserts of a process that was killed")
+
+
+def compare_arrays(name, dim):
+    """Answers as arrays, where numpy is there: each integer type and order, and what has no answer."""
+    try:
+        import numpy
+    except ImportError:
+        print("bindings: there is no numpy here, so arrays of it are not tried")
+        return
+    points = [[(i * (j + 3) * 7919) % 4 for j in range(dim)] for i in range(20)]
+    with mtree.Index(name) as index:
+        wanted = [index.nearest(point, 4) for point in points]
+        for kind in (numpy.uint8, numpy.int16, numpy.int32, numpy.uint32, numpy.int64, numpy.uint64, numpy.float64):
+            for order in ("C", "F"):
+                array = numpy.array(points, kind, order=order)
+                distances, ids, tags = index.kneighbors(array, 4, return_tags=True, n_jobs=2)
+                same(([[hit[1] for hit in hits] for hits in wanted], [[hit[0] for hit in hits] for hits in wanted]),
+                     (distances.tolist(), ids.tolist()), f"kneighbors of {kind.__name__} in order {order}")
+                same((distances.dtype, ids.dtype, tags.tolist()), (numpy.int64, numpy.int64, [[hit[2] for hit in hits] for hits in wanted]), "types")
+        distances, ids = index.radius_neighbors(numpy.array(points), 5)
+        same([list(zip(i.tolist(), d.tolist())) for i, d in zip(ids, distances)], [[hit[:2] for hit in index.range(point, 5)] for point in points], "radius_neighbors")
+        same(index.kneighbors(numpy.array(points), 4, return_distance=False).shape, (20, 4), "ids alone")
+        same(index.kneighbors(numpy.empty((0, dim), int), 4)[0].shape, (0, 4), "no points")
+        raises(ValueError, lambda: index.kneighbors(points, 1000000), "more neighbours than objects", "1000000")
+        raises(mtree.NoQuery, lambda: index.nearest(numpy.array(points), 4), "an array of two dimensions as one point", "2")
+
+
 def compare_scan(name, dim, count):
     """A thousand queries beside a plain scan of the generated rows, under L1."""
     rows = [[((i + 1) * (2 * j + 3) * 40503) % 65536 for j in range(dim)] for i in range(count)]
@@ -238,6 +302,8 @@ def main():
     compare_rooms("wide.mt", 5)
     compare_arguments("wide.mt", 5)
     compare_changes("changing.mt")
+    compare_arrays("words.mt", 8)
+    compare_writing()
     compare_damage("tags.mt", 2)
     print(f"bindings: {compared} comparisons, {failed} failed")
     return 1 if failed else 0

@@ -7,6 +7,9 @@ objects. Every method may be called from several threads at once, and a call hol
         for hit in index.nearest([252, 9, 6], 2):
             print(hit.id, hit.distance)
 
+An index is made and filled by `Index.from_array(path, rows, metric="l1")`, `Index.create`, `load` and `insert`, which call the program
+`mtree` as a child process.
+
 A point is an iterable of whole numbers below 2^32, or an array of numpy of any integer type. An array of uint32 that is contiguous is
 taken without a copy. The library is `libmtree.so` beside this file, or the file that the variable MTREE_LIBRARY names.
 
@@ -26,7 +29,10 @@ import os
 import threading
 from typing import Any, Callable, Iterable, Iterator, List, NamedTuple, Optional, Tuple
 
-__all__ = ["Index", "prove", "Hit", "Report", "Error", "InUse", "NoIndex", "NoQuery", "Damaged", "TooLong"]
+from . import _program
+
+__all__ = ["Index", "prove", "Hit", "Report", "Error", "InUse", "NoIndex", "NoQuery", "Damaged", "TooLong", "Refused"]
+__version__ = "0.2.0"
 
 
 class Hit(NamedTuple):
@@ -71,6 +77,15 @@ class Damaged(Error):
 
 class TooLong(Error):
     """There are more than 2^30 bytes of logs."""
+
+
+class Refused(Error, ValueError):
+    """A row was refused. `row` is its number in what was handed in, and `ids` are those of the rows before it that were accepted."""
+
+    def __init__(self, words: str, row: int, ids: "List[int]") -> None:
+        super().__init__(words)
+        self.row = row
+        self.ids = ids
 
 
 class _Hit(ctypes.Structure):
@@ -170,6 +185,115 @@ class Index:
 
     def __exit__(self, *_: Any) -> None:
         self.close()
+
+    @classmethod
+    def create(cls, path: "os.PathLike[str] | str", *, metric: str, dim: int, max_objects: Optional[int] = None, promote: Optional[str] = None,
+               split: Optional[str] = None) -> "Index":
+        """Makes an empty index in a file that is not there or is empty. `promote` is "mrad" or "mmrad", `split` "hyperplane" or "balanced"."""
+        given = {"metric": metric, "dim": dim, "max": max_objects, "promote": promote, "split": split}
+        words = [word for name, value in given.items() if value is not None for word in (f"--{name}", str(value))]
+        _said(_program.run(["create", os.fspath(path), *words]))
+        return cls(path)
+
+    @classmethod
+    def from_array(cls, path: "os.PathLike[str] | str", rows: Any, *, metric: str, tags: Any = None, workers: int = 1) -> "Index":
+        """Makes an index of all rows at once: an array of two dimensions, or a list of points. Row i gets the id i."""
+        lines = _rows(rows)
+        if not lines:
+            raise ValueError("an index of no rows has no dimension: use create")
+        index = cls.create(path, metric=metric, dim=lines[0].count(",") + 1)
+        index._load(lines, tags, workers)
+        return index
+
+    def load(self, rows: Any, tags: Any = None, *, workers: int = 1) -> int:
+        """Fills an index that holds nothing, and answers how many rows it got. It takes all rows or none."""
+        return self._load(_rows(rows), tags, workers)
+
+    def insert(self, rows: Any, tags: Any = None) -> List[int]:
+        """Adds rows one after the other, and answers their ids. Each is durable. `Refused` says which row was refused; rows behind it were
+        not tried."""
+        lines = _rows(rows)
+        labels = None if tags is None else _tags(tags, len(lines))
+        ids: List[int] = []
+        for script in _program.insert_scripts(lines, labels):
+            status, text, told = _program.run(["session", self._path], script)
+            for line in text.splitlines():
+                if line.startswith("id "):
+                    ids.append(int(line[3:]))
+                elif line.startswith("refused "):
+                    raise Refused(f"row {len(ids)} is {line}", len(ids), ids)
+            if status != 0:
+                _said((status, text, told))
+        return ids
+
+    def _load(self, lines: List[str], tags: Any, workers: int) -> int:
+        labels = None if tags is None else _tags(tags, len(lines))
+        text = _said(_program.run(["session", self._path, "--workers", str(workers)], _program.load_script(lines, labels)))
+        if not text.startswith("loaded "):
+            words = text.strip()
+            row = int(words.rsplit(" ", 1)[1]) if words.startswith("refused row ") else 0
+            raise Refused(f"the load is {words}", row, [])
+        return int(text.split()[1])
+
+    def kneighbors(self, points: Any, n_neighbors: int = 5, return_distance: bool = True, return_tags: bool = False, n_jobs: int = 1) -> Any:
+        """The `n_neighbors` nearest objects of each point, as scikit-learn orders them: arrays `(distances, ids)` of one row a point, of
+        int64, or the ids alone; with `return_tags` the tags besides. Needs numpy. Raises ValueError where the index has fewer objects."""
+        answers = self.nearest_of_each(points, n_neighbors, n_jobs)
+        if any(len(hits) < n_neighbors for hits in answers):
+            raise ValueError(f"{n_neighbors} neighbours are asked for, and the index has {len(answers[0])} objects")
+        columns = [[[hit[i] for hit in hits] for hits in answers] for i in (1, 0, 2)]
+        import numpy
+
+        shape = (len(answers), n_neighbors)
+        arrays = [numpy.array(columns[0], numpy.int64).reshape(shape), numpy.array(columns[1], numpy.int64).reshape(shape),
+                  numpy.array(columns[2], numpy.uint64).reshape(shape)]
+        return _chosen(arrays, return_distance, return_tags)
+
+    def radius_neighbors(self, points: Any, radius: float, return_distance: bool = True, return_tags: bool = False, n_jobs: int = 1) -> Any:
+        """All objects within `radius` of each point, by distance, then by id: for each point one array of distances and one of ids, as
+        scikit-learn hands them over, or the ids alone; with `return_tags` the tags besides. Needs numpy."""
+        answers = self.range_of_each(points, radius, n_jobs)
+        import numpy
+
+        arrays = []
+        for i, kind in ((1, numpy.int64), (0, numpy.int64), (2, numpy.uint64)):
+            held = numpy.empty(len(answers), object)
+            for number, hits in enumerate(answers):
+                held[number] = numpy.array([hit[i] for hit in hits], kind)
+            arrays.append(held)
+        return _chosen(arrays, return_distance, return_tags)
+
+    @property
+    def path(self) -> str:
+        """The file's path."""
+        return self._path
+
+    @property
+    def metric(self) -> str:
+        """The metric's name."""
+        return _METRICS[self._head()[10] - 1]
+
+    @property
+    def dim(self) -> int:
+        """How many numbers a point has."""
+        return self._head()[_DIMENSION_AT]
+
+    @property
+    def max_objects(self) -> int:
+        """How many objects the index may hold."""
+        return int.from_bytes(self._head()[16:20], "big")
+
+    def __len__(self) -> int:
+        """How many objects the index holds."""
+        status, text, told = _program.run(["batch", self._path], b"count\n")
+        return int(_said((status, text, told)).split()[1])
+
+    def _head(self) -> bytes:
+        with self._reading() as (file, size):
+            head = ctypes.string_at(file, 20) if size >= 20 else b""
+        if head[:10] != b"MTREEIDX\0\2":
+            raise NoIndex(f"{self._path} is no index of version 2")
+        return head
 
     def close(self) -> None:
         """Lets go of the file. No call may be running. A call that follows raises ValueError."""
@@ -297,8 +421,46 @@ class Index:
             return _report(call, file, size, *(part for log in parts for part in (log, len(log))))
 
 
-# Where the head of a file of version 2 holds its dimension.
+# Where the head of a file of version 2 holds its dimension, and the names of its kinds from 1 on.
 _DIMENSION_AT = 11
+_METRICS = ("hamming", "l1", "max", "kendall", "hausdorff", "mixsum", "mixmax", "l1cap")
+
+
+def _chosen(arrays: List[Any], with_distance: bool, with_tags: bool) -> Any:
+    """Of distances, ids and tags those that are wanted."""
+    wanted = [array for array, is_wanted in zip(arrays, (with_distance, True, with_tags)) if is_wanted]
+    return wanted[0] if len(wanted) == 1 else tuple(wanted)
+
+
+def _rows(rows: Any) -> List[str]:
+    """Rows as lines of a script. Each coordinate is judged."""
+    rows = rows.tolist() if hasattr(rows, "tolist") else rows
+    return [",".join(str(_coordinate(c)) for c in row) for row in rows]
+
+
+def _tags(tags: Any, count: int) -> List[str]:
+    """Tags as words of a script, one for each row."""
+    given = [operator.index(tag) for tag in (tags.tolist() if hasattr(tags, "tolist") else tags)]
+    if len(given) != count:
+        raise ValueError(f"there are {len(given)} tags for {count} rows")
+    if any(not 0 <= tag < 1 << 64 for tag in given):
+        raise ValueError("a tag is a whole number below 2^64")
+    return [str(tag) for tag in given]
+
+
+def _said(ran: Tuple[int, str, str]) -> str:
+    """What the program wrote, where its status is 0. Else the exception that the status stands for."""
+    status, text, told = ran
+    if status == 0:
+        return text
+    words = told.replace("mtree: ", "") or text.strip()
+    if status == 10 and "is in use" in words:
+        raise InUse(words)
+    if status == 10 and "No such file" in words:
+        raise FileNotFoundError(words)
+    if status == 8:
+        raise MemoryError(words)
+    raise {2: ValueError, 5: OSError, 6: NoIndex, 7: TooLong, 9: Damaged, 10: OSError}.get(status, Error)(words)
 
 
 def _no_query(coordinates: int, dimension: int) -> str:
