@@ -152,13 +152,15 @@ proof_text root logs left text l0 l1 o0 o1 status had has empty holds none never
   long = λ is.
       let b = proves.before in (
         omega (arith, proves.long.0 is, taken_front l0 l1 logs left proves.bytes had has proves.taken),
-        b.shown,
-        b.rest ++ left,
-        taken_then l0 l1 logs left proves.bytes had has proves.taken ∙ ap (λ (x : List ℕ). x ++ left) b.framed
-            ∙ append_assoc (flat_map (λ (f : Shown). frame_bytes f.body) b.shown) b.rest left,
-        b.told,
-        appended_twice o0.written proves.middle o1.written text (flat_map (λ (f : Shown). f.text) b.shown) (codes "fault long\n") empty holds b.written
-            (whole_line o0 o1 proves.middle (codes "fault long\n") none never (proves.long_line is).1),
+        (
+          b.shown,
+          b.rest ++ left,
+          taken_then l0 l1 logs left proves.bytes had has proves.taken ∙ ap (λ (x : List ℕ). x ++ left) b.framed
+              ∙ append_assoc (flat_map (λ (f : Shown). frame_bytes f.body) b.shown) b.rest left,
+          b.told,
+          appended_twice o0.written proves.middle o1.written text (flat_map (λ (f : Shown). f.text) b.shown) (codes "fault long\n") empty holds b.written
+              (whole_line o0 o1 proves.middle (codes "fault long\n") none never (proves.long_line is).1),
+        ),
       );
   statuses = ends statuses;
 }

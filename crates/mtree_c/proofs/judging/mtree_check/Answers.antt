@@ -20,4 +20,4 @@ returns-clause-text c =
     Answers (Some c.new-source.result.left.now) (Some job.new.log_in.left.now) c.args.logs.now job.new.log_in.left.now (ap (λ (x : List ℕ). Some x) c.new-source.ensures) refl job.result.0 job.ensures.judges
     (λ e. unmoved (job.ensures.input e)) not_short
     (λ e. unwritten before.bytes.now after.bytes.now before.faults after.faults before.reads after.reads c.new-disk.ensures.faults job.ensures.judges.unchanged
-        ((job.ensures.judges.judges (λ s. omega (arith, e, s)) (λ s. omega (arith, e, s))).disk e).0) not_memory job.ensures.statuses)
+    ((job.ensures.judges.judges (λ s. omega (arith, e, s)) (λ s. omega (arith, e, s))).disk e).0) not_memory job.ensures.statuses)
