@@ -80,7 +80,7 @@ class TooLong(Error):
 
 
 class Refused(Error, ValueError):
-    """A row was refused. `row` is its number in what was handed in, and `ids` are those of the rows before it that were accepted."""
+    """A row was refused. `row` is its number in what was handed in, and `ids` are those of the rows that were added."""
 
     def __init__(self, words: str, row: int, ids: "List[int]") -> None:
         super().__init__(words)
@@ -210,20 +210,24 @@ class Index:
         return self._load(_rows(rows), tags, workers)
 
     def insert(self, rows: Any, tags: Any = None) -> List[int]:
-        """Adds rows one after the other, and answers their ids. Each is durable. `Refused` says which row was refused; rows behind it were
-        not tried."""
+        """Adds rows one after the other, and answers their ids. Each is durable once it is answered. Where rows are refused, the others are
+        added all the same, and `Refused` names the first refused row and holds the ids of the added ones."""
         lines = _rows(rows)
         labels = None if tags is None else _tags(tags, len(lines))
         ids: List[int] = []
+        refused: List[Tuple[int, str]] = []
         for script in _program.insert_scripts(lines, labels):
             status, text, told = _program.run(["session", self._path], script)
             for line in text.splitlines():
                 if line.startswith("id "):
                     ids.append(int(line[3:]))
                 elif line.startswith("refused "):
-                    raise Refused(f"row {len(ids)} is {line}", len(ids), ids)
+                    refused.append((len(ids) + len(refused), line))
             if status != 0:
                 _said((status, text, told))
+        if refused:
+            row, line = refused[0]
+            raise Refused(f"row {row} is {line}; {len(ids)} of {len(lines)} rows were added", row, ids)
         return ids
 
     def _load(self, lines: List[str], tags: Any, workers: int) -> int:
