@@ -169,11 +169,11 @@ function queryText([kind, bound, ...point]) {
     return kind === "range" ? `all within ${grouped(BigInt(bound))} of ${pointText(point)}` : `the ${grouped(BigInt(bound))} nearest to ${pointText(point)}`;
 }
 
-// A table of answers: rows of texts below their headings, as many of them as may be shown.
+// A table: rows of texts below their headings, the first ones where there are many.
 function tableOf(caption, headings, count, row) {
     const body = make("tbody");
     for (let i = 0; i < Math.min(count, MOST_SHOWN); i++) body.append(make("tr", {}, ...row(i).map((cell) => make("td", {}, String(cell)))));
-    const table = make("table", {}, make("caption", {}, caption), make("thead", {}, make("tr", {}, ...headings.map((it) => make("th", { scope: "col" }, it)))), body);
+    const table = make("table", {}, caption === "" ? null : make("caption", {}, caption), make("thead", {}, make("tr", {}, ...headings.map((it) => make("th", { scope: "col" }, it)))), body);
     return make("div", { className: "table", tabIndex: 0 }, table, count > MOST_SHOWN ? make("p", { className: "faint" }, `The first ${grouped(MOST_SHOWN)} of ${grouped(count)} are shown.`) : null);
 }
 
@@ -181,10 +181,10 @@ function frameItem(frame, lines, isOpen) {
     const count = frame.to - frame.from, isGood = frame.word !== "rejected";
     const about = make("span", {}, frame.query === null ? (isGood ? "" : meaning(frame.why)) : `: ${queryText(frame.query)}, ${counted(count, "answer")}`);
     const line = make("span", { className: `verdict ${isGood ? "good" : "bad"}` }, `${isGood ? "✓" : "✗"} ${frame.line}`);
-    if (frame.query === null) return make("p", {}, line, isGood ? "" : ". ", about);
+    if (count === 0) return make("p", {}, line, isGood ? "" : ". ", about);
     const item = make("details", {}, make("summary", {}, line, about));
     item.ontoggle = () => {
-        if (item.open && item.childElementCount === 1) item.append(tableOf(sentence(queryText(frame.query)), ["", "Id", "Distance"], count, (i) => [i + 1, ...lines[frame.from + i].split(" ")]));
+        if (item.open && item.childElementCount === 1) item.append(tableOf("", ["", "Id", "Distance"], count, (i) => [i + 1, ...lines[frame.from + i].split(" ")]));
     };
     item.open = isOpen;
     return item;
@@ -195,7 +195,7 @@ const WORDS = { audit: ["sound", "rejected"], verify: ["accepted", "rejected"], 
 // Shows what a judge said: the verdict, a sentence, the frames, and the very text.
 function showSaid(place, name, said, what) {
     const lines = said.text.split("\n").slice(0, -1), frames = framesIn(lines), last = lines.at(-1) ?? "";
-    const rejected = frames.filter((it) => it.word === "rejected");
+    const rejected = frames.filter((it) => it.word === "rejected"), first = frames.find((it) => it.to > it.from);
     let word = WORDS[name][said.status] ?? "not judged", why = "";
     if (said.status === 6) {
         const fault = last.split(" ").at(-1);
@@ -210,7 +210,7 @@ function showSaid(place, name, said, what) {
     if (said.status === 0 && name !== "audit" && frames.length === 0) why = "The file has no log in it.";
     const parts = [verdict(said.status === 0, word, why, make("span", { className: "faint" }, ` ${what ?? ""} ${timed(said.took)}.`))];
     if (frames.length > 0) {
-        parts.push(make("div", { className: "frames" }, ...frames.slice(0, MOST_FRAMES).map((it, i) => frameItem(it, lines, i === 0))));
+        parts.push(make("div", { className: "frames" }, ...frames.slice(0, MOST_FRAMES).map((it) => frameItem(it, lines, it === first))));
         if (frames.length > MOST_FRAMES) parts.push(make("p", { className: "faint" }, `The first ${grouped(MOST_FRAMES)} of ${counted(frames.length, "frame")} are listed.`));
     }
     parts.push(make("details", {}, make("summary", {}, "The lines, as the program writes them"), make("pre", { className: "said", tabIndex: 0 }, said.text)));
@@ -277,7 +277,7 @@ for (const name of ["verify", "check"]) {
 
 function showQuery(asked, headings, row, more) {
     query = asked;
-    $("answers").replaceChildren(tableOf(counted(asked.ids.length, "answer"), headings, asked.ids.length, row));
+    $("answers").replaceChildren(asked.ids.length === 0 ? make("p", {}, "No answer.") : tableOf(counted(asked.ids.length, "answer"), headings, asked.ids.length, row));
     if (asked.drawn === null) return void ($("drawing").hidden = true);
     const { nodes, Skip, Far, Near } = asked.drawn.counts, all = Skip + Far + Near;
     $("drawing").hidden = false;
@@ -527,7 +527,7 @@ async function begin() {
         worker.terminate();
         return;
     }
-    $("state").textContent = `The module is ready: ${grouped(code.length)} bytes, SHA-256 ${$("sum").textContent}.`;
+    $("state").textContent = `The module is ready (${grouped(code.length)} bytes). Its digest stands at the end of this page.`;
     enable();
     document.documentElement.dataset.ready = "yes";
 }
