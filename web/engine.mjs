@@ -26,7 +26,7 @@ class Engine {
     // Takes memory for `size` bytes.
     room(size) {
         const place = this.calls.page_take(BigInt(size));
-        if (place === 0n) throw new Fault(MEMORY, "out of memory");
+        if (place === 0n) throw new Fault(MEMORY, `out of memory: ${size} bytes more do not fit`);
         return { place, size };
     }
 

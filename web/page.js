@@ -55,7 +55,7 @@ const chosen = { carried: null, index: null, logs: null };
 
 function enable() {
     const free = jobs === 0;
-    $("prove").disabled = !free;
+    for (const id of ["prove", "carried", "index", "logs"]) $(id).disabled = !free;
     $("audit").disabled = $("range").disabled = $("nearest").disabled = !free || open === null;
     $("verify").disabled = $("check").disabled = $("show").disabled = !free || open === null;
     $("save").disabled = query === null;
@@ -242,6 +242,8 @@ $("prove").onclick = () => {
 
 const WHAT_ELSE = { logs: "This is a file of logs. Choose it as Logs, beside the index that it is of.", carried: "This is a file of carried logs. It is judged above, by a digest." };
 
+const HOW_DRAWN = "Each row is a level, the root on top. Each node is as wide as it has objects.";
+
 async function openIndex(file) {
     chosen.index = file;
     open = query = null;
@@ -260,6 +262,10 @@ async function openIndex(file) {
         $("point").value = (said.point ?? []).join(", ");
         $("radius").value = said.radius;
         picture.hold(said.tree);
+        if (said.tree === null) return;
+        $("drawing").hidden = false;
+        $("drawn").textContent = `The tree has ${counted(said.tree.page.length, "node")}. ${HOW_DRAWN}`;
+        picture.paint({ ways: new Uint8Array(said.tree.page.length).fill(6), ticks: [] });
     });
 }
 
@@ -281,7 +287,7 @@ function showQuery(asked, headings, row, more) {
     if (asked.drawn === null) return void ($("drawing").hidden = true);
     const { nodes, Skip, Far, Near } = asked.drawn.counts, all = Skip + Far + Near;
     $("drawing").hidden = false;
-    $("drawn").textContent = `${grouped(nodes)} of ${counted(open.tree.page.length, "node")} opened. Of their ${counted(all, "entry", "entries")} ${grouped(Skip)} were ruled out without a distance, ${grouped(Far)} by one distance. Each row is a level, the root on top; each node is as wide as it has objects.${more}`;
+    $("drawn").textContent = `${grouped(nodes)} of ${counted(open.tree.page.length, "node")} opened. Of their ${counted(all, "entry", "entries")} ${grouped(Skip)} were ruled out without a distance, ${grouped(Far)} by one distance. ${HOW_DRAWN}${more}`;
     picture.paint(asked.drawn);
 }
 
@@ -357,7 +363,7 @@ const picture = (() => {
         wide = canvas.parentElement.clientWidth;
         const ink = sized(canvas), colour = colours();
         // The opened ones are drawn last, so that they are seen also where a node is narrower than a pixel.
-        for (const [way, fill, text, alpha, least] of [[0, "line", "", 1, .6], [5, "skip", "", .35, .6], [4, "far", "", .35, .6], [3, "skip", "Skip", 1, .6], [2, "far", "Far", 1, 1], [1, "open", "opened", 1, 2]]) {
+        for (const [way, fill, text, alpha, least] of [[0, "line", "", 1, .6], [6, "skip", "", 1, .6], [5, "skip", "", .35, .6], [4, "far", "", .35, .6], [3, "skip", "Skip", 1, .6], [2, "far", "Far", 1, 1], [1, "open", "opened", 1, 2]]) {
             ink.globalAlpha = alpha;
             const on = colour({ open: "onOpen", far: "onFar", skip: "onSkip", line: "ink" }[fill]);
             rows.forEach((row, depth) => {
@@ -456,7 +462,7 @@ const picture = (() => {
         paint(drawn) {
             shown = drawn;
             selected = -1;
-            $("node").replaceChildren(make("p", { className: "faint" }, "Point at a node, or go to it by the arrow keys, to read which test ruled it out."));
+            $("node").replaceChildren(make("p", { className: "faint" }, "Point at a node, or go to it by the arrow keys, to read what it is and which test ruled it out."));
             draw();
         },
     };
@@ -494,7 +500,8 @@ $("logs").onchange = () => (chosen.logs = $("logs").files[0] ?? null);
 $("index").onchange = () => $("index").files.length > 0 && openIndex($("index").files[0]);
 
 async function dropped(files) {
-    const file = files[0], first = new Uint8Array(await file.slice(0, 12).arrayBuffer()), letters = String.fromCharCode(...first.subarray(8));
+    if (jobs > 0) return;
+    const first = await files[0].slice(8, 12).arrayBuffer().catch(() => new ArrayBuffer(0)), letters = String.fromCharCode(...new Uint8Array(first));
     const id = letters === "MTLG" ? "logs" : letters === "MTPF" ? "carried" : "index";
     $(id).files = files;
     $(id).dispatchEvent(new Event("change"));
@@ -532,13 +539,14 @@ async function begin() {
     document.documentElement.dataset.ready = "yes";
 }
 
-$("stop").onclick = async () => {
+// Ends the running job with its worker. The jobs of the new worker stand in order, so that the index is open before the next one.
+$("stop").onclick = () => {
+    const stopped = [...waiting.values()];
     worker.terminate();
-    for (const asked of waiting.values()) asked.fail(new Error("you stopped it"));
     waiting.clear();
-    await startWorker();
-    if (open !== null) await job("open", chosen.index).catch(() => (open = null));
-    enable();
+    startWorker().catch((error) => ($("state").textContent = sentence(error.message)));
+    if (open !== null) job("open", chosen.index).catch(() => (open = null)).then(enable);
+    for (const asked of stopped) asked.fail(new Error("you stopped it"));
 };
 
 begin();

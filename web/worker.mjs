@@ -12,28 +12,37 @@ let engine = null;
 // The open index: its file, its bytes in the module's memory, its head and its tree. And the log that is shown.
 let index = null, shown = null;
 
+// The bytes of a file, or of a part of it.
+async function bytesOf(part) {
+    try {
+        return new Uint8Array(await part.arrayBuffer());
+    } catch (error) {
+        throw new Fault(OTHER, `the file can't be read: ${error.message}`);
+    }
+}
+
 // Reads a file into the module's memory.
 async function read(file, tell) {
     const span = engine.room(file.size);
     try {
         for (let at = 0; at < file.size; at += CHUNK) {
-            const bytes = new Uint8Array(await file.slice(at, at + CHUNK).arrayBuffer());
+            const bytes = await bytesOf(file.slice(at, at + CHUNK));
             engine.bytes(span).set(bytes, at);
-            tell(Math.min((at + bytes.length) / file.size, 1));
+            tell(Math.min((at + CHUNK) / file.size, 1));
         }
     } catch (error) {
         engine.free(span);
-        throw new Fault(OTHER, `the file can't be read: ${error.message}`);
+        throw error;
     }
     return span;
 }
 
-// Judges the bytes of a file by `judge`. They are dropped afterwards. The frames are where the file's frames lie.
+// Judges the bytes of a file by `judge`. They are dropped afterwards.
 async function judged(file, tell, judge) {
     const calls = engine.calls, span = await read(file, tell);
     try {
         const began = performance.now(), said = judge(span);
-        return { ...said, took: performance.now() - began, frames: framesOf(engine.bytes(span)).length };
+        return { ...said, took: performance.now() - began };
     } finally {
         if (engine.calls === calls) engine.free(span);
     }
@@ -89,7 +98,7 @@ const jobs = {
     // Opens an index. Its bytes are read once and stay in the module's memory.
     async open(file, tell) {
         jobs.close();
-        const kind = kindOf(new Uint8Array(await file.slice(0, 16).arrayBuffer()));
+        const kind = kindOf(await bytesOf(file.slice(0, 16)));
         if (kind === "logs" || kind === "carried") return { kind };
         const span = await read(file, tell);
         // The judge opens the file before it judges logs, and here there are none.
@@ -132,7 +141,7 @@ const jobs = {
 
     // Judges one frame of a file of logs, and draws it.
     async show({ file, number }) {
-        const { span, head } = opened(), bytes = new Uint8Array(await file.arrayBuffer()), frames = framesOf(bytes);
+        const { span, head } = opened(), bytes = await bytesOf(file), frames = framesOf(bytes);
         if (number >= frames.length) throw new Fault(OTHER, frames.length === 0 ? "the file has no whole frame" : `the file has ${frames.length} whole frames, numbered from 0`);
         const [from, to] = frames[number], log = logOf(bytes.subarray(from, to));
         if (log === null) throw new Fault(OTHER, `frame ${number} is no log of a range or nearest query`);
