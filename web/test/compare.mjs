@@ -61,6 +61,27 @@ function compareFacts(it, answer) {
     same([opened, wrong], [log.marks.size, 0], `the picture's numbers of ${it.about}`);
 }
 
+// Takes and frees blocks of the heap, each filled with bytes of its own, and looks whether they stay.
+function compareHeap() {
+    const blocks = [];
+    let seed = 1, wrong = 0;
+    const drawn = (below) => (seed = (seed * 1103515245 + 12345) % 2 ** 31) % below;
+    for (let round = 0; round < 4000; round++) {
+        if (blocks.length > 60 || (blocks.length > 0 && drawn(3) === 0)) {
+            const [{ span, filler }] = blocks.splice(drawn(blocks.length), 1);
+            if (span.place % 16n !== 0n || !engine.bytes(span).every((byte) => byte === filler)) wrong += 1;
+            engine.free(span);
+        } else {
+            const span = engine.room(drawn(2 ** (1 + drawn(21)))), filler = round % 256;
+            engine.bytes(span).fill(filler);
+            blocks.push({ span, filler });
+        }
+    }
+    for (const { span } of blocks) engine.free(span);
+    same(wrong, 0, "blocks of the heap that changed");
+}
+
+compareHeap();
 for (const it of cases) {
     let answer;
     try {
