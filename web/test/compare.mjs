@@ -65,8 +65,11 @@ function compareFacts(it, answer) {
 function compareHeap() {
     const blocks = [];
     let seed = 1, wrong = 0;
-    const drawn = (below) => (seed = (seed * 1103515245 + 12345) % 2 ** 31) % below;
-    for (let round = 0; round < 4000; round++) {
+    const drawn = (below) => {
+        seed = (Math.imul(seed, 1103515245) + 12345) >>> 0;
+        return (seed >>> 8) % below;
+    };
+    for (let round = 0; round < 2000; round++) {
         if (blocks.length > 60 || (blocks.length > 0 && drawn(3) === 0)) {
             const [{ span, filler }] = blocks.splice(drawn(blocks.length), 1);
             if (span.place % 16n !== 0n || !engine.bytes(span).every((byte) => byte === filler)) wrong += 1;

@@ -288,11 +288,11 @@ def main():
             compare_judges(page, maker, 80)
             compare_sentences(page, maker, whole)
             compare_reader(page, maker, whole, room)
+            compare_stops(page, maker, whole, room)
             requests = requests_of(page)
             same([url for url in requests if not url.startswith(("file:", "blob:", "data:"))], [], "requests of the page")
             same([line["message"] for line in page.logs("browser")], [], "complaints of the browser")
             compare_requests(page)
-            compare_stops(page, maker, whole, room)
         finally:
             page.close()
         print(f"page: {compared} comparisons of the page with the program in Chromium {page.version}, {failed} failed; {len(requests)} requests, none of which left it")
