@@ -28,7 +28,7 @@ function startWorker() {
     worker.onmessage = ({ data: { id, said, fault, status, portion } }) => {
         const asked = waiting.get(id);
         if (asked === undefined) return;
-        if (portion !== undefined) return asked.tell(portion);
+        if (portion !== undefined) return asked.reads(portion);
         waiting.delete(id);
         if (fault === undefined) asked.done(said);
         else asked.fail(Object.assign(new Error(fault), { status }));
@@ -40,10 +40,10 @@ function startWorker() {
     return job("start", code).finally(() => URL.revokeObjectURL(place));
 }
 
-function job(name, given, tell = () => {}) {
+function job(name, given, reads = () => {}) {
     return new Promise((done, fail) => {
         number += 1;
-        waiting.set(number, { done, fail, tell });
+        waiting.set(number, { done, fail, reads });
         worker.postMessage({ id: number, job: name, given });
     });
 }
@@ -68,7 +68,7 @@ async function during(words, place, work) {
     enable();
     const began = performance.now(), bar = $("busyBar");
     let portion = null;
-    const tell = (now) => {
+    const reads = (now) => {
         portion = now;
         bar.value = now;
     };
@@ -82,7 +82,7 @@ async function during(words, place, work) {
     const timer = setInterval(tick, 100);
     place.replaceChildren();
     try {
-        await work(tell);
+        await work(reads);
     } catch (error) {
         place.replaceChildren(verdict(false, error.status === -1 ? "stopped" : "not done", sentence(error.message)));
     } finally {
@@ -143,8 +143,15 @@ function meaning(words) {
 
 const LETTERS = { magic: "It does not begin as an index does." };
 
+// Has a reader of the screen say a text. What is shown with it may be long, and is not said by itself.
+function announce(text) {
+    $("told").textContent = text;
+}
+
 function verdict(isGood, word, ...more) {
-    return make("p", {}, make("span", { className: `verdict ${isGood ? "good" : "bad"}` }, `${isGood ? "✓" : "✗"} ${word}`), ". ", ...more);
+    const line = make("p", {}, make("span", { className: `verdict ${isGood ? "good" : "bad"}` }, `${isGood ? "✓" : "✗"} ${word}`), ". ", ...more);
+    announce(line.textContent);
+    return line;
 }
 
 // The frames that the lines of a judge tell of: each with its line, its query and its answers.
@@ -232,8 +239,8 @@ $("prove").onclick = () => {
     const root = digestIn($("digest").value), file = chosen.carried, place = $("proveResult");
     if (typeof root === "string") return place.replaceChildren(verdict(false, "not judged", root));
     if (file === null) return place.replaceChildren(verdict(false, "not judged", "Choose a file of carried logs."));
-    during("Judging", place, async (tell) => {
-        const said = await job("prove", { file, root }, tell);
+    during("Judging", place, async (reads) => {
+        const said = await job("prove", { file, root }, reads);
         showSaid(place, "prove", said, `${file.name}, ${sizeText(file.size)},`);
     });
 };
@@ -249,14 +256,15 @@ async function openIndex(file) {
     open = query = null;
     for (const id of ["about", "auditResult", "logsResult", "askResult", "answers"]) $(id).replaceChildren();
     $("drawing").hidden = true;
-    await during("Opening", $("about"), async (tell) => {
-        const said = await job("open", file, tell), place = $("about");
+    await during("Opening", $("about"), async (reads) => {
+        const said = await job("open", file, reads), place = $("about");
         if (said.kind !== "index") {
             const fault = said.said?.text.trim().split(" ").at(-1), why = WHAT_ELSE[said.kind] ?? LETTERS[fault] ?? meaning(fault);
             return place.replaceChildren(verdict(false, "no index", `${file.name}: `, why));
         }
         open = said;
         const facts = { File: file.name, Metric: said.head.metric, Dimension: said.head.dim, Objects: grouped(said.head.objects), Pages: grouped(said.head.pages), Height: said.head.height, Generation: grouped(said.head.generation), Size: sizeText(file.size), "At most": `${grouped(said.head.limit)} objects`, Splits: `${said.head.promote}, ${said.head.split}` };
+        announce(`${file.name}: ${said.head.metric}, ${counted(said.head.objects, "object")}.`);
         place.replaceChildren(make("dl", {}, ...Object.entries(facts).map(([name, value]) => make("div", {}, make("dt", {}, name), make("dd", {}, String(value))))));
         if (said.tree === null) place.append(make("p", {}, "Its pages are no tree, so no picture is drawn. An audit names the fault."));
         $("point").value = (said.point ?? []).join(", ");
@@ -275,7 +283,7 @@ for (const name of ["verify", "check"]) {
     $(name).onclick = () => {
         const file = chosen.logs, place = $("logsResult");
         if (file === null) return place.replaceChildren(verdict(false, "not judged", "Choose a file of logs."));
-        during("Judging", place, async (tell) => showSaid(place, name, await job(name, file, tell), `${file.name}, ${sizeText(file.size)},`));
+        during("Judging", place, async (reads) => showSaid(place, name, await job(name, file, reads), `${file.name}, ${sizeText(file.size)},`));
     };
 }
 
@@ -283,6 +291,7 @@ for (const name of ["verify", "check"]) {
 
 function showQuery(asked, headings, row, more) {
     query = asked;
+    announce(`${counted(asked.ids.length, "answer")}.`);
     $("answers").replaceChildren(asked.ids.length === 0 ? make("p", {}, "No answer.") : tableOf(counted(asked.ids.length, "answer"), headings, asked.ids.length, row));
     if (asked.drawn === null) return void ($("drawing").hidden = true);
     const { nodes, Skip, Far, Near } = asked.drawn.counts, all = Skip + Far + Near;
@@ -412,7 +421,10 @@ const picture = (() => {
         outline();
         asked += 1;
         const turn = asked, facts = await job("node", i).catch(() => null);
-        if (turn === asked && facts !== null) $("node").replaceChildren(...nodeText(facts));
+        if (turn !== asked || facts === null) return;
+        const parts = nodeText(facts);
+        $("node").replaceChildren(...parts);
+        announce(parts.filter((part) => part.tagName === "P").map((part) => part.textContent).join(" "));
     }
 
     // The node at a place. Of nodes narrower than a pixel an opened one is taken, where one is near.
