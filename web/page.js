@@ -480,13 +480,12 @@ const picture = (() => {
     };
 })();
 
-// The test of an entry, with its numbers.
-function testText(entry) {
-    const { rho, radius, distance, fromAbove, stored } = entry, reach = rho + radius;
-    const sum = entry.isObject ? grouped(rho) : `${grouped(rho)} + ${grouped(radius)} = ${grouped(reach)}`;
-    if (entry.mark === "Skip") return `Skip: its distance from the query is at least |${grouped(fromAbove)} − ${grouped(stored)}| = ${grouped(Math.abs(fromAbove - stored))}, and only ${sum} is in reach. No distance was measured.`;
-    if (entry.mark === "Far") return `Far: its distance from the query is ${grouped(distance)}, and only ${sum} is in reach.`;
-    if (entry.mark === "Near") return entry.isObject ? `Near: its distance from the query is ${grouped(distance)}, within ${sum}.` : `Opened: its distance from the query is ${grouped(distance)}, and ${sum} is in reach.`;
+// The test of the entry that names a node, with its numbers.
+function testText({ mark, rho, radius, distance, fromAbove, stored }) {
+    const reach = `${grouped(rho)} + ${grouped(radius)} = ${grouped(rho + radius)}`;
+    if (mark === "Skip") return `Skip: its distance from the query is at least |${grouped(fromAbove)} − ${grouped(stored)}| = ${grouped(Math.abs(fromAbove - stored))}, and only ${reach} is in reach. No distance was measured.`;
+    if (mark === "Far") return `Far: its distance from the query is ${grouped(distance)}, and only ${reach} is in reach.`;
+    if (mark === "Near") return `Opened: its distance from the query is ${grouped(distance)}, and ${reach} is in reach.`;
     return "No record of the log tells of it: a node above it was ruled out.";
 }
 

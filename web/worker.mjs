@@ -79,7 +79,7 @@ function drawn(log) {
 // One entry of a node, with what the shown log did to it.
 function entryFacts(node, number) {
     const { head, span } = index, bytes = engine.bytes(span), entry = entryOf(bytes, head, node.page, number);
-    const facts = { id: entry.id, point: entry.point, radius: entry.radius, stored: entry.stored, tag: entry.tag, isObject: node.level === 0 };
+    const facts = { id: entry.id, point: entry.point, radius: entry.radius, stored: entry.stored };
     if (shown === null) return facts;
     const above = node.parent === null ? null : entryOf(bytes, head, node.parent.page, node.place).point;
     facts.mark = MARKS[shown.log.marks.get(node.page)?.[number]] ?? null;
