@@ -33,7 +33,7 @@ function entryOf(bytes, head, page, number) {
     const view = viewOf(bytes), at = page * PAGE + 16 + number * (20 + 4 * head.dim), point = [];
     for (let i = 0; i < head.dim; i++) point.push(view.getUint32(at + 20 + 4 * i));
     const isLeaf = bytes[page * PAGE] === 0;
-    return { id: view.getUint32(at), radius: isLeaf ? 0 : wholeAt(view, at + 4), tag: isLeaf ? view.getBigUint64(at + 4) : null, stored: wholeAt(view, at + 12), point };
+    return { id: view.getUint32(at), radius: isLeaf ? 0 : wholeAt(view, at + 4), stored: wholeAt(view, at + 12), point };
 }
 
 // The nodes of the live tree in pre-order, each with its page, its depth, its parent and its entry there, and the objects below it, which
