@@ -106,7 +106,7 @@ const jobs = {
         engine.free(none);
         if (said.status === NO_INDEX) {
             engine.free(span);
-            return { kind, said };
+            return { kind: null, said };
         }
         const bytes = engine.bytes(span), head = headOf(bytes), tree = treeOf(bytes, head);
         index = { file, span, head, tree };

@@ -37,12 +37,18 @@ const idle = async () => { do await pause(); while ($('prove').disabled); };
             held.items.add(new File([Uint8Array.from(atob(value), (c) => c.charCodeAt(0))], place));
             $(id).files = held.files;
             $(id).dispatchEvent(new Event('change'));
+        } else if (what === 'drop') {
+            const held = new DataTransfer();
+            held.items.add(new File([Uint8Array.from(atob(value), (c) => c.charCodeAt(0))], place));
+            dispatchEvent(new DragEvent('drop', { dataTransfer: held, cancelable: true }));
+            await new Promise((next) => setTimeout(next, 100));
         } else if (what === 'fill') $(id).value = value;
         else {
             if ($(id).disabled) { told.push({ off: true }); continue; }
             $(id).click();
         }
         await idle();
+        if (what === 'drop') told.push({ all: $('about').textContent, logs: $('logs').files[0]?.name, carried: $('carried').files[0]?.name });
         if (what === 'press') told.push({ said: $(place).querySelector('pre.said')?.textContent ?? null, all: $(place).textContent, rows: [...$('answers').querySelectorAll('tbody tr')].map((row) => [...row.children].map((cell) => cell.textContent)) });
         if (what === 'file' && id === 'index') told.push({ all: $('about').textContent, facts: Object.fromEntries([...$('about').querySelectorAll('dl > div')].map((it) => [it.children[0].textContent, it.children[1].textContent])) });
     }
@@ -177,6 +183,9 @@ def compare_sentences(page, maker, whole):
         holds(drive(page, [["file", "index", spelled(data), "other.mt"]])[0]["all"], words, "a file that is no index")
     holds(drive(page, [["file", "index", logs, "a.log"]])[0]["all"], "This is a file of logs", "logs in place of an index")
     holds(drive(page, [["file", "index", carried, "a.proof"]])[0]["all"], "carried logs", "carried logs in place of an index")
+    told = drive(page, [["drop", None, file, "dropped.mt"], ["drop", None, logs, "dropped.log"], ["drop", None, carried, "dropped.proof"]])
+    holds(told[0]["all"], "dropped.mt", "an index that is dropped")
+    same([told[1]["logs"], told[2]["carried"]], ["dropped.log", "dropped.proof"], "logs and carried logs that are dropped")
     for id, press, value, words in (("point", "nearest", "1, 2, x", "“x”"), ("point", "nearest", "1, 2", "has 2 numbers, and the index 1"), ("point", "range", "4294967296", "at most 4294967295"),
                                     ("count", "nearest", "0", "At least 1"), ("radius", "range", "-3", "whole number"), ("radius", "range", "1" + "0" * 20, "at most")):
         given = [["file", "index", file, "a.mt"], ["fill", "point", "5"], ["fill", "count", "3"], ["fill", "radius", "3"], ["fill", id, value], ["press", press, None, "askResult"]]
