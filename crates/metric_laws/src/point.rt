@@ -1,47 +1,72 @@
-ghost use Rattle.std.specs.Prelude.{◌≡◌, ◌≤◌, List, ℕ, take, IfOk};
+ghost use Rattle.std.specs.Prelude.{◌≡◌, ◌≤◌, ◌+◌, List, ℕ, length, take, drop, IfOk};
+ghost use Rattle.std.specs.Rc.{rc_slice_items};
 
 use crate::Memory;
-use smallvec::SmallVec;
 use std::alloc::Global;
 use std::marker::Model;
+use std::rc::RcSlice;
 
-/// One list of coordinates. Up to 16 of them stand in the value itself, with no allocation of their own.
-#[derive(Clone, Drop)]
+/// One list of coordinates. Points that are read from one page are parts of one list that they share, so none of them takes memory
+/// of its own.
+#[derive(Drop)]
 pub struct Point {
-    coordinates: SmallVec<u32, 16>,
+    shared: RcSlice<u32>,
+    start: usize,
+    len: usize,
+    ghost within: { start + len ≤ length (rc_slice_items shared) },
 }
 
 impl Model for Point {
+    ghost use Rattle.std.specs.Prelude.{ℕ, List, take, drop};
+    ghost use Rattle.std.specs.Rc.{rc_slice_items};
+
     ghost Value = { List ℕ };
 
-    ghost view = { λ p. p.coordinates.items };
+    ghost view = { λ p. take p.len (drop p.start (rc_slice_items p.shared)) };
 }
 
 impl Point {
-    /// The point with these coordinates.
-    // A call would pass the coordinates through memory twice.
-    #[inline(always)]
+    /// Makes a point of a copy of `coordinates`.
     pub fn new(alloc: Global, coordinates: &[u32]) -> Result<Self, Memory>
         ensures { IfOk result (λ p. p ≡ coordinates.now) }
     {
-        let coordinates = SmallVec::from_slice(alloc, coordinates)?;
-        Ok(Point { coordinates })
+        let coordinates = Vec::from_slice(alloc, coordinates)?;
+        Point::from_vec(coordinates)
     }
 
-    /// The point with the first `len` of these coordinates, in the value itself.
-    pub fn short(alloc: Global, coordinates: [u32; 16], len: usize) -> Self
-        requires { len ≤ 16 }
-        ensures { result ≡ take len coordinates }
+    /// Makes a point of `coordinates`, with no copy.
+    pub fn from_vec(coordinates: Vec<u32>) -> Result<Self, Memory>
+        ensures { IfOk result (λ p. p ≡ coordinates.items) }
     {
-        Point {
-            coordinates: SmallVec::from_buf_and_len(alloc, coordinates, len),
-        }
+        let shared = RcSlice::from_vec(coordinates)?;
+        let len = shared.len();
+        Ok(Point {
+            shared,
+            start: 0,
+            len,
+        })
     }
 
-    /// The coordinates.
+    /// Makes a point of the `len` numbers from `start` on, which it shares with `numbers`.
+    pub fn part_of(numbers: &RcSlice<u32>, start: usize, len: usize) -> Result<Self, Memory>
+        requires { start + len ≤ length (rc_slice_items numbers.now) }
+        ensures { IfOk result (λ p. p ≡ take len (drop start (rc_slice_items numbers.now))) }
+    {
+        let shared = numbers.clone()?;
+        Ok(Point { shared, start, len })
+    }
+
+    /// Makes the same point once more. The two share their coordinates.
+    pub fn share(&self) -> Result<Self, Memory>
+        ensures { IfOk result (λ p. p ≡ self.now) }
+    {
+        Point::part_of(&self.shared, self.start, self.len)
+    }
+
+    /// Returns the coordinates.
     pub fn as_slice(&self) -> &[u32]
         ensures { result.now ≡ self.now }
     {
-        self.coordinates.as_slice()
+        &self.shared.as_slice()[self.start..self.start + self.len]
     }
 }

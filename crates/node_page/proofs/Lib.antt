@@ -5,6 +5,7 @@ pub mod SlotLaws
 pub mod OneSpelling
 pub mod Opened
 pub mod Listing
+pub mod Fronts
 pub mod NodeLaws
 pub mod Putting
 pub mod Written

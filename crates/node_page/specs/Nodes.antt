@@ -23,6 +23,10 @@ unfoldable pub all_of : (ℕ → Bool) → ℕ → Bool
 all_of f zero = true
 all_of f (suc n) = all_of f n && f n
 
+-- these are the numbers of four bytes at the front of a page, as many as they are
+abbrev pub IsFront : List ℕ → List ℕ → Type 0
+IsFront page numbers = numbers ≡ firsts (λ j. number_at (4 * j) 4 page) (length numbers)
+
 -- the coordinates from a place on
 abbrev pub point_at : ℕ → List ℕ → ℕ → List ℕ
 point_at dim page at = firsts (λ j. number_at (at + 4 * j) 4 page) dim

@@ -1,10 +1,13 @@
-ghost use Rattle.std.specs.Prelude.{◌≡◌, ◌≢◌, ◌⊎◌, ◌+◌, ◌*◌, ◌≤◌, ◌<◌, ◌==◌, length, take, true, IfOk, IfErr, Ok, Err, Some, None, slice_index};
+ghost use Rattle.std.specs.Prelude.{◌≡◌, ◌≢◌, ◌⊎◌, ◌+◌, ◌*◌, ◌/◌, ◌≤◌, ◌<◌, ◌==◌, length, true, IfOk, IfErr, Ok, Err, Some, None, slice_index};
+ghost use Rattle.std.specs.Rc.{rc_slice_items};
 ghost use Rattle.tree_shape.specs.Fill.{most_for};
-ghost use Rattle.node_page.specs.Nodes.{SpellsIn, SpellsNode, SpellsOldNode, IsLawfulNode, firsts, point_at, parent_place, tag_at, leaf_in, inner_at, place_of, place_in, count_of, near_at, are_near, is_count, is_rest_zero, fault_in, node_in, node_fault, node_of, old_node_fault, old_node_of};
+ghost use Rattle.node_page.specs.Nodes.{IsFront, SpellsIn, SpellsNode, SpellsOldNode, IsLawfulNode, firsts, point_at, parent_place, tag_at, leaf_in, inner_at, place_of, place_in, count_of, near_at, are_near, is_count, is_rest_zero, fault_in, node_in, node_fault, node_of, old_node_fault, old_node_of};
 
 use crate::bytes::{are_zero, get_u16, get_u32, get_u64};
+use byteorder::{BigEndian, ByteOrder};
 use metric_laws::{BOUND, Listed, Point};
 use std::alloc::{AllocError, Global};
+use std::rc::RcSlice;
 use thiserror::Error;
 use tree_shape::{InnerEntry, LeafEntry, Node, fill};
 
@@ -150,47 +153,40 @@ fn fault_of(page: &[u8; 4096], dim: u8, version: Version) -> Option<NodeFault>
     None
 }
 
-// The coordinates from a place on, at the front of an array.
-fn coordinates_at<const N: usize>(page: &[u8; 4096], at: usize, dim: usize) -> [u32; N]
-    requires few { dim ≤ N }
-    requires within { at + 4 * dim ≤ 4096 }
-    ensures { take dim result ≡ point_at dim page.now at }
+// Reads the numbers of four bytes at the front of `page`.
+fn read_front(page: &[u8; 4096], numbers: &mut [u32])
+    requires { 4 * length numbers.old ≤ 4096 }
+    ensures front { IsFront page.now numbers.new }
+    ensures len { length numbers.new ≡ length numbers.old }
 {
-    let mut coordinates = [0u32; N];
-    for place in 0..dim {
-        coordinates[place] = get_u32(page, at + 4 * place);
-    }
-    coordinates
+    // One loop over all of them, which LLVM makes wide.
+    BigEndian::read_u32_into(&page[..4 * numbers.len()], numbers);
 }
 
-// The point of more coordinates than stand in a value itself.
-// Apart from the others, whose array is a quarter of its own.
-#[inline(never)]
-fn long_point_at(
-    alloc: Global,
+// The numbers of four bytes in `page` below the place `end`.
+fn numbers_below(alloc: Global, page: &[u8; 4096], end: usize) -> Result<RcSlice<u32>, AllocError>
+    requires { end ≤ 4096 }
+    ensures front { IfOk result (λ numbers. IsFront page.now (rc_slice_items numbers)) }
+    ensures len { IfOk result (λ numbers. length (rc_slice_items numbers) ≡ end / 4) }
+{
+    let mut numbers = Vec::from_elem(alloc, 0u32, end / 4)?;
+    read_front(page, numbers.as_mut_slice());
+    RcSlice::from_vec(numbers)
+}
+
+// The point from a place on, a part of the numbers at the front of its page.
+fn point_at(
     page: &[u8; 4096],
+    numbers: &RcSlice<u32>,
     at: usize,
-    dim: usize,
+    dim: u8,
 ) -> Result<Point, AllocError>
-    requires few { dim ≤ 64 }
-    requires within { at + 4 * dim ≤ 4096 }
+    requires front { IsFront page.now (rc_slice_items numbers.now) }
+    requires aligned { 4 * (at / 4) ≡ at }
+    requires within { at + 4 * dim ≤ 4 * length (rc_slice_items numbers.now) }
     ensures { IfOk result (λ p. p ≡ point_at dim page.now at) }
 {
-    let coordinates: [u32; 64] = coordinates_at(page, at, dim);
-    Point::new(alloc, &coordinates[..dim])
-}
-
-// The point from a place on.
-fn point_at(alloc: Global, page: &[u8; 4096], at: usize, dim: u8) -> Result<Point, AllocError>
-    requires few { dim ≤ 64 }
-    requires within { at + 4 * dim ≤ 4096 }
-    ensures { IfOk result (λ p. p ≡ point_at dim page.now at) }
-{
-    let dim = usize::from(dim);
-    if dim > 16 {
-        return long_point_at(alloc, page, at, dim);
-    }
-    Ok(Point::short(alloc, coordinates_at(page, at, dim), dim))
+    Point::part_of(numbers, at / 4, usize::from(dim))
 }
 
 // The tag of the leaf entry from a place on.
@@ -207,14 +203,16 @@ fn tag_at(page: &[u8; 4096], at: usize, version: Version) -> u64
 // The leaf entry from a place on.
 #[tactic(auto, unfolding(crate::specs::Nodes::leaf_in))]
 fn leaf_in(
-    alloc: Global,
     page: &[u8; 4096],
+    numbers: &RcSlice<u32>,
     at: usize,
     dim: u8,
     version: Version,
 ) -> Result<LeafEntry, AllocError>
-    requires few { dim ≤ 64 }
-    requires within { at + (parent_place version true + 8) + 4 * dim ≤ 4096 }
+    requires front { IsFront page.now (rc_slice_items numbers.now) }
+    requires aligned { 4 * ((at + (parent_place version true + 8)) / 4) ≡ at + (parent_place version true + 8) }
+    requires within { at + (parent_place version true + 8) + 4 * dim ≤ 4 * length (rc_slice_items numbers.now) }
+    requires page { 4 * length (rc_slice_items numbers.now) ≤ 4096 }
     ensures { IfOk result (λ e. e ≡ leaf_in version dim page.now at) }
 {
     let parent = at + parent_place(version, true);
@@ -222,22 +220,29 @@ fn leaf_in(
         id: get_u32(page, at),
         tag: tag_at(page, at, version),
         parent: get_u64(page, parent),
-        point: point_at(alloc, page, parent + DISTANCE, dim)?,
+        point: point_at(page, numbers, parent + DISTANCE, dim)?,
     })
 }
 
 // The inner entry from a place on.
 #[tactic(auto, unfolding(crate::specs::Nodes::inner_at))]
-fn inner_at(alloc: Global, page: &[u8; 4096], at: usize, dim: u8) -> Result<InnerEntry, AllocError>
-    requires few { dim ≤ 64 }
-    requires within { at + 20 + 4 * dim ≤ 4096 }
+fn inner_at(
+    page: &[u8; 4096],
+    numbers: &RcSlice<u32>,
+    at: usize,
+    dim: u8,
+) -> Result<InnerEntry, AllocError>
+    requires front { IsFront page.now (rc_slice_items numbers.now) }
+    requires aligned { 4 * ((at + 20) / 4) ≡ at + 20 }
+    requires within { at + 20 + 4 * dim ≤ 4 * length (rc_slice_items numbers.now) }
+    requires page { 4 * length (rc_slice_items numbers.now) ≤ 4096 }
     ensures { IfOk result (λ e. e ≡ inner_at dim page.now at) }
 {
     Ok(InnerEntry {
         child: get_u32(page, at),
         radius: get_u64(page, at + 4),
         parent: get_u64(page, at + 12),
-        point: point_at(alloc, page, at + 20, dim)?,
+        point: point_at(page, numbers, at + 20, dim)?,
     })
 }
 
@@ -253,10 +258,11 @@ fn leaf_entries(
     requires most { count ≤ most_for dim }
     ensures { IfOk result (λ es. es ≡ firsts (λ i. leaf_in version dim page.now (place_in version true dim i)) count) }
 {
+    let numbers = numbers_below(alloc, page, place_in(version, true, dim, count))?;
     let mut entries = Vec::with_capacity(alloc, count)?;
     for index in 0..count {
         let at = place_in(version, true, dim, index);
-        entries.push(leaf_in(alloc, page, at, dim, version)?)?;
+        entries.push(leaf_in(page, &numbers, at, dim, version)?)?;
     }
     Ok(Listed::new(entries))
 }
@@ -272,9 +278,10 @@ fn inner_entries(
     requires most { count ≤ most_for dim }
     ensures { IfOk result (λ es. es ≡ firsts (λ i. inner_at dim page.now (place_of dim i)) count) }
 {
+    let numbers = numbers_below(alloc, page, place_of(dim, count))?;
     let mut entries = Vec::with_capacity(alloc, count)?;
     for index in 0..count {
-        entries.push(inner_at(alloc, page, place_of(dim, index), dim)?)?;
+        entries.push(inner_at(page, &numbers, place_of(dim, index), dim)?)?;
     }
     Ok(Listed::new(entries))
 }

@@ -1,7 +1,7 @@
 ghost use Rattle.std.specs.Prelude.{◌≡◌, IfOk};
 
 use crate::Memory;
-use metric_laws::{Listed, Point};
+use metric_laws::Listed;
 use std::alloc::Global;
 use tree_shape::{InnerEntry, LeafEntry, Node};
 
@@ -13,23 +13,23 @@ pub trait TryClone: Drop {
 }
 
 impl TryClone for LeafEntry {
-    fn try_clone(&self, alloc: Global) -> Result<Self, Memory> {
+    fn try_clone(&self, _alloc: Global) -> Result<Self, Memory> {
         Ok(LeafEntry {
             id: self.id,
             tag: self.tag,
             parent: self.parent,
-            point: Point::new(alloc, self.point.as_slice())?,
+            point: self.point.share()?,
         })
     }
 }
 
 impl TryClone for InnerEntry {
-    fn try_clone(&self, alloc: Global) -> Result<Self, Memory> {
+    fn try_clone(&self, _alloc: Global) -> Result<Self, Memory> {
         Ok(InnerEntry {
             child: self.child,
             radius: self.radius,
             parent: self.parent,
-            point: Point::new(alloc, self.point.as_slice())?,
+            point: self.point.share()?,
         })
     }
 }

@@ -5,6 +5,10 @@ ghost use Rattle.std.specs.List.{zip};
 ghost use Rattle.metric_laws.specs.Pruning.{gap};
 ghost use Rattle.vector_kinds.specs.Vectors.{is_vector};
 
+/// The longest lists whose differences are counted and added in 32 bits.
+pub const LONGEST: usize = 1 << 16;
+
+
 /// Whether the list has this many places.
 pub fn has_places(p: &[u32], dim: u8) -> bool
     ensures { result ≡ is_vector dim p.now }
@@ -12,13 +16,14 @@ pub fn has_places(p: &[u32], dim: u8) -> bool
     p.len() == usize::from(dim)
 }
 
-/// The number of places that differ.
+/// Counts the places that differ.
 #[tactic(auto, using(crate::proofs::Pairs::sum_more))]
-pub fn count(a: &[u32], b: &[u32]) -> u64
+pub fn count(a: &[u32], b: &[u32]) -> u32
+    requires { length a.now ≤ 2 ^ 16 }
     ensures { result ≡ count_by (λ p. not (p.0 == p.1)) (zip a.now b.now) }
 {
-    // A loop and not a chain, since LLVM makes it wide.
-    let mut differing = 0u64;
+    // A loop and not a chain, and a count of 32 bits, since LLVM makes it wide.
+    let mut differing = 0u32;
     for i in 0..a.len().min(b.len()) {
         if a[i] != b[i] {
             differing += 1;
@@ -27,21 +32,31 @@ pub fn count(a: &[u32], b: &[u32]) -> u64
     differing
 }
 
-/// The differences together, of lists that are short enough for the sum to fit.
-#[tactic(auto, using(crate::proofs::Pairs::sum_more))]
-pub fn sum(a: &[u32], b: &[u32]) -> u64
-    requires { length a.now ≤ 2 ^ 32 }
-    ensures { result ≡ sum_by (λ p. gap p.0 p.1) (zip a.now b.now) }
+/// Counts the places that differ, of lists of any length.
+pub fn long_count(a: &[u32], b: &[u32]) -> u64
+    ensures { result ≡ count_by (λ p. not (p.0 == p.1)) (zip a.now b.now) }
 {
-    // A loop as in `count`: of two lists of 8 a chain takes six instructions more.
-    let mut total = 0u64;
-    for i in 0..a.len().min(b.len()) {
-        total += u64::from(a[i].abs_diff(b[i]));
-    }
-    total
+    a.iter().zip(b).filter(|(x, y)| x != y).count() as u64
 }
 
-/// The differences together, or the greatest `u64` where that is less.
+/// Adds the differences.
+#[tactic(auto, using(crate::proofs::Pairs::sum_more))]
+pub fn sum(a: &[u32], b: &[u32]) -> u64
+    requires { length a.now ≤ 2 ^ 16 }
+    ensures { result ≡ sum_by (λ p. gap p.0 p.1) (zip a.now b.now) }
+{
+    // A loop as in `count`. Two sums of 32 bits, of the halves of each difference, are wider than one of 64.
+    let mut low = 0u32;
+    let mut high = 0u32;
+    for i in 0..a.len().min(b.len()) {
+        let difference = a[i].abs_diff(b[i]);
+        low += difference % 65_536;
+        high += difference / 65_536;
+    }
+    u64::from(high) * 65_536 + u64::from(low)
+}
+
+/// Adds the differences, of lists of any length, up to the greatest `u64`.
 pub fn saturating_sum(a: &[u32], b: &[u32]) -> u64
     ensures { result ≡ fold (λ total p. min (total + gap p.0 p.1) (2 ^ 64 - 1)) 0 (zip a.now b.now) }
 {

@@ -38,6 +38,10 @@ impl Metric for Hamming {
     }
 
     fn dist(&self, a: &[u32], b: &[u32]) -> u64 {
-        differences::count(a, b).min(BOUND)
+        if a.len() <= differences::LONGEST {
+            u64::from(differences::count(a, b))
+        } else {
+            differences::long_count(a, b).min(BOUND)
+        }
     }
 }

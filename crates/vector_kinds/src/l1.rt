@@ -5,9 +5,6 @@ ghost use Rattle.vector_kinds.specs.VectorLaws.{l1_axioms};
 use crate::differences;
 use metric_laws::{BOUND, Metric};
 
-/// Of so many differences of 32 bits the sum fits 64 bits.
-const LONGEST_PLAIN: usize = 1 << 32;
-
 /// Adds the differences of the coordinates.
 #[derive(Clone, Copy, PartialEq, Eq)]
 pub struct L1 {
@@ -41,7 +38,7 @@ impl Metric for L1 {
     }
 
     fn dist(&self, a: &[u32], b: &[u32]) -> u64 {
-        if a.len() <= LONGEST_PLAIN {
+        if a.len() <= differences::LONGEST {
             differences::sum(a, b).min(BOUND)
         } else {
             differences::saturating_sum(a, b).min(BOUND)

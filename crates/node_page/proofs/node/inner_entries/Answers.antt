@@ -11,5 +11,5 @@ pub loop-index-preserved : goal.loop-index-preserved
 loop-index-preserved c =
     c.in_ok-push.ensures.items
     ∙ ap (λ (es : List InnerEntry). es ++ c.in_ok-inner_at.field-0 ∷ []) c.loop-index.invariant
-    ∙ ap (λ (e : InnerEntry). firsts (λ i. inner_at c.args.dim c.args.page.now (place_of c.args.dim i)) c.loop-index.index ++ e ∷ []) (c.in_ok-inner_at.ensures ∙ ap (inner_at c.args.dim c.args.page.now) c.place_of.ensures)
+    ∙ ap (λ (e : InnerEntry). firsts (λ i. inner_at c.args.dim c.args.page.now (place_of c.args.dim i)) c.loop-index.index ++ e ∷ []) (c.in_ok-inner_at.ensures ∙ ap (inner_at c.args.dim c.args.page.now) c.place_of-in-loop-index.ensures)
     ∙ sym (firsts_more (λ i. inner_at c.args.dim c.args.page.now (place_of c.args.dim i)) c.loop-index.index)
