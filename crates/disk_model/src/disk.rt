@@ -9,7 +9,7 @@ pub trait Disk {
     /// What a read gives, what a crash at each moment may leave, and how often the disk failed and was read.
     ghost state: { Self → DiskState };
 
-    /// The number of bytes.
+    /// Returns the number of bytes.
     fn size(&mut self) -> Result<u64, Failed>
         ensures size { IfOk result (λ n. IsTrue (state self.old).tells → n ≡ length (state self.old).bytes) }
         ensures same { IsUnchanged (state self.old) (state self.new) }

@@ -21,7 +21,7 @@ pub struct Entry {
 impl Kind {
     ghost use Rattle.disk_model.specs.Memory.Record.{count_of, is_write_kind};
 
-    /// How many bytes the call was to write.
+    /// Returns how many bytes the call was to write.
     pub fn count(&self) -> usize
         ensures { result ≡ count_of self.now }
     {
@@ -42,7 +42,7 @@ impl Entry {
     ghost use Rattle.disk_model.specs.Memory.Record.{noted_of};
     ghost use Rattle.disk_model.specs.Memory.Images.{has_begun};
 
-    /// Whether the call has a lower number, or is a write of this very number.
+    /// Returns whether the call has a lower number, or is a write of this very number.
     pub fn has_begun(&self, moment: u64) -> bool
         ensures { (bytes : List ℕ) → result ≡ has_begun moment (noted_of self.now bytes) }
     {

@@ -40,7 +40,7 @@ impl FileDisk {
         }
     }
 
-    /// The system's error number of the last fault, where the system gave one. No contract can say which.
+    /// Returns the system's error number of the last fault, where the system gave one. No contract can say which.
     pub fn last_fault(&self) -> Option<i32> {
         self.last_fault
     }

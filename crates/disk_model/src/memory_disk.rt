@@ -41,7 +41,7 @@ impl Model for MemoryDisk {
 }
 
 impl MemoryDisk {
-    /// A disk that holds these bytes, all of them synced. It has room for a file of `room` bytes, and its record holds
+    /// Returns a disk that holds these bytes, all of them synced. It has room for a file of `room` bytes, and its record holds
     /// `units` units. The calls whose numbers, from 0, stand in `fails` fail, and so do those from `stop` on.
     pub fn new(
         alloc: Global,
@@ -80,14 +80,14 @@ impl MemoryDisk {
         })
     }
 
-    /// What a read gives.
+    /// Returns what a read gives.
     pub fn bytes(&self) -> &[u8]
         ensures { result.now ≡ (kept_by self.now).read }
     {
         &self.bytes
     }
 
-    /// The number of calls made. It stands still at the end of a `u64`.
+    /// Returns the number of calls made. It stands still at the end of a `u64`.
     pub fn moments(&self) -> u64
         ensures { result ≡ self.now.calls }
     {
@@ -105,7 +105,7 @@ impl MemoryDisk {
         self.noted.image(alloc, &self.first, moment, pick)
     }
 
-    // A disk that holds what a read of this one gives, and fails at the calls of the same numbers.
+    // Returns a disk that holds what a read of this one gives, and fails at the calls of the same numbers.
     fn again(&self, alloc: Global) -> Result<MemoryDisk, Memory>
         ensures { IfOk result (λ disk. (kept_by disk).read ≡ (kept_by self.now).read) }
     {
@@ -117,14 +117,14 @@ impl MemoryDisk {
         MemoryDisk::new(alloc, bytes, size, size, fails, self.stop)
     }
 
-    // Whether the next call fails by its number.
+    // Returns whether the next call fails by its number.
     fn is_named(&self) -> bool
         ensures { IsTrue result ↔ IsNamed self.now }
     {
         self.fails.contains(&self.calls) || self.stop.is_some_and(|stop| stop <= self.calls)
     }
 
-    // Whether the next call fails, if it writes so many bytes or none.
+    // Returns whether the next call fails, if it writes so many bytes or none.
     fn is_refused(&self, count: usize) -> bool
         ensures { IsTrue result ↔ IsRefused self.now count }
     {

@@ -31,7 +31,7 @@ impl Replay {
         })
     }
 
-    /// The image at which the replay stands.
+    /// Returns the image at which the replay stands.
     pub fn into_image(self) -> Vec<u8>
         ensures { result.items ≡ self.image.items }
     {

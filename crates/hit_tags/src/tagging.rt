@@ -15,8 +15,8 @@ use page_store::{PageFault, Pages};
 use std::alloc::Global;
 use tree_shape::Live;
 
-// The tag of each hit by the walk of the live tree by the found log, which opens each page or, where the log is known to mark each
-// node that it comes to, those alone of which something is marked Near.
+// Returns the tag of each hit by the walk of the live tree by the found log, which opens each page or, where the log is known to
+// mark each node that it comes to, those alone of which something is marked Near.
 fn walked_tags<P: Pages>(
     alloc: Global,
     pages: &mut P,
@@ -47,7 +47,7 @@ fn walked_tags<P: Pages>(
     }
 }
 
-/// The tag of each hit: that of the first object with its id that the walk of the live tree by the found log meets, and 0
+/// Returns the tag of each hit: that of the first object with its id that the walk of the live tree by the found log meets, and 0
 /// where it meets none. Where the log shows the hits, these are the tags of the hits' objects.
 ///
 /// The walk begins at the root and goes by the log's records. Each names the page that is needed next and has one mark for
@@ -86,8 +86,8 @@ pub fn tags_of<P: Pages>(
     walked_tags(alloc, pages, live, found, false)
 }
 
-/// The same tags, where the found log marks each node to which its walk comes, as that of a search does: then only those pages are
-/// opened of which something is marked Near. On a sound tree these are the leaves of the hits and what leads to them.
+/// Returns the same tags, where the found log marks each node to which its walk comes, as that of a search does: then only those
+/// pages are opened of which something is marked Near. On a sound tree these are the leaves of the hits and what leads to them.
 pub fn marked_tags<P: Pages>(
     alloc: Global,
     pages: &mut P,

@@ -70,7 +70,7 @@ fn passes_over(are_marked: bool, marks: &[Mark]) -> bool
 }
 
 impl Walk {
-    /// A walk that needs the root, and has met none of the hits' ids.
+    /// Returns a walk that needs the root, and has met none of the hits' ids.
     pub fn begin(alloc: Global, root: u32, hits: &[Hit]) -> Result<Self, Memory>
         ensures stack { IfOk result (λ walk. walk.stack.items ≡ root ∷ []) }
         ensures wanted { IfOk result (λ walk. AllByRecursion (λ h. held walk.wanted h.id ≡ Some None) hits.now) }

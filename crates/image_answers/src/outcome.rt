@@ -20,14 +20,14 @@ pub enum Outcome {
 }
 
 impl Outcome {
-    /// An answer without a log.
+    /// Returns an answer without a log.
     pub fn plain(reply: Reply) -> Self
         ensures { result ≡ Outcome.Done reply None }
     {
         Outcome::Done { reply, log: None }
     }
 
-    /// A refusal.
+    /// Returns a refusal.
     pub fn refused(why: Refusal) -> Self
         ensures { result ≡ Outcome.Done (Reply.Refused why) None }
     {

@@ -45,7 +45,7 @@ struct Row {
     needs: usize,
 }
 
-// The row of a command. `proof` has one with INDEX and one without.
+// Returns the row of a command. `proof` has one with INDEX and one without.
 fn row_of(command: &str, has_index: bool) -> Option<Row> {
     let (takes, needs): (&'static [&'static str], usize) = match command {
         "scan" => (&rows::SCAN, 2),
@@ -67,7 +67,7 @@ fn row_of(command: &str, has_index: bool) -> Option<Row> {
     Some(Row { takes, needs })
 }
 
-// A name of the list that is given though the row does not take it.
+// Returns a name of the list that is given though the row does not take it.
 fn unwanted(matches: &ArgMatches<'_>, row: &Row, names: &[&'static str]) -> Option<&'static str> {
     for name in names {
         if value(matches, name).is_some() && !row.takes.contains(name) {
@@ -77,7 +77,7 @@ fn unwanted(matches: &ArgMatches<'_>, row: &Row, names: &[&'static str]) -> Opti
     None
 }
 
-// A name that the row needs and that is not given.
+// Returns a name that the row needs and that is not given.
 fn missing(matches: &ArgMatches<'_>, row: &Row) -> Option<&'static str> {
     for name in row.takes.iter().take(row.needs) {
         if value(matches, name).is_none() {
@@ -87,7 +87,7 @@ fn missing(matches: &ArgMatches<'_>, row: &Row) -> Option<&'static str> {
     None
 }
 
-// What the value of a name may be, where the one that is given may not be.
+// Returns what the value of a name may be, where the one that is given may not be.
 fn allowed(matches: &ArgMatches<'_>, name: &str, given: &str) -> Option<&'static str> {
     let (holds, may_be) = match name {
         "metric" => (
@@ -121,7 +121,7 @@ fn allowed(matches: &ArgMatches<'_>, name: &str, given: &str) -> Option<&'static
     if holds { None } else { Some(may_be) }
 }
 
-// The first value of the row that may not be what it is.
+// Returns the first value of the row that may not be what it is.
 fn odd_value<'a>(matches: &ArgMatches<'a>, row: &Row) -> Option<Complaint<'a>> {
     for name in row.takes {
         if let Some(value) = value(matches, name) {
@@ -137,7 +137,7 @@ fn odd_value<'a>(matches: &ArgMatches<'a>, row: &Row) -> Option<Complaint<'a>> {
     None
 }
 
-// A space whose parts may each be what they are, but not together.
+// Returns a space whose parts may each be what they are, but not together.
 fn odd_space<'a>(matches: &ArgMatches<'a>, command: &str) -> Option<Complaint<'a>> {
     let metric = value(matches, "metric")?;
     if space_in(matches).is_none() {
@@ -157,7 +157,7 @@ fn odd_space<'a>(matches: &ArgMatches<'a>, command: &str) -> Option<Complaint<'a
     None
 }
 
-// What is wrong with words that clap could read.
+// Returns what is wrong with words that clap could read.
 fn complaint_about<'a>(matches: &ArgMatches<'a>) -> Option<Complaint<'a>> {
     let Some(command) = value(matches, "COMMAND") else {
         return Some(Complaint::NoCommand);
@@ -180,7 +180,7 @@ fn complaint_about<'a>(matches: &ArgMatches<'a>) -> Option<Complaint<'a>> {
     }
 }
 
-/// What is wrong with the words after the program's name, where they are no job.
+/// Returns what is wrong with the words after the program's name, where they are no job.
 pub fn complaint_on<'a>(
     alloc: Global,
     words: &'a [String],

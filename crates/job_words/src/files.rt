@@ -58,7 +58,7 @@ pub fn no_files<Name>() -> FileNames<Name>
     }
 }
 
-// The index alone, which is there.
+// Returns the index alone, which is there.
 fn on_index<Name: Drop>(index: Name) -> FileNames<Name>
     ensures { result ≡ on_index index }
 {
@@ -68,7 +68,7 @@ fn on_index<Name: Drop>(index: Name) -> FileNames<Name>
     }
 }
 
-// The log, where one is made.
+// Returns the log, where one is made.
 fn made_log<Name: Drop>(log: Option<Name>) -> Makes<Name>
     ensures { result ≡ made_log log }
 {
@@ -78,7 +78,7 @@ fn made_log<Name: Drop>(log: Option<Name>) -> Makes<Name>
     }
 }
 
-/// The files of a job.
+/// Returns the files of a job.
 pub fn files_of<Name: Copy>(job: Job<Name>) -> FileNames<Name>
     ensures { result ≡ files_of job }
 {
@@ -130,7 +130,7 @@ pub fn files_of<Name: Copy>(job: Job<Name>) -> FileNames<Name>
     }
 }
 
-/// The files that the words after the program's name ask for.
+/// Returns the files that the words after the program's name ask for.
 ///
 /// [`PlacesFault::Usage`] is answered only where the words are no job, and [`PlacesFault::Memory`] only where memory runs out.
 pub fn places(alloc: Global, words: &[String]) -> Result<FileNames<&str>, PlacesFault>

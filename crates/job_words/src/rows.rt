@@ -44,7 +44,7 @@ pub const CARRY: [&str; 3] = ["INDEX", "log", "proof"];
 
 pub const PROVE: [&str; 2] = ["log", "root"];
 
-/// The row of `scan`.
+/// Returns the row of `scan`.
 pub fn scan<'a>(matches: &ArgMatches<'a>) -> Option<Job<&'a str>>
     ensures job { option_map texts_in result ≡ scan_in (given_in matches.now) }
     ensures lawful { IfSome result IsLawful }
@@ -59,7 +59,7 @@ pub fn scan<'a>(matches: &ArgMatches<'a>) -> Option<Job<&'a str>>
     })
 }
 
-/// The row of `create`.
+/// Returns the row of `create`.
 pub fn create<'a>(matches: &ArgMatches<'a>) -> Option<Job<&'a str>>
     ensures job { option_map texts_in result ≡ create_in (given_in matches.now) }
     ensures lawful { IfSome result IsLawful }
@@ -75,7 +75,7 @@ pub fn create<'a>(matches: &ArgMatches<'a>) -> Option<Job<&'a str>>
     })
 }
 
-/// The row of `session`.
+/// Returns the row of `session`.
 pub fn session<'a>(matches: &ArgMatches<'a>) -> Option<Job<&'a str>>
     ensures job { option_map texts_in result ≡ session_in (given_in matches.now) }
     ensures lawful { IfSome result IsLawful }
@@ -91,7 +91,7 @@ pub fn session<'a>(matches: &ArgMatches<'a>) -> Option<Job<&'a str>>
     })
 }
 
-/// The row of `shape`.
+/// Returns the row of `shape`.
 pub fn shape<'a>(matches: &ArgMatches<'a>) -> Option<Job<&'a str>>
     ensures job { option_map texts_in result ≡ shape_in (given_in matches.now) }
     ensures lawful { IfSome result IsLawful }
@@ -104,7 +104,7 @@ pub fn shape<'a>(matches: &ArgMatches<'a>) -> Option<Job<&'a str>>
     })
 }
 
-/// The row of `audit`.
+/// Returns the row of `audit`.
 pub fn audit<'a>(matches: &ArgMatches<'a>) -> Option<Job<&'a str>>
     ensures job { option_map texts_in result ≡ audit_in (given_in matches.now) }
     ensures lawful { IfSome result IsLawful }
@@ -118,7 +118,7 @@ pub fn audit<'a>(matches: &ArgMatches<'a>) -> Option<Job<&'a str>>
     })
 }
 
-/// The row of `verify`.
+/// Returns the row of `verify`.
 pub fn verify<'a>(matches: &ArgMatches<'a>) -> Option<Job<&'a str>>
     ensures job { option_map texts_in result ≡ verify_in (given_in matches.now) }
     ensures lawful { IfSome result IsLawful }
@@ -133,7 +133,7 @@ pub fn verify<'a>(matches: &ArgMatches<'a>) -> Option<Job<&'a str>>
     })
 }
 
-/// The row of `check`.
+/// Returns the row of `check`.
 pub fn check<'a>(matches: &ArgMatches<'a>) -> Option<Job<&'a str>>
     ensures job { option_map texts_in result ≡ check_in (given_in matches.now) }
     ensures lawful { IfSome result IsLawful }
@@ -148,7 +148,7 @@ pub fn check<'a>(matches: &ArgMatches<'a>) -> Option<Job<&'a str>>
     })
 }
 
-/// The row of `join`.
+/// Returns the row of `join`.
 pub fn join<'a>(matches: &ArgMatches<'a>) -> Option<Job<&'a str>>
     ensures job { option_map texts_in result ≡ join_in (given_in matches.now) }
     ensures lawful { IfSome result IsLawful }
@@ -164,7 +164,7 @@ pub fn join<'a>(matches: &ArgMatches<'a>) -> Option<Job<&'a str>>
     })
 }
 
-/// The row of `gen`.
+/// Returns the row of `gen`.
 pub fn generate<'a>(matches: &ArgMatches<'a>) -> Option<Job<&'a str>>
     ensures job { option_map texts_in result ≡ gen_in (given_in matches.now) }
     ensures lawful { IfSome result IsLawful }
@@ -182,7 +182,7 @@ pub fn generate<'a>(matches: &ArgMatches<'a>) -> Option<Job<&'a str>>
     })
 }
 
-/// The row of `migrate`.
+/// Returns the row of `migrate`.
 pub fn migrate<'a>(matches: &ArgMatches<'a>) -> Option<Job<&'a str>>
     ensures job { option_map texts_in result ≡ migrate_in (given_in matches.now) }
     ensures lawful { IfSome result IsLawful }
@@ -196,7 +196,7 @@ pub fn migrate<'a>(matches: &ArgMatches<'a>) -> Option<Job<&'a str>>
     })
 }
 
-/// The row of `batch`.
+/// Returns the row of `batch`.
 pub fn batch<'a>(matches: &ArgMatches<'a>) -> Option<Job<&'a str>>
     ensures job { option_map texts_in result ≡ batch_in (given_in matches.now) }
     ensures lawful { IfSome result IsLawful }
@@ -212,7 +212,7 @@ pub fn batch<'a>(matches: &ArgMatches<'a>) -> Option<Job<&'a str>>
     })
 }
 
-/// The row of `seal`.
+/// Returns the row of `seal`.
 pub fn seal<'a>(matches: &ArgMatches<'a>) -> Option<Job<&'a str>>
     ensures job { option_map texts_in result ≡ seal_in (given_in matches.now) }
     ensures lawful { IfSome result IsLawful }
@@ -225,7 +225,7 @@ pub fn seal<'a>(matches: &ArgMatches<'a>) -> Option<Job<&'a str>>
     })
 }
 
-// The row of `proof` with INDEX.
+// Returns the row of `proof` with INDEX.
 fn carry<'a>(matches: &ArgMatches<'a>) -> Option<Job<&'a str>>
     ensures job { option_map texts_in result ≡ carry_in (given_in matches.now) }
     ensures lawful { IfSome result IsLawful }
@@ -240,7 +240,7 @@ fn carry<'a>(matches: &ArgMatches<'a>) -> Option<Job<&'a str>>
     })
 }
 
-// The row of `proof` without INDEX.
+// Returns the row of `proof` without INDEX.
 fn prove<'a>(matches: &ArgMatches<'a>) -> Option<Job<&'a str>>
     ensures job { option_map texts_in result ≡ prove_in (given_in matches.now) }
     ensures lawful { IfSome result IsLawful }
@@ -254,7 +254,7 @@ fn prove<'a>(matches: &ArgMatches<'a>) -> Option<Job<&'a str>>
     })
 }
 
-/// The rows of `proof`.
+/// Returns the rows of `proof`.
 pub fn proof<'a>(matches: &ArgMatches<'a>) -> Option<Job<&'a str>>
     ensures job { option_map texts_in result ≡ proof_in (given_in matches.now) }
     ensures lawful { IfSome result IsLawful }

@@ -26,7 +26,7 @@ use page_store::{DiskPages, PageFault};
 use prune_log::{encode_join_log, frame};
 use std::alloc::Global;
 
-/// The join of two opened files of one space.
+/// Returns the join of two opened files of one space.
 pub fn join_opened<D: Disk, E: Disk>(
     alloc: Global,
     index: &mut D,
@@ -71,7 +71,7 @@ pub fn join_opened<D: Disk, E: Disk>(
     joined
 }
 
-// The lines of a join's pairs, and the frame of its log.
+// Returns the lines of a join's pairs, and the frame of its log.
 fn joined_texts(alloc: Global, joined: Joined) -> Result<(Vec<u8>, Vec<u8>), Memory>
     requires { IsLawfulJoinLog joined.log }
     ensures lines { IfOk result (λ texts. texts.0.items ≡ pairs_text joined.pairs) }

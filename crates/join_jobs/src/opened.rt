@@ -31,7 +31,7 @@ pub struct Trees {
 }
 
 impl Trees {
-    /// Whether both are of one space.
+    /// Returns whether both are of one space.
     pub fn have_one_space(&self) -> bool
         ensures { result ≡ is_one_space self.now.left.0 self.now.right.0 }
     {

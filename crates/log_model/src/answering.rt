@@ -35,7 +35,7 @@ pub fn select(query: &Query, hits: &mut Vec<Hit>)
     }
 }
 
-/// The radius that prunes, by the query and its answers: the radius of a range, at most `BOUND`; the distance of the `k`-th
+/// Returns the radius that prunes, by the query and its answers: the radius of a range, at most `BOUND`; the distance of the `k`-th
 /// answer of the nearest, at most `BOUND`, and `BOUND` where there are fewer than `k`.
 pub fn radius_of(query: &Query, answers: &[Hit]) -> u64
     ensures { result ≡ pruning_radius query.now answers.now }

@@ -56,7 +56,7 @@ pub struct Joined {
 }
 
 impl Found {
-    /// What a walk of the live tree that is whole answers to the query that it was made for.
+    /// Returns what a walk of the live tree that is whole answers to the query that it was made for.
     pub fn of(alloc: Global, live: &Live, query: Query, walk: Traversal) -> Result<Self, Memory>
         ensures generation { IfOk result (λ found. found.log.generation ≡ live.now.generation) }
         ensures root { IfOk result (λ found. found.log.root ≡ live.now.root) }

@@ -19,7 +19,7 @@ pub struct Probe<'a> {
     pub rho: u64,
 }
 
-/// Whether the parent test rules an entry out (VLDB 1997, section 4.1), by the distance of the query to the routing point
+/// Returns whether the parent test rules an entry out (VLDB 1997, section 4.1), by the distance of the query to the routing point
 /// above. None stands above an entry of the root, which is never ruled out so.
 pub fn is_ruled_out(above: Option<u64>, stored: u64, rho: u64, radius: u64) -> bool
     ensures { result ≡ parent_skips above stored rho radius }

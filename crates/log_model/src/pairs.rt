@@ -44,7 +44,7 @@ impl Model for SharedItem {
 }
 
 impl SharedItem {
-    /// This item, with one holder.
+    /// Returns this item, with one holder.
     pub fn new(alloc: Global, item: Item) -> Result<Self, Memory>
         ensures { IfOk result (λ shared. shared ≡ item) }
     {
@@ -52,14 +52,14 @@ impl SharedItem {
         Ok(SharedItem { item })
     }
 
-    /// The item.
+    /// Returns the item.
     pub fn as_ref(&self) -> &Item
         ensures { result.now ≡ self.now }
     {
         self.item.as_ref()
     }
 
-    /// The same item for one holder more.
+    /// Returns the same item for one holder more.
     pub fn share(&self) -> Result<Self, Memory>
         ensures { IfOk result (λ shared. shared ≡ self.now) }
     {

@@ -24,7 +24,7 @@ pub struct Traversal {
     pub stack: Vec<Need>,
 }
 
-/// The number of entries of a node.
+/// Returns the number of entries of a node.
 pub fn entry_count(node: &Node) -> usize
     ensures { result ≡ entry_count node.now }
 {
@@ -45,7 +45,7 @@ fn put_on_top(stack: &mut Vec<Need>, needs: &mut Vec<Need>) -> Result<(), Memory
 }
 
 impl Traversal {
-    /// A walk that needs the root.
+    /// Returns a walk that needs the root.
     pub fn begin(alloc: Global, root: u32) -> Result<Self, Memory>
         ensures hits { IfOk result (λ t. t.hits.items ≡ []) }
         ensures records { IfOk result (λ t. t.records.items ≡ []) }

@@ -20,7 +20,7 @@ pub struct Checked {
     pub dist: u64,
 }
 
-// Whether a mark of an object is allowed.
+// Returns whether a mark of an object is allowed.
 fn check_object<R: Ruler>(
     ruler: &mut R,
     probe: Probe,
@@ -52,7 +52,7 @@ fn check_object<R: Ruler>(
     }
 }
 
-// Whether a mark of a subtree is allowed.
+// Returns whether a mark of a subtree is allowed.
 fn check_subtree<R: Ruler>(
     ruler: &mut R,
     probe: Probe,
@@ -96,7 +96,7 @@ fn push_near<T: Drop>(items: &mut Vec<T>, mark: Mark, item: T) -> Result<(), Mem
     Ok(())
 }
 
-// The first entry of a leaf whose mark is not allowed. Where there is none, the objects that are marked Near are added.
+// Returns the first entry of a leaf whose mark is not allowed. Where there is none, the objects that are marked Near are added.
 pub fn check_leaf<R: Ruler>(
     ruler: &mut R,
     probe: Probe,
@@ -133,7 +133,7 @@ pub fn check_leaf<R: Ruler>(
     Ok(None)
 }
 
-// The first entry of an inner node whose mark is not allowed. Where there is none, the pages of the subtrees that are
+// Returns the first entry of an inner node whose mark is not allowed. Where there is none, the pages of the subtrees that are
 // marked Near are added.
 pub fn check_inner<R: Ruler>(
     ruler: &mut R,

@@ -23,7 +23,7 @@ pub struct JoinChecked {
     pub apart: Option<u64>,
 }
 
-// Whether two objects are an answer.
+// Returns whether two objects are an answer.
 fn is_within(apart: Option<u64>, rho: u64) -> bool
     ensures { result ≡ within_apart apart rho }
 {
@@ -33,7 +33,7 @@ fn is_within(apart: Option<u64>, rho: u64) -> bool
     }
 }
 
-// How far an entry with this point is from the other item, where that has a centre.
+// Returns how far an entry with this point is from the other item, where that has a centre.
 // It stands apart from the loops over entries, most of which are skipped.
 #[inline(never)]
 fn apart_from<R: Ruler>(ruler: &mut R, probe: JoinProbe, point: &[u32]) -> Option<u64>
@@ -44,7 +44,7 @@ fn apart_from<R: Ruler>(ruler: &mut R, probe: JoinProbe, point: &[u32]) -> Optio
     probe.need.apart_from(ruler, point)
 }
 
-// Whether a mark of an object is allowed.
+// Returns whether a mark of an object is allowed.
 fn check_object<R: Ruler>(
     ruler: &mut R,
     probe: JoinProbe,
@@ -81,7 +81,7 @@ fn check_object<R: Ruler>(
     }
 }
 
-// Whether a mark of a subtree is allowed.
+// Returns whether a mark of a subtree is allowed.
 fn check_subtree<R: Ruler>(
     ruler: &mut R,
     probe: JoinProbe,
@@ -161,7 +161,7 @@ fn name_subtree(
     }
 }
 
-// The first entry whose mark is not allowed. Where there is none, the pairs of those that are marked Near are added.
+// Returns the first entry whose mark is not allowed. Where there is none, the pairs of those that are marked Near are added.
 fn check_leaf<R: Ruler>(
     ruler: &mut R,
     probe: JoinProbe,
@@ -194,7 +194,7 @@ fn check_leaf<R: Ruler>(
     Ok(None)
 }
 
-// The first entry whose mark is not allowed. Where there is none, the pairs of those that are marked Near are added.
+// Returns the first entry whose mark is not allowed. Where there is none, the pairs of those that are marked Near are added.
 fn check_inner<R: Ruler>(
     ruler: &mut R,
     probe: JoinProbe,
@@ -230,7 +230,7 @@ fn check_inner<R: Ruler>(
     Ok(None)
 }
 
-// The first entry of a node whose mark is not allowed. Where there is none, the answers and the pairs that the marks name
+// Returns the first entry of a node whose mark is not allowed. Where there is none, the answers and the pairs that the marks name
 // are added.
 pub fn check_node<R: Ruler>(
     ruler: &mut R,

@@ -34,7 +34,7 @@ pub struct JoinWalk {
 }
 
 impl JoinWalk {
-    /// A walk that needs the pair of roots.
+    /// Returns a walk that needs the pair of roots.
     pub fn begin(alloc: Global, left: &Live, right: &Live, rho: u64) -> Result<Self, Memory>
         ensures rho { IfOk result (λ walk. walk.rho ≡ rho) }
         ensures taken { IfOk result (λ walk. walk.taken ≡ 0) }
@@ -56,14 +56,14 @@ impl JoinWalk {
     }
 }
 
-// Whether a record is of the side and the page of the opened item.
+// Returns whether a record is of the side and the page of the opened item.
 fn is_of(need: &JoinNeed, told: &JoinRecord) -> bool
     ensures { result ≡ is_of need.now told.now }
 {
     told.right == need.opens_right() && told.page == need.opened().page()
 }
 
-// The node of a page of one side.
+// Returns the node of a page of one side.
 fn node_at<P: Pages>(alloc: Global, pages: &mut P, page: u32) -> Result<SharedNode, PageFault>
     ensures same { HoldsSame (P.shelf pages.old) (P.shelf pages.new) }
     ensures keeps { P.keeps pages.old pages.new }
@@ -87,7 +87,7 @@ fn verdict_of(right: bool, fault: PageFault) -> JoinVerdict
     }
 }
 
-// The node of the opened item.
+// Returns the node of the opened item.
 #[tactic(auto, using(crate::proofs::Counting::ask_left, crate::proofs::Counting::ask_right))]
 fn opened_node<P: Pages, Q: Pages>(
     alloc: Global,

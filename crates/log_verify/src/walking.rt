@@ -32,7 +32,7 @@ pub struct Walk {
 }
 
 impl Walk {
-    // A walk that needs the root.
+    // Returns a walk that needs the root.
     fn begin(alloc: Global, root: u32) -> Result<Self, Memory>
         ensures taken { IfOk result (λ walk. walk.taken ≡ 0) }
         ensures hits { IfOk result (λ walk. walk.hits.items ≡ []) }
@@ -63,7 +63,7 @@ pub fn put_on_top<T: Drop>(stack: &mut Vec<T>, needs: &mut Vec<T>) -> Result<(),
     Ok(())
 }
 
-// The node of a page that the walk needs.
+// Returns the node of a page that the walk needs.
 fn node_at<P: Pages>(alloc: Global, pages: &mut P, page: u32) -> Result<SharedNode, Verdict>
     ensures same { HoldsSame (P.shelf pages.old) (P.shelf pages.new) }
     ensures keeps { P.keeps pages.old pages.new }
@@ -81,7 +81,7 @@ fn node_at<P: Pages>(alloc: Global, pages: &mut P, page: u32) -> Result<SharedNo
     }
 }
 
-// The first entry of a node whose mark is not allowed. Where there is none, the hits and the pages that the marks name are
+// Returns the first entry of a node whose mark is not allowed. Where there is none, the hits and the pages that the marks name are
 // added.
 fn check_node<R: Ruler>(
     ruler: &mut R,

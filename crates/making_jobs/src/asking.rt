@@ -42,7 +42,7 @@ pub struct Tally {
 // How many queries a generated index is tried with.
 const QUERIES: usize = 8;
 
-/// The refusal of a search, as that of a page.
+/// Returns the refusal of a search, as that of a page.
 pub fn page_fault(fault: IndexFault) -> PageFault
     requires { IsReading fault }
     ensures { result ≡ page_fault fault }
@@ -79,7 +79,7 @@ fn search<M: Metric, D: Disk>(
     index.range(alloc, disk, q, 1000)
 }
 
-// Whether the verifier accepts a log by the live tree of a file of version 2.
+// Returns whether the verifier accepts a log by the live tree of a file of version 2.
 fn is_accepted<M: Metric, D: Disk>(
     alloc: Global,
     disk: &mut D,

@@ -56,8 +56,8 @@ fn open_page<P: Pages>(
     }
 }
 
-/// The objects of the live tree, in pre-order, by a walk by child numbers. It opens at most as many pages as there are: a further
-/// one is refused, which never happens on a sound tree.
+/// Returns the objects of the live tree, in pre-order, by a walk by child numbers. It opens at most as many pages as there are: a
+/// further one is refused, which never happens on a sound tree.
 pub fn collect<P: Pages>(
     alloc: Global,
     pages: &mut P,

@@ -64,7 +64,7 @@ fn fault_of(fault: IndexFault) -> FillFault
     }
 }
 
-// Whether the index is that of this head and this live slot.
+// Returns whether the index is that of this head and this live slot.
 fn is_of<M: Metric>(index: &Index<M>, head: &Head, live: &Live) -> bool
     ensures yes { IsTrue result → (index.now.file.head ≡ head.now) × (index.now.file.live ≡ live.now) }
     ensures no { index.now.file.head ≡ head.now → index.now.file.live ≡ live.now → IsTrue result }

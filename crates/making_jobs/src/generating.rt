@@ -106,7 +106,7 @@ pub fn push_counted(word: &[u8], n: u64, out: &mut Vec<u8>) -> Result<(), Memory
     out.extend_from_slice(b"\n")
 }
 
-// The lines on a generated index.
+// Returns the lines on a generated index.
 fn summary_text(alloc: Global, shape: &Shape, tally: Tally) -> Result<Vec<u8>, Memory>
     ensures { IfOk result (λ text. text.items ≡ summary shape.now.objects shape.now.nodes shape.now.height tally.hits tally.accepted) }
 {
@@ -179,7 +179,7 @@ fn ids(alloc: Global, count: u32) -> Result<Vec<u64>, Memory>
     Ok(ids)
 }
 
-// The generated rows; each row's tag is its number.
+// Returns the generated rows; each row's tag is its number.
 fn generated_objects(alloc: Global, asked: &Generation) -> Result<Objects, Memory>
     ensures rows { IfOk result (λ o.
         o.rows ≡ record { words = asked.now.head.dim; points = generated_rows asked.now.seed asked.now.head.dim asked.now.count }) }

@@ -27,7 +27,7 @@ fn fill_row(seed: u32, dim: u8, i: u32, row: &mut Vec<u32>) -> Result<(), Memory
     Ok(())
 }
 
-/// The first `count` rows of `dim` coordinates that the generator makes with this seed. Coordinate j of row i is
+/// Returns the first `count` rows of `dim` coordinates that the generator makes with this seed. Coordinate j of row i is
 /// `((i + 1) * (2 * j + 3) * 40503 + seed * 7919) mod 65536`.
 #[tactic(auto, using(crate::proofs::RowsMore::row_more))]
 pub fn generated_rows(alloc: Global, seed: u32, dim: u8, count: u32) -> Result<Rows, Memory>

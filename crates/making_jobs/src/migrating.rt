@@ -78,7 +78,7 @@ fn open_old<D: Disk, K: Sink>(disk: &mut D, out: &mut K) -> Result<(Head, Live),
     }
 }
 
-// The objects of a live tree over points of `dim` coordinates, once it was audited.
+// Returns the objects of a live tree over points of `dim` coordinates, once it was audited.
 fn audited<P: Pages, M: Metric>(
     alloc: Global,
     pages: &mut P,
@@ -111,7 +111,7 @@ fn audited<P: Pages, M: Metric>(
     }
 }
 
-// The objects of an opened file of version 1, once its live tree was audited.
+// Returns the objects of an opened file of version 1, once its live tree was audited.
 fn audited_objects<D: Disk>(
     alloc: Global,
     disk: &mut D,
@@ -138,7 +138,7 @@ fn audited_objects<D: Disk>(
     audited(alloc, &mut pages, space_of(head), head.dim, live)
 }
 
-// The head and the objects of a sound file of version 1. Else it writes why it is none, and answers the status.
+// Returns the head and the objects of a sound file of version 1. Else it writes why it is none, and answers the status.
 fn read_old<D: Disk, K: Sink>(
     alloc: Global,
     disk: &mut D,
@@ -166,7 +166,7 @@ fn read_old<D: Disk, K: Sink>(
     }
 }
 
-// The same head of version 2.
+// Returns the same head of version 2.
 fn renewed(head: &Head) -> Head
     requires { IsLawfulHead head.now }
     ensures head { result ≡ renewed head.now }

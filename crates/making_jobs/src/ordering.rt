@@ -15,7 +15,7 @@ use tree_audit::AuditFault;
 use tree_shape::laws::objects_fit;
 use tree_shape::{LeafEntry, Live};
 
-// What an auditor says where a walk stopped.
+// Returns what an auditor says where a walk stopped.
 fn rejection(fault: PageFault) -> AuditFault
     ensures { result ≡ rejection fault }
 {
@@ -26,7 +26,7 @@ fn rejection(fault: PageFault) -> AuditFault
     }
 }
 
-// Whether an object has this id and a point of the space.
+// Returns whether an object has this id and a point of the space.
 fn is_next<M: Metric>(metric: &M, entry: &LeafEntry, id: usize) -> bool
     ensures yes { IsTrue result → (entry.now.id ≡ id) × IsTrue ((M.space metric.now).fits entry.now.point) }
     ensures no { entry.now.id ≡ id → IsTrue ((M.space metric.now).fits entry.now.point) → IsTrue result }
@@ -74,8 +74,8 @@ fn take_in_order<M: Metric>(
     Ok(objects)
 }
 
-/// The objects of the live tree in order of id, each with a point of the space. Of a sound tree they are taken, but where the disk
-/// fails or memory runs out; else they may be refused, as an auditor would refuse them.
+/// Returns the objects of the live tree in order of id, each with a point of the space. Of a sound tree they are taken, but where
+/// the disk fails or memory runs out; else they may be refused, as an auditor would refuse them.
 pub fn objects_of<P: Pages, M: Metric>(
     alloc: Global,
     pages: &mut P,

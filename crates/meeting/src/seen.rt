@@ -38,7 +38,7 @@ impl Seen {
         self.failed.store(true, Ordering::SeqCst);
     }
 
-    /// Whether both were noted and neither waited in vain.
+    /// Returns whether both were noted and neither waited in vain.
     pub fn met(&self) -> bool {
         self.first.load(Ordering::SeqCst)
             && self.second.load(Ordering::SeqCst)

@@ -15,7 +15,7 @@ pub struct Capped<M: Metric> {
 }
 
 impl<M: Metric> Capped<M> {
-    /// The metric, with `most` from 1 to `BOUND` in place of every greater distance.
+    /// Returns the metric, with `most` from 1 to `BOUND` in place of every greater distance.
     pub fn new(metric: M, most: u64) -> Self
         requires some { 1 ≤ most }
         requires low { most ≤ bound }

@@ -23,7 +23,7 @@ impl Halves {
         Halves { dim }
     }
 
-    /// The metric that adds the distances of the halves.
+    /// Returns the metric that adds the distances of the halves.
     pub fn sum(self) -> Sum<L1, Hamming>
         ensures first { result.first.dim ≡ self.dim / 2 }
         ensures second { result.second.dim ≡ self.dim / 2 }
@@ -32,7 +32,7 @@ impl Halves {
         Sum::new(L1::new(half), Hamming::new(half))
     }
 
-    /// The metric that takes the greater of the distances of the halves.
+    /// Returns the metric that takes the greater of the distances of the halves.
     pub fn most(self) -> Most<L1, Hamming>
         ensures first { result.first.dim ≡ self.dim / 2 }
         ensures second { result.second.dim ≡ self.dim / 2 }

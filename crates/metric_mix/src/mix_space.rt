@@ -25,7 +25,7 @@ pub enum MixSpace {
     L1Cap(L1),
 }
 
-/// Whether the kind has a space of this dimension.
+/// Returns whether the kind has a space of this dimension.
 fn has_dimension(kind: u8, dim: u8) -> bool
     ensures { result ≡ is_lawful kind dim }
 {
@@ -36,7 +36,7 @@ fn has_dimension(kind: u8, dim: u8) -> bool
 impl MixSpace {
     ghost use Rattle.metric_mix.specs.MixKinds.{mix_kind, mix_dim};
 
-    /// The space of a kind, 1 to 8 in the order above, and a dimension of 1 to 64, which is even for 6 and 7.
+    /// Returns the space of a kind, 1 to 8 in the order above, and a dimension of 1 to 64, which is even for 6 and 7.
     pub fn new(kind: u8, dim: u8) -> Result<Self, SpaceFault>
         ensures kind { IfOk result (λ s. mix_kind s ≡ kind) }
         ensures dim { IfOk result (λ s. mix_dim s ≡ dim) }
@@ -65,7 +65,7 @@ impl MixSpace {
         })
     }
 
-    /// The number of the metric, 1 to 8.
+    /// Returns the number of the metric, 1 to 8.
     #[tactic(auto, using(crate::specs::MixKindLaws::mix_low))]
     pub fn kind(&self) -> u8
         ensures value { result ≡ mix_kind self.now }
@@ -82,7 +82,7 @@ impl MixSpace {
         }
     }
 
-    /// The number of coordinates of a point.
+    /// Returns the number of coordinates of a point.
     #[tactic(auto, using(crate::specs::MixKindLaws::mix_lawful))]
     pub fn dim(&self) -> u8
         ensures value { result ≡ mix_dim self.now }
@@ -98,7 +98,7 @@ impl MixSpace {
         }
     }
 
-    /// What the metric is called.
+    /// Returns what the metric is called.
     pub fn name(&self) -> &'static str
         ensures { result.now ≡ mix_name (mix_kind self.now) }
     {
@@ -139,7 +139,7 @@ impl Metric for MixSpace {
         }
     }
 
-    // The composed metrics are calls of their own, so that a plain one pays nothing for what they need.
+    // Returns the composed metrics are calls of their own, so that a plain one pays nothing for what they need.
     fn dist(&self, a: &[u32], b: &[u32]) -> u64 {
         match self {
             MixSpace::Plain(space) => space.dist(a, b),

@@ -14,7 +14,7 @@ pub struct Sum<A: Metric, B: Metric> {
 }
 
 impl<A: Metric, B: Metric> Sum<A, B> {
-    /// The metric on a point of `first` and then one of `second`, which have at most 64 coordinates together.
+    /// Returns the metric on a point of `first` and then one of `second`, which have at most 64 coordinates together.
     pub fn new(first: A, second: B) -> Self
         requires { (A.space first).words + (B.space second).words ≤ 64 }
         ensures first { result.first ≡ first }

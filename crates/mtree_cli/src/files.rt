@@ -23,7 +23,7 @@ pub struct Ended<'a, Reason> {
     pub fault: Option<(&'a str, Reason)>,
 }
 
-// The files that are opened for words.
+// Returns the files that are opened for words.
 fn opened_names(alloc: Global, words: &[String]) -> Result<FileNames<&str>, JobFault>
     ensures { IfOk result (λ names. file_texts names ≡ opened_names (job_of (texts_of words.now))) }
 {
@@ -34,7 +34,7 @@ fn opened_names(alloc: Global, words: &[String]) -> Result<FileNames<&str>, JobF
     }
 }
 
-// What the system said of the last fault of an index, and its name.
+// Returns what the system said of the last fault of an index, and its name.
 fn fault_of<'a, F: Folder>(
     name: Option<&'a str>,
     index: &Named<F::Index>,
@@ -48,7 +48,7 @@ fn fault_of<'a, F: Folder>(
     }
 }
 
-// The same of the first of both indexes that has one.
+// Returns the same of the first of both indexes that has one.
 fn first_fault<'a, F: Folder>(
     names: &FileNames<&'a str>,
     files: &Opened<F::Index, F::LogIn, F::LogOut>,

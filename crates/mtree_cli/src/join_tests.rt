@@ -29,7 +29,7 @@ fn put_entry(file: &mut [u8], page: usize, place_on: usize, [id, radius, parent,
     place(file, at.saturating_add(39), &[point]);
 }
 
-// An index with these objects in one leaf.
+// Returns an index with these objects in one leaf.
 fn one_leaf(alloc: Global, points: &[u8]) -> Result<Vec<u8>, AllocError> {
     let mut file = vec![in alloc; 0u8; 16384]?;
     let count = points.len().min(32);
@@ -41,7 +41,7 @@ fn one_leaf(alloc: Global, points: &[u8]) -> Result<Vec<u8>, AllocError> {
     Ok(file)
 }
 
-// An index with the numbers 0 to 32 in two leaves.
+// Returns an index with the numbers 0 to 32 in two leaves.
 fn two_leaves(alloc: Global) -> Result<Vec<u8>, AllocError> {
     let mut file = vec![in alloc; 0u8; 24576]?;
     put_front(&mut file, 5, 1, 33, 6);

@@ -39,7 +39,7 @@ pub fn place(file: &mut [u8], at: usize, bytes: &[u8]) {
     }
 }
 
-// The small index.
+// Returns the small index.
 pub fn small_index(alloc: Global) -> Result<Vec<u8>, AllocError> {
     let mut file = vec![in alloc; 0u8; 20480]?;
     place(&mut file, 0, &HEAD);
@@ -94,7 +94,7 @@ const SHAPE: Case<'static> = Case {
     ..VERIFY
 };
 
-// The index of a case.
+// Returns the index of a case.
 fn index_of(alloc: Global, case: &Case<'_>) -> Result<MemoryDisk, AllocError> {
     let mut file = small_index(alloc)?;
     if let Some((at, byte)) = case.file_change {
@@ -103,7 +103,7 @@ fn index_of(alloc: Global, case: &Case<'_>) -> Result<MemoryDisk, AllocError> {
     disk_of(alloc, &file, case.disk_stop)
 }
 
-// The logs of a case.
+// Returns the logs of a case.
 fn logs_of(alloc: Global, case: &Case<'_>) -> Result<Vec<u8>, AllocError> {
     let mut logs = Vec::new(alloc);
     let mut last = 0;

@@ -40,7 +40,7 @@ fn words_fault(error: io::Error) -> JobFault {
     }
 }
 
-// The words after the program's name.
+// Returns the words after the program's name.
 fn read_words(rt: &HostRuntime) -> Result<Vec<String>, JobFault> {
     let mut words = Vec::new(rt.alloc());
     for word in env::args(rt).map_err(words_fault)?.skip(1) {

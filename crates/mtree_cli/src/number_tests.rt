@@ -25,7 +25,7 @@ fn place_leaf(file: &mut [u8], page: u8, numbers: (u8, u8), routing: u8) {
     }
 }
 
-// The index of the numbers 0 to 32 under L1 as inserts make it: a root on page 6 with the routing points 7 and 24, each of
+// Returns the index of the numbers 0 to 32 under L1 as inserts make it: a root on page 6 with the routing points 7 and 24, each of
 // radius 8, above the numbers up to 15 on page 4 and the others on page 5.
 fn index_of_numbers(alloc: Global, generation: u8, radius: u8) -> Result<Vec<u8>, AllocError> {
     let mut file = vec![in alloc; 0u8; 28672]?;
@@ -69,7 +69,7 @@ fn push_record(log: &mut Vec<u8>, record: &Record<'_>) -> Result<(), AllocError>
     Ok(())
 }
 
-// The frame of a log of the range of 2 about x, with three answers, of which the first is x and the others follow it.
+// Returns the frame of a log of the range of 2 about x, with three answers, of which the first is x and the others follow it.
 fn frame_of(
     alloc: Global,
     x: u8,

@@ -43,7 +43,7 @@ pub const USAGE: &[u8] = b"usage: mtree COMMAND INDEX [options]\n";
 /// The greatest limit of an index.
 const MOST_OBJECTS: u32 = 16_777_216;
 
-// The head of a new file.
+// Returns the head of a new file.
 fn new_head(space: SpaceName, policies: PolicyNames, limit: u32) -> Head
     requires space { IsLawfulSpace space }
     requires limit { IsLimit limit }

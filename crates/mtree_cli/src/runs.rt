@@ -49,14 +49,14 @@ pub fn with_logs<'a>(words: &'a str, logs: &'a [u8]) -> Given<'a> {
     }
 }
 
-// A disk that holds these bytes, and from one call on fails.
+// Returns a disk that holds these bytes, and from one call on fails.
 pub fn disk_of(alloc: Global, bytes: &[u8], stop: Option<u64>) -> Result<MemoryDisk, AllocError> {
     let bytes = bytes.to_vec(alloc)?;
     let room = (bytes.len() as u64).max(65536);
     MemoryDisk::new(alloc, bytes, room, 1_000_000, Vec::new(alloc), stop)
 }
 
-// The words of a line, cut at its spaces.
+// Returns the words of a line, cut at its spaces.
 pub fn words(alloc: Global, line: &str) -> Result<Vec<String>, AllocError> {
     let mut words = Vec::new(alloc);
     for word in line.split(' ') {
@@ -65,7 +65,7 @@ pub fn words(alloc: Global, line: &str) -> Result<Vec<String>, AllocError> {
     Ok(words)
 }
 
-// The calls that fail: none or one.
+// Returns the calls that fail: none or one.
 fn fails(alloc: Global, call: Option<u64>) -> Result<Vec<u64>, AllocError> {
     let mut fails = Vec::new(alloc);
     if let Some(call) = call {
@@ -124,7 +124,7 @@ pub fn check_both<R: AllocGlobal + Abort + Threads + Sync, D: SharedDisk>(
     Ok(ran.log)
 }
 
-// The same on one index.
+// Returns the same on one index.
 pub fn check_run<R: AllocGlobal + Abort + Threads + Sync, D: SharedDisk>(
     rt: &R,
     given: &Given<'_>,

@@ -19,7 +19,7 @@ use plain_scan::{Scan, Stop, run_script};
 use rows_text::read_script;
 use std::alloc::Global;
 
-// The space of a name.
+// Returns the space of a name.
 fn space_of(name: SpaceName) -> MixSpace
     requires { IsLawfulSpace name }
     ensures kind { mix_kind result ≡ kind_of name.metric }

@@ -91,7 +91,7 @@ fn a_log_of_a_session(rt: HostRuntime) -> Result<(), Fail> {
     check_runs(&rt, &mut index, &runs)
 }
 
-// The inserts of the numbers from 0 on, and their replies.
+// Returns the inserts of the numbers from 0 on, and their replies.
 fn inserts(alloc: Global, count: u32) -> Result<(String, String), Fail> {
     let mut script = String::new(alloc);
     let mut replies = String::new(alloc);
@@ -102,7 +102,7 @@ fn inserts(alloc: Global, count: u32) -> Result<(String, String), Fail> {
     Ok((script, replies))
 }
 
-// The hits of the numbers from 0 on, from the point 0.
+// Returns the hits of the numbers from 0 on, from the point 0.
 fn hits(alloc: Global, count: u32) -> Result<String, Fail> {
     let mut lines = format!(in alloc; "hits {count}\n")?;
     for i in 0..count {
@@ -125,7 +125,7 @@ fn insert_all<R: AllocGlobal + Abort + Threads + Sync, D: SharedDisk>(
     check_runs(rt, index, &runs)
 }
 
-// The first three of the index of numbers, and the log that shows them.
+// Returns the first three of the index of numbers, and the log that shows them.
 fn check_range<R: AllocGlobal + Abort + Threads + Sync, D: SharedDisk>(
     rt: &R,
     index: &mut D,
@@ -256,7 +256,8 @@ fn hostile_files(rt: HostRuntime) -> Result<(), Fail> {
     Ok(())
 }
 
-// An index of numbers whose root on page 3 has six entries, each at 0 and with the same child, and page 4 a leaf of six zeros.
+// Returns an index of numbers whose root on page 3 has six entries, each at 0 and with the same child, and page 4 a leaf of six
+// zeros.
 fn repeating(alloc: Global, child: u8) -> Result<Vec<u8>, AllocError> {
     let mut file = vec![in alloc; 0u8; 20480]?;
     place(&mut file, 0, &HEAD);
@@ -320,7 +321,7 @@ fn devices_of_a_session_fail(rt: HostRuntime) -> Result<(), Fail> {
     Ok(())
 }
 
-// The file of the numbers from 0 on, so many of them.
+// Returns the file of the numbers from 0 on, so many of them.
 fn numbers(rt: &(impl AllocGlobal + Abort + Threads + Sync), count: u32) -> Result<Vec<u8>, Fail> {
     let alloc = rt.alloc();
     let mut index = disk_of(alloc, &[], None)?;

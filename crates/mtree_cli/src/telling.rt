@@ -6,7 +6,7 @@ use job_words::{Complaint, complaint_on};
 use named_files::{Denial, Refusal};
 use std::io;
 
-// The first line of a text of several lines, without the word that clap begins with.
+// Returns the first line of a text of several lines, without the word that clap begins with.
 fn first_line(text: &str) -> &str {
     let line = match text.split_once('\n') {
         Some((line, _)) => line,

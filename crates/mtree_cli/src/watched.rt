@@ -22,7 +22,7 @@ pub struct FirstRefusal {
 }
 
 impl FirstRefusal {
-    /// The reply, without the end of its line.
+    /// Returns the reply, without the end of its line.
     pub fn text(&self) -> &str {
         match self.line.get(..self.length) {
             Some(line) => str::from_utf8(line).unwrap_or("refused"),
@@ -31,7 +31,7 @@ impl FirstRefusal {
     }
 }
 
-// The front of a reply, up to the end of its first line.
+// Returns the front of a reply, up to the end of its first line.
 fn first_line(record: u64, reply: &[u8]) -> FirstRefusal {
     let mut line = [0; 40];
     let mut length = 0;
@@ -49,7 +49,7 @@ fn first_line(record: u64, reply: &[u8]) -> FirstRefusal {
     }
 }
 
-// How many rows a load took, by its reply: those of `loaded N`, and none otherwise.
+// Returns how many rows a load took, by its reply: those of `loaded N`, and none otherwise.
 fn loaded_rows(reply: &[u8]) -> u64 {
     let Some(digits) = reply.strip_prefix(b"loaded ") else {
         return 0;
@@ -103,7 +103,7 @@ pub struct Watched<K: Sink + Drop> {
 }
 
 impl<K: Sink + Drop> Watched<K> {
-    /// A sink that nothing has passed yet.
+    /// Returns a sink that nothing has passed yet.
     pub fn new(inner: K) -> Self {
         Watched {
             inner,

@@ -19,7 +19,7 @@ pub trait Folder: Drop {
     /// What the folder's answers mean.
     ghost meaning: { Self → Meaning Self.Index Self.LogIn Self.LogOut };
 
-    /// Whether two names name one file.
+    /// Returns whether two names name one file.
     fn is_one_file(&self, one: &str, other: &str) -> bool
         ensures one { IsTrue result → (meaning self.now).are_one one.now other.now }
         ensures apart { result ≡ false → (meaning self.now).are_apart one.now other.now };
@@ -49,6 +49,6 @@ pub trait Folder: Drop {
         ensures denied { IfErr result (λ e. IsMakingDenied (meaning self) name.now e.0) }
         ensures given_back { IfErr result (λ e. e.1 ≡ self) };
 
-    /// What the system said of the index's last fault, where it said something.
+    /// Returns what the system said of the index's last fault, where it said something.
     fn last_fault(index: &Self::Index) -> Option<Self::Reason>;
 }

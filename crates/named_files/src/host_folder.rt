@@ -71,7 +71,7 @@ impl<'a> HostFolder<'a> {
     }
 }
 
-// Whether a file that may not be written may still be read.
+// Returns whether a file that may not be written may still be read.
 fn may_read_alone(kind: ErrorKind) -> bool {
     matches!(
         kind,
@@ -79,7 +79,7 @@ fn may_read_alone(kind: ErrorKind) -> bool {
     )
 }
 
-// Whether the name is that of a plain file, and not of a pipe or a device.
+// Returns whether the name is that of a plain file, and not of a pipe or a device.
 fn is_plain_file(rt: &HostRuntime, name: &str) -> bool {
     match fs::metadata(rt, name) {
         Ok(found) => found.is_file(),
@@ -87,7 +87,7 @@ fn is_plain_file(rt: &HostRuntime, name: &str) -> bool {
     }
 }
 
-// Whether a file begins with the letters of an index.
+// Returns whether a file begins with the letters of an index.
 fn begins_as_index(file: &File) -> io::Result<bool> {
     let mut front = [0; 8];
     let count = file.read_at(&mut front, 0)?;

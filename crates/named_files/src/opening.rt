@@ -22,7 +22,7 @@ pub struct Unopened<Name, F: Folder> {
     pub folder: F,
 }
 
-// The name `read`, where its file is the one of `made`.
+// Returns the name `read`, where its file is the one of `made`.
 fn met<'a, F: Folder>(folder: &F, made: &str, read: Option<&'a str>) -> Option<&'a str>
     ensures met { IfSome result (λ name. (text_of read.entry ≡ Some name.now) × (F.meaning folder.now).are_one made.now name.now) }
     ensures apart { IfNone result (IfSome (text_of read.entry) ((F.meaning folder.now).are_apart made.now)) }
@@ -35,7 +35,7 @@ fn met<'a, F: Folder>(folder: &F, made: &str, read: Option<&'a str>) -> Option<&
     }
 }
 
-// The first of three names whose file is the one of `made`.
+// Returns the first of three names whose file is the one of `made`.
 fn first_met<'a, F: Folder>(
     folder: &F,
     made: &str,
@@ -58,7 +58,7 @@ fn first_met<'a, F: Folder>(
     met(folder, made, log_in)
 }
 
-// The file that is made and the one that is read, where they are one.
+// Returns the file that is made and the one that is read, where they are one.
 fn meeting<'a, F: Folder>(
     folder: &F,
     names: &FileNames<&'a str>,
@@ -75,7 +75,7 @@ fn meeting<'a, F: Folder>(
     Some(Refusal::OneFile { made, read })
 }
 
-// The index of a name, where there is one. It is not made.
+// Returns the index of a name, where there is one. It is not made.
 fn open_index<'a, F: Folder>(
     folder: &F,
     name: Option<&'a str>,
@@ -94,7 +94,7 @@ fn open_index<'a, F: Folder>(
     }
 }
 
-// The logs of a name, where there is one.
+// Returns the logs of a name, where there is one.
 fn open_log<'a, F: Folder>(
     folder: &F,
     name: Option<&'a str>,
@@ -111,7 +111,7 @@ fn open_log<'a, F: Folder>(
     }
 }
 
-// The log that is made, where one is named.
+// Returns the log that is made, where one is named.
 fn make_log<'a, F: Folder>(
     folder: F,
     name: Option<&'a str>,
@@ -132,7 +132,7 @@ fn make_log<'a, F: Folder>(
     }
 }
 
-// The index that is made, where one is named.
+// Returns the index that is made, where one is named.
 fn make_index<'a, F: Folder>(
     folder: F,
     name: Option<&'a str>,
@@ -154,7 +154,7 @@ fn make_index<'a, F: Folder>(
     }
 }
 
-// The index that is there, and then the log that is made.
+// Returns the index that is there, and then the log that is made.
 fn open_then_make<'a, F: Folder>(
     folder: F,
     index: Option<&'a str>,
@@ -176,7 +176,7 @@ fn open_then_make<'a, F: Folder>(
     Ok((index, log))
 }
 
-// The index, and the log that is made. This is the last step, since a file may be made in it.
+// Returns the index, and the log that is made. This is the last step, since a file may be made in it.
 fn take_written<'a, F: Folder>(
     folder: F,
     names: &FileNames<&'a str>,
@@ -199,7 +199,7 @@ fn take_written<'a, F: Folder>(
     }
 }
 
-// The other index and the logs, which are only read.
+// Returns the other index and the logs, which are only read.
 fn open_read<'a, F: Folder>(
     folder: &F,
     names: &FileNames<&'a str>,

@@ -34,7 +34,7 @@ impl<P: Pages> Model for Cached<P> {
 }
 
 impl<P: Pages + Drop> Cached<P> {
-    /// These pages behind a cache that keeps nothing yet, and at most so many nodes. None of its pages has been asked for.
+    /// Returns these pages behind a cache that keeps nothing yet, and at most so many nodes. None of its pages has been asked for.
     pub fn new(alloc: Global, inner: P, pages: usize) -> Result<Self, Memory>
         requires { 1 ≤ pages }
         ensures { IfOk result (λ cached. cached ≡ record { inner = inner; kept = lru_cache [] pages; asked = 0 }) }
@@ -45,7 +45,7 @@ impl<P: Pages + Drop> Cached<P> {
 }
 
 impl<P: Pages> Cached<P> {
-    /// These pages behind a cache that keeps these nodes, of which each has to be what they give for its page. None of its
+    /// Returns these pages behind a cache that keeps these nodes, of which each has to be what they give for its page. None of its
     /// pages has been asked for.
     pub fn from_parts(inner: P, kept: Kept) -> Self
         requires { Agrees kept (P.shelf inner) }
@@ -58,7 +58,7 @@ impl<P: Pages> Cached<P> {
         }
     }
 
-    /// The pages behind, and what is kept of them. `from_parts` takes it again with these pages, or with others that give
+    /// Returns the pages behind, and what is kept of them. `from_parts` takes it again with these pages, or with others that give
     /// it too.
     pub fn into_parts(self) -> (P, Kept)
         ensures inner { result.0 ≡ self.inner }
@@ -69,7 +69,7 @@ impl<P: Pages> Cached<P> {
         (inner, kept)
     }
 
-    /// The pages behind. What is kept of them is dropped.
+    /// Returns the pages behind. What is kept of them is dropped.
     pub fn into_inner(self) -> P
         ensures { result ≡ self.inner }
     {
@@ -106,7 +106,7 @@ impl<P: Pages> Pages for Cached<P> {
 
     ghost keeps_both = { λ c d e first second. (P.keeps_both c.inner d.inner e.inner first.0 second.0, second.1 ∙ first.1) };
 
-    /// The node of a page: the one that is kept, or what the pages behind give, which is kept then. A refusal changes
+    /// Returns the node of a page: the one that is kept, or what the pages behind give, which is kept then. A refusal changes
     /// nothing of what is kept, and nor does want of memory for what is to be kept. `Memory` comes also where a node has
     /// as many holders as can be counted.
     fn node(&mut self, alloc: Global, page: u32) -> Result<SharedNode, PageFault>

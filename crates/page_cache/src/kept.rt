@@ -41,7 +41,7 @@ impl Kept {
         })
     }
 
-    /// How many nodes are kept: never more than there may be, and none of one page twice.
+    /// Returns how many nodes are kept: never more than there may be, and none of one page twice.
     pub fn len(&self) -> usize
         ensures len { result ≡ length self.now.entries }
         ensures few { length self.now.entries ≤ self.now.cap }
@@ -50,7 +50,7 @@ impl Kept {
         self.nodes.len()
     }
 
-    /// Whether no node is kept.
+    /// Returns whether no node is kept.
     pub fn is_empty(&self) -> bool
         ensures { result ≡ (length self.now.entries == 0) }
     {
@@ -66,7 +66,7 @@ impl Kept {
         drop(self.nodes.pop(&page));
     }
 
-    // The node that is kept of a page, which becomes the last used.
+    // Returns the node that is kept of a page, which becomes the last used.
     pub(crate) fn share_of(&mut self, page: u32) -> Result<Option<SharedNode>, Memory>
         ensures found { IfOk result (λ node. node ≡ kept_node self.old page) }
         ensures unkept { kept_node self.old page ≡ None → result ≡ Ok None }

@@ -7,7 +7,7 @@ use tree_shape::{InnerEntry, LeafEntry, Node};
 
 /// A value that is copied where there is memory for it.
 pub trait TryClone: Drop {
-    /// A copy.
+    /// Returns a copy.
     fn try_clone(&self, alloc: Global) -> Result<Self, Memory>
         ensures { IfOk result (λ copy. copy ≡ self.now) };
 }

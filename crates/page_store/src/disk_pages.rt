@@ -28,7 +28,7 @@ pub struct DiskPages<'a, D: Disk> {
 }
 
 impl<'a, D: Disk> DiskPages<'a, D> {
-    /// The pages of a file of version 2. Of them none has been asked for.
+    /// Returns the pages of a file of version 2. Of them none has been asked for.
     pub fn new(disk: &'a mut D, dim: u8, pages: u32) -> Self
         requires some { 1 ≤ dim }
         requires few { dim ≤ 64 }
@@ -50,7 +50,7 @@ impl<'a, D: Disk> DiskPages<'a, D> {
         }
     }
 
-    /// The pages of a file of version 1. Of them none has been asked for.
+    /// Returns the pages of a file of version 1. Of them none has been asked for.
     pub fn old(disk: &'a mut D, dim: u8, pages: u32) -> Self
         requires some { 1 ≤ dim }
         requires few { dim ≤ 64 }

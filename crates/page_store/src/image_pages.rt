@@ -23,7 +23,7 @@ pub struct ImagePages<'a> {
 }
 
 impl<'a> ImagePages<'a> {
-    /// The pages of these bytes. Of them none has been asked for.
+    /// Returns the pages of these bytes. Of them none has been asked for.
     pub fn new(bytes: &'a [u8], dim: u8, pages: u32) -> Self
         requires some { 1 ≤ dim }
         requires few { dim ≤ 64 }
@@ -36,7 +36,7 @@ impl<'a> ImagePages<'a> {
         ImagePages::of(Image::Whole(bytes), dim, pages)
     }
 
-    /// The pages of a file that may stand in parts. Of them none has been asked for.
+    /// Returns the pages of a file that may stand in parts. Of them none has been asked for.
     pub fn of(image: Image<'a>, dim: u8, pages: u32) -> Self
         requires some { 1 ≤ dim }
         requires few { dim ≤ 64 }

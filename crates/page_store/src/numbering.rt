@@ -11,7 +11,7 @@ pub struct Numbering<'a> {
 }
 
 impl Numbering<'_> {
-    /// The page of the new node at a place, from 0.
+    /// Returns the page of the new node at a place, from 0.
     pub fn page_at(&self, place: usize) -> u32
         requires first { self.now.first ≤ 2 ^ 24 }
         requires few { place ≤ 2 ^ 26 }

@@ -42,7 +42,7 @@ pub trait Pages {
     /// What every call keeps: whoever lends a disk to pages learns by it what happened to the disk.
     ghost keeps: { Self → Self → Type 0 };
 
-    /// The node of a page. `Outside` comes before the other refusals, and without a read. `Repeats` and `Level` never
+    /// Returns the node of a page. `Outside` comes before the other refusals, and without a read. `Repeats` and `Level` never
     /// come.
     fn node(&mut self, alloc: Global, page: u32) -> Result<SharedNode, PageFault>
         ensures ok { IfOk result (IsNodeOf (shelf self.old) page) }
@@ -62,7 +62,7 @@ pub trait Pages {
     ghost keeps_both: { (p q r : Self) → keeps p q → keeps q r → keeps p r };
 }
 
-/// The node of a page for the caller alone, to be changed or taken apart. It is copied only where another holds it too.
+/// Returns the node of a page for the caller alone, to be changed or taken apart. It is copied only where another holds it too.
 pub fn own_node<P: Pages>(alloc: Global, pages: &mut P, page: u32) -> Result<Node, PageFault>
     ensures ok { IfOk result (IsNodeOf (P.shelf pages.old) page) }
     ensures cause { IfErr result (HasPageCause (P.shelf pages.old) (P.shelf pages.new) page) }

@@ -28,7 +28,7 @@ impl Model for Parts {
 }
 
 impl Parts {
-    /// These parts, of so many pages each.
+    /// Returns these parts, of so many pages each.
     pub fn new(parts: Vec<Listed<u8>>, pages: u32) -> Self
         requires some { 1 ≤ pages }
         requires are { AreParts pages parts.items }
@@ -37,7 +37,7 @@ impl Parts {
         Parts { parts, pages }
     }
 
-    // The part where a page stands, and its number among the pages of that part.
+    // Returns the part where a page stands, and its number among the pages of that part.
     pub(crate) fn place(&self, page: u32) -> (&[u8], u32)
         ensures { page_of result.0.now result.1 ≡ page_of self.now page }
     {

@@ -23,14 +23,14 @@ pub fn read_page<D: Disk>(disk: &mut D, page: u32, bytes: &mut [u8; 4096]) -> Re
     disk.read_at(PAGE * u64::from(page), bytes)
 }
 
-// The byte at a place of a file in memory; past its end it is 0.
+// Returns the byte at a place of a file in memory; past its end it is 0.
 fn byte_at(file: &[u8], place: usize) -> u8
     ensures { result ≡ slice_index file.now place }
 {
     if place < file.len() { file[place] } else { 0 }
 }
 
-// A page of bytes in memory, where they have all of it.
+// Returns a page of bytes in memory, where they have all of it.
 pub fn whole_page(file: &[u8], page: u32) -> Option<&[u8; 4096]>
     ensures { IfSome result (λ bytes. bytes.now ≡ page_of file.now page) }
 {
@@ -51,7 +51,7 @@ fn copy_page(file: &[u8], page: u32, bytes: &mut [u8; 4096])
     }
 }
 
-// Whether nodes may stand on a page.
+// Returns whether nodes may stand on a page.
 #[tactic(auto, unfolding(crate::specs::Reading::is_within))]
 pub fn is_within(pages: u32, page: u32) -> bool
     ensures test { result ≡ is_within pages page }
@@ -60,7 +60,7 @@ pub fn is_within(pages: u32, page: u32) -> bool
     page >= 3 && page < pages
 }
 
-/// The node that the bytes of a page spell, in a file of version 1 or 2 over points of `dim` coordinates. A page that
+/// Returns the node that the bytes of a page spell, in a file of version 1 or 2 over points of `dim` coordinates. A page that
 /// spells none is `Bad`; no other refusal comes but `Memory`.
 pub fn node_on(
     alloc: Global,
@@ -86,7 +86,8 @@ pub fn node_on(
     }
 }
 
-// The node of a page that bytes in memory do not have whole, in a file of version 2: on the page with this number among theirs.
+// Returns the node of a page that bytes in memory do not have whole, in a file of version 2: on the page with this number among
+// theirs.
 pub fn node_on_cut(
     alloc: Global,
     file: &[u8],

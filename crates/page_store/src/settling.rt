@@ -78,7 +78,7 @@ fn number_nodes(
     Ok(staged)
 }
 
-// The side of a file's other slot.
+// Returns the side of a file's other slot.
 fn other_side(side: u8) -> u8
     ensures { result ≡ 1 - side }
 {

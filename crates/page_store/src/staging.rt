@@ -55,7 +55,7 @@ impl Staged {
         Ok(())
     }
 
-    /// The node that is staged for a page, if one is.
+    /// Returns the node that is staged for a page, if one is.
     pub fn get(&self, page: u32) -> Option<&Node>
         ensures { MatchOption result (staged_for self.now page ≡ None) (λ node. staged_for self.now page ≡ Some node.now) }
     {
@@ -67,21 +67,21 @@ impl Staged {
         None
     }
 
-    /// The number of nodes.
+    /// Returns the number of nodes.
     pub fn len(&self) -> usize
         ensures { result ≡ length self.now }
     {
         self.nodes.len()
     }
 
-    /// Whether no node is staged.
+    /// Returns whether no node is staged.
     pub fn is_empty(&self) -> bool
         ensures { result ≡ (length self.now == 0) }
     {
         self.nodes.is_empty()
     }
 
-    /// What was staged as number `i`, from 0.
+    /// Returns what was staged as number `i`, from 0.
     pub fn at(&self, i: usize) -> &StagedNode
         requires { i < length self.now }
         ensures { slice_get self.now i ≡ Some result.now }
@@ -89,7 +89,7 @@ impl Staged {
         &self.nodes[i]
     }
 
-    /// The page of the node that was staged as number `i`, from 0.
+    /// Returns the page of the node that was staged as number `i`, from 0.
     pub fn page_at(&self, i: usize) -> u32
         requires { i < length self.now }
         ensures { (s : StagedNode) → slice_get self.now i ≡ Some s → result ≡ s.page }
@@ -97,7 +97,7 @@ impl Staged {
         self.nodes[i].page
     }
 
-    /// The node that was staged as number `i`, from 0.
+    /// Returns the node that was staged as number `i`, from 0.
     pub fn node_at(&self, i: usize) -> &Node
         requires { i < length self.now }
         ensures { (s : StagedNode) → slice_get self.now i ≡ Some s → result.now ≡ s.node }

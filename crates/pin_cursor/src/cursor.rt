@@ -50,7 +50,7 @@ pub struct Stepped {
 }
 
 impl Cursor {
-    /// A cursor before the first object. Only its root waits.
+    /// Returns a cursor before the first object. Only its root waits.
     pub fn open(alloc: Global, live: Live, q: Point) -> Result<Self, Memory>
         ensures begun { IfOk result (λ c. c ≡ begun live q) }
         ensures starts { IfOk result (λ c. (s : Space) (nodes : Nodes) → IsSpace s → IsSoundTree s nodes live → IsTrue (s.fits q) → IsCursorOn s nodes c) }
@@ -70,28 +70,28 @@ impl Cursor {
         })
     }
 
-    /// The live slot whose tree the cursor goes through.
+    /// Returns the live slot whose tree the cursor goes through.
     pub fn live(&self) -> Live
         ensures { result ≡ self.now.live }
     {
         self.live
     }
 
-    /// The point from which distances are measured.
+    /// Returns the point from which distances are measured.
     pub fn point(&self) -> &[u32]
         ensures { result.now ≡ self.now.point }
     {
         self.point.as_slice()
     }
 
-    /// How many hits the cursor has given.
+    /// Returns how many hits the cursor has given.
     pub fn given(&self) -> u64
         ensures { result ≡ self.now.given }
     {
         self.given
     }
 
-    /// The next `n` hits, or all that are left. After a refusal the cursor is as before.
+    /// Returns the next `n` hits, or all that are left. After a refusal the cursor is as before.
     ///
     /// A page that holds no node is `Bad`, one below 3 or not below the number of pages is `Outside`; where this step
     /// and those that answered before it opened as many nodes as the file has pages and a further one is to be opened,
@@ -159,7 +159,7 @@ impl Cursor {
         }
     }
 
-    // The cursor after a step.
+    // Returns the cursor after a step.
     fn settle(&mut self, walk: Walk) -> Stepped
         requires few { walk.opened ≤ self.old.live.pages }
         requires room { walk.given + length walk.candidates ≤ 32 * walk.opened }

@@ -10,7 +10,7 @@ use std::cmp::Reverse;
 use std::collections::BinaryHeap;
 use std::marker::Model;
 
-// Whether a distance is beyond the reach. Nothing is beyond none.
+// Returns whether a distance is beyond the reach. Nothing is beyond none.
 fn is_beyond(reach: Option<u64>, low: u64) -> bool
     ensures { IsTrue result ↔ IsBeyond reach low }
 {
@@ -44,7 +44,7 @@ impl Subtrees {
         }
     }
 
-    /// The same subtrees again.
+    /// Returns the same subtrees again.
     pub fn copy(&self) -> Result<Self, AllocError>
         ensures { IfOk result (λ copy. copy ≡ self.now) }
     {
@@ -105,7 +105,7 @@ impl Candidates {
         }
     }
 
-    /// The same candidates again.
+    /// Returns the same candidates again.
     pub fn copy(&self) -> Result<Self, AllocError>
         ensures { IfOk result (λ copy. copy ≡ self.now) }
     {
@@ -121,7 +121,7 @@ impl Candidates {
         Ok(())
     }
 
-    /// How far the nearest candidate is, where one waits.
+    /// Returns how far the nearest candidate is, where one waits.
     pub fn reach(&self) -> Option<u64>
         ensures { IsReach self.now result }
     {

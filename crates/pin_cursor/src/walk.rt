@@ -24,7 +24,7 @@ pub struct Walk {
 }
 
 impl Walk {
-    /// A step that begins with these.
+    /// Returns a step that begins with these.
     pub fn begin(
         alloc: Global,
         subtrees: Subtrees,

@@ -9,7 +9,7 @@ use crate::fault::LogFault;
 use byteorder::{BigEndian, ByteOrder};
 use metric_laws::Memory;
 
-/// The byte in front, and the bytes behind it.
+/// Returns the byte in front, and the bytes behind it.
 pub fn byte_at(bytes: &[u8]) -> Result<(u8, &[u8]), LogFault>
     ensures { Gives (λ x. (x.0, x.1.now)) result (byte_at bytes.now) }
 {
@@ -19,7 +19,7 @@ pub fn byte_at(bytes: &[u8]) -> Result<(u8, &[u8]), LogFault>
     }
 }
 
-/// The number in the first four bytes, and the bytes behind it.
+/// Returns the number in the first four bytes, and the bytes behind it.
 pub fn u32_at(bytes: &[u8]) -> Result<(u32, &[u8]), LogFault>
     ensures { Gives (λ x. (x.0, x.1.now)) result (number_at 4 bytes.now) }
 {
@@ -29,7 +29,7 @@ pub fn u32_at(bytes: &[u8]) -> Result<(u32, &[u8]), LogFault>
     Ok((BigEndian::read_u32(bytes), &bytes[4..]))
 }
 
-/// The number in the first eight bytes, and the bytes behind it.
+/// Returns the number in the first eight bytes, and the bytes behind it.
 pub fn u64_at(bytes: &[u8]) -> Result<(u64, &[u8]), LogFault>
     ensures { Gives (λ x. (x.0, x.1.now)) result (number_at 8 bytes.now) }
 {

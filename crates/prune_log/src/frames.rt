@@ -42,7 +42,7 @@ impl Framed for JoinLog {
     }
 }
 
-// The log of the first frame, and the bytes behind it.
+// Returns the log of the first frame, and the bytes behind it.
 #[tactic(auto, unfolding(crate::specs::Reading::frame_at))]
 fn frame_at<L: Framed>(alloc: Global, bytes: &[u8]) -> Result<(L, &[u8]), LogFault>
     ensures gives { Gives (λ x. (x.0, x.1.now)) result (frame_at L.reads bytes.now) }
@@ -57,7 +57,7 @@ fn frame_at<L: Framed>(alloc: Global, bytes: &[u8]) -> Result<(L, &[u8]), LogFau
     Ok((log, rest))
 }
 
-// The logs of all frames.
+// Returns the logs of all frames.
 fn frames<L: Framed>(alloc: Global, bytes: &[u8]) -> Result<Vec<L>, LogFault>
     ensures gives { Gives (λ logs. logs.items) result (frames_at L.reads bytes.now) }
     ensures short { length bytes.now < 2 ^ 64 }

@@ -20,7 +20,7 @@ const JOIN: u8 = 3;
 /// A tree: its generation and the page of its root.
 type Tree = (u64, u32);
 
-// The bytes behind the letters, the version and the kind.
+// Returns the bytes behind the letters, the version and the kind.
 #[tactic(auto, unfolding(crate::specs::Reading::join_opening_at))]
 fn join_opening_at(bytes: &[u8]) -> Result<&[u8], LogFault>
     ensures { Gives (λ x. x.now) result (join_opening_at bytes.now) }
@@ -33,7 +33,7 @@ fn join_opening_at(bytes: &[u8]) -> Result<&[u8], LogFault>
     Ok(rest)
 }
 
-// The left tree and the right.
+// Returns the left tree and the right.
 #[tactic(auto, unfolding(crate::specs::Reading::trees_at))]
 fn trees_at(bytes: &[u8]) -> Result<((Tree, Tree), &[u8]), LogFault>
     ensures { Gives (λ x. (x.0, x.1.now)) result (trees_at bytes.now) }
@@ -43,7 +43,7 @@ fn trees_at(bytes: &[u8]) -> Result<((Tree, Tree), &[u8]), LogFault>
     Ok(((left, right), rest))
 }
 
-// A join's log, and the bytes behind it.
+// Returns a join's log, and the bytes behind it.
 #[tactic(auto, unfolding(crate::specs::Reading::join_log_at))]
 fn join_log_at(alloc: Global, bytes: &[u8]) -> Result<(JoinLog, &[u8]), LogFault>
     ensures { Gives (λ x. (x.0, x.1.now)) result (join_log_at bytes.now) }
@@ -63,7 +63,7 @@ fn join_log_at(alloc: Global, bytes: &[u8]) -> Result<(JoinLog, &[u8]), LogFault
     Ok((log, rest))
 }
 
-// The join's log that takes all bytes.
+// Returns the join's log that takes all bytes.
 pub fn whole_join_log(alloc: Global, bytes: &[u8]) -> Result<JoinLog, LogFault>
     ensures { Gives (λ log. log) result (whole join_log_at bytes.now) }
 {
@@ -99,7 +99,7 @@ fn put_join_opening(out: &mut Vec<u8>) -> Result<(), Memory>
     Ok(())
 }
 
-/// The one spelling of a join's log.
+/// Returns the one spelling of a join's log.
 pub fn encode_join_log(alloc: Global, log: &JoinLog) -> Result<Vec<u8>, Memory>
     requires { IsLawfulJoinLog log.now }
     ensures { IfOk result (λ bytes. bytes.items ≡ join_log_bytes log.now) }

@@ -39,7 +39,7 @@ pub trait Piece: Drop {
     fn read(alloc: Global, bytes: &[u8]) -> Result<(Self, &[u8]), LogFault>
         ensures { Gives (λ x. (x.0, x.1.now)) result (reads bytes.now) };
 
-    /// Whether it may stand behind the last one.
+    /// Returns whether it may stand behind the last one.
     fn is_behind(&self, last: &Self) -> bool
         ensures { result ≡ follows last.now self.now };
 }
@@ -92,7 +92,7 @@ impl Piece for Hit {
     }
 }
 
-// The byte of a mark.
+// Returns the byte of a mark.
 fn mark_byte(mark: Mark) -> u8
     ensures { mark_bytes mark ≡ result ∷ [] }
 {
@@ -176,7 +176,7 @@ fn marks_at(alloc: Global, bytes: &[u8]) -> Result<(Listed<Mark>, &[u8]), LogFau
     Ok((Listed::new(marks), rest))
 }
 
-// The bytes of a node's marks, at the front of an array.
+// Returns the bytes of a node's marks, at the front of an array.
 fn marks_in_bytes(marks: &[Mark]) -> [u8; ENTRIES as usize]
     requires { length marks.now ≤ 32 }
     ensures { take (length marks.now) result ≡ flat_map mark_bytes marks.now }
@@ -225,7 +225,7 @@ impl Piece for Record {
     }
 }
 
-// A side: whether it is the right one.
+// Returns a side: whether it is the right one.
 #[tactic(auto, unfolding(crate::specs::Reading::side_at))]
 fn side_at(bytes: &[u8]) -> Result<(bool, &[u8]), LogFault>
     ensures { Gives (λ x. (x.0, x.1.now)) result (side_at bytes.now) }
@@ -266,7 +266,7 @@ impl Piece for JoinRecord {
     }
 }
 
-// The next piece of a list.
+// Returns the next piece of a list.
 fn next_at<'a, P: Piece>(
     alloc: Global,
     last: Option<&P>,
@@ -313,7 +313,7 @@ pub fn put_all<P: Piece>(out: &mut Vec<u8>, pieces: &[P]) -> Result<(), Memory>
     Ok(())
 }
 
-// A number of pieces in four bytes, and the pieces.
+// Returns a number of pieces in four bytes, and the pieces.
 #[tactic(auto, unfolding(crate::specs::Reading::listed_at))]
 pub fn short_list_at<P: Piece>(alloc: Global, bytes: &[u8]) -> Result<(Listed<P>, &[u8]), LogFault>
     ensures { Gives (λ x. (x.0, x.1.now)) result (listed_at 4 P.reads P.follows bytes.now) }
@@ -323,7 +323,7 @@ pub fn short_list_at<P: Piece>(alloc: Global, bytes: &[u8]) -> Result<(Listed<P>
     Ok((Listed::new(pieces), rest))
 }
 
-// A number of pieces in eight bytes, and the pieces.
+// Returns a number of pieces in eight bytes, and the pieces.
 #[tactic(auto, unfolding(crate::specs::Reading::listed_at))]
 pub fn long_list_at<P: Piece>(alloc: Global, bytes: &[u8]) -> Result<(Listed<P>, &[u8]), LogFault>
     ensures { Gives (λ x. (x.0, x.1.now)) result (listed_at 8 P.reads P.follows bytes.now) }

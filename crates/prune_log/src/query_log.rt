@@ -33,7 +33,7 @@ pub enum Asked {
     Nearest,
 }
 
-// The bytes behind the letters and the version.
+// Returns the bytes behind the letters and the version.
 #[tactic(auto, unfolding(crate::specs::Reading::opening_at))]
 pub fn opening_at(bytes: &[u8]) -> Result<&[u8], LogFault>
     ensures { Gives (λ x. x.now) result (opening_at bytes.now) }
@@ -49,7 +49,7 @@ pub fn opening_at(bytes: &[u8]) -> Result<&[u8], LogFault>
     Ok(rest)
 }
 
-// What is asked.
+// Returns what is asked.
 #[tactic(auto, unfolding(crate::specs::Reading::kind_at))]
 fn kind_at(bytes: &[u8]) -> Result<(Asked, &[u8]), LogFault>
     ensures { Gives (λ x. (x.0, x.1.now)) result (kind_at bytes.now) }
@@ -62,7 +62,7 @@ fn kind_at(bytes: &[u8]) -> Result<(Asked, &[u8]), LogFault>
     }
 }
 
-// The generation of a tree and the page of its root.
+// Returns the generation of a tree and the page of its root.
 #[tactic(auto, unfolding(crate::specs::Reading::tree_at))]
 pub fn tree_at(bytes: &[u8]) -> Result<((u64, u32), &[u8]), LogFault>
     ensures { Gives (λ x. (x.0, x.1.now)) result (tree_at bytes.now) }
@@ -72,7 +72,7 @@ pub fn tree_at(bytes: &[u8]) -> Result<((u64, u32), &[u8]), LogFault>
     Ok(((generation, root), rest))
 }
 
-// The coordinates of a point.
+// Returns the coordinates of a point.
 #[tactic(auto, unfolding(crate::specs::Reading::point_at))]
 fn point_at(alloc: Global, bytes: &[u8]) -> Result<(Point, &[u8]), LogFault>
     ensures { Gives (λ x. (x.0, x.1.now)) result (point_at bytes.now) }
@@ -86,7 +86,7 @@ fn point_at(alloc: Global, bytes: &[u8]) -> Result<(Point, &[u8]), LogFault>
     Ok((point, rest))
 }
 
-// A query of this kind.
+// Returns a query of this kind.
 fn query_of(asked: Asked, amount: u64, point: Point) -> Query
     ensures { result ≡ query_of asked amount point }
 {
@@ -102,7 +102,7 @@ fn query_of(asked: Asked, amount: u64, point: Point) -> Query
     }
 }
 
-// Whether a query of this kind asks for some answer.
+// Returns whether a query of this kind asks for some answer.
 fn is_amount(asked: Asked, amount: u64) -> bool
     ensures { result ≡ is_amount asked amount }
 {
@@ -112,7 +112,7 @@ fn is_amount(asked: Asked, amount: u64) -> bool
     }
 }
 
-// The radius or number of a query, and its point.
+// Returns the radius or number of a query, and its point.
 #[tactic(auto, unfolding(crate::specs::Reading::query_at))]
 fn query_at(alloc: Global, asked: Asked, bytes: &[u8]) -> Result<(Query, &[u8]), LogFault>
     ensures { Gives (λ x. (x.0, x.1.now)) result (query_at asked bytes.now) }
@@ -125,7 +125,7 @@ fn query_at(alloc: Global, asked: Asked, bytes: &[u8]) -> Result<(Query, &[u8]),
     Ok((query_of(asked, amount, point), rest))
 }
 
-// A log, and the bytes behind it.
+// Returns a log, and the bytes behind it.
 #[tactic(auto, unfolding(crate::specs::Reading::log_at))]
 fn log_at(alloc: Global, bytes: &[u8]) -> Result<(Log, &[u8]), LogFault>
     ensures { Gives (λ x. (x.0, x.1.now)) result (log_at bytes.now) }
@@ -146,7 +146,7 @@ fn log_at(alloc: Global, bytes: &[u8]) -> Result<(Log, &[u8]), LogFault>
     Ok((log, rest))
 }
 
-// The log that takes all bytes.
+// Returns the log that takes all bytes.
 pub fn whole_log(alloc: Global, bytes: &[u8]) -> Result<Log, LogFault>
     ensures { Gives (λ log. log) result (whole log_at bytes.now) }
 {
@@ -222,7 +222,7 @@ fn put_query(out: &mut Vec<u8>, query: &Query) -> Result<(), Memory>
     }
 }
 
-/// The one spelling of a log.
+/// Returns the one spelling of a log.
 pub fn encode_log(alloc: Global, log: &Log) -> Result<Vec<u8>, Memory>
     requires { IsLawfulLog log.now }
     ensures { IfOk result (λ bytes. bytes.items ≡ log_bytes log.now) }

@@ -38,7 +38,7 @@ use seal_log::{ProofFault, SealFault, Tree, carry, seal};
 use std::alloc::Global;
 use tree_shape::Live;
 
-// The first fault of a log, where it has one.
+// Returns the first fault of a log, where it has one.
 fn judge_by<M: Metric, P: Pages>(
     alloc: Global,
     metric: M,
@@ -62,7 +62,7 @@ fn judge_by<M: Metric, P: Pages>(
     }
 }
 
-// The first fault of a log over an opened index. What is kept of its pages is given back.
+// Returns the first fault of a log over an opened index. What is kept of its pages is given back.
 fn judge_log<D: Disk>(
     alloc: Global,
     index: &mut D,
@@ -90,14 +90,14 @@ fn judge_log<D: Disk>(
     Ok((judged?, kept))
 }
 
-// Whether all records name pages of a file.
+// Returns whether all records name pages of a file.
 fn are_within(records: &[Record], pages: u32) -> bool
     ensures { result ≡ list_all (λ r. nat_lt r.page pages) records.now }
 {
     records.iter().all(|record| record.page < pages)
 }
 
-// The line of a log that is carried.
+// Returns the line of a log that is carried.
 fn carried_text(alloc: Global, frame: u64) -> Result<Vec<u8>, Memory>
     ensures { IfOk result (λ text. text.items ≡ carried_line frame) }
 {
@@ -107,7 +107,7 @@ fn carried_text(alloc: Global, frame: u64) -> Result<Vec<u8>, Memory>
     Ok(text)
 }
 
-// The carried log of a log without a fault, as a frame. A log that is accepted names no page outside.
+// Returns the carried log of a log without a fault, as a frame. A log that is accepted names no page outside.
 fn carried_frame<D: Disk>(
     alloc: Global,
     index: &mut D,
@@ -138,7 +138,7 @@ fn carried_frame<D: Disk>(
     }
 }
 
-// The frame and the line of a log with this first fault, or with none, and whether it has none.
+// Returns the frame and the line of a log with this first fault, or with none, and whether it has none.
 fn log_texts<D: Disk>(
     alloc: Global,
     index: &mut D,
@@ -258,7 +258,7 @@ fn carry_all<D: Disk, K: Sink, L: Sink>(
     Ok(accepted)
 }
 
-// The last line where bytes are logs.
+// Returns the last line where bytes are logs.
 fn carried_end(accepted: bool) -> &'static [u8]
     ensures { result.now ≡ carried_end accepted }
 {

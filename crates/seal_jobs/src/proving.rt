@@ -16,7 +16,7 @@ use outside_io::{Sink, Source, Status};
 use seal_log::{ProofFault, Proved, read_proof, verify_carried};
 use std::alloc::Global;
 
-// What a carried log shows under a root digest, or its first fault.
+// Returns what a carried log shows under a root digest, or its first fault.
 fn judge(alloc: Global, root: &[u8; 32], body: &[u8]) -> Result<Proved, ProofFault>
     ensures accepted { IfOk result (λ proved. (c : CarriedLog) × IsAccepted root.now body.now c × (proved.query ≡ c.log.query)
         × (proved.answers ≡ c.log.answers)) }
@@ -30,7 +30,7 @@ fn judge(alloc: Global, root: &[u8; 32], body: &[u8]) -> Result<Proved, ProofFau
     verify_carried(alloc, &carried, metric)
 }
 
-// The text on a frame, and whether it is accepted.
+// Returns the text on a frame, and whether it is accepted.
 fn frame_text(
     alloc: Global,
     root: &[u8; 32],
@@ -67,7 +67,7 @@ fn judge_frame<K: Sink>(
     }
 }
 
-// The status where all frames are whole.
+// Returns the status where all frames are whole.
 fn end_status(accepted: bool) -> u8
     ensures { result ≡ (if accepted then 0 else 1) }
 {

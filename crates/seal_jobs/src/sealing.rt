@@ -13,7 +13,7 @@ use outside_io::{Memory, Sink, Status};
 use seal_log::{SealFault, seal};
 use std::alloc::Global;
 
-// The line of a sealed file.
+// Returns the line of a sealed file.
 fn sealed_text(alloc: Global, root: &[u8; 32]) -> Result<Vec<u8>, Memory>
     ensures { IfOk result (λ text. text.items ≡ sealed_text root.now) }
 {

@@ -24,7 +24,7 @@ pub enum Next {
     Cut,
 }
 
-// The next `most` bytes, or those up to the end where they are fewer. It asks for memory as they come, however large `most`
+// Returns the next `most` bytes, or those up to the end where they are fewer. It asks for memory as they come, however large `most`
 // is. `Input`: the source failed; `Long`: more than `room` bytes were taken.
 fn take_up_to<S: Source>(
     alloc: Global,
@@ -60,7 +60,7 @@ fn take_up_to<S: Source>(
     Ok(bytes)
 }
 
-// The number in a field of eight bytes.
+// Returns the number in a field of eight bytes.
 fn number_in(field: &[u8]) -> u64
     requires { length field.now ≡ 8 }
     ensures spelled { field.now ≡ big_bytes 8 result }
@@ -69,7 +69,7 @@ fn number_in(field: &[u8]) -> u64
     BigEndian::read_u64(field)
 }
 
-/// The next frame, where it ends within the next `room` bytes. It asks for no more memory than the bytes that came can fill.
+/// Returns the next frame, where it ends within the next `room` bytes. It asks for no more memory than the bytes that came can fill.
 pub fn next_frame<S: Source>(alloc: Global, source: &mut S, room: u64) -> Result<Next, Stop>
     ensures reads { IfOk result (ReadsNext room (S.left source.old) (S.left source.new)) }
     ensures stops { IfErr result (StopsReading room (S.left source.old) (S.left source.new)) }

@@ -18,7 +18,7 @@ use Rattle.seal_log.specs.Reading.{opening_at, path_at, place_at, page_at, pages
 
 -- ---- fields
 
--- so many bytes
+-- bytes that are spelled as they are
 abbrev pub plain : List ℕ → List ℕ
 plain x = x
 

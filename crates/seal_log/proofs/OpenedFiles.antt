@@ -1,4 +1,4 @@
--- The head and the live slot of a file of so many pages.
+-- The head and the live slot of a file of `pages` pages.
 use Rattle.std.proofs.Common.{◌≡◌, ◌≢◌, ℕ, zero, suc, ◌+◌, ◌-◌, ◌*◌, ◌<◌, ◌≤◌, ◌==◌, ◌&&◌, ◌||◌, ◌%◌, not, nat_lt, nat_le, Bool, true, false, cond, List, length, slice_index, Option, Some, None, refl, sym, ap, subst, ◌∙◌, arith, inl, inr}
 use Rattle.std.specs.Prelude.{IsTrue}
 use Rattle.std.proofs.lemmas.Bool.{le-ltb, leb-true, eqb-true, eq-eqb}
@@ -57,7 +57,7 @@ live_opens file pages head live size some spells (inr second) = (
   second.all,
 )
 
--- so many pages are enough for a slot that counts as many
+-- a lawful slot that counts `pages` pages is lawful in a file of `pages` pages
 enough : (limit size pages : ℕ) (live : Live) → live.pages ≡ pages → IsLawfulLive limit size live → IsLawfulLive limit (4096 * pages) live
 enough limit size pages live all lawful = record {
   low_generation = lawful.low_generation;

@@ -64,7 +64,7 @@ none-missing ps (r ∷ rs) i none = let both = told (is_carried ps r.page) i (mi
 
 -- ---- carried pages that are the file's own
 
--- its bytes, and that it has so many of them
+-- the bytes of such a page are the file's
 pub own_bytes : (file : List ℕ) (ps : List CarriedPage) (page : ℕ) → AllOwn file ps → is_carried ps page ≡ true → bytes_of ps page ≡ page_of file page
 unfolding bytes_of
 own_bytes file [] page own is = absurd cc

@@ -58,7 +58,7 @@ fn numbers(alloc: Global, from: u32, count: u32, centre: u32) -> Result<Vec<Entr
     Ok(entries)
 }
 
-// An entry of a root for a page whose objects lie within 8 of a routing point.
+// Returns an entry of a root for a page whose objects lie within 8 of a routing point.
 fn child(page: u32, point: u32) -> Entry
     ensures { result ≡ child page point }
 {
@@ -70,7 +70,7 @@ fn child(page: u32, point: u32) -> Entry
     }
 }
 
-/// A root on page 3 that is a leaf with these objects. The bytes of the pages before are these, or zeros.
+/// Returns a root on page 3 that is a leaf with these objects. The bytes of the pages before are these, or zeros.
 pub fn one_leaf(before: Vec<u8>, objects: &[Entry]) -> Result<Vec<u8>, AllocError>
     requires { length objects.now ≤ 32 }
     ensures { IfOk result (λ bytes. bytes.items ≡ one_leaf objects.now before.items) }
@@ -82,8 +82,8 @@ pub fn one_leaf(before: Vec<u8>, objects: &[Entry]) -> Result<Vec<u8>, AllocErro
     Ok(bytes)
 }
 
-/// The numbers 0 to 32 in two leaves, on pages 3 and 4, and on page 5 the root, whose second child is this page. The bytes of
-/// the pages before are these, or zeros.
+/// Returns the numbers 0 to 32 in two leaves, on pages 3 and 4, and on page 5 the root, whose second child is this page. The bytes
+/// of the pages before are these, or zeros.
 pub fn two_leaves(alloc: Global, before: Vec<u8>, second: u32) -> Result<Vec<u8>, AllocError>
     ensures { IfOk result (λ bytes. bytes.items ≡ two_leaves second before.items) }
 {
@@ -98,7 +98,7 @@ pub fn two_leaves(alloc: Global, before: Vec<u8>, second: u32) -> Result<Vec<u8>
     Ok(bytes)
 }
 
-/// A root on page 3 with six entries for this page, and six objects in a leaf on page 4. The bytes of the pages before are
+/// Returns a root on page 3 with six entries for this page, and six objects in a leaf on page 4. The bytes of the pages before are
 /// these, or zeros.
 pub fn six_entries(alloc: Global, before: Vec<u8>, page: u32) -> Result<Vec<u8>, AllocError>
     ensures { IfOk result (λ bytes. bytes.items ≡ six_entries page before.items) }
