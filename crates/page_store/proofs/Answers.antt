@@ -1,4 +1,4 @@
--- How a page's bytes give the answer to whoever asked for the page.
+-- How a page's bytes give the answer of a request for the page.
 use Rattle.std.specs.Prelude.{◌≡◌, ℕ, true, false, IsTrue, List, Option, Some, None, Result, Ok, Err, IfOk, IfErr, refl}
 use Rattle.std.proofs.Common.{◌∙◌, ap, arith, sym}
 use Rattle.std.proofs.lemmas.Bool.Decides.{nat_tests}
