@@ -35,8 +35,7 @@ pub struct Matches {
 
 impl Matches {
     /// Adds the pair of a leaf's object with the other item, at the distance `apart`. Where the other item is an object too, the
-    /// pair is
-    /// an answer, and no item is made for it. Otherwise the pair is needed.
+    /// pair is an answer, and no item is made for it. Otherwise the pair is needed.
     // It stands apart from the loops over entries, as `add_subtree` does: few entries have a pair.
     #[inline(never)]
     pub fn add_object(
@@ -57,8 +56,7 @@ impl Matches {
     }
 
     /// Adds the pair of a subtree with the other item, at the distance `apart` of its centre. The subtree is named by an inner node
-    /// of
-    /// the level `level`. The pair is needed.
+    /// of the level `level`. The pair is needed.
     #[inline(never)]
     pub fn add_subtree(
         &mut self,

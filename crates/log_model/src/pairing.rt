@@ -203,8 +203,7 @@ impl JoinNeed {
     }
 
     /// Returns the distance of an entry's point from the other item. Returns none where the other item is a root, which has no
-    /// centre;
-    /// then no distance is computed.
+    /// centre; then no distance is computed.
     pub fn apart_from<R: Ruler>(&self, ruler: &mut R, point: &[u32]) -> Option<u64>
         ensures metric { R.metric ruler.new ≡ R.metric ruler.old }
         ensures value { result ≡ apart_from (R.M.space (R.metric ruler.old)) self.now point.now }

@@ -625,7 +625,7 @@ ran_session show input rest bytes read disk0 disk1 out0 out1 log0 log1 status ta
   index = refused.index;
 }
 
--- it is done, but for want of memory
+-- the session is done, unless memory ran out
 pub ran_complete : (show : Bool) (input : Option (List ℕ)) (disk0 disk1 : DiskState) (out0 out1 log0 log1 : SinkState) (status : ℕ) (Input : Type 0) → RunsSession show input disk0 disk1 out0 out1 log0 log1 status →
     HasRefused disk0 disk1 out0 out1 log0 log1 status →
     IsComplete input disk0 (Input ⊎ (Rose disk0.faults disk1.faults ⊎ (Rose out0.faults out1.faults ⊎ Rose log0.faults log1.faults))) status

@@ -49,8 +49,7 @@ pub enum ProofFault {
     #[error("a carried log that is cut")]
     Cut,
     /// There are fewer than three pages, the first three are not pages 0, 1 and 2, a page does not stand behind the one before it,
-    /// or
-    /// a page is past the end of the file.
+    /// or a page is past the end of the file.
     #[error("a carried log whose pages are not in order")]
     Order,
     /// Bytes are left behind the log.
