@@ -21,7 +21,7 @@ pub fn value<'a>(matches: &ArgMatches<'a>, name: &str) -> Option<&'a str>
     matches.get_str(name)
 }
 
-// Returns whether a name is one of these.
+// Returns whether `name` is one of `names`.
 fn is_among(name: &str, names: &[&str]) -> bool
     ensures { result ≡ list_any (bytes_eq name.now) (map (λ s. s.now) names.now) }
 {
@@ -33,14 +33,14 @@ fn is_among(name: &str, names: &[&str]) -> bool
     false
 }
 
-// Returns whether this is given, and is none of the names.
+// Returns whether `name` is given, and is none of `names`.
 fn is_other(matches: &ArgMatches<'_>, names: &[&str], name: &str) -> bool
     ensures { result ≡ is_other (map (λ s. s.now) names.now) (given_in matches.now) name.now }
 {
     value(matches, name).is_some() && !is_among(name, names)
 }
 
-// Returns whether one of these options is given, and is none of the names.
+// Returns whether one of `options` is given that is none of `names`.
 fn has_other_option(matches: &ArgMatches<'_>, names: &[&str], options: &[&str]) -> bool
     ensures { result
         ≡ list_any (is_other (map (λ s. s.now) names.now) (given_in matches.now)) (map (λ s. s.now) options.now) }
@@ -53,14 +53,14 @@ fn has_other_option(matches: &ArgMatches<'_>, names: &[&str], options: &[&str]) 
     false
 }
 
-/// Returns whether something is given that is none of the names. COMMAND always is.
+/// Returns whether something is given that is none of `names`. COMMAND always is.
 pub fn has_other(matches: &ArgMatches<'_>, names: &[&str]) -> bool
     ensures { result ≡ has_other (map (λ s. s.now) names.now) (given_in matches.now) }
 {
     is_other(matches, names, "INDEX") || has_other_option(matches, names, &OPTIONS)
 }
 
-// Returns the number of an option, from the least to the most; the other where it isn't given.
+// Returns the number of an option, from the least to the most; the default where the option is not given.
 fn number_in(
     matches: &ArgMatches<'_>,
     name: &str,
@@ -81,7 +81,7 @@ fn number_in(
     Some(n)
 }
 
-/// Returns the most objects, `--max`.
+/// Returns the greatest number of objects, `--max`.
 pub fn limit_in(matches: &ArgMatches<'_>) -> Option<u32>
     ensures value { result ≡ limit_given (given_in matches.now) }
     ensures lawful { IfSome result IsLimit }
@@ -99,7 +99,7 @@ pub fn workers_in(matches: &ArgMatches<'_>) -> Option<usize>
     Some(workers as usize)
 }
 
-/// Returns how many objects are generated, `--count`.
+/// Returns the number of generated objects, `--count`.
 pub fn count_in(matches: &ArgMatches<'_>) -> Option<u32>
     ensures value { result ≡ count_given (given_in matches.now) }
     ensures lawful { IfSome result IsCount }
@@ -183,7 +183,7 @@ pub fn generated_space_in(matches: &ArgMatches<'_>) -> Option<SpaceName>
     Some(space)
 }
 
-// Returns the promotion policy of a name; the usual one where there is none.
+// Returns the promotion policy of a name, or the default where there is no name.
 fn promote_or(text: Option<&str>) -> Option<Promote>
     ensures { result ≡ promote_or (option_map (λ s. s.now) text.entry) }
 {
@@ -193,7 +193,7 @@ fn promote_or(text: Option<&str>) -> Option<Promote>
     }
 }
 
-// Returns the partition policy of a name; the usual one where there is none.
+// Returns the partition policy of a name, or the default where there is no name.
 fn split_or(text: Option<&str>) -> Option<Split>
     ensures { result ≡ split_or (option_map (λ s. s.now) text.entry) }
 {
