@@ -40,7 +40,7 @@ module _ (new0 new1 : DiskState) (out0 out1 : SinkState) (status : ℕ) where
     statuses = inl five;
   }
 
--- nothing was read, for want of memory
+-- nothing was read, because memory ran out
 pub migrates_no_memory : (new old : DiskState) (out0 out1 : SinkState) (status : ℕ) → status ≡ 8 → Tells out0 out1 (codes "fault memory\n") → Migrates new new old old out0 out1 status
 migrates_no_memory new old out0 out1 status eight line = record {
   old_same = unchanged old;

@@ -143,7 +143,7 @@ module _ (law : AuditFaultsAreUnsoundness) (s : Space) (old mid : Shelf) (t : Li
 
 -- ---- how reading an old file ends
 
--- what is told besides a failure of the disk and want of memory
+-- what is told, other than a failure of the disk and running out of memory
 told_by : (is_told : Bool) (before now : ℕ) (told : Option AuditFault) (fault : AuditFault) → (IsPassing fault → ⊥) → HasOldFault is_told before now told fault → IsTrue is_told → told ≡ Some fault
 told_by is_told before now told audit.Memory other cause tells = absurd (other tt)
 told_by is_told before now told (audit.Page page.Disk) other cause tells = absurd (other tt)
