@@ -1,4 +1,4 @@
-// The answers of a log against those that its records name.
+// Compares the answers of a log with those that its records name.
 ghost use Rattle.std.specs.Prelude.{◌≡◌, ◌<◌, ◌^◌, length};
 ghost use Rattle.log_model.specs.Grammar.{query_point};
 ghost use Rattle.log_verify.specs.Judged.{first_difference};
