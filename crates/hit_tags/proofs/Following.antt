@@ -226,7 +226,7 @@ module _ (are_marked : Bool) where
     far_taken taken old now new most far one =
         far_next old now new (most_asked are_marked (drop (i + 1) rs)) most (subst (λ (n : ℕ). SoFar old now n most) (cost_taken taken) far) one
 
--- where the log is known to mark each node, one for each record of which something is marked Near
+-- where the log is known to mark each node, the walk asks for one page for each record with a Near mark
 pub most_near : (rs : List Record) → most_asked true rs ≡ near_records rs
 most_near [] = refl
 most_near (r ∷ rs) = cases (has_near r.marks) (most_near rs)

@@ -1,4 +1,4 @@
-// The join of two opened indexes, and what it writes.
+// Joins two opened indexes, and writes the result.
 ghost use Rattle.std.specs.Prelude.{◌≡◌, ◌≢◌, ◌⊎◌, ◌≤◌, true, IsTrue, IfOk, IfErr, codes};
 ghost use Rattle.std.specs.Io.KnownBytes.{Appends};
 ghost use Rattle.outside_io.specs.Bytes.{AppendsPrefix};
@@ -112,7 +112,7 @@ pub fn end_joined<K: Sink, T: Sink>(
     }
 }
 
-// Ends a join that met a page which gave no node.
+// Ends a join that met a page without a node.
 fn end_damaged<K: Sink>(alloc: Global, fault: PageFault, out: &mut K) -> Status
     ensures damaged { result.0 ≡ 9 → Tells (K.state out.old) (K.state out.new) (damaged_text fault) }
     ensures memory { result.0 ≡ 8 → Tells (K.state out.old) (K.state out.new) (codes "fault memory\n") }
@@ -125,7 +125,7 @@ fn end_damaged<K: Sink>(alloc: Global, fault: PageFault, out: &mut K) -> Status
     }
 }
 
-/// Ends a join that is refused.
+/// Ends a refused join.
 pub fn end_refused<K: Sink>(alloc: Global, fault: JoinFault, out: &mut K) -> Status
     ensures ends { EndsRefused fault (K.state out.old) (K.state out.new) result.0 }
     ensures later { (K.state out.old).faults ≤ (K.state out.new).faults }

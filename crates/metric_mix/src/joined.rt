@@ -1,4 +1,4 @@
-//! Points that are two points, one after the other.
+//! Splits points that are two points, one after the other.
 
 ghost use Rattle.std.specs.Prelude.{◌≡◌, take, drop};
 

@@ -6,7 +6,7 @@ use crate::joined;
 use metric_laws::Metric;
 use std::alloc::AllocError;
 
-/// Takes the greater of the distances of two metrics.
+/// The greater of the distances of two metrics.
 pub struct Most<A: Metric, B: Metric> {
     pub first: A,
     pub second: B,

@@ -27,7 +27,7 @@ pub fn is_spelled(p: &[u32]) -> bool
     true
 }
 
-/// Returns the least difference from `x`, the greatest `u32` where the list is empty.
+/// Returns the distance of `x` from the nearest number of the list, or the greatest `u32` where the list is empty.
 fn nearest(x: u32, b: &[u32]) -> u32
     ensures { result ≡ fold (λ least y. min least (gap x y)) (2 ^ 32 - 1) b.now }
 {
@@ -35,7 +35,7 @@ fn nearest(x: u32, b: &[u32]) -> u32
         .fold(u32::MAX, |least, y| least.min(x.abs_diff(*y)))
 }
 
-/// Returns the greatest distance from a number of the first list to the nearest of the second.
+/// Returns the greatest distance of a number of the first list from the nearest number of the second.
 pub fn farthest(a: &[u32], b: &[u32]) -> u32
     ensures { result ≡ farthest a.now b.now }
 {

@@ -6,7 +6,7 @@ use crate::joined;
 use metric_laws::{Metric, cap};
 use std::alloc::AllocError;
 
-/// Adds the distances of two metrics, at most the greatest distance.
+/// The sum of the distances of two metrics, at most the greatest distance.
 pub struct Sum<A: Metric, B: Metric> {
     pub first: A,
     pub second: B,
