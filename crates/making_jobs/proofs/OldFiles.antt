@@ -1,4 +1,4 @@
--- Files of the first version: how they are opened, audited and read.
+-- Files of version 1: how they are opened, audited and read.
 use Rattle.std.proofs.Common.{◌≡◌, ◌≢◌, ◌⊎◌, ⊎_elim, inl, inr, ℕ, ◌≤◌, Bool, true, false, List, Option, Some, None, Result, Ok, Err, IfOk, IfErr, refl, sym, ap, ◌∙◌, subst, arith}
 use Rattle.std.specs.Prelude.{codes, IsTrue}
 use Rattle.std.specs.Io.KnownBytes.{Appends}
@@ -35,7 +35,7 @@ use Rattle.making_jobs.specs.Ordering.{HasTakingCause}
 
 -- ---- opening
 
--- of two versions the one that is not the first
+-- a version other than 1 is 2
 pub is_second : (version : ℕ) → IsTrue (is_version version) → version ≢ 1 → version ≡ 2
 unfolding is_version
 is_second version is other = grind (arith)

@@ -55,7 +55,7 @@ pub record IsCollecting (old now : Shelf) (t : Live) (found : List LeafEntry) (o
 abbrev children : Option Node → List ℕ
 children o = map (λ e. e.child) (inner_entries o)
 
--- ---- where nothing but the tree's nodes is to come
+-- ---- where only the tree's nodes are to come
 
 module _ (s : Space) (nodes : Nodes) (t : Live) where
   front_begins : IsSoundTree s nodes t → AreFront s nodes t [] 0 (t.root ∷ [])
@@ -202,7 +202,7 @@ module _ (old : Shelf) (t : Live) where
     told : IsTrue old.tells → IsTrue now.tells
     told tells = rw before.same.tells tells
 
-    -- on a sound tree nothing but a passing fault is refused
+    -- on a sound tree only a passing fault is refused
     pub passes : (new : Shelf) (fault : PageFault) → HasPageCause now new page fault → IsTrue old.tells → (s : Space) → IsSoundTree s (nodes_of old.read) t → IsPassing fault
     passes new Disk cause tells s sound = tt
     passes new Memory cause tells s sound = tt

@@ -106,7 +106,7 @@ no_output : stop.Memory ≢ stop.Sink
 unfolding is_no_sink
 no_output e = subst is_no_sink e tt
 
--- a scene in which this was put to out
+-- a scene with the given output
 abbrev pub scene : DiskState → DiskState → Option (List ℕ) → SinkState → SinkState → Scene
 scene disk other left log_out out = record { index = disk; other = other; left = left; out = out; log_out = log_out }
 

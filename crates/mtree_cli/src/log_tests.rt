@@ -195,7 +195,7 @@ fn logs_that_are_accepted(rt: HostRuntime) -> Result<(), Fail> {
     )
 }
 
-// A changed byte of the log, and the lines of `verify`. The lines of `check` are the same behind `file sound`.
+// Checks that changed logs are rejected: a byte of the log, and the lines of `verify`. The lines of `check` follow `file sound`.
 #[test]
 fn logs_that_are_rejected(rt: HostRuntime) -> Result<(), Fail> {
     let rejected: [(usize, u8, &str, &str); 7] = [
@@ -286,7 +286,7 @@ fn a_cut_file_of_logs_and_a_second_frame(rt: HostRuntime) -> Result<(), Fail> {
     )
 }
 
-// An index that is not sound, an index without its root's page, and an index of version 1.
+// Checks that bad files are rejected: one that is not sound, one without its root's page, and one of version 1.
 #[test]
 fn files_that_are_rejected(rt: HostRuntime) -> Result<(), Fail> {
     let cases: [(usize, u8, u8, &str, u8, &str); 3] = [
@@ -329,7 +329,7 @@ fn files_that_are_rejected(rt: HostRuntime) -> Result<(), Fail> {
     Ok(())
 }
 
-// The call of the disk, of the logs and of out from which each fails; the status; and what is written.
+// Checks failing devices: the call of the disk, of the logs and of out from which each fails; the status; and what is written.
 #[test]
 fn devices_that_fail(rt: HostRuntime) -> Result<(), Fail> {
     let cases: [(Option<u64>, Option<u64>, Option<u64>, u8, &str); 8] = [

@@ -64,7 +64,7 @@ fn sessions(rt: HostRuntime) -> Result<(), Fail> {
     Ok(())
 }
 
-// A session's log shows its answers, and the index goes on in a second session.
+// Checks that a session's log shows its answers, and that the index goes on in a second session.
 #[test]
 fn a_log_of_a_session(rt: HostRuntime) -> Result<(), Fail> {
     let mut index = disk_of(rt.alloc(), &[], None)?;
@@ -142,7 +142,8 @@ fn check_range<R: AllocGlobal + Abort + Threads + Sync, D: SharedDisk>(
     Ok(logs)
 }
 
-// The 33rd insert splits the leaf. Its tree is searched, and a log is refused after a later insert, which uses free pages again.
+// Checks that the 33rd insert splits the leaf. The tree is searched, and a log is refused after a later insert, which uses free
+// pages again.
 #[test]
 fn a_leaf_is_split(rt: HostRuntime) -> Result<(), Fail> {
     let alloc = rt.alloc();
@@ -167,7 +168,7 @@ fn a_leaf_is_split(rt: HostRuntime) -> Result<(), Fail> {
     Ok(())
 }
 
-// All objects are loaded at once, or are all the same.
+// Checks loading all objects at once, and equal objects.
 #[test]
 fn a_load_and_equal_points(rt: HostRuntime) -> Result<(), Fail> {
     let alloc = rt.alloc();
@@ -237,7 +238,7 @@ const HOSTILE: [Hostile; 11] = [
     (9, 3, "range,7,0,0\n", 6, "fault notindex version\n"),
 ];
 
-// A session on files that are not sound.
+// Runs sessions on files that are not sound.
 #[test]
 fn hostile_files(rt: HostRuntime) -> Result<(), Fail> {
     let alloc = rt.alloc();
@@ -278,7 +279,7 @@ fn repeating(alloc: Global, child: u8) -> Result<Vec<u8>, AllocError> {
     Ok(file)
 }
 
-// A page that is reached more than once.
+// Checks a page that is reached more than once.
 #[test]
 fn pages_that_repeat(rt: HostRuntime) -> Result<(), Fail> {
     let alloc = rt.alloc();
@@ -299,7 +300,7 @@ fn pages_that_repeat(rt: HostRuntime) -> Result<(), Fail> {
     Ok(())
 }
 
-// Input and out that fail: no object is there, or only the object whose reply could not be put.
+// Checks input and out that fail: no object is there, or only the object whose reply could not be put.
 #[test]
 fn devices_of_a_session_fail(rt: HostRuntime) -> Result<(), Fail> {
     let cases: [(Option<u64>, Option<u64>, u8, &str, &str); 2] = [
@@ -376,7 +377,7 @@ fn check_left<R: AllocGlobal + Abort + Threads + Sync, D: SharedDisk>(
     Ok(())
 }
 
-// A disk that stops at any of its calls leaves the objects that were acknowledged, or one more.
+// Checks that a disk that stops at any of its calls leaves the objects that were acknowledged, or one more.
 #[test]
 fn a_session_is_stopped(rt: HostRuntime) -> Result<(), Fail> {
     let alloc = rt.alloc();

@@ -77,6 +77,6 @@ answers_outside v old new page file is of_file = (
       ∙ reads_outside v old.dim old.pages file page is,
 )
 
--- a page that is one of them is not refused as none
+-- a page that is one of them is not refused as outside
 pub not_outside : {P : Type 0} (pages page : ℕ) → is_within pages page ≡ true → is_within pages page ≡ false → P
 not_outside pages page is not_is = absurd cc

@@ -259,7 +259,7 @@ carrying-faultless s head live file log pages given =
 abbrev read_ok : Parts × List ℕ → Result (Parts × List ℕ) LogFault
 read_ok x = Ok x
 
--- a carried log of the same parts and the same log is judged so
+-- a carried log with the same parts and the same log is accepted
 carrying-judged : (s : Space) (head : Head) (live : Live) (file : List ℕ) (log : Log) (pages : List ℕ) (c : CarriedLog) → IsCarrying s head live file log pages → IsCarried c → c.live.pages ≡ live.pages → c.carried ≡ Pages file live.pages pages → c.log ≡ log → judged_fault s c ≡ None
 carrying-judged s head live file log pages c given is count same log-is =
     let fc = carried_file live.pages (Pages file live.pages pages) in
