@@ -34,13 +34,13 @@ pub enum Job<Name> {
         index: Name,
         workers: usize,
     },
-    /// `verify`: whether a log's pages are those of the file.
+    /// `verify`: the verdict on each log, by the pages of the index, or of both indexes where `other` is given.
     Verify {
         index: Name,
         log: Name,
         other: Option<Name>,
     },
-    /// `check`: whether a log's answers are complete.
+    /// `check`: whether the index is sound, and whether each log's answers are complete.
     Check {
         index: Name,
         log: Name,

@@ -51,9 +51,9 @@ NewTreesStand =
     AreNew placed.next tree (pages_of placed.staged) → IsWritten old tree placed.staged new →
     StandsOnPages new placed.next (pages_of placed.staged)
 
--- On any file, after `opened` opened pages, the walk by child numbers names exactly one page. Where the walk is whole, that page
--- holds a node, and fewer pages were opened than in the whole walk. So a walk that meets a page without a node, or names more pages
--- than there are, has no other result, and its fault names that page.
+-- On any file, the page that the walk by child numbers names after `opened` opened pages is the only one. Where the walk is whole,
+-- that page holds a node, and fewer pages were opened than in the whole walk. So a walk that meets a page without a node, or names
+-- more pages than there are, has no other result, and its fault names that page.
 abbrev pub TourHasOneCourse : Type 0
 TourHasOneCourse =
     (nodes : Nodes) (root opened page : ℕ) → Names nodes root opened page →

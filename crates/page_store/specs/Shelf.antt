@@ -9,7 +9,7 @@ use Rattle.page_store.specs.declared.pages.PageFault.TheVariants.{Disk, Bad, Out
 use Rattle.page_store.specs.Reading.{Read, IsWithin, is_within}
 
 -- What pages mean: how many coordinates their points have; how many pages there are; what each page holds, where `tells` is true;
--- how many nodes were asked for; how often the disk was read; and how often it failed.
+-- how many requests for a node there were; how often the disk was read; and how often it failed.
 pub record Shelf : Type 0 where
   pub dim : ℕ
   pub pages : ℕ

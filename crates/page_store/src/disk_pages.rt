@@ -16,7 +16,7 @@ pub struct DiskPages<'a, D: Disk> {
     pub dim: u8,
     /// The number of pages: nodes stand on pages from 3 up and below this number.
     pub pages: u32,
-    /// How many nodes were asked for. The count stops at the greatest `u64`.
+    /// The number of requests for a node. The count stops at the greatest `u64`.
     pub asked: u64,
     /// Whether the file is of version 1.
     pub first_version: bool,

@@ -15,7 +15,7 @@ pub struct ImagePages<'a> {
     pub dim: u8,
     /// The number of pages: nodes stand on pages from 3 up and below this number.
     pub pages: u32,
-    /// How many nodes were asked for. The count stops at the greatest `u64`.
+    /// The number of requests for a node. The count stops at the greatest `u64`.
     pub asked: u64,
     ghost some: { 1 ≤ dim },
     ghost few: { dim ≤ 64 },

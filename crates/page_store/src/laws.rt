@@ -27,8 +27,8 @@ pub fn new_trees_stand()
     ensures { NewTreesStand }
 {}
 
-/// Take the walk by child numbers of a tree whose pages tell what they hold. Exactly one of these holds: the walk is whole; it meets
-/// a page that holds no node; it names one more page after it has opened as many as there are.
+/// The walk by child numbers has one course, where the tree's pages tell what they hold: it is whole, or it meets a page that holds
+/// no node, or it names one more page after it has opened as many as there are. At most one of these happens, with only one page.
 pub fn tour_has_one_course()
     ensures { TourHasOneCourse }
 {}

@@ -85,8 +85,8 @@ fn follow<P: Pages, R: Ruler>(
 }
 
 /// Returns all objects within `r` of `q`, by distance, then by id (VLDB 1997, section 4.1), and the log that shows it. The live tree
-/// is walked from its root. A subtree or an object is skipped where its parent distance rules it out, and left out where its own
-/// distance does.
+/// is walked from its root. A subtree or an object is skipped where the distances to the routing object above rule it out, and left
+/// out where its own distance does.
 ///
 /// A page that holds no node is `Bad`. A page below 3 or not below the number of pages is `Outside`. A page is `Repeats` where the
 /// walk has opened as many nodes as the file has pages and needs this page too. None of these comes on a sound tree. `Disk` comes

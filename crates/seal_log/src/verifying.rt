@@ -16,7 +16,7 @@ use std::alloc::Global;
 #[derive(Drop)]
 struct CarriedPages<'a> {
     carried: &'a Carried,
-    // How many pages were asked for. The count stops at the greatest `u64`.
+    // The number of requests for a node. The count stops at the greatest `u64`.
     asked: u64,
 }
 
