@@ -9,7 +9,7 @@ use rows_text::{Refusal, Reply};
 pub enum Outcome {
     /// The command was answered.
     Done {
-        /// The reply. Hits come with a tag for each.
+        /// The reply. Its hits have a tag each, or no tags where these are not wanted.
         reply: Reply,
         /// The log of a query that was answered with hits.
         log: Option<Log>,
