@@ -1,8 +1,8 @@
--- What a disk is to those who use it: what a read gives, and what a crash may leave.
+-- What a disk means to its users: what a read gives, and what a crash may leave.
 use Rattle.std.specs.Prelude.{◌≡◌, ◌⊎◌, ◌↔◌, ℕ, ◌+◌, ◌<◌, ◌≤◌, max, Bool, List, length, slice_index}
 
--- What a disk means: the bytes that a read gives, where it tells them; a clock, which is a number that never falls;
--- the files that a crash at a moment up to now may leave; how often the disk has failed, and how often it was read.
+-- What a disk means: the bytes that a read gives, where it tells them; a clock, which is a number that never falls; the files that a
+-- crash at a moment up to now may leave; how often the disk failed; and how often it was read.
 pub record DiskState : Type 1 where
   pub tells : Bool
   pub bytes : List ℕ
@@ -21,13 +21,13 @@ MayLeave disk file = disk.images disk.clock file
 abbrev pub LeavesOnly : DiskState → List ℕ → Type 0
 LeavesOnly disk file = (image : List ℕ) → MayLeave disk image → image ≡ file
 
--- At each moment from `old` to `new` every image has P. What a crash before that may have left stays as it was.
+-- At each moment from `old` to `new` every image has `P`. What a crash before `old` may have left is unchanged.
 pub record EachImage (old new : DiskState) (P : List ℕ → Type 0) : Type 0 where
   pub later : old.clock ≤ new.clock
   pub each : (moment : ℕ) (image : List ℕ) → old.clock ≤ moment → moment ≤ new.clock → new.images moment image → P image
   pub past : (moment : ℕ) (image : List ℕ) → moment < old.clock → new.images moment image → old.images moment image
 
--- From some moment on every image has P. Before that moment the images are among those of the start.
+-- From some moment on every image has `P`. Before that moment the images are among those of the start.
 pub record EachImageOnce (old new : DiskState) (P : List ℕ → Type 0) : Type 0 where
   pub from : ℕ
   pub later : old.clock ≤ from
@@ -37,15 +37,15 @@ pub record EachImageOnce (old new : DiskState) (P : List ℕ → Type 0) : Type 
 
 -- ---- what a write does to a file. A place past the end of a file reads as 0.
 
--- the file after a write: these bytes at this place, a gap before them filled with 0, and every other byte as before
+-- the file after a write: the bytes at place `at`, zeros in a gap before them, and each other byte as before
 pub record Written (at : ℕ) (bytes old new : List ℕ) : Type 0 where
   pub size : length new ≡ max (length old) (at + length bytes)
   pub inside : (i : ℕ) → i < length bytes → slice_index new (at + i) ≡ slice_index bytes i
   pub below : (i : ℕ) → i < at → slice_index new i ≡ slice_index old i
   pub above : (i : ℕ) → at + length bytes ≤ i → slice_index new i ≡ slice_index old i
 
--- The file where a crash cuts a write of `count` bytes short: any bytes in its range and past the old end, any length
--- between, and every other byte as before.
+-- The file after a crash cut a write of `count` bytes short: any bytes in the write's range and past the old end, any length from
+-- the old one to that after the write, and each other byte as before.
 pub record Torn (at count : ℕ) (old new : List ℕ) : Type 0 where
   pub no_shorter : length old ≤ length new
   pub no_longer : length new ≤ max (length old) (at + count)
@@ -54,17 +54,17 @@ pub record Torn (at count : ℕ) (old new : List ℕ) : Type 0 where
 
 -- ---- what one call does
 
--- each image now comes from an image before by such a step
+-- each image now comes from an image before by the step `step`
 abbrev pub Follows : (List ℕ → List ℕ → Type 0) → DiskState → DiskState → Type 0
 Follows step old new = (image : List ℕ) → MayLeave new image → (before : List ℕ) × MayLeave old before × step before image
 
--- what a read gives and the images are as before, and were so at each moment between
+-- what a read gives and the images are as before, and were the same at each moment between
 pub record IsUnchanged (old new : DiskState) : Type 0 where
   pub same_tells : new.tells ≡ old.tells
   pub same_bytes : new.bytes ≡ old.bytes
   pub same_images : (image : List ℕ) → MayLeave new image ↔ MayLeave old image
   pub time : EachImage old new (MayLeave old)
 
--- a crash within the call leaves what a crash before it or after it may leave
+-- a crash within the call leaves what a crash before the call or after it may leave
 abbrev pub IsOneCall : DiskState → DiskState → Type 0
 IsOneCall old new = EachImage old new (λ image. MayLeave old image ⊎ MayLeave new image)

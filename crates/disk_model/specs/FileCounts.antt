@@ -1,14 +1,14 @@
--- A disk over a real file: it counts, and tells nothing of content.
+-- A disk over a real file: it counts, and tells nothing about the content.
 use Rattle.std.specs.Prelude.{ℕ, false, [], IsTrue}
 use Rattle.std.proofs.lemmas.Bool.{false≢true}
 use Rattle.disk_model.specs.Disk.{DiskState}
 
--- how often it failed, and was read
+-- how often the disk failed, and how often it was read
 pub record FileCounts : Type 0 where
   pub faults : ℕ
   pub reads : ℕ
 
--- it tells no bytes, and no image
+-- the disk tells no bytes, and no image
 abbrev pub state_of : FileCounts → DiskState
 state_of disk = record {
   tells = false;

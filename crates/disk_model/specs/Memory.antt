@@ -1,5 +1,5 @@
--- The disk in memory: its own model, which its contracts and tests need, and no other disk. Model says what it holds and
--- when its calls fail, Images what a crash may leave of it. The others say how the code keeps this.
+-- The disk in memory: its own model, which only its contracts and its tests need. `Model` says what it holds and when its calls
+-- fail. `Images` says what a crash may leave of it. The other modules say how the code keeps this.
 pub mod Model
 pub mod Images
 pub mod Files

@@ -1,4 +1,4 @@
--- How stretches of moments go together, for whoever makes several calls of a disk.
+-- How stretches of moments combine, for several calls of a disk.
 use Rattle.std.specs.Prelude.{◌≡◌, ◌⊎◌, ℕ, ◌≤◌, List, length}
 use Rattle.std.proofs.Common.{arith, inl, inr, ◌∙◌, ⊎_elim}
 use Rattle.std.proofs.lemmas.Bool.{cases_lt}
@@ -34,7 +34,7 @@ joined old mid new P first second = record {
   past = λ moment image lt left. first.past moment image lt (second.past moment image (omega (arith, first.later)) left);
 }
 
--- one call more, before and after which every image has P
+-- a stretch extended by one call; every image before and after the call has `P`
 pub goes_on : (old mid new : DiskState) (P : List ℕ → Type 0) → EachImage old mid P → IsOneCall mid new →
     ((image : List ℕ) → MayLeave mid image → P image) → ((image : List ℕ) → MayLeave new image → P image)
     → EachImage old new P
@@ -42,7 +42,7 @@ goes_on old mid new P first call before here =
     joined old mid new P first (weakened mid new (λ image. MayLeave mid image ⊎ MayLeave new image) P call (λ image either.
     ⊎_elim (before image) (here image) either))
 
--- a stretch that only takes images away, as an opening sync, and then one in which every image has P
+-- a stretch that only takes images away, as an opening sync does, and then a stretch in which every image has `P`
 pub once : (old mid new : DiskState) (P : List ℕ → Type 0) → EachImage old mid (MayLeave old) → EachImage mid new P → EachImageOnce old new P
 once old mid new P opening run = record {
   from = mid.clock;
@@ -52,7 +52,7 @@ once old mid new P opening run = record {
   after = run.each;
 }
 
--- calls that only look, one after another
+-- calls that change nothing, one after another
 pub then_unchanged : (old mid new : DiskState) → IsUnchanged old mid → IsUnchanged mid new → IsUnchanged old new
 then_unchanged old mid new first second = record {
   same_tells = second.same_tells ∙ first.same_tells;
@@ -65,7 +65,7 @@ then_unchanged old mid new first second = record {
       (first.same_images image).0 left));
 }
 
--- a write that was done is one that might have been cut short
+-- a write that was done is a write that might have been cut short
 pub written_torn : (at : ℕ) (bytes old new : List ℕ) → Written at bytes old new → Torn at (length bytes) old new
 written_torn at bytes old new written = record {
   no_shorter = omega (arith, written.size);

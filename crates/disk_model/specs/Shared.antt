@@ -1,7 +1,7 @@
--- Readers of one file beside each other.
+-- Several readers of one file.
 use Rattle.std.specs.Prelude.{◌≡◌, IsTrue}
 use Rattle.disk_model.specs.Disk.{DiskState}
 
--- another reader of a file: where this one tells its bytes, that one tells the same
+-- a second reader of a file: where `disk` tells its bytes, `reader` tells the same bytes
 abbrev pub ReadsSame : DiskState → DiskState → Type 0
 ReadsSame disk reader = IsTrue disk.tells → IsTrue reader.tells × (reader.bytes ≡ disk.bytes)

@@ -9,14 +9,14 @@ pub trait Disk {
     /// What a read gives, what a crash at each moment may leave, and how often the disk failed and was read.
     ghost state: { Self → DiskState };
 
-    /// The number of bytes.
+    /// Returns the number of bytes in the file.
     fn size(&mut self) -> Result<u64, Failed>
         ensures size { IfOk result (λ n. IsTrue (state self.old).tells → n ≡ length (state self.old).bytes) }
         ensures same { IsUnchanged (state self.old) (state self.new) }
         ensures reads { (state self.new).reads ≡ (state self.old).reads }
         ensures cause { HasCause (state self.old).faults (state self.new).faults result };
 
-    /// Fills `buf` with the bytes from a place on. A place past the end reads as 0.
+    /// Fills `buf` with the bytes from place `at` on. A place past the end reads as 0.
     fn read_at(&mut self, at: u64, buf: &mut [u8]) -> Result<(), Failed>
         requires { at + length buf.old ≤ 2 ^ 37 }
         ensures read { OnOk result (IsTrue (state self.old).tells
@@ -25,8 +25,8 @@ pub trait Disk {
         ensures reads { (state self.new).reads ≤ (state self.old).reads + 1 }
         ensures cause { HasCause (state self.old).faults (state self.new).faults result };
 
-    /// Writes over what is there and past the end, and fills a gap before the place with 0. Until a sync answers `Ok`
-    /// a crash may leave any bytes in the range. After `Failed` a read may give any of them too.
+    /// Writes `bytes` at place `at`, over old bytes and past the end, and fills a gap before the place with 0. Until a sync returns
+    /// `Ok` a crash may leave any bytes in the range. After `Failed` a read may give any bytes of the range too.
     fn write_at(&mut self, at: u64, bytes: &[u8]) -> Result<(), Failed>
         requires { at + length bytes.now ≤ 2 ^ 37 }
         ensures written { OnOk result (IsTrue (state self.old).tells
@@ -39,7 +39,7 @@ pub trait Disk {
         ensures reads { (state self.new).reads ≡ (state self.old).reads }
         ensures cause { HasCause (state self.old).faults (state self.new).faults result };
 
-    /// After `Ok` a crash leaves what a read gives. After `Failed` nothing is durable that was not before.
+    /// Makes all writes durable. After `Ok` a crash leaves what a read gives. After `Failed` nothing is durable that was not before.
     fn sync(&mut self) -> Result<(), Failed>
         ensures durable { OnOk result (LeavesOnly (state self.new) (state self.old).bytes) }
         ensures bytes { (state self.new).bytes ≡ (state self.old).bytes }
@@ -49,10 +49,10 @@ pub trait Disk {
         ensures reads { (state self.new).reads ≡ (state self.old).reads }
         ensures cause { HasCause (state self.old).faults (state self.new).faults result };
 
-    /// The file as a read gives it is one that a crash may leave.
+    /// The file that a read gives is one that a crash may leave.
     ghost read_is_image: { (disk : Self) → IsTrue (state disk).tells → MayLeave (state disk) (state disk).bytes };
 
-    /// Images mix place by place: a crash may leave in one the byte of another.
+    /// Images may be mixed place by place: a crash may leave the byte of one image in another.
     ghost places_mix: { (disk : Self) (one other : List ℕ) (i : ℕ) → MayLeave (state disk) one → MayLeave (state disk) other
         → i < length one → i < length other → MayLeave (state disk) (set one i (slice_index other i)) };
 }

@@ -1,17 +1,17 @@
 ghost use Rattle.std.specs.Prelude.{◌≡◌, ℕ, List};
 
-/// What the record of a disk in memory holds of a call.
+/// The kind of a recorded call of a disk in memory.
 #[derive(Clone, Copy, PartialEq, Eq)]
 pub enum Kind {
     /// Nothing changed: a size, a read, or a sync that failed.
     Look,
-    /// A sync that answered `Ok`.
+    /// A sync that returned `Ok`.
     Sync,
-    /// A write of so many bytes at a place, and whether it was done or failed.
+    /// A write of `count` bytes at place `at`, and whether it was done or failed.
     Write { at: usize, count: usize, done: bool },
 }
 
-/// A recorded call. Its bytes stand elsewhere.
+/// A recorded call. Its bytes are stored elsewhere.
 #[derive(Clone, Copy, PartialEq, Eq)]
 pub struct Entry {
     pub number: u64,
@@ -21,7 +21,7 @@ pub struct Entry {
 impl Kind {
     ghost use Rattle.disk_model.specs.Memory.Record.{count_of, is_write_kind};
 
-    /// How many bytes the call was to write.
+    /// Returns the number of bytes that the call was to write.
     pub fn count(&self) -> usize
         ensures { result ≡ count_of self.now }
     {
@@ -42,7 +42,7 @@ impl Entry {
     ghost use Rattle.disk_model.specs.Memory.Record.{noted_of};
     ghost use Rattle.disk_model.specs.Memory.Images.{has_begun};
 
-    /// Whether the call has a lower number, or is a write of this very number.
+    /// Returns whether the call has a lower number than `moment`, or is a write with this number.
     pub fn has_begun(&self, moment: u64) -> bool
         ensures { (bytes : List ℕ) → result ≡ has_begun moment (noted_of self.now bytes) }
     {

@@ -2,7 +2,7 @@
 ghost use Rattle.std.specs.Prelude.{◌≡◌, ◌+◌, ◌^◌, ◌<◌, ◌≤◌, max, ℕ, length, slice_index, vec_len, vec_capacity, EachIndex};
 ghost use Rattle.disk_model.specs.Disk.{Written};
 
-/// Puts these bytes at this place, for which there is room. A gap before them is filled with 0.
+/// Writes `bytes` at place `at`, and fills a gap before them with 0. The file must have room for them.
 pub fn overwrite(file: &mut Vec<u8>, at: usize, bytes: &[u8])
     requires end { at + length bytes.now ≤ vec_capacity file.old }
     ensures written { Written at bytes.now file.old.items file.new.items }
@@ -12,7 +12,7 @@ pub fn overwrite(file: &mut Vec<u8>, at: usize, bytes: &[u8])
     put(file, at, bytes);
 }
 
-// Fills the file up to a size with 0, for which there is room.
+// Fills the file with 0 up to `size`. The file must have room for it.
 fn grow(file: &mut Vec<u8>, size: usize)
     requires { size ≤ vec_capacity file.old }
     ensures size { vec_len file.new ≡ max (vec_len file.old) size }
@@ -24,7 +24,7 @@ fn grow(file: &mut Vec<u8>, size: usize)
     }
 }
 
-// Puts these bytes in the place of others.
+// Replaces bytes of the file by `bytes`.
 fn put(file: &mut [u8], at: usize, bytes: &[u8])
     requires { at + length bytes.now ≤ length file.old }
     ensures { Written at bytes.now file.old file.new }
@@ -32,7 +32,7 @@ fn put(file: &mut [u8], at: usize, bytes: &[u8])
     file[at..at + bytes.len()].copy_from_slice(bytes);
 }
 
-/// Copies the bytes from a place on, 0 past the end.
+/// Copies the bytes from place `at` on, with 0 past the end.
 pub fn copy_out(file: &[u8], at: usize, buf: &mut [u8])
     requires { at + length buf.old ≤ 2 ^ 37 }
     ensures { EachIndex buf.new (λ i. slice_index buf.new i ≡ slice_index file.now (at + i)) }

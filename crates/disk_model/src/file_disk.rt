@@ -9,8 +9,8 @@ use std::io;
 use std::marker::Model;
 use std::os::unix::fs::FileExt;
 
-/// A disk over a real file. It tells nothing of content, since no contract can say what a file holds, and so nothing of
-/// what a crash leaves: that a real file behaves as a disk should is not proved.
+/// A disk over a real file. It tells nothing about the content, since no contract can say what a file holds, and so nothing about
+/// what a crash leaves. That a real file behaves as a disk should is not proved.
 #[derive(Drop)]
 pub struct FileDisk {
     file: File,
@@ -28,7 +28,7 @@ impl Model for FileDisk {
 }
 
 impl FileDisk {
-    /// Reads and writes need a file that was opened for both.
+    /// Makes a disk over `file`. Reads and writes need a file that was opened for both.
     pub fn new(file: File) -> FileDisk
         ensures { result ≡ record { faults = 0; reads = 0 } }
     {
@@ -40,12 +40,12 @@ impl FileDisk {
         }
     }
 
-    /// The system's error number of the last fault, where the system gave one. No contract can say which.
+    /// Returns the system's error number of the last fault, where the system gave one. No contract can say which number it is.
     pub fn last_fault(&self) -> Option<i32> {
         self.last_fault
     }
 
-    // Tells of a fault of the file, and counts it.
+    // Returns the result of a call of the file, and counts a fault.
     fn answer<T: Drop>(&mut self, outcome: io::Result<T>) -> Result<T, Failed>
         ensures cause { HasCause self.old.faults self.new.faults result }
         ensures reads { self.new.reads ≡ self.old.reads }
@@ -61,7 +61,7 @@ impl FileDisk {
     }
 }
 
-// Fills `buf` from a place on: as far as the file goes, and then with 0.
+// Fills `buf` from place `at` on: with the file's bytes as far as they go, then with 0.
 fn fill(file: &File, at: u64, buf: &mut [u8]) -> io::Result<()>
     requires { at + length buf.old ≤ 2 ^ 37 }
 {

@@ -14,8 +14,8 @@ use crate::{Disk, Failed, Memory, SharedDisk};
 use std::alloc::Global;
 use std::marker::Model;
 
-/// A disk in memory, for tests. Its calls fail where they are told to, and it shows the files that a crash at each call
-/// may leave. It takes its memory when it is made.
+/// A disk in memory, for tests. Chosen calls of it fail, and it shows the files that a crash at each call may leave. It takes all
+/// its memory when it is made.
 #[derive(Drop)]
 pub struct MemoryDisk {
     first: Vec<u8>,
@@ -41,8 +41,8 @@ impl Model for MemoryDisk {
 }
 
 impl MemoryDisk {
-    /// A disk that holds these bytes, all of them synced. It has room for a file of `room` bytes, and its record holds
-    /// `units` units. The calls whose numbers, from 0, stand in `fails` fail, and so do those from `stop` on.
+    /// Returns a disk that holds `bytes`, all of them synced. It has room for a file of `room` bytes, and its record holds `units`
+    /// units. The calls whose numbers, from 0, are in `fails` fail, and so do all calls from number `stop` on.
     pub fn new(
         alloc: Global,
         bytes: Vec<u8>,
@@ -80,23 +80,23 @@ impl MemoryDisk {
         })
     }
 
-    /// What a read gives.
+    /// Returns what a read gives.
     pub fn bytes(&self) -> &[u8]
         ensures { result.now ≡ (kept_by self.now).read }
     {
         &self.bytes
     }
 
-    /// The number of calls made. It stands still at the end of a `u64`.
+    /// Returns the number of calls made. It stops at the greatest `u64`.
     pub fn moments(&self) -> u64
         ensures { result ≡ self.now.calls }
     {
         self.calls
     }
 
-    /// One file that a crash within the call of this number, or after the last call, may leave. A write of that very
-    /// number counts as begun, and a sync of that number as not done. With pick 0 every open place holds its byte as of
-    /// the last sync, with pick 1 as last written, and with any other pick that number modulo 256.
+    /// Returns a file that a crash within the call number `moment`, or after the last call, may leave. A write with that number
+    /// counts as begun, and a sync with that number as not done. With pick 0 each open place holds its byte as of the last sync,
+    /// with pick 1 as last written, and with any other pick the byte `pick` modulo 256.
     pub fn image(&self, alloc: Global, moment: u64, pick: u64) -> Result<Vec<u8>, Memory>
         requires { moment ≤ self.now.calls }
         ensures shown { IfOk result (λ file. file.items ≡ image_of self.now moment pick) }
@@ -105,7 +105,7 @@ impl MemoryDisk {
         self.noted.image(alloc, &self.first, moment, pick)
     }
 
-    // A disk that holds what a read of this one gives, and fails at the calls of the same numbers.
+    // Returns a disk that holds what a read of this disk gives, and fails at the calls with the same numbers.
     fn again(&self, alloc: Global) -> Result<MemoryDisk, Memory>
         ensures { IfOk result (λ disk. (kept_by disk).read ≡ (kept_by self.now).read) }
     {
@@ -117,14 +117,14 @@ impl MemoryDisk {
         MemoryDisk::new(alloc, bytes, size, size, fails, self.stop)
     }
 
-    // Whether the next call fails by its number.
+    // Returns whether the next call fails by its number.
     fn is_named(&self) -> bool
         ensures { IsTrue result ↔ IsNamed self.now }
     {
         self.fails.contains(&self.calls) || self.stop.is_some_and(|stop| stop <= self.calls)
     }
 
-    // Whether the next call fails, if it writes so many bytes or none.
+    // Returns whether the next call fails, if it writes `count` bytes.
     fn is_refused(&self, count: usize) -> bool
         ensures { IsTrue result ↔ IsRefused self.now count }
     {
@@ -146,7 +146,7 @@ impl MemoryDisk {
         self.noted.note(Entry { number, kind }, bytes);
     }
 
-    // Answers a call, and counts the fault where it failed.
+    // Returns the result of a call, and counts the fault where it failed.
     fn answer(&mut self, refused: bool) -> Result<(), Failed>
         ensures refused { IsErr result ↔ IsTrue refused }
         ensures next { self.new ≡ with_answer self.old (is_ok result) }
@@ -166,7 +166,7 @@ impl MemoryDisk {
         self.reads = self.reads.saturating_add(1);
     }
 
-    // A call that changes nothing.
+    // Makes a call that changes nothing.
     fn look(&mut self) -> Result<(), Failed>
         ensures fails { IsErr result ↔ IsRefused self.old 0 }
         ensures next { self.new ≡ after_call self.old look (is_ok result) }
@@ -177,7 +177,7 @@ impl MemoryDisk {
         self.answer(refused)
     }
 
-    // A write, which is done unless it is refused.
+    // Makes a write, which is done unless it is refused.
     fn write(&mut self, at: usize, bytes: &[u8]) -> Result<(), Failed>
         requires { at + length bytes.now ≤ 2 ^ 37 }
         ensures fails { IsErr result
@@ -192,7 +192,7 @@ impl MemoryDisk {
         self.answer(refused)
     }
 
-    // A sync. One that failed changes nothing.
+    // Makes a sync. A sync that fails changes nothing.
     fn sync_all(&mut self) -> Result<(), Failed>
         ensures fails { IsErr result ↔ IsRefused self.old 0 }
         ensures next { self.new ≡ after_call self.old (if is_ok result then sync else look) (is_ok result) }
@@ -204,7 +204,7 @@ impl MemoryDisk {
     }
 }
 
-// Does to the file what the call does.
+// Changes the file as the call does.
 fn carry_out(file: &mut Vec<u8>, kind: Kind, bytes: &[u8])
     requires count { count_of kind ≡ length bytes.now }
     requires done { IsDone kind → end_of kind ≤ vec_capacity file.old }
@@ -247,7 +247,7 @@ impl Disk for MemoryDisk {
         ensures cause { HasCause (memory_state self.old).faults (memory_state self.new).faults result }
         ensures fails { IsErr result ↔ IsRefused self.old 0 }
 
-        // The read is counted, also where it fails.
+        // The read is counted, even where it fails.
         ensures next { self.new ≡ record (after_call self.old look (is_ok result)) { reads = next_count self.old.reads } }
     {
         self.count_read();

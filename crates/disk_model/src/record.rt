@@ -9,7 +9,7 @@ use crate::replay::Replay;
 use std::alloc::Global;
 use std::marker::Model;
 
-/// The record of the calls of a disk in memory. It takes its memory when it is made.
+/// The record of the calls of a disk in memory. It takes all its memory when it is made.
 #[derive(Drop)]
 pub struct Record {
     entries: Vec<Entry>,
@@ -29,7 +29,7 @@ impl Model for Record {
 }
 
 impl Record {
-    /// An empty record of so many units.
+    /// Returns an empty record of `units` units.
     pub fn new(alloc: Global, units: usize) -> Result<Record, Memory>
         ensures { IfOk result (λ it. it ≡ record { past = []; left = units }) }
     {
@@ -40,7 +40,7 @@ impl Record {
         })
     }
 
-    /// Whether a call with so many bytes still fits. It takes one unit, and one for each byte.
+    /// Returns whether a call with `count` bytes still fits. A call takes one unit, and one more for each byte.
     pub fn fits(&self, count: usize) -> bool
         ensures { IsTrue result ↔ (count < self.now.left) }
     {
@@ -59,7 +59,7 @@ impl Record {
         }
     }
 
-    /// The file that a pick shows of a crash within the call of this number, or after the last call.
+    /// Returns the file that `pick` shows of a crash within the call number `moment`, or after the last call.
     pub fn image(
         &self,
         alloc: Global,
@@ -75,7 +75,7 @@ impl Record {
     }
 }
 
-// The image once the entries that have begun are done once more.
+// Replays the entries that have begun, and returns the image.
 fn play(entries: &[Entry], bytes: &[u8], mut replay: Replay, moment: u64) -> Result<Vec<u8>, Memory>
     requires { total entries.now ≡ length bytes.now }
     ensures { IfOk result (λ file. (kept : Kept) → IsReplay replay kept

@@ -10,7 +10,7 @@ use crate::entry::Kind;
 use crate::file::overwrite;
 use std::alloc::{AllocError, Global};
 
-/// The calls of a disk in memory, done once more: what a read gives, and the image that a pick shows.
+/// The replay of the calls of a disk in memory: what a read gives, and the image that `pick` shows.
 #[derive(Drop)]
 pub struct Replay {
     read: Vec<u8>,
@@ -19,7 +19,7 @@ pub struct Replay {
 }
 
 impl Replay {
-    /// Before the first call, over this file.
+    /// Starts a replay before the first call, over the file `first`.
     pub fn new(alloc: Global, first: &[u8], pick: u64) -> Result<Replay, Memory>
         ensures replay { IfOk result (λ replay. IsReplay replay (at_rest first.now)) }
         ensures pick { IfOk result (λ replay. replay.pick ≡ pick) }
@@ -31,14 +31,14 @@ impl Replay {
         })
     }
 
-    /// The image at which the replay stands.
+    /// Returns the image that the replay has reached.
     pub fn into_image(self) -> Vec<u8>
         ensures { result.items ≡ self.image.items }
     {
         self.image
     }
 
-    /// Does a call once more.
+    /// Replays a call.
     pub fn apply(&mut self, kind: Kind, bytes: &[u8]) -> Result<(), Memory>
         requires { count_of kind ≡ length bytes.now }
         ensures replay { OnOk result ((kept : Kept)
@@ -52,7 +52,7 @@ impl Replay {
         }
     }
 
-    // A write, done or failed.
+    // Replays a write, done or failed.
     fn redo(&mut self, at: usize, bytes: &[u8], done: bool) -> Result<(), Memory>
         ensures replay { OnOk result ((kept : Kept)
             → IsReplay self.old kept → IsReplay self.new (after kept (write at bytes.now done))) }
@@ -66,7 +66,7 @@ impl Replay {
     }
 }
 
-// What a pick makes of a write.
+// Applies a write to the image, as `pick` says.
 fn mark(image: &mut Vec<u8>, at: usize, bytes: &[u8], pick: u64) -> Result<(), Memory>
     ensures { OnOk result ((kept : Kept) (done : Bool)
         → image.old.items ≡ shown pick kept → length kept.synced ≤ length kept.last
@@ -88,7 +88,7 @@ fn replace(file: &mut Vec<u8>, bytes: &[u8]) -> Result<(), Memory>
     file.extend_from_slice(bytes)
 }
 
-// These bytes at this place. A gap before them is filled with 0.
+// Writes `bytes` at place `at`, and fills a gap before them with 0.
 fn rewrite(file: &mut Vec<u8>, at: usize, bytes: &[u8]) -> Result<(), Memory>
     ensures { OnOk result (Written at bytes.now file.old.items file.new.items) }
 {
@@ -100,7 +100,7 @@ fn rewrite(file: &mut Vec<u8>, at: usize, bytes: &[u8]) -> Result<(), Memory>
     Ok(())
 }
 
-// This byte in so many places from one on, and in a gap before them.
+// Writes the byte `value` into `count` places from `at` on, and into a gap before them.
 fn paint(file: &mut Vec<u8>, at: usize, count: usize, value: u8) -> Result<(), Memory>
     ensures { OnOk result (IsPainted value at count file.old.items file.new.items) }
 {

@@ -48,7 +48,7 @@ none_near (e ∷ es) (Skip ∷ marks) none = none_near es marks none.1
 none_near (e ∷ es) (Far ∷ marks) none = none_near es marks none.1
 none_near (e ∷ es) (Near ∷ marks) none = absurd (none.0 refl)
 
--- where it isn't so that something is marked Near, nothing is
+-- where the test `has_near` fails, nothing is marked Near
 none_marked : (marks : List Mark) → has_near marks ≡ false → IsNoneNear marks
 none_marked [] lacks = tt
 none_marked (Skip ∷ marks) lacks = (λ e. absurd (cc), none_marked marks lacks)
@@ -191,7 +191,7 @@ upto_once a b is = (1, omega arith, is)
 pub upto_more : (a b m n : ℕ) → m ≤ n → CountsUpTo a b m → CountsUpTo a b n
 upto_more a b m n le few = (few.0, omega (arith, few.1), few.2)
 
--- a count that rose so far, where the rest may make it rise by so much
+-- a count that has risen by `n` so far, where the rest may make it rise by `left`, together at most `most`
 abbrev pub SoFar : ℕ → ℕ → ℕ → ℕ → Type 0
 SoFar old now left most = (n : ℕ) × (n + left ≤ most) × (now ≡ count_up old n)
 
@@ -226,7 +226,7 @@ module _ (are_marked : Bool) where
     far_taken taken old now new most far one =
         far_next old now new (most_asked are_marked (drop (i + 1) rs)) most (subst (λ (n : ℕ). SoFar old now n most) (cost_taken taken) far) one
 
--- where the log is known to mark each node, one for each record of which something is marked Near
+-- where the log is known to mark each node, the walk asks for one page for each record with a Near mark
 pub most_near : (rs : List Record) → most_asked true rs ≡ near_records rs
 most_near [] = refl
 most_near (r ∷ rs) = cases (has_near r.marks) (most_near rs)

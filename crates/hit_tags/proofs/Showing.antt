@@ -125,7 +125,7 @@ module _ (s : Space) (nodes : Nodes) (P : LeafEntry → Type 0) where
           all_append P (near_objects node r.marks) (met nodes (near_pages node r.marks ++ pages_in ps) rs) o.objects
           (subst (λ (ns : List ℕ). AllByRecursion P (met nodes ns rs)) (sym o.are) (later o.spots o.sound o.below))
 
--- a page that the walk comes to holds a node
+-- a page that the walk reaches holds a node
 all_none : (es : List LeafEntry) → AllByRecursion (λ e. Unit {0}) es
 all_none [] = tt
 all_none (e ∷ es) = (tt, all_none es)
@@ -148,7 +148,7 @@ comes_inside s nodes (r ∷ rs) (p ∷ ps) page sounds comes = elim comes [
 abbrev pub root_spot : Live → Spot
 root_spot t = record { height = t.height; least = root_least t.height; above = None; page = t.root }
 
--- on a sound tree nothing but a passing fault stops the walk
+-- on a sound tree only a passing fault stops the walk
 pub passes : (s : Space) (old new : Shelf) (t : Live) (rs : List Record) (fault : PageFault) → IsTrue old.tells → IsSoundTree s (nodes_of old.read) t → HasTagsCause old new (t.root ∷ []) rs fault → IsPassing fault
 passes s old new t rs fault tells sound = at fault
   where
@@ -169,7 +169,7 @@ passes s old new t rs fault tells sound = at fault
 
 -- ---- tags
 
--- where objects are among those of a list in which their ids stand once, an id that is met has the same tag there
+-- where the tags of some objects are those in a list that has each id once, the tag that is met for an id is the tag in the list
 tag_same : (id : ℕ) (os es : List LeafEntry) → AllByRecursion (λ e. tag_of e.id os ≡ e.tag) es → IsIn id (ids_of es) → tag_of id es ≡ tag_of id os
 tag_same id os [] all k = absurd k
 tag_same id os (e ∷ es) all k = cases (tag_same id os es all.1) (e.id == id) refl

@@ -1,4 +1,4 @@
--- The objects that the walk of a log meets, and the pages that it comes to.
+-- The objects that the walk of a log meets, and the pages that it reaches.
 use Rattle.std.specs.Prelude.{◌≡◌, ◌≢◌, ◌⊎◌, ℕ, List, [], ◌∷◌, ◌++◌, map, length, Option, Some, None, if◌then◌else◌, ◌==◌}
 use Rattle.std.specs.List.{AllByRecursion}
 use Rattle.tree_shape.specs.declared.entry.LeafEntry.{LeafEntry}
@@ -11,7 +11,7 @@ use Rattle.log_model.specs.declared.marks.Record.{Record}
 use Rattle.log_model.specs.Counts.{entry_count}
 use Rattle.log_model.specs.Walk.{near_ones}
 
--- the objects of a leaf that are marked Near, and the pages of the subtrees of an inner node that are
+-- the objects of a leaf that are marked Near, and the pages of an inner node's subtrees that are marked Near
 abbrev pub near_objects : Node → List Mark → List LeafEntry
 near_objects (Leaf es) marks = near_ones es marks
 near_objects (Inner level es) marks = []
@@ -20,7 +20,7 @@ abbrev pub near_pages : Node → List Mark → List ℕ
 near_pages (Leaf es) marks = []
 near_pages (Inner level es) marks = map (λ e. e.child) (near_ones es marks)
 
--- a node that has one entry for each of the marks
+-- the node, where it has one entry for each mark
 abbrev pub with_marks : List Mark → Option Node → Option Node
 with_marks marks None = None
 with_marks marks (Some node) = if length marks == entry_count node then Some node else None
@@ -33,15 +33,15 @@ abbrev pub met_from : Option Node → (Node → List LeafEntry) → List LeafEnt
 met_from None rest = []
 met_from (Some node) rest = rest node
 
--- the objects that the walk of these needed pages by these records meets: those that are marked Near, in its order. It ends
--- where no page is needed or no record is left, and at the first record that doesn't mark the node of the page needed next
+-- the objects that the walk of the needed pages by the records meets: those that are marked Near, in the walk's order. It ends where
+-- no page is needed or no record is left, and at the first record that doesn't mark the node of the next needed page
 abbrev pub met : Nodes → List ℕ → List Record → List LeafEntry
 met nodes [] [] = []
 met nodes [] (r ∷ rs) = []
 met nodes (p ∷ ps) [] = []
 met nodes (p ∷ ps) (r ∷ rs) = met_from (marked_node nodes p r) (λ node. near_objects node r.marks ++ met nodes (near_pages node r.marks ++ ps) rs)
 
--- the same walk comes to this page, which it needs and a record names
+-- the same walk reaches the page `page`, which it needs and a record names
 abbrev pub ComesTo : Nodes → List ℕ → List Record → ℕ → Type 0
 ComesTo nodes [] [] page = ⊥
 ComesTo nodes [] (r ∷ rs) page = ⊥
@@ -49,7 +49,7 @@ ComesTo nodes (p ∷ ps) [] page = ⊥
 ComesTo nodes (p ∷ ps) (r ∷ rs) page =
     ((page ≡ p) × (r.page ≡ p)) ⊎ ((node : Node) × (marked_node nodes p r ≡ Some node) × ComesTo nodes (near_pages node r.marks ++ ps) rs page)
 
--- the walk of these needed pages by these records marks each node that it comes to
+-- the walk of the needed pages by the records marks each node that it reaches
 abbrev pub AreMarked : Nodes → List ℕ → List Record → Type 0
 AreMarked nodes [] [] = Unit {0}
 AreMarked nodes [] (r ∷ rs) = ⊥

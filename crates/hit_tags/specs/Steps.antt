@@ -7,7 +7,7 @@ use Rattle.hit_tags.specs.declared.walking.Walk.{Walk}
 use Rattle.hit_tags.specs.Met.{met, ComesTo, AreMarked}
 use Rattle.hit_tags.specs.Wanted.{TakesIn}
 
--- a walk that had all these records before it has these left: what it met since and will meet is what it was to meet
+-- a walk that had the records `all` before it now has `left`: what it met since and what it will meet is what it was to meet
 pub record IsUnderWay (nodes : Nodes) (start : Walk) (all : List Record) (now : Walk) (left : List Record) : Type 0 where
   pub objects : List LeafEntry
   pub taken : TakesIn start.wanted objects now.wanted

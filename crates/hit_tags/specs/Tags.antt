@@ -1,4 +1,4 @@
--- The tags of what a query found, and why there are none.
+-- The tags of a query's hits, and why there may be none.
 use Rattle.std.specs.Prelude.{◌≡◌, ◌⊎◌, ℕ, List, [], ◌∷◌, map, IsTrue, slice_index_or}
 use Rattle.metric_laws.specs.Space.{Space}
 use Rattle.scan_model.specs.declared.hit.Hit.{Hit}
@@ -14,11 +14,11 @@ use Rattle.log_model.specs.declared.marks.Record.{Record}
 use Rattle.log_model.specs.Sound.{IsSoundLog}
 use Rattle.hit_tags.specs.Met.{met, ComesTo}
 
--- the tag of the first of these objects with each hit's id, and 0 where none has it
+-- for each hit the tag of the first object with its id, or 0 where no object has it
 abbrev pub tags_among : List LeafEntry → List Hit → List ℕ
 tags_among objects hits = map (λ h. tag_of h.id objects) hits
 
--- the same of the objects that the walk of the live tree by the found log meets
+-- these tags from the objects that the walk of the live tree by the found log meets
 abbrev pub met_tags : Nodes → Live → Found → List ℕ
 met_tags nodes t found = tags_among (met nodes (t.root ∷ []) found.log.records) found.hits
 
@@ -30,13 +30,13 @@ object_tags nodes t found = map (λ h. slice_index_or (tags_by_id nodes t) h.id 
 abbrev pub IsOwnTag : Nodes → Live → Hit → ℕ → Type 0
 IsOwnTag nodes t h tag = (tag ≡ slice_index_or (tags_by_id nodes t) h.id 0) ⊎ (tag ≡ 0)
 
--- what was found is shown by its log: the tree is sound, the log is sound on it, and the hits are the log's answers
+-- the log shows what was found: the tree is sound, the log is sound on it, and the hits are the log's answers
 pub record IsShown (s : Space) (nodes : Nodes) (t : Live) (found : Found) : Type 0 where
   pub tree : IsSoundTree s nodes t
   pub log : IsSoundLog s nodes t found.log
   pub hits_are : found.hits ≡ found.log.answers
 
--- why the walk of these needed pages by these records stopped: memory ran out, or a page that it came to gave no node
+-- why the walk of the needed pages by the records stopped: memory ran out, or a page that it reached gave no node
 abbrev pub HasTagsCause : Shelf → Shelf → List ℕ → List Record → PageFault → Type 0
 HasTagsCause old new needed records Memory = Unit {0}
 HasTagsCause old new needed records fault =

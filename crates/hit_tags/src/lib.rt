@@ -1,4 +1,4 @@
-//! The tags of what a query found, by the walk of its log.
+//! Finds the tags of a query's hits by the walk of its log.
 #![tactic(auto)]
 
 mod tagging;
@@ -7,5 +7,5 @@ mod wanted;
 
 pub use tagging::{marked_tags, tags_of};
 
-/// Want of memory.
+/// The error when memory runs out.
 pub type Memory = std::alloc::AllocError;

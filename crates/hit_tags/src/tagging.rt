@@ -15,8 +15,8 @@ use page_store::{PageFault, Pages};
 use std::alloc::Global;
 use tree_shape::Live;
 
-// The tag of each hit by the walk of the live tree by the found log, which opens each page or, where the log is known to mark each
-// node that it comes to, those alone of which something is marked Near.
+// Returns the tag of each hit by the walk of the live tree by the found log. It opens each page; but where the log is known to mark
+// each node that the walk reaches, it opens only pages with a Near mark.
 fn walked_tags<P: Pages>(
     alloc: Global,
     pages: &mut P,
@@ -47,13 +47,13 @@ fn walked_tags<P: Pages>(
     }
 }
 
-/// The tag of each hit: that of the first object with its id that the walk of the live tree by the found log meets, and 0
-/// where it meets none. Where the log shows the hits, these are the tags of the hits' objects.
+/// Returns the tag of each hit: the tag of the first object with its id that the walk of the live tree by the found log meets, or 0
+/// where the walk meets none. Where the log shows the hits, these are the tags of the hits' objects.
 ///
-/// The walk begins at the root and goes by the log's records. Each names the page that is needed next and has one mark for
-/// each entry of its node. An object that is marked Near is met, and the node of a subtree that is marked Near is needed.
-/// Where no record is left, or a record names another page or has another number of marks, the walk ends, and the tags are
-/// those of what it met. No distance is computed.
+/// The walk begins at the root and follows the log's records. Each record has to name the next needed page, and to have one mark for
+/// each entry of its node. An object that is marked Near is met, and the node of a subtree that is marked Near is needed. The walk
+/// ends where no record is left, or where a record names another page or has another number of marks. The tags are then those of
+/// what it met. No distance is computed.
 ///
 /// It asks for at most one page for each record. `Disk` comes where the disk failed, and `Repeats` and `Level` never come.
 pub fn tags_of<P: Pages>(
@@ -71,7 +71,7 @@ pub fn tags_of<P: Pages>(
     ensures each { IfOk result (λ tags. vec_len tags ≡ length found.now.hits) }
     ensures met { IfOk result (λ tags. IsTrue (P.shelf pages.old).tells →
         tags.items ≡ met_tags (nodes_of (P.shelf pages.old).read) live.now found.now) }
-    // Whatever the log says, no hit has another object's tag on a sound tree.
+    // Whatever the log says, on a sound tree no hit gets another object's tag.
     ensures own { IfOk result (λ tags. IsTrue (P.shelf pages.old).tells →
         (s : Space) → IsSoundTree s (nodes_of (P.shelf pages.old).read) live.now →
         AllZip (IsOwnTag (nodes_of (P.shelf pages.old).read) live.now) found.now.hits tags.items) }
@@ -86,8 +86,8 @@ pub fn tags_of<P: Pages>(
     walked_tags(alloc, pages, live, found, false)
 }
 
-/// The same tags, where the found log marks each node to which its walk comes, as that of a search does: then only those pages are
-/// opened of which something is marked Near. On a sound tree these are the leaves of the hits and what leads to them.
+/// Like `tags_of`, for a log that marks each node that its walk reaches, as the log of a search does: opens only pages with a Near
+/// mark. On a sound tree these are the leaves of the hits and the pages that lead to them.
 pub fn marked_tags<P: Pages>(
     alloc: Global,
     pages: &mut P,
@@ -100,7 +100,7 @@ pub fn marked_tags<P: Pages>(
     ensures keeps { P.keeps pages.old pages.new }
     ensures asked { CountsUpTo (P.shelf pages.old).asked (P.shelf pages.new).asked (length found.now.log.records) }
     ensures reads { (P.shelf pages.new).reads ≤ (P.shelf pages.old).reads + length found.now.log.records }
-    // It asks for at most one page for each record of which something is marked Near.
+    // It asks for at most one page for each record with a Near mark.
     ensures near { CountsUpTo (P.shelf pages.old).asked (P.shelf pages.new).asked (near_records found.now.log.records) }
     ensures near_reads { (P.shelf pages.new).reads ≤ (P.shelf pages.old).reads + near_records found.now.log.records }
     ensures no_fault { OnOk result ((P.shelf pages.new).faults ≡ (P.shelf pages.old).faults) }

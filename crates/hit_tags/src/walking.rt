@@ -1,4 +1,4 @@
-// The walk by the records of a log.
+// Walks along the records of a log.
 ghost use Rattle.std.specs.Prelude.{◌≡◌, ◌++◌, ◌+◌, ◌≤◌, [], ◌∷◌, List, ℕ, map, length, reverse, true, Some, None, IsTrue, IfOk, IfErr, OnOk};
 ghost use Rattle.std.specs.List.{AllByRecursion};
 ghost use Rattle.page_store.specs.Reading.{nodes_of};
@@ -21,16 +21,16 @@ use scan_model::Hit;
 use std::alloc::Global;
 use tree_shape::{InnerEntry, LeafEntry, Node};
 
-/// A walk from the root, half way.
+/// A walk from the root, in progress.
 #[derive(Drop)]
 pub struct Walk {
-    /// The tags that are wanted.
+    /// The wanted tags.
     pub wanted: Wanted,
     /// The pages that are needed, the next one last.
     pub stack: Vec<u32>,
 }
 
-// Takes in the objects that are marked Near.
+// Notes the objects that are marked Near.
 fn note_near(wanted: &mut Wanted, entries: &[LeafEntry], marks: &[Mark])
     ensures { TakesIn wanted.old (near_ones entries.now marks.now) wanted.new }
 {
@@ -54,15 +54,15 @@ fn push_near(stack: &mut Vec<u32>, entries: &[InnerEntry], marks: &[Mark]) -> Re
     Ok(())
 }
 
-// Tells whether something is marked Near.
+// Returns whether some entry is marked Near.
 fn has_near(marks: &[Mark]) -> bool
     ensures { result ≡ has_near marks.now }
 {
     marks.contains(&Mark::Near)
 }
 
-// Tells whether a walk passes over a record with these marks. It does where the log is known to mark each node that the walk comes to,
-// and nothing is marked Near.
+// Returns whether a walk passes over a record with these marks. It does where the log is known to mark each node that the walk
+// reaches, and nothing is marked Near.
 fn passes_over(are_marked: bool, marks: &[Mark]) -> bool
     ensures { result ≡ passes_over are_marked marks.now }
 {
@@ -70,7 +70,7 @@ fn passes_over(are_marked: bool, marks: &[Mark]) -> bool
 }
 
 impl Walk {
-    /// A walk that needs the root, and has met none of the hits' ids.
+    /// Makes a walk that needs the root and has met none of the hits' ids.
     pub fn begin(alloc: Global, root: u32, hits: &[Hit]) -> Result<Self, Memory>
         ensures stack { IfOk result (λ walk. walk.stack.items ≡ root ∷ []) }
         ensures wanted { IfOk result (λ walk. AllByRecursion (λ h. held walk.wanted h.id ≡ Some None) hits.now) }
@@ -81,7 +81,7 @@ impl Walk {
         })
     }
 
-    // Takes in the objects of a node that are marked Near; the pages of the subtrees that are come next.
+    // Notes the objects of a node that are marked Near, and puts the pages of its subtrees that are marked Near on top of the stack.
     fn take_node(&mut self, node: &Node, marks: &[Mark]) -> Result<(), Memory>
         requires { length marks.now ≡ entry_count node.now }
         ensures objects { OnOk result (TakesIn self.old.wanted (near_objects node.now marks.now) self.new.wanted) }
@@ -94,8 +94,8 @@ impl Walk {
         Ok(())
     }
 
-    // Follows a record. Whether the walk goes on: it ends where no page is needed, and where the record names another page
-    // than the one needed next or hasn't one mark for each of its node's entries.
+    // Follows a record. Returns whether the walk goes on. It ends where no page is needed, and where the record names another page
+    // than the next needed one or hasn't one mark for each of its node's entries.
     fn follow<P: Pages>(
         &mut self,
         alloc: Global,
@@ -130,7 +130,7 @@ impl Walk {
         }
     }
 
-    // Passes over the page that is needed next.
+    // Passes over the next needed page.
     fn pass(&mut self)
         ensures next { (page : ℕ) (rest : List ℕ) → reverse self.old.stack.items ≡ page ∷ rest → reverse self.new.stack.items ≡ rest }
         ensures wanted { self.new.wanted ≡ self.old.wanted }
@@ -138,8 +138,8 @@ impl Walk {
         self.stack.pop();
     }
 
-    /// Follows the records, as far as the walk goes. Where they are those of a walk that marks each node it comes to, a page of
-    /// which nothing is marked Near is not opened: nothing of it is met or needed.
+    /// Follows the records as far as the walk goes. Where they mark each node that the walk reaches, a page without a Near mark is
+    /// not opened, since nothing of it is met or needed.
     pub fn follow_all<P: Pages>(
         &mut self,
         alloc: Global,

@@ -22,7 +22,7 @@ impl Model for Wanted {
 }
 
 impl Wanted {
-    /// The ids of the hits, none of which was met.
+    /// Returns the ids of the hits, with none met yet.
     pub fn new(alloc: Global, hits: &[Hit]) -> Result<Self, Memory>
         ensures { IfOk result (λ wanted. AllByRecursion (λ h. held wanted h.id ≡ Some None) hits.now) }
     {
@@ -33,7 +33,7 @@ impl Wanted {
         Ok(Wanted { tags })
     }
 
-    /// Takes in an object that was met.
+    /// Notes an object that was met.
     pub fn note(&mut self, object: &LeafEntry)
         ensures { TakesIn self.old (object.now ∷ []) self.new }
     {
@@ -42,7 +42,7 @@ impl Wanted {
         }
     }
 
-    // The tag of an id, and 0 where it was not met.
+    // Returns the tag of an id, or 0 where it was not met.
     fn tag(&self, id: u32) -> u64
         ensures { result ≡ tag_held (held self.now id) }
     {
@@ -52,7 +52,7 @@ impl Wanted {
         }
     }
 
-    /// The tag of each hit, and 0 where its id was not met.
+    /// Returns the tag of each hit, or 0 where its id was not met.
     pub fn tags(&self, alloc: Global, hits: &[Hit]) -> Result<Vec<u64>, Memory>
         ensures { IfOk result (λ tags. tags.items ≡ map (λ h. tag_held (held self.now h.id)) hits.now) }
     {

@@ -1,4 +1,4 @@
--- What becomes of a query.
+-- The outcome of a query.
 use Rattle.std.proofs.Common.{◌≡◌, ◌≢◌, ℕ, List, [], ◌∷◌, ◌++◌, map, min, length, refl, sym, ap, subst, ◌∙◌, arith, inl, inr, Option, Some, None, Result, Ok, Err}
 use Rattle.std.specs.Prelude.{Bool, true, false, IfOk, IsTrue, slice_index_or}
 use Rattle.metric_laws.specs.Space.{Space, bound}
@@ -40,7 +40,7 @@ use Rattle.image_answers.specs.declared.outcome.Outcome.{Outcome}
 use Rattle.image_answers.specs.declared.outcome.Outcome.TheVariants as outcome
 use Rattle.image_answers.specs.Outcomes.{as_wanted, outcome_of_fault, untagged, AreTagsOf, FollowsWalk, HasSearchCause, IsGivenOf, IsOutcomeOf, IsTagged, IsTold, pages_asked, reply_in}
 
--- ---- the pages to which the walk of a log comes
+-- ---- the pages that the walk of a log reaches
 
 abbrev pages_needed : List Need → List ℕ
 pages_needed ns = map (λ n. n.page) ns
@@ -64,7 +64,7 @@ near_needs f (Inner level es) r ns = child_needs f (near_ones es r.marks) ns
 same_node : (o : Option Node) (m n : Node) → o ≡ Some m → o ≡ Some n → m ≡ n
 same_node o m n a b = (let e : Some m ≡ Some n = sym a ∙ b in cc)
 
--- each page to which a walk comes that was taken holds a node
+-- each page that the walk of a log reaches by its records holds a node
 comes_to_node : (rule : Rule) (f : Search) (nodes : Nodes) (ns : List Need) (rs : List Record) (hits : List Hit) (left : List Need) → ReachesBy rule f nodes ns rs hits left → (page : ℕ) →
     ComesTo nodes (pages_needed ns) rs page → (node : Node) × (nodes page ≡ Some node)
 comes_to_node rule f nodes [] [] hits left walk page comes = absurd comes
@@ -84,7 +84,7 @@ follows_to_node s nodes live (query.Range q r) log follows page comes = comes_to
     (walk_reaches AreLeast (search_for s log.query log.answers) nodes (root_need live.root ∷ []) log.records follows.1.hits follows.1.walk) page comes
 follows_to_node s nodes live (query.Nearest q k) log follows page comes = comes_to_node AreLeast (search_at s q follows.rho) nodes (root_need live.root ∷ []) log.records follows.hits follows.left follows.walk page comes
 
--- ---- a walk with the least marks marks each node that it comes to
+-- ---- a walk with the least marks marks each node that it reaches
 
 reaches_marked : (f : Search) (nodes : Nodes) (ns : List Need) (rs : List Record) (hits : List Hit) (left : List Need) → ReachesBy AreLeast f nodes ns rs hits left →
     AreMarked nodes (pages_needed ns) rs
@@ -128,7 +128,7 @@ module _ (s : Space) (live : Live) (image : List ℕ) (c : Command) (asked : Que
   abbrev Sound : Type 0
   Sound = IsSoundTree s nodes live
 
-  -- a walk that was taken comes to no page without a node
+  -- the walk of such a log reaches no page without a node
   no_damage : (found : Found) (mid new : Shelf) (n : ℕ) (fault : PageFault) → FollowsWalk s nodes live asked found.log → mid ≡ pages_asked s live image n → new.faults ≡ 0 → fault ≢ page.Memory →
       HasTagsCause mid new (live.root ∷ []) found.log.records fault → ⊥
   no_damage found mid new n fault follows is quiet other cause =
@@ -175,7 +175,7 @@ module _ (s : Space) (live : Live) (image : List ℕ) (c : Command) (asked : Que
             by_image.objects refl s (record { tree = sound; log = least_sound s nodes live asked found.log (least sound); hits_are = named.hits_are })
             ∙ ap (λ (hs : List Hit). map (λ h. slice_index_or (tags_in s.words live image) h.id 0) hs) (scanned sound)
 
-    -- tags that nobody wants could be had
+    -- the tags exist, even where they are not wanted
     met_are : AreTagsOf mid live found (met_tags nodes live found)
     met_are = subst (λ (x : Shelf). AreTagsOf x live found (met_tags nodes live found)) (sym is) (record {
       each = length_map (λ (h : Hit). tag_of h.id (met nodes (live.root ∷ []) found.log.records)) found.hits;
@@ -262,7 +262,7 @@ module _ (s : Space) (live : Live) (image : List ℕ) (q : List ℕ) (fits : IsT
       (record { rho = walk.rho; hits = walk.hits; left = walk.left; walk = walk.walk; some = walk.some; answers_are = walk.answers_are })
       named (λ sound. (by_image sound).least) (λ sound. (by_image sound).scanned) (λ limit. rw fits refl) wanted result tagged
 
-  -- so the tags can be had from what is marked Near alone
+  -- so the tags follow from what is marked Near alone
   pub range_marked : (r used0 used1 : ℕ) (found : Found) → IsFound s live (query.Range q r) old mid used0 used1 found → IsTrue mid.tells → AreMarked (nodes_of mid.read) (live.root ∷ []) found.log.records
   range_marked r used0 used1 found is_found tells =
       let least : IsLeastLog s (nodes_in s.words live image) live (query.Range q r) found.log =

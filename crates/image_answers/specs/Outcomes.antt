@@ -1,4 +1,4 @@
--- What commands on an image, a file in memory, come to: for each an outcome, which the image and the command alone decide.
+-- The outcomes of commands on an image, a file in memory. The image and the command alone decide the outcome.
 use Rattle.std.specs.Prelude.{◌≡◌, ◌≢◌, ◌⊎◌, ℕ, min, Bool, true, false, List, [], ◌∷◌, length, Option, Some, None, MatchOption, IsTrue, Result, Ok, Err, alloc_error}
 use Rattle.std.specs.declared.alloc.AllocError.{AllocError}
 use Rattle.metric_laws.specs.Space.{Space, bound}
@@ -37,7 +37,7 @@ use Rattle.image_answers.specs.declared.outcome.Outcome.TheVariants as outcome
 
 -- ---- commands
 
--- a command as a reader takes it: one that would change the objects or use a cursor is refused
+-- a command as a reader takes it: a command that would change the objects or use a cursor is refused
 abbrev pub as_reader : Command → Command
 as_reader (command.Insert p) = command.Bad refusal.ReadOnly
 as_reader (command.TagInsert tag p) = command.Bad refusal.ReadOnly
@@ -53,11 +53,11 @@ as_reader (command.Bad why) = command.Bad why
 
 -- ---- what a command means
 
--- the reply that a command's meaning gives on what a file holds, whatever the limit of objects is, since none is added
+-- the reply that a command's meaning gives for what a file holds; the limit of objects does not matter, since no object is added
 abbrev pub reply_in : Space → Held → ℕ → Command → Reply
 reply_in s held limit c = (step (record { space = s; limit = limit }) (state_of held) (as_reader c)).reply
 
--- What a reader's turn is: its reply is what the command means, and a query that is answered has its least log.
+-- A reader's turn: its reply is what the command means, and an answered query has its least log.
 pub record IsTurn (s : Space) (held : Held) (turn : Answered) : Type 0 where
   pub meaning : (limit : ℕ) → turn.reply ≡ reply_in s held limit turn.command
   pub logged : HasLog s held (answered_query s turn.command) turn.log
@@ -67,40 +67,40 @@ abbrev pub IsMeant : Space → Live → List ℕ → Command → Outcome → Typ
 IsMeant s live image c (outcome.Done r log) = IsTurn s (held_in s.words live image) (record { command = c; reply = r; log = log })
 IsMeant s live image c (outcome.Damaged fault) = ⊥
 
--- ---- what is told on any image, sound or not
+-- ---- what is known on any image, sound or not
 
--- the log of a range is the least one; that of a search for the nearest is a front of a walk with the least marks
+-- the log of a range query is the least one; the log of a k-NN query is a front of a walk with the least marks
 abbrev pub FollowsWalk : Space → Nodes → Live → Query → Log → Type 0
 FollowsWalk s nodes live (query.Range q r) log = IsLeastLog s nodes live (query.Range q r) log
 FollowsWalk s nodes live (query.Nearest q k) log = IsFront s nodes live q k (record { hits = log.answers; log = log })
 
--- the answer to a query: its log, the hits that the log answers, and the tags of those that the walk of the log meets
+-- the answer to a query: its log, the hits of the log, and the tags that the walk of the log meets for them
 pub record IsAnswer (s : Space) (live : Live) (image : List ℕ) (asked : Query) (hits : List Hit) (tags : List ℕ) (log : Log) : Type 0 where
   pub named : IsLogOf live asked (record { hits = hits; log = log })
   pub walk : FollowsWalk s (nodes_in s.words live image) live asked log
   pub tags_are : tags ≡ met_tags (nodes_in s.words live image) live (record { hits = hits; log = log })
 
--- pages that hold this, of which so many were asked for; and those of an image
+-- pages that hold `read` and were asked `asked` times; and the same for the pages of an image
 abbrev pub pages_holding : Space → Live → Read → ℕ → Shelf
 pages_holding s live read asked = record { dim = s.words; pages = live.pages; tells = true; read = read; asked = asked; reads = 0; faults = 0 }
 
 abbrev pub pages_asked : Space → Live → List ℕ → ℕ → Shelf
 pages_asked s live image asked = image_shelf s.words live.pages image asked
 
--- why a search on pages that hold this refuses, when it has asked for so many pages
+-- why a search on pages that hold `read` fails after `asked` requests
 abbrev pub HasSearchCause : Space → Live → Read → Query → ℕ → PageFault → Type 0
 HasSearchCause s live read (query.Range q r) asked = HasWalkCause (search_at s q (min r bound)) live (pages_holding s live read 0)
     (pages_holding s live read asked)
 HasSearchCause s live read (query.Nearest q k) asked = HasNearestCause live (pages_holding s live read 0) (pages_holding s live read asked)
 
--- the search of a query on pages that hold this came to a damaged one, so the tree on them is not sound
+-- the search of a query on pages that hold `read` met a damaged page, so the tree on them is not sound
 pub record HasDamage (s : Space) (live : Live) (read : Read) (asked : Query) (fault : PageFault) : Type 0 where
   pub damage : IsDamage fault
   pub count : ℕ
   pub cause : HasSearchCause s live read asked count fault
   pub unsound : ¬ IsSoundTree s (nodes_of read) live
 
--- what is told of a command that asks this query, or none
+-- what is known of the outcome of a command, by the query that it asks, if any
 abbrev pub IsTold : Space → Live → List ℕ → Command → Option Query → Outcome → Type 0
 IsTold s live image c None (outcome.Done r log) = ((limit : ℕ) → r ≡ reply_in s (held_in s.words live image) limit c) × (log ≡ None)
 IsTold s live image c None (outcome.Damaged fault) = ⊥
@@ -110,23 +110,23 @@ IsTold s live image c (Some asked) _ = ⊥
 
 -- ---- outcomes
 
--- hits have a log that can be spelled, and nothing else has a log
+-- hits have a log that can be spelled, and no other reply has a log
 abbrev pub IsLogged : Reply → Option Log → Type 0
 IsLogged (reply.Hits hits tags) log = MatchOption log ⊥ IsLawfulLog
 IsLogged other log = log ≡ None
 
--- an outcome that can be written: its log is there exactly where its reply is hits, of which each has a tag
+-- an outcome that can be written: it has a log exactly where its reply is hits, and each hit has a tag
 abbrev pub IsLawful : Outcome → Type 0
 IsLawful (outcome.Done r log) = TagsAre r × IsLogged r log
 IsLawful (outcome.Damaged fault) = IsDamage fault
 
--- the same of an outcome whose tags may be missing where they are not shown
+-- the same for an outcome whose tags may be missing where they are not shown
 abbrev pub CanBeShown : Bool → Outcome → Type 0
 CanBeShown show (outcome.Done r log) = (show ≡ true → TagsAre r) × IsLogged r log
 CanBeShown show (outcome.Damaged fault) = IsDamage fault
 
--- The outcome of a command on an image: on a sound one what the command means; on any one the answer of its query's walk, or the
--- damaged page to which that comes, or the reply to what is no query.
+-- The outcome of a command on an image. On a sound image it is what the command means. On any image it is the answer of its query's
+-- walk, or the damaged page that the walk meets, or the reply to a command that is no query.
 pub record IsOutcomeOf (s : Space) (live : Live) (image : List ℕ) (c : Command) (o : Outcome) : Type 0 where
   pub meant : IsSoundTree s (nodes_in s.words live image) live → IsMeant s live image c o
   pub told : IsTold s live image c (answered_query s c) o
@@ -141,7 +141,7 @@ abbrev pub untagged : Outcome → Outcome
 untagged (outcome.Done r log) = outcome.Done (without_tags r) log
 untagged (outcome.Damaged fault) = outcome.Damaged fault
 
--- an outcome where tags are wanted, and where they are not
+-- an outcome with tags where they are wanted, and without tags otherwise
 abbrev pub as_wanted : Bool → Outcome → Outcome
 as_wanted true o = o
 as_wanted false o = untagged o
@@ -152,21 +152,22 @@ IsGivenOf tags s live image c given = (o : Outcome) × IsOutcomeOf s live image 
 
 -- ---- pages of an image
 
--- these are the pages of an image, behind what is kept of them
+-- the pages of an image behind a cache
 pub record ArePagesOf (s : Space) (live : Live) (image : List ℕ) (pages : Cache ImagePages) : Type 0 where
   pub dim : pages.inner.dim ≡ s.words
   pub count : pages.inner.pages ≡ live.pages
   pub bytes : bytes_in pages.inner.image ≡ image
 
--- ---- what a search found, and its tags
+-- ---- the result of a search, and its tags
 
--- the tags of what was found are those that the walk of its log meets; where the log shows the hits, those of the hits' objects
+-- the tags of the found hits are those that the walk of the log meets; where the log shows the hits, they are the tags of the hits'
+-- objects
 pub record AreTagsOf (shelf : Shelf) (live : Live) (found : Found) (tags : List ℕ) : Type 0 where
   pub each : length tags ≡ length found.hits
   pub met : IsTrue shelf.tells → tags ≡ met_tags (nodes_of shelf.read) live found
   pub objects : IsTrue shelf.tells → (s : Space) → IsShown s (nodes_of shelf.read) live found → tags ≡ object_tags (nodes_of shelf.read) live found
 
--- what was found is answered with its tags, or the walk of its log came to a page without a node; where tags are not wanted, it is
+-- what was found is answered with its tags, or the walk of its log met a page without a node; where tags are not wanted, it is
 -- answered without them
 abbrev pub IsTagged : Bool → Shelf → Shelf → Live → Found → Outcome → Type 0
 IsTagged false old new live found o = o ≡ outcome.Done (reply.Hits found.hits []) (Some found.log)
@@ -174,7 +175,7 @@ IsTagged true old new live found o =
     ((tags : List ℕ) × (o ≡ outcome.Done (reply.Hits found.hits tags) (Some found.log)) × AreTagsOf old live found tags)
     ⊎ ((fault : PageFault) × (o ≡ outcome.Damaged fault) × (fault ≢ page.Memory) × HasTagsCause old new (live.root ∷ []) found.log.records fault)
 
--- what a page that gave no node is to a query: want of memory ends it, and anything else is told
+-- what a page that gave no node means to a query: running out of memory ends it, and any other fault is the outcome
 abbrev pub outcome_of_fault : PageFault → Result Outcome AllocError
 outcome_of_fault page.Memory = Err alloc_error
 outcome_of_fault fault = Ok (outcome.Damaged fault)

@@ -1,4 +1,4 @@
-//! What a query on a file in memory comes to: its answer with its log and its tags, or the damaged page that its search met.
+//! Queries on a file in memory, and their outcomes: an answer with its log and its tags, or the damaged page that the search met.
 #![tactic(auto)]
 
 mod outcome;
@@ -7,5 +7,5 @@ mod queries;
 pub use outcome::Outcome;
 pub use queries::{cached_pages, nearest_on, nearest_outcome, pages_of, range_on, range_outcome};
 
-/// Want of memory.
+/// The error when memory runs out.
 pub type Memory = std::alloc::AllocError;

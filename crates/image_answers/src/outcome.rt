@@ -4,30 +4,30 @@ use log_model::Log;
 use page_store::PageFault;
 use rows_text::{Refusal, Reply};
 
-/// What becomes of one command on a file in memory.
+/// The outcome of one command on a file in memory.
 #[derive(Drop)]
 pub enum Outcome {
-    /// It was answered.
+    /// The command was answered.
     Done {
-        /// The reply. Hits have as many tags.
+        /// The reply. Its hits have a tag each, or no tags where these are not wanted.
         reply: Reply,
         /// The log of a query that was answered with hits.
         log: Option<Log>,
     },
 
-    /// The search of a query came to a damaged page: `Bad`, `Outside` or `Repeats`. It never comes of a sound image.
+    /// The search of a query met a damaged page: `Bad`, `Outside` or `Repeats`. This never happens on a sound image.
     Damaged(PageFault),
 }
 
 impl Outcome {
-    /// An answer without a log.
+    /// Returns the outcome of an answer without a log.
     pub fn plain(reply: Reply) -> Self
         ensures { result ≡ Outcome.Done reply None }
     {
         Outcome::Done { reply, log: None }
     }
 
-    /// A refusal.
+    /// Returns the outcome of a refusal.
     pub fn refused(why: Refusal) -> Self
         ensures { result ≡ Outcome.Done (Reply.Refused why) None }
     {

@@ -1,4 +1,4 @@
-//! Queries on a file in memory.
+//! Answers queries on a file in memory.
 
 ghost use Rattle.std.specs.Prelude.{◌≡◌, ◌≢◌, ◌≤◌, ◌^◌, ◌∷◌, [], Some, true, IsTrue, IfOk, Ok, Err, alloc_error};
 ghost use Rattle.lru.specs.LruCache.{lru_cache};
@@ -22,7 +22,7 @@ use rows_text::{Refusal, Reply};
 use std::alloc::{AllocError, Global};
 use tree_shape::Live;
 
-/// The pages of an image, of which none has been asked for.
+/// Returns the pages of an image, with none asked for yet.
 pub fn pages_of<'a, M: Metric>(image: Image<'a>, metric: M, live: &Live) -> ImagePages<'a>
     requires { live.now.pages ≤ 2 ^ 24 }
     ensures image { result.image ≡ image.entry }
@@ -33,7 +33,7 @@ pub fn pages_of<'a, M: Metric>(image: Image<'a>, metric: M, live: &Live) -> Imag
     ImagePages::of(image, metric.words() as u8, live.pages)
 }
 
-/// The pages of an image behind a cache that keeps at most so many nodes, and none yet.
+/// Returns the pages of an image behind an empty cache of at most `pages` nodes.
 pub fn cached_pages<'a, M: Metric>(
     alloc: Global,
     image: Image<'a>,
@@ -50,7 +50,7 @@ pub fn cached_pages<'a, M: Metric>(
     Cached::new(alloc, pages_of(image, metric, live), nodes)
 }
 
-// What a page that gave no node is to a query.
+// Returns the outcome of a query that met a page without a node.
 fn outcome_of_fault(fault: PageFault) -> Result<Outcome, Memory>
     ensures { result ≡ outcome_of_fault fault }
 {
@@ -60,7 +60,7 @@ fn outcome_of_fault(fault: PageFault) -> Result<Outcome, Memory>
     }
 }
 
-// What was found, with these tags.
+// Returns the outcome of what was found, with the tags `tags`.
 fn answered(found: Found, tags: Vec<u64>) -> Outcome
     ensures { result ≡ Outcome.Done (Reply.Hits found.hits tags.items) (Some found.log) }
 {
@@ -73,7 +73,7 @@ fn answered(found: Found, tags: Vec<u64>) -> Outcome
     }
 }
 
-// What was found, with the tags of its hits where they are wanted.
+// Returns the outcome of what was found, with the tags of its hits where they are wanted.
 fn tagged<P: Pages>(
     alloc: Global,
     pages: &mut P,
@@ -96,7 +96,7 @@ fn tagged<P: Pages>(
     }
 }
 
-/// Every object within `r` of `q`. Where tags are not wanted, the hits have none, and no page is opened for them.
+/// Finds all objects within `r` of `q`. Where tags are not wanted, the hits have none, and no page is opened for them.
 pub fn range_on<M: Metric>(
     alloc: Global,
     pages: &mut Cached<ImagePages<'_>>,
@@ -123,7 +123,7 @@ pub fn range_on<M: Metric>(
     }
 }
 
-/// The `k` objects nearest to `q`. Where tags are not wanted, the hits have none, and no page is opened for them.
+/// Finds the `k` objects nearest to `q`. Where tags are not wanted, the hits have none, and no page is opened for them.
 pub fn nearest_on<M: Metric>(
     alloc: Global,
     pages: &mut Cached<ImagePages<'_>>,
@@ -151,7 +151,7 @@ pub fn nearest_on<M: Metric>(
     }
 }
 
-/// Every object within `r` of `q`, and their tags, by the pages of this image alone.
+/// Finds all objects within `r` of `q`, and their tags, from the pages of this image alone.
 pub fn range_outcome<M: Metric>(
     alloc: Global,
     image: Image<'_>,
@@ -167,7 +167,7 @@ pub fn range_outcome<M: Metric>(
     range_on(alloc, &mut pages, metric, live, q, r, true)
 }
 
-/// The `k` objects nearest to `q`, and their tags, by the pages of this image alone.
+/// Finds the `k` objects nearest to `q`, and their tags, from the pages of this image alone.
 pub fn nearest_outcome<M: Metric>(
     alloc: Global,
     image: Image<'_>,

@@ -15,17 +15,17 @@ use Rattle.job_words.specs.declared.job.Job.TheVariants.{Scan, Create, Session, 
 abbrev pub no_files : {Name : Type 0} → FileNames Name
 no_files = record { index = None; writes = false; other = None; log_in = None; makes = makes.Nothing }
 
--- an index that is there
+-- an existing index
 abbrev pub on_index : {Name : Type 0} → Name → FileNames Name
 on_index index = record no_files { index = Some index }
 
--- the log, where one is made
+-- the log that a job makes, if it makes one
 abbrev pub made_log : {Name : Type 0} → Option Name → Makes Name
 made_log None = makes.Nothing
 made_log (Some log) = makes.Log log
 
--- The files of a job. `create`, `gen` and `migrate` make INDEX, and `session` writes the one that is there. The log is read by `verify`,
--- `check` and `proof`, and made by the others; `proof` with INDEX makes the file of its proofs.
+-- The files of a job. `create`, `gen` and `migrate` make INDEX, and `session` writes an existing one. `verify`, `check` and `proof`
+-- read the log, and the other jobs make it. `proof` with INDEX makes the file of its proofs.
 abbrev pub files_of : {Name : Type 0} → Job Name → FileNames Name
 files_of (Scan space limit show) = no_files
 files_of (Create index space policies limit) = record (on_index index) { makes = makes.Index }
@@ -42,7 +42,7 @@ files_of (Seal index) = on_index index
 files_of (Carry index log proof) = record (on_index index) { log_in = Some log; makes = makes.Log proof }
 files_of (Prove log root) = record no_files { log_in = Some log }
 
--- the names' texts
+-- the files that are made, with their names' texts
 abbrev pub made_text : Makes (Bor Text) → Makes Text
 made_text makes.Nothing = makes.Nothing
 made_text makes.Index = makes.Index
@@ -57,7 +57,7 @@ file_texts files = record {
   makes = made_text files.makes;
 }
 
--- those of a job, and of the job with its names' texts, are the same
+-- the files of a job are those of the job with its names' texts
 pub same_texts : (job : Job (Bor Text)) → file_texts (files_of job) ≡ files_of (texts_in job)
 same_texts (Scan space limit show) = refl
 same_texts (Create index space policies limit) = refl
@@ -77,7 +77,7 @@ same_texts (Seal index) = refl
 same_texts (Carry index log proof) = refl
 same_texts (Prove log root) = refl
 
--- an answer is the files of the job, or that memory ran out; the words are refused only where there is no job
+-- the result is the files of the job, or memory ran out; the words are refused only where they have no job
 abbrev pub AnswersFiles : Option (Job Text) → Result (FileNames (Bor Text)) PlacesFault → Type 0
 AnswersFiles job (Ok found) = option_map files_of job ≡ Some (file_texts found)
 AnswersFiles job (Err Usage) = job ≡ None

@@ -17,23 +17,23 @@ use Rattle.job_words.specs.declared.names.Split.TheVariants.{Hyperplane}
 use Rattle.job_words.specs.declared.names.SpaceName.{SpaceName}
 use Rattle.job_words.specs.declared.names.PolicyNames.{PolicyNames}
 
--- what is given: the value of each name, where it has one
+-- the given value of each name, if it has one
 abbrev pub Given : Type 0
 Given = Text → Option Text
 
--- this is given, and is none of the names
+-- whether `name` is given, and is none of `names`
 abbrev pub is_other : List Text → Given → Text → Bool
 is_other names given name = is_some (given name) && not (list_any (bytes_eq name) names)
 
--- something is given that is none of the names; COMMAND always is
+-- whether something besides `names` is given; COMMAND always is
 abbrev pub has_other : List Text → Given → Bool
 has_other names given = list_any (is_other names given) (codes "INDEX" ∷ options)
 
--- a number from the least to the most
+-- `n` where it is from `least` to `most`
 abbrev pub between : ℕ → ℕ → ℕ → Option ℕ
 between least most n = if nat_le least n && nat_le n most then Some n else None
 
--- the number of a text; the other where there is no text
+-- the number that a text spells, from `least` to `most`; `other` where there is no text
 abbrev pub number_or : ℕ → ℕ → Option ℕ → Option Text → Option ℕ
 number_or least most other None = other
 number_or least most other (Some text) = option_and_then (between least most) (number_below (2 ^ 64) text)
@@ -92,12 +92,12 @@ generated_space space = if is_generated space.metric then Some space else None
 abbrev pub generated_space_given : Given → Option SpaceName
 generated_space_given given = option_and_then generated_space (space_given given)
 
--- `--promote`: mmrad where it isn't given
+-- `--promote`: mmrad where it is not given
 abbrev pub promote_or : Option Text → Option Promote
 promote_or None = Some Mmrad
 promote_or (Some text) = promote_named text
 
--- `--split`: hyperplane where it isn't given
+-- `--split`: hyperplane where it is not given
 abbrev pub split_or : Option Text → Option Split
 split_or None = Some Hyperplane
 split_or (Some text) = split_named text

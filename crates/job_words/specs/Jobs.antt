@@ -16,7 +16,7 @@ use Rattle.job_words.specs.declared.job.JobFault.TheVariants.{Usage, Memory}
 abbrev pub proof_in : Given → Option (Job Text)
 proof_in given = if is_some (given (codes "INDEX")) then carry_in given else prove_in given
 
--- the job of a command, where its row holds
+-- the job of a command, where its row of the table accepts what is given
 abbrev pub job_named : Given → Text → Option (Job Text)
 job_named given command =
     if bytes_eq command (codes "scan") then scan_in given
@@ -58,7 +58,7 @@ texts_in (Seal index) = Seal index.now
 texts_in (Carry index log proof) = Carry index.now log.now proof.now
 texts_in (Prove log root) = Prove log.now root
 
--- an answer is the job or want of memory; the words are refused only where there is none
+-- the result is the job, or memory ran out; the words are refused only where they have no job
 abbrev pub AnswersJob : Option (Job Text) → Result (Job (Bor Text)) JobFault → Type 0
 AnswersJob job (Ok found) = job ≡ Some (texts_in found)
 AnswersJob job (Err Usage) = job ≡ None

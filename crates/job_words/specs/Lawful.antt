@@ -11,7 +11,7 @@ pub record IsLawfulSpace (space : SpaceName) : Type 0 where
   pub few : space.dim ≤ 64
   pub halves : is_halved space.metric ≡ true → space.dim % 2 ≡ 0
 
--- such a space whose points the generator makes
+-- a lawful space whose points the generator makes
 abbrev pub IsGeneratedSpace : SpaceName → Type 0
 IsGeneratedSpace space = IsLawfulSpace space × (is_generated space.metric ≡ true)
 

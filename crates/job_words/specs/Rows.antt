@@ -1,4 +1,4 @@
--- The rows of the table of commands: what each command requires, and what it may be given besides.
+-- The rows of the table of commands: which options each command requires, and which it may have.
 use Rattle.std.specs.Prelude.{ℕ, Bool, List, [], ◌∷◌, codes, Option, Some, None, if◌then◌else◌}
 use Rattle.clap.specs.Words.{Text}
 use Rattle.job_words.specs.Given.{Given, has_other, count_given, generated_space_given, limit_given, policies_given, radius_given, root_given, seed_given, show_given, space_given, workers_given}
@@ -7,11 +7,11 @@ use Rattle.job_words.specs.declared.job.Job.TheVariants as job
 use Rattle.job_words.specs.declared.names.SpaceName.{SpaceName}
 use Rattle.job_words.specs.declared.names.PolicyNames.{PolicyNames}
 
--- nothing but these names is given
+-- the job, where nothing but these names is given
 abbrev pub only : List Text → Given → Option (Job Text) → Option (Job Text)
 only names given job = if has_other names given then None else job
 
--- `scan --metric --dim`, and perhaps `--max`, `--tags`
+-- `scan --metric --dim`, with `--max`, `--tags` optional
 abbrev pub scan_of : Option SpaceName → Option ℕ → Option Bool → Option (Job Text)
 scan_of (Some space) (Some limit) (Some show) = Some (job.Scan space limit show)
 scan_of _ _ _ = None
@@ -21,7 +21,7 @@ scan_in given =
     only (codes "metric" ∷ codes "dim" ∷ codes "max" ∷ codes "tags" ∷ []) given
     (scan_of (space_given given) (limit_given given) (show_given given))
 
--- `create INDEX --metric --dim`, and perhaps `--promote`, `--split`, `--max`
+-- `create INDEX --metric --dim`, with `--promote`, `--split`, `--max` optional
 abbrev pub create_of : Option Text → Option SpaceName → Option PolicyNames → Option ℕ → Option (Job Text)
 create_of (Some index) (Some space) (Some policies) (Some limit) = Some (job.Create index space policies limit)
 create_of _ _ _ _ = None
@@ -31,7 +31,7 @@ create_in given =
     only (codes "INDEX" ∷ codes "metric" ∷ codes "dim" ∷ codes "promote" ∷ codes "split" ∷ codes "max" ∷ []) given
     (create_of (given (codes "INDEX")) (space_given given) (policies_given given) (limit_given given))
 
--- `session INDEX`, and perhaps `--log`, `--workers`, `--tags`
+-- `session INDEX`, with `--log`, `--workers`, `--tags` optional
 abbrev pub session_of : Option Text → Option Text → Option ℕ → Option Bool → Option (Job Text)
 session_of (Some index) log (Some workers) (Some show) = Some (job.Session index log workers show)
 session_of _ _ _ _ = None
@@ -49,7 +49,7 @@ shape_of None = None
 abbrev pub shape_in : Given → Option (Job Text)
 shape_in given = only (codes "INDEX" ∷ []) given (shape_of (given (codes "INDEX")))
 
--- `audit INDEX`, and perhaps `--workers`
+-- `audit INDEX`, with `--workers` optional
 abbrev pub audit_of : Option Text → Option ℕ → Option (Job Text)
 audit_of (Some index) (Some workers) = Some (job.Audit index workers)
 audit_of _ _ = None
@@ -59,7 +59,7 @@ audit_in given =
     only (codes "INDEX" ∷ codes "workers" ∷ []) given
     (audit_of (given (codes "INDEX")) (workers_given given))
 
--- `verify INDEX --log`, and perhaps `--other`
+-- `verify INDEX --log`, with `--other` optional
 abbrev pub verify_of : Option Text → Option Text → Option Text → Option (Job Text)
 verify_of (Some index) (Some log) other = Some (job.Verify index log other)
 verify_of _ _ _ = None
@@ -69,7 +69,7 @@ verify_in given =
     only (codes "INDEX" ∷ codes "log" ∷ codes "other" ∷ []) given
     (verify_of (given (codes "INDEX")) (given (codes "log")) (given (codes "other")))
 
--- `check INDEX --log`, and perhaps `--other`
+-- `check INDEX --log`, with `--other` optional
 abbrev pub check_of : Option Text → Option Text → Option Text → Option (Job Text)
 check_of (Some index) (Some log) other = Some (job.Check index log other)
 check_of _ _ _ = None
@@ -79,7 +79,7 @@ check_in given =
     only (codes "INDEX" ∷ codes "log" ∷ codes "other" ∷ []) given
     (check_of (given (codes "INDEX")) (given (codes "log")) (given (codes "other")))
 
--- `join INDEX --other --radius`, and perhaps `--log`
+-- `join INDEX --other --radius`, with `--log` optional
 abbrev pub join_of : Option Text → Option Text → Option ℕ → Option Text → Option (Job Text)
 join_of (Some index) (Some other) (Some radius) log = Some (job.Join index other radius log)
 join_of _ _ _ _ = None
@@ -89,7 +89,7 @@ join_in given =
     only (codes "INDEX" ∷ codes "other" ∷ codes "radius" ∷ codes "log" ∷ []) given
     (join_of (given (codes "INDEX")) (given (codes "other")) (radius_given given) (given (codes "log")))
 
--- `gen INDEX --metric --dim --count`, and perhaps `--seed`, `--promote`, `--split`, `--workers`
+-- `gen INDEX --metric --dim --count`, with `--seed`, `--promote`, `--split`, `--workers` optional
 abbrev pub gen_of : Option Text → Option SpaceName → Option ℕ → Option ℕ → Option PolicyNames → Option ℕ → Option (Job Text)
 gen_of (Some index) (Some space) (Some count) (Some seed) (Some policies) (Some workers) = Some (job.Gen index space count seed policies workers)
 gen_of _ _ _ _ _ _ = None
@@ -109,7 +109,7 @@ migrate_in given =
     only (codes "INDEX" ∷ codes "other" ∷ []) given
     (migrate_of (given (codes "INDEX")) (given (codes "other")))
 
--- `batch INDEX`, and perhaps `--workers`, `--log`, `--tags`
+-- `batch INDEX`, with `--workers`, `--log`, `--tags` optional
 abbrev pub batch_of : Option Text → Option ℕ → Option Text → Option Bool → Option (Job Text)
 batch_of (Some index) (Some workers) log (Some show) = Some (job.Batch index workers log show)
 batch_of _ _ _ _ = None

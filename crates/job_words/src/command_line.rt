@@ -5,7 +5,7 @@ ghost use Rattle.job_words.specs.Words.{option_rule, with_options, command_line}
 use clap::{Arg, Command};
 use std::alloc::{AllocError, Global};
 
-// An option with one value.
+// Adds an option with one value to a command.
 fn with_option<'a>(
     alloc: Global,
     command: Command<'a>,
@@ -16,7 +16,7 @@ fn with_option<'a>(
     command.arg(Arg::new(alloc, name).long(name))
 }
 
-// Options with one value each.
+// Adds options with one value each to a command.
 fn with_options<'a>(
     alloc: Global,
     command: Command<'a>,
@@ -36,7 +36,7 @@ pub const OPTIONS: [&str; 14] = [
     "count", "seed", "proof", "root",
 ];
 
-/// The command line, as `clap` reads it.
+/// Returns the command line as `clap` reads it.
 pub fn command_line<'a>(alloc: Global) -> Result<Command<'a>, AllocError>
     ensures { IfOk result (λ c. app_of c ≡ command_line) }
 {

@@ -15,18 +15,18 @@ pub enum Makes<Name> {
     Nothing,
     /// `create`, `gen` and `migrate` make INDEX.
     Index,
-    /// The file of logs or proofs with this name is made anew.
+    /// The job makes a new file of logs or proofs with this name.
     Log(Name),
 }
 
-/// The files that a job works on. A name is there exactly where the job has it.
+/// The files that a job works on. A name is present exactly where the job has it.
 #[derive(Clone, Copy, PartialEq, Eq)]
 pub struct FileNames<Name> {
     /// The index, INDEX.
     pub index: Option<Name>,
-    /// Whether the job writes an index that is there: only `session` does.
+    /// Whether the job writes an existing index: only `session` does.
     pub writes: bool,
-    /// The second index, `--other`, which is only read.
+    /// The second index, `--other`, which the job only reads.
     pub other: Option<Name>,
     /// The logs that the job reads.
     pub log_in: Option<Name>,
@@ -34,18 +34,18 @@ pub struct FileNames<Name> {
     pub makes: Makes<Name>,
 }
 
-/// Why there are no files.
+/// Why the words name no files.
 #[derive(Clone, Copy, Debug, PartialEq, Eq, Error)]
 pub enum PlacesFault {
     /// The words are no job.
     #[error("usage: mtree COMMAND INDEX [options]")]
     Usage,
-    /// There was no memory to read them.
+    /// Memory ran out.
     #[error("out of memory")]
     Memory,
 }
 
-/// No files.
+/// Returns no files.
 pub fn no_files<Name>() -> FileNames<Name>
     ensures { result ≡ no_files }
 {
@@ -58,7 +58,7 @@ pub fn no_files<Name>() -> FileNames<Name>
     }
 }
 
-// The index alone, which is there.
+// Returns the files of a job that has an existing index and no other file.
 fn on_index<Name: Drop>(index: Name) -> FileNames<Name>
     ensures { result ≡ on_index index }
 {
@@ -68,7 +68,7 @@ fn on_index<Name: Drop>(index: Name) -> FileNames<Name>
     }
 }
 
-// The log, where one is made.
+// Returns the log as the file that a job makes, if it makes one.
 fn made_log<Name: Drop>(log: Option<Name>) -> Makes<Name>
     ensures { result ≡ made_log log }
 {
@@ -78,7 +78,7 @@ fn made_log<Name: Drop>(log: Option<Name>) -> Makes<Name>
     }
 }
 
-/// The files of a job.
+/// Returns the files of a job.
 pub fn files_of<Name: Copy>(job: Job<Name>) -> FileNames<Name>
     ensures { result ≡ files_of job }
 {
@@ -130,9 +130,9 @@ pub fn files_of<Name: Copy>(job: Job<Name>) -> FileNames<Name>
     }
 }
 
-/// The files that the words after the program's name ask for.
+/// Returns the files that the words after the program's name ask for.
 ///
-/// [`PlacesFault::Usage`] is answered only where the words are no job, and [`PlacesFault::Memory`] only where memory runs out.
+/// [`PlacesFault::Usage`] comes only where the words are no job, and [`PlacesFault::Memory`] only where memory runs out.
 pub fn places(alloc: Global, words: &[String]) -> Result<FileNames<&str>, PlacesFault>
     ensures { AnswersFiles (job_of (texts_of words.now)) result }
 {

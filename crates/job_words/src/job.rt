@@ -1,8 +1,8 @@
 use crate::names::{PolicyNames, SpaceName};
 use thiserror::Error;
 
-/// What the words ask for: a variant for each row of the table of commands, with the values of its words and the
-/// values that hold where a word isn't given. `Name` is what names a file.
+/// The job of the words: a variant for each row of the table of commands. It has the values of the words, and default values for
+/// words that are not given. `Name` is the type of a file's name.
 #[derive(Clone, Copy, PartialEq, Eq)]
 pub enum Job<Name> {
     /// `scan`: a script on a plain list of at most `limit` objects.
@@ -34,13 +34,13 @@ pub enum Job<Name> {
         index: Name,
         workers: usize,
     },
-    /// `verify`: whether a log's pages are those of the file.
+    /// `verify`: the verdict on each log, by the pages of the index, or of both indexes where `other` is given.
     Verify {
         index: Name,
         log: Name,
         other: Option<Name>,
     },
-    /// `check`: whether a log's answers are complete.
+    /// `check`: whether the index is sound, and whether each log's answers are complete.
     Check {
         index: Name,
         log: Name,
@@ -91,13 +91,13 @@ pub enum Job<Name> {
     },
 }
 
-/// Why there is no job.
+/// Why the words have no job.
 #[derive(Clone, Copy, Debug, PartialEq, Eq, Error)]
 pub enum JobFault {
     /// The words are no job.
     #[error("usage: mtree COMMAND INDEX [options]")]
     Usage,
-    /// There was no memory to read them.
+    /// Memory ran out.
     #[error("out of memory")]
     Memory,
 }

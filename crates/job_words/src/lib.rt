@@ -1,7 +1,7 @@
-//! What the words of the command line ask for.
+//! Reads the words of the command line as a job.
 //!
-//! The words are those after the program's name. [`read_job`] reads them with `clap` and answers the job, and
-//! [`places`] answers the files that the job works on.
+//! The words are those after the program's name. [`read_job`] reads them with `clap` and returns the job. [`places`] returns the
+//! files that the job works on.
 #![tactic(auto)]
 
 mod command_line;

@@ -43,7 +43,7 @@ pub struct PolicyNames {
 }
 
 impl MetricName {
-    /// The kind, from 1 to 8, that stands for the metric in files.
+    /// Returns the kind, from 1 to 8, that stands for the metric in files.
     pub fn kind(self) -> u8
         ensures { result ≡ kind_of self }
     {
@@ -61,7 +61,7 @@ impl MetricName {
 }
 
 impl Promote {
-    /// The number, 1 or 2, that stands for the policy in files.
+    /// Returns the number, 1 or 2, that stands for the policy in files.
     pub fn number(self) -> u8
         ensures { result ≡ promote_number self }
     {
@@ -73,7 +73,7 @@ impl Promote {
 }
 
 impl Split {
-    /// The number, 1 or 2, that stands for the policy in files.
+    /// Returns the number, 1 or 2, that stands for the policy in files.
     pub fn number(self) -> u8
         ensures { result ≡ split_number self }
     {
@@ -84,7 +84,7 @@ impl Split {
     }
 }
 
-/// The metric of a name.
+/// Returns the metric of a name.
 pub fn metric_named(text: &str) -> Option<MetricName>
     ensures { result ≡ metric_named text.now }
 {
@@ -101,7 +101,7 @@ pub fn metric_named(text: &str) -> Option<MetricName>
     }
 }
 
-/// The promotion policy of a name.
+/// Returns the promotion policy of a name.
 pub fn promote_named(text: &str) -> Option<Promote>
     ensures { result ≡ promote_named text.now }
 {
@@ -112,7 +112,7 @@ pub fn promote_named(text: &str) -> Option<Promote>
     }
 }
 
-/// The partition policy of a name.
+/// Returns the partition policy of a name.
 pub fn split_named(text: &str) -> Option<Split>
     ensures { result ≡ split_named text.now }
 {

@@ -13,7 +13,7 @@ use clap::ArgMatches;
 use clap::error::ErrorKind;
 use std::alloc::Global;
 
-// The job of a command, where its row holds.
+// Returns the job of a command, where its row accepts what is given.
 fn job_named<'a>(matches: &ArgMatches<'a>, command: &str) -> Option<Job<&'a str>>
     ensures job { option_map texts_in result ≡ job_named (given_in matches.now) command.now }
     ensures lawful { IfSome result IsLawful }
@@ -36,7 +36,7 @@ fn job_named<'a>(matches: &ArgMatches<'a>, command: &str) -> Option<Job<&'a str>
     }
 }
 
-// The job of what the words give.
+// Returns the job of what is given.
 fn job_from<'a>(matches: &ArgMatches<'a>) -> Option<Job<&'a str>>
     ensures job { option_map texts_in result ≡ job_in (given_in matches.now) }
     ensures lawful { IfSome result IsLawful }
@@ -44,9 +44,9 @@ fn job_from<'a>(matches: &ArgMatches<'a>) -> Option<Job<&'a str>>
     job_named(matches, value(matches, "COMMAND")?)
 }
 
-/// The job of the words after the program's name.
+/// Returns the job of the words after the program's name.
 ///
-/// [`JobFault::Usage`] comes only where the words are no job, and nothing but want of memory comes beside it there.
+/// [`JobFault::Usage`] comes only where the words are no job. For such words no other result comes but [`JobFault::Memory`].
 pub fn read_job(alloc: Global, words: &[String]) -> Result<Job<&str>, JobFault>
     ensures job { AnswersJob (job_of (texts_of words.now)) result }
     ensures lawful { IfOk result IsLawful }

@@ -12,7 +12,7 @@ use crate::values::{
 };
 use clap::ArgMatches;
 
-// What each command takes. What it needs stands first.
+// The words that each command takes. The required ones come first.
 
 pub const SCAN: [&str; 4] = ["metric", "dim", "max", "tags"];
 
@@ -44,7 +44,7 @@ pub const CARRY: [&str; 3] = ["INDEX", "log", "proof"];
 
 pub const PROVE: [&str; 2] = ["log", "root"];
 
-/// The row of `scan`.
+/// Returns the job of `scan`, where its row accepts what is given.
 pub fn scan<'a>(matches: &ArgMatches<'a>) -> Option<Job<&'a str>>
     ensures job { option_map texts_in result ≡ scan_in (given_in matches.now) }
     ensures lawful { IfSome result IsLawful }
@@ -59,7 +59,7 @@ pub fn scan<'a>(matches: &ArgMatches<'a>) -> Option<Job<&'a str>>
     })
 }
 
-/// The row of `create`.
+/// Returns the job of `create`, where its row accepts what is given.
 pub fn create<'a>(matches: &ArgMatches<'a>) -> Option<Job<&'a str>>
     ensures job { option_map texts_in result ≡ create_in (given_in matches.now) }
     ensures lawful { IfSome result IsLawful }
@@ -75,7 +75,7 @@ pub fn create<'a>(matches: &ArgMatches<'a>) -> Option<Job<&'a str>>
     })
 }
 
-/// The row of `session`.
+/// Returns the job of `session`, where its row accepts what is given.
 pub fn session<'a>(matches: &ArgMatches<'a>) -> Option<Job<&'a str>>
     ensures job { option_map texts_in result ≡ session_in (given_in matches.now) }
     ensures lawful { IfSome result IsLawful }
@@ -91,7 +91,7 @@ pub fn session<'a>(matches: &ArgMatches<'a>) -> Option<Job<&'a str>>
     })
 }
 
-/// The row of `shape`.
+/// Returns the job of `shape`, where its row accepts what is given.
 pub fn shape<'a>(matches: &ArgMatches<'a>) -> Option<Job<&'a str>>
     ensures job { option_map texts_in result ≡ shape_in (given_in matches.now) }
     ensures lawful { IfSome result IsLawful }
@@ -104,7 +104,7 @@ pub fn shape<'a>(matches: &ArgMatches<'a>) -> Option<Job<&'a str>>
     })
 }
 
-/// The row of `audit`.
+/// Returns the job of `audit`, where its row accepts what is given.
 pub fn audit<'a>(matches: &ArgMatches<'a>) -> Option<Job<&'a str>>
     ensures job { option_map texts_in result ≡ audit_in (given_in matches.now) }
     ensures lawful { IfSome result IsLawful }
@@ -118,7 +118,7 @@ pub fn audit<'a>(matches: &ArgMatches<'a>) -> Option<Job<&'a str>>
     })
 }
 
-/// The row of `verify`.
+/// Returns the job of `verify`, where its row accepts what is given.
 pub fn verify<'a>(matches: &ArgMatches<'a>) -> Option<Job<&'a str>>
     ensures job { option_map texts_in result ≡ verify_in (given_in matches.now) }
     ensures lawful { IfSome result IsLawful }
@@ -133,7 +133,7 @@ pub fn verify<'a>(matches: &ArgMatches<'a>) -> Option<Job<&'a str>>
     })
 }
 
-/// The row of `check`.
+/// Returns the job of `check`, where its row accepts what is given.
 pub fn check<'a>(matches: &ArgMatches<'a>) -> Option<Job<&'a str>>
     ensures job { option_map texts_in result ≡ check_in (given_in matches.now) }
     ensures lawful { IfSome result IsLawful }
@@ -148,7 +148,7 @@ pub fn check<'a>(matches: &ArgMatches<'a>) -> Option<Job<&'a str>>
     })
 }
 
-/// The row of `join`.
+/// Returns the job of `join`, where its row accepts what is given.
 pub fn join<'a>(matches: &ArgMatches<'a>) -> Option<Job<&'a str>>
     ensures job { option_map texts_in result ≡ join_in (given_in matches.now) }
     ensures lawful { IfSome result IsLawful }
@@ -164,7 +164,7 @@ pub fn join<'a>(matches: &ArgMatches<'a>) -> Option<Job<&'a str>>
     })
 }
 
-/// The row of `gen`.
+/// Returns the job of `gen`, where its row accepts what is given.
 pub fn generate<'a>(matches: &ArgMatches<'a>) -> Option<Job<&'a str>>
     ensures job { option_map texts_in result ≡ gen_in (given_in matches.now) }
     ensures lawful { IfSome result IsLawful }
@@ -182,7 +182,7 @@ pub fn generate<'a>(matches: &ArgMatches<'a>) -> Option<Job<&'a str>>
     })
 }
 
-/// The row of `migrate`.
+/// Returns the job of `migrate`, where its row accepts what is given.
 pub fn migrate<'a>(matches: &ArgMatches<'a>) -> Option<Job<&'a str>>
     ensures job { option_map texts_in result ≡ migrate_in (given_in matches.now) }
     ensures lawful { IfSome result IsLawful }
@@ -196,7 +196,7 @@ pub fn migrate<'a>(matches: &ArgMatches<'a>) -> Option<Job<&'a str>>
     })
 }
 
-/// The row of `batch`.
+/// Returns the job of `batch`, where its row accepts what is given.
 pub fn batch<'a>(matches: &ArgMatches<'a>) -> Option<Job<&'a str>>
     ensures job { option_map texts_in result ≡ batch_in (given_in matches.now) }
     ensures lawful { IfSome result IsLawful }
@@ -212,7 +212,7 @@ pub fn batch<'a>(matches: &ArgMatches<'a>) -> Option<Job<&'a str>>
     })
 }
 
-/// The row of `seal`.
+/// Returns the job of `seal`, where its row accepts what is given.
 pub fn seal<'a>(matches: &ArgMatches<'a>) -> Option<Job<&'a str>>
     ensures job { option_map texts_in result ≡ seal_in (given_in matches.now) }
     ensures lawful { IfSome result IsLawful }
@@ -225,7 +225,7 @@ pub fn seal<'a>(matches: &ArgMatches<'a>) -> Option<Job<&'a str>>
     })
 }
 
-// The row of `proof` with INDEX.
+// Returns the job of `proof` with INDEX, where its row accepts what is given.
 fn carry<'a>(matches: &ArgMatches<'a>) -> Option<Job<&'a str>>
     ensures job { option_map texts_in result ≡ carry_in (given_in matches.now) }
     ensures lawful { IfSome result IsLawful }
@@ -240,7 +240,7 @@ fn carry<'a>(matches: &ArgMatches<'a>) -> Option<Job<&'a str>>
     })
 }
 
-// The row of `proof` without INDEX.
+// Returns the job of `proof` without INDEX, where its row accepts what is given.
 fn prove<'a>(matches: &ArgMatches<'a>) -> Option<Job<&'a str>>
     ensures job { option_map texts_in result ≡ prove_in (given_in matches.now) }
     ensures lawful { IfSome result IsLawful }
@@ -254,7 +254,7 @@ fn prove<'a>(matches: &ArgMatches<'a>) -> Option<Job<&'a str>>
     })
 }
 
-/// The rows of `proof`.
+/// Returns the job of `proof`, where one of its rows accepts what is given.
 pub fn proof<'a>(matches: &ArgMatches<'a>) -> Option<Job<&'a str>>
     ensures job { option_map texts_in result ≡ proof_in (given_in matches.now) }
     ensures lawful { IfSome result IsLawful }

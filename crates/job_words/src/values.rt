@@ -14,14 +14,14 @@ use crate::number::number;
 use clap::ArgMatches;
 use hex::FromHex;
 
-/// The value of an option or a positional.
+/// Returns the value of an option or a positional.
 pub fn value<'a>(matches: &ArgMatches<'a>, name: &str) -> Option<&'a str>
     ensures { option_map (λ s. s.now) result ≡ given_in matches.now name.now }
 {
     matches.get_str(name)
 }
 
-// Whether a name is one of these.
+// Returns whether `name` is one of `names`.
 fn is_among(name: &str, names: &[&str]) -> bool
     ensures { result ≡ list_any (bytes_eq name.now) (map (λ s. s.now) names.now) }
 {
@@ -33,14 +33,14 @@ fn is_among(name: &str, names: &[&str]) -> bool
     false
 }
 
-// Whether this is given, and is none of the names.
+// Returns whether `name` is given, and is none of `names`.
 fn is_other(matches: &ArgMatches<'_>, names: &[&str], name: &str) -> bool
     ensures { result ≡ is_other (map (λ s. s.now) names.now) (given_in matches.now) name.now }
 {
     value(matches, name).is_some() && !is_among(name, names)
 }
 
-// Whether one of these options is given, and is none of the names.
+// Returns whether one of `options` is given that is none of `names`.
 fn has_other_option(matches: &ArgMatches<'_>, names: &[&str], options: &[&str]) -> bool
     ensures { result
         ≡ list_any (is_other (map (λ s. s.now) names.now) (given_in matches.now)) (map (λ s. s.now) options.now) }
@@ -53,14 +53,14 @@ fn has_other_option(matches: &ArgMatches<'_>, names: &[&str], options: &[&str]) 
     false
 }
 
-/// Whether something is given that is none of the names. COMMAND always is.
+/// Returns whether something is given that is none of `names`. COMMAND always is.
 pub fn has_other(matches: &ArgMatches<'_>, names: &[&str]) -> bool
     ensures { result ≡ has_other (map (λ s. s.now) names.now) (given_in matches.now) }
 {
     is_other(matches, names, "INDEX") || has_other_option(matches, names, &OPTIONS)
 }
 
-// The number of an option, from the least to the most; the other where it isn't given.
+// Returns the number of an option, from the least to the most; the default where the option is not given.
 fn number_in(
     matches: &ArgMatches<'_>,
     name: &str,
@@ -81,7 +81,7 @@ fn number_in(
     Some(n)
 }
 
-/// The most objects, `--max`.
+/// Returns the greatest number of objects, `--max`.
 pub fn limit_in(matches: &ArgMatches<'_>) -> Option<u32>
     ensures value { result ≡ limit_given (given_in matches.now) }
     ensures lawful { IfSome result IsLimit }
@@ -90,7 +90,7 @@ pub fn limit_in(matches: &ArgMatches<'_>) -> Option<u32>
     Some(limit as u32)
 }
 
-/// The number of threads, `--workers`.
+/// Returns the number of threads, `--workers`.
 pub fn workers_in(matches: &ArgMatches<'_>) -> Option<usize>
     ensures value { result ≡ workers_given (given_in matches.now) }
     ensures lawful { IfSome result AreWorkers }
@@ -99,7 +99,7 @@ pub fn workers_in(matches: &ArgMatches<'_>) -> Option<usize>
     Some(workers as usize)
 }
 
-/// How many objects are generated, `--count`.
+/// Returns the number of generated objects, `--count`.
 pub fn count_in(matches: &ArgMatches<'_>) -> Option<u32>
     ensures value { result ≡ count_given (given_in matches.now) }
     ensures lawful { IfSome result IsCount }
@@ -108,7 +108,7 @@ pub fn count_in(matches: &ArgMatches<'_>) -> Option<u32>
     Some(count as u32)
 }
 
-/// The generator's seed, `--seed`.
+/// Returns the generator's seed, `--seed`.
 pub fn seed_in(matches: &ArgMatches<'_>) -> Option<u32>
     ensures { result ≡ seed_given (given_in matches.now) }
 {
@@ -116,14 +116,14 @@ pub fn seed_in(matches: &ArgMatches<'_>) -> Option<u32>
     Some(seed as u32)
 }
 
-/// The radius of a join, `--radius`.
+/// Returns the radius of a join, `--radius`.
 pub fn radius_in(matches: &ArgMatches<'_>) -> Option<u64>
     ensures { result ≡ radius_given (given_in matches.now) }
 {
     number_in(matches, "radius", 0, u64::MAX, None)
 }
 
-/// Whether `--tags` is `show`.
+/// Returns whether `--tags` is `show`.
 pub fn show_tags_in(matches: &ArgMatches<'_>) -> Option<bool>
     ensures { result ≡ show_given (given_in matches.now) }
 {
@@ -135,14 +135,14 @@ pub fn show_tags_in(matches: &ArgMatches<'_>) -> Option<bool>
     }
 }
 
-// Whether a metric cuts a point into two halves.
+// Returns whether a metric cuts a point into two halves.
 fn is_halved(metric: MetricName) -> bool
     ensures { result ≡ is_halved metric }
 {
     matches!(metric, MetricName::MixSum | MetricName::MixMax)
 }
 
-/// The dimension, `--dim`.
+/// Returns the dimension, `--dim`.
 pub fn dim_in(matches: &ArgMatches<'_>) -> Option<u8>
     ensures value { result ≡ dim_given (given_in matches.now) }
     ensures within { IfSome result (λ dim. (1 ≤ dim) × (dim ≤ 64)) }
@@ -151,7 +151,7 @@ pub fn dim_in(matches: &ArgMatches<'_>) -> Option<u8>
     Some(dim as u8)
 }
 
-/// The space of `--metric` and `--dim`.
+/// Returns the space of `--metric` and `--dim`.
 pub fn space_in(matches: &ArgMatches<'_>) -> Option<SpaceName>
     ensures value { result ≡ space_given (given_in matches.now) }
     ensures lawful { IfSome result IsLawfulSpace }
@@ -164,14 +164,14 @@ pub fn space_in(matches: &ArgMatches<'_>) -> Option<SpaceName>
     Some(SpaceName { metric, dim })
 }
 
-// Whether the generator makes points of a metric.
+// Returns whether the generator makes points of a metric.
 fn is_generated(metric: MetricName) -> bool
     ensures { result ≡ is_generated metric }
 {
     !matches!(metric, MetricName::Kendall | MetricName::Hausdorff)
 }
 
-/// The space of `--metric` and `--dim`, where the generator makes its points.
+/// Returns the space of `--metric` and `--dim`, where the generator makes its points.
 pub fn generated_space_in(matches: &ArgMatches<'_>) -> Option<SpaceName>
     ensures value { result ≡ generated_space_given (given_in matches.now) }
     ensures lawful { IfSome result IsGeneratedSpace }
@@ -183,7 +183,7 @@ pub fn generated_space_in(matches: &ArgMatches<'_>) -> Option<SpaceName>
     Some(space)
 }
 
-// The promotion policy of a name; the usual one where there is none.
+// Returns the promotion policy of a name, or the default where there is no name.
 fn promote_or(text: Option<&str>) -> Option<Promote>
     ensures { result ≡ promote_or (option_map (λ s. s.now) text.entry) }
 {
@@ -193,7 +193,7 @@ fn promote_or(text: Option<&str>) -> Option<Promote>
     }
 }
 
-// The partition policy of a name; the usual one where there is none.
+// Returns the partition policy of a name, or the default where there is no name.
 fn split_or(text: Option<&str>) -> Option<Split>
     ensures { result ≡ split_or (option_map (λ s. s.now) text.entry) }
 {
@@ -203,7 +203,7 @@ fn split_or(text: Option<&str>) -> Option<Split>
     }
 }
 
-/// The policies of `--promote` and `--split`.
+/// Returns the policies of `--promote` and `--split`.
 pub fn policies_in(matches: &ArgMatches<'_>) -> Option<PolicyNames>
     ensures { result ≡ policies_given (given_in matches.now) }
 {
@@ -213,14 +213,14 @@ pub fn policies_in(matches: &ArgMatches<'_>) -> Option<PolicyNames>
     })
 }
 
-// Whether a byte is a hexadecimal digit in lower case.
+// Returns whether a byte is a hexadecimal digit in lower case.
 fn is_lower_digit(byte: u8) -> bool
     ensures { result ≡ is_lower_digit byte }
 {
     matches!(byte, b'0'..=b'9' | b'a'..=b'f')
 }
 
-// The bytes of 64 hexadecimal digits in lower case.
+// Returns the bytes of 64 hexadecimal digits in lower case.
 fn digest(text: &str) -> Option<[u8; 32]>
     ensures { result ≡ digest_of text.now }
 {
@@ -232,7 +232,7 @@ fn digest(text: &str) -> Option<[u8; 32]>
     <[u8; 32] as FromHex>::from_hex(text).ok()
 }
 
-/// The root digest of `--root`.
+/// Returns the root digest of `--root`.
 pub fn root_in(matches: &ArgMatches<'_>) -> Option<[u8; 32]>
     ensures { result ≡ root_given (given_in matches.now) }
 {

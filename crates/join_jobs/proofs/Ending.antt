@@ -31,7 +31,7 @@ pub record Opened (d0 d1 e0 e1 : DiskState) (l r : Head × Live) : Type 0 where
   pub later : d0.faults ≤ d1.faults
   pub other_later : e0.faults ≤ e1.faults
 
--- what is told of the bytes after opening is told of those before
+-- what holds for the bytes after opening holds for those before
 pub on_trees : (Holds : Tree → Tree → Type 0) (d0 d1 e0 e1 : DiskState) (l r : Head × Live) → Opened d0 d1 e0 e1 l r
     → (IsTrue d1.tells → IsTrue e1.tells → Holds (tree_of d1 l) (tree_of e1 r)) → OnTrees d0 e0 Holds
 on_trees Holds d0 d1 e0 e1 l r opened holds t u = (

@@ -1,4 +1,4 @@
--- What the jobs on two files do and write, by the status with which they end.
+-- What the jobs on two files do and write, by their status.
 use Rattle.std.specs.Prelude.{◌≡◌, ◌≢◌, ◌⊎◌, ◌^◌, ◌≤◌, ℕ, true, false, List, codes, Option, Err, IsTrue}
 use Rattle.std.specs.Io.KnownBytes.{Appends}
 use Rattle.outside_io.specs.Bytes.{AppendsPrefix}
@@ -23,7 +23,7 @@ use Rattle.join_jobs.specs.Trees.{Tree, tree_of, IsOpened, IsSoundFile, IsLeastL
 
 -- ---- opening
 
--- what was opened is lawful, also of disks that don't tell their bytes
+-- the heads and live slots are lawful, even on disks that don't tell their bytes
 pub record AreLawful (trees : Trees) : Type 0 where
   pub left_head : IsLawfulHead trees.left.0
   pub right_head : IsLawfulHead trees.right.0
@@ -34,7 +34,7 @@ pub record AreLawful (trees : Trees) : Type 0 where
 abbrev pub IsIndex : List ℕ → Type 0
 IsIndex file = (tree : Tree) × (tree.file ≡ file) × IsOpened tree
 
--- the index is none, as this word says; or it is one, and the other is none
+-- the file `index` is no index, as `name` says; or it is one, and `other` is none
 abbrev pub IsNoPair : DiskState → DiskState → List ℕ → Type 0
 IsNoPair index other name =
     (IsTrue index.tells → IsNoIndex index.bytes name)
@@ -50,7 +50,7 @@ pub record Refuses (index0 index1 other0 other1 : DiskState) (out0 out1 : SinkSt
   pub not_index : status ≡ 6 → (name : List ℕ) × Tells out0 out1 (not_index_text name) × IsNoPair index0 other0 name
   pub statuses : (status ≡ 5) ⊎ (status ≡ 6)
 
--- where both disks tell their bytes, both files open to trees of which this holds
+-- where both disks tell their bytes, both files open to trees that satisfy `Holds`
 abbrev pub OnTrees : DiskState → DiskState → (Tree → Tree → Type 0) → Type 0
 OnTrees index other Holds =
     IsTrue index.tells → IsTrue other.tells →
@@ -58,7 +58,7 @@ OnTrees index other Holds =
 
 -- ---- verify and check
 
--- the job said what there is to say of both files and of the logs, up to what the status tells
+-- the job said what there is to say about both files and the logs, as far as the status tells
 abbrev pub WritesOn : Report → DiskState → DiskState → List ℕ → SinkState → SinkState → ℕ → Type 0
 WritesOn what index other bytes out0 out1 status = OnTrees index other (λ left right. Writes status (said_of what left right bytes) out0 out1)
 
@@ -76,18 +76,18 @@ JudgesLogs what index0 index1 other0 other1 left0 left1 out0 out1 status =
 
 -- ---- join
 
--- the log is the least one of the join; and on two sound files its answers are the pairs of the double loop
+-- the log is the least one of the join, and on two sound files its answers are the pairs of the double loop
 pub record IsJoinOf (radius : ℕ) (log : JoinLog) (left right : Tree) : Type 0 where
   pub one_space : is_one_space left.head right.head ≡ true
   pub least : IsLeastLog left right radius log
   pub scanned : IsSoundFile left → IsSoundFile right → log.answers ≡ scanned_pairs left right radius
 
--- the log's frame, and then the lines of its answers, were put whole
+-- the log's frame and then the lines of its answers were put whole
 pub record PutsJoin (log : JoinLog) (out0 out1 log0 log1 : SinkState) : Type 0 where
   pub frame : Appends log0.written log1.written (frame_bytes (join_log_bytes log))
   pub pairs : Appends out0.written out1.written (pairs_text log.answers)
 
--- a front of the frame was put, and no line; or the frame, and a front of the lines
+-- a front of the frame was put, and no line; or the frame was put, and a front of the lines
 abbrev pub CutsJoin : JoinLog → SinkState → SinkState → SinkState → SinkState → Type 0
 CutsJoin log out0 out1 log0 log1 =
     (AppendsPrefix log0.written log1.written (frame_bytes (join_log_bytes log)) × (out1 ≡ out0))
@@ -97,15 +97,15 @@ CutsJoin log out0 out1 log0 log1 =
 abbrev pub HaveOtherSpaces : Tree → Tree → Type 0
 HaveOtherSpaces left right = is_one_space left.head right.head ≡ false
 
--- The walk of the live tree by child numbers comes to this page, which holds no node or is none of the file's; or it names
--- this page after it has opened as many as there are.
+-- The walk of the live tree by child numbers reaches this page, which holds no node or is outside the file. Or the walk names this
+-- page after it has opened as many pages as there are.
 abbrev pub IsDamaged : Tree → PageFault → Type 0
 IsDamaged tree (pages.Bad page fault) = (read_of tree page ≡ Err (pages.Bad page fault)) × NamesInside (tree_nodes tree) tree.live page
 IsDamaged tree (pages.Outside page) = (read_of tree page ≡ Err (pages.Outside page)) × NamesInside (tree_nodes tree) tree.live page
 IsDamaged tree (pages.Repeats page) = Names (tree_nodes tree) tree.live.root tree.live.pages page
 IsDamaged tree _ = ⊥
 
--- two trees of one space, of which one is damaged and not both are sound
+-- two trees of one space; one of them is damaged, and not both are sound
 pub record AreDamaged (fault : PageFault) (left right : Tree) : Type 0 where
   pub one_space : is_one_space left.head right.head ≡ true
   pub damaged : IsDamaged left fault ⊎ IsDamaged right fault
@@ -116,7 +116,8 @@ abbrev pub HasDamage : Trees → DiskState → DiskState → PageFault → Type 
 HasDamage trees index other fault =
     IsTrue index.tells → IsTrue other.tells → AreDamaged fault (tree_of index trees.left) (tree_of other trees.right)
 
--- why their join is refused: a disk failed, memory ran out, or a page gave no node; the disks' counts of faults are so much now
+-- why the join of two opened files fails: a disk failed, memory ran out, or a page gave no node; `faults` and `other_faults` are the
+-- disks' counts of faults now
 abbrev pub HasRefusal : Trees → DiskState → ℕ → DiskState → ℕ → JoinFault → Type 0
 HasRefusal trees index faults other other_faults join.Memory = Unit {0}
 HasRefusal trees index faults other other_faults (join.Left pages.Disk) = Rose index.faults faults
@@ -124,7 +125,7 @@ HasRefusal trees index faults other other_faults (join.Right pages.Disk) = Rose 
 HasRefusal trees index faults other other_faults (join.Left fault) = HasDamage trees index other fault
 HasRefusal trees index faults other other_faults (join.Right fault) = HasDamage trees index other fault
 
--- a page that gave no node, and not because the disk failed
+-- the fault is that of a page that gave no node, and the disk did not fail
 abbrev pub IsDamage : JoinFault → PageFault → Type 0
 IsDamage fault page = (page ≢ pages.Disk) × ((fault ≡ join.Left page) ⊎ (fault ≡ join.Right page))
 
@@ -132,7 +133,7 @@ IsDamage fault page = (page ≢ pages.Disk) × ((fault ≡ join.Left page) ⊎ (
 abbrev pub IsDiskFault : JoinFault → Type 0
 IsDiskFault fault = (fault ≡ join.Left pages.Disk) ⊎ (fault ≡ join.Right pages.Disk)
 
--- how a join ends that is refused
+-- how a refused join ends
 pub record EndsRefused (fault : JoinFault) (out0 out1 : SinkState) (status : ℕ) : Type 0 where
   pub disk : status ≡ 5 → IsDiskFault fault × Tells out0 out1 (codes "fault disk\n")
   pub memory : status ≡ 8 → Tells out0 out1 (codes "fault memory\n")
@@ -150,7 +151,7 @@ pub record Joins (radius : ℕ) (index0 index1 other0 other1 : DiskState) (out0 
   pub disk : status ≡ 5 → EitherRose index0 index1 other0 other1 × Tells out0 out1 (codes "fault disk\n")
   pub not_index : status ≡ 6 → (name : List ℕ) × Tells out0 out1 (not_index_text name) × IsNoPair index0 other0 name
   pub memory : status ≡ 8 → Tells out0 out1 (codes "fault memory\n")
-  -- a page of a file that is not sound
+  -- a page of a file that is not sound is damaged
   pub damaged : status ≡ 9 → (fault : PageFault) × Tells out0 out1 (damaged_text fault) × OnTrees index0 other0 (AreDamaged fault)
 
 abbrev pub IsJoinStatus : ℕ → Type 0

@@ -1,4 +1,4 @@
--- What it means that a join's log is complete.
+-- What a complete log of a join means.
 use Rattle.std.specs.Prelude.{◌≡◌, ◌↔◌, true, None}
 use Rattle.log_model.specs.declared.logs.JoinLog.{JoinLog}
 use Rattle.file_jobs.specs.Logs.Laws.{SaysTrue}
@@ -10,7 +10,7 @@ pub record IsCompleteLog (left right : Tree) (log : JoinLog) : Type 0 where
   pub sound : IsSoundLog left right log
   pub scanned : log.answers ≡ scanned_pairs left right log.r
 
--- a file has no fault exactly where it is sound; and of two sound files of one space what is said of their logs is so
+-- a file has no fault exactly where it is sound; for two sound files of one space, what is said of their logs is true
 pub record FaultlessIsComplete (left right : Tree) : Type 0 where
   pub left_sound : (fault_of left ≡ None) ↔ IsSoundFile left
   pub right_sound : (fault_of right ≡ None) ↔ IsSoundFile right

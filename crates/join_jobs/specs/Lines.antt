@@ -14,7 +14,7 @@ use Rattle.file_jobs.specs.Logs.Sayings.{Saying, Words, on_file, on_logs}
 use Rattle.file_jobs.specs.declared.logs.report.Report.{Report}
 use Rattle.file_jobs.specs.declared.logs.report.Report.TheVariants as report
 
--- the first fault of a join's log that is judged by two trees, where it has one
+-- the first fault of a join's log that is judged by two trees, if it has one
 abbrev pub Judge : Type 0
 Judge = JoinLog → Option JoinVerdict
 
@@ -24,7 +24,7 @@ Judge = JoinLog → Option JoinVerdict
 abbrev pub pairs_text : List Pair → List ℕ
 pairs_text pairs = text false (reply.Pairs pairs)
 
--- two files of different spaces
+-- the line for two files of different spaces
 abbrev pub spaces_text : List ℕ
 spaces_text = codes "rejected spaces\n"
 
@@ -44,17 +44,17 @@ verdict_text (verdict.WrongAnswer n) = numbered (codes "wronganswer ") n
 verdict_text (verdict.LeftOver n) = numbered (codes "leftover ") n
 verdict_text verdict.Memory = codes "memory"
 
--- what is written of a join's log: a verdict's words; its radius, and its answers as those of a join
+-- the words about a join's log: a verdict's words; its radius, and its answers as those of a join
 abbrev pub join_words : Words JoinLog JoinVerdict
 join_words = record { verdict = verdict_text; answers = λ log. counted (codes "join,") log.r ++ pairs_text log.answers }
 
 -- ---- what a job says
 
--- of two files with these first faults and of logs: verdicts are given on any files, and answers on sound ones alone
+-- what is said of two files with these first faults, and of logs: verdicts are given for any files, and answers for sound files only
 abbrev pub saying : Report → Option AuditFault → Option AuditFault → Judge → Result (List JoinLog) LogFault → Saying
 saying report.Verdicts left right judge logs = on_logs join_words report.Verdicts judge logs
 saying report.Answers left right judge logs = on_file (codes "file") left (on_file (codes "other") right (on_logs join_words report.Answers judge logs))
 
--- of two files whose spaces differ
+-- what is said of two files with different spaces
 abbrev pub on_spaces : Saying
 on_spaces = record { texts = spaces_text ∷ []; status = 1 }

@@ -1,4 +1,4 @@
--- Two opened files: their spaces, what their pages hold, and what is to be said of them.
+-- Two opened files: their spaces, what their pages hold, and what is said of them.
 use Rattle.std.specs.Prelude.{◌≡◌, ℕ, ◌==◌, ◌&&◌, Bool, List, Option, if◌then◌else◌}
 use Rattle.disk_model.specs.Disk.{DiskState}
 use Rattle.metric_laws.specs.Space.{Space}
@@ -21,7 +21,7 @@ use Rattle.file_jobs.specs.Logs.Files.{fault_of as first_fault}
 use Rattle.file_jobs.specs.Logs.Sayings.{Saying, on_logs}
 use Rattle.join_jobs.specs.Lines.{Judge, join_words, saying, on_spaces}
 
--- the bytes of a file, and the head and the live slot that it was opened with
+-- the bytes of a file, and the head and the live slot that it opens to
 pub record Tree : Type 0 where
   pub file : List ℕ
   pub head : Head
@@ -30,7 +30,7 @@ pub record Tree : Type 0 where
 abbrev pub tree_of : DiskState → Head × Live → Tree
 tree_of disk opened = record { file = disk.bytes; head = opened.0; live = opened.1 }
 
--- the file opens to them, and is of the second version
+-- the file opens to its head and live slot, and is of version 2
 pub record IsOpened (tree : Tree) : Type 0 where
   pub opens : OpensTo tree.file tree.head tree.live
   pub version : tree.head.version ≡ 2
@@ -61,11 +61,11 @@ IsSoundFile tree = IsSoundTree (space_of tree) (tree_nodes tree) tree.live
 abbrev pub is_one_space : Head → Head → Bool
 is_one_space left right = (left.kind == right.kind) && (left.dim == right.dim)
 
--- the first fault of each join's log
+-- the first fault of a join's log on two trees
 abbrev pub judge_of : Tree → Tree → Judge
 judge_of left right = join_fault (space_of left) (read_of left) (read_of right) left.live right.live
 
--- the same by what the pages of both mean
+-- the same, by what the pages of both sides mean
 abbrev pub judge_by : Space → Shelf → Shelf → Live → Live → Judge
 judge_by s left right l r = join_fault s left.read right.read l r
 
@@ -76,11 +76,11 @@ IsSoundLog left right log = IsSoundJoinLog (space_of left) (tree_nodes left) (tr
 abbrev pub IsLeastLog : Tree → Tree → ℕ → JoinLog → Type 0
 IsLeastLog left right radius log = IsLeastJoinLog (space_of left) (tree_nodes left) (tree_nodes right) left.live right.live radius log
 
--- the pairs of the double loop over the points of both
+-- the pairs of the double loop over the points of both trees
 abbrev pub scanned_pairs : Tree → Tree → ℕ → List Pair
 scanned_pairs left right radius = join_pairs (space_of left) (points_of left) (points_of right) radius
 
--- what is said of the logs that bytes spell; of two files of one space and of the logs; and of any two opened files
+-- what is said of the logs that bytes spell; of two files of one space and the logs; and of any two opened files
 abbrev pub said_of_logs : Report → Tree → Tree → List ℕ → Saying
 said_of_logs what left right bytes = on_logs join_words what (judge_of left right) (frames_at join_log_at bytes)
 

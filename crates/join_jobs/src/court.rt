@@ -50,13 +50,13 @@ impl<P: Pages, Q: Pages> Court for JoinCourt<'_, '_, P, Q> {
     ghost judges = { λ c.
         judge_by (mix_space (mix_kind c.space) (mix_dim c.space)) (P.shelf c.left_pages.now) (Q.shelf c.right_pages.now) c.left c.right };
 
-    // Of both sides together.
+    // The reads of both sides together.
     ghost read_count = { λ c. (P.shelf c.left_pages.now).reads + (Q.shelf c.right_pages.now).reads };
 
     // Each record is judged by one page of one side.
     ghost most_reads = { λ log. length log.records };
 
-    // The pages of both sides.
+    // The pages of both sides are kept.
     ghost keeps = { λ c d.
         (d.left_pages.ghost_name ≡ c.left_pages.ghost_name)
         × ((P.shelf c.left_pages.now).faults ≤ (P.shelf d.left_pages.now).faults) × P.keeps c.left_pages.now d.left_pages.now

@@ -1,4 +1,4 @@
-// The jobs, from their objects to their statuses.
+// Does the jobs on two files, from their devices to their statuses.
 ghost use Rattle.std.specs.Prelude.{◌≡◌, ◌≢◌, ◌⊎◌, ◌≤◌, IsTrue, IfOk, IfErr, OnOk, OnErr};
 ghost use Rattle.outside_io.specs.Causes.{Rose};
 ghost use Rattle.disk_model.specs.Disk.{IsUnchanged};
@@ -16,7 +16,7 @@ use file_jobs::{open_index, put_line};
 use outside_io::{Sink, Source, Status};
 use std::alloc::Global;
 
-// Opens two indexes of version 2. Else it writes why the first of them that is none is none, and answers the status.
+// Opens two indexes of version 2. Otherwise it writes why the first file that is no index is none, and returns the status.
 fn open_both<D: Disk, E: Disk, K: Sink>(
     index: &mut D,
     other: &mut E,
@@ -40,7 +40,7 @@ fn open_both<D: Disk, E: Disk, K: Sink>(
     Ok(Trees { left, right })
 }
 
-// Says what there is to say of two indexes and of the bytes of their logs.
+// Says what there is to say about two indexes and the bytes of their logs.
 fn judge_indexes<D: Disk, E: Disk, K: Sink>(
     alloc: Global,
     report: Report,
@@ -66,7 +66,7 @@ fn judge_indexes<D: Disk, E: Disk, K: Sink>(
     }
 }
 
-// Reads the logs, and says what there is to say of both indexes and of them.
+// Reads the logs, and says what there is to say about both indexes and the logs.
 fn judge_logs<D: Disk, E: Disk, S: Source, K: Sink>(
     alloc: Global,
     report: Report,
@@ -88,11 +88,11 @@ fn judge_logs<D: Disk, E: Disk, S: Source, K: Sink>(
     }
 }
 
-/// Judges the join logs of `log_in` by two indexes, `index` on the left, and writes a line on each: that it is accepted, or
-/// its first fault, as soon as it is judged. The files are not audited. Where their spaces differ it writes `rejected spaces`
-/// and nothing more. Status 1: a log is rejected, the bytes are no join logs, or the spaces differ; 3: the logs could not be
-/// read; 4: a line could not be written; 5: a disk failed; 6: a file is no index of version 2; 7: there are more than 2^30
-/// bytes of logs; 8: want of memory. Nothing is changed.
+/// Judges the join logs of `log_in` by two indexes, `index` on the left. Writes a line for each log as soon as it is judged: that it
+/// is accepted, or its first fault. The files are not audited. Where their spaces differ it writes `rejected spaces` and nothing
+/// more. Status 1: a log is rejected, the bytes are no join logs, or the spaces differ; 3: the logs could not be read; 4: a line
+/// could not be written; 5: a disk failed; 6: a file is no index of version 2; 7: there are more than 2^30 bytes of logs; 8: memory
+/// ran out. Changes nothing.
 pub fn verify_join_logs<D: Disk, E: Disk, S: Source, K: Sink>(
     alloc: Global,
     index: &mut D,
@@ -110,9 +110,9 @@ pub fn verify_join_logs<D: Disk, E: Disk, S: Source, K: Sink>(
     judge_logs(alloc, Report::Verdicts, index, other, log_in, out)
 }
 
-/// Audits two indexes, `index` first, and where both are sound judges the join logs of `log_in` by them. For each it writes
-/// that it is complete, with its radius and its answers, or its first fault. Status 1 comes also where a file is not sound;
-/// the others are those of [`verify_join_logs`]. Nothing is changed.
+/// Audits two indexes, `index` first, and where both are sound judges the join logs of `log_in` by them. For each log it writes that
+/// it is complete, with its radius and its answers, or its first fault. Status 1 comes also where a file is not sound; the other
+/// statuses are those of [`verify_join_logs`]. Changes nothing.
 pub fn check_join_logs<D: Disk, E: Disk, S: Source, K: Sink>(
     alloc: Global,
     index: &mut D,
@@ -122,7 +122,7 @@ pub fn check_join_logs<D: Disk, E: Disk, S: Source, K: Sink>(
 ) -> Status
     ensures judges { JudgesLogs Report.Answers (D.state index.old) (D.state index.new) (E.state other.old) (E.state other.new)
         (S.left log_in.old) (S.left log_in.new) (K.state out.old) (K.state out.new) result.0 }
-    // A log that is written complete is sound on two sound files, and its answers are the pairs of the double loop.
+    // A log reported as complete is sound on two sound files, and its answers are the pairs of the double loop.
     ensures complete { (left right : Tree) → IsOpened left → IsOpened right → FaultlessIsComplete left right }
     ensures statuses { IsLogStatus result.0 }
     ensures input { result.0 ≡ 3 → Rose (S.faults log_in.old) (S.faults log_in.new) }
@@ -133,11 +133,11 @@ pub fn check_join_logs<D: Disk, E: Disk, S: Source, K: Sink>(
     judge_logs(alloc, Report::Answers, index, other, log_in, out)
 }
 
-/// Joins two indexes of one space, `index` on the left: puts one frame of the join's log to `log_out`, and then `pairs N` and
-/// each pair of objects within the radius to `out`, by the left id, then by the right. Status 1: the spaces differ, and the
-/// line is `rejected spaces`; 4: the frame or the lines could not be written; 5: a disk failed; 6: a file is no index of
-/// version 2; 8: want of memory; 9: a page of a file that is not sound gave no node, or was named once too often. But for
-/// status 0 and 4 nothing is put to `log_out`. Neither file is changed.
+/// Joins two indexes of one space, `index` on the left. Puts one frame of the join's log to `log_out`, and then `pairs N` and each
+/// pair of objects within the radius to `out`, by the left id, then by the right id. Status 1: the spaces differ, and the line is
+/// `rejected spaces`; 4: the frame or the lines could not be written; 5: a disk failed; 6: a file is no index of version 2; 8:
+/// memory ran out; 9: a page of a file that is not sound gave no node, or was named once too often. Except at status 0 and 4 nothing
+/// is put to `log_out`. Changes neither file.
 pub fn join_indexes<D: Disk, E: Disk, K: Sink, T: Sink>(
     alloc: Global,
     index: &mut D,

@@ -1,4 +1,4 @@
-// The join of two opened indexes, and what it writes.
+// Joins two opened indexes, and writes the result.
 ghost use Rattle.std.specs.Prelude.{◌≡◌, ◌≢◌, ◌⊎◌, ◌≤◌, true, IsTrue, IfOk, IfErr, codes};
 ghost use Rattle.std.specs.Io.KnownBytes.{Appends};
 ghost use Rattle.outside_io.specs.Bytes.{AppendsPrefix};
@@ -26,7 +26,7 @@ use page_store::{DiskPages, PageFault};
 use prune_log::{encode_join_log, frame};
 use std::alloc::Global;
 
-/// The join of two opened files of one space.
+/// Returns the join of two opened files of one space.
 pub fn join_opened<D: Disk, E: Disk>(
     alloc: Global,
     index: &mut D,
@@ -71,7 +71,7 @@ pub fn join_opened<D: Disk, E: Disk>(
     joined
 }
 
-// The lines of a join's pairs, and the frame of its log.
+// Returns the lines of a join's pairs, and the frame of its log.
 fn joined_texts(alloc: Global, joined: Joined) -> Result<(Vec<u8>, Vec<u8>), Memory>
     requires { IsLawfulJoinLog joined.log }
     ensures lines { IfOk result (λ texts. texts.0.items ≡ pairs_text joined.pairs) }
@@ -112,7 +112,7 @@ pub fn end_joined<K: Sink, T: Sink>(
     }
 }
 
-// Ends a join that met a page which gave no node.
+// Ends a join that met a page without a node.
 fn end_damaged<K: Sink>(alloc: Global, fault: PageFault, out: &mut K) -> Status
     ensures damaged { result.0 ≡ 9 → Tells (K.state out.old) (K.state out.new) (damaged_text fault) }
     ensures memory { result.0 ≡ 8 → Tells (K.state out.old) (K.state out.new) (codes "fault memory\n") }
@@ -125,7 +125,7 @@ fn end_damaged<K: Sink>(alloc: Global, fault: PageFault, out: &mut K) -> Status
     }
 }
 
-/// Ends a join that is refused.
+/// Ends a refused join.
 pub fn end_refused<K: Sink>(alloc: Global, fault: JoinFault, out: &mut K) -> Status
     ensures ends { EndsRefused fault (K.state out.old) (K.state out.new) result.0 }
     ensures later { (K.state out.old).faults ≤ (K.state out.new).faults }

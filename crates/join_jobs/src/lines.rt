@@ -1,4 +1,4 @@
-// The words on the logs of joins.
+// The words about the logs of joins.
 ghost use Rattle.std.specs.Prelude.{◌≡◌, ◌++◌, OnOk};
 ghost use Rattle.join_jobs.specs.Lines.{join_words, pairs_text, side_name, verdict_text};
 

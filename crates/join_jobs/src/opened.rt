@@ -1,4 +1,4 @@
-// What is said of two opened indexes and of the logs of their join.
+// Reports on two opened indexes and on the logs of their join.
 ghost use Rattle.std.specs.Prelude.{◌≡◌, ◌⊎◌, ◌≤◌, true, IsTrue, IfOk, IsErrOf};
 ghost use Rattle.outside_io.specs.Causes.{Rose};
 ghost use Rattle.disk_model.specs.Disk.{IsUnchanged};
@@ -18,20 +18,20 @@ use page_store::DiskPages;
 use std::alloc::Global;
 use tree_shape::Live;
 
-/// The line of two files of different spaces.
+/// The line for two files of different spaces.
 pub const REJECTED_SPACES: &[u8] = b"rejected spaces\n";
 
 /// The heads and the live slots of two opened indexes.
 #[derive(Clone, Copy)]
 pub struct Trees {
-    /// Of the index.
+    /// The head and the live slot of the index.
     pub left: (Head, Live),
-    /// Of the other index.
+    /// The head and the live slot of the other index.
     pub right: (Head, Live),
 }
 
 impl Trees {
-    /// Whether both are of one space.
+    /// Returns whether both have the same space.
     pub fn have_one_space(&self) -> bool
         ensures { result ≡ is_one_space self.now.left.0 self.now.right.0 }
     {
@@ -40,16 +40,16 @@ impl Trees {
     }
 }
 
-/// The bytes of logs that are to be judged, and what is said of a log that is accepted.
+/// The bytes of the logs to judge, and what is said of an accepted log.
 #[derive(Clone, Copy)]
 pub struct Docket<'a> {
-    /// What is said.
+    /// What is said of an accepted log.
     pub report: Report,
-    /// The bytes.
+    /// The bytes of the logs.
     pub bytes: &'a [u8],
 }
 
-// Says what there is to say of the logs of two opened files of one space.
+// Says what there is to say about the logs of two opened files of one space.
 fn judge_opened<D: Disk, E: Disk, K: Sink>(
     alloc: Global,
     docket: &Docket<'_>,
@@ -100,8 +100,8 @@ fn judge_opened<D: Disk, E: Disk, K: Sink>(
     judged
 }
 
-// Audits two opened files of one space, the left one first, and says what comes out, and what there is to say of their logs
-// where both are sound.
+// Audits two opened files of one space, the left one first, and writes the result. Where both are sound, it also says what there is
+// to say about their logs.
 fn check_opened<D: Disk, E: Disk, K: Sink>(
     alloc: Global,
     index: &mut D,
@@ -139,7 +139,7 @@ fn check_opened<D: Disk, E: Disk, K: Sink>(
     judge_opened(alloc, &docket, index, other, trees, out)
 }
 
-/// Says what there is to say of two opened files and of the logs of their join.
+/// Says what there is to say about two opened files and the logs of their join.
 pub fn report_on<D: Disk, E: Disk, K: Sink>(
     alloc: Global,
     docket: &Docket<'_>,

@@ -1,4 +1,4 @@
--- What is said of an opened file, by what was put.
+-- What is said about an opened file, by what was put.
 use Rattle.std.proofs.Common.{◌≡◌, ◌⊎◌, inr, ℕ, ◌+◌, ◌^◌, max, List, Some, None, refl, sym, subst, arith}
 use Rattle.std.proofs.Math.Nat.{max-eq_right}
 use Rattle.std.specs.Prelude.{◌≤◌, IsTrue}

@@ -1,4 +1,4 @@
--- What it means that a log is complete.
+-- What a complete log means.
 use Rattle.std.specs.Prelude.{◌≡◌, ◌↔◌, ℕ, List, None}
 use Rattle.tree_shape.specs.declared.live.Live.{Live}
 use Rattle.tree_shape.specs.Tree.{IsSoundTree, points_by_id}
@@ -23,7 +23,7 @@ pub record IsCompleteLog (file : List ℕ) (head : Head) (live : Live) (log : Lo
   pub sound : IsSoundLog (space_of head) (nodes_of (read_of file head live)) live log
   pub scanned : log.answers ≡ scan_answers (space_of head) log.query (points_by_id (nodes_of (read_of file head live)) live)
 
--- a file has no fault exactly where it is sound, and what is said of its logs is then so
+-- a file has no fault exactly where it is sound, and what is said of its logs is then true
 abbrev pub FaultlessIsComplete : List ℕ → Type 0
 FaultlessIsComplete file =
     (head : Head) (live : Live) → OpensTo file head live → ((fault_of file head live ≡ None) ↔ IsSoundFile file head live)

@@ -1,4 +1,4 @@
--- What the jobs on logs write: a piece of text for each log, and one at the end.
+-- What the jobs on logs write: a text for each log, and one at the end.
 use Rattle.std.specs.Prelude.{List, Option, Result, codes}
 use Rattle.log_model.specs.declared.logs.Log.{Log}
 use Rattle.log_verify.specs.declared.faults.Verdict.{Verdict}
@@ -9,15 +9,15 @@ use Rattle.file_jobs.specs.Logs.Sayings.{Saying, Words, on_file, on_logs}
 use Rattle.file_jobs.specs.declared.logs.report.Report.{Report}
 use Rattle.file_jobs.specs.declared.logs.report.Report.TheVariants as report
 
--- the first fault of a log that is judged by a tree, where it has one
+-- the first fault of a log that is judged by a tree, if it has one
 abbrev pub Judge : Type 0
 Judge = Log → Option Verdict
 
--- what is written of a log: a verdict's words; its query, and its answers as those of a search
+-- the words about a log: a verdict's words; its query, and its answers as those of a search
 abbrev pub log_words : Words Log Verdict
 log_words = record { verdict = verdict_text; answers = λ log. answers_text log.query log.answers }
 
--- of a file with this first fault and of logs: verdicts are given on any file, and answers on a sound one alone
+-- what is said of a file with this first fault and of logs: verdicts are given for any file, and answers for a sound file only
 abbrev pub saying : Report → Option AuditFault → Judge → Result (List Log) LogFault → Saying
 saying report.Verdicts audit judge logs = on_logs log_words report.Verdicts judge logs
 saying report.Answers audit judge logs = on_file (codes "file") audit (on_logs log_words report.Answers judge logs)

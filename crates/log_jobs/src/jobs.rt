@@ -1,4 +1,4 @@
-// The jobs, from their objects to their statuses.
+// Does the jobs on logs, from their devices to their statuses.
 ghost use Rattle.std.specs.Prelude.{◌≡◌, ◌≤◌};
 ghost use Rattle.outside_io.specs.Causes.{Rose};
 ghost use Rattle.file_jobs.specs.Logs.Jobs.{IsJudgeStatus, IsLogStatus};
@@ -13,7 +13,7 @@ use file_jobs::open_index;
 use outside_io::{Sink, Source, Status};
 use std::alloc::Global;
 
-// Says what there is to say of an index and the bytes of its logs.
+// Says what there is to say about an index and the bytes of its logs.
 fn judge_index<D: Disk, K: Sink>(
     alloc: Global,
     report: Report,
@@ -36,7 +36,7 @@ fn judge_index<D: Disk, K: Sink>(
     }
 }
 
-// Reads the logs, and says what there is to say of the index and of them.
+// Reads the logs, and says what there is to say about the index and the logs.
 fn judge_logs<D: Disk, S: Source, K: Sink>(
     alloc: Global,
     report: Report,
@@ -57,10 +57,10 @@ fn judge_logs<D: Disk, S: Source, K: Sink>(
     }
 }
 
-/// Judges the logs of `log_in` by the index and writes a line on each: that it is accepted, or its first fault. The file is
-/// not audited. Status 1: a log is rejected, or the bytes are no logs; 3: they could not be read; 4: a line could not be
-/// written; 5: the disk failed; 6: the file is no index of version 2; 7: there are more than 2^30 bytes of logs; 8: want of
-/// memory. Nothing is changed.
+/// Judges the logs of `log_in` by the index, and writes a line for each log: that it is accepted, or its first fault. The file is
+/// not audited. Status 1: a log is rejected, or the bytes are no logs; 3: they could not be read; 4: a line could not be written; 5:
+/// the disk failed; 6: the file is no index of version 2; 7: there are more than 2^30 bytes of logs; 8: memory ran out. Changes
+/// nothing.
 pub fn verify_logs<D: Disk, S: Source, K: Sink>(
     alloc: Global,
     index: &mut D,
@@ -77,9 +77,9 @@ pub fn verify_logs<D: Disk, S: Source, K: Sink>(
     judge_logs(alloc, Report::Verdicts, index, log_in, out)
 }
 
-/// Audits the index, and where it is sound judges the logs of `log_in` by it. For each it writes that it is complete, with
-/// its query and its answers, or its first fault. Status 1 comes also where the file is not sound; the others are those of
-/// [`verify_logs`]. Nothing is changed.
+/// Audits the index, and where it is sound judges the logs of `log_in` by it. For each log it writes that it is complete, with its
+/// query and its answers, or its first fault. Status 1 comes also where the file is not sound; the other statuses are those of
+/// [`verify_logs`]. Changes nothing.
 pub fn check_logs<D: Disk, S: Source, K: Sink>(
     alloc: Global,
     index: &mut D,
@@ -88,7 +88,7 @@ pub fn check_logs<D: Disk, S: Source, K: Sink>(
 ) -> Status
     ensures judges { JudgesLogs Report.Answers (D.state index.old) (D.state index.new) (S.left log_in.old) (S.left log_in.new)
         (K.state out.old) (K.state out.new) result.0 }
-    // A log that is written complete is sound on a sound file, and its answers are those of the plain scan.
+    // A log reported as complete is sound on a sound file, and its answers are those of the plain scan.
     ensures complete { FaultlessIsComplete (D.state index.old).bytes }
     ensures statuses { IsLogStatus result.0 }
     ensures input { result.0 ≡ 3 → Rose (S.faults log_in.old) (S.faults log_in.new) }

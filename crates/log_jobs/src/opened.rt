@@ -1,4 +1,4 @@
-// What is said of an opened index and of its logs.
+// Reports on an opened index and on its logs.
 ghost use Rattle.std.specs.Prelude.{◌≡◌, ◌⊎◌, ◌≤◌, ◌+◌, ◌^◌, max, IsTrue, IfOk, IsErrOf};
 ghost use Rattle.outside_io.specs.Causes.{Rose};
 ghost use Rattle.disk_model.specs.Disk.{IsUnchanged};
@@ -22,7 +22,7 @@ use page_store::DiskPages;
 use std::alloc::Global;
 use tree_shape::Live;
 
-// Says what there is to say of the logs of an opened file.
+// Says what there is to say about the logs of an opened file.
 fn judge_opened<D: Disk, K: Sink>(
     alloc: Global,
     report: Report,
@@ -63,7 +63,7 @@ fn judge_opened<D: Disk, K: Sink>(
     judged
 }
 
-// Audits an opened file and says what comes out, and what there is to say of its logs where it is sound.
+// Audits an opened file and writes the result. Where it is sound, it also says what there is to say about its logs.
 fn check_opened<D: Disk, K: Sink>(
     alloc: Global,
     index: &mut D,
@@ -94,7 +94,7 @@ fn check_opened<D: Disk, K: Sink>(
     judge_opened(alloc, Report::Answers, index, opened, bytes, out)
 }
 
-/// Says what there is to say of an opened file and its logs, and answers the status.
+/// Says what there is to say about an opened file and its logs, and returns the status.
 pub fn report_on<D: Disk, K: Sink>(
     alloc: Global,
     report: Report,

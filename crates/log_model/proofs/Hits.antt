@@ -25,7 +25,7 @@ AllWithin r hs = AllByRecursion (λ h. h.dist ≤ r) hs
 pub before_within : (r : ℕ) (x y : Hit) → IsTrue (hit_before x y) → is_within r x ≡ false → is_within r y ≡ false
 before_within r x y h out = grind (arith, nat_tests)
 
--- the first k of the near ones are the first k, where there are so many
+-- the first k of the near ones are the first k, where there are at least k near ones
 pub take-near : (r k : ℕ) (xs : List Hit) → Rising xs → k ≤ length (filter (is_within r) xs) → take k (filter (is_within r) xs) ≡ take k xs
 take-near r zero xs up many = refl
 take-near r (suc k) [] up many = refl

@@ -1,4 +1,4 @@
--- Walks that stopped half way.
+-- Walks that stopped before their end.
 use Rattle.std.proofs.Common.{◌≡◌, ℕ, zero, suc, ◌+◌, ◌<◌, ◌≤◌, ◌^◌, List, [], ◌∷◌, ◌++◌, refl, sym, ap, subst, ◌∙◌, Option, Some, None, arith, length, append_assoc, length-append}
 use Rattle.std.specs.Prelude.{map}
 use Rattle.std.specs.List.{AllByRecursion, flat_map}
@@ -162,7 +162,7 @@ pub measured-append : (rs : List Record) (r : Record) → measured (rs ++ r ∷ 
 measured-append [] r = omega arith
 measured-append (q ∷ rs) r = let ih = measured-append rs r in omega arith
 
--- a count that doesn't come to its end rises by so many
+-- a count that stays below 2 ^ 64 rises by exactly `n`
 pub count_up_small : (u n : ℕ) → u + n < 2 ^ 64 → count_up u n ≡ u + n
 count_up_small u zero low = omega arith
 count_up_small u (suc n) low =

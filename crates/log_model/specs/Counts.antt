@@ -18,7 +18,7 @@ abbrev pub measured : List Record → ℕ
 measured [] = 0
 measured (r ∷ rs) = measured_by r.marks + measured rs
 
--- the distances that a join's marks cost at the most: beside a root none is computed
+-- an upper bound of the distances that a join's marks cost: none is computed beside a root
 abbrev pub join_measured : List JoinRecord → ℕ
 join_measured [] = 0
 join_measured (r ∷ rs) = measured_by r.marks + join_measured rs

@@ -13,7 +13,7 @@ abbrev pub query_point : Query → List ℕ
 query_point (Range q r) = q
 query_point (Nearest q k) = q
 
--- a point of 1 to 64 coordinates; of nearest objects at least one is asked for
+-- a point of 1 to 64 coordinates; a k-NN query has k at least 1
 pub record IsLawfulPoint (q : List ℕ) : Type 0 where
   pub some : 1 ≤ length q
   pub few : length q ≤ 64
@@ -22,7 +22,7 @@ abbrev pub IsLawfulQuery : Query → Type 0
 IsLawfulQuery (Range q r) = IsLawfulPoint q
 IsLawfulQuery (Nearest q k) = IsLawfulPoint q × (1 ≤ k)
 
--- a log that has a spelling: its answers ascend by distance and id, and each number of things has its room
+-- a log that has a spelling: its answers ascend by distance and id, and each count fits its field
 pub record IsLawfulLog (log : Log) : Type 0 where
   pub query : IsLawfulQuery log.query
   pub answers_ascend : Ascends HitBefore log.answers
@@ -30,7 +30,7 @@ pub record IsLawfulLog (log : Log) : Type 0 where
   pub few_records : length log.records < 2 ^ 32
   pub few_marks : AllByRecursion (λ r. length r.marks ≤ 32) log.records
 
--- by the left id, then by the right, then by the distance
+-- by the left id, then by the right id, then by the distance
 abbrev pub JoinedBefore : Pair → Pair → Type 0
 JoinedBefore a b = (a.left < b.left) ⊎ ((a.left ≡ b.left) × ((a.right < b.right) ⊎ ((a.right ≡ b.right) × (a.dist < b.dist))))
 

@@ -6,19 +6,19 @@ use Rattle.log_model.specs.declared.pairs.Item.{Item}
 use Rattle.log_model.specs.declared.pairs.JoinNeed.{JoinNeed}
 use Rattle.log_model.specs.JoinWalk.{JoinSearch, centre_of, apart_of, opens_right, is_hit, is_need, pair_of}
 
--- what is joined by in a space within this radius
+-- the search of a join in a space, with the radius that prunes
 abbrev pub search_within : Space → ℕ → JoinSearch
 search_within s rho = record { space = s; rho = rho }
 
--- how far an entry with this point is from the other item, where that has a centre
+-- the distance of an entry's point from the other item, where that has a centre
 abbrev pub apart_from : Space → JoinNeed → List ℕ → Option ℕ
 apart_from s n point = if opens_right n then apart_of s (centre_of n.left) (Some point) else apart_of s (Some point) (centre_of n.right)
 
--- an item in the place of the opened one, so far from the other
+-- `item` in the place of the opened item, at the distance `apart` from the other item
 abbrev pub paired : JoinNeed → Item → Option ℕ → JoinNeed
 paired n item apart = if opens_right n then record { left = n.left; right = item; apart = apart } else record { left = item; right = n.right; apart = apart }
 
--- the answers among pairs, and the pairs that are still needed
+-- the answers among some pairs, and the pairs that are still needed
 abbrev pub hits_among : List JoinNeed → List Pair
 hits_among pairs = map pair_of (filter is_hit pairs)
 

@@ -17,7 +17,7 @@ use Rattle.log_model.specs.declared.pairs.Item.TheVariants.{Subtree, Object}
 use Rattle.log_model.specs.declared.pairs.JoinNeed.{JoinNeed}
 use Rattle.log_model.specs.Walk.{near_ones}
 
--- what is joined by: a space, and the radius that prunes
+-- what a join searches by: a space, and the radius that prunes
 pub record JoinSearch : Type 0 where
   pub space : Space
   pub rho : ℕ
@@ -43,13 +43,13 @@ abbrev pub id_of : Item → ℕ
 id_of (Subtree page rank centre radius) = 0
 id_of (Object id point) = id
 
--- how far the centres of a left and a right item are apart, where both have one
+-- the distance of the centres of a left and a right item, where both have one
 abbrev pub apart_of : Space → Option (List ℕ) → Option (List ℕ) → Option ℕ
 apart_of s (Some c) (Some d) = Some (s.dist c d)
 apart_of s None d = None
 apart_of s (Some c) None = None
 
--- an entry of an opened node as an item, with its distance to the routing point above
+-- an entry of an opened node as an item, with its stored parent distance
 pub record Entry : Type 0 where
   pub item : Item
   pub stored : ℕ
@@ -85,15 +85,15 @@ abbrev pub is_object : Item → Bool
 is_object (Subtree page rank centre radius) = false
 is_object (Object id point) = true
 
--- two objects, which are an answer
+-- whether a pair is two objects, which make an answer
 abbrev pub is_hit : JoinNeed → Bool
 is_hit n = is_object n.left && is_object n.right
 
--- a pair that has still to be opened
+-- whether a pair has still to be opened
 abbrev pub is_need : JoinNeed → Bool
 is_need n = not (is_hit n)
 
--- the pair test, the parent test and the radius itself, by a distance that is known where both items have a centre
+-- the pair test, the parent test, and whether a distance is within the radius; each is false where no distance is known
 abbrev pub far_apart : Option ℕ → ℕ → ℕ → ℕ → Bool
 far_apart None rho ra rb = false
 far_apart (Some d) rho ra rb = pair_rules_out d rho ra rb
@@ -113,7 +113,7 @@ join_far j n e = far_apart (with_entry j.space n e).apart j.rho (radius_of e.ite
 abbrev pub join_skips : JoinSearch → JoinNeed → Entry → Bool
 join_skips j n e = far_stored n.apart e.stored j.rho (radius_of e.item + radius_of (other n))
 
--- the marks that are allowed of an entry
+-- the marks that an entry may have
 abbrev pub allows_entry : JoinSearch → JoinNeed → Entry → Mark → Bool
 allows_entry j n e Skip = join_skips j n e
 allows_entry j n e Far = join_far j n e
@@ -154,8 +154,9 @@ join_hits j n node marks = map pair_of (filter is_hit (near_pairs j n node marks
 abbrev pub side_of : Nodes → Nodes → Bool → Nodes
 side_of left right is_right = if is_right then right else left
 
--- the walk of the needed pairs takes exactly these records, a pair's before those of the pairs that it needs; each names
--- the side and the page of the opened item, which holds a node, and its marks keep the rule; the walk names these pairs
+-- the walk of the needed pairs takes exactly these records. A pair's record comes before the records of the pairs that it needs.
+-- Each record names the side and the page of the opened item, the page holds a node, and the marks keep the rule. The walk names
+-- the hits
 abbrev pub JoinWalksBy : JoinRule → JoinSearch → Nodes → Nodes → List JoinNeed → List JoinRecord → List Pair → Type 0
 JoinWalksBy rule j left right [] [] hits = hits ≡ []
 JoinWalksBy rule j left right [] (r ∷ rs) hits = ⊥

@@ -17,8 +17,8 @@ use Rattle.log_model.specs.Walk.{Search, search_at, Rule, AreAllowed, AreLeast, 
 abbrev pub last_dist : List Hit → ℕ
 last_dist answers = option_map_or (λ h. min h.dist bound) (slice_get answers (length answers - 1)) bound
 
--- the radius that prunes: that of a range, at most the bound; of the k nearest the distance of the k-th answer, and the
--- bound where fewer are named
+-- the radius that prunes: of a range its radius, at most the bound; of a k-NN query the distance of the k-th answer, at most the
+-- bound, and the bound where there are fewer than k answers
 abbrev pub pruning_radius : Query → List Hit → ℕ
 pruning_radius (Range q r) answers = min r bound
 pruning_radius (Nearest q k) answers = if length answers == k then last_dist answers else bound
@@ -28,13 +28,13 @@ abbrev pub selected : Query → List Hit → List Hit
 selected (Range q r) hits = in_order hit_before hits
 selected (Nearest q k) hits = take k (in_order hit_before hits)
 
--- what is searched for by a query with these answers
+-- the search of a query with these answers
 abbrev pub search_for : Space → Query → List Hit → Search
 search_for s query answers = search_at s (query_point query) (pruning_radius query answers)
 
--- the log says what a walk of the live tree finds whose marks keep the rule: it names the live generation and root, its
--- point is one of the space, the walk from the root takes its records, and its answers are those that the walk names.
--- The map of nodes is read from a file such that it has nodes only from page 3 up and below the live slot's `pages`
+-- the log says what a walk of the live tree finds whose marks keep the rule. It names the live generation and root. Its point is
+-- one of the space. The walk from the root takes its records, and its answers are those that the walk names. The map of nodes is
+-- read from a file: it has nodes only from page 3 up and below the live slot's `pages`
 pub record IsLogBy (rule : Rule) (s : Space) (nodes : Nodes) (live : Live) (log : Log) : Type 0 where
   pub generation_is : log.generation ≡ live.generation
   pub root_is : log.root ≡ live.root
@@ -47,11 +47,11 @@ pub record IsLogBy (rule : Rule) (s : Space) (nodes : Nodes) (live : Live) (log 
 abbrev pub IsSoundLog : Space → Nodes → Live → Log → Type 0
 IsSoundLog s nodes live log = IsLogBy AreAllowed s nodes live log
 
--- the log of this query whose marks are the least
+-- the log of a query whose marks are the least
 abbrev pub IsLeastLog : Space → Nodes → Live → Query → Log → Type 0
 IsLeastLog s nodes live query log = (log.query ≡ query) × IsLogBy AreLeast s nodes live log
 
--- the log has a spelling, and names the live tree and this query; the hits are the log's answers
+-- the log has a spelling, and names the live tree and the query; the hits are the log's answers
 pub record IsLogOf (live : Live) (query : Query) (found : Found) : Type 0 where
   pub hits_are : found.hits ≡ found.log.answers
   pub generation_is : found.log.generation ≡ live.generation

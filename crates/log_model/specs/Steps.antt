@@ -5,7 +5,7 @@ use Rattle.log_model.specs.declared.marks.Need.{Need}
 use Rattle.log_model.specs.declared.traversal.Traversal.{Traversal}
 use Rattle.log_model.specs.Walk.{Search, least_marks, hits_of, needs_of, record_of}
 
--- the node of a needed page was taken in
+-- the node of a needed page was processed
 pub record TakesNode (f : Search) (n : Need) (node : Node) (old new : Traversal) : Type 0 where
   pub hits : new.hits.items ≡ old.hits.items ++ hits_of f node (least_marks f n.above node)
   pub records : new.records.items ≡ old.records.items ++ record_of f n node ∷ []

@@ -14,7 +14,7 @@ use Rattle.log_model.specs.declared.marks.Mark.TheVariants.{Skip, Far, Near}
 use Rattle.log_model.specs.declared.marks.Record.{Record}
 use Rattle.log_model.specs.declared.marks.Need.{Need}
 
--- what is searched for: a space, the query's point, and the radius that prunes
+-- what a query searches by: a space, the query's point, and the radius that prunes
 pub record Search : Type 0 where
   pub space : Space
   pub point : List ℕ
@@ -23,12 +23,12 @@ pub record Search : Type 0 where
 abbrev pub search_at : Space → List ℕ → ℕ → Search
 search_at s q rho = record { space = s; point = q; rho = rho }
 
--- how far a point is from the query's
+-- the distance of a point from the query's point
 abbrev pub away : Search → List ℕ → ℕ
 away f p = f.space.dist p f.point
 
--- the parent test of an entry, by the distance of the routing point above from the query's point; no entry of the root
--- passes it
+-- whether the parent test rules out an entry, by the distance of the routing object above from the query's point; it rules out
+-- no entry of the root
 abbrev pub parent_skips : Option ℕ → ℕ → ℕ → ℕ → Bool
 parent_skips None stored rho radius = false
 parent_skips (Some above) stored rho radius = parent_rules_out above stored rho radius
@@ -36,7 +36,7 @@ parent_skips (Some above) stored rho radius = parent_rules_out above stored rho 
 abbrev pub is_skipped : Search → Option ℕ → ℕ → ℕ → Bool
 is_skipped f above stored radius = parent_skips above stored f.rho radius
 
--- the marks that are allowed of an object, whose radius is 0, and of a subtree
+-- the marks that an object, whose radius is 0, and a subtree may have
 abbrev pub allows_object : Search → Option ℕ → LeafEntry → Mark → Bool
 allows_object f above e Skip = is_skipped f above e.parent 0
 allows_object f above e Far = centre_rules_out (away f e.point) f.rho 0
@@ -109,8 +109,8 @@ leaf_hits f above es = map (hit_of f) (near_ones es (leaf_marks f above es))
 abbrev pub inner_needs : Search → Option ℕ → List InnerEntry → List Need
 inner_needs f above es = map (need_of f) (near_ones es (inner_marks f above es))
 
--- the walk of the needed pages takes exactly these records, in pre-order; each names the next needed page, which holds a
--- node, and its marks keep the rule; the walk names these hits
+-- the walk of the needed pages takes exactly these records, in pre-order. Each record names the next needed page, the page holds a
+-- node, and the marks keep the rule. The walk names the hits
 abbrev pub WalksBy : Rule → Search → Nodes → List Need → List Record → List Hit → Type 0
 WalksBy rule f nodes [] [] hits = hits ≡ []
 WalksBy rule f nodes [] (r ∷ rs) hits = ⊥
@@ -123,7 +123,7 @@ WalksBy rule f nodes (n ∷ ns) (r ∷ rs) hits =
 abbrev pub record_of : Search → Need → Node → Record
 record_of f n node = record { page = n.page; marks = least_marks f n.above node }
 
--- the walk of the needed pages took these records, named these hits and has still to open these pages
+-- the walk of the needed pages took these records, named the hits, and has still to open the pages `left`
 abbrev pub ReachesBy : Rule → Search → Nodes → List Need → List Record → List Hit → List Need → Type 0
 ReachesBy rule f nodes ns [] hits left = (hits ≡ []) × (left ≡ ns)
 ReachesBy rule f nodes [] (r ∷ rs) hits left = ⊥

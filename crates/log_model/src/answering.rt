@@ -1,4 +1,4 @@
-//! What the hits and pairs that a walk names answer.
+//! Makes answers of the hits and pairs that a walk names.
 
 ghost use Rattle.std.specs.Prelude.{◌≡◌};
 ghost use Rattle.log_model.specs.InOrder.{in_order, hit_before, pair_before};
@@ -23,7 +23,7 @@ pub fn put_pairs_in_order(pairs: &mut Vec<Pair>)
     pairs.dedup();
 }
 
-/// Makes the answers of the hits that a walk named: all in order for a range, and the first `k` of them for the nearest.
+/// Turns the hits that a walk named into answers: all in order for a range query, the first `k` of them for a k-NN query.
 pub fn select(query: &Query, hits: &mut Vec<Hit>)
     ensures { hits.new.items ≡ selected query.now hits.old.items }
 {
@@ -35,8 +35,8 @@ pub fn select(query: &Query, hits: &mut Vec<Hit>)
     }
 }
 
-/// The radius that prunes, by the query and its answers: the radius of a range, at most `BOUND`; the distance of the `k`-th
-/// answer of the nearest, at most `BOUND`, and `BOUND` where there are fewer than `k`.
+/// Returns the radius that prunes, by the query and its answers. For a range query it is the radius, at most `BOUND`. For a k-NN
+/// query it is the distance of the `k`-th answer, at most `BOUND`, and `BOUND` where there are fewer than `k` answers.
 pub fn radius_of(query: &Query, answers: &[Hit]) -> u64
     ensures { result ≡ pruning_radius query.now answers.now }
 {

@@ -21,5 +21,5 @@ pub use pairing::{is_far, is_skipped};
 pub use pairs::{Item, JoinNeed, SharedItem};
 pub use traversal::{Traversal, entry_count};
 
-/// Want of memory.
+/// The error when memory runs out.
 pub type Memory = std::alloc::AllocError;

@@ -7,37 +7,37 @@ use scan_model::{Hit, Pair, Query};
 use std::alloc::Global;
 use tree_shape::Live;
 
-/// A query, its answers, and every decision that was made on the way to them.
+/// A query, its answers, and each pruning decision of its search.
 #[derive(Drop)]
 pub struct Log {
     /// The generation of the tree that was searched.
     pub generation: u64,
-    /// The page of its root.
+    /// The page of that tree's root.
     pub root: u32,
-    /// What was asked.
+    /// The query that was asked.
     pub query: Query,
-    /// What was answered, by distance, then by id.
+    /// The answers, by distance, then by id.
     pub answers: Listed<Hit>,
     /// The nodes that were opened, in pre-order from the root.
     pub records: Listed<Record>,
 }
 
-/// A join of two trees, its answers, and every decision that was made on the way to them.
+/// A join of two trees, its answers, and each pruning decision of its walk.
 #[derive(Drop)]
 pub struct JoinLog {
     /// The generation of the left tree and the page of its root.
     pub left: (u64, u32),
     /// The generation of the right tree and the page of its root.
     pub right: (u64, u32),
-    /// The radius.
+    /// The join's radius.
     pub r: u64,
-    /// What was answered, by the left id, then by the right.
+    /// The answers, by the left id, then by the right id.
     pub answers: Listed<Pair>,
     /// The nodes that were opened, in the order of the join's walk.
     pub records: Listed<JoinRecord>,
 }
 
-/// What a search answers: its hits, and the log that shows them.
+/// The result of a search: its hits, and the log that shows them.
 #[derive(Drop)]
 pub struct Found {
     /// The answers, by distance, then by id.
@@ -46,17 +46,17 @@ pub struct Found {
     pub log: Log,
 }
 
-/// What a join answers: its pairs, and the log that shows them.
+/// The result of a join: its pairs, and the log that shows them.
 #[derive(Drop)]
 pub struct Joined {
-    /// The answers, by the left id, then by the right.
+    /// The answers, by the left id, then by the right id.
     pub pairs: Listed<Pair>,
     /// The log of the join.
     pub log: JoinLog,
 }
 
 impl Found {
-    /// What a walk of the live tree that is whole answers to the query that it was made for.
+    /// Returns the result of the query `query` from its finished walk `walk` of the live tree.
     pub fn of(alloc: Global, live: &Live, query: Query, walk: Traversal) -> Result<Self, Memory>
         ensures generation { IfOk result (λ found. found.log.generation ≡ live.now.generation) }
         ensures root { IfOk result (λ found. found.log.root ≡ live.now.root) }

@@ -1,4 +1,4 @@
-//! The least marks of a node, one distance for each entry that the parent test leaves.
+//! Sets the least marks of a node, and computes one distance for each entry that the parent test leaves.
 
 ghost use Rattle.std.specs.Prelude.{◌≡◌, ◌++◌, OnOk};
 ghost use Rattle.metric_laws.specs.Counts.{count_up};
@@ -10,7 +10,7 @@ use metric_laws::{Ruler, centre_test, parent_test};
 use scan_model::Hit;
 use tree_shape::{InnerEntry, LeafEntry};
 
-/// What a walk prunes by.
+/// The query point and the radius that a walk prunes by.
 #[derive(Clone, Copy)]
 pub struct Probe<'a> {
     /// The query's point.
@@ -19,8 +19,8 @@ pub struct Probe<'a> {
     pub rho: u64,
 }
 
-/// Whether the parent test rules an entry out (VLDB 1997, section 4.1), by the distance of the query to the routing point
-/// above. None stands above an entry of the root, which is never ruled out so.
+/// Returns whether the parent test (VLDB 1997, section 4.1) rules out an entry. `above` is the distance of the query to the routing
+/// object above. An entry of the root has none, and is never ruled out by this test.
 pub fn is_ruled_out(above: Option<u64>, stored: u64, rho: u64, radius: u64) -> bool
     ensures { result ≡ parent_skips above stored rho radius }
 {
@@ -30,7 +30,7 @@ pub fn is_ruled_out(above: Option<u64>, stored: u64, rho: u64, radius: u64) -> b
     }
 }
 
-/// Appends the least marks of a leaf's entries, and the objects that are marked Near to the hits.
+/// Appends the least marks of a leaf's entries, and appends the objects that are marked Near to the hits.
 pub fn mark_leaf<R: Ruler>(
     ruler: &mut R,
     probe: Probe,
@@ -67,7 +67,7 @@ pub fn mark_leaf<R: Ruler>(
     Ok(())
 }
 
-/// Appends the least marks of an inner node's entries, and the subtrees that are marked Near to the needs.
+/// Appends the least marks of an inner node's entries, and appends the subtrees that are marked Near to the needs.
 pub fn mark_inner<R: Ruler>(
     ruler: &mut R,
     probe: Probe,

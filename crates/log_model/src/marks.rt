@@ -1,13 +1,13 @@
 use metric_laws::Listed;
 
-/// What a search decided of an entry of a node.
+/// What a search decided about an entry of a node.
 #[derive(Clone, Copy, PartialEq, Eq)]
 pub enum Mark {
-    /// Ruled out by the parent test: by the distances to the routing point above (VLDB 1997, section 4.1).
+    /// Ruled out by the parent test, from stored distances to the routing object above (VLDB 1997, section 4.1).
     Skip,
-    /// Ruled out by the centre test: by its own distance.
+    /// Ruled out by the centre test, from the computed distance to the entry.
     Far,
-    /// Not ruled out: an answer in a leaf, and in an inner node a subtree that is searched.
+    /// Not ruled out: an answer in a leaf, or a subtree that is searched in an inner node.
     Near,
 }
 
@@ -20,7 +20,7 @@ pub struct Record {
     pub marks: Listed<Mark>,
 }
 
-/// The decisions of a join on one node of either side.
+/// The decisions of a join on one node of either tree.
 #[derive(Drop)]
 pub struct JoinRecord {
     /// Whether the node stands in the right tree.
@@ -31,11 +31,11 @@ pub struct JoinRecord {
     pub marks: Listed<Mark>,
 }
 
-/// A page that a walk has still to open.
+/// A page that a walk still has to open.
 #[derive(Clone, Copy, PartialEq, Eq)]
 pub struct Need {
     /// The page.
     pub page: u32,
-    /// The distance from the query's point to the routing point above the page's node. None stands above the root.
+    /// The distance from the query's point to the routing object above the page's node. The root has none.
     pub above: Option<u64>,
 }

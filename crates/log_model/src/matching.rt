@@ -1,4 +1,4 @@
-//! What the entries of an opened node are tested against, and the pairs that they make.
+//! Tests the entries of an opened node against the other item, and collects the pairs that they make.
 
 ghost use Rattle.std.specs.Prelude.{◌≡◌, OnOk};
 ghost use Rattle.log_model.specs.JoinWalk.{object_entry, other, radius_of, subtree_entry};
@@ -13,7 +13,7 @@ use tree_shape::{InnerEntry, LeafEntry};
 /// What the tests of an opened node's entries need.
 #[derive(Clone, Copy)]
 pub struct JoinProbe<'a> {
-    /// The allocator of copied points.
+    /// The allocator for copied points.
     pub alloc: Global,
     /// The pair whose item of greater rank is opened.
     pub need: &'a JoinNeed,
@@ -34,8 +34,8 @@ pub struct Matches {
 }
 
 impl Matches {
-    /// Adds the pair of a leaf's object with the other item, from which it is so far: an answer where that is an object too,
-    /// for which no item is made, else a pair that is needed.
+    /// Adds the pair of a leaf's object with the other item, at the distance `apart`. Where the other item is an object too, the
+    /// pair is an answer, and no item is made for it. Otherwise the pair is needed.
     // It stands apart from the loops over entries, as `add_subtree` does: few entries have a pair.
     #[inline(never)]
     pub fn add_object(
@@ -55,8 +55,8 @@ impl Matches {
         Ok(())
     }
 
-    /// Adds the pair of a subtree that an inner node of this level names with the other item, from which its centre is so
-    /// far. It is needed.
+    /// Adds the pair of a subtree with the other item, at the distance `apart` of its centre. The subtree is named by an inner node
+    /// of the level `level`. The pair is needed.
     #[inline(never)]
     pub fn add_subtree(
         &mut self,

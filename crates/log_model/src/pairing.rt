@@ -1,5 +1,5 @@
-//! What a join asks of a pair of items: which of them is opened, the tests of its entries against the other one, and the
-//! pairs that they make with it.
+//! The pairs of a join: which item of a pair is opened, how its entries are tested against the other item, and which pairs they
+//! make with it.
 
 ghost use Rattle.std.specs.Prelude.{◌≡◌, ◌+◌, Some, Ok, IfOk};
 ghost use Rattle.std.specs.Option.{option_copied};
@@ -15,7 +15,7 @@ use scan_model::Pair;
 use std::alloc::Global;
 use tree_shape::{InnerEntry, LeafEntry, Live};
 
-// The coordinates of a point in a list of their own. So an item is small, and making and freeing it costs little.
+// Copies a point's coordinates into a list, so that an item is small, and making and freeing it costs little.
 fn listed(alloc: Global, point: &Point) -> Result<Listed<u32>, Memory>
     ensures { IfOk result (λ list. list ≡ point.now) }
 {
@@ -23,7 +23,7 @@ fn listed(alloc: Global, point: &Point) -> Result<Listed<u32>, Memory>
 }
 
 impl Item {
-    // A root.
+    // Returns the root of the live tree as an item.
     fn of_root(live: &Live) -> Self
         ensures { result ≡ root_item live.now }
     {
@@ -35,7 +35,7 @@ impl Item {
         }
     }
 
-    /// The object of a leaf's entry.
+    /// Returns the object of a leaf's entry as an item.
     pub(crate) fn of_object(alloc: Global, entry: &LeafEntry) -> Result<Self, Memory>
         ensures { IfOk result (λ item. item ≡ (object_entry entry.now).item) }
     {
@@ -45,7 +45,7 @@ impl Item {
         })
     }
 
-    /// The subtree that an entry of an inner node of this level names.
+    /// Returns the subtree that an entry of an inner node of level `level` names, as an item.
     pub(crate) fn of_subtree(alloc: Global, level: u8, entry: &InnerEntry) -> Result<Self, Memory>
         ensures { IfOk result (λ item. item ≡ (subtree_entry level entry.now).item) }
     {
@@ -57,7 +57,7 @@ impl Item {
         })
     }
 
-    // The rank of a subtree, and 0 of an object.
+    // Returns the rank of a subtree, or 0 for an object.
     fn rank(&self) -> u64
         ensures { result ≡ rank_of self.now }
     {
@@ -67,7 +67,7 @@ impl Item {
         }
     }
 
-    // The routing point above a subtree, where one stands above it, and the point of an object.
+    // Returns a subtree's routing point, if it has one, or an object's point.
     fn centre(&self) -> Option<&[u32]>
         ensures { option_copied result ≡ centre_of self.now }
     {
@@ -81,7 +81,7 @@ impl Item {
         }
     }
 
-    /// The covering radius of a subtree, and 0 of an object.
+    /// Returns the covering radius of a subtree, or 0 for an object.
     pub fn radius(&self) -> u64
         ensures { result ≡ radius_of self.now }
     {
@@ -91,7 +91,7 @@ impl Item {
         }
     }
 
-    /// The page of a subtree, and 0 of an object.
+    /// Returns the page of a subtree, or 0 for an object.
     pub fn page(&self) -> u32
         ensures { result ≡ page_of self.now }
     {
@@ -101,7 +101,7 @@ impl Item {
         }
     }
 
-    /// The id of an object, and 0 of a subtree.
+    /// Returns the id of an object, or 0 for a subtree.
     pub fn id(&self) -> u32
         ensures { result ≡ id_of self.now }
     {
@@ -111,7 +111,7 @@ impl Item {
         }
     }
 
-    /// Whether this is an object.
+    /// Returns whether the item is an object.
     pub fn is_object(&self) -> bool
         ensures { result ≡ is_object self.now }
     {
@@ -123,7 +123,7 @@ impl Item {
 }
 
 impl JoinNeed {
-    /// The pair of the roots of two trees, with which a walk begins.
+    /// Returns the pair of the roots of two trees, with which a walk begins.
     pub fn of_roots(alloc: Global, left: &Live, right: &Live) -> Result<Self, Memory>
         ensures { IfOk result (λ pair. pair ≡ root_pair left.now right.now) }
     {
@@ -134,7 +134,7 @@ impl JoinNeed {
         })
     }
 
-    /// The pair of an item in the place of the opened one with the other item, from which it is so far.
+    /// Returns the pair of `item`, in the place of the opened item, with the other item. `apart` is their distance.
     pub fn with(&self, item: SharedItem, apart: Option<u64>) -> Result<Self, Memory>
         ensures { IfOk result (λ pair. pair ≡ paired self.now item apart) }
     {
@@ -153,7 +153,7 @@ impl JoinNeed {
         }
     }
 
-    /// The answer of an object in the place of the opened item with the other item, from which it is so far.
+    /// Returns the answer of the object `id`, in the place of the opened item, with the other item. `apart` is their distance.
     pub(crate) fn answer(&self, id: u32, apart: Option<u64>) -> Pair
         ensures { (item : TheItem) → id_of item ≡ id → result ≡ pair_of (paired self.now item apart) }
     {
@@ -173,14 +173,14 @@ impl JoinNeed {
         }
     }
 
-    /// Whether the right item is opened: the item of greater rank is, and the left one at a tie.
+    /// Returns whether the right item is opened: the item of greater rank is, and the left one at a tie.
     pub fn opens_right(&self) -> bool
         ensures { result ≡ opens_right self.now }
     {
         self.left.as_ref().rank() < self.right.as_ref().rank()
     }
 
-    /// The item that is opened.
+    /// Returns the item that is opened.
     pub fn opened(&self) -> &Item
         ensures { result.now ≡ opened self.now }
     {
@@ -191,7 +191,7 @@ impl JoinNeed {
         }
     }
 
-    /// The item that is not opened.
+    /// Returns the item that is not opened.
     pub fn other(&self) -> &Item
         ensures { result.now ≡ other self.now }
     {
@@ -202,7 +202,7 @@ impl JoinNeed {
         }
     }
 
-    /// How far an entry of the opened item with this point is from the other item. None where that is a root, which has no
+    /// Returns the distance of an entry's point from the other item. Returns none where the other item is a root, which has no
     /// centre; then no distance is computed.
     pub fn apart_from<R: Ruler>(&self, ruler: &mut R, point: &[u32]) -> Option<u64>
         ensures metric { R.metric ruler.new ≡ R.metric ruler.old }
@@ -223,8 +223,8 @@ impl JoinNeed {
     }
 }
 
-/// Whether the pair test rules out an entry and the other item with these radii, by the distance of their centres. None is
-/// known beside a root, which rules nothing out so.
+/// Returns whether the pair test rules out an entry and the other item. `ra` and `rb` are their radii, and `apart` is the distance
+/// of their centres. With no distance, as beside a root, the test rules nothing out.
 pub fn is_far(apart: Option<u64>, rho: u64, ra: u64, rb: u64) -> bool
     ensures { result ≡ far_apart apart rho ra rb }
 {
@@ -234,9 +234,9 @@ pub fn is_far(apart: Option<u64>, rho: u64, ra: u64, rb: u64) -> bool
     }
 }
 
-/// Whether the parent test (VLDB 1997, section 4.1) rules out an entry and the other item with these radii, by the distance
-/// of the opened item's centre to the other one's, and the entry's stored distance to the first. None is known beside a
-/// root, which rules nothing out so.
+/// Returns whether the parent test (VLDB 1997, section 4.1) rules out an entry and the other item. `ra` and `rb` are their radii,
+/// `apart` is the distance between the centres of the opened item and the other item, and `stored` is the entry's parent distance.
+/// With no distance, as beside a root, the test rules nothing out.
 pub fn is_skipped(apart: Option<u64>, stored: u64, rho: u64, ra: u64, rb: u64) -> bool
     ensures { result ≡ far_stored apart stored rho (ra + rb) }
 {

@@ -13,23 +13,23 @@ pub enum Item {
     Subtree {
         /// The node's page.
         page: u32,
-        /// The height plus 1 for a root, and for another node the level that its parent states.
+        /// The height plus 1 for a root; for another node the level that its parent states.
         rank: u64,
-        /// The routing point above the node. None stands above a root.
+        /// The routing point above the node. A root has none.
         centre: Option<Listed<u32>>,
-        /// The covering radius, and 0 for a root.
+        /// The covering radius; 0 for a root.
         radius: u64,
     },
     /// An object.
     Object {
         /// The object's id.
         id: u32,
-        /// Its point.
+        /// The object's point.
         point: Listed<u32>,
     },
 }
 
-/// An item that several pairs may hold: one more holder costs no copy of its point. Contracts see the item.
+/// An item that several pairs may hold. Another holder costs no copy of its point. Contracts see the item.
 #[derive(Drop)]
 pub struct SharedItem {
     item: Rc<Item>,
@@ -44,7 +44,7 @@ impl Model for SharedItem {
 }
 
 impl SharedItem {
-    /// This item, with one holder.
+    /// Makes an item with one holder.
     pub fn new(alloc: Global, item: Item) -> Result<Self, Memory>
         ensures { IfOk result (λ shared. shared ≡ item) }
     {
@@ -52,14 +52,14 @@ impl SharedItem {
         Ok(SharedItem { item })
     }
 
-    /// The item.
+    /// Returns the item.
     pub fn as_ref(&self) -> &Item
         ensures { result.now ≡ self.now }
     {
         self.item.as_ref()
     }
 
-    /// The same item for one holder more.
+    /// Adds a holder of the same item.
     pub fn share(&self) -> Result<Self, Memory>
         ensures { IfOk result (λ shared. shared ≡ self.now) }
     {
@@ -68,7 +68,7 @@ impl SharedItem {
     }
 }
 
-/// A pair of items whose objects a join has still to compare.
+/// A pair of items whose objects a join still has to compare.
 #[derive(Drop)]
 pub struct JoinNeed {
     /// The item of the left tree.

@@ -13,7 +13,7 @@ use scan_model::Hit;
 use std::alloc::Global;
 use tree_shape::Node;
 
-/// What a walk named and recorded so far, and what it has still to open.
+/// What a walk has named and recorded so far, and what it still has to open.
 #[derive(Drop)]
 pub struct Traversal {
     /// The objects that are marked Near, in the order of the walk.
@@ -24,7 +24,7 @@ pub struct Traversal {
     pub stack: Vec<Need>,
 }
 
-/// The number of entries of a node.
+/// Returns the number of entries of a node.
 pub fn entry_count(node: &Node) -> usize
     ensures { result ≡ entry_count node.now }
 {
@@ -45,7 +45,7 @@ fn put_on_top(stack: &mut Vec<Need>, needs: &mut Vec<Need>) -> Result<(), Memory
 }
 
 impl Traversal {
-    /// A walk that needs the root.
+    /// Makes a walk that needs only the root.
     pub fn begin(alloc: Global, root: u32) -> Result<Self, Memory>
         ensures hits { IfOk result (λ t. t.hits.items ≡ []) }
         ensures records { IfOk result (λ t. t.records.items ≡ []) }
@@ -64,8 +64,8 @@ impl Traversal {
         })
     }
 
-    /// Takes in the node of a page that was needed: its record with the least marks, the hits that these name, and the
-    /// pages that they need, which come next.
+    /// Processes the node of a needed page: appends its record with the least marks and the hits that they name, and puts the pages
+    /// that they need on top of the stack.
     pub fn take_node<R: Ruler>(
         &mut self,
         alloc: Global,

@@ -8,7 +8,7 @@ use Rattle.log_model.specs.Counts.{measured_by, join_measured}
 use Rattle.page_store.specs.Shelf.{Shelf}
 use Rattle.log_verify.specs.Causes.{AskBothUpTo}
 
--- a count that rises so often, and so often again
+-- a count that rises by `m` and then by `n` rises by their sum
 pub count_up-add : (c m n : ℕ) → count_up c (m + n) ≡ count_up (count_up c m) n
 count_up-add c zero n = ap (count_up c) (let e : zero + n ≡ n = omega arith in e)
 count_up-add c (suc m) n = ap (count_up c) (let e : suc m + n ≡ suc (m + n) = omega arith in e) ∙ count_up-add (next_count c) m n
@@ -39,7 +39,7 @@ next_counted start used now marks i m low is so_far one =
     one ∙ ap (λ (u : ℕ). count_up u (measured_by (m ∷ []))) so_far ∙ sym (count_up-add start (measured_by (take i marks)) (measured_by (m ∷ [])))
     ∙ ap (count_up start) (sym (measured_next marks i m low is))
 
--- so far it cost no more than all marks
+-- the cost so far is at most that of all marks
 pub so_far_counted : (start now : ℕ) (marks : List Mark) (n : ℕ) → now ≡ count_up start (measured_by (take n marks)) → CountsUpTo start now (measured_by marks)
 so_far_counted start now marks n is = (measured_by (take n marks), measured_take marks n, is)
 
@@ -47,7 +47,7 @@ so_far_counted start now marks n is = (measured_by (take n marks), measured_take
 pub once_counted : (old new : ℕ) → new ≡ next_count old → CountsUpTo old new 1
 once_counted old new is = (1, omega arith, is)
 
--- counts that rise at most so often, one after the other
+-- a count that rises by at most `m` and then by at most `n` rises by at most their sum
 pub upto_both : (a b c m n : ℕ) → CountsUpTo a b m → CountsUpTo b c n → CountsUpTo a c (m + n)
 upto_both a b c m n one two =
     (one.0 + two.0, omega (arith, one.1, two.1), two.2 ∙ ap (λ (u : ℕ). count_up u two.0) one.2 ∙ sym (count_up-add a one.0 two.0))
@@ -101,7 +101,7 @@ ask_left l l2 r asked reads = record { on_left = 1; on_right = 0; few = omega ar
 pub ask_right : (l r r2 : Shelf) → r2.asked ≡ next_count r.asked → r2.reads ≤ r.reads + 1 → AskBothUpTo l l r r2 1
 ask_right l r r2 asked reads = record { on_left = 0; on_right = 1; few = omega arith; left_asked = refl; right_asked = asked; left_reads = omega arith; right_reads = reads }
 
--- so often, and so often again, no more than there are
+-- both sides were asked for at most `m` and then `n` pages, which is at most `k`
 pub ask_on : (l l2 l3 r r2 r3 : Shelf) (m n k : ℕ) → AskBothUpTo l l2 r r2 m → AskBothUpTo l2 l3 r2 r3 n → m + n ≤ k → AskBothUpTo l l3 r r3 k
 ask_on l l2 l3 r r2 r3 m n k one two le = record {
   on_left = one.on_left + two.on_left;

@@ -14,8 +14,8 @@ use Rattle.log_verify.specs.declared.faults.JoinVerdict.TheVariants as join
 use Rattle.log_verify.specs.declared.faults.Verdict.{Verdict}
 use Rattle.log_verify.specs.declared.faults.Verdict.TheVariants.{Page, Memory}
 
--- why a page is refused, where Fault says that the log's first fault is so: the disk failed; or, of pages that tell what they
--- hold, the log has this fault. Want of memory is a verdict of its own
+-- why a page is refused; `Fault` says that the log's first fault is so. The disk failed; or, for pages that tell what they hold, the
+-- log has this fault. `Memory` is a verdict of its own
 abbrev pub HasRefusal : Shelf → Shelf → PageFault → Type 0 → Type 0
 HasRefusal old new pages.Disk Fault = Rose old.faults new.faults
 HasRefusal old new (pages.Bad page fault) Fault = (fault ≢ NodeMemory) × IsWithin old.pages page × (IsTrue old.tells → Fault)
@@ -24,7 +24,7 @@ HasRefusal old new pages.Memory Fault = ⊥
 HasRefusal old new (pages.Repeats page) Fault = ⊥
 HasRefusal old new (pages.Level page) Fault = ⊥
 
--- why a verdict is given, where Fault says that it is the log's first fault
+-- why a verdict is given; `Fault` says that it is the log's first fault
 abbrev pub HasCause : Shelf → Shelf → Verdict → Type 0 → Type 0
 HasCause old new Memory Fault = Unit {0}
 HasCause old new (Page fault) Fault = HasRefusal old new fault Fault
@@ -41,7 +41,7 @@ abbrev pub IsNodeFault : Shelf → Shelf → ℕ → PageFault → Type 0
 IsNodeFault old new page pages.Memory = Unit {0}
 IsNodeFault old new page fault = HasRefusal old new fault (old.read page ≡ Err fault)
 
--- the verdict on a page of a side
+-- the verdict for a refused page of a side
 abbrev pub verdict_of : Bool → PageFault → JoinVerdict
 verdict_of right pages.Memory = join.Memory
 verdict_of right fault = join.Page right fault
@@ -55,14 +55,14 @@ IsJoinPageVerdict left left2 right right2 n (join.Page true fault) = (opens_righ
     × HasRefusal right right2 fault (right.read (page_of (opened n)) ≡ Err fault)
 IsJoinPageVerdict left left2 right right2 n _ = ⊥
 
--- why a verdict on a join's log is given, where Fault says that it is the log's first fault
+-- why a verdict on a join's log is given; `Fault` says that it is the log's first fault
 abbrev pub HasJoinCause : Shelf → Shelf → Shelf → Shelf → JoinVerdict → Type 0 → Type 0
 HasJoinCause left left2 right right2 join.Memory Fault = Unit {0}
 HasJoinCause left left2 right right2 (join.Page false fault) Fault = HasRefusal left left2 fault (IsTrue right.tells → Fault)
 HasJoinCause left left2 right right2 (join.Page true fault) Fault = HasRefusal right right2 fault (IsTrue left.tells → Fault)
 HasJoinCause left left2 right right2 _ Fault = IsTrue left.tells → IsTrue right.tells → Fault
 
--- what may come at any time of a join's log
+-- what may come at any time for a join's log: a disk failed, or memory ran out
 abbrev pub IsJoinPassing : JoinVerdict → Type 0
 IsJoinPassing join.Memory = Unit {0}
 IsJoinPassing (join.Page right pages.Disk) = Unit {0}
@@ -74,7 +74,7 @@ IsPassing Memory = Unit {0}
 IsPassing (Page pages.Disk) = Unit {0}
 IsPassing _ = ⊥
 
--- the two sides together were asked for at most so many pages, and each read at most as many as it was asked for
+-- the two sides together were asked for at most `most` pages, and each side read at most as many pages as it was asked for
 pub record AskBothUpTo (left left2 right right2 : Shelf) (most : ℕ) : Type 0 where
   pub on_left : ℕ
   pub on_right : ℕ

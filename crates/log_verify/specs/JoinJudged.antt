@@ -22,12 +22,12 @@ use Rattle.log_verify.specs.declared.faults.JoinVerdict.TheVariants.{OtherState,
 abbrev pub join_wrong_in : JoinSearch → JoinNeed → Node → List Mark → Option ℕ
 join_wrong_in j n node marks = first_wrong (allows_entry j n) (entries_of node) marks 0
 
--- behind a record's marks: the first that is not allowed, or the rest of the walk
+-- after a record's marks: the first mark that is not allowed, or the rest of the walk
 abbrev pub after_join_marks : ℕ → Option ℕ → Result (List Pair) JoinVerdict → Result (List Pair) JoinVerdict
 after_join_marks i None rest = rest
 after_join_marks i (Some k) rest = Err (WrongMark i k)
 
--- behind a record's page: why it holds no node, or the count of its marks and the marks
+-- after a record's page: why it holds no node, or the check of the number of marks and of the marks
 abbrev pub after_join_page : JoinSearch → JoinNeed → List Mark → ℕ → Result Node PageFault →
     (Node → Result (List Pair) JoinVerdict) → Result (List Pair) JoinVerdict
 after_join_page j n marks i (Err fault) rest = Err (Page (opens_right n) fault)
@@ -38,14 +38,14 @@ after_join_page j n marks i (Ok node) rest =
 abbrev pub read_of : Read → Read → Bool → Read
 read_of left right is_right = if is_right then right else left
 
--- whether a record is of the side and the page of the opened item
+-- whether two sides are the same
 abbrev pub is_same_side : Bool → Bool → Bool
 is_same_side one other = if one then other else not other
 
 abbrev pub is_of : JoinNeed → JoinRecord → Bool
 is_of n r = is_same_side r.right (opens_right n) && (r.page == page_of (opened n))
 
--- the walk that needs these pairs and has these records left, of which the first is number i: the pairs that were named and
+-- the walk that needs these pairs and has these records left; the first record is number `i`. It gives the pairs that were named and
 -- that it names, or its first fault
 abbrev pub join_walked : JoinSearch → Read → Read → List Pair → List JoinNeed → List JoinRecord → ℕ → Result (List Pair) JoinVerdict
 join_walked j left right named [] [] i = Ok named
@@ -57,7 +57,7 @@ join_walked j left right named (n ∷ ns) (r ∷ rs) i =
     (λ node. join_walked j left right (named ++ join_hits j n node r.marks) (join_needs j n node r.marks ++ ns) rs (i + 1))
     else Err (WrongPage i)
 
--- the first place where the log's answers and the named ones differ, one that is missing included
+-- the first place where the log's answers and the named ones differ, including a missing one
 abbrev pub pair_difference : ℕ → List Pair → List Pair → Option JoinVerdict
 pair_difference i [] [] = None
 pair_difference i [] (y ∷ ys) = Some (WrongAnswer i)
@@ -73,11 +73,11 @@ after_join_walk log (Ok hits) = pair_difference 0 log.answers (in_order pair_bef
 abbrev pub join_walk_of : Space → Read → Read → Live → Live → JoinLog → Result (List Pair) JoinVerdict
 join_walk_of s left right l r log = join_walked (join_at s log.r) left right [] (root_pair l r ∷ []) log.records 0
 
--- whether a log names this generation and root
+-- whether a log names the generation and the root of a live slot
 abbrev pub names : ℕ × ℕ → Live → Bool
 names named live = (named.0 == live.generation) && (named.1 == live.root)
 
--- the log's first fault: the left state is looked at before the right
+-- the log's first fault: the left state is checked before the right state
 abbrev pub join_fault : Space → Read → Read → Live → Live → JoinLog → Option JoinVerdict
 join_fault s left right l r log =
     if names log.left l

@@ -28,18 +28,18 @@ abbrev pub first_wrong_in : Search → Option ℕ → Node → List Mark → Opt
 first_wrong_in f above (Leaf es) marks = first_wrong (allows_object f above) es marks 0
 first_wrong_in f above (Inner level es) marks = first_wrong (allows_subtree f above) es marks 0
 
--- behind a record's marks: the first that is not allowed, or the rest of the walk
+-- after a record's marks: the first mark that is not allowed, or the rest of the walk
 abbrev pub after_marks : ℕ → Option ℕ → Result (List Hit) Verdict → Result (List Hit) Verdict
 after_marks i None rest = rest
 after_marks i (Some j) rest = Err (WrongMark i j)
 
--- behind a record's page: why it holds no node, or the count of its marks and the marks
+-- after a record's page: why it holds no node, or the check of the number of marks and of the marks
 abbrev pub after_page : Search → Option ℕ → List Mark → ℕ → Result Node PageFault → (Node → Result (List Hit) Verdict) → Result (List Hit) Verdict
 after_page f above marks i (Err fault) rest = Err (Page fault)
 after_page f above marks i (Ok node) rest =
     if length marks == entry_count node then after_marks i (first_wrong_in f above node marks) (rest node) else Err (WrongCount i)
 
--- the walk that needs these pages and has these records left, of which the first is number i: the hits that were named and
+-- the walk that needs these pages and has these records left; the first record is number `i`. It gives the hits that were named and
 -- that it names, or its first fault
 abbrev pub walked : Search → Read → List Hit → List Need → List Record → ℕ → Result (List Hit) Verdict
 walked f read named [] [] i = Ok named
@@ -50,7 +50,7 @@ walked f read named (n ∷ ns) (r ∷ rs) i =
     then after_page f n.above r.marks i (read n.page) (λ node. walked f read (named ++ hits_of f node r.marks) (needs_of f node r.marks ++ ns) rs (i + 1))
     else Err (WrongPage i)
 
--- the first place where the log's answers and the named ones differ, one that is missing included
+-- the first place where the log's answers and the named ones differ, including a missing one
 abbrev pub first_difference : ℕ → List Hit → List Hit → Option Verdict
 first_difference i [] [] = None
 first_difference i [] (y ∷ ys) = Some (WrongAnswer i)

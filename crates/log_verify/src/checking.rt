@@ -1,4 +1,4 @@
-// The marks of one record against its node.
+// Checks the marks of one record against its node.
 ghost use Rattle.std.specs.Prelude.{◌≡◌, ◌++◌, ◌+◌, ◌≤◌, ◌<◌, ◌^◌, [], ◌∷◌, map, length, IfOk, IfNone, OnOk};
 ghost use Rattle.log_model.specs.declared.marks.Mark.TheVariants.{Near};
 ghost use Rattle.metric_laws.specs.Counts.{count_up, CountsUpTo};
@@ -11,16 +11,16 @@ use metric_laws::{Ruler, centre_test};
 use scan_model::Hit;
 use tree_shape::{InnerEntry, LeafEntry};
 
-// What was found of an entry and its mark.
+// The result for an entry and its mark.
 #[derive(Clone, Copy)]
 pub struct Checked {
     // Whether the mark is allowed.
     pub allowed: bool,
-    // The distance of the entry from the query's point where it is marked Near, else 0.
+    // The distance of the entry from the query's point where it is marked Near, otherwise 0.
     pub dist: u64,
 }
 
-// Whether a mark of an object is allowed.
+// Checks the mark of an object.
 fn check_object<R: Ruler>(
     ruler: &mut R,
     probe: Probe,
@@ -52,7 +52,7 @@ fn check_object<R: Ruler>(
     }
 }
 
-// Whether a mark of a subtree is allowed.
+// Checks the mark of a subtree.
 fn check_subtree<R: Ruler>(
     ruler: &mut R,
     probe: Probe,
@@ -85,7 +85,7 @@ fn check_subtree<R: Ruler>(
     }
 }
 
-// Adds what an entry names where it is marked Near.
+// Appends `item` where its entry is marked Near.
 fn push_near<T: Drop>(items: &mut Vec<T>, mark: Mark, item: T) -> Result<(), Memory>
     ensures { OnOk result (items.new.items ≡ items.old.items ++ near_ones (item ∷ []) (mark ∷ [])) }
 {
@@ -96,7 +96,7 @@ fn push_near<T: Drop>(items: &mut Vec<T>, mark: Mark, item: T) -> Result<(), Mem
     Ok(())
 }
 
-// The first entry of a leaf whose mark is not allowed. Where there is none, the objects that are marked Near are added.
+// Returns the first entry of a leaf whose mark is not allowed. Where there is none, appends the objects that are marked Near.
 pub fn check_leaf<R: Ruler>(
     ruler: &mut R,
     probe: Probe,
@@ -133,8 +133,8 @@ pub fn check_leaf<R: Ruler>(
     Ok(None)
 }
 
-// The first entry of an inner node whose mark is not allowed. Where there is none, the pages of the subtrees that are
-// marked Near are added.
+// Returns the first entry of an inner node whose mark is not allowed. Where there is none, appends the pages of the subtrees that
+// are marked Near.
 pub fn check_inner<R: Ruler>(
     ruler: &mut R,
     probe: Probe,

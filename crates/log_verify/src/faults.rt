@@ -6,7 +6,7 @@ use page_store::PageFault;
 use std::alloc::AllocError;
 use thiserror::Error;
 
-/// What the verifier says of a log that it accepts.
+/// The verifier's result for a log that it accepts.
 #[derive(Clone, Copy, PartialEq, Eq)]
 pub struct Accepted {
     /// The number of records.
@@ -19,7 +19,7 @@ pub enum Verdict {
     /// The log names another generation or another root than the live slot.
     #[error("a log of another state")]
     OtherState { named: (u64, u32), live: (u64, u32) },
-    /// The query's point is none of the metric's space.
+    /// The query's point is not one of the metric's space.
     #[error("a log of a point that does not fit")]
     Point,
     /// A page that the walk needs gave no node. It is never `PageFault::Memory`.
@@ -40,7 +40,7 @@ pub enum Verdict {
     /// The walk needs no page for this record.
     #[error("record {0} is left over")]
     LeftOver(u64),
-    /// There was no memory for the walk.
+    /// Memory ran out.
     #[error("out of memory")]
     Memory,
 }
@@ -84,7 +84,7 @@ pub enum JoinVerdict {
     /// The walk needs no page for this record.
     #[error("record {0} is left over")]
     LeftOver(u64),
-    /// There was no memory for the walk.
+    /// Memory ran out.
     #[error("out of memory")]
     Memory,
 }

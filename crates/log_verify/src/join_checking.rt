@@ -1,4 +1,4 @@
-// The marks of one record of a join against its node.
+// Checks the marks of one record of a join against its node.
 ghost use Rattle.std.specs.Prelude.{◌≡◌, ◌++◌, ◌<◌, ◌^◌, [], ◌∷◌, length, OnOk, IfOk, IfNone};
 ghost use Rattle.log_model.specs.declared.marks.Mark.TheVariants.{Near};
 ghost use Rattle.metric_laws.specs.Counts.{CountsUpTo};
@@ -14,16 +14,16 @@ use metric_laws::Ruler;
 use std::alloc::Global;
 use tree_shape::{InnerEntry, LeafEntry, Node};
 
-// What was found of an entry and its mark.
+// The result for an entry and its mark.
 #[derive(Clone, Copy)]
 pub struct JoinChecked {
     // Whether the mark is allowed.
     pub allowed: bool,
-    // How far the entry marked Near is from the other item, where that has a centre.
+    // The distance of an entry marked Near from the other item, where that has a centre.
     pub apart: Option<u64>,
 }
 
-// Whether two objects are an answer.
+// Returns whether two objects are an answer, by their distance.
 fn is_within(apart: Option<u64>, rho: u64) -> bool
     ensures { result ≡ within_apart apart rho }
 {
@@ -33,8 +33,8 @@ fn is_within(apart: Option<u64>, rho: u64) -> bool
     }
 }
 
-// How far an entry with this point is from the other item, where that has a centre.
-// It stands apart from the loops over entries, most of which are skipped.
+// Returns the distance of an entry's point from the other item, where that has a centre. It is separate from the loops over entries,
+// because most entries are skipped.
 #[inline(never)]
 fn apart_from<R: Ruler>(ruler: &mut R, probe: JoinProbe, point: &[u32]) -> Option<u64>
     ensures metric { R.metric ruler.new ≡ R.metric ruler.old }
@@ -44,7 +44,7 @@ fn apart_from<R: Ruler>(ruler: &mut R, probe: JoinProbe, point: &[u32]) -> Optio
     probe.need.apart_from(ruler, point)
 }
 
-// Whether a mark of an object is allowed.
+// Checks the mark of an object.
 fn check_object<R: Ruler>(
     ruler: &mut R,
     probe: JoinProbe,
@@ -81,7 +81,7 @@ fn check_object<R: Ruler>(
     }
 }
 
-// Whether a mark of a subtree is allowed.
+// Checks the mark of a subtree.
 fn check_subtree<R: Ruler>(
     ruler: &mut R,
     probe: JoinProbe,
@@ -141,7 +141,7 @@ fn name_object(
     }
 }
 
-// Adds the pair of a subtree at a level that is marked Near.
+// Adds the pair of a subtree that is marked Near.
 fn name_subtree(
     probe: JoinProbe,
     named: &mut Matches,
@@ -161,7 +161,7 @@ fn name_subtree(
     }
 }
 
-// The first entry whose mark is not allowed. Where there is none, the pairs of those that are marked Near are added.
+// Returns the first entry whose mark is not allowed. Where there is none, adds the pairs of the entries that are marked Near.
 fn check_leaf<R: Ruler>(
     ruler: &mut R,
     probe: JoinProbe,
@@ -194,7 +194,7 @@ fn check_leaf<R: Ruler>(
     Ok(None)
 }
 
-// The first entry whose mark is not allowed. Where there is none, the pairs of those that are marked Near are added.
+// Returns the first entry whose mark is not allowed. Where there is none, adds the pairs of the entries that are marked Near.
 fn check_inner<R: Ruler>(
     ruler: &mut R,
     probe: JoinProbe,
@@ -230,8 +230,8 @@ fn check_inner<R: Ruler>(
     Ok(None)
 }
 
-// The first entry of a node whose mark is not allowed. Where there is none, the answers and the pairs that the marks name
-// are added.
+// Returns the first entry of a node whose mark is not allowed. Where there is none, adds the answers and the pairs that the marks
+// name.
 pub fn check_node<R: Ruler>(
     ruler: &mut R,
     probe: JoinProbe,

@@ -17,14 +17,14 @@ use page_store::Pages;
 use std::alloc::Global;
 use tree_shape::Live;
 
-/// Accepts a join's log exactly where it is sound on the two live trees, whatever the pages hold: it names the live
-/// generations and roots, the walk from the pair of roots takes all its records, each of which has one mark that is allowed
-/// for each entry of its page, and its answers are those that the records name, in order. Else it names the first fault: the
-/// left state, the right state, then record by record the side and page, the number of marks and the marks, then a record
-/// that is left over, then the first answer that differs.
+/// Accepts a join's log exactly where it is sound on the two live trees, whatever the pages hold. A sound log names the live
+/// generations and roots. The walk from the pair of roots takes all its records, and each record has one allowed mark for each entry
+/// of its page. Its answers are those that the records name, in order.
 ///
-/// It asks for at most one page for each record, of either side, and computes at most one distance for each mark that isn't
-/// Skip.
+/// Otherwise it returns the first fault: the left state; the right state; then record by record the side and page, the number of
+/// marks and the marks; then a record that is left over; then the first answer that differs.
+///
+/// It asks for at most one page for each record, of either side, and computes at most one distance for each mark that isn't Skip.
 pub fn verify_join<P: Pages, Q: Pages, R: Ruler>(
     alloc: Global,
     left: &mut P,
@@ -48,7 +48,7 @@ pub fn verify_join<P: Pages, Q: Pages, R: Ruler>(
         join_fault (R.M.space (R.metric ruler.old)) (P.shelf left.old).read (Q.shelf right.old).read ll.now lr.now log.now ≡ None) }
     ensures sound { OnOk result (IsTrue (P.shelf left.old).tells → IsTrue (Q.shelf right.old).tells →
         IsSoundJoinLog (R.M.space (R.metric ruler.old)) (nodes_of (P.shelf left.old).read) (nodes_of (Q.shelf right.old).read) ll.now lr.now log.now) }
-    // It names the first fault.
+    // The verdict is the first fault.
     ensures cause { IfErr result (λ v. HasJoinCause (P.shelf left.old) (P.shelf left.new) (Q.shelf right.old) (Q.shelf right.new) v
         (join_fault (R.M.space (R.metric ruler.old)) (P.shelf left.old).read (Q.shelf right.old).read ll.now lr.now log.now ≡ Some v)) }
     // A sound log is accepted, unless a disk fails or memory runs out.
@@ -56,7 +56,7 @@ pub fn verify_join<P: Pages, Q: Pages, R: Ruler>(
         IsSoundJoinLog (R.M.space (R.metric ruler.old)) (nodes_of (P.shelf left.old).read)
         (nodes_of (Q.shelf right.old).read) ll.now lr.now log.now → IsJoinPassing v) }
 
-    // What it costs.
+    // The cost.
     ensures few_asked { AskBothUpTo (P.shelf left.old) (P.shelf left.new) (Q.shelf right.old) (Q.shelf right.new) (length log.now.records) }
     ensures few_counted { CountsUpTo (R.used ruler.old) (R.used ruler.new) (join_measured log.now.records) }
 {

@@ -1,4 +1,4 @@
-// The walk that takes the records of a join's log one after the other.
+// Walks along the records of a join's log, one after the other.
 ghost use Rattle.std.specs.Prelude.{◌≡◌, ◌++◌, ◌+◌, ◌≤◌, ◌<◌, ◌^◌, ◌-◌, [], ◌∷◌, List, length, reverse, IsTrue, Ok, Err, IfOk, IfErr, OnOk};
 ghost use Rattle.page_store.specs.Shelf.{HoldsSame};
 ghost use Rattle.metric_laws.specs.Counts.{next_count, CountsUpTo};
@@ -20,12 +20,12 @@ use scan_model::Pair;
 use std::alloc::Global;
 use tree_shape::Live;
 
-/// A walk from the pair of roots, half way.
+/// A walk from the pair of roots, in progress.
 #[derive(Drop)]
 pub struct JoinWalk {
     /// The radius that prunes.
     pub rho: u64,
-    /// The number of records that were taken.
+    /// The number of records taken so far.
     pub taken: u64,
     /// The answers that these records name, and room for the pairs that one node needs.
     pub named: Matches,
@@ -34,7 +34,7 @@ pub struct JoinWalk {
 }
 
 impl JoinWalk {
-    /// A walk that needs the pair of roots.
+    /// Makes a walk that needs the pair of roots.
     pub fn begin(alloc: Global, left: &Live, right: &Live, rho: u64) -> Result<Self, Memory>
         ensures rho { IfOk result (λ walk. walk.rho ≡ rho) }
         ensures taken { IfOk result (λ walk. walk.taken ≡ 0) }
@@ -56,14 +56,14 @@ impl JoinWalk {
     }
 }
 
-// Whether a record is of the side and the page of the opened item.
+// Returns whether a record names the side and the page of the opened item.
 fn is_of(need: &JoinNeed, told: &JoinRecord) -> bool
     ensures { result ≡ is_of need.now told.now }
 {
     told.right == need.opens_right() && told.page == need.opened().page()
 }
 
-// The node of a page of one side.
+// Returns the node on page `page` of one side.
 fn node_at<P: Pages>(alloc: Global, pages: &mut P, page: u32) -> Result<SharedNode, PageFault>
     ensures same { HoldsSame (P.shelf pages.old) (P.shelf pages.new) }
     ensures keeps { P.keeps pages.old pages.new }
@@ -77,7 +77,7 @@ fn node_at<P: Pages>(alloc: Global, pages: &mut P, page: u32) -> Result<SharedNo
     pages.node(alloc, page)
 }
 
-// Why no node of a side was had.
+// Returns the verdict for a side's page that gave no node.
 fn verdict_of(right: bool, fault: PageFault) -> JoinVerdict
     ensures { result ≡ verdict_of right fault }
 {
@@ -87,7 +87,7 @@ fn verdict_of(right: bool, fault: PageFault) -> JoinVerdict
     }
 }
 
-// The node of the opened item.
+// Returns the node of the opened item.
 #[tactic(auto, using(crate::proofs::Counting::ask_left, crate::proofs::Counting::ask_right))]
 fn opened_node<P: Pages, Q: Pages>(
     alloc: Global,
@@ -121,8 +121,8 @@ fn opened_node<P: Pages, Q: Pages>(
     }
 }
 
-// Takes the next record: it names the side and the page of the item of greater rank of the next pair that is needed, it has
-// one mark for each entry of that page's node, and each of them is allowed.
+// Takes the next record. It has to name the side and the page of the opened item of the next needed pair, and to have one allowed
+// mark for each entry of that page's node.
 fn take_record<P: Pages, Q: Pages, R: Ruler>(
     alloc: Global,
     left: &mut P,
@@ -183,7 +183,7 @@ fn take_record<P: Pages, Q: Pages, R: Ruler>(
     }
 }
 
-/// Walks on by all these records: the answers that they name.
+/// Walks along all the records, and returns the answers that they name.
 pub fn walk_records<P: Pages, Q: Pages, R: Ruler>(
     alloc: Global,
     left: &mut P,

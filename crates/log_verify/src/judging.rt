@@ -1,4 +1,4 @@
-// The answers of a log against those that its records name.
+// Compares the answers of a log with those that its records name.
 ghost use Rattle.std.specs.Prelude.{◌≡◌, ◌<◌, ◌^◌, length};
 ghost use Rattle.log_model.specs.Grammar.{query_point};
 ghost use Rattle.log_verify.specs.Judged.{first_difference};
@@ -8,7 +8,7 @@ use crate::{JoinVerdict, Verdict};
 use scan_model::{Hit, Pair, Query};
 use tree_shape::Live;
 
-// The query's point.
+// Returns the query's point.
 pub fn point_of(query: &Query) -> &[u32]
     ensures { result.now ≡ query_point query.now }
 {
@@ -18,7 +18,7 @@ pub fn point_of(query: &Query) -> &[u32]
     }
 }
 
-// The first place where two lists of answers differ.
+// Returns the first place where two lists of answers differ.
 #[tactic(auto, using(crate::proofs::Differences::difference_short, crate::proofs::Differences::difference_long))]
 pub fn compare(told: &[Hit], named: &[Hit]) -> Option<Verdict>
     requires { length told.now < 2 ^ 64 }
@@ -38,7 +38,7 @@ pub fn compare(told: &[Hit], named: &[Hit]) -> Option<Verdict>
     None
 }
 
-// The first place where two lists of a join's answers differ.
+// Returns the first place where two lists of a join's answers differ.
 #[tactic(auto, using(crate::proofs::JoinDifferences::difference_short, crate::proofs::JoinDifferences::difference_long))]
 pub fn compare_pairs(told: &[Pair], named: &[Pair]) -> Option<JoinVerdict>
     requires { length told.now < 2 ^ 64 }
@@ -58,7 +58,7 @@ pub fn compare_pairs(told: &[Pair], named: &[Pair]) -> Option<JoinVerdict>
     None
 }
 
-// Whether a log names the generation and the root of a live slot.
+// Returns whether a log names the generation and the root of a live slot.
 pub fn names(named: (u64, u32), live: &Live) -> bool
     ensures { result ≡ names named live.now }
 {

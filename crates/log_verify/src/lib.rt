@@ -1,4 +1,4 @@
-//! The verifier of logs: it accepts exactly the sound ones, and names the first fault of the others.
+//! The verifier of logs: it accepts exactly the sound logs, and returns the first fault of the others.
 #![tactic(auto)]
 
 mod checking;

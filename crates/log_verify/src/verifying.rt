@@ -17,14 +17,15 @@ use page_store::Pages;
 use std::alloc::Global;
 use tree_shape::Live;
 
-/// Accepts a log exactly where it is sound on the live tree, whatever the pages hold: it names the live generation and root,
-/// its point fits, the walk from the root takes all its records, each of which has one mark that is allowed for each entry
-/// of its page, and its answers are those that the records name (VLDB 1997, section 4). Else it names the first fault: the
-/// state, the point, then record by record the page, the number of marks and the marks, then a record that is left over,
-/// then the first answer that differs.
+/// Accepts a log exactly where it is sound on the live tree, whatever the pages hold. A sound log names the live generation and
+/// root, and its point fits. The walk from the root takes all its records, and each record has one allowed mark for each entry of
+/// its page. Its answers are those that the records name (VLDB 1997, section 4).
 ///
-/// It asks for at most one page for each record, and computes at most one distance for each mark that isn't Skip. `Page`
-/// with `PageFault::Disk` comes where the disk failed.
+/// Otherwise it returns the first fault: the state; the point; then record by record the page, the number of marks and the marks;
+/// then a record that is left over; then the first answer that differs.
+///
+/// It asks for at most one page for each record, and computes at most one distance for each mark that isn't Skip. `Page` with
+/// `PageFault::Disk` comes where the disk failed.
 pub fn verify<P: Pages, R: Ruler>(
     alloc: Global,
     pages: &mut P,
@@ -43,7 +44,7 @@ pub fn verify<P: Pages, R: Ruler>(
         log_fault (R.M.space (R.metric ruler.old)) (P.shelf pages.old).read live.now log.now ≡ None) }
     ensures sound { OnOk result (IsTrue (P.shelf pages.old).tells →
         IsSoundLog (R.M.space (R.metric ruler.old)) (nodes_of (P.shelf pages.old).read) live.now log.now) }
-    // It names the first fault.
+    // The verdict is the first fault.
     ensures cause { IfErr result (λ v.
         HasCause (P.shelf pages.old) (P.shelf pages.new) v
         (log_fault (R.M.space (R.metric ruler.old)) (P.shelf pages.old).read live.now log.now ≡ Some v)) }
@@ -51,7 +52,7 @@ pub fn verify<P: Pages, R: Ruler>(
     ensures complete { IfErr result (λ v. IsTrue (P.shelf pages.old).tells →
         IsSoundLog (R.M.space (R.metric ruler.old)) (nodes_of (P.shelf pages.old).read) live.now log.now → IsPassing v) }
 
-    // What it costs.
+    // The cost.
     ensures asked { OnOk result ((P.shelf pages.new).asked ≡ count_up (P.shelf pages.old).asked (length log.now.records)) }
     ensures few_asked { CountsUpTo (P.shelf pages.old).asked (P.shelf pages.new).asked (length log.now.records) }
     ensures reads { (P.shelf pages.new).reads ≤ (P.shelf pages.old).reads + length log.now.records }

@@ -1,4 +1,4 @@
-// The walk that takes the records of a log one after the other.
+// Walks along the records of a log, one after the other.
 ghost use Rattle.std.specs.Prelude.{◌≡◌, ◌++◌, ◌+◌, ◌≤◌, ◌<◌, ◌^◌, [], ◌∷◌, List, length, reverse, IsTrue, Ok, Err, IfOk, IfErr, IfNone, OnOk};
 ghost use Rattle.metric_laws.specs.Counts.{next_count, count_up, CountsUpTo};
 ghost use Rattle.page_store.specs.Shelf.{HoldsSame};
@@ -18,10 +18,10 @@ use scan_model::Hit;
 use std::alloc::Global;
 use tree_shape::Node;
 
-/// A walk from the root, half way.
+/// A walk from the root, in progress.
 #[derive(Drop)]
 pub struct Walk {
-    /// The number of records that were taken.
+    /// The number of records taken so far.
     pub taken: u64,
     /// The hits that these records name.
     pub hits: Vec<Hit>,
@@ -32,7 +32,7 @@ pub struct Walk {
 }
 
 impl Walk {
-    // A walk that needs the root.
+    // Makes a walk that needs only the root.
     fn begin(alloc: Global, root: u32) -> Result<Self, Memory>
         ensures taken { IfOk result (λ walk. walk.taken ≡ 0) }
         ensures hits { IfOk result (λ walk. walk.hits.items ≡ []) }
@@ -63,7 +63,7 @@ pub fn put_on_top<T: Drop>(stack: &mut Vec<T>, needs: &mut Vec<T>) -> Result<(),
     Ok(())
 }
 
-// The node of a page that the walk needs.
+// Returns the node of a page that the walk needs.
 fn node_at<P: Pages>(alloc: Global, pages: &mut P, page: u32) -> Result<SharedNode, Verdict>
     ensures same { HoldsSame (P.shelf pages.old) (P.shelf pages.new) }
     ensures keeps { P.keeps pages.old pages.new }
@@ -81,8 +81,7 @@ fn node_at<P: Pages>(alloc: Global, pages: &mut P, page: u32) -> Result<SharedNo
     }
 }
 
-// The first entry of a node whose mark is not allowed. Where there is none, the hits and the pages that the marks name are
-// added.
+// Returns the first entry of a node whose mark is not allowed. Where there is none, adds the hits and the pages that the marks name.
 fn check_node<R: Ruler>(
     ruler: &mut R,
     probe: Probe,
@@ -129,8 +128,7 @@ fn check_node<R: Ruler>(
     }
 }
 
-// Takes the next record: it names the next page that is needed, it has one mark for each entry of that page's node, and
-// each of them is allowed.
+// Takes the next record. It has to name the next needed page, and to have one allowed mark for each entry of that page's node.
 fn take_record<P: Pages, R: Ruler>(
     alloc: Global,
     pages: &mut P,
@@ -182,7 +180,7 @@ fn take_record<P: Pages, R: Ruler>(
     }
 }
 
-/// Walks from the root by all records: the hits that they name.
+/// Walks from the root along all the records, and returns the hits that they name.
 pub fn walk_records<P: Pages, R: Ruler>(
     alloc: Global,
     pages: &mut P,

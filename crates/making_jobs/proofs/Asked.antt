@@ -55,7 +55,7 @@ search_cause Sound old new index.Worn reading disk never = absurd reading
 search_cause Sound old new index.Stopped reading disk never = absurd reading
 search_cause Sound old new index.Commit reading disk never = absurd reading
 
--- ---- so many queries
+-- ---- several queries
 
 pub record HasAsked {M : Type 0} (s : Space) (old new : OpenIndex M) (before after : DiskState) (points : List (List ℕ)) (t : ℕ) (tally : Tally) : Type 0 where
   pub going : new.stopped ≡ false

@@ -1,4 +1,4 @@
--- A loaded tree has half as many nodes as objects at most, but for a leaf.
+-- A loaded tree has at most half as many nodes as objects, unless it is a leaf.
 use Rattle.std.proofs.Common.{◌≡◌, ℕ, zero, suc, ◌+◌, ◌*◌, ◌≤◌, true, List, [], ◌∷◌, refl, sym, ◌∙◌, arith, length, length-append}
 use Rattle.std.specs.Prelude.{IsTrue, map, count_by}
 use Rattle.std.specs.List.{AllByRecursion, flat_map}

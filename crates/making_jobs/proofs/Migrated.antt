@@ -21,7 +21,7 @@ use Rattle.making_jobs.proofs.Generated.{is_full, leaves_only, refused as unfill
 use Rattle.making_jobs.proofs.OldFiles.{not_rejected, not_unopened}
 use Rattle.outside_io.proofs.Published.{rose_before}
 
--- ---- before the old file was come to
+-- ---- before the old file was reached
 
 module _ (new0 new1 : DiskState) (out0 out1 : SinkState) (status : ℕ) where
   pub not_empty : (IsTrue new0.tells → 0 < length new0.bytes) → status ≡ 6 → Tells out0 out1 (codes "fault notindex notempty\n") → RefusesNew new0 new1 out0 out1 status
@@ -40,7 +40,7 @@ module _ (new0 new1 : DiskState) (out0 out1 : SinkState) (status : ℕ) where
     statuses = inl five;
   }
 
--- nothing was read, for want of memory
+-- nothing was read, because memory ran out
 pub migrates_no_memory : (new old : DiskState) (out0 out1 : SinkState) (status : ℕ) → status ≡ 8 → Tells out0 out1 (codes "fault memory\n") → Migrates new new old old out0 out1 status
 migrates_no_memory new old out0 out1 status eight line = record {
   old_same = unchanged old;
@@ -170,7 +170,7 @@ not_refusing status (inr (inr (inl e))) is = omega (arith, e, is)
 not_refusing status (inr (inr (inr (inl e)))) is = omega (arith, e, is)
 not_refusing status (inr (inr (inr (inr e)))) is = omega (arith, e, is)
 
--- of an empty file and a sound one of the first version nothing is refused
+-- with an empty new file and a sound old file of version 1 nothing is refused
 module _ (faults : FaultIsNotOpen) (one : OneLiveSlot) (law : AuditFaultsAreUnsoundness) (new0 new1 old0 old1 : DiskState) (out0 out1 : SinkState) (status : ℕ) (tells : IsTrue new0.tells) (old_tells : IsTrue old0.tells) (empty : length new0.bytes ≡ 0)
     (head : Head) (points : List (List ℕ)) (tags : List ℕ) (old : IsOldFile head points tags old0.bytes) where
   abbrev Ends : Type 0

@@ -1,4 +1,4 @@
--- Files of the first version: how they are opened, audited and read.
+-- Files of version 1: how they are opened, audited and read.
 use Rattle.std.proofs.Common.{◌≡◌, ◌≢◌, ◌⊎◌, ⊎_elim, inl, inr, ℕ, ◌≤◌, Bool, true, false, List, Option, Some, None, Result, Ok, Err, IfOk, IfErr, refl, sym, ap, ◌∙◌, subst, arith}
 use Rattle.std.specs.Prelude.{codes, IsTrue}
 use Rattle.std.specs.Io.KnownBytes.{Appends}
@@ -35,7 +35,7 @@ use Rattle.making_jobs.specs.Ordering.{HasTakingCause}
 
 -- ---- opening
 
--- of two versions the one that is not the first
+-- a version other than 1 is 2
 pub is_second : (version : ℕ) → IsTrue (is_version version) → version ≢ 1 → version ≡ 2
 unfolding is_version
 is_second version is other = grind (arith)
@@ -143,7 +143,7 @@ module _ (law : AuditFaultsAreUnsoundness) (s : Space) (old mid : Shelf) (t : Li
 
 -- ---- how reading an old file ends
 
--- what is told besides a failure of the disk and want of memory
+-- what is told, other than a failure of the disk and running out of memory
 told_by : (is_told : Bool) (before now : ℕ) (told : Option AuditFault) (fault : AuditFault) → (IsPassing fault → ⊥) → HasOldFault is_told before now told fault → IsTrue is_told → told ≡ Some fault
 told_by is_told before now told audit.Memory other cause tells = absurd (other tt)
 told_by is_told before now told (audit.Page page.Disk) other cause tells = absurd (other tt)

@@ -17,7 +17,8 @@ tags_of es = map (λ e. e.tag) es
 pub with_point : (old new : Table) (p : List ℕ) → new ≡ record old { points = old.points ++ p ∷ [] } → (new.words ≡ old.words) × (new.points ≡ old.points ++ p ∷ [])
 with_point old new p is = (ap (λ (t : Table). t.words) is, ap (λ (t : Table). t.points) is)
 
--- The first so many objects were taken: these are their points and tags. What is still to be said of all of them is said of the rest.
+-- The first `id` objects were taken, and `points` and `tags` are theirs. What still has to be shown of all objects has to be shown
+-- of the rest.
 pub record IsTaking (s : Space) (all : List LeafEntry) (id : ℕ) (points : List (List ℕ)) (tags : List ℕ) : Type 0 where
   points_are : points ++ points_of (drop id all) ≡ points_of all
   tags_are : tags ++ tags_of (drop id all) ≡ tags_of all

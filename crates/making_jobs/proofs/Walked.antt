@@ -39,7 +39,7 @@ objects_left nodes spots = flat_map (λ p. objects_at nodes p.height p.page) spo
 abbrev pages_left : Nodes → List Spot → List ℕ
 pages_left nodes spots = flat_map (λ p. pages_at nodes p.height p.page) spots
 
--- the objects so far and those that are still to come are those of the tree; so are the pages, of which so many were opened
+-- the objects found so far and those still to come are the tree's; the same holds for the pages, and `opened` pages were opened
 record AreFront (s : Space) (nodes : Nodes) (t : Live) (found : List LeafEntry) (opened : ℕ) (coming : List ℕ) : Type 0 where
   spots : List Spot
   sound : AllByRecursion (IsSoundSpot s nodes) spots
@@ -47,7 +47,7 @@ record AreFront (s : Space) (nodes : Nodes) (t : Live) (found : List LeafEntry) 
   whole : found ++ objects_left nodes spots ≡ objects nodes t
   count : opened + length (pages_left nodes spots) ≡ length (pages_at nodes t.height t.root)
 
--- a walk has opened so many pages and found these objects, and these pages are still to come
+-- a walk has opened `opened` pages and found the objects `found`; the pages `coming` are still to be opened
 pub record IsCollecting (old now : Shelf) (t : Live) (found : List LeafEntry) (opened : ℕ) (coming : List ℕ) : Type 0 where
   pub same : HoldsSame old now
   front : IsTrue old.tells → (s : Space) → IsSoundTree s (nodes_of old.read) t → AreFront s (nodes_of old.read) t found opened coming
@@ -55,7 +55,7 @@ pub record IsCollecting (old now : Shelf) (t : Live) (found : List LeafEntry) (o
 abbrev children : Option Node → List ℕ
 children o = map (λ e. e.child) (inner_entries o)
 
--- ---- where nothing but the tree's nodes is to come
+-- ---- where only the tree's nodes are to come
 
 module _ (s : Space) (nodes : Nodes) (t : Live) where
   front_begins : IsSoundTree s nodes t → AreFront s nodes t [] 0 (t.root ∷ [])
@@ -202,7 +202,7 @@ module _ (old : Shelf) (t : Live) where
     told : IsTrue old.tells → IsTrue now.tells
     told tells = rw before.same.tells tells
 
-    -- on a sound tree nothing but a passing fault is refused
+    -- on a sound tree only a passing fault is refused
     pub passes : (new : Shelf) (fault : PageFault) → HasPageCause now new page fault → IsTrue old.tells → (s : Space) → IsSoundTree s (nodes_of old.read) t → IsPassing fault
     passes new Disk cause tells s sound = tt
     passes new Memory cause tells s sound = tt

@@ -1,4 +1,4 @@
--- A new index, and what stands in it once it is filled.
+-- A new index, and what it holds once it is filled.
 use Rattle.std.specs.Prelude.{◌≡◌, ◌≢◌, ◌⊎◌, ℕ, ◌<◌, List, [], length, codes, IsTrue}
 use Rattle.metric_mix.specs.declared.mix_space.MixSpace.{MixSpace}
 use Rattle.outside_io.specs.Causes.{Rose}
@@ -21,16 +21,17 @@ use Rattle.making_jobs.specs.declared.filling.FillFault.{FillFault}
 use Rattle.making_jobs.specs.declared.filling.FillFault.TheVariants as fill
 use Rattle.file_jobs.specs.Spaces.{space_of}
 
--- the file is a sound index of this head, with no object or with all of these
+-- the file is a sound index with this head, with no object or with all objects
 abbrev pub HoldsNoneOrAll : Head → List (List ℕ) → List ℕ → List ℕ → Type 0
 HoldsNoneOrAll head points tags file = HoldsObjects (space_of head) head [] [] file ⊎ HoldsObjects (space_of head) head points tags file
 
--- The index on the disk is sound and has these objects, in order of id; where there is one, its tree is the one that bulk loading makes.
+-- The index on the disk is sound and has these objects, in order of id. Where there is an object, its tree is the one that bulk
+-- loading makes.
 pub record IsFilled (head : Head) (points : List (List ℕ)) (tags : List ℕ) (disk : DiskState) (opened : OpenIndex MixSpace) : Type 0 where
   pub objects : HasObjects (space_of head) opened.file disk points tags
   pub tree : 0 < length points → tree_of (nodes_on opened.file disk) opened.file.live ≡ built (space_of head) points tags
 
--- what the refusal of a load is to whoever fills a new index
+-- maps the fault of a load to the fault of filling a new index
 abbrev pub fault_of : IndexFault → FillFault
 fault_of index.Disk = fill.Disk
 fault_of index.Commit = fill.Disk
@@ -42,8 +43,8 @@ fault_of index.NotEmpty = fill.Changed
 fault_of (index.NoRoom pages needed) = fill.Changed
 fault_of index.Worn = fill.Changed
 
--- Why a new index is not filled: the disk failed, or memory ran out; and on a disk that doesn't tell its bytes also because they are
--- no longer those of the new index.
+-- Why a new index is not filled: the disk failed, or memory ran out. On a disk that does not tell its bytes it may also be that they
+-- are no longer those of the new index.
 abbrev pub HasFillCause : DiskState → DiskState → FillFault → Type 0
 HasFillCause old new fill.Disk = Rose old.faults new.faults
 HasFillCause old new fill.Memory = Unit {0}

@@ -1,4 +1,4 @@
--- What the job `migrate` does and writes: an index made of the objects of a file of the first version.
+-- What the job `migrate` does and writes: it makes an index of the objects of a file of version 1.
 use Rattle.std.specs.Prelude.{◌≡◌, ◌≢◌, ◌⊎◌, ℕ, ◌<◌, Bool, Option, Some, List, length, codes, IsTrue}
 use Rattle.std.specs.Io.KnownBytes.{Appends}
 use Rattle.outside_io.specs.Bytes.{AppendsPrefix}
@@ -20,13 +20,13 @@ use Rattle.file_jobs.specs.Lines.{not_index_text, rejected_text, unopened_name}
 use Rattle.file_jobs.specs.Spaces.{space_of}
 use Rattle.making_jobs.specs.Jobs.{Fills, IsFillStatus}
 
--- ---- files of the first version
+-- ---- files of version 1
 
--- what the pages of such a file hold
+-- what the pages of a file of version 1 hold
 abbrev pub old_reading : Head → Live → List ℕ → Read
 old_reading head live file = reading_in First head.dim live.pages file
 
--- their nodes
+-- the nodes of a file of version 1
 abbrev pub old_nodes : Head → Live → List ℕ → Nodes
 old_nodes head live file = nodes_of (old_reading head live file)
 
@@ -34,8 +34,8 @@ old_nodes head live file = nodes_of (old_reading head live file)
 abbrev pub old_fault : Head → Live → List ℕ → Option AuditFault
 old_fault head live file = audit_fault (space_of head) (old_reading head live file) live
 
--- the file opens to this head of the first version, its live tree is sound in the head's space, and these are its objects' points and
--- tags in order of id
+-- the file opens to this head of version 1, its live tree is sound in the head's space, and `points` and `tags` are those of its
+-- objects in order of id
 pub record IsOldFile (head : Head) (points : List (List ℕ)) (tags : List ℕ) (file : List ℕ) : Type 0 where
   pub live : Live
   pub opens : OpensTo file head live
@@ -44,7 +44,7 @@ pub record IsOldFile (head : Head) (points : List (List ℕ)) (tags : List ℕ) 
   pub points_are : points ≡ points_by_id (old_nodes head live file) live
   pub tags_are : tags ≡ tags_by_id (old_nodes head live file) live
 
--- the file opens to a head of the first version, and this is the first fault of its live tree
+-- the file opens to a head of version 1, and `fault` is the first fault of its live tree
 pub record IsOldRejected (file : List ℕ) (fault : AuditFault) : Type 0 where
   pub head : Head
   pub live : Live
@@ -52,14 +52,14 @@ pub record IsOldRejected (file : List ℕ) (fault : AuditFault) : Type 0 where
   pub version : head.version ≡ 1
   pub told : old_fault head live file ≡ Some fault
 
--- the file does not open, or is of the second version, as this word says
+-- the file does not open, or is of version 2; `name` says which
 abbrev pub IsNoOldFile : List ℕ → List ℕ → Type 0
 IsNoOldFile file name =
     ((why : Unopened) × (open_fault file ≡ Some why) × (name ≡ unopened_name why))
     ⊎ ((head : Head) × (live : Live) × OpensTo file head live × (head.version ≡ 2) × (name ≡ codes "version"))
 
--- Why the objects of a tree were not taken, where the faults of its pages were counted before and now: the disk failed, or memory ran out;
--- and else this is the fault of the tree, where its pages tell it.
+-- Why the objects of a tree were not taken: the disk failed, or memory ran out. Otherwise it is the fault of the tree, where its
+-- pages tell it. `before` and `now` count the faults of its pages.
 abbrev pub HasOldFault : Bool → ℕ → ℕ → Option AuditFault → AuditFault → Type 0
 HasOldFault tells before now told audit.Memory = Unit {0}
 HasOldFault tells before now told (audit.Page page.Disk) = Rose before now
@@ -68,23 +68,24 @@ HasOldFault tells before now told fault = IsTrue tells → told ≡ Some fault
 
 -- ---- the job
 
--- the same head of the second version
+-- the same head with version 2
 abbrev pub renewed : Head → Head
 renewed head = record head { version = 2 }
 
--- the line of so many objects
+-- the line that says how many objects were migrated
 abbrev pub migrated_text : ℕ → List ℕ
 migrated_text n = counted (codes "migrated ") n
 
--- The job did not come to the old file. Status 5: the new one's size could not be had; 6: it holds something; 8: memory ran out.
+-- The job did not get to the old file. Status 5: the new file's size could not be read; 6: the new file holds something; 8: memory
+-- ran out.
 pub record RefusesNew (new0 new1 : DiskState) (out0 out1 : SinkState) (status : ℕ) : Type 0 where
   pub disk : status ≡ 5 → Rose new0.faults new1.faults × Tells out0 out1 (codes "fault disk\n")
   pub not_empty : status ≡ 6 → (IsTrue new0.tells → 0 < length new0.bytes) × Tells out0 out1 (not_index_text (codes "notempty"))
   pub memory : status ≡ 8 → Tells out0 out1 (codes "fault memory\n")
   pub statuses : (status ≡ 5) ⊎ ((status ≡ 6) ⊎ (status ≡ 8))
 
--- The old file was refused. Status 1: it is not sound, and its first fault was written, or at status 4 a front of that line; 5: its disk
--- failed; 6: it does not open, or is of the second version; 8: memory ran out.
+-- The old file was refused. Status 1: it is not sound, and its first fault was written, or at status 4 a front of that line; 5: its
+-- disk failed; 6: it does not open, or is of version 2; 8: memory ran out.
 pub record RefusesOld (old0 old1 : DiskState) (out0 out1 : SinkState) (status : ℕ) : Type 0 where
   pub rejected : status ≡ 1 → (fault : AuditFault) × Appends out0.written out1.written (rejected_text fault)
       × (IsTrue old0.tells → IsOldRejected old0.bytes fault)
@@ -95,7 +96,7 @@ pub record RefusesOld (old0 old1 : DiskState) (out0 out1 : SinkState) (status : 
   pub memory : status ≡ 8 → Tells out0 out1 (codes "fault memory\n")
   pub statuses : (status ≡ 1) ⊎ ((status ≡ 4) ⊎ ((status ≡ 5) ⊎ ((status ≡ 6) ⊎ (status ≡ 8))))
 
--- The old file is sound, and a new index of its head, but of the second version, was to be filled with its objects.
+-- The old file is sound, and a new index with its head, but of version 2, was to be filled with its objects.
 pub record Moves (new0 new1 old0 : DiskState) (out0 out1 : SinkState) (status : ℕ) : Type 0 where
   pub head : Head
   pub points : List (List ℕ)
@@ -104,7 +105,7 @@ pub record Moves (new0 new1 old0 : DiskState) (out0 out1 : SinkState) (status : 
   pub fills : Fills (renewed head) points tags (λ file text. text ≡ migrated_text (length points)) new0 new1 out0 out1 status
   pub statuses : IsFillStatus status
 
--- What `migrate` does. The old file is only read. The new one is as it was, unless it was empty and the old one is sound.
+-- What `migrate` does. It only reads the old file. The new file stays as it was, unless it was empty and the old one is sound.
 pub record Migrates (new0 new1 old0 old1 : DiskState) (out0 out1 : SinkState) (status : ℕ) : Type 0 where
   pub old_same : IsUnchanged old0 old1
   pub ends :
@@ -112,11 +113,11 @@ pub record Migrates (new0 new1 old0 old1 : DiskState) (out0 out1 : SinkState) (s
       ⊎ ((IsTrue new0.tells → length new0.bytes ≡ 0)
       × ((IsUnchanged new0 new1 × RefusesOld old0 old1 out0 out1 status) ⊎ Moves new0 new1 old0 out0 out1 status))
 
--- it ends so and in no other way
+-- the statuses with which `migrate` may end
 abbrev pub IsMigrateStatus : ℕ → Type 0
 IsMigrateStatus n = (n ≡ 0) ⊎ ((n ≡ 1) ⊎ ((n ≡ 4) ⊎ ((n ≡ 5) ⊎ ((n ≡ 6) ⊎ ((n ≡ 8) ⊎ (n ≡ 9))))))
 
--- of an empty file and a sound one of the first version nothing is refused
+-- with an empty new file and a sound old file of version 1 nothing is refused
 abbrev pub RefusesNothing : DiskState → DiskState → ℕ → Type 0
 RefusesNothing new0 old0 status =
     IsTrue new0.tells → IsTrue old0.tells → length new0.bytes ≡ 0 → (head : Head) (points : List (List ℕ)) (tags : List ℕ) →

@@ -1,4 +1,4 @@
-// The eight queries that a generated index is tried with.
+// Tries a generated index with eight queries.
 ghost use Rattle.std.specs.Prelude.{◌≡◌, ◌≤◌, ◌<◌, ◌*◌, ◌^◌, true, false, length, All, IsTrue, IfOk, IfErr};
 ghost use Rattle.outside_io.specs.Causes.{Rose};
 ghost use Rattle.disk_model.specs.Disk.{IsUnchanged};
@@ -21,28 +21,28 @@ use page_store::{DiskPages, PageFault};
 use std::alloc::Global;
 use tree_shape::Live;
 
-/// What came of a query.
+/// The result of a query.
 #[derive(Clone, Copy, PartialEq, Eq)]
 pub struct Asked {
-    /// How many objects were found.
+    /// The number of objects that were found.
     pub hits: u64,
     /// Whether the verifier accepted its log.
     pub accepted: bool,
 }
 
-/// What came of eight queries.
+/// The results of the eight queries.
 #[derive(Clone, Copy, PartialEq, Eq)]
 pub struct Tally {
-    /// How many objects they found together.
+    /// The number of objects that they found together.
     pub hits: u64,
-    /// How many of their logs the verifier accepted.
+    /// The number of their logs that the verifier accepted.
     pub accepted: u64,
 }
 
-// How many queries a generated index is tried with.
+// The number of queries that try a generated index.
 const QUERIES: usize = 8;
 
-/// The refusal of a search, as that of a page.
+/// Maps the fault of a search to that of a page.
 pub fn page_fault(fault: IndexFault) -> PageFault
     requires { IsReading fault }
     ensures { result ≡ page_fault fault }
@@ -55,7 +55,7 @@ pub fn page_fault(fault: IndexFault) -> PageFault
     }
 }
 
-// Answers query t at a point.
+// Runs query `t` at a point.
 fn search<M: Metric, D: Disk>(
     alloc: Global,
     index: &mut Index<M>,
@@ -79,7 +79,7 @@ fn search<M: Metric, D: Disk>(
     index.range(alloc, disk, q, 1000)
 }
 
-// Whether the verifier accepts a log by the live tree of a file of version 2.
+// Returns whether the verifier accepts a log by the live tree of a file of version 2.
 fn is_accepted<M: Metric, D: Disk>(
     alloc: Global,
     disk: &mut D,
@@ -110,7 +110,7 @@ fn is_accepted<M: Metric, D: Disk>(
     }
 }
 
-// Answers query t at a point, and has its log checked.
+// Runs query `t` at a point, and has its log checked.
 fn ask<M: Metric, D: Disk>(
     alloc: Global,
     index: &mut Index<M>,
@@ -153,8 +153,8 @@ fn ask<M: Metric, D: Disk>(
     }
 }
 
-/// Asks eight queries at points of the rows, and has the log of each checked against the file: query t, from 0 on, at the point of
-/// row `t * n / 8` of n rows, the 10 nearest where t is even, and else all within 1000.
+/// Runs eight queries at points of the rows, and has the log of each checked against the file. Query `t`, counted from 0, is at the
+/// point of row `t * n / 8` of n rows. It asks for the 10 nearest objects where `t` is even, otherwise for all objects within 1000.
 pub fn ask_all<M: Metric, D: Disk>(
     alloc: Global,
     index: &mut Index<M>,

@@ -1,4 +1,4 @@
-// The objects of a live tree, by a walk over its pages.
+// Collects the objects of a live tree by a walk over its pages.
 ghost use Rattle.std.specs.Prelude.{◌≡◌, ◌++◌, map, reverse, Some, IsTrue, IfOk, IfErr, OnOk};
 ghost use Rattle.metric_laws.specs.Space.{Space};
 ghost use Rattle.outside_io.specs.Causes.{Rose};
@@ -11,7 +11,7 @@ use page_store::{Memory, PageFault, Pages, own_node};
 use std::alloc::Global;
 use tree_shape::{InnerEntry, LeafEntry, Live, Node};
 
-// Puts the pages that these entries name on top, the first one topmost.
+// Puts the pages that `entries` name on top, the first one topmost.
 fn put_on_top(coming: &mut Vec<u32>, entries: Vec<InnerEntry>) -> Result<(), Memory>
     ensures { OnOk result (reverse coming.new.items ≡ map (λ e. e.child) entries.items ++ reverse coming.old.items) }
 {
@@ -22,7 +22,7 @@ fn put_on_top(coming: &mut Vec<u32>, entries: Vec<InnerEntry>) -> Result<(), Mem
     Ok(())
 }
 
-// Takes a node apart: its objects go behind the others, or the pages that it names come next.
+// Takes a node apart: appends its objects to `found`, or puts the pages that it names on top of `coming`.
 fn take_apart(node: Node, found: &mut Vec<LeafEntry>, coming: &mut Vec<u32>) -> Result<(), Memory>
     ensures found { OnOk result (found.new.items ≡ found.old.items ++ leaf_entries (Some node)) }
     ensures coming { OnOk result (reverse coming.new.items ≡ map (λ e. e.child) (inner_entries (Some node)) ++ reverse coming.old.items) }
@@ -36,7 +36,7 @@ fn take_apart(node: Node, found: &mut Vec<LeafEntry>, coming: &mut Vec<u32>) -> 
     }
 }
 
-// Opens a page.
+// Opens a page and takes its node apart.
 fn open_page<P: Pages>(
     alloc: Global,
     pages: &mut P,
@@ -56,8 +56,8 @@ fn open_page<P: Pages>(
     }
 }
 
-/// The objects of the live tree, in pre-order, by a walk by child numbers. It opens at most as many pages as there are: a further
-/// one is refused, which never happens on a sound tree.
+/// Returns the objects of the live tree, in pre-order, by a walk by child numbers. It opens at most as many pages as there are. It
+/// refuses a further one, which never happens on a sound tree.
 pub fn collect<P: Pages>(
     alloc: Global,
     pages: &mut P,

@@ -1,4 +1,4 @@
-// A new index, and all its objects at once.
+// Fills a new index with all its objects at once.
 ghost use Rattle.std.specs.Prelude.{◌≡◌, ◌≤◌, ◌<◌, false, length, All, IsTrue, IfOk, IfErr, OnOk};
 ghost use Rattle.disk_model.specs.Disk.{EachImage, LeavesOnly};
 ghost use Rattle.metric_mix.specs.MixKinds.{mix_kind, mix_dim};
@@ -38,7 +38,7 @@ pub enum FillFault {
     /// A page of the new index is damaged.
     #[error("a damaged index: {0}")]
     Damaged(PageFault),
-    /// There was no memory.
+    /// Memory ran out.
     #[error("out of memory")]
     Memory,
 }
@@ -46,9 +46,9 @@ pub enum FillFault {
 /// Objects by their ids, from 0 on.
 #[derive(Drop)]
 pub struct Objects {
-    /// Their points.
+    /// The objects' points.
     pub rows: Rows,
-    /// Their tags: as many as points.
+    /// The objects' tags, as many as there are points.
     pub tags: Vec<u64>,
 }
 
@@ -64,7 +64,7 @@ fn fault_of(fault: IndexFault) -> FillFault
     }
 }
 
-// Whether the index is that of this head and this live slot.
+// Returns whether the index has this head and this live slot.
 fn is_of<M: Metric>(index: &Index<M>, head: &Head, live: &Live) -> bool
     ensures yes { IsTrue result → (index.now.file.head ≡ head.now) × (index.now.file.live ≡ live.now) }
     ensures no { index.now.file.head ≡ head.now → index.now.file.live ≡ live.now → IsTrue result }
@@ -72,10 +72,10 @@ fn is_of<M: Metric>(index: &Index<M>, head: &Head, live: &Live) -> bool
     index.head() == *head && index.live() == *live
 }
 
-/// Opens the index of a file that was just made, with this head and this live slot, and loads these objects into it, where there
-/// are any. `workers` threads share the work, 1 to 64. At every moment a crash leaves the file with no object
-/// or with all of them. `Unopened`, `Changed` and `Damaged` come only on a disk that does not tell its bytes, where these are
-/// not those that were written; `Disk` (and `Unopened` with it) only where the disk failed.
+/// Opens the index of a file that was just made, with this head and this live slot, and loads these objects into it, if there are
+/// any. `workers` threads share the work, 1 to 64. At every moment a crash leaves the file with no object or with all of them.
+/// `Unopened`, `Changed` and `Damaged` come only on a disk that does not tell its bytes, where the bytes are not those that were
+/// written. `Disk` (and `Unopened` with it) comes only where the disk failed.
 pub fn fill<R: Threads + Sync, D: Disk>(
     rt: &R,
     alloc: Global,

@@ -1,4 +1,4 @@
-// The job `gen`, and what it shares with `migrate`: an index that is made and filled at once.
+// Does the job `gen`, and makes and fills an index, as `migrate` does too.
 ghost use Rattle.std.specs.Prelude.{◌≡◌, ◌≢◌, ◌⊎◌, ◌++◌, ◌≤◌, ◌<◌, ◌^◌, false, length, All, IsTrue, IfOk, IfErr, OnOk};
 ghost use Rattle.std.specs.List.{range_with_len};
 ghost use Rattle.outside_io.specs.Causes.{Rose};
@@ -50,9 +50,9 @@ fn end_unfilled<K: Sink>(alloc: Global, fault: FillFault, out: &mut K) -> Status
     }
 }
 
-/// Makes an index of this head in an empty file and fills it with these objects. Else it writes why not, and answers the status:
-/// 5 where the disk failed; 6 where the file holds something, which is left as it is; 8 where memory ran out; 9 where a page is
-/// damaged, which comes only on a disk that does not tell its bytes.
+/// Makes an index with this head in an empty file, and fills it with these objects. Otherwise it writes why not, and returns the
+/// status: 5 where the disk failed; 6 where the file holds something, which stays as it is; 8 where memory ran out; 9 where a page
+/// is damaged, which comes only on a disk that does not tell its bytes.
 pub fn make_filled<R: Threads + Sync, D: Disk, K: Sink>(
     rt: &R,
     alloc: Global,
@@ -98,7 +98,7 @@ pub fn make_filled<R: Threads + Sync, D: Disk, K: Sink>(
     }
 }
 
-/// Appends a line of a word and a number.
+/// Appends a line with a word and a number.
 pub fn push_counted(word: &[u8], n: u64, out: &mut Vec<u8>) -> Result<(), Memory>
     ensures { OnOk result (out.new.items ≡ out.old.items ++ counted word.now n) }
 {
@@ -106,7 +106,7 @@ pub fn push_counted(word: &[u8], n: u64, out: &mut Vec<u8>) -> Result<(), Memory
     out.extend_from_slice(b"\n")
 }
 
-// The lines on a generated index.
+// Returns the lines on a generated index.
 fn summary_text(alloc: Global, shape: &Shape, tally: Tally) -> Result<Vec<u8>, Memory>
     ensures { IfOk result (λ text. text.items ≡ summary shape.now.objects shape.now.nodes shape.now.height tally.hits tally.accepted) }
 {
@@ -120,7 +120,7 @@ fn summary_text(alloc: Global, shape: &Shape, tally: Tally) -> Result<Vec<u8>, M
     Ok(text)
 }
 
-// Asks the eight queries, and makes the lines on the index.
+// Runs the eight queries, and makes the lines on the index.
 fn summary_of<M: Metric, D: Disk>(
     alloc: Global,
     index: &mut Index<M>,
@@ -154,20 +154,20 @@ fn summary_of<M: Metric, D: Disk>(
     }
 }
 
-/// What `gen` is asked for.
+/// What `gen` has to make.
 #[derive(Clone, Copy, PartialEq, Eq)]
 pub struct Generation {
     /// The head of the new index.
     pub head: Head,
-    /// How many rows are generated.
+    /// The number of rows to generate.
     pub count: u32,
     /// The seed of the generator.
     pub seed: u32,
-    /// How many threads the load may use, 1 to 64.
+    /// The number of threads for the load, 1 to 64.
     pub workers: usize,
 }
 
-// So many numbers from 0 on.
+// Returns the first `count` numbers from 0 on.
 #[tactic(auto, using(crate::proofs::RowsMore::number_more))]
 fn ids(alloc: Global, count: u32) -> Result<Vec<u64>, Memory>
     ensures { IfOk result (λ ids. ids.items ≡ range_with_len 0 count) }
@@ -179,7 +179,7 @@ fn ids(alloc: Global, count: u32) -> Result<Vec<u64>, Memory>
     Ok(ids)
 }
 
-// The generated rows; each row's tag is its number.
+// Returns the generated rows as objects. The tag of each row is its number.
 fn generated_objects(alloc: Global, asked: &Generation) -> Result<Objects, Memory>
     ensures rows { IfOk result (λ o.
         o.rows ≡ record { words = asked.now.head.dim; points = generated_rows asked.now.seed asked.now.head.dim asked.now.count }) }
@@ -190,10 +190,10 @@ fn generated_objects(alloc: Global, asked: &Generation) -> Result<Objects, Memor
     Ok(Objects { rows, tags })
 }
 
-/// Makes an index of generated rows in an empty file, asks eight queries, has the log of each checked against the file, and writes how
-/// many objects and nodes there are, the tree's height, and what came of the queries. Status 4: the lines could not be written; 5: the
-/// disk failed; 6: the file holds something, and is left as it is; 8: want of memory; 9: a page is damaged, which comes only on a disk
-/// that does not tell its bytes.
+/// Makes an index of generated rows in an empty file, runs eight queries, and has the log of each checked against the file. Writes
+/// the number of objects, the number of nodes, the tree's height, and the results of the queries. Status 4: the lines could not be
+/// written; 5: the disk failed; 6: the file holds something, and stays as it is; 8: memory ran out; 9: a page is damaged, which
+/// comes only on a disk that does not tell its bytes.
 pub fn generate_index<R: Threads + Sync, D: Disk, K: Sink>(
     rt: &R,
     alloc: Global,

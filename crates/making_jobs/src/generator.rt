@@ -1,4 +1,4 @@
-// The points that the generator makes.
+// Generates points.
 ghost use Rattle.std.specs.Prelude.{◌≡◌, ◌≤◌, ◌<◌, ◌^◌, length, IfOk, OnOk};
 ghost use Rattle.making_jobs.specs.Generator.{coordinate, generated_row, generated_rows};
 
@@ -6,7 +6,7 @@ use crate::Memory;
 use metric_laws::Rows;
 use std::alloc::Global;
 
-// Coordinate j of row i.
+// Returns coordinate `j` of row `i`.
 fn coordinate(seed: u32, i: u32, j: u8) -> u32
     ensures { result ≡ coordinate seed i j }
 {
@@ -14,7 +14,7 @@ fn coordinate(seed: u32, i: u32, j: u8) -> u32
     ((step + u64::from(seed) * 7_919) % 65_536) as u32
 }
 
-// Row i, in place of what was in `row`.
+// Replaces `row` by row `i`.
 #[tactic(auto, using(crate::proofs::RowsMore::coordinate_more, crate::proofs::RowsMore::row_length))]
 fn fill_row(seed: u32, dim: u8, i: u32, row: &mut Vec<u32>) -> Result<(), Memory>
     ensures row { OnOk result (row.new.items ≡ generated_row seed dim i) }
@@ -27,8 +27,8 @@ fn fill_row(seed: u32, dim: u8, i: u32, row: &mut Vec<u32>) -> Result<(), Memory
     Ok(())
 }
 
-/// The first `count` rows of `dim` coordinates that the generator makes with this seed. Coordinate j of row i is
-/// `((i + 1) * (2 * j + 3) * 40503 + seed * 7919) mod 65536`.
+/// Returns the first `count` rows of `dim` coordinates that the generator makes with the seed `seed`. Coordinate j of row i is `((i
+/// + 1) * (2 * j + 3) * 40503 + seed * 7919) mod 65536`.
 #[tactic(auto, using(crate::proofs::RowsMore::row_more))]
 pub fn generated_rows(alloc: Global, seed: u32, dim: u8, count: u32) -> Result<Rows, Memory>
     ensures points { IfOk result (λ rows. rows.points ≡ generated_rows seed dim count) }

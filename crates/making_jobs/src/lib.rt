@@ -1,4 +1,4 @@
-//! The jobs that make an index and fill it at once: generated rows, and the objects of a file of version 1.
+//! The jobs that make an index and fill it at once: with generated rows, or with the objects of a file of version 1.
 #![tactic(auto)]
 
 mod asking;
@@ -14,5 +14,5 @@ pub use generating::{Generation, generate_index};
 pub use generator::generated_rows;
 pub use migrating::migrate_index;
 
-/// Want of memory.
+/// The error when memory runs out.
 pub type Memory = std::alloc::AllocError;

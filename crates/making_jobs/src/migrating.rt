@@ -1,4 +1,4 @@
-// The job `migrate`: a new index of the objects of a file of version 1.
+// Does the job `migrate`: makes a new index of the objects of a file of version 1.
 ghost use Rattle.std.specs.Prelude.{◌≡◌, ◌⊎◌, ◌≤◌, ◌^◌, length, All, IsTrue, IfOk, IfErr, OnOk, codes};
 ghost use Rattle.outside_io.specs.Causes.{Rose};
 ghost use Rattle.disk_model.specs.Disk.{IsUnchanged};
@@ -36,7 +36,7 @@ use tree_audit::laws::audit_faults_are_unsoundness;
 use tree_audit::{AuditFault, audit};
 use tree_shape::Live;
 
-// Wants an empty file.
+// Checks that the file is empty.
 fn want_empty<D: Disk, K: Sink>(disk: &mut D, out: &mut K) -> Result<(), Status>
     ensures same { IsUnchanged (D.state disk.old) (D.state disk.new) }
     ensures reads { (D.state disk.new).reads ≡ (D.state disk.old).reads }
@@ -53,7 +53,7 @@ fn want_empty<D: Disk, K: Sink>(disk: &mut D, out: &mut K) -> Result<(), Status>
     }
 }
 
-// Opens a file of version 1. Else it writes why it is none.
+// Opens a file of version 1. Otherwise it writes why the file is none.
 fn open_old<D: Disk, K: Sink>(disk: &mut D, out: &mut K) -> Result<(Head, Live), Status>
     ensures same { IsUnchanged (D.state disk.old) (D.state disk.new) }
     ensures opens { IfOk result (λ opened. IsTrue (D.state disk.old).tells → OpensTo (D.state disk.old).bytes opened.0 opened.1) }
@@ -78,7 +78,7 @@ fn open_old<D: Disk, K: Sink>(disk: &mut D, out: &mut K) -> Result<(Head, Live),
     }
 }
 
-// The objects of a live tree over points of `dim` coordinates, once it was audited.
+// Audits a live tree over points of `dim` coordinates, and returns its objects.
 fn audited<P: Pages, M: Metric>(
     alloc: Global,
     pages: &mut P,
@@ -111,7 +111,7 @@ fn audited<P: Pages, M: Metric>(
     }
 }
 
-// The objects of an opened file of version 1, once its live tree was audited.
+// Audits the live tree of an opened file of version 1, and returns its objects.
 fn audited_objects<D: Disk>(
     alloc: Global,
     disk: &mut D,
@@ -138,7 +138,7 @@ fn audited_objects<D: Disk>(
     audited(alloc, &mut pages, space_of(head), head.dim, live)
 }
 
-// The head and the objects of a sound file of version 1. Else it writes why it is none, and answers the status.
+// Returns the head and the objects of a sound file of version 1. Otherwise it writes why the file is none, and returns the status.
 fn read_old<D: Disk, K: Sink>(
     alloc: Global,
     disk: &mut D,
@@ -166,7 +166,7 @@ fn read_old<D: Disk, K: Sink>(
     }
 }
 
-// The same head of version 2.
+// Returns the same head with version 2.
 fn renewed(head: &Head) -> Head
     requires { IsLawfulHead head.now }
     ensures head { result ≡ renewed head.now }
@@ -178,7 +178,7 @@ fn renewed(head: &Head) -> Head
     }
 }
 
-// Ends with the number of objects.
+// Ends the job with the line that gives the number of objects.
 fn end_migrated<K: Sink>(alloc: Global, objects: usize, out: &mut K) -> Status
     ensures done { result.0 ≡ 0 → Appends (K.state out.old).written (K.state out.new).written (migrated_text objects) }
     ensures part { result.0 ≡ 4 → AppendsPrefix (K.state out.old).written (K.state out.new).written (migrated_text objects) }
@@ -194,7 +194,7 @@ fn end_migrated<K: Sink>(alloc: Global, objects: usize, out: &mut K) -> Status
     put_line(out, &text, 0)
 }
 
-// Fills a new index of the old head, but of version 2, with the old objects.
+// Fills a new index with the old head, but of version 2, and the old objects.
 fn move_objects<R: Threads + Sync, D: Disk, K: Sink>(
     rt: &R,
     alloc: Global,
@@ -242,11 +242,12 @@ fn migrate<R: Threads + Sync, D: Disk, E: Disk, K: Sink>(
     }
 }
 
-/// Makes an index in the empty file `index` of the objects of the file `other` of version 1, with its space, its policies and its
-/// limit, and writes `migrated` and their number. The objects keep their ids and tags, and the tree is that of bulk loading. `other` is
-/// only read, and `index` stays as it is unless it is empty and `other` is sound. Status 1: `other` is not sound, and its first fault is
-/// written; 4: the line could not be written; 5: a disk failed; 6: `index` holds something, or `other` does not open as a file of
-/// version 1; 8: want of memory; 9: a page of the new index is damaged, which comes only on a disk that does not tell its bytes.
+/// Makes an index in the empty file `index` from the file `other` of version 1: with its objects, its space, its policies and its
+/// limit. Writes `migrated` and the number of objects. The objects keep their ids and tags, and the tree is that of bulk loading.
+/// `other` is only read. `index` stays as it is unless it is empty and `other` is sound. Status 1: `other` is not sound, and its
+/// first fault is written; 4: the line could not be written; 5: a disk failed; 6: `index` holds something, or `other` does not open
+/// as a file of version 1; 8: memory ran out; 9: a page of the new index is damaged, which comes only on a disk that does not tell
+/// its bytes.
 pub fn migrate_index<R: Threads + Sync, D: Disk, E: Disk, K: Sink>(
     rt: &R,
     alloc: Global,
@@ -255,7 +256,7 @@ pub fn migrate_index<R: Threads + Sync, D: Disk, E: Disk, K: Sink>(
     out: &mut K,
 ) -> Status
     ensures migrates { Migrates (D.state index.old) (D.state index.new) (E.state other.old) (E.state other.new) (K.state out.old) (K.state out.new) result.0 }
-    // Where the new file is empty and the old one is sound, nothing is refused.
+    // Where the new file is empty and the old file is sound, nothing is refused.
     ensures complete { RefusesNothing (D.state index.old) (E.state other.old) result.0 }
     ensures statuses { IsMigrateStatus result.0 }
     ensures disk { result.0 ≡ 5 → Rose (D.state index.old).faults (D.state index.new).faults ⊎ Rose (E.state other.old).faults (E.state other.new).faults }

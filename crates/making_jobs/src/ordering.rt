@@ -1,4 +1,4 @@
-// The objects of a live tree, by their ids.
+// Puts the objects of a live tree in order of id.
 ghost use Rattle.std.specs.Prelude.{◌≡◌, ◌⊎◌, ◌++◌, ℕ, [], ◌∷◌, length, map, All, IsTrue, IfOk, IfErr, OnOk};
 ghost use Rattle.tree_shape.specs.Tree.{IsSoundTree, points_by_id, tags_by_id};
 ghost use Rattle.page_store.specs.Reading.{nodes_of};
@@ -15,7 +15,7 @@ use tree_audit::AuditFault;
 use tree_shape::laws::objects_fit;
 use tree_shape::{LeafEntry, Live};
 
-// What an auditor says where a walk stopped.
+// Maps the fault of a walk to an auditor's fault.
 fn rejection(fault: PageFault) -> AuditFault
     ensures { result ≡ rejection fault }
 {
@@ -26,7 +26,7 @@ fn rejection(fault: PageFault) -> AuditFault
     }
 }
 
-// Whether an object has this id and a point of the space.
+// Returns whether an object has the id `id` and a point of the space.
 fn is_next<M: Metric>(metric: &M, entry: &LeafEntry, id: usize) -> bool
     ensures yes { IsTrue result → (entry.now.id ≡ id) × IsTrue ((M.space metric.now).fits entry.now.point) }
     ensures no { entry.now.id ≡ id → IsTrue ((M.space metric.now).fits entry.now.point) → IsTrue result }
@@ -34,7 +34,7 @@ fn is_next<M: Metric>(metric: &M, entry: &LeafEntry, id: usize) -> bool
     entry.id as usize == id && metric.fits(entry.point.as_slice())
 }
 
-// Puts one more object behind the others. After an `Err` they may be anything.
+// Appends an object. After an `Err` the objects may be anything.
 fn put_last(objects: &mut Objects, entry: &LeafEntry) -> Result<(), Memory>
     requires { length entry.now.point ≡ objects.old.rows.words }
     ensures rows { OnOk result (objects.new.rows ≡ record objects.old.rows { points = objects.old.rows.points ++ entry.now.point ∷ [] }) }
@@ -45,7 +45,7 @@ fn put_last(objects: &mut Objects, entry: &LeafEntry) -> Result<(), Memory>
     Ok(())
 }
 
-// Takes objects in order, each of which has the next id, from 0 on, and a point of the space. `Id` names the first that has not.
+// Takes objects in order. Each has to have the next id, from 0 on, and a point of the space. `Id` names the first that has not.
 fn take_in_order<M: Metric>(
     alloc: Global,
     metric: M,
@@ -74,8 +74,8 @@ fn take_in_order<M: Metric>(
     Ok(objects)
 }
 
-/// The objects of the live tree in order of id, each with a point of the space. Of a sound tree they are taken, but where the disk
-/// fails or memory runs out; else they may be refused, as an auditor would refuse them.
+/// Returns the objects of the live tree in order of id, each with a point of the space. On a sound tree it fails only where the disk
+/// fails or memory runs out. On another tree it may fail as an auditor would.
 pub fn objects_of<P: Pages, M: Metric>(
     alloc: Global,
     pages: &mut P,

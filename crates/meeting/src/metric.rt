@@ -5,8 +5,8 @@ use crate::Seen;
 use metric_laws::Metric;
 use vector_kinds::L1;
 
-/// L1's distances, and two different points that are to meet. Where exactly one of them is among a distance's arguments,
-/// that point is noted and waits for the other.
+/// L1's distances, and two different points that have to meet. Where exactly one of them is an argument of a distance, that point is
+/// noted and waits for the other.
 #[derive(Clone, Copy)]
 pub struct Meeting<'a> {
     /// The metric that gives the distances.
@@ -15,7 +15,7 @@ pub struct Meeting<'a> {
     pub first: &'a [u32],
     /// The point of the second event.
     pub second: &'a [u32],
-    /// Where they are noted.
+    /// Where the two events are noted.
     pub seen: &'a Seen,
 }
 

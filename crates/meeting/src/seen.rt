@@ -1,9 +1,9 @@
 use std::sync::atomic::{AtomicBool, Ordering};
 
-/// How often a waiter looks for the other before it gives up.
+/// How many times a waiter checks for the other before it gives up.
 const TURNS: u64 = 1 << 26;
 
-/// Which of two events were noted, and whether one waited for the other in vain.
+/// Which of two events were noted, and whether one of them waited in vain.
 #[derive(Drop)]
 pub struct Seen {
     first: AtomicBool,
@@ -12,7 +12,7 @@ pub struct Seen {
 }
 
 impl Seen {
-    /// Nothing was noted as yet.
+    /// Returns a state where nothing is noted yet.
     pub fn new() -> Self {
         Seen {
             first: AtomicBool::new(false),
@@ -21,8 +21,8 @@ impl Seen {
         }
     }
 
-    /// Notes one of the events and waits until the other was noted too. After `2^26` turns in vain the failure is noted,
-    /// and no later call waits.
+    /// Notes one of the events, and waits until the other is noted too. After `2^26` turns in vain it notes the failure, and no
+    /// later call waits.
     pub fn note(&self, is_first: bool) {
         let (mine, theirs) = if is_first {
             (&self.first, &self.second)
@@ -38,7 +38,7 @@ impl Seen {
         self.failed.store(true, Ordering::SeqCst);
     }
 
-    /// Whether both were noted and neither waited in vain.
+    /// Returns whether both events were noted and neither waited in vain.
     pub fn met(&self) -> bool {
         self.first.load(Ordering::SeqCst)
             && self.second.load(Ordering::SeqCst)

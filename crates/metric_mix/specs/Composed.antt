@@ -1,4 +1,4 @@
--- Spaces made of others.
+-- Spaces made from other spaces.
 use Rattle.std.specs.Prelude.{ℕ, ◌+◌, ◌&&◌, Bool, List, take, drop, min, max}
 use Rattle.metric_laws.specs.Space.{Space}
 use Rattle.metric_laws.specs.Pruning.{capped}
@@ -7,11 +7,11 @@ use Rattle.metric_laws.specs.Pruning.{capped}
 abbrev pub capped_space : Space → ℕ → Space
 capped_space s most = record { words = s.words; fits = s.fits; dist = λ a b. min (s.dist a b) most }
 
--- a point of s and then one of t
+-- whether a point is a point of `s` followed by a point of `t`
 abbrev pub fits_both : Space → Space → List ℕ → Bool
 fits_both s t p = s.fits (take s.words p) && t.fits (drop s.words p)
 
--- both distances together, at most the bound
+-- the sum of both distances, at most the bound
 abbrev pub sum_space : Space → Space → Space
 sum_space s t = record {
   words = s.words + t.words;

@@ -1,4 +1,4 @@
--- Composed spaces are spaces, by the axioms of their parts alone.
+-- Composed spaces are spaces, by the axioms of their parts.
 use Rattle.std.specs.Prelude.{◌≡◌, ℕ, ◌+◌, ◌≤◌, ◌<◌, ◌^◌, List, ◌++◌, take, drop, length, All, IsTrue}
 use Rattle.std.proofs.Common.{arith, ap, sym, ◌∙◌, subst}
 use Rattle.std.proofs.lemmas.Bool.{and_parts}

@@ -8,11 +8,11 @@ use Rattle.std.proofs.lemmas.List.Sums.{sum_by-append, sum_by-cons}
 use Rattle.metric_mix.specs.Permutations.{pairs_of, exactly_one, is_discordant}
 use Rattle.metric_mix.specs.Ranks.{high, high_falls}
 
--- 1 where just one of the two holds
+-- 1 where exactly one of the two holds, otherwise 0
 abbrev pub one : Bool → Bool → ℕ
 one p q = cond (exactly_one p q) 1 0
 
--- in how many places a and b stand differently to x and y
+-- the number of places where a and b are ordered differently relative to x and y
 abbrev pub row : ℕ → ℕ → List ℕ → List ℕ → ℕ
 row x y [] b = 0
 row x y (u ∷ a) [] = 0

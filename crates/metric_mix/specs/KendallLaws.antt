@@ -7,7 +7,7 @@ use Rattle.metric_mix.specs.Permutations.{is_permutation, kendall_distance, kend
 use Rattle.metric_mix.specs.Ranks.{high_is, permutation_long, permutation_below}
 use Rattle.metric_mix.specs.Discordance.{discord, discord_is, discord_symmetric, discord_same, discord_triangle, discord_few, discord_apart}
 
--- of points, all places count
+-- for points, all places count
 kendall_is : (n : ℕ) (a b : List ℕ) → IsTrue (is_permutation n a) → IsTrue (is_permutation n b) → kendall_distance n a b ≡ discord a b
 kendall_is n a b fa fb =
     let first : take n a ≡ a = take_all n a (omega (arith, permutation_long n a fa)) in

@@ -1,4 +1,4 @@
--- What a value names is lawful, and is a space.
+-- A value names a lawful kind and dimension, and its space is a space.
 use Rattle.std.specs.Prelude.{◌≡◌, ℕ, ◌≤◌, ◌%◌, ◌==◌, ◌&&◌, true, refl, IsTrue, nat_le}
 use Rattle.std.proofs.Common.{arith}
 use Rattle.std.proofs.lemmas.Bool.{and_from, eq-eqb, le-leb}

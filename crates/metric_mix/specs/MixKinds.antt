@@ -1,4 +1,4 @@
--- Which of the spaces a value names.
+-- The space that a value names.
 use Rattle.std.specs.Prelude.{ℕ}
 use Rattle.vector_kinds.specs.Kinds.{kind_of, dim_of}
 use Rattle.metric_mix.specs.declared.mix_space.MixSpace.{MixSpace}

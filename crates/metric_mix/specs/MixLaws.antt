@@ -48,7 +48,7 @@ eight P p1 p2 p3 p4 p5 p6 p7 p8 kind low high =
     at : (k : ℕ) → k ≡ kind → P k → P kind
     at k same here = subst P same here
 
--- a space whose number of coordinates is said in another way
+-- a space whose number of coordinates is stated in another way
 renamed : (s : Space) (dim : ℕ) → s.words ≡ dim → IsSpace s → IsSpace (record { words = dim; fits = s.fits; dist = s.dist })
 renamed s dim same is = record {
   some_words = omega (arith, is.some_words);
@@ -72,7 +72,7 @@ lawful_few kind dim lawful =
     let ranges = (and_parts (nat_le 1 dim && nat_le dim 64) (if has_halves kind then dim % 2 == 0 else true) lawful).0 in
     leb-true dim 64 (and_parts (nat_le 1 dim) (nat_le dim 64) ranges).1
 
--- of a kind with halves
+-- the dimension of a kind with halves is even
 lawful_even : (kind dim : ℕ) → has_halves kind ≡ true → IsTrue (is_lawful kind dim) → dim / 2 + dim / 2 ≡ dim
 lawful_even kind dim halves lawful =
     let tested : (if has_halves kind then dim % 2 == 0 else true) ≡ true =
@@ -105,7 +105,7 @@ lawful_axioms kind dim low high lawful =
     (capped_axioms (vector_space 2 dim) 65535 (l1_axioms dim (lawful_some 8 dim l) (lawful_few 8 dim l)) (omega arith) (omega arith)))
     kind low high lawful
 
--- both halves of a list of numbers of 32 bits are such lists
+-- both halves of a list of 32-bit numbers are such lists
 halves_fit : (half dim : ℕ) (p : List ℕ) → half + half ≡ dim → IsTrue (is_vector dim p) → (is_vector half (take half p) && is_vector half (drop half p)) ≡ true
 halves_fit half dim p even fits =
     let parts = and_parts (length p == dim) (list_all (λ x. nat_lt x (2 ^ 32)) p) fits in

@@ -6,15 +6,15 @@ use Rattle.metric_mix.specs.Composed.{capped_space, sum_space, most_space}
 use Rattle.metric_mix.specs.Permutations.{kendall_space}
 use Rattle.metric_mix.specs.Sets.{hausdorff_space}
 
--- whether a point of this kind is two halves, of which L1 measures the first and Hamming the second
+-- whether a point of this kind is two halves: L1 measures the first half, and Hamming the second
 abbrev pub has_halves : ℕ → Bool
 has_halves kind = (kind == 6) || (kind == 7)
 
--- whether the kind has a space of this dimension
+-- whether the kind has a space of dimension `dim`
 abbrev pub is_lawful : ℕ → ℕ → Bool
 is_lawful kind dim = nat_le 1 dim && nat_le dim 64 && (if has_halves kind then dim % 2 == 0 else true)
 
--- 1 Hamming, 2 L1, 3 the maximum, 4 Kendall, 5 Hausdorff, 6 the sum and 7 the greater of both halves, 8 L1 up to 65535
+-- 1 Hamming, 2 L1, 3 the maximum, 4 Kendall, 5 Hausdorff, 6 the sum and 7 the greater of both halves' distances, 8 L1 up to 65535
 abbrev pub mix_parts : ℕ → ℕ → Space
 mix_parts kind dim =
     if kind == 4 then kendall_space dim
@@ -28,7 +28,7 @@ mix_parts kind dim =
 abbrev pub mix_space : ℕ → ℕ → Space
 mix_space kind dim = record { words = dim; fits = (mix_parts kind dim).fits; dist = (mix_parts kind dim).dist }
 
--- what a kind is called
+-- the name of a kind
 abbrev pub mix_name : ℕ → List ℕ
 mix_name kind =
     if kind == 1 then codes "hamming"
@@ -40,11 +40,11 @@ mix_name kind =
     else (if kind == 7 then codes "mixmax"
     else codes "l1cap"))))))
 
--- every kind from 1 to 8 has a space of each lawful dimension
+-- each kind from 1 to 8 has a space of each lawful dimension
 abbrev pub MixSpacesAreSpaces : Type 0
 MixSpacesAreSpaces = (kind dim : ℕ) → 1 ≤ kind → kind ≤ 8 → IsTrue (is_lawful kind dim) → IsSpace (mix_space kind dim)
 
--- but for permutations and sets, every list of `dim` numbers of 32 bits is a point
+-- except for permutations and sets, each list of `dim` 32-bit numbers is a point
 abbrev pub VectorsFit : Type 0
 VectorsFit =
     (kind dim : ℕ) → 1 ≤ kind → kind ≤ 8 → IsTrue (is_lawful kind dim) → kind ≢ 4 → kind ≢ 5 →

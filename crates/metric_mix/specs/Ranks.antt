@@ -1,4 +1,4 @@
--- How many numbers of a list are below or above a number, and that this determines a permutation of 0 to n - 1.
+-- How many numbers of a list are below or above a number. This determines a permutation of 0 to n - 1.
 use Rattle.std.specs.Prelude.{◌≡◌, ℕ, zero, suc, ◌+◌, ◌-◌, ◌≤◌, ◌<◌, ◌==◌, ◌||◌, Bool, true, false, cond, List, [], ◌∷◌, length, refl, nat_lt, slice_index_or, All, IsTrue}
 use Rattle.std.specs.List.{list_any}
 use Rattle.std.proofs.Common.{arith, ap, sym, ◌∙◌, inl, inr}
@@ -6,12 +6,12 @@ use Rattle.std.proofs.lemmas.Bool.{and_parts, cases_lt, eqb-true}
 use Rattle.std.proofs.lemmas.Bool.Decides.{nat_tests}
 use Rattle.metric_mix.specs.Permutations.{holds_below, is_permutation}
 
--- how many are below v
+-- the number of elements below v
 abbrev pub low : ℕ → List ℕ → ℕ
 low v [] = 0
 low v (x ∷ p) = cond (nat_lt x v) 1 0 + low v p
 
--- how many are above v
+-- the number of elements above v
 abbrev pub high : ℕ → List ℕ → ℕ
 high v [] = 0
 high v (x ∷ p) = cond (nat_lt v x) 1 0 + high v p
@@ -39,7 +39,7 @@ low_grows v w (x ∷ p) up = let rest = low_grows v w p up in grind (arith, nat_
 pub permutation_long : (n : ℕ) (p : List ℕ) → IsTrue (is_permutation n p) → length p ≡ n
 permutation_long n p fits = eqb-true (length p) n (and_parts (length p == n) (holds_below n p) fits).0
 
--- one that stands there is counted from the next number on
+-- a number of the list is counted from the next number on
 low_step : (v : ℕ) (p : List ℕ) → list_any (λ x. x == v) p ≡ true → suc (low v p) ≤ low (suc v) p
 low_step v [] stands = absurd (cc)
 low_step v (x ∷ p) stands = cases (x == v) refl stands (low_step v p)
@@ -69,7 +69,7 @@ low_climbs (suc n) v p less holds =
       | inr over ↦ (let same : suc n ≡ v = omega arith in let equal : low (suc n) p ≡ low v p = ap (λ (m : ℕ). low m p) same in omega arith)
     ]
 
--- in a permutation of 0 to n - 1, the numbers below v are v many
+-- in a permutation of 0 to n - 1 there are v numbers below v
 low_is : (n v : ℕ) (p : List ℕ) → v ≤ n → IsTrue (is_permutation n p) → low v p ≡ v
 low_is n v p less fits =
     let parts = and_parts (length p == n) (holds_below n p) fits in
@@ -89,7 +89,7 @@ high_is n v p fits =
       | inr over ↦ (let all = low_is n n p (omega arith) fits in let more = low_grows n (suc v) p (omega arith) in omega arith)
     ]
 
--- each of its numbers is below n
+-- each number of a permutation is below n
 all_low : (n : ℕ) (p : List ℕ) → low n p ≡ length p → (k d : ℕ) → k < length p → slice_index_or p k d < n
 all_low n [] all k d within = absurd (omega arith)
 all_low n (x ∷ p) all zero d within = let few = low_few n p in grind (arith, nat_tests)

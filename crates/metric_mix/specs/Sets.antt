@@ -1,4 +1,4 @@
--- Sets of numbers, and how far two of them lie apart (F. Hausdorff, 1914).
+-- Sets of numbers, and the distance of two sets (F. Hausdorff, 1914).
 use Rattle.std.specs.Prelude.{ℕ, ◌-◌, ◌^◌, ◌==◌, ◌&&◌, ◌||◌, Bool, false, List, [], ◌∷◌, min, max, nat_lt}
 use Rattle.std.specs.List.{list_all}
 use Rattle.metric_laws.specs.Space.{Space}
@@ -14,17 +14,17 @@ is_spelled (x ∷ xs) = list_all (λ y. y == x) xs || (list_all (λ y. nat_lt x 
 abbrev pub is_set : ℕ → List ℕ → Bool
 is_set n p = is_vector n p && is_spelled p
 
--- how far the nearest number of the list is from x. No two numbers of 32 bits are further apart than the first line says.
+-- the distance of x from the nearest number of the list; 2 ^ 32 - 1, the greatest distance of two 32-bit numbers, for an empty list
 abbrev pub nearest : ℕ → List ℕ → ℕ
 nearest x [] = 2 ^ 32 - 1
 nearest x (y ∷ ys) = min (gap x y) (nearest x ys)
 
--- how far a number of the first list is at most from the nearest of the second
+-- the greatest distance of a number of the first list from the nearest number of the second
 abbrev pub farthest : List ℕ → List ℕ → ℕ
 farthest [] b = 0
 farthest (x ∷ a) b = max (nearest x b) (farthest a b)
 
--- the same from either side
+-- the greater of that distance in both directions
 abbrev pub hausdorff_distance : List ℕ → List ℕ → ℕ
 hausdorff_distance a b = max (farthest a b) (farthest b a)
 

@@ -1,4 +1,4 @@
--- A set has one spelling in a number of places.
+-- A set has only one spelling in a given number of places.
 use Rattle.std.specs.Prelude.{◌≡◌, ℕ, ◌≤◌, ◌==◌, ◌&&◌, Bool, true, List, [], ◌∷◌, length, refl, nat_lt}
 use Rattle.std.specs.List.{list_all}
 use Rattle.std.proofs.Common.{arith, ap, sym, ◌∙◌, inl, inr, ◌⊎◌, subst}
@@ -6,14 +6,14 @@ use Rattle.std.proofs.lemmas.Bool.{and_parts, or_cases, eqb-true, ltb-true}
 use Rattle.metric_laws.specs.Lists.{IsIn}
 use Rattle.metric_mix.specs.Sets.{is_spelled}
 
--- what a test of all tells of one
+-- what a test of all elements tells of one element
 in_list_all : (p : ℕ → Bool) (xs : List ℕ) (z : ℕ) → list_all p xs ≡ true → IsIn z xs → p z ≡ true
 in_list_all p [] z all there = absurd there
 in_list_all p (x ∷ xs) z all there =
     let parts = and_parts (p x) (list_all p xs) all in
     elim there [ inl same ↦ ap p same ∙ parts.0 | inr deeper ↦ in_list_all p xs z parts.1 deeper ]
 
--- one number in every place, or a first number below a spelling
+-- one number in each place, or a first number below a spelling
 abbrev Spells : ℕ → List ℕ → Type 0
 Spells x xs = (list_all (λ y. y == x) xs ≡ true) ⊎ ((list_all (λ y. nat_lt x y) xs ≡ true) × (is_spelled xs ≡ true))
 
@@ -47,7 +47,7 @@ flat_equal x (u ∷ xs) (v ∷ ys) long first second =
     let tails : xs ≡ ys = flat_equal x xs ys (omega arith) left.1 right.1 in
     λ i. heads i ∷ tails i
 
--- one number in every place spells no set that has a second
+-- one number in each place spells no set that has a second number
 flat_or_not : (x : ℕ) (xs ys : List ℕ) → list_all (λ y. y == x) xs ≡ true → ((z : ℕ) → IsIn z (x ∷ ys) → IsIn z (x ∷ xs)) →
     list_all (λ y. nat_lt x y) ys ≡ true → is_spelled ys ≡ true → ⊥
 flat_or_not x xs [] flat within rises spelled = cc
@@ -58,7 +58,7 @@ flat_or_not x xs (v ∷ ys) flat within rises spelled =
       | inr deeper ↦ (let same = eqb-true v x (in_list_all (λ y. y == x) xs v flat deeper) in omega arith)
     ]
 
--- what stands in the rest of one stands in the rest of the other
+-- what is in the rest of one list is in the rest of the other
 rest_within : (x : ℕ) (xs ys : List ℕ) → list_all (λ y. nat_lt x y) xs ≡ true → ((z : ℕ) → IsIn z (x ∷ xs) → IsIn z (x ∷ ys)) → (z : ℕ) → IsIn z xs → IsIn z ys
 rest_within x xs ys rises within z there =
     elim (within z (inr there)) [

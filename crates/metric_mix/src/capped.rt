@@ -6,7 +6,7 @@ ghost use Rattle.metric_mix.specs.ComposedLaws.{capped_axioms};
 use metric_laws::Metric;
 use std::alloc::AllocError;
 
-/// A metric of which no distance counts for more than `most`.
+/// A metric whose distances are cut off at `most`.
 pub struct Capped<M: Metric> {
     pub metric: M,
     pub most: u64,
@@ -15,7 +15,7 @@ pub struct Capped<M: Metric> {
 }
 
 impl<M: Metric> Capped<M> {
-    /// The metric, with `most` from 1 to `BOUND` in place of every greater distance.
+    /// Returns the metric with each distance above `most`, 1 to `BOUND`, replaced by `most`.
     pub fn new(metric: M, most: u64) -> Self
         requires some { 1 ≤ most }
         requires low { most ≤ bound }

@@ -3,7 +3,7 @@ ghost use Rattle.std.specs.Prelude.{◌≡◌, ◌≤◌, ◌/◌, ◌%◌};
 use crate::{Most, Sum};
 use vector_kinds::{Hamming, L1};
 
-/// A number of coordinates that is even: L1 measures the first half and Hamming the second.
+/// Points of two halves: L1 measures the first half, and Hamming the second. The number of coordinates is even.
 #[derive(Clone, Copy, PartialEq, Eq)]
 pub struct Halves {
     pub dim: u8,
@@ -13,7 +13,7 @@ pub struct Halves {
 }
 
 impl Halves {
-    /// Both halves of `dim` coordinates.
+    /// Returns the halves of `dim` coordinates.
     pub fn new(dim: u8) -> Self
         requires some { 1 ≤ dim }
         requires few { dim ≤ 64 }
@@ -23,7 +23,7 @@ impl Halves {
         Halves { dim }
     }
 
-    /// The metric that adds the distances of the halves.
+    /// Returns the metric that adds the distances of the halves.
     pub fn sum(self) -> Sum<L1, Hamming>
         ensures first { result.first.dim ≡ self.dim / 2 }
         ensures second { result.second.dim ≡ self.dim / 2 }
@@ -32,7 +32,7 @@ impl Halves {
         Sum::new(L1::new(half), Hamming::new(half))
     }
 
-    /// The metric that takes the greater of the distances of the halves.
+    /// Returns the metric that takes the greater of the distances of the halves.
     pub fn most(self) -> Most<L1, Hamming>
         ensures first { result.first.dim ≡ self.dim / 2 }
         ensures second { result.second.dim ≡ self.dim / 2 }

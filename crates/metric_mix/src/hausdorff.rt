@@ -16,7 +16,7 @@ pub struct Hausdorff {
 }
 
 impl Hausdorff {
-    /// The metric on sets of at most `dim` numbers.
+    /// Returns the metric on sets of at most `dim` numbers.
     pub fn new(dim: u8) -> Self
         requires some { 1 ≤ dim }
         requires few { dim ≤ 64 }

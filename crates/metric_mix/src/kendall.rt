@@ -14,7 +14,7 @@ pub struct Kendall {
 }
 
 impl Kendall {
-    /// The metric on permutations of the numbers 0 to `dim - 1`.
+    /// Returns the metric on permutations of the numbers 0 to `dim - 1`.
     pub fn new(dim: u8) -> Self
         requires some { 1 ≤ dim }
         requires few { dim ≤ 64 }

@@ -1,4 +1,4 @@
-//! What holds of the eight spaces by kind and dimension.
+//! Laws of the eight spaces, by kind and dimension.
 
 ghost use Rattle.metric_mix.specs.MixSpaces.{MixSpacesAreSpaces, VectorsFit};
 
@@ -8,7 +8,7 @@ pub fn mix_spaces_are_spaces()
     ensures { MixSpacesAreSpaces }
 {}
 
-/// But for permutations and sets, each list of `dim` coordinates is a point.
+/// Except for permutations and sets, each list of `dim` coordinates is a point.
 #[tactic(auto, using(crate::specs::MixLaws::vectors_fit))]
 pub fn vectors_fit()
     ensures { VectorsFit }

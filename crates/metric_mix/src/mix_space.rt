@@ -17,15 +17,15 @@ pub enum MixSpace {
     Kendall(Kendall),
     /// `hausdorff`
     Hausdorff(Hausdorff),
-    /// `mixsum`: L1 of the first half and Hamming of the second together.
+    /// `mixsum`: the sum of L1 of the first half and Hamming of the second.
     MixSum(Halves),
     /// `mixmax`: the greater of L1 of the first half and Hamming of the second.
     MixMax(Halves),
-    /// `l1cap`: L1, of which no distance counts for more than 65535.
+    /// `l1cap`: L1 with distances cut off at 65535.
     L1Cap(L1),
 }
 
-/// Whether the kind has a space of this dimension.
+/// Returns whether the kind has a space of dimension `dim`.
 fn has_dimension(kind: u8, dim: u8) -> bool
     ensures { result ≡ is_lawful kind dim }
 {
@@ -36,14 +36,15 @@ fn has_dimension(kind: u8, dim: u8) -> bool
 impl MixSpace {
     ghost use Rattle.metric_mix.specs.MixKinds.{mix_kind, mix_dim};
 
-    /// The space of a kind, 1 to 8 in the order above, and a dimension of 1 to 64, which is even for 6 and 7.
+    /// Returns the space of a kind and a dimension. The kind is 1 to 8, in the order above, and the dimension 1 to 64, even for 6
+    /// and 7.
     pub fn new(kind: u8, dim: u8) -> Result<Self, SpaceFault>
         ensures kind { IfOk result (λ s. mix_kind s ≡ kind) }
         ensures dim { IfOk result (λ s. mix_dim s ≡ dim) }
 
         ensures ok { IsOk result ↔ ((1 ≤ kind) × (kind ≤ 8) × IsTrue (is_lawful kind dim)) }
 
-        // The kind is judged first.
+        // The kind is checked first.
         ensures no_kind { IsErrOf result SpaceFault.Kind ↔ ((kind < 1) ⊎ (8 < kind)) }
         ensures no_dim { IsErrOf result SpaceFault.Dim ↔ ((1 ≤ kind) × (kind ≤ 8) × (is_lawful kind dim ≡ false)) }
     {
@@ -65,7 +66,7 @@ impl MixSpace {
         })
     }
 
-    /// The number of the metric, 1 to 8.
+    /// Returns the number of the metric, 1 to 8.
     #[tactic(auto, using(crate::specs::MixKindLaws::mix_low))]
     pub fn kind(&self) -> u8
         ensures value { result ≡ mix_kind self.now }
@@ -82,7 +83,7 @@ impl MixSpace {
         }
     }
 
-    /// The number of coordinates of a point.
+    /// Returns the number of coordinates of a point.
     #[tactic(auto, using(crate::specs::MixKindLaws::mix_lawful))]
     pub fn dim(&self) -> u8
         ensures value { result ≡ mix_dim self.now }
@@ -98,7 +99,7 @@ impl MixSpace {
         }
     }
 
-    /// What the metric is called.
+    /// Returns the metric's name.
     pub fn name(&self) -> &'static str
         ensures { result.now ≡ mix_name (mix_kind self.now) }
     {
@@ -139,7 +140,7 @@ impl Metric for MixSpace {
         }
     }
 
-    // The composed metrics are calls of their own, so that a plain one pays nothing for what they need.
+    // The composed metrics are calls of their own, so that a plain metric pays nothing for them.
     fn dist(&self, a: &[u32], b: &[u32]) -> u64 {
         match self {
             MixSpace::Plain(space) => space.dist(a, b),

@@ -4,7 +4,7 @@ ghost use Rattle.std.specs.Prelude.{◌≡◌, ◌≤◌, ◌<◌, ◌+◌, drop
 ghost use Rattle.std.specs.List.{zip};
 ghost use Rattle.metric_mix.specs.Permutations.{holds_below, pairs_of, is_discordant};
 
-/// Whether each number below `n` stands in the list.
+/// Returns whether each number below `n` is in the list.
 pub fn hold_below(p: &[u32], n: u8) -> bool
     ensures { result ≡ holds_below n p.now }
 {
@@ -16,7 +16,7 @@ pub fn hold_below(p: &[u32], n: u8) -> bool
     true
 }
 
-/// The number of later places that the lists order differently against place `i`.
+/// Returns the number of places after `i` that the lists order differently relative to place `i`.
 fn discordant_after(i: usize, a: &[u32], b: &[u32]) -> u64
     requires a { i < length a.now }
     requires b { i < length b.now }
@@ -33,7 +33,7 @@ fn discordant_after(i: usize, a: &[u32], b: &[u32]) -> u64
     count
 }
 
-/// The number of pairs of places that the lists order differently.
+/// Returns the number of pairs of places that the lists order differently.
 pub fn discordant(a: &[u32], b: &[u32]) -> u64
     requires { length a.now ≤ 64 }
     ensures value { result ≡ count_by is_discordant (pairs_of (zip a.now b.now)) }

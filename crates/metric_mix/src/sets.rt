@@ -5,14 +5,14 @@ ghost use Rattle.std.specs.List.{list_all};
 ghost use Rattle.metric_laws.specs.Pruning.{gap};
 ghost use Rattle.metric_mix.specs.Sets.{is_spelled, farthest};
 
-/// Whether all of the numbers are `x`.
+/// Returns whether all of the numbers are `x`.
 fn all_are(x: u32, rest: &[u32]) -> bool
     ensures { result ≡ list_all (λ y. y == x) rest.now }
 {
     rest.iter().all(|y| *y == x)
 }
 
-/// Whether the list spells a set.
+/// Returns whether the list spells a set.
 pub fn is_spelled(p: &[u32]) -> bool
     ensures { result ≡ is_spelled p.now }
 {
@@ -27,7 +27,7 @@ pub fn is_spelled(p: &[u32]) -> bool
     true
 }
 
-/// The least difference from `x`, the greatest `u32` where the list is empty.
+/// Returns the distance of `x` from the nearest number of the list, or the greatest `u32` where the list is empty.
 fn nearest(x: u32, b: &[u32]) -> u32
     ensures { result ≡ fold (λ least y. min least (gap x y)) (2 ^ 32 - 1) b.now }
 {
@@ -35,7 +35,7 @@ fn nearest(x: u32, b: &[u32]) -> u32
         .fold(u32::MAX, |least, y| least.min(x.abs_diff(*y)))
 }
 
-/// The greatest distance from a number of the first list to the nearest of the second.
+/// Returns the greatest distance of a number of the first list from the nearest number of the second.
 pub fn farthest(a: &[u32], b: &[u32]) -> u32
     ensures { result ≡ farthest a.now b.now }
 {

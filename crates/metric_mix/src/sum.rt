@@ -6,7 +6,7 @@ use crate::joined;
 use metric_laws::{Metric, cap};
 use std::alloc::AllocError;
 
-/// Adds the distances of two metrics, at most the greatest distance.
+/// The sum of the distances of two metrics, at most the greatest distance.
 pub struct Sum<A: Metric, B: Metric> {
     pub first: A,
     pub second: B,
@@ -14,7 +14,7 @@ pub struct Sum<A: Metric, B: Metric> {
 }
 
 impl<A: Metric, B: Metric> Sum<A, B> {
-    /// The metric on a point of `first` and then one of `second`, which have at most 64 coordinates together.
+    /// Returns the metric on a point of `first` and then one of `second`, which have at most 64 coordinates together.
     pub fn new(first: A, second: B) -> Self
         requires { (A.space first).words + (B.space second).words ≤ 64 }
         ensures first { result.first ≡ first }

@@ -81,7 +81,7 @@ module _ (Failed : Type 0) where
     memory = λ _. line;
   }
 
--- the line of want of memory after some replies
+-- the line of a memory fault after some replies
 pub stopped : (w0 w1 w2 : SinkState) (texts : List (List ℕ)) (status : ℕ) → status ≡ 8 → w0.faults ≤ w1.faults →
     Writes w0.written w1.written texts (Err stop.Memory) → Tells w1 w2 (codes "fault memory\n") → WritesScan w0 w2 texts status
 stopped w0 w1 w2 texts status is later wrote line =

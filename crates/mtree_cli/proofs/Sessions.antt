@@ -390,7 +390,7 @@ memory_ends_it disk0 disk1 out0 out1 log status is told = record {
   statuses = inr (inr (inr (inr (inl is))));
 }
 
--- a line is all that a session puts that is refused while it opens the index
+-- a session that is refused while it opens the index puts only a line
 pub memory_runs : (show : Bool) (bytes : List ℕ) (disk0 disk1 disk2 : DiskState) (out0 out1 log : SinkState) (status : ℕ) → IsUnchanged disk0 disk1 → EachImage disk1 disk2 (MayLeave disk1) → status ≡ 8 →
     Tells out0 out1 (codes "fault memory\n") → RunsScript show bytes disk0 disk2 out0 out1 log log status
 memory_runs show bytes disk0 disk1 disk2 out0 out1 log status same time eight told tells head live sound =
@@ -406,7 +406,7 @@ module _ (faults : FaultIsNotOpen) (one : OneLiveSlot) (show : Bool) (bytes : Li
   still : (P : List ℕ → Type 0) → P disk1.bytes → P disk0.bytes
   still P p = subst P same.same_bytes p
 
-  -- bytes that open to an index of version 2 with such points are opened but for the disk
+  -- bytes that open to an index of version 2 with such points are opened, unless the disk fails
   never : IsTrue disk0.tells → why ≢ fault.Disk → ⊥
   never tells other = elim cause [
     | inl first ↦
@@ -500,7 +500,7 @@ module _ {M : Type 0} (kind_of dim_of : M → ℕ) (one : OneLiveSlot) (show : B
     (same : IsUnchanged disk0 disk1) (time : EachImage disk1 disk2 (MayLeave disk1)) (bytes_same : disk2.bytes ≡ disk1.bytes) (tells_same : disk2.tells ≡ disk1.tells)
     (reopens : IsTrue disk2.tells → OpensTo disk2.bytes index.file.head index.file.live) (opens : IsTrue disk0.tells → OpensTo disk0.bytes opened.0 opened.1)
     (kind : kind_of index.file.metric ≡ opened.0.kind) (dim : dim_of index.file.metric ≡ opened.0.dim) where
-  -- what is said of the opened index is said of the file
+  -- what holds for the opened index holds for the file
   said_before : (Asks : ℕ → Type 0) (Said : Head → Live → List ℕ → Type 0) (head : Head) (live : Live) → IsTrue disk0.tells → IsSoundFile (space_of head) head live disk0.bytes → Asks head.dim →
       (IsTrue disk2.tells → kind_of index.file.metric ≡ index.file.head.kind → dim_of index.file.metric ≡ index.file.head.dim → IsSoundTree (space_of index.file.head) (nodes_on index.file disk2) index.file.live →
       Asks index.file.head.dim → Said index.file.head index.file.live disk2.bytes) → Said head live disk0.bytes
@@ -625,7 +625,7 @@ ran_session show input rest bytes read disk0 disk1 out0 out1 log0 log1 status ta
   index = refused.index;
 }
 
--- it is done, but for want of memory
+-- the session is done, unless memory ran out
 pub ran_complete : (show : Bool) (input : Option (List ℕ)) (disk0 disk1 : DiskState) (out0 out1 log0 log1 : SinkState) (status : ℕ) (Input : Type 0) → RunsSession show input disk0 disk1 out0 out1 log0 log1 status →
     HasRefused disk0 disk1 out0 out1 log0 log1 status →
     IsComplete input disk0 (Input ⊎ (Rose disk0.faults disk1.faults ⊎ (Rose out0.faults out1.faults ⊎ Rose log0.faults log1.faults))) status

@@ -1,4 +1,4 @@
--- What stands of each task where a run met want of memory before it began.
+-- What holds for each task where memory ran out before the run began.
 use Rattle.std.proofs.Common.{◌≡◌, ◌≢◌, ◌⊎◌, inl, inr, ⊎_elim, ℕ, ◌≤◌, ◌%◌, ◌<◌, ◌+◌, ◌^◌, length, List, [], Option, Some, true, IsTrue, refl, sym, ◌∙◌, ap, subst, arith}
 use Rattle.std.specs.Prelude.{codes, ◌↔◌}
 use Rattle.std.specs.Io.KnownBytes.{Consumes}
@@ -93,11 +93,11 @@ no_join_logs_judged what disk other left o0 o1 line = record {
   long_line = λ is. absurd (omega arith);
 }
 
--- want of memory refuses no file
+-- a run where memory runs out refuses no file
 no_file_refused : (disk other : DiskState) → RefusesNothing disk other 8
 no_file_refused disk other tells told empty head points tags is = (λ e. absurd (omega (arith, e)), λ e. absurd (omega (arith, e)), λ e. absurd (omega (arith, e)))
 
--- want of memory is no failed output
+-- running out of memory is no failed output
 is_no_sink : Stop → Type 0
 is_no_sink stop.Sink = ⊥
 is_no_sink other = Unit {0}
@@ -106,7 +106,7 @@ no_output : stop.Memory ≢ stop.Sink
 unfolding is_no_sink
 no_output e = subst is_no_sink e tt
 
--- a scene in which this was put to out
+-- a scene with the given output
 abbrev pub scene : DiskState → DiskState → Option (List ℕ) → SinkState → SinkState → Scene
 scene disk other left log_out out = record { index = disk; other = other; left = left; out = out; log_out = log_out }
 

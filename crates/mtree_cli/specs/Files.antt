@@ -17,7 +17,7 @@ abbrev pub opened_names : Option (Job (List ℕ)) → FileNames (List ℕ)
 opened_names None = no_files
 opened_names (Some job) = files_of job
 
--- what a run finds or leaves in these files and on out
+-- what a run finds or leaves in the files and on out
 abbrev pub scene_of : {I L T : Type 0} → (I → DiskState) → (L → Option (List ℕ)) → (T → SinkState) → Opened I L T → SinkState → Scene
 scene_of disk left sink files out = record {
   index = named_disk disk files.index.0;
@@ -27,8 +27,8 @@ scene_of disk left sink files out = record {
   log_out = named_sink sink files.log_out.0;
 }
 
--- The files of these names were opened, and each index is held against other processes. The run did on them what the job says, and
--- answered its status.
+-- The files of these names were opened, and each index is locked against other processes. The run did with them what the job says,
+-- and returned its status.
 pub record Ran {I L T : Type 0} (disk : I → DiskState) (left : L → Option (List ℕ)) (sink : T → SinkState) (folder : Meaning I L T)
     (job : Option (Job (List ℕ))) (input : Option (List ℕ)) (out0 out1 : SinkState) (status : ℕ) : Type 0 where
   pub before : Opened I L T
@@ -38,8 +38,8 @@ pub record Ran {I L T : Type 0} (disk : I → DiskState) (left : L → Option (L
   pub statuses : IsStatusOf (task_of job) status
   pub apart : AreApart folder (opened_names job) (opened_names job).makes
 
--- A run ends in one of three ways. It did the job on its files. Or memory ran out before any file was opened. Or a file was refused, with
--- the status 10, and nothing was written.
+-- A run ends in one of three ways. It did the job on its files. Or memory ran out before any file was opened. Or a file was refused:
+-- then the status is 10, and nothing was written.
 abbrev pub EndsOnFiles : {I L T Reason : Type 0} → (I → DiskState) → (L → Option (List ℕ)) → (T → SinkState) → Meaning I L T → Option (Job (List ℕ))
     → Option (List ℕ) → SinkState → SinkState → ℕ → Option (Refusal (Bor (List ℕ)) Reason) → Type 0
 EndsOnFiles disk left sink folder job input out0 out1 status None =

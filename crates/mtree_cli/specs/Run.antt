@@ -1,4 +1,4 @@
--- What a run does for the words that it is given.
+-- What a run does for its command line's words.
 use Rattle.std.specs.Prelude.{◌≡◌, ◌⊎◌, ◌<◌, ◌≤◌, ◌+◌, ◌^◌, ℕ, Bool, Option, Some, None, List, [], ◌++◌, length, codes, IfSome, IsTrue}
 use Rattle.std.specs.List.{concat}
 use Rattle.std.specs.Io.KnownBytes.{Appends, Consumes}
@@ -41,7 +41,7 @@ pub record Asked : Type 0 where
   pub limit : ℕ
   pub show : Bool
 
--- the words ask for this scan
+-- the words ask for the scan `asked`
 abbrev pub IsScan : List (List ℕ) → Asked → Type 0
 IsScan words asked = job_of words ≡ Some (job.Scan asked.space asked.limit asked.show)
 
@@ -57,8 +57,8 @@ setting_of asked = record { space = mix_space (kind_of asked.space.metric) asked
 abbrev pub scan_texts : Asked → List ℕ → List (List ℕ)
 scan_texts asked bytes = reply_texts (setting_of asked) asked.show (script asked.space.dim bytes)
 
--- What stands on out when a scan ends with a status: the acknowledged replies, and then `rest`, where `more`
--- are the texts of the other replies.
+-- What is on out when a scan ends with a status: the acknowledged replies, then `rest`. `more` are the texts of the replies that
+-- were not acknowledged.
 pub record Ends (Failed : Type 0) (status : ℕ) (acknowledged more : List (List ℕ)) (rest : List ℕ) : Type 0 where
   pub done : status ≡ 0 → (more ≡ []) × (rest ≡ [])
   pub input : status ≡ 3 → (acknowledged ≡ []) × IsTold Failed rest (codes "fault input\n")
@@ -66,7 +66,7 @@ pub record Ends (Failed : Type 0) (status : ℕ) (acknowledged more : List (List
   pub long : status ≡ 7 → (acknowledged ≡ []) × IsTold Failed rest (codes "fault long\n")
   pub memory : status ≡ 8 → IsTold Failed rest (codes "fault memory\n")
 
--- a scan put the first of these texts, each whole, and then what its status says
+-- a scan put the first of the texts, each whole, and then what its status says
 pub record WritesScan (old new : SinkState) (texts : List (List ℕ)) (status : ℕ) : Type 0 where
   pub acknowledged : List (List ℕ)
   pub more : List (List ℕ)
@@ -75,11 +75,11 @@ pub record WritesScan (old new : SinkState) (texts : List (List ℕ)) (status : 
   pub ends : Ends (Rose old.faults new.faults) status acknowledged more rest
   pub written : Appends old.written new.written (concat acknowledged ++ rest)
 
--- what a run puts that was asked for nothing
+-- the line that a run without a job puts
 abbrev pub usage : List ℕ
 usage = codes "usage: mtree COMMAND INDEX [options]\n"
 
--- a run without a job put the usage line, or where out failed a front of it, or met want of memory
+-- a run without a job put the usage line; or out failed, and a front of the line was put; or memory ran out
 abbrev pub WritesUsage : SinkState → SinkState → ℕ → Type 0
 WritesUsage old new status =
     ((status ≡ 2) × Appends old.written new.written usage)
@@ -103,7 +103,7 @@ new_head space policies limit = record {
 abbrev pub most_objects : ℕ
 most_objects = 16777216
 
--- what a run is to do; nothing where the words have no job
+-- what a run has to do; no task where the words have no job
 pub data Task : Type 0 where
   Scans : Asked → Task
   Makes : Head → Task
@@ -141,8 +141,8 @@ task_of (Some (job.Verify index log (Some other))) = ReportsJoins report.Verdict
 task_of (Some (job.Check index log (Some other))) = ReportsJoins report.Answers
 task_of None = Nothing
 
--- what a run finds or leaves: the index and the other index, what is left of the logs, and what was put to out and to the log's
--- output
+-- what a run finds or leaves: the index and the other index, what is left to read of the logs, and what was put to out and to the
+-- log's output
 pub record Scene : Type 1 where
   pub index : DiskState
   pub other : DiskState
@@ -150,7 +150,7 @@ pub record Scene : Type 1 where
   pub out : SinkState
   pub log_out : SinkState
 
--- what a run does to what it found, where `input` is what was left to read
+-- what a run does to what it found; `input` is what was left to read
 abbrev pub Does : Task → Scene → Scene → Option (List ℕ) → ℕ → Type 0
 Does (Scans asked) a b input status = IfSome input (λ bytes. WritesScan a.out b.out (scan_texts asked bytes) status)
 Does (Makes head) a b input status = Creates head a.index b.index a.out b.out status
@@ -222,7 +222,7 @@ TakesNoOther Carries = Unit {0}
 TakesNoOther (Proves root) = Unit {0}
 TakesNoOther Nothing = Unit {0}
 
--- the task puts no log
+-- the task puts no logs
 abbrev pub PutsNoLog : Task → Type 0
 PutsNoLog (Scans asked) = Unit {0}
 PutsNoLog (Makes head) = Unit {0}
@@ -247,7 +247,7 @@ TakesNoInput (Sessions show) = ⊥
 TakesNoInput (Batches show) = ⊥
 TakesNoInput other = Unit {0}
 
--- the task leaves the index as it is where memory runs out
+-- the task leaves the index as it is when memory runs out
 abbrev pub LeavesAtMemory : Task → Type 0
 LeavesAtMemory (Sessions show) = ⊥
 LeavesAtMemory (Generates asked) = ⊥
@@ -268,8 +268,8 @@ HasTooManyPages Seals disk = IsTrue disk.tells → IsLarge disk.bytes
 HasTooManyPages Carries disk = IsTrue disk.tells → IsLarge disk.bytes
 HasTooManyPages other disk = ⊥
 
--- Some bytes of input and of logs were taken, at most 2 ^ 26 and 2 ^ 30 and a buffer more. Where more than that many were, the status
--- tells it; and it tells it only there, or where the index has too many pages.
+-- The run took at most 2 ^ 26 bytes of input and a buffer more, and at most 2 ^ 30 bytes of logs and a buffer more. Where it took
+-- more than 2 ^ 26 or 2 ^ 30, the status is 7. It is 7 only there, or where the index has too many pages.
 pub record TakesWithin (Large : Type 0) (input0 input1 left0 left1 : Option (List ℕ)) (status : ℕ) : Type 0 where
   pub script_bytes : List ℕ
   pub log_bytes : List ℕ
@@ -284,7 +284,7 @@ pub record TakesWithin (Large : Type 0) (input0 input1 left0 left1 : Option (Lis
 abbrev pub IsScanStatus : ℕ → Type 0
 IsScanStatus n = (n ≡ 0) ⊎ ((n ≡ 3) ⊎ ((n ≡ 4) ⊎ ((n ≡ 7) ⊎ (n ≡ 8))))
 
--- a run ends so and in no other way
+-- the statuses with which a task may end
 abbrev pub IsStatusOf : Task → ℕ → Type 0
 IsStatusOf (Scans asked) n = IsScanStatus n
 IsStatusOf (Makes head) n = (n ≡ 0) ⊎ ((n ≡ 4) ⊎ ((n ≡ 5) ⊎ ((n ≡ 6) ⊎ (n ≡ 8))))

@@ -1,4 +1,4 @@
-// A run on the files that the words name.
+// Runs a job on the files that the words name.
 ghost use Rattle.std.specs.Prelude.{◌≡◌, IfOk};
 ghost use Rattle.job_words.specs.Files.{file_texts};
 ghost use Rattle.job_words.specs.Words.{texts_of};
@@ -13,17 +13,17 @@ use outside_io::{Sink, Source, Status};
 use std::alloc::Global;
 use std::thread::Threads;
 
-/// How a run ended, and what there is to tell of it besides.
+/// How a run ended, and what else there is to tell about it.
 #[derive(Drop)]
 pub struct Ended<'a, Reason> {
     pub status: Status,
-    /// Why the files were not opened, at the status 10.
+    /// Why the files were not opened, at status 10.
     pub refusal: Option<Refusal<&'a str, Reason>>,
-    /// The index whose last fault the system gave a reason for, and the reason.
+    /// The name of the index whose last fault the system gave a reason for, and the reason.
     pub fault: Option<(&'a str, Reason)>,
 }
 
-// The files that are opened for words.
+// Returns the names of the files that the words' job opens.
 fn opened_names(alloc: Global, words: &[String]) -> Result<FileNames<&str>, JobFault>
     ensures { IfOk result (λ names. file_texts names ≡ opened_names (job_of (texts_of words.now))) }
 {
@@ -34,7 +34,7 @@ fn opened_names(alloc: Global, words: &[String]) -> Result<FileNames<&str>, JobF
     }
 }
 
-// What the system said of the last fault of an index, and its name.
+// Returns an index's name and the reason that the system gave for its last fault.
 fn fault_of<'a, F: Folder>(
     name: Option<&'a str>,
     index: &Named<F::Index>,
@@ -48,7 +48,7 @@ fn fault_of<'a, F: Folder>(
     }
 }
 
-// The same of the first of both indexes that has one.
+// Returns the name and the reason of the first of both indexes that has one.
 fn first_fault<'a, F: Folder>(
     names: &FileNames<&'a str>,
     files: &Opened<F::Index, F::LogIn, F::LogOut>,
@@ -59,11 +59,11 @@ fn first_fault<'a, F: Folder>(
     }
 }
 
-/// Runs the job of `words` on the files that they name. `create`, `gen` and `migrate` make the index where it is not there.
+/// Runs the job of `words` on the files that they name. `create`, `gen` and `migrate` make the index where there is none.
 ///
-/// Each index is held against other processes from its opening to the end of the run. The status is 10 where a file could not be
-/// opened, where another process holds an index, where the log to be made begins as an index, or where the file to be made is one
-/// that is read. Then no file was made or emptied, and nothing was written.
+/// Each index is locked against other processes from its opening to the end of the run. The status is 10 in these cases: a file
+/// could not be opened, another process holds an index, the log to be made begins as an index, or the file to be made is a file that
+/// is read. Then no file was made or emptied, and nothing was written.
 pub fn run_on_files<'a, R: Threads + Sync, F: Folder, S: Source, K: Sink>(
     rt: &R,
     alloc: Global,

@@ -5,8 +5,8 @@ use std::process::Abort;
 use std::test::Fail;
 use std::thread::Threads;
 
-// The head and the live slot of an index over points of one coordinate: its root, its height, and its numbers of objects and
-// of pages.
+// Writes the head and the live slot of an index over points of one coordinate: its root, its height, its number of objects and its
+// number of pages.
 fn put_front(file: &mut [u8], root: u8, height: u8, count: u8, pages: u8) {
     place(file, 0, &HEAD);
     place(file, 11, &[1]);
@@ -18,7 +18,7 @@ fn put_front(file: &mut [u8], root: u8, height: u8, count: u8, pages: u8) {
     place(file, 4096 + 31, &[pages]);
 }
 
-// An entry on a page: its id or child, its radius, its distance to the routing point above it, and its point.
+// Writes an entry on a page: its id or child, its radius, its parent distance, and its point.
 fn put_entry(file: &mut [u8], page: usize, place_on: usize, [id, radius, parent, point]: [u8; 4]) {
     let at = page
         .saturating_mul(4096)
@@ -29,7 +29,7 @@ fn put_entry(file: &mut [u8], page: usize, place_on: usize, [id, radius, parent,
     place(file, at.saturating_add(39), &[point]);
 }
 
-// An index with these objects in one leaf.
+// Returns an index with these objects in one leaf.
 fn one_leaf(alloc: Global, points: &[u8]) -> Result<Vec<u8>, AllocError> {
     let mut file = vec![in alloc; 0u8; 16384]?;
     let count = points.len().min(32);
@@ -41,7 +41,7 @@ fn one_leaf(alloc: Global, points: &[u8]) -> Result<Vec<u8>, AllocError> {
     Ok(file)
 }
 
-// An index with the numbers 0 to 32 in two leaves.
+// Returns an index with the numbers 0 to 32 in two leaves.
 fn two_leaves(alloc: Global) -> Result<Vec<u8>, AllocError> {
     let mut file = vec![in alloc; 0u8; 24576]?;
     put_front(&mut file, 5, 1, 33, 6);
@@ -67,7 +67,7 @@ struct Files<'a> {
     logs: &'a [u8],
 }
 
-// Runs a command on two files and on logs, and answers what it put to the log's output.
+// Runs a command on two files and on logs, and returns what it put to the log's output.
 fn check<R: AllocGlobal + Abort + Threads + Sync>(
     rt: &R,
     command: &str,

@@ -5,7 +5,7 @@ use std::process::Abort;
 use std::test::Fail;
 use std::thread::Threads;
 
-// The fields of the pages of a small index: an insert of (3, 4) into an empty one under L1.
+// The fields on the pages of a small index: (3, 4) inserted into an empty index under L1.
 pub const HEAD: [u8; 20] = *b"MTREEIDX\0\x02\x02\x02\x02\x01\0\0\x01\0\0\0";
 
 const FIRST: [u8; 32] = [
@@ -23,14 +23,14 @@ const LEAF: [u8; 44] = [
     0, 0, 0, 0, 0, 0, 0, 3, 0, 0, 0, 4,
 ];
 
-// The frame of the log of `range,7,0,0` on it.
+// The frame of the log of `range,7,0,0` on this index.
 const FRAME: [u8; 69] = [
     0, 0, 0, 0, 0, 0, 0, 61, 0x4d, 0x54, 0x4c, 0x47, 1, 1, 0, 0, 0, 0, 0, 0, 0, 2, 0, 0, 0, 4, 0,
     0, 0, 0, 0, 0, 0, 7, 2, 0, 0, 0, 0, 0, 0, 0, 0, 0, 0, 0, 1, 0, 0, 0, 0, 0, 0, 0, 0, 0, 0, 0, 7,
     0, 0, 0, 1, 0, 0, 0, 4, 1, 2,
 ];
 
-// Puts bytes into a file.
+// Writes bytes into a file.
 pub fn place(file: &mut [u8], at: usize, bytes: &[u8]) {
     for i in 0..bytes.len() {
         if let Some(byte) = file.get_mut(at.saturating_add(i)) {
@@ -39,7 +39,7 @@ pub fn place(file: &mut [u8], at: usize, bytes: &[u8]) {
     }
 }
 
-// The small index.
+// Returns the small index.
 pub fn small_index(alloc: Global) -> Result<Vec<u8>, AllocError> {
     let mut file = vec![in alloc; 0u8; 20480]?;
     place(&mut file, 0, &HEAD);
@@ -49,9 +49,9 @@ pub fn small_index(alloc: Global) -> Result<Vec<u8>, AllocError> {
     Ok(file)
 }
 
-// A run on the small index and on frames of its log: the command; how many frames there are, and of how many bytes; the
-// bytes that are changed in the index and in the last log, by their places; the call from which the disk fails, the call of
-// the logs and the call of out that fail; the status and what is written.
+// A run on the small index and on frames of its log. It has the command; the number of frames, and their length; the bytes that are
+// changed in the index and in the last log, by their places; the call of the disk, of the logs and of out from which each fails; and
+// the status and what is written.
 #[derive(Clone, Copy)]
 struct Case<'a> {
     command: &'a str,
@@ -87,14 +87,14 @@ const CHECK: Case<'static> = Case {
     ..VERIFY
 };
 
-// The shape of the index, which takes no logs.
+// The shape of the index; `shape` takes no logs.
 const SHAPE: Case<'static> = Case {
     command: "shape a.mt",
     output: "height 0\nobjects 1\nnodes 1\n0 1 - -\n",
     ..VERIFY
 };
 
-// The index of a case.
+// Returns the index of the case.
 fn index_of(alloc: Global, case: &Case<'_>) -> Result<MemoryDisk, AllocError> {
     let mut file = small_index(alloc)?;
     if let Some((at, byte)) = case.file_change {
@@ -103,7 +103,7 @@ fn index_of(alloc: Global, case: &Case<'_>) -> Result<MemoryDisk, AllocError> {
     disk_of(alloc, &file, case.disk_stop)
 }
 
-// The logs of a case.
+// Returns the logs of the case.
 fn logs_of(alloc: Global, case: &Case<'_>) -> Result<Vec<u8>, AllocError> {
     let mut logs = Vec::new(alloc);
     let mut last = 0;
@@ -195,7 +195,7 @@ fn logs_that_are_accepted(rt: HostRuntime) -> Result<(), Fail> {
     )
 }
 
-// A byte of the log that is changed, and the lines of `verify`; those of `check` stand behind `file sound`.
+// Checks that changed logs are rejected: a byte of the log, and the lines of `verify`. The lines of `check` follow `file sound`.
 #[test]
 fn logs_that_are_rejected(rt: HostRuntime) -> Result<(), Fail> {
     let rejected: [(usize, u8, &str, &str); 7] = [
@@ -286,7 +286,7 @@ fn a_cut_file_of_logs_and_a_second_frame(rt: HostRuntime) -> Result<(), Fail> {
     )
 }
 
-// An index that is not sound, one that lost its root's page, and one of version 1.
+// Checks that bad files are rejected: one that is not sound, one without its root's page, and one of version 1.
 #[test]
 fn files_that_are_rejected(rt: HostRuntime) -> Result<(), Fail> {
     let cases: [(usize, u8, u8, &str, u8, &str); 3] = [
@@ -329,7 +329,7 @@ fn files_that_are_rejected(rt: HostRuntime) -> Result<(), Fail> {
     Ok(())
 }
 
-// The call from which the disk fails, the call of the logs and the call of out that fail, the status, and what is written.
+// Checks failing devices: the call of the disk, of the logs and of out from which each fails; the status; and what is written.
 #[test]
 fn devices_that_fail(rt: HostRuntime) -> Result<(), Fail> {
     let cases: [(Option<u64>, Option<u64>, Option<u64>, u8, &str); 8] = [

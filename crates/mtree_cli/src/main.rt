@@ -1,4 +1,4 @@
-//! The program: reads the words of its command line and does what they ask for.
+//! The program: reads the words of its command line and does their job.
 #![tactic(auto)]
 
 mod files;
@@ -32,7 +32,7 @@ use std::process::ExitCode;
 use telling::{tell_not_text, tell_of};
 use watched::Watched;
 
-// Why the words could not be read: one is no text, or memory ran out.
+// Maps the error of reading the words: a word is no text, or memory ran out.
 fn words_fault(error: io::Error) -> JobFault {
     match error.kind() {
         ErrorKind::OutOfMemory => JobFault::Memory,
@@ -40,7 +40,7 @@ fn words_fault(error: io::Error) -> JobFault {
     }
 }
 
-// The words after the program's name.
+// Reads the words after the program's name.
 fn read_words(rt: &HostRuntime) -> Result<Vec<String>, JobFault> {
     let mut words = Vec::new(rt.alloc());
     for word in env::args(rt).map_err(words_fault)?.skip(1) {

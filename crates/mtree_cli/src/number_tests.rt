@@ -11,7 +11,7 @@ const FAR: u8 = 1;
 
 const NEAR: u8 = 2;
 
-// A leaf of numbers in order, below a routing point.
+// Writes a leaf of ascending numbers below a routing object.
 fn place_leaf(file: &mut [u8], page: u8, numbers: (u8, u8), routing: u8) {
     let (first, end) = numbers;
     let start = usize::from(page) * 4096;
@@ -25,8 +25,8 @@ fn place_leaf(file: &mut [u8], page: u8, numbers: (u8, u8), routing: u8) {
     }
 }
 
-// The index of the numbers 0 to 32 under L1 as inserts make it: a root on page 6 with the routing points 7 and 24, each of
-// radius 8, above the numbers up to 15 on page 4 and the others on page 5.
+// Returns the index of the numbers 0 to 32 under L1, as inserts make it. Its root on page 6 has the routing points 7 and 24, each
+// with radius 8. The numbers up to 15 are on page 4, and the others on page 5.
 fn index_of_numbers(alloc: Global, generation: u8, radius: u8) -> Result<Vec<u8>, AllocError> {
     let mut file = vec![in alloc; 0u8; 28672]?;
     place(&mut file, 0, &HEAD);
@@ -51,7 +51,7 @@ fn index_of_numbers(alloc: Global, generation: u8, radius: u8) -> Result<Vec<u8>
     Ok(file)
 }
 
-// A record: a page and its marks, each so many times.
+// A record: a page, and its marks, each with its number of repetitions.
 type Record<'a> = (u8, &'a [(u8, u8)]);
 
 // Adds a record to a log.
@@ -69,7 +69,7 @@ fn push_record(log: &mut Vec<u8>, record: &Record<'_>) -> Result<(), AllocError>
     Ok(())
 }
 
-// The frame of a log of the range of 2 about x, with three answers, of which the first is x and the others follow it.
+// Returns the frame of a log of the range query of radius 2 about `x`. It has three answers: `x` and two that follow it.
 fn frame_of(
     alloc: Global,
     x: u8,
@@ -92,7 +92,7 @@ fn frame_of(
     Ok(frame)
 }
 
-// Runs a command on the index of numbers and on a frame.
+// Runs a command on the index of numbers and a frame.
 fn check<R: AllocGlobal + Abort + Threads + Sync>(
     rt: &R,
     command: &str,
@@ -115,7 +115,7 @@ const CHECK: &str = "check a.mt --log a.log";
 
 const ACCEPTED: (u8, &str) = (0, "frame 0 accepted\nlog accepted, file not audited\n");
 
-// The least marks of the range of 2 about 0.
+// The least marks of the range query of radius 2 about 0.
 const ROOT: Record<'static> = (6, &[(NEAR, 1), (FAR, 1)]);
 
 const LEAF: Record<'static> = (4, &[(NEAR, 3), (SKIP, 9), (FAR, 4)]);
@@ -180,7 +180,7 @@ fn a_later_state_and_a_radius_too_small(rt: HostRuntime) -> Result<(), Fail> {
     let frame = frame_of(alloc, 0, [0, 1, 2], &least)?;
     let other = (1, "frame 0 rejected otherstate 34 6 35 6\nlog rejected\n");
     check(&rt, VERIFY, index_of_numbers(alloc, 35, 8)?, &frame, other)?;
-    // The range of 2 about 32 needs only the second leaf.
+    // The range query of radius 2 about 32 needs only the second leaf.
     let last: [Record<'_>; 2] = [
         (6, &[(FAR, 1), (NEAR, 1)]),
         (5, &[(FAR, 3), (SKIP, 11), (NEAR, 3)]),

@@ -37,13 +37,13 @@ use session_run::laws::turns_are_their_meaning;
 use std::alloc::Global;
 use std::thread::Threads;
 
-/// The line of words without a job.
+/// The line for words without a job.
 pub const USAGE: &[u8] = b"usage: mtree COMMAND INDEX [options]\n";
 
 /// The greatest limit of an index.
 const MOST_OBJECTS: u32 = 16_777_216;
 
-// The head of a new file.
+// Returns the head of a new file.
 fn new_head(space: SpaceName, policies: PolicyNames, limit: u32) -> Head
     requires space { IsLawfulSpace space }
     requires limit { IsLimit limit }
@@ -60,15 +60,15 @@ fn new_head(space: SpaceName, policies: PolicyNames, limit: u32) -> Head
     }
 }
 
-/// Does what the words after the program's name ask for, and answers the status.
+/// Does the job of the words after the program's name, and returns the status.
 ///
-/// `scan` runs the script of `input` on a plain list. `create` makes an empty index of `index`, `gen` one of generated rows, and `migrate`
-/// one of the objects of `other`, a file of version 1. `session` runs the script of `input` on `index` and puts the log of each query to
-/// `log_out`, and `batch` runs its queries by several threads. `shape` writes the shape of the tree, and `audit` tells whether it is sound;
-/// `verify` judges the logs of `log_in` by it, and `check` does both. `join` joins `index` with `other` and puts its log to `log_out`; with
-/// `--other`, `verify` and `check` take join logs and both indexes. `seal` writes the digest of the whole file of `index`; `proof` with an
-/// index puts to `log_out` each log of `log_in` with the pages that it names, and with a digest judges such carried logs of `log_in` by it
-/// alone.
+/// `scan` runs the script of `input` on a plain list. `create` makes `index` an empty index. `gen` makes it an index of generated
+/// rows. `migrate` makes it an index of the objects of `other`, a file of version 1. `session` runs the script of `input` on `index`
+/// and puts the log of each query to `log_out`. `batch` runs the script's queries by several threads. `shape` writes the shape of
+/// the tree. `audit` tells whether it is sound. `verify` judges the logs of `log_in` by it, and `check` does both. `join` joins
+/// `index` with `other` and puts its log to `log_out`. With `--other`, `verify` and `check` take join logs and both indexes. `seal`
+/// writes the root digest of the whole file of `index`. `proof` with an index puts each log of `log_in` to `log_out` with the pages
+/// that it names. `proof` with a digest judges such carried logs of `log_in` by the digest alone.
 pub fn run<R: Threads + Sync, D: SharedDisk, E: Disk, S: Source, L: Source, K: Sink, T: Sink>(
     rt: &R,
     alloc: Global,
@@ -86,25 +86,26 @@ pub fn run<R: Threads + Sync, D: SharedDisk, E: Disk, S: Source, L: Source, K: S
         (record { index = D.state index.new; other = E.state other.new; left = L.left log_in.new; out = K.state out.new; log_out = T.state log_out.new })
         (S.left input.old) result.0 }
 
-    // What `check` says of a file and of its logs is so: no fault is soundness, and a complete log has the plain scan's answers.
+    // What `check` says of a file and of its logs is true: no fault means soundness, and a complete log has the plain scan's
+    // answers.
     ensures check_is_true { (file : List ℕ) → FaultlessIsComplete file }
     ensures join_check_is_true { (left right : Tree) → IsOpened left → IsOpened right → JoinFaultlessIsComplete left right }
 
-    // A frame that is written proved has an accepted carried log, and this is what such a log shows; and a sound file's carried log of
-    // a sound log is accepted.
+    // A frame reported as proved has an accepted carried log, and this is what such a log shows. A sound file's carried log of a
+    // sound log is accepted.
     ensures carried_is_true { AcceptedShow }
     ensures carried_is_accepted { CarriedLogsAreAccepted }
 
-    // What the turns of a session are: where the file stands in no command's way, its replies and its objects are the plain
-    // list's; and the least log of a query is sound.
+    // What the turns of a session are: where the file prevents no command, its replies and its objects are the plain list's. The
+    // least log of a query is sound.
     ensures session_is_plain { TurnsAreTheirMeaning }
     ensures logs_are_sound { LeastLogsAreSound }
 
-    // There are no other answers.
+    // These are the only statuses.
     ensures statuses { IsStatusOf (task_of (job_of (texts_of words.now))) result.0 }
 
-    // Want of memory leaves the index as it is, but for one that a session or a load has changed; no run changes the other index; and
-    // words without a script, without an index, without logs, without another index or without a log to put take none.
+    // When memory runs out, the index stays as it is, except after a session or a load that changed it. No run changes the other
+    // index. A job that needs no script, no index, no logs, no other index or no log output does not touch it.
     ensures memory { LeavesAtMemory (task_of (job_of (texts_of words.now))) → result.0 ≡ 8 → IsUnchanged (D.state index.old) (D.state index.new) }
     ensures other_same { IsUnchanged (E.state other.old) (E.state other.new) }
     ensures index { TakesNoIndex (task_of (job_of (texts_of words.now))) → index.new ≡ index.old }
@@ -114,7 +115,7 @@ pub fn run<R: Threads + Sync, D: SharedDisk, E: Disk, S: Source, L: Source, K: S
     ensures log_out { PutsNoLog (task_of (job_of (texts_of words.now))) → log_out.new ≡ log_out.old }
     ensures kept { PutsLogLast (task_of (job_of (texts_of words.now))) → result.0 ≢ 0 → result.0 ≢ 4 → log_out.new ≡ log_out.old }
 
-    // A failed read or write is told only where the object's count of faults rose.
+    // A failed read or write is reported only where the device's count of faults rose.
     ensures input { result.0 ≡ 3 → Rose (S.faults input.old) (S.faults input.new) ⊎ Rose (L.faults log_in.old) (L.faults log_in.new) }
     ensures output { PutsNoLog (task_of (job_of (texts_of words.now))) → result.0 ≡ 4 → Rose (K.state out.old).faults (K.state out.new).faults }
     ensures either_output { result.0 ≡ 4 → Rose (K.state out.old).faults (K.state out.new).faults
@@ -123,18 +124,18 @@ pub fn run<R: Threads + Sync, D: SharedDisk, E: Disk, S: Source, L: Source, K: S
     ensures either_disk { result.0 ≡ 5 → Rose (D.state index.old).faults (D.state index.new).faults
         ⊎ Rose (E.state other.old).faults (E.state other.new).faults }
 
-    // At most 2 ^ 26 bytes of input, 2 ^ 30 of logs and a buffer are taken; too much is told where it was more than those, and else only
-    // where the index has too many pages.
+    // A run takes at most 2 ^ 26 bytes of input and 2 ^ 30 of logs, and a buffer more of each. Status 7 comes where it took more
+    // than that, and otherwise only where the index has too many pages.
     ensures long { TakesWithin (HasTooManyPages (task_of (job_of (texts_of words.now))) (D.state index.old)) (S.left input.old)
         (S.left input.new) (L.left log_in.old) (L.left log_in.new) result.0 }
 
     // A scan that is done has taken all input.
     ensures end { (asked : Asked) → IsScan (texts_of words.now) asked → result.0 ≡ 0 → IsAtEnd (S.left input.new) }
 
-    // With no fault and an input within its limit a scan is done, but for want of memory.
+    // With no fault and an input within its limit a scan is done, unless memory runs out.
     ensures complete { (asked : Asked) → IsScan (texts_of words.now) asked → IfSome (S.left input.old) (λ bytes. length bytes ≤ 2 ^ 26 →
         ¬ Rose (S.faults input.old) (S.faults input.new) → ¬ Rose (K.state out.old).faults (K.state out.new).faults → (result.0 ≡ 0) ⊎ (result.0 ≡ 8)) }
-    // So is a session on a sound file, where also its index and the log's output did not fail.
+    // The same holds for a session on a sound file, where its index and the log's output did not fail either.
     ensures complete_session { IsSession (texts_of words.now) → IsComplete (S.left input.old) (D.state index.old)
         (Rose (S.faults input.old) (S.faults input.new) ⊎ (Rose (D.state index.old).faults (D.state index.new).faults
         ⊎ (Rose (K.state out.old).faults (K.state out.new).faults ⊎ Rose (T.state log_out.old).faults (T.state log_out.new).faults))) result.0 }

@@ -10,7 +10,7 @@ use std::process::Abort;
 use std::test::Fail;
 use std::thread::Threads;
 
-// What a run is given beside its indexes, and the call of its input, of its logs and of its output that fails.
+// The input of a run besides its indexes, and the call of its input, of its logs and of its output that fails.
 #[derive(Clone, Copy)]
 pub struct Given<'a> {
     pub words: &'a str,
@@ -21,7 +21,7 @@ pub struct Given<'a> {
     pub out_fails: Option<u64>,
 }
 
-// What a run left: its status, and what stands on its outputs.
+// The result of a run: its status, and what is on its outputs.
 #[derive(Drop)]
 pub struct Ran {
     pub status: Status,
@@ -29,7 +29,7 @@ pub struct Ran {
     pub log: Vec<u8>,
 }
 
-// Words that are given this input, on devices of which none fails.
+// Returns a run of `words` on the input `input`, on devices that never fail.
 pub fn with_input<'a>(words: &'a str, input: &'a str) -> Given<'a> {
     Given {
         words,
@@ -41,7 +41,7 @@ pub fn with_input<'a>(words: &'a str, input: &'a str) -> Given<'a> {
     }
 }
 
-// Words that are given these logs.
+// Returns a run of `words` on the logs `logs`.
 pub fn with_logs<'a>(words: &'a str, logs: &'a [u8]) -> Given<'a> {
     Given {
         logs,
@@ -49,14 +49,14 @@ pub fn with_logs<'a>(words: &'a str, logs: &'a [u8]) -> Given<'a> {
     }
 }
 
-// A disk that holds these bytes, and from one call on fails.
+// Returns a disk that holds `bytes` and fails from the call `stop` on.
 pub fn disk_of(alloc: Global, bytes: &[u8], stop: Option<u64>) -> Result<MemoryDisk, AllocError> {
     let bytes = bytes.to_vec(alloc)?;
     let room = (bytes.len() as u64).max(65536);
     MemoryDisk::new(alloc, bytes, room, 1_000_000, Vec::new(alloc), stop)
 }
 
-// The words of a line, cut at its spaces.
+// Splits a line into words at its spaces.
 pub fn words(alloc: Global, line: &str) -> Result<Vec<String>, AllocError> {
     let mut words = Vec::new(alloc);
     for word in line.split(' ') {
@@ -65,7 +65,7 @@ pub fn words(alloc: Global, line: &str) -> Result<Vec<String>, AllocError> {
     Ok(words)
 }
 
-// The calls that fail: none or one.
+// Returns the list of the calls that fail: none or one.
 fn fails(alloc: Global, call: Option<u64>) -> Result<Vec<u64>, AllocError> {
     let mut fails = Vec::new(alloc);
     if let Some(call) = call {
@@ -110,7 +110,7 @@ pub fn run_on<R: Threads + Sync, D: SharedDisk>(
     })
 }
 
-// Runs words on two indexes, looks at the status and at what is written, and gives what is put to the log's output.
+// Runs words on two indexes, checks the status and what is written, and returns what is put to the log's output.
 pub fn check_both<R: AllocGlobal + Abort + Threads + Sync, D: SharedDisk>(
     rt: &R,
     given: &Given<'_>,
@@ -124,7 +124,7 @@ pub fn check_both<R: AllocGlobal + Abort + Threads + Sync, D: SharedDisk>(
     Ok(ran.log)
 }
 
-// The same on one index.
+// Runs words on one index, checks the status and what is written, and returns what is put to the log's output.
 pub fn check_run<R: AllocGlobal + Abort + Threads + Sync, D: SharedDisk>(
     rt: &R,
     given: &Given<'_>,
@@ -135,7 +135,7 @@ pub fn check_run<R: AllocGlobal + Abort + Threads + Sync, D: SharedDisk>(
     check_both(rt, given, index, &mut other, ended)
 }
 
-// Runs several on one index, one after another: their words, their inputs and how they end.
+// Runs several commands on one index, one after another, with their words, their inputs and their expected ends.
 pub fn check_runs<R: AllocGlobal + Abort + Threads + Sync, D: SharedDisk>(
     rt: &R,
     index: &mut D,

@@ -19,7 +19,7 @@ use plain_scan::{Scan, Stop, run_script};
 use rows_text::read_script;
 use std::alloc::Global;
 
-// The space of a name.
+// Returns the space with the name `name`.
 fn space_of(name: SpaceName) -> MixSpace
     requires { IsLawfulSpace name }
     ensures kind { mix_kind result ≡ kind_of name.metric }
@@ -31,7 +31,7 @@ fn space_of(name: SpaceName) -> MixSpace
     }
 }
 
-// Runs a script that was read whole.
+// Runs a script that is already read.
 fn run_bytes<K: Sink>(
     alloc: Global,
     scan: &Scan<MixSpace>,
@@ -61,9 +61,8 @@ fn run_bytes<K: Sink>(
     }
 }
 
-/// Runs the script of `input` on a plain list of at most `limit` objects, and writes each reply to `out`. Status 3: the
-/// input could not be read; 4: the replies could not be written; 7: the input is longer than 2 ^ 26 bytes; 8: want of
-/// memory.
+/// Runs the script of `input` on a plain list of at most `limit` objects, and writes each reply to `out`. Status 3: the input could
+/// not be read; 4: the replies could not be written; 7: the input is longer than 2 ^ 26 bytes; 8: memory ran out.
 pub fn run_scan<S: Source, K: Sink>(
     alloc: Global,
     space: SpaceName,
@@ -74,18 +73,18 @@ pub fn run_scan<S: Source, K: Sink>(
 ) -> Status
     requires space { IsLawfulSpace space }
     requires limit { IsLimit limit }
-    // The replies are those of the plain list, and what follows them is what the status says.
+    // The replies are those of the plain list. What follows them is what the status says.
     ensures wrote { IfSome (S.left input.old) (λ bytes. WritesScan (K.state out.old) (K.state out.new)
         (scan_texts (record { space = space; limit = limit; show = show_tags }) bytes) result.0) }
     ensures statuses { IsScanStatus result.0 }
-    // A failed read or write is told only where the object's count of faults rose.
+    // A failed read or write is reported only where the device's count of faults rose.
     ensures input { result.0 ≡ 3 → Rose (S.faults input.old) (S.faults input.new) }
     ensures output { result.0 ≡ 4 → Rose (K.state out.old).faults (K.state out.new).faults }
-    // Too long an input is told exactly where more than 2 ^ 26 bytes were taken.
+    // Status 7 comes exactly where more than 2 ^ 26 bytes were taken.
     ensures long { TakesUpTo (2 ^ 26) (S.left input.old) (S.left input.new) (result.0 ≡ 7) }
     // A scan that is done has taken all input.
     ensures end { result.0 ≡ 0 → IsAtEnd (S.left input.new) }
-    // With no fault and an input within its limit a scan is done, but for want of memory.
+    // With no fault and an input within its limit a scan is done, unless memory runs out.
     ensures complete { IfSome (S.left input.old) (λ bytes. length bytes ≤ 2 ^ 26 →
         ¬ Rose (S.faults input.old) (S.faults input.new) → ¬ Rose (K.state out.old).faults (K.state out.new).faults → (result.0 ≡ 0) ⊎ (result.0 ≡ 8)) }
     ensures counts { (S.faults input.old ≤ S.faults input.new) × ((K.state out.old).faults ≤ (K.state out.new).faults) }

@@ -29,7 +29,7 @@ use session_run::{Stop, session};
 use std::alloc::Global;
 use std::thread::Threads;
 
-// Ends a session that stopped for this reason.
+// Ends a session that stopped for the reason `why`.
 fn end_stopped<K: Sink>(alloc: Global, why: Stop, out: &mut K) -> Status
     ensures ended { HasEnded why (K.state out.old) (K.state out.new) result.0 }
     ensures later { (K.state out.old).faults ≤ (K.state out.new).faults }
@@ -45,7 +45,7 @@ fn end_stopped<K: Sink>(alloc: Global, why: Stop, out: &mut K) -> Status
     }
 }
 
-// Runs a script that was read whole on an opened index.
+// Runs a script that is already read, on an opened index.
 fn run_opened<R: Threads + Sync, D: Disk, K: Sink, T: Sink>(
     rt: &R,
     alloc: Global,
@@ -88,7 +88,7 @@ fn run_opened<R: Threads + Sync, D: Disk, K: Sink, T: Sink>(
     }
 }
 
-// Opens the index, and runs a script that was read whole on it.
+// Opens the index, and runs a script on it that is already read.
 fn run_on_index<R: Threads + Sync, D: Disk, K: Sink, T: Sink>(
     rt: &R,
     alloc: Global,
@@ -135,10 +135,10 @@ fn run_on_index<R: Threads + Sync, D: Disk, K: Sink, T: Sink>(
     )
 }
 
-/// Runs the script of `input` on the index, and writes each reply to `out` and the log of each query to `log_out`. Loads share
-/// their work among `workers` threads, 1 to 64. Status 3: the input could not be read; 4: a reply or a log could not be written;
-/// 5: the disk failed; 6: the file is no index of version 2; 7: the input is longer than 2 ^ 26 bytes; 8: want of memory; 9: a
-/// page of a file that is not sound is damaged.
+/// Runs the script of `input` on the index. Writes each reply to `out` and the log of each query to `log_out`. Loads share their
+/// work among `workers` threads, 1 to 64. Status 3: the input could not be read; 4: a reply or a log could not be written; 5: the
+/// disk failed; 6: the file is no index of version 2; 7: the input is longer than 2 ^ 26 bytes; 8: memory ran out; 9: a page of a
+/// file that is not sound is damaged.
 pub fn run_session<R: Threads + Sync, D: Disk, S: Source, K: Sink, T: Sink>(
     rt: &R,
     alloc: Global,
@@ -154,12 +154,12 @@ pub fn run_session<R: Threads + Sync, D: Disk, S: Source, K: Sink, T: Sink>(
     ensures runs { RunsSession show_tags (S.left input.old) (D.state index.old) (D.state index.new) (K.state out.old)
         (K.state out.new) (T.state log_out.old) (T.state log_out.new) result.0 }
     ensures statuses { IsSessionStatus result.0 }
-    // A failed read or write is told only where the object's count of faults rose.
+    // A failed read or write is reported only where the device's count of faults rose.
     ensures input { result.0 ≡ 3 → Rose (S.faults input.old) (S.faults input.new) }
     ensures output { result.0 ≡ 4 → Rose (K.state out.old).faults (K.state out.new).faults ⊎ Rose (T.state log_out.old).faults (T.state log_out.new).faults }
-    // Too long an input is told exactly where more than 2 ^ 26 bytes were taken.
+    // Status 7 comes exactly where more than 2 ^ 26 bytes were taken.
     ensures long { TakesUpTo (2 ^ 26) (S.left input.old) (S.left input.new) (result.0 ≡ 7) }
-    // With no fault and an input within its limit a session on a sound file is done, but for want of memory.
+    // With no fault and an input within its limit a session on a sound file is done, unless memory runs out.
     ensures complete { IsComplete (S.left input.old) (D.state index.old)
         (Rose (S.faults input.old) (S.faults input.new) ⊎ (Rose (D.state index.old).faults (D.state index.new).faults
         ⊎ (Rose (K.state out.old).faults (K.state out.new).faults ⊎ Rose (T.state log_out.old).faults (T.state log_out.new).faults))) result.0 }

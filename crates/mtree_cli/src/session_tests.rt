@@ -10,7 +10,7 @@ use std::thread::Threads;
 // Words that make an index of numbers.
 const CREATE: &str = "create a.mt --metric l1 --dim 1";
 
-// Sessions on new indexes: the words that make them, those of the session, its script and its replies.
+// Sessions on new indexes: the words that make the index, the session's words, its script and its replies.
 #[test]
 fn sessions(rt: HostRuntime) -> Result<(), Fail> {
     let plane = "create a.mt --metric l1 --dim 2";
@@ -64,7 +64,7 @@ fn sessions(rt: HostRuntime) -> Result<(), Fail> {
     Ok(())
 }
 
-// A session's log shows its answers, and the index goes on in a second session.
+// Checks that a session's log shows its answers, and that the index goes on in a second session.
 #[test]
 fn a_log_of_a_session(rt: HostRuntime) -> Result<(), Fail> {
     let mut index = disk_of(rt.alloc(), &[], None)?;
@@ -91,7 +91,7 @@ fn a_log_of_a_session(rt: HostRuntime) -> Result<(), Fail> {
     check_runs(&rt, &mut index, &runs)
 }
 
-// The inserts of the numbers from 0 on, and their replies.
+// Returns inserts of the first `count` numbers from 0 on, and their replies.
 fn inserts(alloc: Global, count: u32) -> Result<(String, String), Fail> {
     let mut script = String::new(alloc);
     let mut replies = String::new(alloc);
@@ -102,7 +102,7 @@ fn inserts(alloc: Global, count: u32) -> Result<(String, String), Fail> {
     Ok((script, replies))
 }
 
-// The hits of the numbers from 0 on, from the point 0.
+// Returns the hits of the first `count` numbers from 0 on, from the point 0.
 fn hits(alloc: Global, count: u32) -> Result<String, Fail> {
     let mut lines = format!(in alloc; "hits {count}\n")?;
     for i in 0..count {
@@ -125,7 +125,7 @@ fn insert_all<R: AllocGlobal + Abort + Threads + Sync, D: SharedDisk>(
     check_runs(rt, index, &runs)
 }
 
-// The first three of the index of numbers, and the log that shows them.
+// Checks a query for the first three numbers of the index, and the log that shows them.
 fn check_range<R: AllocGlobal + Abort + Threads + Sync, D: SharedDisk>(
     rt: &R,
     index: &mut D,
@@ -142,7 +142,8 @@ fn check_range<R: AllocGlobal + Abort + Threads + Sync, D: SharedDisk>(
     Ok(logs)
 }
 
-// The 33rd insert splits the leaf. Its tree is searched, and a log is refused after a later insert, which uses free pages again.
+// Checks that the 33rd insert splits the leaf. The tree is searched, and a log is refused after a later insert, which uses free
+// pages again.
 #[test]
 fn a_leaf_is_split(rt: HostRuntime) -> Result<(), Fail> {
     let alloc = rt.alloc();
@@ -167,7 +168,7 @@ fn a_leaf_is_split(rt: HostRuntime) -> Result<(), Fail> {
     Ok(())
 }
 
-// All objects are loaded at once, or are all the same.
+// Checks loading all objects at once, and equal objects.
 #[test]
 fn a_load_and_equal_points(rt: HostRuntime) -> Result<(), Fail> {
     let alloc = rt.alloc();
@@ -208,7 +209,7 @@ fn a_load_and_equal_points(rt: HostRuntime) -> Result<(), Fail> {
     Ok(())
 }
 
-// A file of which a byte is changed: its place, the byte; the script of the session on it, its status and what is written.
+// A file with a changed byte: its place and the byte; the script of the session on it, its status and what is written.
 type Hostile = (usize, u8, &'static str, u8, &'static str);
 
 const HOSTILE: [Hostile; 11] = [
@@ -237,7 +238,7 @@ const HOSTILE: [Hostile; 11] = [
     (9, 3, "range,7,0,0\n", 6, "fault notindex version\n"),
 ];
 
-// A session on files that are not sound.
+// Runs sessions on files that are not sound.
 #[test]
 fn hostile_files(rt: HostRuntime) -> Result<(), Fail> {
     let alloc = rt.alloc();
@@ -256,7 +257,8 @@ fn hostile_files(rt: HostRuntime) -> Result<(), Fail> {
     Ok(())
 }
 
-// An index of numbers whose root on page 3 has six entries, each at 0 and with the same child, and page 4 a leaf of six zeros.
+// Returns an index of numbers. Its root on page 3 has six entries, each at 0 and with the child `child`. Page 4 is a leaf of six
+// zeros.
 fn repeating(alloc: Global, child: u8) -> Result<Vec<u8>, AllocError> {
     let mut file = vec![in alloc; 0u8; 20480]?;
     place(&mut file, 0, &HEAD);
@@ -277,7 +279,7 @@ fn repeating(alloc: Global, child: u8) -> Result<Vec<u8>, AllocError> {
     Ok(file)
 }
 
-// A page that is reached more than once.
+// Checks a page that is reached more than once.
 #[test]
 fn pages_that_repeat(rt: HostRuntime) -> Result<(), Fail> {
     let alloc = rt.alloc();
@@ -298,7 +300,7 @@ fn pages_that_repeat(rt: HostRuntime) -> Result<(), Fail> {
     Ok(())
 }
 
-// Input and out that fail: no object is there, or the object whose reply could not be put.
+// Checks input and out that fail: no object is there, or only the object whose reply could not be put.
 #[test]
 fn devices_of_a_session_fail(rt: HostRuntime) -> Result<(), Fail> {
     let cases: [(Option<u64>, Option<u64>, u8, &str, &str); 2] = [
@@ -320,7 +322,7 @@ fn devices_of_a_session_fail(rt: HostRuntime) -> Result<(), Fail> {
     Ok(())
 }
 
-// The file of the numbers from 0 on, so many of them.
+// Returns the file of the first `count` numbers from 0 on.
 fn numbers(rt: &(impl AllocGlobal + Abort + Threads + Sync), count: u32) -> Result<Vec<u8>, Fail> {
     let alloc = rt.alloc();
     let mut index = disk_of(alloc, &[], None)?;
@@ -328,7 +330,7 @@ fn numbers(rt: &(impl AllocGlobal + Abort + Threads + Sync), count: u32) -> Resu
     Ok(index.bytes().to_vec(alloc)?)
 }
 
-// Runs a session, and gives its status and what it wrote.
+// Runs a session, and returns its status and what it wrote.
 fn run_session<R: AllocGlobal + Abort + Threads + Sync, D: SharedDisk>(
     rt: &R,
     index: &mut D,
@@ -339,7 +341,7 @@ fn run_session<R: AllocGlobal + Abort + Threads + Sync, D: SharedDisk>(
     run_on(rt, rt.alloc(), &given, 100, index, &mut other)
 }
 
-// Two more inserts, the second of which splits the leaf, on a disk that stops: how many are acknowledged.
+// Makes two more inserts on a disk that stops, and returns how many are acknowledged. The second insert splits the leaf.
 fn insert_two<R: AllocGlobal + Abort + Threads + Sync, D: SharedDisk>(
     rt: &R,
     index: &mut D,
@@ -358,7 +360,7 @@ fn insert_two<R: AllocGlobal + Abort + Threads + Sync, D: SharedDisk>(
     Ok(1)
 }
 
-// A file is sound and has so many objects, or one more.
+// Checks that a file is sound and has `count` objects, or one more.
 fn check_left<R: AllocGlobal + Abort + Threads + Sync, D: SharedDisk>(
     rt: &R,
     index: &mut D,
@@ -375,7 +377,7 @@ fn check_left<R: AllocGlobal + Abort + Threads + Sync, D: SharedDisk>(
     Ok(())
 }
 
-// A disk that stops at any of its calls leaves the objects that were acknowledged, or one more.
+// Checks that a disk that stops at any of its calls leaves the objects that were acknowledged, or one more.
 #[test]
 fn a_session_is_stopped(rt: HostRuntime) -> Result<(), Fail> {
     let alloc = rt.alloc();

@@ -1,4 +1,4 @@
-// What the program tells its user on standard error: why a run did not do what was asked. Its results stand on standard output.
+// What the program writes for its user on standard error: why a run did not do what was asked. Its results are on standard output.
 
 use crate::files::Ended;
 use crate::watched::Replies;
@@ -6,7 +6,7 @@ use job_words::{Complaint, complaint_on};
 use named_files::{Denial, Refusal};
 use std::io;
 
-// The first line of a text of several lines, without the word that clap begins with.
+// Returns the first line of a text, without the word that clap begins with.
 fn first_line(text: &str) -> &str {
     let line = match text.split_once('\n') {
         Some((line, _)) => line,
@@ -18,7 +18,7 @@ fn first_line(text: &str) -> &str {
     }
 }
 
-// Tells why a file was not opened.
+// Says why a file was not opened.
 fn tell_denied(rt: &HostRuntime, name: &str, why: &Denial<io::Error>) {
     let _ = match why {
         Denial::System(reason) => eprintln!(rt; "mtree: {}: {}", name, reason),
@@ -30,7 +30,7 @@ fn tell_denied(rt: &HostRuntime, name: &str, why: &Denial<io::Error>) {
     };
 }
 
-// Tells why the files of a run were not opened.
+// Says why the files of a run were not opened.
 fn tell_refused(rt: &HostRuntime, refusal: &Refusal<&str, io::Error>) {
     match refusal {
         Refusal::Denied { name, why } => tell_denied(rt, name, why),
@@ -43,7 +43,7 @@ fn tell_refused(rt: &HostRuntime, refusal: &Refusal<&str, io::Error>) {
     }
 }
 
-// Tells what is wrong with words that are no job.
+// Says what is wrong with words that are no job.
 fn tell_complaint(rt: &HostRuntime, words: &[String]) {
     let Ok(Some(complaint)) = complaint_on(rt.alloc(), words) else {
         return;
@@ -57,7 +57,7 @@ fn tell_complaint(rt: &HostRuntime, words: &[String]) {
     };
 }
 
-// Tells how many commands of a script were refused, and which was the first.
+// Says how many commands of a script were refused, and which was the first.
 fn tell_replies(rt: &HostRuntime, replies: &Replies) {
     if let Some(first) = &replies.first {
         let _ = eprintln!(rt;
@@ -70,13 +70,13 @@ fn tell_replies(rt: &HostRuntime, replies: &Replies) {
     }
 }
 
-/// Tells the user why the words are no text.
+/// Says that a word is no text.
 pub fn tell_not_text(rt: &HostRuntime) {
     let _ = eprintln!(rt; "mtree: a word of the command line is no UTF-8 text");
 }
 
-/// Tells the user why a run did not do what was asked: why a file was refused, what is wrong with the words, what the system says of a
-/// failed index, and how many commands were refused.
+/// Says why a run did not do what was asked: why a file was refused, what is wrong with the words, what the system says of a failed
+/// index, and how many commands were refused.
 pub fn tell_of(
     rt: &HostRuntime,
     words: &[String],

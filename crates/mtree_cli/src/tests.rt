@@ -216,7 +216,7 @@ fn named_files(rt: HostRuntime) -> Result<(), Fail> {
     Ok(())
 }
 
-// The call of the input and the call of the output that fails, the status, and what is written.
+// Checks faults: the call of the input and of the output that fails, the status, and what is written.
 #[test]
 fn faults(rt: HostRuntime) -> Result<(), Fail> {
     let cases: [(Option<u64>, Option<u64>, u8, &str); 4] = [

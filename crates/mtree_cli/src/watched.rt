@@ -1,13 +1,13 @@
 use outside_io::{Failed, Sink};
 
-/// What the replies that passed a sink tell the user at the end. A reply is one put; the line of a fault is none.
+/// What is known at the end of the replies that passed a sink. A reply is one put; the line of a fault is no reply.
 #[derive(Clone, Copy)]
 pub struct Replies {
-    /// How many there were.
+    /// The number of replies.
     pub count: u64,
-    /// How many of them refuse their command.
+    /// The number of replies that refuse their command.
     pub refused: u64,
-    /// The first of those.
+    /// The first of these refusals.
     pub first: Option<FirstRefusal>,
     records: u64,
 }
@@ -22,7 +22,7 @@ pub struct FirstRefusal {
 }
 
 impl FirstRefusal {
-    /// The reply, without the end of its line.
+    /// Returns the reply, without the end of its line.
     pub fn text(&self) -> &str {
         match self.line.get(..self.length) {
             Some(line) => str::from_utf8(line).unwrap_or("refused"),
@@ -31,7 +31,7 @@ impl FirstRefusal {
     }
 }
 
-// The front of a reply, up to the end of its first line.
+// Keeps the front of a reply, up to the end of its first line.
 fn first_line(record: u64, reply: &[u8]) -> FirstRefusal {
     let mut line = [0; 40];
     let mut length = 0;
@@ -49,7 +49,7 @@ fn first_line(record: u64, reply: &[u8]) -> FirstRefusal {
     }
 }
 
-// How many rows a load took, by its reply: those of `loaded N`, and none otherwise.
+// Returns the number of rows that a load took, from its reply `loaded N`; 0 for any other reply.
 fn loaded_rows(reply: &[u8]) -> u64 {
     let Some(digits) = reply.strip_prefix(b"loaded ") else {
         return 0;
@@ -67,7 +67,7 @@ fn loaded_rows(reply: &[u8]) -> u64 {
 }
 
 impl Replies {
-    /// No reply yet.
+    /// Returns the counts before the first reply.
     pub fn none() -> Self {
         Replies {
             count: 0,
@@ -77,7 +77,7 @@ impl Replies {
         }
     }
 
-    // Takes in one reply. Up to the first refusal a command is one record, and a load has one more for each of its rows.
+    // Counts one reply. Up to the first refusal a command is one record, and a load has one more for each of its rows.
     fn note(&mut self, reply: &[u8]) {
         if reply.starts_with(b"fault ") {
             return;
@@ -94,16 +94,16 @@ impl Replies {
     }
 }
 
-/// A sink that looks at the replies that it passes on.
+/// A sink that watches the replies that it passes on.
 #[derive(Drop)]
 pub struct Watched<K: Sink + Drop> {
     inner: K,
-    /// What passed.
+    /// What was counted.
     pub replies: Replies,
 }
 
 impl<K: Sink + Drop> Watched<K> {
-    /// A sink that nothing has passed yet.
+    /// Returns a sink that has passed nothing yet.
     pub fn new(inner: K) -> Self {
         Watched {
             inner,

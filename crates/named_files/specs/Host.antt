@@ -1,4 +1,4 @@
--- What is told of real files: that two names for which the program goes on are not equal, and nothing else.
+-- What is known of real files: two names that the program accepts as two files are not equal, and nothing else.
 use Rattle.std.specs.Prelude.{◌≢◌, ℕ, List}
 use Rattle.std.specs.declared.fs.File.{File}
 use Rattle.outside_io.specs.declared.std_sink.StdSink.{StdSink}

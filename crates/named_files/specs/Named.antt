@@ -1,4 +1,4 @@
--- A file that a word may name: what it means where there is no such word.
+-- A file that a word may name, and what it means without such a word.
 use Rattle.std.specs.Prelude.{◌<◌, ℕ, List, [], Option, Some, None, length, set, slice_index, IsTrue}
 use Rattle.outside_io.specs.Memory.{most_counted}
 use Rattle.outside_io.specs.Sinks.{SinkState}

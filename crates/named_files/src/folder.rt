@@ -5,26 +5,26 @@ use crate::Denial;
 use disk_model::SharedDisk;
 use outside_io::{Sink, Source};
 
-/// Where files are opened by their names. Making a file takes the folder, so a folder that is still there has made none.
+/// A place where files are opened by their names. Making a file consumes the folder, so a folder that still exists has made no file.
 pub trait Folder: Drop {
-    /// A file that is an index.
+    /// The type of an index file.
     type Index: SharedDisk;
-    /// A file of logs that is read.
+    /// The type of a file of logs to be read.
     type LogIn: Source + Drop;
-    /// A file that logs or proofs are written to.
+    /// The type of a file that logs or proofs are written to.
     type LogOut: Sink + Drop;
-    /// What the system says where it refuses a call.
+    /// The system's reason where it refuses a call.
     type Reason: Drop;
 
-    /// What the folder's answers mean.
+    /// What the folder's results mean.
     ghost meaning: { Self → Meaning Self.Index Self.LogIn Self.LogOut };
 
-    /// Whether two names name one file.
+    /// Returns whether two names name one file.
     fn is_one_file(&self, one: &str, other: &str) -> bool
         ensures one { IsTrue result → (meaning self.now).are_one one.now other.now }
         ensures apart { result ≡ false → (meaning self.now).are_apart one.now other.now };
 
-    /// Opens the index `name`, to be written too where `writes` says so, and holds it against other processes.
+    /// Opens the index `name`, for writing too where `writes` is true, and locks it against other processes.
     fn open_index(&self, name: &str, writes: bool) -> Result<Self::Index, Denial<Self::Reason>>
         ensures opened { IfOk result ((meaning self.now).is_index name.now writes) }
         ensures held { IfOk result ((meaning self.now).is_held name.now writes) }
@@ -35,8 +35,8 @@ pub trait Folder: Drop {
         ensures opened { IfOk result ((meaning self.now).is_log_in name.now) }
         ensures denied { IfErr result (IsLogDenied (meaning self.now) name.now) };
 
-    /// Opens the index `name` to be written, and holds it. Makes its file where it is not there. Gives the folder back where no
-    /// file was made.
+    /// Opens the index `name` for writing, and locks it. Makes its file where there is none. Gives the folder back where no file was
+    /// made.
     fn make_index(self, name: &str) -> Result<Self::Index, (Denial<Self::Reason>, Self)>
         ensures opened { IfOk result ((meaning self).is_made name.now) }
         ensures held { IfOk result ((meaning self).is_held name.now true) }
@@ -49,6 +49,6 @@ pub trait Folder: Drop {
         ensures denied { IfErr result (λ e. IsMakingDenied (meaning self) name.now e.0) }
         ensures given_back { IfErr result (λ e. e.1 ≡ self) };
 
-    /// What the system said of the index's last fault, where it said something.
+    /// Returns the system's reason for the index's last fault, if it gave one.
     fn last_fault(index: &Self::Index) -> Option<Self::Reason>;
 }

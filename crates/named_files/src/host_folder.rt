@@ -9,14 +9,14 @@ use std::fs::{self, File, OpenOptions, TryLockError};
 use std::io::{self, ErrorKind};
 use std::os::unix::fs::{FileExt, MetadataExt};
 
-/// The letters with which an index begins.
+/// The letters that an index begins with.
 const INDEX_LETTERS: &[u8; 8] = b"MTREEIDX";
 
-/// The real files. No contract can say what one holds, that a name is its own, nor what another process does; so nothing is told of
-/// what is opened. Of two names for which the program goes on it is told that they are not equal.
+/// The real files. No contract can say what a file holds, that a name belongs to one file, or what another process does. So nothing
+/// is told about what is opened. Of two names that the program accepts as two files it is told that they are not equal.
 ///
-/// An index is held by the system's advisory lock on its file: shared where it is read, exclusive where it is written. The system
-/// gives the lock back when the file is closed, also where the process is killed.
+/// An index is locked by the system's advisory lock on its file: shared where it is read, exclusive where it is written. The system
+/// releases the lock when the file is closed, and also when the process is killed.
 #[derive(Drop)]
 pub struct HostFolder<'a> {
     rt: &'a HostRuntime,
@@ -27,7 +27,7 @@ impl<'a> HostFolder<'a> {
         HostFolder { rt }
     }
 
-    // Opens an index that is there, to be written too where `writes` says so. One that may not be written can still be read.
+    // Opens an existing index, for writing too where `writes` is true. An index that must not be written can still be read.
     fn open(&self, name: &str, writes: bool) -> io::Result<File> {
         if !writes {
             return File::open(self.rt, name);
@@ -40,14 +40,14 @@ impl<'a> HostFolder<'a> {
         }
     }
 
-    // Opens an index to be written, and makes its file where it is not there.
+    // Opens an index for writing, and makes its file where there is none.
     fn make(&self, name: &str) -> io::Result<File> {
         let mut options = OpenOptions::new();
         options.read(true).write(true).create(true);
         options.open(self.rt, name)
     }
 
-    // Makes a file of logs anew and empty. A plain file is looked at first, through the handle by which it is emptied.
+    // Makes a file of logs anew and empty. A plain file is checked first, through the handle that empties it.
     fn empty(&self, name: &str) -> Result<File, Denial<io::Error>>
         ensures { IfErr result (IsMakingDenied host_meaning name.now) }
     {
@@ -71,7 +71,7 @@ impl<'a> HostFolder<'a> {
     }
 }
 
-// Whether a file that may not be written may still be read.
+// Returns whether a file that must not be written may still be read.
 fn may_read_alone(kind: ErrorKind) -> bool {
     matches!(
         kind,
@@ -79,7 +79,7 @@ fn may_read_alone(kind: ErrorKind) -> bool {
     )
 }
 
-// Whether the name is that of a plain file, and not of a pipe or a device.
+// Returns whether the name is that of a plain file, and not of a pipe or a device.
 fn is_plain_file(rt: &HostRuntime, name: &str) -> bool {
     match fs::metadata(rt, name) {
         Ok(found) => found.is_file(),
@@ -87,14 +87,14 @@ fn is_plain_file(rt: &HostRuntime, name: &str) -> bool {
     }
 }
 
-// Whether a file begins with the letters of an index.
+// Returns whether a file begins with the letters of an index.
 fn begins_as_index(file: &File) -> io::Result<bool> {
     let mut front = [0; 8];
     let count = file.read_at(&mut front, 0)?;
     Ok(count == front.len() && front == *INDEX_LETTERS)
 }
 
-// Holds an index: alone where it is written, beside other readers where it is read. Does not wait.
+// Locks an index: alone where it is written, together with other readers where it is read. Does not wait.
 fn hold(file: File, writes: bool) -> Result<FileDisk, Denial<io::Error>>
     ensures { IfErr result (λ why. (name : List ℕ) → IsIndexDenied host_meaning name why) }
 {
@@ -110,7 +110,7 @@ fn hold(file: File, writes: bool) -> Result<FileDisk, Denial<io::Error>>
     }
 }
 
-// Holds an index that was opened.
+// Locks an index that was opened.
 fn hold_opened(opened: io::Result<File>, writes: bool) -> Result<FileDisk, Denial<io::Error>>
     ensures { IfErr result (λ why. (name : List ℕ) → IsIndexDenied host_meaning name why) }
 {

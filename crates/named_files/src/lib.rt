@@ -1,5 +1,5 @@
-//! The files that the words name: each is opened by its name, each index is held against other processes, and no file that is
-//! made is one that is read.
+//! Opens the files that the words name. Each file is opened by its name, and each index is locked against other processes. No file
+//! is both made and read.
 #![tactic(auto)]
 
 mod folder;

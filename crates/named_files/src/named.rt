@@ -5,8 +5,8 @@ use disk_model::{Disk, Failed, SharedDisk};
 use outside_io::{Sink, Source};
 use std::alloc::Global;
 
-/// The file that a word names. Where there is no such word, a disk reads as empty and keeps nothing, a source is at its end,
-/// and a sink discards what it takes.
+/// The file that a word names. Without such a word, a disk reads as empty and keeps nothing, a source is at its end, and a sink
+/// discards what it takes.
 #[derive(Drop)]
 pub struct Named<F>(pub Option<F>);
 

@@ -1,4 +1,4 @@
-// The opening of all files that the words name.
+// Opens all files that the words name.
 ghost use Rattle.std.specs.Prelude.{◌≡◌, ◌⊎◌, Some, IfSome, IfNone, IfOk, IfErr, IsTrue, false, true};
 ghost use Rattle.job_words.specs.Files.{file_texts};
 ghost use Rattle.named_files.specs.Folders.{AreApart, AreFilesOf, Denies, IsFileOf, IsIndexDenied, IsIndexOf, IsLogDenied, IsMakingDenied, IsRefused, Meets, log_name, text_of};
@@ -6,7 +6,7 @@ ghost use Rattle.named_files.specs.Folders.{AreApart, AreFilesOf, Denies, IsFile
 use crate::{Denial, Folder, Named, Refusal};
 use job_words::{FileNames, Makes};
 
-/// The objects of a run. Each is there where its file is named.
+/// The objects of a run. Each is present where its file is named.
 #[derive(Drop)]
 pub struct Opened<I, L, T> {
     pub index: Named<I>,
@@ -15,14 +15,14 @@ pub struct Opened<I, L, T> {
     pub log_out: Named<T>,
 }
 
-/// Why the files were not opened, and the folder, in which no file was made or emptied.
+/// Why the files were not opened, and the folder. No file was made or emptied in the folder.
 #[derive(Drop)]
 pub struct Unopened<Name, F: Folder> {
     pub refusal: Refusal<Name, F::Reason>,
     pub folder: F,
 }
 
-// The name `read`, where its file is the one of `made`.
+// Returns the name `read`, where its file is the same as that of `made`.
 fn met<'a, F: Folder>(folder: &F, made: &str, read: Option<&'a str>) -> Option<&'a str>
     ensures met { IfSome result (λ name. (text_of read.entry ≡ Some name.now) × (F.meaning folder.now).are_one made.now name.now) }
     ensures apart { IfNone result (IfSome (text_of read.entry) ((F.meaning folder.now).are_apart made.now)) }
@@ -35,7 +35,7 @@ fn met<'a, F: Folder>(folder: &F, made: &str, read: Option<&'a str>) -> Option<&
     }
 }
 
-// The first of three names whose file is the one of `made`.
+// Returns the first of three names whose file is the same as that of `made`.
 fn first_met<'a, F: Folder>(
     folder: &F,
     made: &str,
@@ -58,7 +58,7 @@ fn first_met<'a, F: Folder>(
     met(folder, made, log_in)
 }
 
-// The file that is made and the one that is read, where they are one.
+// Returns the file to be made and a file to be read, where they are one file.
 fn meeting<'a, F: Folder>(
     folder: &F,
     names: &FileNames<&'a str>,
@@ -75,7 +75,7 @@ fn meeting<'a, F: Folder>(
     Some(Refusal::OneFile { made, read })
 }
 
-// The index of a name, where there is one. It is not made.
+// Opens the existing index of a name, if there is a name.
 fn open_index<'a, F: Folder>(
     folder: &F,
     name: Option<&'a str>,
@@ -94,7 +94,7 @@ fn open_index<'a, F: Folder>(
     }
 }
 
-// The logs of a name, where there is one.
+// Opens the logs of a name, if there is a name.
 fn open_log<'a, F: Folder>(
     folder: &F,
     name: Option<&'a str>,
@@ -111,7 +111,7 @@ fn open_log<'a, F: Folder>(
     }
 }
 
-// The log that is made, where one is named.
+// Makes the log, if one is named.
 fn make_log<'a, F: Folder>(
     folder: F,
     name: Option<&'a str>,
@@ -132,7 +132,7 @@ fn make_log<'a, F: Folder>(
     }
 }
 
-// The index that is made, where one is named.
+// Makes the index, if one is named.
 fn make_index<'a, F: Folder>(
     folder: F,
     name: Option<&'a str>,
@@ -154,7 +154,7 @@ fn make_index<'a, F: Folder>(
     }
 }
 
-// The index that is there, and then the log that is made.
+// Opens the existing index, and then makes the log.
 fn open_then_make<'a, F: Folder>(
     folder: F,
     index: Option<&'a str>,
@@ -176,7 +176,7 @@ fn open_then_make<'a, F: Folder>(
     Ok((index, log))
 }
 
-// The index, and the log that is made. This is the last step, since a file may be made in it.
+// Opens or makes the index, and makes the log. This is the last step, since it may make a file.
 fn take_written<'a, F: Folder>(
     folder: F,
     names: &FileNames<&'a str>,
@@ -199,7 +199,7 @@ fn take_written<'a, F: Folder>(
     }
 }
 
-// The other index and the logs, which are only read.
+// Opens the other index and the logs, which are only read.
 fn open_read<'a, F: Folder>(
     folder: &F,
     names: &FileNames<&'a str>,
@@ -215,10 +215,10 @@ fn open_read<'a, F: Folder>(
     Ok((other, log_in))
 }
 
-/// Opens all files that `names` holds, those that are only read first, and the one that is made last.
+/// Opens all files in `names`: first those that are only read, and last the file that is made.
 ///
-/// Refuses where the file that is made is one that is read, where a file can't be opened, where another process holds an index, and
-/// where the log that is made begins as an index. Then no file was made or emptied, and the folder is given back.
+/// Refuses in these cases: the file to be made is a file to be read, a file can't be opened, another process holds an index, or the
+/// log to be made begins as an index. Then no file was made or emptied, and the folder is given back.
 pub fn open_files<'a, F: Folder>(
     folder: F,
     names: &FileNames<&'a str>,

@@ -3,9 +3,9 @@
 pub enum Denial<Reason> {
     /// The system refused, for this reason.
     System(Reason),
-    /// Another process writes the index, or it is to be written and another process has it open.
+    /// Another process writes the index; or the job writes it, and another process has it open.
     InUse,
-    /// It begins as an index, and would be emptied.
+    /// The file begins as an index, and would be emptied.
     IsIndex,
 }
 

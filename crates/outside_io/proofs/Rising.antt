@@ -1,4 +1,4 @@
--- A count that rose later rose since.
+-- A count that rose in the later part of a stretch rose in the whole stretch.
 use Rattle.std.proofs.Common.{ℕ, ◌≤◌, arith}
 use Rattle.outside_io.specs.Causes.{Rose}
 

@@ -1,6 +1,6 @@
 use thiserror::Error;
 
-/// A device of the outside failed. Its count of faults tells that it did.
+/// The failure of a device. The device's count of faults shows it.
 #[derive(Clone, Copy, Debug, PartialEq, Eq, Error)]
 #[error("a device failed")]
 pub struct Failed;

@@ -13,8 +13,8 @@ use page_store::{Memory, PageFault, Pages, SharedNode};
 use std::alloc::Global;
 use std::marker::Model;
 
-/// Pages behind a cache: the nodes that were asked for last are kept, and given again without asking the pages behind.
-/// Contracts see the pages behind, what is kept, and how often a page was asked for here.
+/// Pages behind a cache. It keeps the nodes that were asked for last, and gives them again without a request to the pages behind.
+/// Contracts see the pages behind, the cached nodes, and how often a page was asked for here.
 #[derive(Drop)]
 pub struct Cached<P: Pages> {
     inner: P,
@@ -34,7 +34,7 @@ impl<P: Pages> Model for Cached<P> {
 }
 
 impl<P: Pages + Drop> Cached<P> {
-    /// These pages behind a cache that keeps nothing yet, and at most so many nodes. None of its pages has been asked for.
+    /// Puts an empty cache of at most `pages` nodes (at least 1) before `inner`. The count of requests is 0.
     pub fn new(alloc: Global, inner: P, pages: usize) -> Result<Self, Memory>
         requires { 1 ≤ pages }
         ensures { IfOk result (λ cached. cached ≡ record { inner = inner; kept = lru_cache [] pages; asked = 0 }) }
@@ -45,8 +45,8 @@ impl<P: Pages + Drop> Cached<P> {
 }
 
 impl<P: Pages> Cached<P> {
-    /// These pages behind a cache that keeps these nodes, of which each has to be what they give for its page. None of its
-    /// pages has been asked for.
+    /// Puts the cache `kept` before `inner`. Each of its nodes has to be what `inner` gives for its page. The count of requests is
+    /// 0.
     pub fn from_parts(inner: P, kept: Kept) -> Self
         requires { Agrees kept (P.shelf inner) }
         ensures { result ≡ record { inner = inner; kept = kept; asked = 0 } }
@@ -58,8 +58,8 @@ impl<P: Pages> Cached<P> {
         }
     }
 
-    /// The pages behind, and what is kept of them. `from_parts` takes it again with these pages, or with others that give
-    /// it too.
+    /// Returns the pages behind and the cache. `from_parts` takes the cache again with these pages, or with others that give the
+    /// same nodes.
     pub fn into_parts(self) -> (P, Kept)
         ensures inner { result.0 ≡ self.inner }
         ensures kept { result.1 ≡ self.kept }
@@ -69,7 +69,7 @@ impl<P: Pages> Cached<P> {
         (inner, kept)
     }
 
-    /// The pages behind. What is kept of them is dropped.
+    /// Returns the pages behind, and drops the cache.
     pub fn into_inner(self) -> P
         ensures { result ≡ self.inner }
     {
@@ -77,14 +77,14 @@ impl<P: Pages> Cached<P> {
         inner
     }
 
-    /// Begins to count anew how often a page is asked for here.
+    /// Sets the count of requests to 0.
     pub fn count_anew(&mut self)
         ensures { self.new ≡ record self.old { asked = 0 } }
     {
         self.asked = 0;
     }
 
-    /// Drops the node of a page, if one is kept. The next ask for it asks the pages behind.
+    /// Drops the node of page `page`, if it is cached. The next request for the page goes to the pages behind.
     pub fn forget(&mut self, page: u32)
         ensures { self.new ≡ record self.old { kept = without self.old.kept page } }
     {
@@ -99,15 +99,15 @@ impl<P: Pages> Pages for Cached<P> {
 
     ghost shelf = { λ c. asked_for (P.shelf c.inner) c.asked };
 
-    // What the pages behind keep, and how many nodes may be kept.
+    // What the pages behind keep, and the greatest number of cached nodes.
     ghost keeps = { λ c d. P.keeps c.inner d.inner × (d.kept.cap ≡ c.kept.cap) };
 
     ghost keeps_none = { λ c. (P.keeps_none c.inner, refl) };
 
     ghost keeps_both = { λ c d e first second. (P.keeps_both c.inner d.inner e.inner first.0 second.0, second.1 ∙ first.1) };
 
-    /// The node of a page: the one that is kept, or what the pages behind give, which is kept then. A refusal changes
-    /// nothing of what is kept, and nor does want of memory for what is to be kept. `Memory` comes also where a node has
+    /// Returns the node of a page: the cached one, or what the pages behind give, which is then cached. A refusal does not change
+    /// the cache. Where memory for caching the node runs out, the cache does not change either. `Memory` comes also where a node has
     /// as many holders as can be counted.
     fn node(&mut self, alloc: Global, page: u32) -> Result<SharedNode, PageFault>
         ensures ok { IfOk result (IsNodeOf (asked_for (P.shelf self.old.inner) self.old.asked) page) }
@@ -121,11 +121,11 @@ impl<P: Pages> Pages for Cached<P> {
         ensures reads { (P.shelf self.new.inner).reads ≤ (P.shelf self.old.inner).reads + 1 }
         ensures keeps { P.keeps self.old.inner self.new.inner × (self.new.kept.cap ≡ self.old.kept.cap) }
 
-        // What is kept of a page is answered, unless its holders can't be counted, and the pages behind are not asked.
+        // The cached node is returned, unless its holders can't be counted. The pages behind are not asked.
         ensures hit { (node : TheNode) → kept_node self.old.kept page ≡ Some node → MatchResult result (λ answer. answer ≡ node) (λ fault. fault ≡ NoMemory) }
         ensures unasked { IsSome (kept_node self.old.kept page) → self.new.inner ≡ self.old.inner }
 
-        // Of another page they are asked once.
+        // For another page they are asked once.
         ensures asks { kept_node self.old.kept page ≡ None → (P.shelf self.new.inner).asked ≡ next_count (P.shelf self.old.inner).asked }
         ensures kept { MatchResult result (IsUsed self.old.kept self.new.kept page) (λ _. self.new.kept ≡ self.old.kept) }
     {

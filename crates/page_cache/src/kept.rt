@@ -10,11 +10,11 @@ use std::alloc::Global;
 use std::marker::Model;
 use std::num::NonZeroUsize;
 
-/// How many nodes are kept of a file whose pages are asked for again and again.
+/// The number of cached nodes for a file whose pages are asked for again and again.
 pub const KEPT_NODES: usize = 256;
 
-/// The nodes of the pages that were used last, at most so many. Contracts see the pairs of a page and its node, the last
-/// used first, and how many there may be.
+/// A cache of the nodes of the pages that were used last. Contracts see the pairs of a page and its node, the last used first, and
+/// the greatest number of pairs.
 #[derive(Drop)]
 pub struct Kept {
     nodes: LruCache<u32, SharedNode>,
@@ -29,8 +29,7 @@ impl Model for Kept {
 }
 
 impl Kept {
-    /// Nothing is kept yet, and at most so many nodes will be, of which there has to be one. Room for a node is taken when
-    /// it comes.
+    /// Makes an empty cache of at most `pages` nodes (at least 1). Memory for a node is taken when it comes.
     pub fn new(alloc: Global, pages: usize) -> Result<Self, Memory>
         requires { 1 ≤ pages }
         ensures { IfOk result (λ kept. kept ≡ lru_cache [] pages) }
@@ -41,7 +40,7 @@ impl Kept {
         })
     }
 
-    /// How many nodes are kept: never more than there may be, and none of one page twice.
+    /// Returns the number of cached nodes. It is never more than the greatest number, and counts no page twice.
     pub fn len(&self) -> usize
         ensures len { result ≡ length self.now.entries }
         ensures few { length self.now.entries ≤ self.now.cap }
@@ -50,23 +49,23 @@ impl Kept {
         self.nodes.len()
     }
 
-    /// Whether no node is kept.
+    /// Returns whether no node is cached.
     pub fn is_empty(&self) -> bool
         ensures { result ≡ (length self.now.entries == 0) }
     {
         self.nodes.is_empty()
     }
 
-    /// Drops the node of a page, if one is kept. Whoever writes a page anew calls this first.
+    /// Drops the node of page `page`, if it is cached. Call this before the page is written anew.
     pub fn forget(&mut self, page: u32)
         ensures { self.new ≡ without self.old page }
     {
-        // By the length no page is kept twice, so that no node of this one is left.
+        // By the length no page is cached twice, so that no node of this page is left.
         let _len = self.nodes.len();
         drop(self.nodes.pop(&page));
     }
 
-    // The node that is kept of a page, which becomes the last used.
+    // Returns the cached node of page `page`, which becomes the last used.
     pub(crate) fn share_of(&mut self, page: u32) -> Result<Option<SharedNode>, Memory>
         ensures found { IfOk result (λ node. node ≡ kept_node self.old page) }
         ensures unkept { kept_node self.old page ≡ None → result ≡ Ok None }
@@ -82,7 +81,7 @@ impl Kept {
         Ok(Some(shared))
     }
 
-    // Keeps a page's node as the last used, unless there is no memory for it.
+    // Caches a page's node as the last used, unless memory runs out.
     pub(crate) fn keep(&mut self, page: u32, node: &SharedNode)
         ensures { (self.new ≡ used self.old page node.now) ⊎ (self.new ≡ self.old) }
     {

@@ -1,4 +1,4 @@
-//! Pages behind a bounded cache of decoded nodes, so that a page that was asked for lately is not read again.
+//! Pages behind a bounded cache of decoded nodes, so that a page that was asked for recently is not read again.
 #![tactic(auto)]
 
 mod cached;

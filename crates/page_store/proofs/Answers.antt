@@ -1,4 +1,4 @@
--- How a page's bytes give the answer to whoever asked for the page.
+-- How a page's bytes give the answer of a request for the page.
 use Rattle.std.specs.Prelude.{◌≡◌, ℕ, true, false, IsTrue, List, Option, Some, None, Result, Ok, Err, IfOk, IfErr, refl}
 use Rattle.std.proofs.Common.{◌∙◌, ap, arith, sym}
 use Rattle.std.proofs.lemmas.Bool.Decides.{nat_tests}
@@ -77,6 +77,6 @@ answers_outside v old new page file is of_file = (
       ∙ reads_outside v old.dim old.pages file page is,
 )
 
--- a page that is one of them is not refused as none
+-- a page that is one of them is not refused as outside
 pub not_outside : {P : Type 0} (pages page : ℕ) → is_within pages page ≡ true → is_within pages page ≡ false → P
 not_outside pages page is not_is = absurd cc

@@ -73,7 +73,7 @@ all_numbered : (Q : ℕ → Type 0) (R : Node → Type 0) (number : ℕ → ℕ)
 all_numbered Q R number i k [] e each all = tt
 all_numbered Q R number i k (n ∷ ns) e each all = ((each i (omega (arith, e)), all.0), all_numbered Q R number (i + 1) k ns (omega (arith, e)) each all.1)
 
--- each page is one that was handed in, or one after the end
+-- each page is one of the given numbers, or a page after the end
 all_given : (numbers : List ℕ) (first i : ℕ) (ns : List Node) → AllByRecursion (λ (s : StagedNode). IsIn s.page numbers ⊎ (first ≤ s.page)) (numbered (number_at numbers first) i ns)
 all_given numbers first i [] = tt
 all_given numbers first i (n ∷ ns) = (

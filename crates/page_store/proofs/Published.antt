@@ -2,7 +2,7 @@
 
 -- The bytes of a file, page by page.
 pub use Rattle.page_store.proofs.PageBytes.{length-page_of, place-page_of, same_page, page_is}
--- How a page's bytes give the answer to whoever asked for the page.
+-- How a page's bytes give the answer of a request for the page.
 pub use Rattle.page_store.proofs.Answers.{within_by_test, reads_page, reads_outside, answers_node, answers_fault, answers_outside, not_outside}
 -- Pages that hold what they held.
 pub use Rattle.page_store.proofs.Held.{holds_none, holds_both, told_then}

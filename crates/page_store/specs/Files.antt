@@ -7,7 +7,7 @@ use Rattle.node_page.specs.declared.head.Head.{Head}
 use Rattle.node_page.specs.Opening.{OpensTo}
 use Rattle.page_store.specs.Reading.{reading, nodes_of}
 
--- the nodes of a file's pages, below the live slot's number of pages
+-- the nodes on a file's pages below the live slot's number of pages
 abbrev pub nodes_in : ℕ → Live → List ℕ → Nodes
 nodes_in dim live file = nodes_of (reading dim live.pages file)
 
@@ -25,6 +25,6 @@ points_in dim live file = points_by_id (nodes_in dim live file) live
 abbrev pub tags_in : ℕ → Live → List ℕ → List ℕ
 tags_in dim live file = tags_by_id (nodes_in dim live file) live
 
--- the file opens to a live slot with more pages than are taken into memory or sealed: more than a gigabyte
+-- the file opens to a live slot with more than 262144 pages (one gigabyte), too many to be taken into memory or sealed
 abbrev pub IsLarge : List ℕ → Type 0
 IsLarge file = (head : Head) × (live : Live) × OpensTo file head live × (262144 < live.pages)

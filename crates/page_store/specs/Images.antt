@@ -1,4 +1,4 @@
--- Files in memory, in one place or in parts.
+-- Files in memory: all bytes together, or in parts.
 use Rattle.std.specs.Prelude.{ℕ, List}
 use Rattle.page_store.specs.declared.image.Image.{Image}
 use Rattle.page_store.specs.declared.image.Image.TheVariants.{Whole, InParts}

@@ -1,4 +1,4 @@
--- What calls that only read keep of a disk.
+-- What read-only calls keep of a disk.
 use Rattle.std.specs.Prelude.{refl}
 use Rattle.disk_model.specs.Disk.{DiskState, MayLeave, IsUnchanged}
 use Rattle.disk_model.specs.Moments.{started}

@@ -31,7 +31,7 @@ level_of (Inner level es) = level
 abbrev pub staged_tree : Nodes → StagedNode → Tall
 staged_tree nodes s = record { height = level_of s.node; tree = tree_at nodes (level_of s.node) s.page }
 
--- none of these pages lies in the live tree
+-- none of the pages is one of the live tree's
 abbrev pub AreOutside : Nodes → Live → List ℕ → Type 0
 AreOutside nodes t pages = AllByRecursion (λ n. times n (live_pages nodes t) ≡ 0) pages
 
@@ -39,8 +39,8 @@ AreOutside nodes t pages = AllByRecursion (λ n. times n (live_pages nodes t) �
 abbrev pub IsOver : Nodes → Live → List StagedNode → Nodes → Type 0
 IsOver old t staged new = IsWritten old (live_pages old t) staged new
 
--- what is placed can be committed: the next live slot, which has so many objects more, and the staged nodes, node i on page i
--- of the numbers and then from the end on
+-- the placement can be committed: the next live slot, which counts `added` objects more, and the staged nodes; node i stands on page
+-- i of the numbers, and further nodes on the pages from the end on
 pub record IsPlacement (head : Head) (t : Live) (numbers : List ℕ) (added : ℕ) (placed : Placed) : Type 0 where
   pub side : placed.next.side ≡ 1 - t.side
   pub generation : placed.next.generation ≡ t.generation + 1

@@ -11,19 +11,20 @@ pub data IsReached (nodes : Nodes) (root : ℕ) : ℕ → Type 0 where
   at_root : IsReached nodes root root
   by_child : (page : ℕ) (e : InnerEntry) → IsReached nodes root page → IsIn e (inner_entries (nodes page)) → IsReached nodes root e.child
 
--- the child numbers in the nodes of these pages
+-- the child numbers in the nodes on the pages `tree`
 abbrev pub named_in : Nodes → List ℕ → List ℕ
 named_in nodes tree = flat_map (λ page. map (λ e. e.child) (inner_entries (nodes page))) tree
 
--- The live tree stands on these pages: the root is one of them, each may hold a node and stands here once; and the child numbers
--- in them name no page besides, the root never, and each other one once. So every page that is reached is one of them.
+-- The live tree stands on the pages `tree`. The root is one of them. Each page may hold a node and is in the list once. The child
+-- numbers in their nodes name only pages of the list: the root never, and each other page once. So every reached page is one of
+-- them.
 pub record StandsOnPages (nodes : Nodes) (t : Live) (tree : List ℕ) : Type 0 where
   pub root : IsIn t.root tree
   pub within : AllByRecursion (IsNodePage t) tree
   pub once : (page : ℕ) → times page tree ≤ 1
   pub named : (page : ℕ) → times page (named_in nodes tree) ≡ (if page == t.root then 0 else times page tree)
 
--- these are the pages of the live tree: it stands on them, and each of them is reached
+-- the pages `tree` are those of the live tree: it stands on them, and each of them is reached
 pub record IsWholeTree (nodes : Nodes) (t : Live) (tree : List ℕ) : Type 0 where
   pub reached : (page : ℕ) → IsIn page tree ↔ IsReached nodes t.root page
   pub within : AllByRecursion (IsNodePage t) tree

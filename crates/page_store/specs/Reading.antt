@@ -27,12 +27,12 @@ abbrev pub judged : ℕ → Option NodeFault → Node → Result Node PageFault
 judged page None node = Ok node
 judged page (Some fault) node = Err (Bad page fault)
 
--- what the pages of a file of a version hold, where nodes over points of so many coordinates stand below so many pages
+-- what each page of a file of a version holds; nodes have points of `dim` coordinates and stand below page `pages`
 unfoldable pub reading_in : Version → ℕ → ℕ → List ℕ → Read
 reading_in version dim pages file page =
     if is_within pages page then judged page (fault_in version dim (page_of file page)) (node_in version dim (page_of file page)) else Err (Outside page)
 
--- the same of a file of the second version
+-- the same for a file of version 2
 abbrev pub reading : ℕ → ℕ → List ℕ → Read
 reading dim pages file = reading_in Second dim pages file
 

@@ -1,4 +1,4 @@
--- What pages mean to those who ask for them.
+-- What pages mean to their callers.
 use Rattle.std.specs.Prelude.{◌≡◌, ◌≢◌, ℕ, ◌≤◌, Bool, false, IsTrue, Ok, Err}
 use Rattle.outside_io.specs.Causes.{Rose}
 use Rattle.tree_shape.specs.declared.entry.Node.{Node}
@@ -8,8 +8,8 @@ use Rattle.page_store.specs.declared.pages.PageFault.{PageFault}
 use Rattle.page_store.specs.declared.pages.PageFault.TheVariants.{Disk, Bad, Outside, Memory, Repeats, Level}
 use Rattle.page_store.specs.Reading.{Read, IsWithin, is_within}
 
--- What pages mean: how many coordinates their points have, and how many pages there are; what each page holds, where
--- they tell it; and how often they were asked, their disk was read, and it failed.
+-- What pages mean: how many coordinates their points have; how many pages there are; what each page holds, where `tells` is true;
+-- how many requests for a node there were; how often the disk was read; and how often it failed.
 pub record Shelf : Type 0 where
   pub dim : ℕ
   pub pages : ℕ
@@ -27,13 +27,13 @@ pub record HoldsSame (old new : Shelf) : Type 0 where
   pub read : new.read ≡ old.read
   pub faults : old.faults ≤ new.faults
 
--- what a page gave is its node, which can be written
+-- a node that a page gave is the page's node, and can be written
 pub record IsNodeOf (shelf : Shelf) (page : ℕ) (node : Node) : Type 0 where
   pub within : IsWithin shelf.pages page
   pub lawful : IsLawfulNode shelf.dim node
   pub told : IsTrue shelf.tells → shelf.read page ≡ Ok node
 
--- why a page gave no node: its disk failed, its bytes are no node, it is none of the pages, or memory ran out
+-- why a page gave no node: its disk failed, its bytes are no node, it is outside the pages, or memory ran out
 abbrev pub HasPageCause : Shelf → Shelf → ℕ → PageFault → Type 0
 HasPageCause old new page Disk = Rose old.faults new.faults
 HasPageCause old new page (Bad p fault) = (p ≡ page) × (fault ≢ NodeMemory) × IsWithin old.pages page
@@ -49,8 +49,8 @@ IsPassing Disk = Unit {0}
 IsPassing Memory = Unit {0}
 IsPassing _ = ⊥
 
--- what a walk by child numbers says of a damaged file: a page holds no node, or is none of the file's, or is needed after as many
--- as there are
+-- what a walk by child numbers finds in a damaged file: a page that holds no node, a page outside the file, or a page that is needed
+-- after as many pages as there are were opened
 abbrev pub IsDamage : PageFault → Type 0
 IsDamage (Bad page fault) = Unit {0}
 IsDamage (Outside page) = Unit {0}

@@ -8,7 +8,7 @@ use Rattle.page_store.specs.declared.staging.StagedNode.{StagedNode}
 abbrev pub pages_of : List StagedNode → List ℕ
 pages_of staged = map (λ s. s.page) staged
 
--- none of the nodes is for this page
+-- no node is staged for the page
 abbrev pub IsFree : List StagedNode → ℕ → Type 0
 IsFree staged page = AllByRecursion (λ s. s.page ≢ page) staged
 
@@ -17,7 +17,7 @@ abbrev pub staged_for : List StagedNode → ℕ → Option Node
 staged_for [] page = None
 staged_for (s ∷ staged) page = if s.page == page then Some s.node else staged_for staged page
 
--- no two nodes are for one page
+-- no two nodes are staged for one page
 abbrev pub AreApart : List StagedNode → Type 0
 AreApart [] = Unit {0}
 AreApart (s ∷ staged) = IsFree staged s.page × AreApart staged

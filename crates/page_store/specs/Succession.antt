@@ -13,8 +13,8 @@ use Rattle.page_store.specs.Staging.{pages_of, staged_for}
 abbrev pub named_by : List StagedNode → List ℕ
 named_by staged = flat_map (λ s. map (λ e. e.child) (inner_entries (Some s.node))) staged
 
--- The new nodes take the place of the left ones: these are reached, each once; the new root is a new page; and where each root
--- counts as named once, what the new nodes name and the left pages are together what the left nodes named and the new pages.
+-- The new nodes take the place of the left ones. The left pages are reached, each once. The new root is a new page. Where each root
+-- counts as named once, the names in the new nodes and the left pages together are the names in the left nodes and the new pages.
 pub record TakesPlace (nodes : Nodes) (t : Live) (placed : Placed) : Type 0 where
   pub left : AllByRecursion (IsReached nodes t.root) placed.left
   pub once : (page : ℕ) → times page placed.left ≤ 1
@@ -28,15 +28,15 @@ pub record StandsByItself (placed : Placed) : Type 0 where
   pub root : IsIn placed.next.root (pages_of placed.staged)
   pub names : (page : ℕ) → times page (placed.next.root ∷ named_by placed.staged) ≡ times page (pages_of placed.staged)
 
--- no page is one of both
+-- no page is in both lists
 abbrev pub ShareNone : List ℕ → List ℕ → Type 0
 ShareNone pages tree = (page : ℕ) → IsIn page pages → IsIn page tree → ⊥
 
--- some pages without these
+-- the pages `tree` without the pages `left`
 abbrev pub without : List ℕ → List ℕ → List ℕ
 without left tree = filter (λ page. times page left == 0) tree
 
--- the new nodes stand on their pages, and the other pages of these keep what they held
+-- the staged nodes stand on their pages, and the other pages of `tree` keep what they held
 pub record IsWritten (old : Nodes) (tree : List ℕ) (staged : List StagedNode) (new : Nodes) : Type 0 where
   pub stand : AllByRecursion (λ s. new s.page ≡ Some s.node) staged
   pub stay : (page : ℕ) → IsIn page tree → staged_for staged page ≡ None → new page ≡ old page

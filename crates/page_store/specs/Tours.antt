@@ -1,4 +1,4 @@
--- The walk of a tree by child numbers, which opens each node before those that it names.
+-- The walk of a tree by child numbers, which opens each node before the nodes that it names.
 use Rattle.std.specs.Prelude.{◌≡◌, ◌≢◌, ℕ, ◌<◌, ◌≤◌, false, IsTrue, List, [], ◌∷◌, ◌++◌, map, length, Some, Err}
 use Rattle.metric_laws.specs.Counts.{next_count, count_up}
 use Rattle.outside_io.specs.Causes.{Rose}
@@ -17,42 +17,42 @@ abbrev pub children : Node → List ℕ
 children (Leaf es) = []
 children (Inner level es) = map (λ e. e.child) es
 
--- the walk that has these pages to open has opened these, each before those that it names, and has these still to open
+-- a walk that has `pages` to open has opened the next list, each page before those that it names, and still has `left` to open
 abbrev pub Tours : Nodes → List ℕ → List ℕ → List ℕ → Type 0
 Tours nodes pages [] left = left ≡ pages
 Tours nodes [] (o ∷ os) left = ⊥
 Tours nodes (p ∷ ps) (o ∷ os) left = (node : Node) × (nodes p ≡ Some node) × (o ≡ p) × Tours nodes (children node ++ ps) os left
 
--- the walk from a page is whole, and opens at most so many
+-- the walk from a page is whole, and opens at most `most` pages
 pub record IsWhole (nodes : Nodes) (page most : ℕ) : Type 0 where
   pub pages : List ℕ
   pub walk : Tours nodes (page ∷ []) pages []
   pub few : length pages ≤ most
 
--- the walk of the live tree is whole and opens no more pages than there are
+-- the walk of the live tree is whole and opens at most as many pages as there are
 abbrev pub IsToured : Nodes → Live → Type 0
 IsToured nodes live = IsWhole nodes live.root live.pages
 
--- the walk from a root opens so many pages and then names this one
+-- the walk from `root` opens `opened` pages and then names `page`
 pub record Names (nodes : Nodes) (root opened page : ℕ) : Type 0 where
   pub before : List ℕ
   pub rest : List ℕ
   pub walk : Tours nodes (root ∷ []) before (page ∷ rest)
   pub count : length before ≡ opened
 
--- the same, where it has opened fewer pages than there are
+-- the same, after fewer opened pages than there are
 abbrev pub NamesInside : Nodes → Live → ℕ → Type 0
 NamesInside nodes live page = (opened : ℕ) × (opened < live.pages) × Names nodes live.root opened page
 
--- a page was asked for once, and the pages that its node names come before those that were left
+-- a page was asked for once, and the pages that its node names come before the pages `left`
 pub record OpensPage (old new : Shelf) (page : ℕ) (left after : List ℕ) : Type 0 where
   pub node : Node
   pub is : IsNodeOf old page node
   pub asked : new.asked ≡ next_count old.asked
   pub pushed : after ≡ children node ++ left
 
--- why the walk of the live tree stops: the disk failed or memory ran out; or it names a page that holds no node, or that is none
--- of the file's; or it has opened as many pages as there are, and names this one besides
+-- why the walk of the live tree stops: the disk failed; memory ran out; it names a page that holds no node, or a page outside the
+-- file; or it has opened as many pages as there are, and names one more
 abbrev pub HasTourCause : Live → Shelf → Shelf → PageFault → Type 0
 HasTourCause live old new Disk = Rose old.faults new.faults
 HasTourCause live old new Memory = Unit {0}

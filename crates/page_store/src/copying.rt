@@ -5,9 +5,9 @@ use metric_laws::Listed;
 use std::alloc::Global;
 use tree_shape::{InnerEntry, LeafEntry, Node};
 
-/// A value that is copied where there is memory for it.
+/// A value that can be copied, unless memory runs out.
 pub trait TryClone: Drop {
-    /// A copy.
+    /// Copies the value.
     fn try_clone(&self, alloc: Global) -> Result<Self, Memory>
         ensures { IfOk result (λ copy. copy ≡ self.now) };
 }

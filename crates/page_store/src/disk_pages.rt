@@ -12,11 +12,11 @@ use std::alloc::Global;
 pub struct DiskPages<'a, D: Disk> {
     /// The disk.
     pub disk: &'a mut D,
-    /// How many coordinates a point has.
+    /// The number of a point's coordinates.
     pub dim: u8,
-    /// The number of pages: nodes stand on those from 3 up and below it.
+    /// The number of pages: nodes stand on pages from 3 up and below this number.
     pub pages: u32,
-    /// How often a page was asked for. The count stands still at the greatest `u64`.
+    /// The number of requests for a node. The count stops at the greatest `u64`.
     pub asked: u64,
     /// Whether the file is of version 1.
     pub first_version: bool,
@@ -28,7 +28,7 @@ pub struct DiskPages<'a, D: Disk> {
 }
 
 impl<'a, D: Disk> DiskPages<'a, D> {
-    /// The pages of a file of version 2. Of them none has been asked for.
+    /// Returns the pages of a file of version 2, with none asked for yet.
     pub fn new(disk: &'a mut D, dim: u8, pages: u32) -> Self
         requires some { 1 ≤ dim }
         requires few { dim ≤ 64 }
@@ -50,7 +50,7 @@ impl<'a, D: Disk> DiskPages<'a, D> {
         }
     }
 
-    /// The pages of a file of version 1. Of them none has been asked for.
+    /// Returns the pages of a file of version 1, with none asked for yet.
     pub fn old(disk: &'a mut D, dim: u8, pages: u32) -> Self
         requires some { 1 ≤ dim }
         requires few { dim ≤ 64 }

@@ -7,14 +7,14 @@ use crate::parts::Parts;
 /// The bytes of a file in memory.
 #[derive(Clone, Copy)]
 pub enum Image<'a> {
-    /// They stand in one place.
+    /// All bytes together.
     Whole(&'a [u8]),
-    /// They stand in parts.
+    /// The bytes in parts.
     InParts(&'a Parts),
 }
 
 impl<'a> Image<'a> {
-    // Bytes that have a page, and its number among their pages.
+    // Returns bytes that hold page `page`, and the page's number within them.
     pub(crate) fn place(self, page: u32) -> (&'a [u8], u32)
         ensures { page_of result.0.now result.1 ≡ page_of (bytes_in self.entry) page }
     {

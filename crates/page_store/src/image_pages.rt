@@ -6,16 +6,16 @@ use crate::reading::{is_within, node_on, node_on_cut, whole_page};
 use crate::{PageFault, Pages, SharedNode};
 use std::alloc::Global;
 
-/// The pages of a file of version 2 whose bytes are in memory: those that a disk with these bytes has.
+/// The pages of a file of version 2 whose bytes are in memory. They are the pages of a disk with these bytes.
 #[derive(Drop)]
 pub struct ImagePages<'a> {
     /// The file.
     pub image: Image<'a>,
-    /// How many coordinates a point has.
+    /// The number of a point's coordinates.
     pub dim: u8,
-    /// The number of pages: nodes stand on those from 3 up and below it.
+    /// The number of pages: nodes stand on pages from 3 up and below this number.
     pub pages: u32,
-    /// How often a page was asked for. The count stands still at the greatest `u64`.
+    /// The number of requests for a node. The count stops at the greatest `u64`.
     pub asked: u64,
     ghost some: { 1 ≤ dim },
     ghost few: { dim ≤ 64 },
@@ -23,7 +23,7 @@ pub struct ImagePages<'a> {
 }
 
 impl<'a> ImagePages<'a> {
-    /// The pages of these bytes. Of them none has been asked for.
+    /// Returns the pages of the file `bytes`, with none asked for yet.
     pub fn new(bytes: &'a [u8], dim: u8, pages: u32) -> Self
         requires some { 1 ≤ dim }
         requires few { dim ≤ 64 }
@@ -36,7 +36,7 @@ impl<'a> ImagePages<'a> {
         ImagePages::of(Image::Whole(bytes), dim, pages)
     }
 
-    /// The pages of a file that may stand in parts. Of them none has been asked for.
+    /// Returns the pages of a file that may be in parts, with none asked for yet.
     pub fn of(image: Image<'a>, dim: u8, pages: u32) -> Self
         requires some { 1 ≤ dim }
         requires few { dim ≤ 64 }

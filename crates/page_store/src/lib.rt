@@ -1,5 +1,5 @@
-//! The pages of an index file: asked for one at a time as nodes, and staged anew for the next commit, which gives new nodes
-//! their pages.
+//! The pages of an index file. They are read one at a time as nodes. The new nodes of the next commit are staged, and get their
+//! pages here.
 #![tactic(auto)]
 
 mod copying;
@@ -26,5 +26,5 @@ pub use settling::{NewTree, RoomFault, settle};
 pub use shared::SharedNode;
 pub use staging::{Placed, Staged, StagedNode};
 
-/// Want of memory.
+/// The error when memory runs out.
 pub type Memory = std::alloc::AllocError;

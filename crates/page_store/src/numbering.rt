@@ -1,17 +1,17 @@
 ghost use Rattle.std.specs.Prelude.{◌≡◌, ◌≤◌, ◌^◌};
 ghost use Rattle.page_store.specs.Numbers.{number_at};
 
-/// Which pages new nodes get.
+/// The pages that new nodes get.
 #[derive(Clone, Copy)]
 pub struct Numbering<'a> {
     /// Pages for the first new nodes, in strictly ascending order.
     pub numbers: &'a [u32],
-    /// The page of the first new node that gets none of these; the later ones follow.
+    /// The page of the first new node beyond `numbers`; later nodes follow it.
     pub first: u32,
 }
 
 impl Numbering<'_> {
-    /// The page of the new node at a place, from 0.
+    /// Returns the page of the new node `place`, counted from 0.
     pub fn page_at(&self, place: usize) -> u32
         requires first { self.now.first ≤ 2 ^ 24 }
         requires few { place ≤ 2 ^ 26 }

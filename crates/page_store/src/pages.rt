@@ -19,30 +19,30 @@ pub enum PageFault {
     /// The bytes of this page are no node. The fault is never `NodeFault::Memory`.
     #[error("page {0} holds no node")]
     Bad(u32, NodeFault),
-    /// This page is below 3 or not below the live slot's number of pages.
+    /// This page is below 3, or not below the live slot's number of pages.
     #[error("page {0} is none of the file's")]
     Outside(u32),
-    /// There was no memory for the node.
+    /// Memory ran out.
     #[error("out of memory")]
     Memory,
-    /// A walk had opened as many nodes as there are pages, and named this page besides. No single page is refused so.
+    /// A walk opened as many nodes as there are pages, and named this page too. A request for one page never fails so.
     #[error("page {0} is reached twice")]
     Repeats(u32),
-    /// A descent met this page at a level that its depth does not ask for. No single page is refused so.
+    /// A descent met this page at a level other than its depth requires. A request for one page never fails so.
     #[error("page {0} stands at another level")]
     Level(u32),
 }
 
-/// Pages that give their nodes one at a time, and count how often they are asked. Searches, walks, auditors and verifiers
-/// have no other way to a page.
+/// Pages that give their nodes one at a time, and count the requests. Searches, walks, auditors and verifiers reach pages only
+/// through this trait.
 pub trait Pages {
-    /// What the pages hold and what was asked of them.
+    /// What the pages hold, and how often they were asked.
     ghost shelf: { Self → Shelf };
 
-    /// What every call keeps: whoever lends a disk to pages learns by it what happened to the disk.
+    /// What every call keeps. It tells the owner of a disk what the pages did to the disk.
     ghost keeps: { Self → Self → Type 0 };
 
-    /// The node of a page. `Outside` comes before the other refusals, and without a read. `Repeats` and `Level` never
+    /// Returns the node of page `page`. `Outside` comes before the other refusals, and without a read. `Repeats` and `Level` never
     /// come.
     fn node(&mut self, alloc: Global, page: u32) -> Result<SharedNode, PageFault>
         ensures ok { IfOk result (IsNodeOf (shelf self.old) page) }
@@ -55,14 +55,14 @@ pub trait Pages {
         ensures reads { (shelf self.new).reads ≤ (shelf self.old).reads + 1 }
         ensures keeps { keeps self.old self.new };
 
-    /// What is kept by no call is kept.
+    /// A call that does nothing keeps it.
     ghost keeps_none: { (p : Self) → keeps p p };
 
-    /// What is kept by one call and by the next is kept by both.
+    /// Two calls in a row keep it, if each call does.
     ghost keeps_both: { (p q r : Self) → keeps p q → keeps q r → keeps p r };
 }
 
-/// The node of a page for the caller alone, to be changed or taken apart. It is copied only where another holds it too.
+/// Returns the node of page `page` as a value that the caller may change. It is copied only where another holder has it too.
 pub fn own_node<P: Pages>(alloc: Global, pages: &mut P, page: u32) -> Result<Node, PageFault>
     ensures ok { IfOk result (IsNodeOf (P.shelf pages.old) page) }
     ensures cause { IfErr result (HasPageCause (P.shelf pages.old) (P.shelf pages.new) page) }

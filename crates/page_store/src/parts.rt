@@ -6,12 +6,12 @@ ghost use Rattle.page_store.specs.Parts.{AreParts};
 use metric_laws::Listed;
 use std::marker::Model;
 
-/// The bytes of a file in parts: each has as many pages as the others, but the last may have fewer. So several threads can read
-/// a file, each a part.
+/// The bytes of a file in parts. All parts have the same number of pages, but the last may have fewer. So several threads can read a
+/// file, each thread one part.
 #[derive(Drop)]
 pub struct Parts {
     parts: Vec<Listed<u8>>,
-    // How many pages of 4096 bytes a part has.
+    // The number of a part's pages of 4096 bytes.
     pages: u32,
 }
 
@@ -28,7 +28,7 @@ impl Model for Parts {
 }
 
 impl Parts {
-    /// These parts, of so many pages each.
+    /// Makes a file of the parts `parts`, of `pages` pages each.
     pub fn new(parts: Vec<Listed<u8>>, pages: u32) -> Self
         requires some { 1 ≤ pages }
         requires are { AreParts pages parts.items }
@@ -37,7 +37,7 @@ impl Parts {
         Parts { parts, pages }
     }
 
-    // The part where a page stands, and its number among the pages of that part.
+    // Returns the part that holds page `page`, and the page's number within that part.
     pub(crate) fn place(&self, page: u32) -> (&[u8], u32)
         ensures { page_of result.0.now result.1 ≡ page_of self.now page }
     {

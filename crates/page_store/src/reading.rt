@@ -12,7 +12,7 @@ use node_page::{NodeFault, decode_node, decode_old_node};
 use std::alloc::Global;
 use tree_shape::{Node, PAGE};
 
-/// Reads the bytes of a page, of which those past the end of the file are 0. After `Failed` the buffer may hold anything.
+/// Reads the bytes of page `page`. Bytes past the end of the file are 0. After `Failed` the buffer may hold anything.
 pub fn read_page<D: Disk>(disk: &mut D, page: u32, bytes: &mut [u8; 4096]) -> Result<(), Failed>
     requires { page < 2 ^ 24 }
     ensures read { OnOk result (IsTrue (D.state disk.old).tells → bytes.new ≡ page_of (D.state disk.old).bytes page) }
@@ -23,14 +23,14 @@ pub fn read_page<D: Disk>(disk: &mut D, page: u32, bytes: &mut [u8; 4096]) -> Re
     disk.read_at(PAGE * u64::from(page), bytes)
 }
 
-// The byte at a place of a file in memory; past its end it is 0.
+// Returns the byte at place `place` of a file in memory, or 0 past its end.
 fn byte_at(file: &[u8], place: usize) -> u8
     ensures { result ≡ slice_index file.now place }
 {
     if place < file.len() { file[place] } else { 0 }
 }
 
-// A page of bytes in memory, where they have all of it.
+// Returns page `page` of a file in memory, if the file has all of it.
 pub fn whole_page(file: &[u8], page: u32) -> Option<&[u8; 4096]>
     ensures { IfSome result (λ bytes. bytes.now ≡ page_of file.now page) }
 {
@@ -41,7 +41,7 @@ pub fn whole_page(file: &[u8], page: u32) -> Option<&[u8; 4096]>
     file[from..].first_chunk()
 }
 
-// Copies a page of bytes in memory, past whose end all are 0.
+// Copies page `page` of a file in memory. Bytes past the end of the file are 0.
 fn copy_page(file: &[u8], page: u32, bytes: &mut [u8; 4096])
     ensures { bytes.new ≡ page_of file.now page }
 {
@@ -51,7 +51,7 @@ fn copy_page(file: &[u8], page: u32, bytes: &mut [u8; 4096])
     }
 }
 
-// Whether nodes may stand on a page.
+// Returns whether page `page` may hold a node.
 #[tactic(auto, unfolding(crate::specs::Reading::is_within))]
 pub fn is_within(pages: u32, page: u32) -> bool
     ensures test { result ≡ is_within pages page }
@@ -60,8 +60,8 @@ pub fn is_within(pages: u32, page: u32) -> bool
     page >= 3 && page < pages
 }
 
-/// The node that the bytes of a page spell, in a file of version 1 or 2 over points of `dim` coordinates. A page that
-/// spells none is `Bad`; no other refusal comes but `Memory`.
+/// Returns the node that a page's bytes spell, in a file of version 1 or 2 over points of `dim` coordinates. A page that spells no
+/// node is `Bad`; no other refusal comes but `Memory`.
 pub fn node_on(
     alloc: Global,
     page: u32,
@@ -86,7 +86,8 @@ pub fn node_on(
     }
 }
 
-// The node of a page that bytes in memory do not have whole, in a file of version 2: on the page with this number among theirs.
+// Returns the node on a page that a file in memory may have only in part, in a file of version 2. The node is on the page with this
+// number among the bytes' pages.
 pub fn node_on_cut(
     alloc: Global,
     file: &[u8],
@@ -106,7 +107,7 @@ pub fn node_on_cut(
     node_on(alloc, page, &bytes, dim, false)
 }
 
-// Reads a node as the version has it.
+// Reads a node in the given version.
 fn decode(
     alloc: Global,
     bytes: &[u8; 4096],

@@ -23,24 +23,24 @@ pub struct NewTree {
     pub root: u32,
     /// The root's level.
     pub height: u32,
-    /// The number of objects that it has more than the old tree.
+    /// The number of objects that the tree has more than the old one.
     pub added: u32,
-    /// The pages of the old tree that are not in it.
+    /// The pages of the old tree that are not in this tree.
     pub left: Vec<u32>,
 }
 
 /// Why new nodes could not get pages.
 #[derive(Clone, Copy, Debug, PartialEq, Eq, Error)]
 pub enum RoomFault {
-    /// The new nodes need so many pages more than the file may have.
+    /// The new nodes need `needed` pages after `pages`, more than the file may have.
     #[error("no room for {needed} pages after {pages}")]
     NoRoom { pages: u32, needed: u32 },
-    /// There was no memory.
+    /// Memory ran out.
     #[error("out of memory")]
     Memory,
 }
 
-// Stages the nodes, which are handed in backward, each on its page.
+// Stages the nodes, each on its page. They are given in reverse order.
 fn stage_all(
     numbering: &Numbering<'_>,
     nodes: &mut Vec<Node>,
@@ -78,15 +78,15 @@ fn number_nodes(
     Ok(staged)
 }
 
-// The side of a file's other slot.
+// Returns the side of a file's other slot.
 fn other_side(side: u8) -> u8
     ensures { result ≡ 1 - side }
 {
     if side == 0 { 1 } else { 0 }
 }
 
-/// Gives the nodes of a new tree their pages, and says what the next live slot holds. `NoRoom` comes exactly where the
-/// nodes that get none of the numbers need more pages than a file may have.
+/// Gives the nodes of a new tree their pages, and returns what the next live slot holds. `NoRoom` comes exactly where the nodes
+/// beyond the given numbers need more pages than a file may have.
 pub fn settle(
     alloc: Global,
     numbering: &Numbering<'_>,
@@ -103,7 +103,7 @@ pub fn settle(
     requires height { tree.height ≤ 14 }
     requires root { (i : ℕ) × (i < length tree.nodes.items) × (tree.root ≡ number_at numbering.now.numbers.now numbering.now.first i) }
 
-    // Node i stands on page i of the numbers and then from the end on.
+    // Node i stands on page i of the numbers, and further nodes on the pages from the end on.
     ensures staged { IfOk result (λ placed. placed.staged ≡ numbered (number_at numbering.now.numbers.now numbering.now.first) 0 tree.nodes.items) }
     ensures next { IfOk result (λ placed. placed.next ≡ record {
       side = 1 - live.now.side;
@@ -115,12 +115,12 @@ pub fn settle(
     }) }
     ensures left { IfOk result (λ placed. placed.left ≡ tree.left.items) }
 
-    // Under every head that allows so many objects, and whose pages can hold the nodes, this can be committed.
+    // The placement can be committed under each head that allows this number of objects and whose pages can hold the nodes.
     ensures placement { IfOk result (λ placed. (head : Head) → live.now.count + tree.added ≤ head.limit →
         AllByRecursion (IsLawfulNode head.dim) tree.nodes.items →
         IsPlacement head live.now numbering.now.numbers.now tree.added placed) }
 
-    // When it is refused.
+    // When settling fails.
     ensures room { OnOk result (live.now.pages + (length tree.nodes.items - length numbering.now.numbers.now) ≤ 2 ^ 24) }
     ensures cause { IfErr result (HasRoomCause live.now (length tree.nodes.items - length numbering.now.numbers.now)) }
 {

@@ -8,7 +8,7 @@ use std::marker::Model;
 use std::rc::Rc;
 use tree_shape::Node;
 
-/// A node that may have several holders: one more holder costs no copy of its entries. Contracts see the node.
+/// A node that may have several holders. Another holder costs no copy of its entries. Contracts see the node.
 #[derive(Drop)]
 pub struct SharedNode {
     node: Rc<Node>,
@@ -23,7 +23,7 @@ impl Model for SharedNode {
 }
 
 impl SharedNode {
-    /// This node, with one holder.
+    /// Makes a node with one holder.
     pub fn new(alloc: Global, node: Node) -> Result<Self, Memory>
         ensures { IfOk result (λ shared. shared ≡ node) }
     {
@@ -31,14 +31,14 @@ impl SharedNode {
         Ok(SharedNode { node })
     }
 
-    /// The node.
+    /// Returns the node.
     pub fn as_ref(&self) -> &Node
         ensures { result.now ≡ self.now }
     {
         self.node.as_ref()
     }
 
-    /// The same node for one holder more.
+    /// Adds a holder of the same node.
     pub fn share(&self) -> Result<Self, Memory>
         ensures { IfOk result (λ shared. shared ≡ self.now) }
     {
@@ -46,7 +46,7 @@ impl SharedNode {
         Ok(SharedNode { node })
     }
 
-    /// The node for its holder alone: itself where there is no other, and else a copy.
+    /// Returns the node as a value: itself where it has no other holder, otherwise a copy.
     pub fn into_node(self, alloc: Global) -> Result<Node, Memory>
         ensures { IfOk result (λ node. node ≡ self) }
     {

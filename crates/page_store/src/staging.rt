@@ -17,7 +17,7 @@ pub struct StagedNode {
     pub node: Node,
 }
 
-/// The new nodes of one commit, in the order of staging. No two are for one page.
+/// The new nodes of one commit, in the order of staging. No two are for the same page.
 #[derive(Drop)]
 pub struct Staged {
     nodes: Vec<StagedNode>,
@@ -36,7 +36,7 @@ impl Model for Staged {
 }
 
 impl Staged {
-    /// No node as yet.
+    /// Makes an empty list of staged nodes.
     pub fn new(alloc: Global) -> Self
         ensures { result ≡ [] }
     {
@@ -45,7 +45,7 @@ impl Staged {
         }
     }
 
-    /// Adds a node for a page.
+    /// Stages `node` for page `page`.
     pub fn stage(&mut self, page: u32, node: Node) -> Result<(), Memory>
         requires { IsFree self.old page }
         ensures ok { OnOk result (self.new ≡ self.old ++ record { page = page; node = node } ∷ []) }
@@ -55,7 +55,7 @@ impl Staged {
         Ok(())
     }
 
-    /// The node that is staged for a page, if one is.
+    /// Returns the node that is staged for page `page`, if there is one.
     pub fn get(&self, page: u32) -> Option<&Node>
         ensures { MatchOption result (staged_for self.now page ≡ None) (λ node. staged_for self.now page ≡ Some node.now) }
     {
@@ -67,21 +67,21 @@ impl Staged {
         None
     }
 
-    /// The number of nodes.
+    /// Returns the number of nodes.
     pub fn len(&self) -> usize
         ensures { result ≡ length self.now }
     {
         self.nodes.len()
     }
 
-    /// Whether no node is staged.
+    /// Returns whether no node is staged.
     pub fn is_empty(&self) -> bool
         ensures { result ≡ (length self.now == 0) }
     {
         self.nodes.is_empty()
     }
 
-    /// What was staged as number `i`, from 0.
+    /// Returns what was staged as number `i`, counted from 0.
     pub fn at(&self, i: usize) -> &StagedNode
         requires { i < length self.now }
         ensures { slice_get self.now i ≡ Some result.now }
@@ -89,7 +89,7 @@ impl Staged {
         &self.nodes[i]
     }
 
-    /// The page of the node that was staged as number `i`, from 0.
+    /// Returns the page of the node that was staged as number `i`, counted from 0.
     pub fn page_at(&self, i: usize) -> u32
         requires { i < length self.now }
         ensures { (s : StagedNode) → slice_get self.now i ≡ Some s → result ≡ s.page }
@@ -97,7 +97,7 @@ impl Staged {
         self.nodes[i].page
     }
 
-    /// The node that was staged as number `i`, from 0.
+    /// Returns the node that was staged as number `i`, counted from 0.
     pub fn node_at(&self, i: usize) -> &Node
         requires { i < length self.now }
         ensures { (s : StagedNode) → slice_get self.now i ≡ Some s → result.now ≡ s.node }
@@ -105,7 +105,7 @@ impl Staged {
         &self.nodes[i].node
     }
 
-    /// No two nodes are for one page.
+    /// Shows that no two nodes are staged for one page.
     pub fn are_apart(&self)
         ensures { AreApart self.now }
     {
@@ -113,12 +113,12 @@ impl Staged {
     }
 }
 
-/// What an insertion or a bulk load makes of a tree.
+/// The result of an insertion or a bulk load.
 #[derive(Drop)]
 pub struct Placed {
     /// The new nodes.
     pub staged: Staged,
-    /// The live tree that they make.
+    /// The live tree that the new nodes make.
     pub next: Live,
     /// The pages of the old tree that are not in the new one.
     pub left: Listed<u32>,

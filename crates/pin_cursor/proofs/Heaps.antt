@@ -48,7 +48,7 @@ pub not_beyond : (reach : Option ℕ) (xs : List (Reverse Subtree)) (top other :
 not_beyond None xs top other up i near far = far
 not_beyond (Some reach) xs top other up i near far = near (let l = least_low top xs up other.0 i in omega arith)
 
--- a list of one is in one order
+-- a list of one element has only one order
 pub one_alone : (x : Subtree) (ys : List Subtree) → IsPermutation (x ∷ []) ys → ys ≡ x ∷ []
 one_alone x ys moved = only ys (length_permutation (x ∷ []) ys moved) (in-permutation (x ∷ []) ys x moved (inl refl))
   where

@@ -54,6 +54,6 @@ module _ (nodes : Nodes) (start : List ℕ) (count : ℕ) (xs rest : List Subtre
           let same = times_named s q k (inner_entries (Some node)) in
           omega arith
 
-  -- a subtree comes behind as many
+  -- a walk by child numbers reaches a waiting subtree after opening as many pages
   pub opens_before : (most : ℕ) → count ≡ most → OpensBefore nodes start most x.page
   opens_before most is = (pages xs, subst (λ (n : ℕ). HasOpened nodes start n (pages xs)) is so_far, waits)

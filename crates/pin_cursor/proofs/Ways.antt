@@ -200,7 +200,7 @@ module _ (s : Space) (axioms : IsSpace s) (old : Shelf) (live : Live) (q : List 
             let held = holds x.page (page_there s axioms nodes here q_fits sound so_far x rest popped) in
             let wrong : None ≡ Some some.0 = sym none ∙ held ∙ some.1 in cc
 
-        -- on a sound tree nothing but a passing fault is refused
+        -- on a sound tree only a passing fault is refused
         pub way_passes : (new : Shelf) (fault : PageFault) → HasPageCause now new x.page fault → IsPassing fault
         way_passes new Disk cause = tt
         way_passes new Memory cause = tt

@@ -1,4 +1,4 @@
--- What a step does, and why it may refuse.
+-- What a step does, and why it may fail.
 use Rattle.std.specs.Prelude.{◌≡◌, ◌≢◌, ◌⊎◌, ℕ, ◌+◌, ◌-◌, ◌*◌, ◌≤◌, false, List, [], ◌∷◌, ◌++◌, length, map, take, Some, Err, IsTrue, IsPermutation}
 use Rattle.std.specs.List.{AllByRecursion, flat_map}
 use Rattle.metric_laws.specs.Space.{Space}
@@ -24,9 +24,9 @@ use Rattle.pin_cursor.specs.Cursor.{OpenCursor, IsCursorOn, IsWalked, HoldsTree,
 abbrev pub IsReachedFrom : Nodes → OpenCursor → ℕ → Type 0
 IsReachedFrom nodes c page = (x : Subtree) × IsIn x c.subtrees × IsReached nodes x.page page
 
--- why a step refuses: the disk failed or memory ran out; or a reached page holds no node, or is none of the file's; or
--- this step and those that answered before it opened as many nodes as the file has pages, and this reached one was to
--- be opened besides, to which a walk by child numbers comes behind as many, where the cursor is one
+-- why a step fails: the disk failed; memory ran out; a reached page holds no node, or is outside the file; or this step and the
+-- earlier successful ones opened as many nodes as the file has pages, and this reached page was to be opened too. Where the cursor
+-- is a walk by child numbers, such a walk reaches the page after opening as many pages
 abbrev pub HasStepCause : OpenCursor → Shelf → Shelf → PageFault → Type 0
 HasStepCause c old new Disk = Rose old.faults new.faults
 HasStepCause c old new Memory = Unit {0}
@@ -40,14 +40,14 @@ HasStepCause c old new (Repeats page) =
     × (IsWalked (nodes_of old.read) c → OpensBefore (nodes_of old.read) (c.live.root ∷ []) c.live.pages page))
 HasStepCause c old new (Level page) = ⊥
 
--- a page was opened: the objects of its leaf are candidates, the subtrees of its inner node wait
+-- a page was opened: the objects of its leaf become candidates, and the subtrees of its inner node wait
 pub record IsOpened (s : Space) (q : List ℕ) (shelf : Shelf) (page : ℕ) (old new : List Candidate) (before after : List Subtree) : Type 0 where
   pub node : Node
   pub is : IsNodeOf shelf page node
   pub candidates : IsPermutation (map (candidate_of s q) (leaf_entries (Some node)) ++ old) new
   pub subtrees : IsPermutation (map (subtree_of s q) (inner_entries (Some node)) ++ before) after
 
--- what stands in the node of a subtree's page: the objects of a leaf, the subtrees of an inner node
+-- the contents of the node on a subtree's page: the objects of a leaf, the subtrees of an inner node
 abbrev pub objects_in : Space → List ℕ → Nodes → Subtree → List Candidate
 objects_in s q nodes x = map (candidate_of s q) (leaf_entries (nodes x.page))
 
@@ -58,8 +58,8 @@ subtrees_in s q nodes x = map (subtree_of s q) (inner_entries (nodes x.page))
 abbrev pub HasNode : Nodes → Subtree → Type 0
 HasNode nodes x = (node : Node) × (nodes x.page ≡ Some node)
 
--- On any tree: some subtrees were opened, and each of them has a node. Every subtree that waited, or that stands in these
--- nodes, was opened or waits now; every object that waited, or that stands in them, was given or waits now.
+-- On any tree: some subtrees were opened, and each of them has a node. Each subtree that waited, or is in one of these nodes, was
+-- opened or waits now. Each object that waited, or is in one of these nodes, was given or waits now.
 pub record IsAccounted (s : Space) (nodes : Nodes) (old new : OpenCursor) (hits : List Hit) (tags : List ℕ) : Type 0 where
   pub opened : List Subtree
   pub given : List Candidate
@@ -70,14 +70,14 @@ pub record IsAccounted (s : Space) (nodes : Nodes) (old new : OpenCursor) (hits 
   pub hits_are : hits ≡ map hit_of given
   pub tags_are : tags ≡ map (λ c. c.tag) given
 
--- these are the next hits with their tags, and the cursor stands behind them
+-- the hits are the next ones, with their tags, and the cursor stands after them
 pub record Gives (s : Space) (nodes : Nodes) (old new : OpenCursor) (hits : List Hit) (tags : List ℕ) : Type 0 where
   pub hits_are : hits ≡ take (length hits) (rest_of s nodes old)
   pub tags_are : tags ≡ tags_of nodes old.live hits
   pub stands : IsCursorOn s nodes new
 
--- A cursor has given some hits and opened some nodes, and asked for each of these once. Where it was a walk by child numbers, it is
--- one still; where the pages tell a sound tree, on which it stood, these are the next hits, and it stands there.
+-- A cursor has given some hits and opened some nodes, and asked for each of these nodes once. Where it was a walk by child numbers,
+-- it still is one. Where the pages tell a sound tree that it stood on, the hits are the next ones, and it still stands on the tree.
 pub record IsUnderWay (s : Space) (old now : Shelf) (start c : OpenCursor) (hits : List Hit) (tags : List ℕ) : Type 0 where
   pub same : HoldsSame old now
   pub more : start.opened ≤ c.opened
@@ -101,7 +101,7 @@ stage live q given opened xs cs = record { live = live; point = q; given = given
 abbrev pub HasGiven : ℕ → List Hit → List Candidate → List Subtree → Type 0
 HasGiven n hits cs xs = (length hits ≡ n) ⊎ ((length hits ≤ n) × (cs ≡ []) × (xs ≡ []))
 
--- these are the next n hits, or all that are left, with their tags; and the cursor stands behind them
+-- the hits are the next n, or all that are left, with their tags; and the cursor stands after them
 pub record GivesNext (s : Space) (nodes : Nodes) (old new : OpenCursor) (n : ℕ) (hits : List Hit) (tags : List ℕ) : Type 0 where
   pub hits_are : hits ≡ take n (rest_of s nodes old)
   pub tags_are : tags ≡ tags_of nodes old.live hits

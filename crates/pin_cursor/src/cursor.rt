@@ -20,7 +20,7 @@ use std::alloc::Global;
 use std::marker::Model;
 use tree_shape::Live;
 
-/// Gives the objects of the tree of one live slot by their distance from a point, then by id, some at a time.
+/// A cursor over the tree of one live slot. It gives the objects by their distance from a point, then by id, some at a time.
 #[derive(Drop)]
 pub struct Cursor {
     live: Live,
@@ -40,7 +40,7 @@ impl Model for Cursor {
     ghost invariant = { λ c. (c.opened ≤ c.live.pages) × (c.given + length c.candidates ≤ 32 * c.opened) };
 }
 
-/// What a step gives.
+/// The result of a step.
 #[derive(Drop)]
 pub struct Stepped {
     /// The next hits, by distance, then by id.
@@ -50,7 +50,7 @@ pub struct Stepped {
 }
 
 impl Cursor {
-    /// A cursor before the first object. Only its root waits.
+    /// Opens a cursor before the first object. Only its root waits.
     pub fn open(alloc: Global, live: Live, q: Point) -> Result<Self, Memory>
         ensures begun { IfOk result (λ c. c ≡ begun live q) }
         ensures starts { IfOk result (λ c. (s : Space) (nodes : Nodes) → IsSpace s → IsSoundTree s nodes live → IsTrue (s.fits q) → IsCursorOn s nodes c) }
@@ -70,33 +70,32 @@ impl Cursor {
         })
     }
 
-    /// The live slot whose tree the cursor goes through.
+    /// Returns the live slot whose tree the cursor goes through.
     pub fn live(&self) -> Live
         ensures { result ≡ self.now.live }
     {
         self.live
     }
 
-    /// The point from which distances are measured.
+    /// Returns the point that distances are measured from.
     pub fn point(&self) -> &[u32]
         ensures { result.now ≡ self.now.point }
     {
         self.point.as_slice()
     }
 
-    /// How many hits the cursor has given.
+    /// Returns the number of hits that the cursor has given.
     pub fn given(&self) -> u64
         ensures { result ≡ self.now.given }
     {
         self.given
     }
 
-    /// The next `n` hits, or all that are left. After a refusal the cursor is as before.
+    /// Returns the next `n` hits, or all that are left. After a refusal the cursor is as before.
     ///
-    /// A page that holds no node is `Bad`, one below 3 or not below the number of pages is `Outside`; where this step
-    /// and those that answered before it opened as many nodes as the file has pages and a further one is to be opened,
-    /// that one is `Repeats`. None of these comes on a sound tree. `Disk` comes where the disk failed, and `Memory`
-    /// where there was no memory.
+    /// A page that holds no node is `Bad`. A page below 3 or not below the number of pages is `Outside`. A page is `Repeats` where
+    /// this step and the earlier successful ones opened as many nodes as the file has pages, and this page is to be opened too. None
+    /// of these comes on a sound tree. `Disk` comes where the disk failed, and `Memory` where memory ran out.
     pub fn step<P: Pages, R: Ruler>(
         &mut self,
         alloc: Global,
@@ -116,7 +115,7 @@ impl Cursor {
         ensures few { IfOk result (λ stepped. length stepped.hits ≤ n) }
         ensures each { IfOk result (λ stepped. length stepped.tags ≡ length stepped.hits) }
         ensures unchanged { OnErr result (self.new ≡ self.old) }
-        // On the tree of a sound file, which the pages still hold, these are the scan's next hits, with their tags.
+        // On the tree of a sound file that the pages still hold, the hits are the scan's next hits, with their tags.
         ensures gives { IfOk result (λ stepped. (nodes : Nodes) → IsTrue (P.shelf pages.old).tells →
             IsSoundTree (R.M.space (R.metric ruler.old)) nodes self.old.live → HoldsTree nodes self.old.live (P.shelf pages.old) →
             IsCursorOn (R.M.space (R.metric ruler.old)) nodes self.old →
@@ -125,7 +124,7 @@ impl Cursor {
             IsSoundTree (R.M.space (R.metric ruler.old)) nodes self.old.live → HoldsTree nodes self.old.live (P.shelf pages.old) →
             IsCursorOn (R.M.space (R.metric ruler.old)) nodes self.old → IsPassing fault) }
         ensures cause { IfErr result (HasStepCause self.old (P.shelf pages.old) (P.shelf pages.new)) }
-        // On any tree: as many hits as are wanted, or all; and what was opened, met and given adds up.
+        // On any tree it gives as many hits as are wanted, or all; and what was opened, met and given adds up.
         ensures ends { IfOk result (λ stepped. HasGiven n stepped.hits self.new.candidates self.new.subtrees) }
         ensures accounted { IfOk result (λ stepped. IsTrue (P.shelf pages.old).tells →
             IsAccounted (R.M.space (R.metric ruler.old)) (nodes_of (P.shelf pages.old).read) self.old self.new stepped.hits
@@ -136,7 +135,7 @@ impl Cursor {
         // A cursor that is a walk by child numbers stays one.
         ensures walks { IfOk result (λ _. IsTrue (P.shelf pages.old).tells →
             IsWalked (nodes_of (P.shelf pages.old).read) self.old → IsWalked (nodes_of (P.shelf pages.old).read) self.new) }
-        // An opened node is asked for once. Over all steps that answer Ok no more are opened than the file has pages.
+        // Each opened node is asked for once. Over all successful steps at most as many are opened as the file has pages.
         ensures opened { IfOk result (λ _. (self.old.opened ≤ self.new.opened) × (self.new.opened ≤ self.old.live.pages)) }
         ensures work { IfOk result (λ _. (P.shelf pages.new).asked ≡ count_up (P.shelf pages.old).asked (self.new.opened - self.old.opened)) }
         ensures asked { CountsUpTo (P.shelf pages.old).asked (P.shelf pages.new).asked (self.old.live.pages - self.old.opened) }
@@ -159,7 +158,7 @@ impl Cursor {
         }
     }
 
-    // The cursor after a step.
+    // Takes over the state of a finished step, and returns what it gives.
     fn settle(&mut self, walk: Walk) -> Stepped
         requires few { walk.opened ≤ self.old.live.pages }
         requires room { walk.given + length walk.candidates ≤ 32 * walk.opened }

@@ -1,5 +1,5 @@
-//! A cursor that gives the objects of one tree by distance, then by id, some at a time. The tree is that of the live
-//! slot at the cursor's opening; somebody else keeps its pages.
+//! A cursor that gives the objects of one tree by distance, then by id, some at a time. The tree is that of the live slot when the
+//! cursor was opened; the caller keeps its pages.
 #![tactic(auto)]
 
 mod cursor;
@@ -12,5 +12,5 @@ mod walk;
 pub use cursor::{Cursor, Stepped};
 pub use waiting::{Candidate, Subtree};
 
-/// Want of memory.
+/// The error when memory runs out.
 pub type Memory = std::alloc::AllocError;

@@ -1,4 +1,4 @@
-//! Opens a page.
+//! Opens a page for a cursor.
 
 ghost use Rattle.std.specs.Prelude.{◌≡◌, ◌+◌, ◌≤◌, ◌++◌, map, IfErr, OnOk, IsPermutation};
 ghost use Rattle.metric_laws.specs.Counts.{next_count};
@@ -35,7 +35,7 @@ pub fn meet_objects<R: Ruler>(
     Ok(())
 }
 
-/// Adds an inner node's subtrees to those that wait.
+/// Adds an inner node's subtrees to the waiting ones.
 pub fn queue_subtrees<R: Ruler>(
     ruler: &mut R,
     q: &[u32],
@@ -55,7 +55,7 @@ pub fn queue_subtrees<R: Ruler>(
     Ok(())
 }
 
-/// Opens a page: what stands in its node waits from now on.
+/// Opens a page: the objects or subtrees of its node wait from now on.
 pub fn open_page<P: Pages, R: Ruler>(
     alloc: Global,
     pages: &mut P,

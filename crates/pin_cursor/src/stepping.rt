@@ -14,17 +14,17 @@ use page_store::{PageFault, Pages};
 use std::alloc::Global;
 use tree_shape::Live;
 
-/// What a step is for.
+/// The goal of a step.
 #[derive(Clone, Copy)]
 pub struct Goal<'a> {
     /// The cursor's point.
     pub q: &'a [u32],
-    /// How many hits are wanted.
+    /// The number of hits that are wanted.
     pub n: u64,
 }
 
-/// Gives the next hits: as many as are wanted, or all that are left. A subtree is opened before a candidate is given
-/// that is as far as the subtree may be near, since it may hold an object of a lower id (VLDB 1997, section 4.2).
+/// Gives the next hits: as many as are wanted, or all that are left. A subtree is opened before a candidate at the same distance as
+/// the subtree's lower bound is given, since it may hold an object with a lower id (VLDB 1997, section 4.2).
 pub fn advance<P: Pages, R: Ruler>(
     alloc: Global,
     pages: &mut P,

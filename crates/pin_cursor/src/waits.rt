@@ -10,7 +10,7 @@ use std::cmp::Reverse;
 use std::collections::BinaryHeap;
 use std::marker::Model;
 
-// Whether a distance is beyond the reach. Nothing is beyond none.
+// Returns whether a distance is beyond the reach. Without a reach nothing is beyond it.
 fn is_beyond(reach: Option<u64>, low: u64) -> bool
     ensures { IsTrue result ↔ IsBeyond reach low }
 {
@@ -35,7 +35,7 @@ impl Model for Subtrees {
 }
 
 impl Subtrees {
-    /// No subtrees.
+    /// Makes an empty set of subtrees.
     pub fn new(alloc: Global) -> Self
         ensures { result ≡ [] }
     {
@@ -44,7 +44,7 @@ impl Subtrees {
         }
     }
 
-    /// The same subtrees again.
+    /// Copies the subtrees.
     pub fn copy(&self) -> Result<Self, AllocError>
         ensures { IfOk result (λ copy. copy ≡ self.now) }
     {
@@ -60,8 +60,8 @@ impl Subtrees {
         Ok(())
     }
 
-    /// Takes the nearest subtree, unless each is further than the reach. One that is as far is taken: it may hold an
-    /// object of a lower id.
+    /// Takes the nearest subtree, unless each is further than the reach. A subtree exactly at the reach is taken: it may hold an
+    /// object with a lower id.
     pub fn take_within(&mut self, reach: Option<u64>) -> Option<Subtree>
         ensures some { IfSome result (λ x. IsPermutation self.old (x ∷ self.new)) }
         ensures within { IfSome result (λ x. IsBeyond reach x.low → ⊥) }
@@ -96,7 +96,7 @@ impl Model for Candidates {
 }
 
 impl Candidates {
-    /// No candidates.
+    /// Makes an empty set of candidates.
     pub fn new(alloc: Global) -> Self
         ensures { result ≡ [] }
     {
@@ -105,7 +105,7 @@ impl Candidates {
         }
     }
 
-    /// The same candidates again.
+    /// Copies the candidates.
     pub fn copy(&self) -> Result<Self, AllocError>
         ensures { IfOk result (λ copy. copy ≡ self.now) }
     {
@@ -121,7 +121,7 @@ impl Candidates {
         Ok(())
     }
 
-    /// How far the nearest candidate is, where one waits.
+    /// Returns the distance of the nearest candidate, if there is one.
     pub fn reach(&self) -> Option<u64>
         ensures { IsReach self.now result }
     {
@@ -131,7 +131,7 @@ impl Candidates {
         }
     }
 
-    /// Takes the nearest candidate, of those that are as near the one of the lowest id.
+    /// Takes the nearest candidate; of equally near ones, the one with the lowest id.
     pub fn take_first(&mut self) -> Option<Candidate>
         ensures some { IfSome result (λ x. IsPermutation self.old (x ∷ self.new)) }
         ensures first { IfSome result (λ x. IsFirst x self.old) }

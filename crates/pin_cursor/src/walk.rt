@@ -6,25 +6,25 @@ use crate::waits::{Candidates, Subtrees};
 use scan_model::Hit;
 use std::alloc::{AllocError, Global};
 
-/// A step in the middle.
+/// The state of a step in progress.
 #[derive(Drop)]
 pub struct Walk {
     /// The subtrees that are not opened yet.
     pub subtrees: Subtrees,
     /// The objects that were met and are not given yet.
     pub candidates: Candidates,
-    /// How many nodes were opened, with those of earlier steps.
+    /// The number of opened nodes, including those of earlier steps.
     pub opened: u32,
-    /// How many hits were given, with those of earlier steps.
+    /// The number of hits given, including those of earlier steps.
     pub given: u64,
     /// The hits of this step.
     pub hits: Vec<Hit>,
-    /// Their tags.
+    /// The tags of these hits.
     pub tags: Vec<u64>,
 }
 
 impl Walk {
-    /// A step that begins with these.
+    /// Begins a step with the cursor's subtrees, candidates and counts.
     pub fn begin(
         alloc: Global,
         subtrees: Subtrees,
@@ -49,7 +49,7 @@ impl Walk {
         }
     }
 
-    /// Gives a candidate.
+    /// Gives a candidate as the next hit.
     pub fn give(&mut self, next: Candidate) -> Result<(), AllocError>
         requires { self.old.given + 1 < 2 ^ 64 }
         ensures subtrees { self.new.subtrees ≡ self.old.subtrees }

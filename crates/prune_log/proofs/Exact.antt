@@ -61,7 +61,7 @@ pub record IsReader {X : Type 0} (Fits : X → Type 0) (spelled : X → List ℕ
 
 -- ---- numbers
 
--- so many bytes spell each number below the limit, and each such number is spelled
+-- `n` bytes spell each number below the limit, and each such number is spelled
 pub record IsWide (n limit : ℕ) : Type 0 where
   pub back : (bytes : List ℕ) → length bytes ≡ n → IsBytes bytes → big_bytes n (big_number n bytes) ≡ bytes
   pub again : (x : ℕ) (rest : List ℕ) → x < limit → big_number n (big_bytes n x ++ rest) ≡ x

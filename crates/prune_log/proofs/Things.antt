@@ -139,7 +139,7 @@ side_reader = record { takes = side_takes; again = side_again }
 
 -- ---- short lists
 
--- a number of so few things is one byte
+-- a number below 256 is one byte
 one_byte : (n : ℕ) → n < 256 → big_bytes 1 n ≡ n ∷ []
 one_byte n lt = ap (λ (m : ℕ). m ∷ []) (mod-eq_of_lt lt)
 
@@ -175,7 +175,7 @@ short_reader {X} Fits spelled reads reader test fault = record { takes = taken; 
 le_test : (m n : ℕ) → m ≤ n → nat_le m n ≡ true
 le_test m n le = grind (arith, nat_tests)
 
--- as many marks as a node may have entries
+-- at most as many marks as a node may have entries
 abbrev pub AreMarks : List Mark → Type 0
 AreMarks ms = length ms ≤ 32
 

@@ -26,7 +26,7 @@ FaultIsNoLog = (bytes : List ℕ) → IsBytes bytes → (log_fault bytes ≡ Non
 abbrev pub FaultIsNoJoinLog : Type 0
 FaultIsNoJoinLog = (bytes : List ℕ) → IsBytes bytes → (join_log_fault bytes ≡ None) ↔ ((log : JoinLog) × SpellsJoinLog bytes log)
 
--- bytes spell one log
+-- bytes spell at most one log
 abbrev pub OneLog : Type 0
 OneLog = (bytes : List ℕ) (log other : Log) → SpellsLog bytes log → SpellsLog bytes other → log ≡ other
 

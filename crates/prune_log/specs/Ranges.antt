@@ -1,4 +1,4 @@
--- The fields of a log in the ranges of their types, which each log of the code keeps.
+-- The ranges of a log's fields by their types. Each log of the code keeps them.
 use Rattle.std.specs.Prelude.{ℕ, ◌<◌, ◌^◌, List, slice_index}
 use Rattle.std.specs.List.{AllByRecursion}
 use Rattle.scan_model.specs.declared.hit.Hit.{Hit}
@@ -27,7 +27,7 @@ pub record PairInRange (p : Pair) : Type 0 where
   pub right : p.right < 2 ^ 32
   pub dist : p.dist < 2 ^ 64
 
--- a query's log
+-- the fields of a query's log are in range
 pub record LogInRange (log : Log) : Type 0 where
   pub generation : log.generation < 2 ^ 64
   pub root : log.root < 2 ^ 32
@@ -35,7 +35,7 @@ pub record LogInRange (log : Log) : Type 0 where
   pub answers : AllByRecursion HitInRange log.answers
   pub pages : AllByRecursion (λ r. r.page < 2 ^ 32) log.records
 
--- a join's log
+-- the fields of a join's log are in range
 pub record JoinLogInRange (log : JoinLog) : Type 0 where
   pub left_generation : log.left.0 < 2 ^ 64
   pub left_root : log.left.1 < 2 ^ 32

@@ -1,4 +1,4 @@
--- Reading from left to right: a value and the bytes behind it, or the first fault that is met.
+-- Reading from left to right gives a value and the bytes behind it, or the first fault that is met.
 use Rattle.std.specs.Prelude.{◌≡◌, ◌≢◌, ℕ, zero, suc, ◌==◌, ◌&&◌, ◌||◌, nat_lt, nat_le, Bool, true, false, List, [], ◌∷◌, length, take, drop, Option, Some, None, Result, Ok, Err, if◌then◌else◌}
 use Rattle.byteorder.specs.Endian.{big_number}
 use Rattle.scan_model.specs.declared.hit.Hit.{Hit}
@@ -26,7 +26,7 @@ abbrev pub ◌>>=◌ : {A B : Type 0} → Result A LogFault → (A → Result B 
 abbrev pub Fails : {Y : Type 0} → LogFault → Result Y LogFault → Type 0
 Fails fault read = fault ≢ faults.Memory → read ≡ Err fault
 
--- what a function returned, seen by view, is what reading gives, unless memory ran out
+-- what a function returned, seen through `view`, is what reading gives, unless memory ran out
 abbrev pub Gives : {X Y : Type 0} → (X → Y) → Result X LogFault → Result Y LogFault → Type 0
 Gives view (Ok x) read = read ≡ Ok (view x)
 Gives view (Err fault) read = Fails fault read
@@ -38,24 +38,24 @@ abbrev pub byte_at : List ℕ → Result (ℕ × List ℕ) LogFault
 byte_at [] = Err faults.Cut
 byte_at (b ∷ rest) = Ok (b, rest)
 
--- a number of so many bytes
+-- a number of `n` bytes
 abbrev pub number_at : ℕ → List ℕ → Result (ℕ × List ℕ) LogFault
 number_at n bytes = if nat_lt (length bytes) n then Err faults.Cut else Ok (big_number n bytes, drop n bytes)
 
 -- ---- lists
 
--- whether a thing may stand behind the last one, if there is one
+-- whether an item may stand behind the last one, if there is one
 abbrev pub may_stand : {X : Type 0} → (X → X → Bool) → Option X → X → Bool
 may_stand follows None x = true
 may_stand follows (Some last) x = follows last x
 
--- the next thing of a list
+-- the next item of a list
 abbrev pub next_at : {X : Type 0} → (List ℕ → Result (X × List ℕ) LogFault) → (X → X → Bool) → Option X → List ℕ → Result (X × List ℕ) LogFault
 next_at reads follows last bytes = do
   x ← reads bytes
   if may_stand follows last x.0 then Ok x else Err faults.Order
 
--- so many things, each of which may stand behind the one before it
+-- the given number of items; each may stand behind the one before it
 unfoldable pub many : {X : Type 0} → (List ℕ → Result (X × List ℕ) LogFault) → (X → X → Bool) → ℕ → Option X → List ℕ → Result (List X × List ℕ) LogFault
 many reads follows zero last bytes = Ok ([], bytes)
 many reads follows (suc n) last bytes = do
@@ -63,11 +63,11 @@ many reads follows (suc n) last bytes = do
   others ← many reads follows n (Some first.0) first.1
   Ok (first.0 ∷ others.0, others.1)
 
--- any thing may stand behind any other
+-- any item may stand behind any other
 abbrev pub always : {X : Type 0} → X → X → Bool
 always last x = true
 
--- ---- the things of logs
+-- ---- the items of logs
 
 unfoldable pub hit_at : List ℕ → Result (Hit × List ℕ) LogFault
 hit_at bytes = do
@@ -84,7 +84,7 @@ mark_at bytes = do
   b ← byte_at bytes
   if b.0 == 0 then Ok (Skip, b.1) else if b.0 == 1 then Ok (Far, b.1) else if b.0 == 2 then Ok (Near, b.1) else Err faults.Mark
 
--- by the left id, then by the right, then by the distance
+-- by the left id, then by the right id, then by the distance
 abbrev pub pair_follows : Pair → Pair → Bool
 pair_follows last p = nat_lt last.left p.left || ((last.left == p.left) && (nat_lt last.right p.right || ((last.right == p.right) && nat_lt last.dist p.dist)))
 
@@ -95,13 +95,13 @@ pair_at bytes = do
   dist ← number_at 8 right.1
   Ok (record { left = left.0; right = right.0; dist = dist.0 }, dist.1)
 
--- a number of things in a byte, where that number passes the test, and the things
+-- a count in one byte, which has to pass the test, and that number of items
 abbrev pub short_at : {X : Type 0} → (ℕ → Bool) → LogFault → (List ℕ → Result (X × List ℕ) LogFault) → List ℕ → Result (List X × List ℕ) LogFault
 short_at test fault reads bytes = do
   count ← byte_at bytes
   if test count.0 then many reads always count.0 None count.1 else Err fault
 
--- as many marks as a node may have entries
+-- the marks of a node, at most as many as a node may have entries
 unfoldable pub marks_at : List ℕ → Result (List Mark × List ℕ) LogFault
 marks_at bytes = short_at (λ n. nat_le n 32) faults.Mark mark_at bytes
 
@@ -123,7 +123,7 @@ join_record_at bytes = do
   marks ← marks_at page.1
   Ok (record { right = side.0; page = page.0; marks = marks.0 }, marks.1)
 
--- a number of things in so many bytes, and the things
+-- a count in `width` bytes, and that number of items
 unfoldable pub listed_at : {X : Type 0} → ℕ → (List ℕ → Result (X × List ℕ) LogFault) → (X → X → Bool) → List ℕ → Result (List X × List ℕ) LogFault
 listed_at width reads follows bytes = do
   count ← number_at width bytes
@@ -139,7 +139,7 @@ opening_at bytes = do
   version ← byte_at next
   if version.0 == 1 then Ok version.1 else Err faults.Version
 
--- what is asked
+-- the kind of the query
 unfoldable pub kind_at : List ℕ → Result (Asked × List ℕ) LogFault
 kind_at bytes = do
   b ← byte_at bytes
@@ -152,7 +152,7 @@ tree_at bytes = do
   root ← number_at 4 generation.1
   Ok ((generation.0, root.0), root.1)
 
--- of nearest objects at least one is asked for
+-- a k-NN query has k at least 1
 abbrev pub is_amount : Asked → ℕ → Bool
 is_amount asked.Range r = true
 is_amount asked.Nearest k = nat_lt 0 k
@@ -165,7 +165,7 @@ query_of asked.Nearest k q = Nearest q k
 unfoldable pub point_at : List ℕ → Result (List ℕ × List ℕ) LogFault
 point_at bytes = short_at (λ n. nat_le 1 n && nat_le n 64) faults.Kind (number_at 4) bytes
 
--- the radius or number, and the point
+-- the radius or k, and the point
 unfoldable pub query_at : Asked → List ℕ → Result (Query × List ℕ) LogFault
 query_at what bytes = do
   amount ← number_at 8 bytes
@@ -208,7 +208,7 @@ join_log_at bytes = do
   records ← listed_at 8 join_record_at always answers.1
   Ok (record { left = trees.0.0; right = trees.0.1; r = r.0; answers = answers.0; records = records.0 }, records.1)
 
--- all of the bytes
+-- a reading that has to take all bytes
 abbrev pub whole : {L : Type 0} → (List ℕ → Result (L × List ℕ) LogFault) → List ℕ → Result L LogFault
 whole reads bytes = do
   log ← reads bytes
@@ -216,11 +216,11 @@ whole reads bytes = do
 
 -- ---- frames
 
--- so many bytes, and the bytes behind them
+-- the first `n` bytes, and the bytes behind them
 abbrev pub front_at : ℕ → List ℕ → Result (List ℕ × List ℕ) LogFault
 front_at n bytes = if nat_lt (length bytes) n then Err faults.Cut else Ok (take n bytes, drop n bytes)
 
--- a frame: the length, and so many bytes, all of which are one log
+-- a frame: a length, and that number of bytes, which together are one log
 unfoldable pub frame_at : {L : Type 0} → (List ℕ → Result (L × List ℕ) LogFault) → List ℕ → Result (L × List ℕ) LogFault
 frame_at reads bytes = do
   size ← number_at 8 bytes
@@ -228,7 +228,7 @@ frame_at reads bytes = do
   log ← whole reads body.0
   Ok (log, body.1)
 
--- the logs of so many frames at most; no bytes are no frames
+-- the logs of at most the given number of frames; empty bytes have no frames
 unfoldable pub frames_within : {L : Type 0} → (List ℕ → Result (L × List ℕ) LogFault) → ℕ → List ℕ → Result (List L) LogFault
 frames_within reads zero bytes = Ok []
 frames_within reads (suc n) [] = Ok []
@@ -237,7 +237,7 @@ frames_within reads (suc n) (b ∷ bytes) = do
   others ← frames_within reads n first.1
   Ok (first.0 ∷ others)
 
--- the logs of all frames, of which there are at most as many as bytes
+-- the logs of all frames; there are at most as many frames as bytes
 abbrev pub frames_at : {L : Type 0} → (List ℕ → Result (L × List ℕ) LogFault) → List ℕ → Result (List L) LogFault
 frames_at reads bytes = frames_within reads (length bytes) bytes
 
@@ -247,18 +247,18 @@ abbrev pub fault_of : {Y : Type 0} → Result Y LogFault → Option LogFault
 fault_of (Ok y) = None
 fault_of (Err fault) = Some fault
 
--- of a query's log
+-- the first fault of a query's log
 abbrev pub log_fault : List ℕ → Option LogFault
 log_fault bytes = fault_of (whole log_at bytes)
 
--- of a join's log
+-- the first fault of a join's log
 abbrev pub join_log_fault : List ℕ → Option LogFault
 join_log_fault bytes = fault_of (whole join_log_at bytes)
 
--- of frames of queries' logs
+-- the first fault of frames of queries' logs
 abbrev pub frames_fault : List ℕ → Option LogFault
 frames_fault bytes = fault_of (frames_at log_at bytes)
 
--- of frames of joins' logs
+-- the first fault of frames of joins' logs
 abbrev pub join_frames_fault : List ℕ → Option LogFault
 join_frames_fault bytes = fault_of (frames_at join_log_at bytes)

@@ -18,7 +18,7 @@ use Rattle.log_model.specs.Grammar.{query_point}
 abbrev pub magic : ℕ
 magic = 1297370183
 
--- a number of things in so many bytes, and the things one after the other
+-- a count in `width` bytes, and the items one after the other
 abbrev pub listed : {X : Type 0} → ℕ → (X → List ℕ) → List X → List ℕ
 listed width spelled xs = big_bytes width (length xs) ++ flat_map spelled xs
 
@@ -58,12 +58,12 @@ abbrev pub kind_bytes : Query → List ℕ
 kind_bytes (Range q r) = 1 ∷ []
 kind_bytes (Nearest q k) = 2 ∷ []
 
--- its radius, or the number of objects that are asked for
+-- the radius of a range query, or k of a k-NN query
 abbrev pub amount_of : Query → ℕ
 amount_of (Range q r) = r
 amount_of (Nearest q k) = k
 
--- the radius or number, and the point
+-- the radius or k, and the point
 abbrev pub query_bytes : Query → List ℕ
 query_bytes query = big_bytes 8 (amount_of query) ++ listed 1 coordinate_bytes (query_point query)
 

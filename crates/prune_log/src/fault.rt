@@ -13,13 +13,13 @@ pub enum LogFault {
     /// The version is not 1.
     #[error("a log of another version")]
     Version,
-    /// The log is of another kind, its point has no coordinate or more than 64, or no object is asked for.
+    /// The log is of another kind, its point has no coordinate or more than 64, or k is 0.
     #[error("a log of another kind")]
     Kind,
     /// A field's bytes are not all there.
     #[error("a log that is cut")]
     Cut,
-    /// There are more marks than a node may have entries, or a mark or a side is none.
+    /// There are more marks than a node may have entries, or the byte of a mark or a side is invalid.
     #[error("a log with a mark that is none")]
     Mark,
     /// An answer does not stand behind the one before it.
@@ -28,7 +28,7 @@ pub enum LogFault {
     /// Bytes are left behind the last record.
     #[error("a log with more in it than its fields")]
     Tail,
-    /// There was no memory for the log.
+    /// Memory ran out.
     #[error("out of memory")]
     Memory,
 }

@@ -1,5 +1,4 @@
-//! The fields of logs, read from the front of bytes and written behind others. Reading is refused as `Cut` where the bytes end
-//! too early.
+//! The fields of logs, read from the front of bytes or appended to bytes. Reading fails with `Cut` where the bytes end too early.
 
 ghost use Rattle.std.specs.Prelude.{◌≡◌, ◌++◌, ◌∷◌, [], length, IfOk, OnOk, OnErr};
 ghost use Rattle.byteorder.specs.Endian.{big_bytes};
@@ -9,7 +8,7 @@ use crate::fault::LogFault;
 use byteorder::{BigEndian, ByteOrder};
 use metric_laws::Memory;
 
-/// The byte in front, and the bytes behind it.
+/// Reads a byte, and returns the bytes behind it too.
 pub fn byte_at(bytes: &[u8]) -> Result<(u8, &[u8]), LogFault>
     ensures { Gives (λ x. (x.0, x.1.now)) result (byte_at bytes.now) }
 {
@@ -19,7 +18,7 @@ pub fn byte_at(bytes: &[u8]) -> Result<(u8, &[u8]), LogFault>
     }
 }
 
-/// The number in the first four bytes, and the bytes behind it.
+/// Reads a number of four bytes, and returns the bytes behind it too.
 pub fn u32_at(bytes: &[u8]) -> Result<(u32, &[u8]), LogFault>
     ensures { Gives (λ x. (x.0, x.1.now)) result (number_at 4 bytes.now) }
 {
@@ -29,7 +28,7 @@ pub fn u32_at(bytes: &[u8]) -> Result<(u32, &[u8]), LogFault>
     Ok((BigEndian::read_u32(bytes), &bytes[4..]))
 }
 
-/// The number in the first eight bytes, and the bytes behind it.
+/// Reads a number of eight bytes, and returns the bytes behind it too.
 pub fn u64_at(bytes: &[u8]) -> Result<(u64, &[u8]), LogFault>
     ensures { Gives (λ x. (x.0, x.1.now)) result (number_at 8 bytes.now) }
 {
@@ -39,7 +38,7 @@ pub fn u64_at(bytes: &[u8]) -> Result<(u64, &[u8]), LogFault>
     Ok((BigEndian::read_u64(bytes), &bytes[8..]))
 }
 
-/// So many bytes, and the bytes behind them.
+/// Returns the first `count` bytes, and the bytes behind them.
 pub fn front_at(bytes: &[u8], count: u64) -> Result<(&[u8], &[u8]), LogFault>
     ensures gives { Gives (λ x. (x.0.now, x.1.now)) result (front_at count bytes.now) }
     ensures size { IfOk result (λ x. length x.0.now ≡ count) }
@@ -50,7 +49,7 @@ pub fn front_at(bytes: &[u8], count: u64) -> Result<(&[u8], &[u8]), LogFault>
     Ok(bytes.split_at(count as usize))
 }
 
-/// Writes a number of four bytes at the end.
+/// Appends a number of four bytes.
 pub fn put_u32(out: &mut Vec<u8>, n: u32) -> Result<(), Memory>
     ensures ok { OnOk result (out.new.items ≡ out.old.items ++ big_bytes 4 n) }
     ensures err { OnErr result (out.new.items ≡ out.old.items) }
@@ -60,7 +59,7 @@ pub fn put_u32(out: &mut Vec<u8>, n: u32) -> Result<(), Memory>
     out.extend_from_slice(&bytes)
 }
 
-/// Writes a number of eight bytes at the end.
+/// Appends a number of eight bytes.
 pub fn put_u64(out: &mut Vec<u8>, n: u64) -> Result<(), Memory>
     ensures ok { OnOk result (out.new.items ≡ out.old.items ++ big_bytes 8 n) }
     ensures err { OnErr result (out.new.items ≡ out.old.items) }

@@ -1,4 +1,4 @@
-// Frames: logs one after the other, each behind its length.
+// Frames: logs one after the other, each preceded by its length.
 ghost use Rattle.std.specs.Prelude.{◌≡◌, ◌++◌, ◌⊎◌, ◌<◌, ◌^◌, ℕ, List, length, All, OnOk, OnErr, IfOk, IfErr, MatchResult, Result, Some};
 ghost use Rattle.log_model.specs.Grammar.{IsLawfulLog, IsLawfulJoinLog};
 ghost use Rattle.log_model.specs.declared.logs.Log.{Log};
@@ -16,12 +16,12 @@ use log_model::{JoinLog, Log};
 use metric_laws::Memory;
 use std::alloc::Global;
 
-/// A log that stands in frames.
+/// A log that is read from frames.
 pub trait Framed: Drop {
-    /// The log in front of bytes and the bytes behind it, or the first fault.
+    /// The log at the front of bytes and the bytes behind it, or the first fault.
     ghost reads: { List ℕ → Result (Self × List ℕ) LogFault };
 
-    /// Reads the log that takes all bytes.
+    /// Reads a log that takes all of `bytes`.
     fn read_whole(alloc: Global, bytes: &[u8]) -> Result<Self, LogFault>
         ensures { Gives (λ log. log) result (whole reads bytes.now) };
 }
@@ -42,7 +42,7 @@ impl Framed for JoinLog {
     }
 }
 
-// The log of the first frame, and the bytes behind it.
+// Reads the log of the first frame, and returns the bytes behind it too.
 #[tactic(auto, unfolding(crate::specs::Reading::frame_at))]
 fn frame_at<L: Framed>(alloc: Global, bytes: &[u8]) -> Result<(L, &[u8]), LogFault>
     ensures gives { Gives (λ x. (x.0, x.1.now)) result (frame_at L.reads bytes.now) }
@@ -57,7 +57,7 @@ fn frame_at<L: Framed>(alloc: Global, bytes: &[u8]) -> Result<(L, &[u8]), LogFau
     Ok((log, rest))
 }
 
-// The logs of all frames.
+// Reads the logs of all frames.
 fn frames<L: Framed>(alloc: Global, bytes: &[u8]) -> Result<Vec<L>, LogFault>
     ensures gives { Gives (λ logs. logs.items) result (frames_at L.reads bytes.now) }
     ensures short { length bytes.now < 2 ^ 64 }
@@ -72,7 +72,7 @@ fn frames<L: Framed>(alloc: Global, bytes: &[u8]) -> Result<Vec<L>, LogFault>
     Ok(logs)
 }
 
-/// Appends a frame of these bytes: their length, and the bytes.
+/// Appends a frame of `bytes`: their length, and the bytes.
 pub fn frame(bytes: &[u8], out: &mut Vec<u8>) -> Result<(), Memory>
     ensures ok { OnOk result (out.new.items ≡ out.old.items ++ frame_bytes bytes.now) }
     ensures err { OnErr result (out.new.items ≡ out.old.items) }
@@ -86,17 +86,16 @@ pub fn frame(bytes: &[u8], out: &mut Vec<u8>) -> Result<(), Memory>
     Ok(())
 }
 
-/// Reads the logs of frames, or names the first fault from left to right, be it a frame's or its log's. No bytes are no
-/// frames.
+/// Reads the logs of frames, or returns the first fault from left to right, of a frame or of its log. Empty bytes have no frames.
 pub fn decode_frames(alloc: Global, bytes: &[u8]) -> Result<Vec<Log>, LogFault>
-    // What is answered is what reading from left to right gives.
+    // The result is what reading from left to right gives.
     ensures gives { Gives (λ logs. logs.items) result (frames_at log_at bytes.now) }
-    // What is read is spelled so.
+    // The bytes spell what is read.
     ensures ok { IfOk result (λ logs. frames_bytes log_bytes logs.items ≡ bytes.now) }
-    // What is read can be written.
+    // What is read can be written again.
     ensures lawful { IfOk result (λ logs. All IsLawfulLog logs.items) }
     ensures in_range { IfOk result (λ logs. All LogInRange logs.items) }
-    // What is spelled so is read, unless memory runs out.
+    // Bytes that spell lawful logs are read as these logs, unless memory runs out.
     ensures only { (logs : List Log) → All IsLawfulLog logs → All LogInRange logs → frames_bytes log_bytes logs ≡ bytes.now →
         MatchResult result (λ read. read.items ≡ logs) (λ fault. fault ≡ LogFault.Memory) }
     ensures fault { IfErr result (λ fault. (fault ≡ LogFault.Memory) ⊎ (frames_fault bytes.now ≡ Some fault)) }
@@ -104,17 +103,17 @@ pub fn decode_frames(alloc: Global, bytes: &[u8]) -> Result<Vec<Log>, LogFault>
     frames(alloc, bytes)
 }
 
-/// Reads the joins' logs of frames, or names the first fault from left to right, be it a frame's or its log's. No bytes
-/// are no frames.
+/// Reads the joins' logs of frames, or returns the first fault from left to right, of a frame or of its log. Empty bytes have no
+/// frames.
 pub fn decode_join_frames(alloc: Global, bytes: &[u8]) -> Result<Vec<JoinLog>, LogFault>
-    // What is answered is what reading from left to right gives.
+    // The result is what reading from left to right gives.
     ensures gives { Gives (λ logs. logs.items) result (frames_at join_log_at bytes.now) }
-    // What is read is spelled so.
+    // The bytes spell what is read.
     ensures ok { IfOk result (λ logs. frames_bytes join_log_bytes logs.items ≡ bytes.now) }
-    // What is read can be written.
+    // What is read can be written again.
     ensures lawful { IfOk result (λ logs. All IsLawfulJoinLog logs.items) }
     ensures in_range { IfOk result (λ logs. All JoinLogInRange logs.items) }
-    // What is spelled so is read, unless memory runs out.
+    // Bytes that spell lawful logs are read as these logs, unless memory runs out.
     ensures only { (logs : List JoinLog) → All IsLawfulJoinLog logs → All JoinLogInRange logs → frames_bytes join_log_bytes logs ≡ bytes.now →
         MatchResult result (λ read. read.items ≡ logs) (λ fault. fault ≡ LogFault.Memory) }
     ensures fault { IfErr result (λ fault. (fault ≡ LogFault.Memory) ⊎ (join_frames_fault bytes.now ≡ Some fault)) }

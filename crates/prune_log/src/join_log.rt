@@ -1,4 +1,4 @@
-// The log of a join.
+// Reads and writes the log of a join.
 ghost use Rattle.std.specs.Prelude.{◌≡◌, ◌++◌, ◌⊎◌, OnOk, IfOk, IfErr, Ok, Err, Some};
 ghost use Rattle.log_model.specs.Grammar.{IsLawfulJoinLog};
 ghost use Rattle.log_model.specs.declared.logs.JoinLog.{JoinLog};
@@ -20,7 +20,7 @@ const JOIN: u8 = 3;
 /// A tree: its generation and the page of its root.
 type Tree = (u64, u32);
 
-// The bytes behind the letters, the version and the kind.
+// Reads the letters, the version and the kind, and returns the bytes behind them.
 #[tactic(auto, unfolding(crate::specs::Reading::join_opening_at))]
 fn join_opening_at(bytes: &[u8]) -> Result<&[u8], LogFault>
     ensures { Gives (λ x. x.now) result (join_opening_at bytes.now) }
@@ -33,7 +33,7 @@ fn join_opening_at(bytes: &[u8]) -> Result<&[u8], LogFault>
     Ok(rest)
 }
 
-// The left tree and the right.
+// Reads the left tree and the right tree.
 #[tactic(auto, unfolding(crate::specs::Reading::trees_at))]
 fn trees_at(bytes: &[u8]) -> Result<((Tree, Tree), &[u8]), LogFault>
     ensures { Gives (λ x. (x.0, x.1.now)) result (trees_at bytes.now) }
@@ -43,7 +43,7 @@ fn trees_at(bytes: &[u8]) -> Result<((Tree, Tree), &[u8]), LogFault>
     Ok(((left, right), rest))
 }
 
-// A join's log, and the bytes behind it.
+// Reads a join's log, and returns the bytes behind it too.
 #[tactic(auto, unfolding(crate::specs::Reading::join_log_at))]
 fn join_log_at(alloc: Global, bytes: &[u8]) -> Result<(JoinLog, &[u8]), LogFault>
     ensures { Gives (λ x. (x.0, x.1.now)) result (join_log_at bytes.now) }
@@ -63,7 +63,7 @@ fn join_log_at(alloc: Global, bytes: &[u8]) -> Result<(JoinLog, &[u8]), LogFault
     Ok((log, rest))
 }
 
-// The join's log that takes all bytes.
+// Reads a join's log that takes all of `bytes`.
 pub fn whole_join_log(alloc: Global, bytes: &[u8]) -> Result<JoinLog, LogFault>
     ensures { Gives (λ log. log) result (whole join_log_at bytes.now) }
 {
@@ -74,15 +74,15 @@ pub fn whole_join_log(alloc: Global, bytes: &[u8]) -> Result<JoinLog, LogFault>
     Ok(log)
 }
 
-/// Reads the join's log that the bytes spell, or names the first fault from left to right. It asks for no more memory
-/// than the bytes that are left can fill.
+/// Reads the join's log that the bytes spell, or returns the first fault from left to right. It asks for no more memory than the
+/// bytes that are left can fill.
 pub fn decode_join_log(alloc: Global, bytes: &[u8]) -> Result<JoinLog, LogFault>
-    // What is read is spelled so.
+    // The bytes spell what is read.
     ensures ok { IfOk result (λ log. join_log_bytes log ≡ bytes.now) }
-    // What is read can be written.
+    // What is read can be written again.
     ensures lawful { IfOk result (λ log. IsLawfulJoinLog log) }
     ensures in_range { IfOk result (λ log. JoinLogInRange log) }
-    // What is spelled so is read, unless memory runs out.
+    // Bytes that spell a lawful log are read as this log, unless memory runs out.
     ensures only { (log : JoinLog) → IsLawfulJoinLog log → JoinLogInRange log → join_log_bytes log ≡ bytes.now → (result ≡ Ok log)
         ⊎ (result ≡ Err LogFault.Memory) }
     ensures fault { IfErr result (λ fault. (fault ≡ LogFault.Memory) ⊎ (join_log_fault bytes.now ≡ Some fault)) }
@@ -90,7 +90,7 @@ pub fn decode_join_log(alloc: Global, bytes: &[u8]) -> Result<JoinLog, LogFault>
     whole_join_log(alloc, bytes)
 }
 
-// Writes the letters, the version and the kind at the end.
+// Appends the letters, the version and the kind.
 fn put_join_opening(out: &mut Vec<u8>) -> Result<(), Memory>
     ensures { OnOk result (out.new.items ≡ out.old.items ++ join_opening_bytes) }
 {
@@ -99,7 +99,7 @@ fn put_join_opening(out: &mut Vec<u8>) -> Result<(), Memory>
     Ok(())
 }
 
-/// The one spelling of a join's log.
+/// Returns the one spelling of a join's log.
 pub fn encode_join_log(alloc: Global, log: &JoinLog) -> Result<Vec<u8>, Memory>
     requires { IsLawfulJoinLog log.now }
     ensures { IfOk result (λ bytes. bytes.items ≡ join_log_bytes log.now) }

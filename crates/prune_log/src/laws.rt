@@ -12,12 +12,12 @@ pub fn fault_is_no_join_log()
     ensures { FaultIsNoJoinLog }
 {}
 
-/// Bytes spell one log.
+/// Bytes spell at most one log.
 pub fn one_log()
     ensures { OneLog }
 {}
 
-/// Bytes spell one join's log.
+/// Bytes spell at most one join's log.
 pub fn one_join_log()
     ensures { OneJoinLog }
 {}

@@ -1,4 +1,4 @@
-// The things that a log lists, and lists of them.
+// The items that a log lists, and lists of them.
 ghost use Rattle.std.specs.Prelude.{◌≡◌, ◌++◌, [], ◌∷◌, ℕ, List, take, Bool, true, OnOk, Result, Option, None, ◌≤◌, ◌<◌, ◌^◌, length};
 ghost use Rattle.std.specs.Option.{option_copied};
 ghost use Rattle.std.specs.List.{flat_map, AllByRecursion};
@@ -13,33 +13,33 @@ use metric_laws::{Listed, Memory};
 use scan_model::{Hit, Pair};
 use std::alloc::Global;
 
-/// The most entries of a node.
+/// The greatest number of a node's entries.
 const ENTRIES: u8 = 32;
 
-/// A thing that a log lists.
+/// An item that a log lists.
 pub trait Piece: Drop {
-    /// What can be written.
+    /// Which pieces can be written.
     ghost can_put: { Self → Type 0 };
 
-    /// Its spelling.
+    /// The piece's spelling.
     ghost spelled: { Self → List ℕ };
 
-    /// The piece in front of bytes and the bytes behind it, or the first fault.
+    /// The piece at the front of bytes and the bytes behind it, or the first fault.
     ghost reads: { List ℕ → Result (Self × List ℕ) LogFault };
 
     /// Whether a piece may stand behind another.
     ghost follows: { Self → Self → Bool };
 
-    /// Writes the piece at the end.
+    /// Appends the piece.
     fn put(&self, out: &mut Vec<u8>) -> Result<(), Memory>
         requires { can_put self.now }
         ensures { OnOk result (out.new.items ≡ out.old.items ++ spelled self.now) };
 
-    /// Reads the piece in front.
+    /// Reads the piece at the front.
     fn read(alloc: Global, bytes: &[u8]) -> Result<(Self, &[u8]), LogFault>
         ensures { Gives (λ x. (x.0, x.1.now)) result (reads bytes.now) };
 
-    /// Whether it may stand behind the last one.
+    /// Returns whether the piece may stand behind `last`.
     fn is_behind(&self, last: &Self) -> bool
         ensures { result ≡ follows last.now self.now };
 }
@@ -92,7 +92,7 @@ impl Piece for Hit {
     }
 }
 
-// The byte of a mark.
+// Returns the byte of a mark.
 fn mark_byte(mark: Mark) -> u8
     ensures { mark_bytes mark ≡ result ∷ [] }
 {
@@ -163,7 +163,7 @@ impl Piece for Pair {
     }
 }
 
-// As many marks as a node may have entries.
+// Reads the marks of a node, at most as many as a node may have entries.
 #[tactic(auto, unfolding(crate::specs::Reading::marks_at))]
 fn marks_at(alloc: Global, bytes: &[u8]) -> Result<(Listed<Mark>, &[u8]), LogFault>
     ensures { Gives (λ x. (x.0, x.1.now)) result (marks_at bytes.now) }
@@ -176,7 +176,7 @@ fn marks_at(alloc: Global, bytes: &[u8]) -> Result<(Listed<Mark>, &[u8]), LogFau
     Ok((Listed::new(marks), rest))
 }
 
-// The bytes of a node's marks, at the front of an array.
+// Returns the bytes of a node's marks at the front of an array.
 fn marks_in_bytes(marks: &[Mark]) -> [u8; ENTRIES as usize]
     requires { length marks.now ≤ 32 }
     ensures { take (length marks.now) result ≡ flat_map mark_bytes marks.now }
@@ -188,7 +188,7 @@ fn marks_in_bytes(marks: &[Mark]) -> [u8; ENTRIES as usize]
     bytes
 }
 
-// Writes the marks of a node at the end, all at once, since they are most of a log.
+// Appends the marks of a node, all at once, since they are most of a log.
 fn put_marks(out: &mut Vec<u8>, marks: &[Mark]) -> Result<(), Memory>
     requires { length marks.now ≤ 32 }
     ensures { OnOk result (out.new.items ≡ out.old.items ++ listed 1 mark_bytes marks.now) }
@@ -225,7 +225,7 @@ impl Piece for Record {
     }
 }
 
-// A side: whether it is the right one.
+// Reads a side: true is the right one.
 #[tactic(auto, unfolding(crate::specs::Reading::side_at))]
 fn side_at(bytes: &[u8]) -> Result<(bool, &[u8]), LogFault>
     ensures { Gives (λ x. (x.0, x.1.now)) result (side_at bytes.now) }
@@ -266,7 +266,7 @@ impl Piece for JoinRecord {
     }
 }
 
-// The next piece of a list.
+// Reads the next piece of a list, which has to be one that may stand behind `last`.
 fn next_at<'a, P: Piece>(
     alloc: Global,
     last: Option<&P>,
@@ -283,7 +283,7 @@ fn next_at<'a, P: Piece>(
     Ok((piece, rest))
 }
 
-// So many pieces. Room is taken at once for as many as a node has entries; a greater number is not believed before its bytes
+// Reads `count` pieces. Room is reserved for at most as many as a node has entries; a greater count is not trusted before its bytes
 // are read.
 pub fn read_all<P: Piece>(
     alloc: Global,
@@ -302,7 +302,7 @@ pub fn read_all<P: Piece>(
     Ok((pieces, rest))
 }
 
-// Writes pieces at the end.
+// Appends pieces.
 pub fn put_all<P: Piece>(out: &mut Vec<u8>, pieces: &[P]) -> Result<(), Memory>
     requires { AllByRecursion P.can_put pieces.now }
     ensures { OnOk result (out.new.items ≡ out.old.items ++ flat_map P.spelled pieces.now) }
@@ -313,7 +313,7 @@ pub fn put_all<P: Piece>(out: &mut Vec<u8>, pieces: &[P]) -> Result<(), Memory>
     Ok(())
 }
 
-// A number of pieces in four bytes, and the pieces.
+// Reads a count in four bytes, and that number of pieces.
 #[tactic(auto, unfolding(crate::specs::Reading::listed_at))]
 pub fn short_list_at<P: Piece>(alloc: Global, bytes: &[u8]) -> Result<(Listed<P>, &[u8]), LogFault>
     ensures { Gives (λ x. (x.0, x.1.now)) result (listed_at 4 P.reads P.follows bytes.now) }
@@ -323,7 +323,7 @@ pub fn short_list_at<P: Piece>(alloc: Global, bytes: &[u8]) -> Result<(Listed<P>
     Ok((Listed::new(pieces), rest))
 }
 
-// A number of pieces in eight bytes, and the pieces.
+// Reads a count in eight bytes, and that number of pieces.
 #[tactic(auto, unfolding(crate::specs::Reading::listed_at))]
 pub fn long_list_at<P: Piece>(alloc: Global, bytes: &[u8]) -> Result<(Listed<P>, &[u8]), LogFault>
     ensures { Gives (λ x. (x.0, x.1.now)) result (listed_at 8 P.reads P.follows bytes.now) }
@@ -333,7 +333,7 @@ pub fn long_list_at<P: Piece>(alloc: Global, bytes: &[u8]) -> Result<(Listed<P>,
     Ok((Listed::new(pieces), rest))
 }
 
-// Writes a number of pieces in four bytes, and the pieces.
+// Appends the number of pieces in four bytes, and the pieces.
 pub fn put_short_list<P: Piece>(out: &mut Vec<u8>, pieces: &[P]) -> Result<(), Memory>
     requires few { length pieces.now < 2 ^ 32 }
     requires each { AllByRecursion P.can_put pieces.now }
@@ -343,7 +343,7 @@ pub fn put_short_list<P: Piece>(out: &mut Vec<u8>, pieces: &[P]) -> Result<(), M
     put_all(out, pieces)
 }
 
-// Writes a number of pieces in eight bytes, and the pieces.
+// Appends the number of pieces in eight bytes, and the pieces.
 pub fn put_long_list<P: Piece>(out: &mut Vec<u8>, pieces: &[P]) -> Result<(), Memory>
     requires { AllByRecursion P.can_put pieces.now }
     ensures { OnOk result (out.new.items ≡ out.old.items ++ listed 8 P.spelled pieces.now) }

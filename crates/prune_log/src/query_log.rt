@@ -1,4 +1,4 @@
-// The log of a query.
+// Reads and writes the log of a query.
 ghost use Rattle.std.specs.Prelude.{◌≡◌, ◌++◌, ◌⊎◌, ◌≤◌, length, OnOk, IfOk, IfErr, Ok, Err, Some};
 ghost use Rattle.byteorder.specs.Endian.{big_bytes};
 ghost use Rattle.log_model.specs.Grammar.{IsLawfulLog, IsLawfulQuery};
@@ -15,25 +15,25 @@ use metric_laws::{Memory, Point};
 use scan_model::Query;
 use std::alloc::Global;
 
-/// The letters `MTLG`, the first of them highest.
+/// The letters `MTLG` as a number, the first letter highest.
 const MAGIC: u32 = 0x4d54_4c47;
 
 /// The version of the format.
 const VERSION: u8 = 1;
 
-/// The most coordinates of a point.
+/// The greatest number of a point's coordinates.
 const COORDINATES: u8 = 64;
 
-/// What a query asks for.
+/// The kind of a query.
 #[derive(Clone, Copy)]
 pub enum Asked {
-    /// The objects within a radius.
+    /// A range query: the objects within a radius.
     Range,
-    /// So many nearest objects.
+    /// A k-NN query: the k nearest objects.
     Nearest,
 }
 
-// The bytes behind the letters and the version.
+// Reads the letters and the version, and returns the bytes behind them.
 #[tactic(auto, unfolding(crate::specs::Reading::opening_at))]
 pub fn opening_at(bytes: &[u8]) -> Result<&[u8], LogFault>
     ensures { Gives (λ x. x.now) result (opening_at bytes.now) }
@@ -49,7 +49,7 @@ pub fn opening_at(bytes: &[u8]) -> Result<&[u8], LogFault>
     Ok(rest)
 }
 
-// What is asked.
+// Reads the kind of a query.
 #[tactic(auto, unfolding(crate::specs::Reading::kind_at))]
 fn kind_at(bytes: &[u8]) -> Result<(Asked, &[u8]), LogFault>
     ensures { Gives (λ x. (x.0, x.1.now)) result (kind_at bytes.now) }
@@ -62,7 +62,7 @@ fn kind_at(bytes: &[u8]) -> Result<(Asked, &[u8]), LogFault>
     }
 }
 
-// The generation of a tree and the page of its root.
+// Reads the generation of a tree and the page of its root.
 #[tactic(auto, unfolding(crate::specs::Reading::tree_at))]
 pub fn tree_at(bytes: &[u8]) -> Result<((u64, u32), &[u8]), LogFault>
     ensures { Gives (λ x. (x.0, x.1.now)) result (tree_at bytes.now) }
@@ -72,7 +72,7 @@ pub fn tree_at(bytes: &[u8]) -> Result<((u64, u32), &[u8]), LogFault>
     Ok(((generation, root), rest))
 }
 
-// The coordinates of a point.
+// Reads a point.
 #[tactic(auto, unfolding(crate::specs::Reading::point_at))]
 fn point_at(alloc: Global, bytes: &[u8]) -> Result<(Point, &[u8]), LogFault>
     ensures { Gives (λ x. (x.0, x.1.now)) result (point_at bytes.now) }
@@ -86,7 +86,7 @@ fn point_at(alloc: Global, bytes: &[u8]) -> Result<(Point, &[u8]), LogFault>
     Ok((point, rest))
 }
 
-// A query of this kind.
+// Returns the query of the kind `asked` with this amount and point.
 fn query_of(asked: Asked, amount: u64, point: Point) -> Query
     ensures { result ≡ query_of asked amount point }
 {
@@ -102,7 +102,7 @@ fn query_of(asked: Asked, amount: u64, point: Point) -> Query
     }
 }
 
-// Whether a query of this kind asks for some answer.
+// Returns whether `amount` is allowed for this kind: k is at least 1.
 fn is_amount(asked: Asked, amount: u64) -> bool
     ensures { result ≡ is_amount asked amount }
 {
@@ -112,7 +112,7 @@ fn is_amount(asked: Asked, amount: u64) -> bool
     }
 }
 
-// The radius or number of a query, and its point.
+// Reads the radius or k of a query, and its point.
 #[tactic(auto, unfolding(crate::specs::Reading::query_at))]
 fn query_at(alloc: Global, asked: Asked, bytes: &[u8]) -> Result<(Query, &[u8]), LogFault>
     ensures { Gives (λ x. (x.0, x.1.now)) result (query_at asked bytes.now) }
@@ -125,7 +125,7 @@ fn query_at(alloc: Global, asked: Asked, bytes: &[u8]) -> Result<(Query, &[u8]),
     Ok((query_of(asked, amount, point), rest))
 }
 
-// A log, and the bytes behind it.
+// Reads a log, and returns the bytes behind it too.
 #[tactic(auto, unfolding(crate::specs::Reading::log_at))]
 fn log_at(alloc: Global, bytes: &[u8]) -> Result<(Log, &[u8]), LogFault>
     ensures { Gives (λ x. (x.0, x.1.now)) result (log_at bytes.now) }
@@ -146,7 +146,7 @@ fn log_at(alloc: Global, bytes: &[u8]) -> Result<(Log, &[u8]), LogFault>
     Ok((log, rest))
 }
 
-// The log that takes all bytes.
+// Reads a log that takes all of `bytes`.
 pub fn whole_log(alloc: Global, bytes: &[u8]) -> Result<Log, LogFault>
     ensures { Gives (λ log. log) result (whole log_at bytes.now) }
 {
@@ -157,22 +157,22 @@ pub fn whole_log(alloc: Global, bytes: &[u8]) -> Result<Log, LogFault>
     Ok(log)
 }
 
-/// Reads the log that the bytes spell, or names the first fault from left to right. It asks for no more memory than the
-/// bytes that are left can fill.
+/// Reads the log that the bytes spell, or returns the first fault from left to right. It asks for no more memory than the bytes that
+/// are left can fill.
 pub fn decode_log(alloc: Global, bytes: &[u8]) -> Result<Log, LogFault>
-    // What is read is spelled so.
+    // The bytes spell what is read.
     ensures ok { IfOk result (λ log. log_bytes log ≡ bytes.now) }
-    // What is read can be written.
+    // What is read can be written again.
     ensures lawful { IfOk result (λ log. IsLawfulLog log) }
     ensures in_range { IfOk result (λ log. LogInRange log) }
-    // What is spelled so is read, unless memory runs out.
+    // Bytes that spell a lawful log are read as this log, unless memory runs out.
     ensures only { (log : Log) → IsLawfulLog log → LogInRange log → log_bytes log ≡ bytes.now → (result ≡ Ok log) ⊎ (result ≡ Err LogFault.Memory) }
     ensures fault { IfErr result (λ fault. (fault ≡ LogFault.Memory) ⊎ (log_fault bytes.now ≡ Some fault)) }
 {
     whole_log(alloc, bytes)
 }
 
-// Writes the letters and the version at the end.
+// Appends the letters and the version.
 pub fn put_opening(out: &mut Vec<u8>) -> Result<(), Memory>
     ensures { OnOk result (out.new.items ≡ out.old.items ++ opening_bytes) }
 {
@@ -181,7 +181,7 @@ pub fn put_opening(out: &mut Vec<u8>) -> Result<(), Memory>
     Ok(())
 }
 
-// Writes the generation of a tree and the page of its root at the end.
+// Appends the generation of a tree and the page of its root.
 pub fn put_tree(out: &mut Vec<u8>, generation: u64, root: u32) -> Result<(), Memory>
     ensures { OnOk result (out.new.items ≡ out.old.items ++ tree_bytes generation root) }
 {
@@ -189,7 +189,7 @@ pub fn put_tree(out: &mut Vec<u8>, generation: u64, root: u32) -> Result<(), Mem
     put_u32(out, root)
 }
 
-// Writes the kind of a query at the end.
+// Appends the kind of a query.
 fn put_kind(out: &mut Vec<u8>, query: &Query) -> Result<(), Memory>
     ensures { OnOk result (out.new.items ≡ out.old.items ++ kind_bytes query.now) }
 {
@@ -201,7 +201,7 @@ fn put_kind(out: &mut Vec<u8>, query: &Query) -> Result<(), Memory>
     Ok(())
 }
 
-// Writes a number and a point at the end.
+// Appends a number and a point.
 fn put_asked(out: &mut Vec<u8>, amount: u64, point: &[u32]) -> Result<(), Memory>
     requires { length point.now ≤ 64 }
     ensures { OnOk result (out.new.items ≡ out.old.items ++ (big_bytes 8 amount ++ listed 1 coordinate_bytes point.now)) }
@@ -211,7 +211,7 @@ fn put_asked(out: &mut Vec<u8>, amount: u64, point: &[u32]) -> Result<(), Memory
     put_all(out, point)
 }
 
-// Writes the radius or number of a query and its point at the end.
+// Appends the radius or k of a query, and its point.
 fn put_query(out: &mut Vec<u8>, query: &Query) -> Result<(), Memory>
     requires { IsLawfulQuery query.now }
     ensures { OnOk result (out.new.items ≡ out.old.items ++ query_bytes query.now) }
@@ -222,7 +222,7 @@ fn put_query(out: &mut Vec<u8>, query: &Query) -> Result<(), Memory>
     }
 }
 
-/// The one spelling of a log.
+/// Returns the one spelling of a log.
 pub fn encode_log(alloc: Global, log: &Log) -> Result<Vec<u8>, Memory>
     requires { IsLawfulLog log.now }
     ensures { IfOk result (λ bytes. bytes.items ≡ log_bytes log.now) }

@@ -1,4 +1,4 @@
--- What a whole walk answers, and why it may refuse on a sound tree.
+-- What a whole walk finds, and why it may fail on a sound tree.
 use Rattle.std.proofs.Common.{◌≡◌, ℕ, ◌≤◌, ◌^◌, List, [], ◌∷◌, sym, ap, ◌∙◌, Some, None, Err, arith, length, subst, min}
 use Rattle.std.specs.Prelude.{IsTrue}
 use Rattle.metric_laws.specs.Space.{Space, IsSpace, bound}
@@ -69,7 +69,7 @@ no_node f live old page fault is here sound =
     let none : nodes_of old.read page ≡ None = ap node_or_none is in
     cc
 
--- on a sound tree nothing but a passing fault is refused
+-- on a sound tree only a passing fault is refused
 pub passes : (f : Search) (live : Live) (old new : Shelf) (fault : PageFault) → HasWalkCause f live old new fault → IsTrue old.tells → IsSoundTree f.space (nodes_of old.read) live → IsPassing fault
 passes f live old new Disk cause tells sound = tt
 passes f live old new Memory cause tells sound = tt

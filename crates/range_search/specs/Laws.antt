@@ -7,9 +7,9 @@ use Rattle.log_model.specs.declared.marks.Record.{Record}
 use Rattle.log_model.specs.Walk.{Search, WalksBy, AreLeast, root_need}
 use Rattle.range_search.specs.Searched.{Needs}
 
--- On any file: after so many opened pages the walk with the least marks needs one page and no other; and where the walk
--- is whole, each page that it needs on its way holds a node and is one of its records. So a search whose walk comes to a
--- page without a node, or needs a page more than there are, answers nothing else, and names that page.
+-- On any file, the page that the walk with the least marks needs after `opened` opened pages is the only one. Where the walk is
+-- whole, each page that it needs on its way holds a node and is one of its records. So a search whose walk meets a page without a
+-- node, or needs more pages than there are, has no other result, and its fault names that page.
 abbrev pub WalkHasOneCourse : Type 0
 WalkHasOneCourse =
     (f : Search) (nodes : Nodes) (root opened page : ℕ) → Needs f nodes root opened page →

@@ -1,4 +1,4 @@
--- What a search walks, what it answers, and why it may refuse.
+-- What a search walks, what it finds, and why it may fail.
 use Rattle.std.specs.Prelude.{◌≡◌, ◌≢◌, ℕ, ◌+◌, ◌*◌, ◌≤◌, ◌<◌, false, List, [], ◌∷◌, length, IsTrue, Err}
 use Rattle.std.specs.List.{AllByRecursion}
 use Rattle.metric_laws.specs.Space.{Space}
@@ -20,9 +20,9 @@ use Rattle.log_model.specs.Counts.{measured}
 use Rattle.log_model.specs.Sound.{IsLogOf, IsLeastLog}
 use Rattle.log_model.specs.Walk.{Search, ReachesBy, AreLeast, root_need}
 
--- A walk from the root with the least marks has opened the pages of these records, named these hits and needs these pages.
--- One page was asked for per record, and one distance was computed per entry that wasn't skipped. What the walk is, is
--- said of pages that tell what they hold.
+-- A walk from the root with the least marks has opened the pages of the records `records`, named the hits `hits`, and needs the
+-- pages `left`. It asked for one page for each record, and computed one distance for each entry that wasn't skipped. What the walk
+-- is, is known only for pages that tell what they hold.
 pub record IsUnderWay (f : Search) (old now : Shelf) (used_old used_now root : ℕ) (records : List Record) (hits : List Hit) (left : List Need) : Type 0 where
   pub holds : HoldsSame old now
   pub asked : now.asked ≡ count_up old.asked (length records)
@@ -32,7 +32,7 @@ pub record IsUnderWay (f : Search) (old now : Shelf) (used_old used_now root : �
   pub few_hits : length hits ≤ 32 * length records
   pub walk : IsTrue old.tells → ReachesBy AreLeast f (nodes_of old.read) (root_need root ∷ []) records hits left
 
--- the walk with the least marks opens so many pages and then needs this one
+-- the walk with the least marks opens `opened` pages and then needs page `page`
 pub record Needs (f : Search) (nodes : Nodes) (root opened page : ℕ) : Type 0 where
   pub records : List Record
   pub hits : List Hit
@@ -42,12 +42,12 @@ pub record Needs (f : Search) (nodes : Nodes) (root opened page : ℕ) : Type 0 
   pub is : next.page ≡ page
   pub count : length records ≡ opened
 
--- the same, where it has opened fewer pages than there are
+-- the same, after fewer opened pages than there are
 abbrev pub NeedsInside : Search → Nodes → Live → ℕ → Type 0
 NeedsInside f nodes live page = (opened : ℕ) × (opened < live.pages) × Needs f nodes live.root opened page
 
--- why a search refuses: the disk failed or memory ran out; or the walk with the least marks came to a page that holds no
--- node, or that is none of the file's; or it has opened as many pages as there are, and needs this one besides
+-- why a search fails: the disk failed; memory ran out; the walk with the least marks met a page that holds no node, or a page
+-- outside the file; or it has opened as many pages as there are, and needs one more
 abbrev pub HasWalkCause : Search → Live → Shelf → Shelf → PageFault → Type 0
 HasWalkCause f live old new Disk = Rose old.faults new.faults
 HasWalkCause f live old new Memory = Unit {0}
@@ -60,8 +60,8 @@ HasWalkCause f live old new (Repeats page) = (new.asked ≡ count_up old.asked l
     × (IsTrue old.tells → Needs f (nodes_of old.read) live.root live.pages page)
 HasWalkCause f live old new (Level page) = ⊥
 
--- What a range search answers: where the pages tell what they hold, the least log of the query. One page was asked for per
--- record, and one distance was computed per entry that isn't marked Skip.
+-- What a range search finds: the least log of the query, where the pages tell what they hold. It asked for one page for each record,
+-- and computed one distance for each entry that isn't marked Skip.
 pub record IsFound (s : Space) (live : Live) (query : Query) (old new : Shelf) (used_old used_new : ℕ) (found : Found) : Type 0 where
   pub log : IsLogOf live query found
   pub least : IsTrue old.tells → IsLeastLog s (nodes_of old.read) live query found.log

@@ -16,7 +16,7 @@ use scan_model::Query;
 use std::alloc::Global;
 use tree_shape::Live;
 
-// Opens a page that the walk needs, and takes its node in.
+// Opens a page that the walk needs, and processes its node.
 fn open_page<P: Pages, R: Ruler>(
     alloc: Global,
     pages: &mut P,
@@ -46,7 +46,7 @@ fn open_page<P: Pages, R: Ruler>(
     }
 }
 
-// Walks the live tree with the least marks. After the last page that the file has, a further one is refused unasked.
+// Walks the live tree with the least marks. After as many pages as the file has, a further page is refused without a request.
 fn follow<P: Pages, R: Ruler>(
     alloc: Global,
     pages: &mut P,
@@ -84,13 +84,13 @@ fn follow<P: Pages, R: Ruler>(
     Ok(walk)
 }
 
-/// Every object within `r` of `q`, by distance, then by id (VLDB 1997, section 4.1), and the log that shows it: the live
-/// tree is walked from its root, a subtree or an object is skipped where the distances to the routing point above rule it
-/// out, and left out where its own distance does.
+/// Returns all objects within `r` of `q`, by distance, then by id (VLDB 1997, section 4.1), and the log that shows it. The live tree
+/// is walked from its root. A subtree or an object is skipped where the distances to the routing object above rule it out, and left
+/// out where its own distance does.
 ///
-/// A page that holds no node is `Bad`, one below 3 or not below the number of pages is `Outside`; where the walk has opened
-/// as many nodes as the file has pages and needs a further one, that one is `Repeats`. None of these comes on a sound tree.
-/// `Disk` comes where the disk failed.
+/// A page that holds no node is `Bad`. A page below 3 or not below the number of pages is `Outside`. A page is `Repeats` where the
+/// walk has opened as many nodes as the file has pages and needs this page too. None of these comes on a sound tree. `Disk` comes
+/// where the disk failed.
 pub fn range<P: Pages, R: Ruler>(
     alloc: Global,
     pages: &mut P,

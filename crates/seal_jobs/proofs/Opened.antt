@@ -1,4 +1,4 @@
--- What is said of an index that was opened and audited.
+-- What holds for an index that was opened and audited.
 use Rattle.std.proofs.Common.{◌≡◌, ◌≢◌, ◌⊎◌, ⊎_elim, ℕ, ◌≤◌, List, None, sym, ap, subst, ◌∙◌, arith}
 use Rattle.std.specs.Prelude.{IsTrue}
 use Rattle.disk_model.specs.Disk.{DiskState, IsUnchanged}

@@ -1,4 +1,4 @@
--- What the frames and lines of logs come to that are put one after another.
+-- The frames and lines of logs, put one after another.
 use Rattle.std.proofs.Common.{◌≡◌, ◌≢◌, ◌⊎◌, inl, inr, ⊎_elim, ℕ, ◌+◌, ◌≤◌, ◌&&◌, Bool, true, List, [], ◌∷◌, ◌++◌, length, map, Option, Ok, refl, sym, subst, ◌∙◌, ap, append_assoc, arith}
 use Rattle.std.specs.List.{flat_map, list_all}
 use Rattle.std.specs.Io.KnownBytes.{Appends}
@@ -183,7 +183,7 @@ stopped_at stop.Memory s1 s2 status ends =
 rose_after : (a b c : ℕ) → Rose a b → b ≤ c → Rose a c
 rose_after a b c rose le = omega arith
 
--- an output that failed has failed
+-- an output that failed still counts as failed later
 pub output_later : (o0 o1 o2 l0 l1 : ℕ) → Rose o0 o1 ⊎ Rose l0 l1 → o1 ≤ o2 → Rose o0 o2 ⊎ Rose l0 l1
 output_later o0 o1 o2 l0 l1 (inl rose) le = inl (rose_after o0 o1 o2 rose le)
 output_later o0 o1 o2 l0 l1 (inr rose) le = inr rose

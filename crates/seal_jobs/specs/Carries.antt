@@ -31,7 +31,7 @@ use Rattle.page_store.specs.Files.{IsLarge}
 abbrev pub judged : List ℕ → Head → Live → Log → Option Verdict
 judged file head live log = log_fault (space_of head) (reading head.dim live.pages file) live log
 
--- what is kept of the pages of an opened file is what they hold on this disk
+-- what is cached of an opened file's pages is what the pages hold on this disk
 abbrev pub IsKeptOf : DiskState → Head → Live → Pairs → Type 0
 IsKeptOf disk head live kept = Agrees kept (disk_shelf false head.dim live.pages disk 0)
 
@@ -42,7 +42,8 @@ abbrev pub carried_end : Bool → List ℕ
 carried_end true = codes "log carried\n"
 carried_end false = codes "log rejected\n"
 
--- the frame and the line of a log: its carried log where it has no fault, else nothing and its first fault
+-- the frame and the line of a log: the frame of its carried log where it has no fault, otherwise no frame and a line with its first
+-- fault
 abbrev pub TellsLog : List ℕ → Head → Live → ℕ → Log → List ℕ → List ℕ → Bool → Type 0
 TellsLog file head live i log put line true =
     (judged file head live log ≡ None) × ((bytes : List ℕ) × Carries file (leaf_digests file live.pages) log bytes
@@ -60,7 +61,7 @@ pub record Told : Type 0 where
 abbrev pub IsTold : List ℕ → Head → Live → ℕ → Told → Type 0
 IsTold file head live i t = TellsLog file head live i t.log t.put t.line t.accepted
 
--- each of these is so, where the first stands in frame i
+-- each log is told so; the first is in frame `i`
 abbrev pub AreTold : List ℕ → Head → Live → ℕ → List Told → Type 0
 AreTold file head live i [] = Unit {0}
 AreTold file head live i (t ∷ ts) = IsTold file head live i t × AreTold file head live (i + 1) ts
@@ -70,7 +71,7 @@ abbrev pub PutsLog : List ℕ → Head → Live → ℕ → Log → Bool → Opt
 PutsLog file head live i log accepted l0 l1 o0 o1 = (put : List ℕ) × (line : List ℕ)
     × TellsLog file head live i log put line accepted × Appends l0 l1 put × Appends o0 o1 line
 
--- the frames and the lines of the first logs were put
+-- the frames and the lines of some first logs were put
 pub record HasCarried (file : List ℕ) (head : Head) (live : Live) (logs rest : List Log) (i : ℕ) (accepted : Bool)
     (l0 l1 o0 o1 : Option (List ℕ)) : Type 0 where
   pub told : List Told
@@ -81,7 +82,7 @@ pub record HasCarried (file : List ℕ) (head : Head) (live : Live) (logs rest :
   pub put : Appends l0 l1 (flat_map (λ (t : Told). t.put) told)
   pub lines : Appends o0 o1 (flat_map (λ (t : Told). t.line) told)
 
--- the bytes are no logs: nothing but this line is put
+-- the bytes are no logs, and only one line is put
 pub record IsUndecoded (bytes : List ℕ) (l0 l1 o0 o1 : Option (List ℕ)) (status : ℕ) : Type 0 where
   pub why : LogFault
   pub fault : frames_at log_at bytes ≡ Err why
@@ -102,7 +103,7 @@ pub record HasCarriedAll (file : List ℕ) (head : Head) (live : Live) (bytes : 
 abbrev pub EndsCarried : List ℕ → Head → Live → List ℕ → Option (List ℕ) → Option (List ℕ) → Option (List ℕ) → Option (List ℕ) → ℕ → Type 0
 EndsCarried file head live bytes l0 l1 o0 o1 status = IsUndecoded bytes l0 l1 o0 o1 status ⊎ HasCarriedAll file head live bytes l0 l1 o0 o1 status
 
--- the file opens, and what is put is this
+-- the file opens, and the job put what belongs to its bytes of logs
 pub record CarriesOn (file bytes : List ℕ) (l0 l1 o0 o1 : Option (List ℕ)) (status : ℕ) : Type 0 where
   pub head : Head
   pub live : Live
@@ -111,10 +112,10 @@ pub record CarriesOn (file bytes : List ℕ) (l0 l1 o0 o1 : Option (List ℕ)) (
   pub few : live.pages ≤ 262144
   pub ends : EndsCarried file head live bytes l0 l1 o0 o1 status
 
--- ---- when it stops
+-- ---- when the job stops
 
--- Within a log: nothing of it was put; or, where an output failed, a front of its frame and no line, or its whole frame and a front
--- of its line.
+-- The job stopped within a log. Nothing of it was put; or, where an output failed, a front of its frame and no line, or its whole
+-- frame and a front of its line.
 abbrev pub StopsLog : List ℕ → Head → Live → ℕ → Log → Stop → Option (List ℕ) → Option (List ℕ) → Option (List ℕ) → Option (List ℕ) → Type 0
 StopsLog file head live i log stop.Sink l0 l1 o0 o1 =
     (put : List ℕ) × (line : List ℕ) × (b : Bool) × TellsLog file head live i log put line b
@@ -126,8 +127,8 @@ StopsLog file head live i log stop.Memory l0 l1 o0 o1 = (l1 ≡ l0) × (o1 ≡ o
 abbrev pub StopsEnd : Bool → Stop → Option (List ℕ) → Option (List ℕ) → Option (List ℕ) → Option (List ℕ) → Type 0
 StopsEnd accepted why l0 l1 o0 o1 = (why ≡ stop.Sink) × (l1 ≡ l0) × AppendsPrefix o0 o1 (carried_end accepted)
 
--- The frames and the lines of the first logs were put, each whole, and then what was put of the next log, or of the last line. So a
--- line, or a front of one, stands only where its frame stands.
+-- The frames and the lines of some first logs were put, each whole, and then a part of the next log or of the last line. So a line,
+-- or a front of one, is put only where its frame is put.
 pub record StopsCarrying (file : List ℕ) (head : Head) (live : Live) (logs : List Log) (why : Stop) (l0 l1 o0 o1 : Option (List ℕ)) : Type 0 where
   pub rest : List Log
   pub i : ℕ
@@ -138,11 +139,11 @@ pub record StopsCarrying (file : List ℕ) (head : Head) (live : Live) (logs : L
   pub after : ((log : Log) × (more : List Log) × (rest ≡ log ∷ more) × StopsLog file head live i log why frames l1 lines o1)
       ⊎ ((rest ≡ []) × StopsEnd accepted why frames l1 lines o1)
 
--- no output had failed and nothing was put
+-- no output failed, and nothing was put
 abbrev pub StopsBefore : Stop → Option (List ℕ) → Option (List ℕ) → Option (List ℕ) → Option (List ℕ) → Type 0
 StopsBefore why l0 l1 o0 o1 = (why ≢ stop.Sink) × (l1 ≡ l0) × (o1 ≡ o0)
 
--- the bytes are no logs, and that line was cut
+-- the bytes are no logs, and the line that says so was cut
 pub record StopsUndecoded (bytes : List ℕ) (why : Stop) (l0 l1 o0 o1 : Option (List ℕ)) : Type 0 where
   pub fault : LogFault
   pub undecoded : frames_at log_at bytes ≡ Err fault
@@ -155,12 +156,12 @@ Stops file head live bytes why l0 l1 o0 o1 =
     StopsBefore why l0 l1 o0 o1
     ⊎ (StopsUndecoded bytes why l0 l1 o0 o1 ⊎ ((logs : List Log) × (frames_at log_at bytes ≡ Ok logs) × StopsCarrying file head live logs why l0 l1 o0 o1))
 
--- before the file was opened, or on the file that opens
+-- the job stopped before the file was opened, or on the file that opens
 abbrev pub StopsOn : List ℕ → List ℕ → Stop → Option (List ℕ) → Option (List ℕ) → Option (List ℕ) → Option (List ℕ) → Type 0
 StopsOn file bytes why l0 l1 o0 o1 =
     StopsBefore why l0 l1 o0 o1 ⊎ ((head : Head) × (live : Live) × OpensTo file head live × Stops file head live bytes why l0 l1 o0 o1)
 
--- what stands on both outputs where the job stopped: behind that, on out, the line of its status
+-- what is on both outputs where the job stopped; out also has the line of its status after it
 pub record HasHalted (file bytes : List ℕ) (l0 l1 : Option (List ℕ)) (out0 out1 : SinkState) (status : ℕ) : Type 0 where
   pub output : status ≡ 4 → StopsOn file bytes stop.Sink l0 l1 out0.written out1.written
   pub disk : status ≡ 5 → (lines : Option (List ℕ)) × StopsOn file bytes stop.Disk l0 l1 out0.written lines
@@ -177,20 +178,20 @@ IsDone status = (status ≡ 0) ⊎ (status ≡ 1)
 abbrev pub IsRefusal : ℕ → Type 0
 IsRefusal status = (status ≡ 3) ⊎ ((status ≡ 6) ⊎ (status ≡ 7))
 
--- what the job does that takes bytes of logs from `left0`
+-- what the job does with the bytes of logs that it takes from `left0`
 pub record CarriesLogs (disk0 disk1 : DiskState) (left0 left1 l0 l1 : Option (List ℕ)) (out0 out1 : SinkState) (status : ℕ) : Type 0 where
   pub bytes : List ℕ
   pub taken : Consumes left0 left1 bytes
-  -- at most 2 ^ 30 and a buffer more were taken, and more than 2 ^ 30 are told
+  -- at most 2 ^ 30 and a buffer more were taken, and the status says when more than 2 ^ 30 were
   pub few : length bytes ≤ 2 ^ 30 + 4096
   pub too_many : 2 ^ 30 < length bytes → status ≡ 7
-  -- all that the source has were taken, unless it failed, memory ran out, or there are too many
+  -- all bytes of the source were taken, unless it failed, memory ran out, or there are too many
   pub all : status ≢ 3 → status ≢ 8 → length bytes ≤ 2 ^ 30 → IsAtEnd left1
   pub unchanged : IsUnchanged disk0 disk1
   pub done : IsDone status → IsTrue disk0.tells → CarriesOn disk0.bytes bytes l0 l1 out0.written out1.written status
   pub halted : IsTrue disk0.tells → HasHalted disk0.bytes bytes l0 l1 out0 out1 status
   pub input_line : status ≡ 3 → Tells out0 out1 (codes "fault input\n")
-  -- no frame was put, nor a front of one
+  -- neither a frame nor a front of a frame was put
   pub no_frame : IsRefusal status → l1 ≡ l0
   pub not_index : status ≡ 6 → (name : List ℕ) × Tells out0 out1 (not_index_text name) × (IsTrue disk0.tells → IsNoIndex disk0.bytes name)
   -- there are too many bytes, or the file has too many pages

@@ -1,4 +1,4 @@
--- What the job `proof` on carried logs does and writes, by the status with which it ends.
+-- What the job `proof` on carried logs does and writes, by its status.
 use Rattle.std.specs.Prelude.{◌≡◌, ◌≢◌, ◌⊎◌, ◌↔◌, ℕ, ◌+◌, ◌-◌, ◌^◌, ◌<◌, ◌≤◌, Bool, true, false, List, [], ◌∷◌, ◌++◌, length, take, codes, Option, Some, None, if◌then◌else◌}
 use Rattle.std.specs.List.{flat_map, list_all}
 use Rattle.std.specs.Io.KnownBytes.{Appends, Consumes, IsAtEnd}
@@ -34,7 +34,7 @@ proof_fault_text (fault.Missing n) = numbered (codes "missing ") n
 proof_fault_text (fault.Verdict why) = verdict_text why
 proof_fault_text fault.Memory = codes "memory"
 
--- an accepted one: its query, and its answers as those of a search
+-- the lines of an accepted carried log: its query, and its answers as those of a search
 abbrev pub proved_frame : ℕ → Query → List Hit → List ℕ
 proved_frame i query hits = frame i ++ codes " proved\n" ++ answers_text query hits
 
@@ -49,19 +49,19 @@ pub record IsAccepted (root bytes : List ℕ) (c : CarriedLog) : Type 0 where
   pub read : IsRead root bytes c
   pub judged : judged_fault (space_of c.head) c ≡ None
 
--- they have this fault, in reading or in judging
+-- the bytes have the fault `why`, in reading or in judging
 abbrev pub HasFault : List ℕ → List ℕ → ProofFault → Type 0
 HasFault root bytes why = (proof_fault root bytes ≡ Some why) ⊎ ((c : CarriedLog) × IsRead root bytes c × (judged_fault (space_of c.head) c ≡ Some why))
 
 -- ---- a frame
 
--- a frame's bytes, the text on it, and whether it is accepted
+-- a frame's bytes, its text, and whether the frame is accepted
 pub record Shown : Type 0 where
   pub body : List ℕ
   pub text : List ℕ
   pub accepted : Bool
 
--- the text of an accepted frame is its query and its answers; that of another names its fault
+-- the text of an accepted frame is its query and its answers; the text of another frame names its fault
 abbrev pub TellsFrame : List ℕ → ℕ → List ℕ → List ℕ → Bool → Type 0
 TellsFrame root i body text true = (c : CarriedLog) × IsAccepted root body c × (text ≡ proved_frame i c.log.query c.log.answers)
 TellsFrame root i body text false = (why : ProofFault) × HasFault root body why × (text ≡ rejected_line i (proof_fault_text why))
@@ -69,7 +69,7 @@ TellsFrame root i body text false = (why : ProofFault) × HasFault root body why
 abbrev pub IsShown : List ℕ → ℕ → Shown → Type 0
 IsShown root i f = TellsFrame root i f.body f.text f.accepted
 
--- each of these is so, where the first stands in frame i
+-- each frame is shown so; the first is frame `i`
 abbrev pub AreShown : List ℕ → ℕ → List Shown → Type 0
 AreShown root i [] = Unit {0}
 AreShown root i (f ∷ fs) = IsShown root i f × AreShown root (i + 1) fs
@@ -79,7 +79,7 @@ all_accepted fs = list_all (λ (f : Shown). f.accepted) fs
 
 -- ---- frames one after another
 
--- no whole frame stands in front
+-- the bytes do not begin with a whole frame
 abbrev pub BeginsNoFrame : List ℕ → Type 0
 BeginsNoFrame rest = (body after : List ℕ) → length body < 2 ^ 64 → rest ≡ frame_bytes body ++ after → ⊥
 
@@ -92,13 +92,13 @@ abbrev pub end_text : Bool → List ℕ
 end_text true = codes "log proved\n"
 end_text false = codes "log rejected\n"
 
--- the last line and the status, where all frames were shown and these bytes are left
+-- the last line and the status, where all whole frames were shown and the bytes `rest` are left
 abbrev pub IsEnd : List ℕ → Bool → List ℕ → ℕ → Type 0
 IsEnd rest accepted line status =
     ((rest ≡ []) × (line ≡ end_text accepted) × (status ≡ (if accepted then 0 else 1)))
     ⊎ (IsCutFrame rest × (line ≡ codes "log rejected cut\n") × (status ≡ 1))
 
--- the next text: that of the frame at hand, behind which nothing was taken, or, where no byte is left to take, the last line
+-- the next text: that of the frame at hand, after which nothing was taken; or, where the source has no byte left, the last line
 abbrev pub IsNext : List ℕ → ℕ → List ℕ → Bool → Option (List ℕ) → List ℕ → Type 0
 IsNext root i rest accepted left text =
     ((body : List ℕ) × (b : Bool) × (rest ≡ frame_bytes body) × TellsFrame root i body text b)
@@ -114,7 +114,7 @@ pub record HasShown (root bytes : List ℕ) (old middle : Option (List ℕ)) : T
 
 -- ---- the steps
 
--- What is read next where `room` more bytes may be taken: a whole frame, or the end of the bytes, which may lie within a frame.
+-- What is read next where `room` more bytes may be taken: a whole frame, or the end of the bytes, which may be within a frame.
 abbrev pub ReadsNext : ℕ → Option (List ℕ) → Option (List ℕ) → Next → Type 0
 ReadsNext room old new (next.Frame body) = Consumes old new (frame_bytes body.items) × (length (frame_bytes body.items) ≤ room)
 ReadsNext room old new next.End = Consumes old new [] × IsAtEnd new
@@ -128,7 +128,8 @@ StopsTaking most room old new stop.Long = (bytes : List ℕ) × Consumes old new
 StopsTaking most room old new stop.Memory = (bytes : List ℕ) × Consumes old new bytes × (length bytes ≤ room)
 StopsTaking most room old new stop.Sink = ⊥
 
--- No frame could be read. Where the source failed, no whole one was taken; where too many bytes were, none stands within the room.
+-- No frame could be read. Where the source failed, no whole frame was taken. Where there were too many bytes, no whole frame is
+-- within the room.
 abbrev pub StopsReading : ℕ → Option (List ℕ) → Option (List ℕ) → Stop → Type 0
 StopsReading room old new stop.Input = (bytes : List ℕ) × Consumes old new bytes × (length bytes ≤ room) × BeginsNoFrame bytes
 StopsReading room old new stop.Long = (bytes : List ℕ) × Consumes old new bytes × (room < length bytes)
@@ -140,7 +141,7 @@ StopsReading room old new stop.Sink = ⊥
 abbrev pub PutsFrame : List ℕ → ℕ → List ℕ → Bool → Option (List ℕ) → Option (List ℕ) → Type 0
 PutsFrame root i body accepted old new = (text : List ℕ) × TellsFrame root i body text accepted × Appends old new text
 
--- it was not: nothing was put, or a front of it where the output failed
+-- the text of a frame was not put: nothing was, or a front of it where the output failed
 abbrev pub StopsFrame : List ℕ → ℕ → List ℕ → Stop → Option (List ℕ) → Option (List ℕ) → Type 0
 StopsFrame root i body stop.Sink old new = (text : List ℕ) × (b : Bool) × TellsFrame root i body text b × AppendsPrefix old new text
 StopsFrame root i body stop.Memory old new = new ≡ old
@@ -159,7 +160,7 @@ pub record HasEnded (root : List ℕ) (left0 left1 old new : Option (List ℕ)) 
   pub is_end : IsEnd before.rest (all_accepted before.shown) line status
   pub written : Appends middle new line
 
--- what was put behind whole texts when the job stopped, `room` being how many more bytes it might have taken than were shown
+-- what was put after whole texts when the job stopped; `room` is how many bytes more than the shown ones it might have taken
 abbrev pub StopsAfter : List ℕ → ℕ → List ℕ → Bool → Option (List ℕ) → ℕ → Stop → Option (List ℕ) → Option (List ℕ) → Type 0
 StopsAfter root i rest accepted left room stop.Sink middle new = (text : List ℕ) × IsNext root i rest accepted left text × AppendsPrefix middle new text
 StopsAfter root i rest accepted left room stop.Input middle new = BeginsNoFrame rest × (new ≡ middle)
@@ -181,20 +182,20 @@ pub record HasStopped (root : List ℕ) (left0 left1 old new : Option (List ℕ)
 
 -- ---- by status
 
--- What the job does that takes bytes of carried logs from `left0`: it shows each frame once that is whole, and takes the next one
--- only then.
+-- What the job does with the bytes of carried logs that it takes from `left0`: it shows each whole frame once, and takes the next
+-- one only then.
 pub record ProvesLogs (root : List ℕ) (left0 left1 : Option (List ℕ)) (out0 out1 : SinkState) (status : ℕ) : Type 0 where
   pub bytes : List ℕ
   pub taken : Consumes left0 left1 bytes
-  -- at most 2 ^ 30 and a buffer more were taken, and too many are told exactly where more than 2 ^ 30 were
+  -- at most 2 ^ 30 and a buffer more were taken, and the status is 7 exactly where more than 2 ^ 30 were
   pub few : length bytes ≤ 2 ^ 30 + 4096
   pub long : (status ≡ 7) ↔ (2 ^ 30 < length bytes)
   pub middle : Option (List ℕ)
   pub before : HasShown root bytes out0.written middle
-  -- all of them, and the last line
+  -- all texts were put, and the last line
   pub done : (status ≡ 0) ⊎ (status ≡ 1) → IsAtEnd left1
       × ((line : List ℕ) × IsEnd before.rest (all_accepted before.shown) line status × Appends middle out1.written line)
-  -- a front of the next text
+  -- a front of the next text was put
   pub output : status ≡ 4 → (text : List ℕ) × IsNext root (length before.shown) before.rest (all_accepted before.shown) left1 text
       × AppendsPrefix middle out1.written text
   -- all whole frames of what was taken were shown, or where that is too much, all within the first 2 ^ 30 bytes

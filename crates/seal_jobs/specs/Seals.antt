@@ -1,4 +1,4 @@
--- What the job `seal` does and writes, by the status with which it ends.
+-- What the job `seal` does and writes, by its status.
 use Rattle.std.specs.Prelude.{◌≡◌, ◌⊎◌, ℕ, ◌≤◌, List, ◌++◌, Some, None, codes, IsTrue}
 use Rattle.std.specs.Io.KnownBytes.{Appends}
 use Rattle.hex.specs.Hex.{encode_lower}
@@ -23,7 +23,7 @@ use Rattle.seal_log.specs.Digests.{root_digest}
 abbrev pub sealed_text : List ℕ → List ℕ
 sealed_text root = codes "sealed " ++ (encode_lower root ++ line_end)
 
--- a sound file of version 2 and of up to 262144 pages, with this root digest
+-- a sound file of version 2 with at most 262144 pages and the root digest `root`
 pub record IsSealed (file root : List ℕ) : Type 0 where
   pub head : Head
   pub live : Live
@@ -33,13 +33,13 @@ pub record IsSealed (file root : List ℕ) : Type 0 where
   pub sound : audit_fault (space_of head) (reading head.dim live.pages file) live ≡ None
   pub root_is : root ≡ root_digest file live.pages
 
--- what stands on out when `seal` ends
+-- what is on out when `seal` ends
 pub record Seals (disk0 disk1 : DiskState) (out0 out1 : SinkState) (status : ℕ) : Type 0 where
   pub unchanged : IsUnchanged disk0 disk1
   pub sealed : status ≡ 0 → (root : List ℕ) × Appends out0.written out1.written (sealed_text root) × (IsTrue disk0.tells → IsSealed disk0.bytes root)
   pub rejected : status ≡ 1 → (fault : AuditFault) × Appends out0.written out1.written (rejected_text fault)
       × (IsTrue disk0.tells → IsAudited disk0.bytes (Some fault))
-  -- a front of the line
+  -- a front of the line was put
   pub part : status ≡ 4 →
       ((root : List ℕ) × AppendsPrefix out0.written out1.written (sealed_text root) × (IsTrue disk0.tells → IsSealed disk0.bytes root))
       ⊎ ((fault : AuditFault) × AppendsPrefix out0.written out1.written (rejected_text fault) × (IsTrue disk0.tells → IsAudited disk0.bytes (Some fault)))
@@ -50,7 +50,7 @@ pub record Seals (disk0 disk1 : DiskState) (out0 out1 : SinkState) (status : ℕ
   -- a file with too many pages is neither sealed nor audited
   pub large : (status ≡ 0) ⊎ ((status ≡ 1) ⊎ (status ≡ 4)) → IsTrue disk0.tells → IsLarge disk0.bytes → ⊥
 
--- `seal` ends so and in no other way
+-- the statuses with which `seal` may end
 abbrev pub IsSealStatus : ℕ → Type 0
 IsSealStatus n = (n ≡ 0) ⊎ ((n ≡ 1) ⊎ ((n ≡ 4) ⊎ ((n ≡ 5) ⊎ ((n ≡ 6) ⊎ ((n ≡ 7) ⊎ (n ≡ 8))))))
 
@@ -63,7 +63,7 @@ pub record Refuses (disk0 disk1 : DiskState) (out0 out1 : SinkState) (status : �
   pub long : status ≡ 7 → Tells out0 out1 (codes "fault long\n") × (IsTrue disk0.tells → IsLarge disk0.bytes)
   pub statuses : (status ≡ 5) ⊎ ((status ≡ 6) ⊎ (status ≡ 7))
 
--- the line of a file that was audited and found sound, of which the root digest is told
+-- the line of a file that was audited and found sound, with its root digest
 pub record EndsSealed (disk0 disk1 : DiskState) (pages : ℕ) (out0 out1 : SinkState) (status : ℕ) : Type 0 where
   pub unchanged : IsUnchanged disk0 disk1
   pub sealed : status ≡ 0 → (root : List ℕ) × Appends out0.written out1.written (sealed_text root) × (IsTrue disk0.tells → root ≡ root_digest disk0.bytes pages)

@@ -1,4 +1,4 @@
-// The job `proof` on an index.
+// Does the job `proof` on an index.
 ghost use Rattle.std.specs.Prelude.{◌≡◌, ◌⊎◌, ◌++◌, ◌≤◌, ◌<◌, ◌^◌, List, ℕ, [], length, All, nat_lt, IsTrue, IfOk, IfErr, IsErrOf, OnOk, codes};
 ghost use Rattle.std.specs.List.{list_all};
 ghost use Rattle.std.specs.Io.KnownBytes.{Appends};
@@ -38,7 +38,7 @@ use seal_log::{ProofFault, SealFault, Tree, carry, seal};
 use std::alloc::Global;
 use tree_shape::Live;
 
-// The first fault of a log, where it has one.
+// Returns the first fault of a log, if it has one.
 fn judge_by<M: Metric, P: Pages>(
     alloc: Global,
     metric: M,
@@ -62,7 +62,7 @@ fn judge_by<M: Metric, P: Pages>(
     }
 }
 
-// The first fault of a log over an opened index. What is kept of its pages is given back.
+// Returns the first fault of a log over an opened index, and the cache of its pages.
 fn judge_log<D: Disk>(
     alloc: Global,
     index: &mut D,
@@ -90,14 +90,14 @@ fn judge_log<D: Disk>(
     Ok((judged?, kept))
 }
 
-// Whether all records name pages of a file.
+// Returns whether all records name pages of a file.
 fn are_within(records: &[Record], pages: u32) -> bool
     ensures { result ≡ list_all (λ r. nat_lt r.page pages) records.now }
 {
     records.iter().all(|record| record.page < pages)
 }
 
-// The line of a log that is carried.
+// Returns the line of a carried log.
 fn carried_text(alloc: Global, frame: u64) -> Result<Vec<u8>, Memory>
     ensures { IfOk result (λ text. text.items ≡ carried_line frame) }
 {
@@ -107,7 +107,7 @@ fn carried_text(alloc: Global, frame: u64) -> Result<Vec<u8>, Memory>
     Ok(text)
 }
 
-// The carried log of a log without a fault, as a frame. A log that is accepted names no page outside.
+// Returns the carried log of a log without a fault, as a frame. An accepted log names no page outside the file.
 fn carried_frame<D: Disk>(
     alloc: Global,
     index: &mut D,
@@ -138,7 +138,7 @@ fn carried_frame<D: Disk>(
     }
 }
 
-// The frame and the line of a log with this first fault, or with none, and whether it has none.
+// Returns the frame and the line of a log with its first fault or none, and whether it has none.
 fn log_texts<D: Disk>(
     alloc: Global,
     index: &mut D,
@@ -170,7 +170,7 @@ fn log_texts<D: Disk>(
     Ok((put, carried_text(alloc, number)?, true))
 }
 
-// Puts the frame and then the line of a log. The answer is whether it has no fault, and what is kept of the pages.
+// Puts the frame and then the line of a log. Returns whether it has no fault, and the cache of the pages.
 fn carry_log<D: Disk, K: Sink, L: Sink>(
     alloc: Global,
     index: &mut D,
@@ -214,7 +214,7 @@ fn carry_log<D: Disk, K: Sink, L: Sink>(
     }
 }
 
-// Puts the frames and the lines of logs. The answer is whether none has a fault.
+// Puts the frames and the lines of logs. Returns whether none has a fault.
 fn carry_all<D: Disk, K: Sink, L: Sink>(
     alloc: Global,
     index: &mut D,
@@ -258,7 +258,7 @@ fn carry_all<D: Disk, K: Sink, L: Sink>(
     Ok(accepted)
 }
 
-// The last line where bytes are logs.
+// Returns the last line for bytes that are logs.
 fn carried_end(accepted: bool) -> &'static [u8]
     ensures { result.now ≡ carried_end accepted }
 {
@@ -269,8 +269,8 @@ fn carried_end(accepted: bool) -> &'static [u8]
     }
 }
 
-// Puts the frames and the lines of the logs that bytes spell, and the last line. All logs are judged behind one cache. The answer
-// is the status.
+// Puts the frames and the lines of the logs that the bytes spell, and the last line. Judges all logs with one cache of pages.
+// Returns the status.
 fn carry_bytes<D: Disk, K: Sink, L: Sink>(
     alloc: Global,
     index: &mut D,
@@ -313,7 +313,7 @@ fn carry_bytes<D: Disk, K: Sink, L: Sink>(
     Ok(Status(u8::from(!accepted)))
 }
 
-// Seals an opened index once, and puts the frames and the lines of the logs that bytes spell. The answer is the status.
+// Seals an opened index once, and puts the frames and the lines of the logs that the bytes spell. Returns the status.
 fn carry_opened<D: Disk, K: Sink, L: Sink>(
     alloc: Global,
     index: &mut D,
@@ -345,7 +345,7 @@ fn carry_opened<D: Disk, K: Sink, L: Sink>(
     }
 }
 
-// Puts the frames and the lines of the logs that bytes spell, by an index.
+// Opens an index, and puts the frames and the lines of the logs that the bytes spell.
 fn carry_index<D: Disk, K: Sink, L: Sink>(
     alloc: Global,
     index: &mut D,
@@ -380,11 +380,12 @@ fn carry_index<D: Disk, K: Sink, L: Sink>(
     }
 }
 
-/// Reads logs, and writes to `log_out` for each that has no fault on the index its carried log, as a frame, and then its line
-/// to `out`; for another its first fault. The index is sealed once. Wherever it stops, each line on `out` has its whole frame
-/// on `log_out`. Status 1: a log is rejected, or the bytes are no logs; 3: they could not be read; 4: a frame or a line could
-/// not be written; 5: the disk failed; 6: the file is no index of version 2; 7: there are more than 2^30 bytes of logs, or the
-/// index has more than 262144 pages; 8: want of memory. With status 3, 6 and 7 nothing is put to `log_out`. The index is not changed.
+/// Reads logs. For each log without a fault on the index it writes its carried log to `log_out`, as a frame, and then its line to
+/// `out`. For another log it writes its first fault to `out`. The index is sealed once. Wherever the job stops, each line on `out`
+/// has its whole frame on `log_out`. Status 1: a log is rejected, or the bytes are no logs; 3: they could not be read; 4: a frame or
+/// a line could not be written; 5: the disk failed; 6: the file is no index of version 2; 7: there are more than 2^30 bytes of logs,
+/// or the index has more than 262144 pages; 8: memory ran out. With status 3, 6 and 7 nothing is put to `log_out`. The index is not
+/// changed.
 pub fn carry_logs<D: Disk, S: Source, K: Sink, L: Sink>(
     alloc: Global,
     index: &mut D,
@@ -395,7 +396,7 @@ pub fn carry_logs<D: Disk, S: Source, K: Sink, L: Sink>(
     ensures carries { CarriesLogs (D.state index.old) (D.state index.new) (S.left log_in.old) (S.left log_in.new)
         (L.state log_out.old).written (L.state log_out.new).written (K.state out.old) (K.state out.new) result.0 }
     ensures kept { IsRefusal result.0 → log_out.new ≡ log_out.old }
-    // A frame that is written for a sound log of a sound file is accepted under the file's root digest.
+    // A frame written for a sound log of a sound file is accepted under the file's root digest.
     ensures accepted { CarriedLogsAreAccepted }
     ensures statuses { IsCarriedLogsStatus result.0 }
     ensures input { result.0 ≡ 3 → Rose (S.faults log_in.old) (S.faults log_in.new) }

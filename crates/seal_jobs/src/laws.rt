@@ -6,7 +6,7 @@ use file_jobs::laws::heads_have_spaces;
 use seal_log::laws::accepted_logs_show_answers;
 
 /// An accepted carried log names the plain scan's answers of each file that is sound in the space of its head and has the root
-/// digest, or two different byte strings with one SHA-256 digest are found.
+/// digest. Or else two different byte strings with one SHA-256 digest are found.
 pub fn accepted_show()
     ensures { AcceptedShow }
 {

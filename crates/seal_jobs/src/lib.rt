@@ -1,4 +1,4 @@
-//! The jobs on seals: the root digest of a sound index, and carried logs that are checked without the index.
+//! The jobs on seals: they compute the root digest of a sound index, and make and check carried logs.
 #![tactic(auto)]
 
 mod carrying;

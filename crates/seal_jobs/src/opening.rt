@@ -1,4 +1,4 @@
-// Opening an index that is not too large to be sealed.
+// Opens an index that is not too large to be sealed.
 ghost use Rattle.std.specs.Prelude.{◌≡◌, ◌≤◌, IsTrue, IfOk, IfErr, OnOk};
 ghost use Rattle.disk_model.specs.Disk.{IsUnchanged};
 ghost use Rattle.node_page.specs.Heads.{IsLawfulHead};
@@ -11,8 +11,8 @@ use node_page::Head;
 use outside_io::{Sink, Status};
 use tree_shape::Live;
 
-/// Opens an index of version 2 with up to 262144 pages. Else it writes why it is none, and answers the status: 5 where the
-/// disk failed, 6 where the file is no index of version 2, and 7 where it has more pages. Nothing is changed.
+/// Opens an index of version 2 with at most 262144 pages. Otherwise it writes why the file is none, and returns the status: 5 where
+/// the disk failed, 6 where the file is no index of version 2, and 7 where it has more pages. Changes nothing.
 pub fn open_small<D: Disk, K: Sink>(disk: &mut D, out: &mut K) -> Result<(Head, Live), Status>
     ensures same { IsUnchanged (D.state disk.old) (D.state disk.new) }
     ensures opens { IfOk result (λ opened. IsTrue (D.state disk.old).tells → OpensTo (D.state disk.old).bytes opened.0 opened.1) }

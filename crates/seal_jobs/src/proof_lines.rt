@@ -1,4 +1,4 @@
-// The texts on carried logs.
+// The texts about carried logs.
 ghost use Rattle.std.specs.Prelude.{◌≡◌, ◌++◌, OnOk, IfOk};
 ghost use Rattle.file_jobs.specs.Logs.Lines.{rejected_line};
 ghost use Rattle.seal_jobs.specs.Proofs.{end_text, proof_fault_text, proved_frame};
@@ -35,7 +35,7 @@ fn push_proof_fault(why: ProofFault, out: &mut Vec<u8>) -> Result<(), Memory>
     }
 }
 
-/// The line of a frame that is rejected for this reason.
+/// Returns the line of a frame that is rejected for the reason `why`.
 pub fn rejected_text(alloc: Global, frame: u64, why: ProofFault) -> Result<Vec<u8>, Memory>
     ensures { IfOk result (λ text. text.items ≡ rejected_line frame (proof_fault_text why)) }
 {
@@ -47,7 +47,7 @@ pub fn rejected_text(alloc: Global, frame: u64, why: ProofFault) -> Result<Vec<u
     Ok(text)
 }
 
-/// The lines of a frame whose carried log is accepted and shows this.
+/// Returns the lines of a frame whose carried log is accepted and shows `proved`.
 pub fn proved_text(alloc: Global, frame: u64, proved: Proved) -> Result<Vec<u8>, Memory>
     ensures { IfOk result (λ text. text.items ≡ proved_frame frame proved.query proved.answers) }
 {
@@ -59,7 +59,7 @@ pub fn proved_text(alloc: Global, frame: u64, proved: Proved) -> Result<Vec<u8>,
     Ok(text)
 }
 
-/// The last line where all frames are whole.
+/// Returns the last line for input whose frames are all whole.
 pub fn end_text(accepted: bool) -> &'static [u8]
     ensures { result.now ≡ end_text accepted }
 {

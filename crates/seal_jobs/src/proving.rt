@@ -1,4 +1,4 @@
-// The job `proof` on carried logs.
+// Does the job `proof` on carried logs.
 ghost use Rattle.std.specs.Prelude.{◌≡◌, ◌⊎◌, ◌≤◌, if◌then◌else◌, IfOk, IfErr, IsErrOf};
 ghost use Rattle.std.specs.Io.KnownBytes.{Appends};
 ghost use Rattle.outside_io.specs.Bytes.{AppendsPrefix};
@@ -16,7 +16,7 @@ use outside_io::{Sink, Source, Status};
 use seal_log::{ProofFault, Proved, read_proof, verify_carried};
 use std::alloc::Global;
 
-// What a carried log shows under a root digest, or its first fault.
+// Returns what a carried log shows under a root digest, or its first fault.
 fn judge(alloc: Global, root: &[u8; 32], body: &[u8]) -> Result<Proved, ProofFault>
     ensures accepted { IfOk result (λ proved. (c : CarriedLog) × IsAccepted root.now body.now c × (proved.query ≡ c.log.query)
         × (proved.answers ≡ c.log.answers)) }
@@ -30,7 +30,7 @@ fn judge(alloc: Global, root: &[u8; 32], body: &[u8]) -> Result<Proved, ProofFau
     verify_carried(alloc, &carried, metric)
 }
 
-// The text on a frame, and whether it is accepted.
+// Returns the text about a frame, and whether the frame is accepted.
 fn frame_text(
     alloc: Global,
     root: &[u8; 32],
@@ -47,7 +47,7 @@ fn frame_text(
     }
 }
 
-// Puts the text on a frame. The answer is whether it is accepted.
+// Puts the text about a frame. Returns whether the frame is accepted.
 fn judge_frame<K: Sink>(
     alloc: Global,
     root: &[u8; 32],
@@ -67,14 +67,14 @@ fn judge_frame<K: Sink>(
     }
 }
 
-// The status where all frames are whole.
+// Returns the status for input whose frames are all whole.
 fn end_status(accepted: bool) -> u8
     ensures { result ≡ (if accepted then 0 else 1) }
 {
     u8::from(!accepted)
 }
 
-// Puts the last line. The answer is the status.
+// Puts the last line. Returns the status.
 fn put_end<K: Sink>(line: &[u8], status: u8, out: &mut K) -> Result<Status, Stop>
     ensures ends { IfOk result (λ ended. (ended.0 ≡ status) × Appends (K.state out.old).written (K.state out.new).written line.now) }
     ensures stops { IfErr result (λ why. (why ≡ Stop.Sink) × AppendsPrefix (K.state out.old).written (K.state out.new).written line.now) }
@@ -87,8 +87,8 @@ fn put_end<K: Sink>(line: &[u8], status: u8, out: &mut K) -> Result<Status, Stop
     }
 }
 
-// Takes frames one after another, judges each and puts its text before the next one is taken, and last puts the last line. The
-// answer is the status.
+// Takes frames one after another, judges each, and puts its text before it takes the next one. Puts the last line at the end.
+// Returns the status.
 fn judge_frames<S: Source, K: Sink>(
     alloc: Global,
     log_in: &mut S,
@@ -120,10 +120,10 @@ fn judge_frames<S: Source, K: Sink>(
     }
 }
 
-/// Judges the carried logs of `log_in` under a root digest, without the file that it was made of, and writes for each that it
-/// is proved, with its query and its answers, or its first fault, before the next one is read. It holds one frame at a time,
-/// and of that no more than the bytes that came. Status 1: a carried log is rejected, or the last frame is not whole; 3: they
-/// could not be read; 4: a line could not be written; 7: there are more than 2^30 bytes; 8: want of memory.
+/// Judges the carried logs of `log_in` under a root digest, without the file. For each it writes that it is proved, with its query
+/// and its answers, or its first fault, before it reads the next one. It holds one frame at a time, and of that frame no more than
+/// the bytes that came. Status 1: a carried log is rejected, or the last frame is not whole; 3: they could not be read; 4: a line
+/// could not be written; 7: there are more than 2^30 bytes; 8: memory ran out.
 pub fn prove_logs<S: Source, K: Sink>(
     alloc: Global,
     log_in: &mut S,
@@ -131,7 +131,7 @@ pub fn prove_logs<S: Source, K: Sink>(
     out: &mut K,
 ) -> Status
     ensures proves { ProvesLogs root.now (S.left log_in.old) (S.left log_in.new) (K.state out.old) (K.state out.new) result.0 }
-    // A frame that is written proved has an accepted carried log, and this is what it shows.
+    // A frame reported as proved has an accepted carried log, and this is what such a log shows.
     ensures shows { AcceptedShow }
     ensures statuses { IsProofStatus result.0 }
     ensures input { result.0 ≡ 3 → Rose (S.faults log_in.old) (S.faults log_in.new) }

@@ -1,4 +1,4 @@
-// The job `seal`.
+// Does the job `seal`.
 ghost use Rattle.std.specs.Prelude.{◌≡◌, ◌⊎◌, ◌≤◌, IfOk, codes};
 ghost use Rattle.std.specs.Io.KnownBytes.{Appends};
 ghost use Rattle.outside_io.specs.Bytes.{AppendsPrefix};
@@ -13,7 +13,7 @@ use outside_io::{Memory, Sink, Status};
 use seal_log::{SealFault, seal};
 use std::alloc::Global;
 
-// The line of a sealed file.
+// Returns the line of a sealed file.
 fn sealed_text(alloc: Global, root: &[u8; 32]) -> Result<Vec<u8>, Memory>
     ensures { IfOk result (λ text. text.items ≡ sealed_text root.now) }
 {
@@ -25,7 +25,7 @@ fn sealed_text(alloc: Global, root: &[u8; 32]) -> Result<Vec<u8>, Memory>
     Ok(text)
 }
 
-// Ends with the line of this root digest.
+// Ends the job with the line of the root digest `root`.
 fn end_sealed<K: Sink>(alloc: Global, root: &[u8; 32], out: &mut K) -> Status
     ensures sealed { result.0 ≡ 0 → Appends (K.state out.old).written (K.state out.new).written (sealed_text root.now) }
     ensures part { result.0 ≡ 4 → AppendsPrefix (K.state out.old).written (K.state out.new).written (sealed_text root.now) }
@@ -40,7 +40,7 @@ fn end_sealed<K: Sink>(alloc: Global, root: &[u8; 32], out: &mut K) -> Status
     }
 }
 
-// Seals a sound index and ends with its line.
+// Seals a sound index, and ends the job with its line.
 fn seal_sound<D: Disk, K: Sink>(alloc: Global, index: &mut D, pages: u32, out: &mut K) -> Status
     requires some { 4 ≤ pages }
     requires few { pages ≤ 262144 }
@@ -56,9 +56,9 @@ fn seal_sound<D: Disk, K: Sink>(alloc: Global, index: &mut D, pages: u32, out: &
     }
 }
 
-/// Audits an index of up to 262144 pages, and writes `sealed` with its root digest in 64 hexadecimal digits, or `rejected`
-/// with its first fault and status 1. Status 4: the line could not be written; 5: the disk failed; 6: the file is no index of
-/// version 2; 7: it has more pages; 8: want of memory. Nothing is changed.
+/// Audits an index of at most 262144 pages, and writes `sealed` with its root digest in 64 hexadecimal digits, or `rejected` with
+/// its first fault and status 1. Status 4: the line could not be written; 5: the disk failed; 6: the file is no index of version 2;
+/// 7: it has more pages; 8: memory ran out. Changes nothing.
 pub fn seal_index<D: Disk, K: Sink>(alloc: Global, index: &mut D, out: &mut K) -> Status
     ensures seals { Seals (D.state index.old) (D.state index.new) (K.state out.old) (K.state out.new) result.0 }
     ensures statuses { IsSealStatus result.0 }

@@ -11,7 +11,7 @@ pub enum Stop {
     /// A text could not be put.
     #[error("the output failed")]
     Sink,
-    /// There was no memory.
+    /// Memory ran out.
     #[error("out of memory")]
     Memory,
     /// The source failed.

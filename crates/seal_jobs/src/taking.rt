@@ -1,4 +1,4 @@
-// Taking frames one after another from a source.
+// Takes frames from a source, one after another.
 ghost use Rattle.std.specs.Prelude.{◌≡◌, ◌≤◌, ◌<◌, ◌^◌, length, IfOk, IfErr, IsErrOf};
 ghost use Rattle.std.specs.Io.KnownBytes.{Consumes, IsAtEnd};
 ghost use Rattle.outside_io.specs.Causes.{Rose};
@@ -10,22 +10,22 @@ use byteorder::{BigEndian, ByteOrder};
 use outside_io::Source;
 use std::alloc::Global;
 
-// How many bytes are taken at once.
+// The number of bytes that are taken at once.
 const PIECE: usize = 4096;
 
-/// What stands next in a source of frames.
+/// What comes next in a source of frames.
 #[derive(Drop)]
 pub enum Next {
     /// The bytes of a whole frame.
     Frame(Vec<u8>),
-    /// The end behind a whole frame.
+    /// The end, after a whole frame.
     End,
     /// The end within a frame.
     Cut,
 }
 
-// The next `most` bytes, or those up to the end where they are fewer. It asks for memory as they come, however large `most`
-// is. `Input`: the source failed; `Long`: more than `room` bytes were taken.
+// Returns the next `most` bytes, or those up to the end where there are fewer. It asks for memory as the bytes come, however large
+// `most` is. `Input`: the source failed; `Long`: more than `room` bytes were taken.
 fn take_up_to<S: Source>(
     alloc: Global,
     source: &mut S,
@@ -60,7 +60,7 @@ fn take_up_to<S: Source>(
     Ok(bytes)
 }
 
-// The number in a field of eight bytes.
+// Returns the number in a field of eight bytes.
 fn number_in(field: &[u8]) -> u64
     requires { length field.now ≡ 8 }
     ensures spelled { field.now ≡ big_bytes 8 result }
@@ -69,7 +69,7 @@ fn number_in(field: &[u8]) -> u64
     BigEndian::read_u64(field)
 }
 
-/// The next frame, where it ends within the next `room` bytes. It asks for no more memory than the bytes that came can fill.
+/// Returns the next frame, where it ends within the next `room` bytes. It asks for no more memory than the bytes that came can fill.
 pub fn next_frame<S: Source>(alloc: Global, source: &mut S, room: u64) -> Result<Next, Stop>
     ensures reads { IfOk result (ReadsNext room (S.left source.old) (S.left source.new)) }
     ensures stops { IfErr result (StopsReading room (S.left source.old) (S.left source.new)) }

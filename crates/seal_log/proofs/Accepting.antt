@@ -79,7 +79,7 @@ each-at n (r ∷ rs) each (suc k) d lt = each-at n rs each.1 k d (omega arith)
 abbrev Below : ℕ → List ℕ → Type 0
 Below n xs = (k d : ℕ) → k < length xs → get_or xs k d < n
 
--- a number that is held stands at its own place, where those below it do
+-- a number in the list stands at its own index, where the numbers below it do
 place-of : (xs : List ℕ) (x : ℕ) → IsStrictlyIncreasing xs → Contains xs x → ((y : ℕ) → y < x → get_or xs y 0 ≡ y) → (get_or xs x 0 ≡ x) × (x < length xs)
 place-of xs x up held before =
     let k = held.0 in
@@ -259,7 +259,7 @@ carrying-faultless s head live file log pages given =
 abbrev read_ok : Parts × List ℕ → Result (Parts × List ℕ) LogFault
 read_ok x = Ok x
 
--- a carried log of the same parts and the same log is judged so
+-- a carried log with the same parts and the same log is accepted
 carrying-judged : (s : Space) (head : Head) (live : Live) (file : List ℕ) (log : Log) (pages : List ℕ) (c : CarriedLog) → IsCarrying s head live file log pages → IsCarried c → c.live.pages ≡ live.pages → c.carried ≡ Pages file live.pages pages → c.log ≡ log → judged_fault s c ≡ None
 carrying-judged s head live file log pages c given is count same log-is =
     let fc = carried_file live.pages (Pages file live.pages pages) in

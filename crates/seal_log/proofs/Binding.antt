@@ -115,7 +115,7 @@ pair_bound level above widths i digest p path digests pair size is (inr found) =
     inr (in_next level above (climb_messages widths (i / 2) (sha256 (message_at i digest p)) path) (climb_messages (length level ∷ widths) i digest (p ∷ path))
     (λ x inside. subst (IsIn x) (sym (messages-pair (length level) widths i digest p path is)) (inr inside)) found)
 
--- what is said of the levels above, one level further down
+-- the lemma for the levels above, one level further down
 abbrev Climbs : ℕ → List Digest → Type 0
 Climbs more level = (i : ℕ) (digest : Digest) (path : List Digest) → i < length level → length digest ≡ 32
     → climbed (widths_within more (length level)) i digest path ≡ Some (top_of (levels_within more level)) → Bound (levels_within more level) (widths_within more (length level)) level i digest path

@@ -23,7 +23,7 @@ behind-above last page is = told (nat_lt last 2) (page == last + 1) (nat_lt last
     told true next behind p q is = p is
     told false next behind p q is = q is
 
--- each is one of the file's pages
+-- each carried page is one of the file's pages
 pub pages-below : (pages : ℕ) (last : Option ℕ) (ps : List CarriedPage) → AreInPlace pages last ps → AllByRecursion (λ (p : CarriedPage). p.page < pages) ps
 pages-below pages last [] placed = tt
 pages-below pages last (p ∷ ps) placed = (ltb-true p.page pages (and-both (nat_lt p.page pages) (is_behind last p.page) placed.0).0, pages-below pages (Some p.page) ps placed.1)
@@ -82,7 +82,7 @@ sized-at [] i d lt each = absurd (omega arith)
 sized-at (p ∷ ps) zero d lt each = each.0
 sized-at (p ∷ ps) (suc i) d lt each = sized-at ps i d (omega arith) each.1
 
--- three pages in their place are of a file of at least three
+-- three carried pages in their place belong to a file of at least three pages
 pub three-pages : (pages : ℕ) (ps : List CarriedPage) → AreInPlace pages None ps → 3 ≤ length ps → 3 ≤ pages
 three-pages pages [] placed some = absurd (omega arith)
 three-pages pages (a ∷ []) placed some = absurd (omega arith)
@@ -112,7 +112,7 @@ pub page-carried : (pages : ℕ) (ps : List CarriedPage) (page : ℕ) (bytes : L
 page-carried pages ps page bytes within size is =
     page_is (carried_file pages ps) page bytes size (λ k below. place-carried_file pages ps page k within below ∙ ap (λ (b : List ℕ). slice_index b k) is)
 
--- a page that isn't
+-- a page that isn't carried
 pub page-zero : (pages : ℕ) (ps : List CarriedPage) (page : ℕ) → page < pages → bytes_of ps page ≡ [] → page_of (carried_file pages ps) page ≡ replicate 4096 0
 page-zero pages ps page within is = zeros 4096 (carried_file pages ps) page (λ k below. place-carried_file pages ps page k within below ∙ ap (λ (b : List ℕ). slice_index b k) is) refl
   where

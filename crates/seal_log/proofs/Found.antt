@@ -1,4 +1,4 @@
--- A page that is looked for among ascending ones.
+-- Searching for a page among ascending ones.
 use Rattle.std.proofs.Common.{◌≡◌, ℕ, suc, ◌+◌, ◌≤◌, ◌<◌, Bool, true, false, not, List, ◌∷◌, length, get_or, drop, Option, Some, None, Result, Ok, Err, refl, sym, ap, ◌∙◌, arith, inl, inr, add-one}
 use Rattle.std.specs.Prelude.{IfOk, OnErr}
 use Rattle.std.specs.List.{AllPairs}
@@ -28,7 +28,7 @@ greater_is a b e = grind (arith, nat_tests)
 higher : (x a b : ℕ) → a ≤ b → ordering_index (nat_cmp a x) ≤ ordering_index (nat_cmp b x)
 higher x a b le = grind (arith, nat_tests)
 
--- the pages do not fall
+-- the pages ascend with their places
 risen : (ps : List CarriedPage) (i j : ℕ) (d : CarriedPage) → AllPairs (λ p q. p.page < q.page) ps → i ≤ j → j < length ps → (get_or ps i d).page ≤ (get_or ps j d).page
 risen ps i j d ascend le within = elim (cases_lt i j) [
   | inl lt ↦ let below = ascend i j d lt within in omega arith

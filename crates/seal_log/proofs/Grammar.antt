@@ -1,4 +1,4 @@
--- What is read of a carried log is spelled so, and what was spelled is read again.
+-- What is read from a carried log is spelled by its bytes, and what was spelled is read again.
 use Rattle.std.proofs.Common.{◌≡◌, ℕ, zero, suc, ◌^◌, ◌<◌, ◌≤◌, ◌==◌, true, false, cond, ltb, nat_le, List, [], ◌∷◌, ◌++◌, length, take, drop, Option, Some, None, Result, Ok, Err, refl, sym, ap, subst, ◌∙◌, append_assoc, arith}
 use Rattle.std.specs.List.{flat_map, AllByRecursion}
 use Rattle.std.proofs.lemmas.Bool.{ltb-false, le-ltb, leb-true, le-leb, eqb-true}
@@ -18,7 +18,7 @@ use Rattle.seal_log.specs.Reading.{opening_at, path_at, place_at, page_at, pages
 
 -- ---- fields
 
--- so many bytes
+-- bytes that are spelled as they are
 abbrev pub plain : List ℕ → List ℕ
 plain x = x
 
@@ -183,7 +183,7 @@ parts_again parts rest lawful =
       pages_again parts.pages parts.carried None rest lawful.each lawful.in_place,
     ) refl
 
--- what takes all bytes is spelled so and in the grammar
+-- what takes all bytes is spelled by them, and in the grammar
 pub carried_take : (bytes : List ℕ) (parts : Parts) (log : List ℕ) → IsBytes bytes → carried_at bytes ≡ Ok (parts, log) → AreLawful parts × (length log < 2 ^ 64) × IsBytes log × (carried_bytes parts log ≡ bytes)
 unfolding carried_at
 carried_take bytes parts log fits e =
@@ -212,7 +212,7 @@ at_end parts body = cond (length body.1 == 0) (Ok (parts, body.0)) (Err faults.T
 log_again : (parts : Parts) (log : List ℕ) → (front_at (length log) log >>= at_end parts) ≡ Ok (parts, log)
 log_again parts log = ap (λ (t : List ℕ). front_at (length log) t >>= at_end parts) (sym (append-nil log)) ∙ rw (front_again (length log) log [] refl) refl
 
--- what is in the grammar is read of its spelling
+-- what is in the grammar is read from its spelling
 pub carried_again : (parts : Parts) (log : List ℕ) → AreLawful parts → length log < 2 ^ 64 → carried_at (carried_bytes parts log) ≡ Ok (parts, log)
 unfolding carried_at
 carried_again parts log lawful few = rw (parts_again parts (frame_bytes log) lawful, (number_reader 8 (2 ^ 64) wide64).again (length log) log few) (log_again parts log)

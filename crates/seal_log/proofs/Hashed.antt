@@ -69,7 +69,7 @@ root-is file n = ap (λ (k : ℕ). sha256 (root_message k (top_of (levels_over (
 
 -- ---- one page
 
--- the page is the file's own, of which the number of pages is right
+-- the number of pages is right, and the bytes are the file's own page
 abbrev pub Own : List ℕ → ℕ → ℕ → ℕ → List ℕ → Type 0
 Own file m n i bytes = (n ≡ m) × (bytes ≡ page_of file i)
 
@@ -133,7 +133,7 @@ page_at_top file m n i bytes path (Some top) lt n-small m-small is test =
         page_at_count file m n i bytes path both.0 lt (is ∙ ap Some both.1)
     told (inr found) = inr found
 
--- a page of so many that leads to the root digest of a file
+-- a page whose path leads to the root digest of a file of `m` pages is that file's own, or two byte strings collide
 pub page_own : (file : List ℕ) (m n i : ℕ) (bytes : List ℕ) (path : List Digest) → i < n → n < 2 ^ 32 → m < 2 ^ 32 → leads_to (root_over (leaf_digests file m)) n i bytes path ≡ true
     → Own file m n i bytes ⊎ Collide (hashed_for file m) (check_messages n i bytes path)
 unfolding leads_to

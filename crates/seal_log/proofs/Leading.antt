@@ -71,7 +71,7 @@ top-one : (level : List Digest) → top_of (level ∷ []) ≡ digest_at level 0
 unfolding top_of
 top-one level = refl
 
--- what is said of the levels above, one level further down
+-- the lemma for the levels above, one level further down
 abbrev Leads : ℕ → List Digest → Type 0
 Leads more level = (i : ℕ) → i < length level → climbed (widths_within more (length level)) i (digest_at level i) (path_in (levels_within more level) i) ≡ Some (top_of (levels_within more level))
 
@@ -122,7 +122,7 @@ path_leads (suc more) level few i within = elim (either_way (nat_le (length leve
       ∙ sym (ap Some (ap top_of levels ∙ top-over level more (paired level)))
 ]
 
--- of a page of a file
+-- the path of a page of a file leads to the root
 pub page_leads : (file : List ℕ) (n i : ℕ) → i < n → leads_to (root_over (leaf_digests file n)) n i (page_of file i) (path_in (levels_over (leaf_digests file n)) i) ≡ true
 unfolding leads_to is_top widths_over
 page_leads file n i lt =

@@ -1,4 +1,4 @@
--- The head and the live slot of a file of so many pages.
+-- The head and the live slot of a file of `pages` pages.
 use Rattle.std.proofs.Common.{◌≡◌, ◌≢◌, ℕ, zero, suc, ◌+◌, ◌-◌, ◌*◌, ◌<◌, ◌≤◌, ◌==◌, ◌&&◌, ◌||◌, ◌%◌, not, nat_lt, nat_le, Bool, true, false, cond, List, length, slice_index, Option, Some, None, refl, sym, ap, subst, ◌∙◌, arith, inl, inr}
 use Rattle.std.specs.Prelude.{IsTrue}
 use Rattle.std.proofs.lemmas.Bool.{le-ltb, leb-true, eqb-true, eq-eqb}
@@ -30,7 +30,7 @@ roomy limit size more live le lawful = record {
   room = omega (arith, lawful.room, le);
 }
 
--- what the two slots say is what the file opens to
+-- the head and the live slot that the slots' pages spell are what the file opens to
 pub live_opens : (file : List ℕ) (pages : ℕ) (head : Head) (live : Live) → 4096 * pages ≤ length file → 3 ≤ pages → SpellsHead (page_of file 0) head
     → IsLiveOf (page_of file 1) (page_of file 2) head.limit pages live → OpensTo file head live × (live.pages ≡ pages)
 unfolding is_open generation_of
@@ -57,7 +57,7 @@ live_opens file pages head live size some spells (inr second) = (
   second.all,
 )
 
--- so many pages are enough for a slot that counts as many
+-- a lawful slot that counts `pages` pages is lawful in a file of `pages` pages
 enough : (limit size pages : ℕ) (live : Live) → live.pages ≡ pages → IsLawfulLive limit size live → IsLawfulLive limit (4096 * pages) live
 enough limit size pages live all lawful = record {
   low_generation = lawful.low_generation;
@@ -98,7 +98,7 @@ parts-none : (head : Option HeadFault) (next : Option Unopened) → after_head h
 parts-none None next e = (refl, e)
 parts-none (Some fault) next e = absurd cc
 
--- of a file that opens neither the head nor the slots have a fault
+-- in a file that opens, neither the head nor the slots have a fault
 slots-none : (file : List ℕ) (head : Head) (live : Live) → OpensTo file head live → (head_fault (page_of file 0) ≡ None) × (slot_fault file ≡ None)
 unfolding open_fault
 slots-none file head live opens =
@@ -142,7 +142,7 @@ faultless_opens file pages long none =
     live-none pages None live e = (refl, pages-none (live.pages == pages) live pages (eqb-true live.pages pages) e)
     live-none pages (Some f) live e = absurd cc
 
--- where neither slot is live, that is the file's fault
+-- where neither slot is live, the file's fault is that it has no live slot
 pub no_live_slot : (file : List ℕ) (pages : ℕ) (head : Head) → length file ≡ 4096 * pages → 3 ≤ pages → SpellsHead (page_of file 0) head → head.version ≡ 2
     → ((live : Live) → IsLiveOf (page_of file 1) (page_of file 2) head.limit pages live → ⊥) → slots_fault pages file ≡ Some faults.Slot
 unfolding opening_fault live_fault open_fault
@@ -178,7 +178,7 @@ pub head-first : (file : List ℕ) (pages : ℕ) (fault : ProofFault) → judged
 unfolding opening_fault
 head-first file pages fault is = rw is refl
 
--- the same of bytes that are the file's pages
+-- the same for bytes that are the file's pages
 pub opened : (file : List ℕ) (pages : ℕ) (head : Head) (live : Live) (zeroth first second : List ℕ) → length file ≡ 4096 * pages → 3 ≤ pages
     → zeroth ≡ page_of file 0 → first ≡ page_of file 1 → second ≡ page_of file 2 → SpellsHead zeroth head → IsLiveOf first second head.limit pages live → OpensTo file head live
 opened file pages head live zeroth first second size some is0 is1 is2 spells slots =

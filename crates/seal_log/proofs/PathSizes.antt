@@ -25,7 +25,7 @@ path-few (level ∷ above) i =
     at_most None = omega arith
     at_most (Some d) = omega arith
 
--- half of a level that is no wider than twice as much
+-- a level of at most `2 * most` digests has at most `most` pairs
 half-most : (width most : ℕ) → width ≤ 2 * most → (width + 1) / 2 ≤ most
 half-most width most le = omega arith
 

@@ -29,7 +29,7 @@ pub widths-more : (more width : ℕ) → 1 < width → widths_within (suc more) 
 unfolding widths_within
 widths-more more width many = let many_is : nat_le width 1 ≡ false = lt-leb width 1 many in rw many_is refl
 
--- how many levels there may be at most makes no difference where they are enough
+-- the bound on the number of levels makes no difference where it is large enough
 pub widths-enough : (more other width : ℕ) → width ≤ suc more → width ≤ suc other → widths_within more width ≡ widths_within other width
 widths-enough zero other width few enough = widths-one zero width few ∙ sym (widths-one other width few)
 widths-enough (suc more) zero width few enough = widths-one (suc more) width enough ∙ sym (widths-one zero width enough)

@@ -64,7 +64,7 @@ none-missing ps (r ∷ rs) i none = let both = told (is_carried ps r.page) i (mi
 
 -- ---- carried pages that are the file's own
 
--- its bytes, and that it has so many of them
+-- the bytes of such a page are the file's
 pub own_bytes : (file : List ℕ) (ps : List CarriedPage) (page : ℕ) → AllOwn file ps → is_carried ps page ≡ true → bytes_of ps page ≡ page_of file page
 unfolding bytes_of
 own_bytes file [] page own is = absurd cc
@@ -200,7 +200,7 @@ verdict_told s c asked dim n again file (verdicts.WrongMark r e) none cause = in
 verdict_told s c asked dim n again file (verdicts.WrongAnswer r) none cause = inr (verdict-next s c (verdicts.WrongAnswer r) none (cause refl))
 verdict_told s c asked dim n again file (verdicts.LeftOver r) none cause = inr (verdict-next s c (verdicts.LeftOver r) none (cause refl))
 
--- the same of a live slot, a log and a metric that are the carried ones
+-- the same for the carried live slot, log and metric
 pub verdict_of : {M : Type 0} (space : M → Space) (m metric : M) (live : Live) (log : Log) (c : CarriedLog) (asked dim n again : ℕ) (file : List ℕ) (verdict : Verdict) → m ≡ metric → live ≡ c.live → log ≡ c.log → missing_from c.carried c.log.records 0 ≡ None
     → HasCause (image_shelf c.head.dim c.live.pages (file_of c) asked) (image_shelf dim n file again) verdict (log_fault (space m) (reading c.head.dim c.live.pages (file_of c)) live log ≡ Some verdict)
     → (fault_by verdict ≡ faults.Memory) ⊎ (judged_fault (space metric) c ≡ Some (fault_by verdict))

@@ -14,7 +14,7 @@ use Rattle.seal_log.specs.Paths.{partner_of, partners_at, path_in}
 use Rattle.seal_log.proofs.Shapes.{either_way, levels-one, levels-more}
 use Rattle.seal_log.proofs.Levels.{length-paired}
 
--- how many levels there may be at most makes no difference where they are enough
+-- the bound on the number of levels makes no difference where it is large enough
 pub levels-enough : (more other : ℕ) (level : List Digest) → length level ≤ suc more → length level ≤ suc other → levels_within more level ≡ levels_within other level
 levels-enough zero other level few enough = levels-one zero level few ∙ sym (levels-one other level few)
 levels-enough (suc more) zero level few enough = levels-one (suc more) level enough ∙ sym (levels-one zero level enough)

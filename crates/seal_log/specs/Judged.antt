@@ -40,7 +40,7 @@ bytes_of (p ∷ ps) page = if p.page == page then p.bytes else bytes_of ps page
 abbrev pub HasPageSize : CarriedPage → Type 0
 HasPageSize p = length p.bytes ≡ 4096
 
--- a file of so many pages, of which those that aren't carried are zero
+-- a file of `pages` pages; the pages that aren't carried are zero
 unfoldable pub carried_file : ℕ → List CarriedPage → List ℕ
 carried_file pages carried = tabulated (4096 * pages) (λ k. slice_index (bytes_of carried (k / 4096)) (k % 4096))
 
@@ -51,7 +51,7 @@ abbrev pub first_fault : Option ProofFault → Option ProofFault → Option Proo
 first_fault (Some fault) next = Some fault
 first_fault None next = next
 
--- a fault that is met in reading
+-- the fault of a carried log for a fault met in reading it
 abbrev pub reading_fault : LogFault → ProofFault
 reading_fault logs.Magic = faults.Magic
 reading_fault logs.Version = faults.Version
@@ -67,7 +67,7 @@ unfoldable pub path_fault : Digest → ℕ → List CarriedPage → Option Proof
 path_fault root pages [] = None
 path_fault root pages (p ∷ ps) = if leads_to root pages p.page p.bytes p.path then path_fault root pages ps else Some (faults.Path p.page)
 
--- a head of the first version is one of another version
+-- the fault of a head by its version: any version but 2 is another version
 abbrev pub version_fault : ℕ → Option ProofFault
 version_fault version = if version == 2 then None else Some (faults.Head heads.Version)
 
@@ -75,7 +75,7 @@ abbrev pub after_head : Option HeadFault → Head → Option ProofFault
 after_head (Some fault) head = Some (faults.Head fault)
 after_head None head = version_fault head.version
 
--- of the head
+-- the fault of the head
 unfoldable pub opening_fault : List ℕ → Option ProofFault
 opening_fault file = after_head (head_fault (page_of file 0)) (head_of (page_of file 0))
 
@@ -83,11 +83,11 @@ abbrev pub after_slots : ℕ → Option Unopened → Live → Option ProofFault
 after_slots pages (Some fault) live = Some faults.Slot
 after_slots pages None live = if live.pages == pages then None else Some faults.Slot
 
--- of the slots: there is no live one, or it is one of another number of pages
+-- the fault of the slots: none is live, or the live one counts another number of pages
 unfoldable pub live_fault : ℕ → List ℕ → Option ProofFault
 live_fault pages file = after_slots pages (slot_fault file) (live_of file)
 
--- of the head, then of the slots
+-- the first fault of the head and the slots
 abbrev pub slots_fault : ℕ → List ℕ → Option ProofFault
 slots_fault pages file = first_fault (opening_fault file) (live_fault pages file)
 
@@ -95,7 +95,7 @@ abbrev pub after_log : Option LogFault → Option ProofFault
 after_log (Some fault) = Some (faults.Log fault)
 after_log None = None
 
--- of the parts of a carried log
+-- the first fault of the parts of a carried log
 unfoldable pub parts_fault : Digest → Parts → List ℕ → Option ProofFault
 parts_fault root parts log =
     first_fault (path_fault root parts.pages parts.carried)
@@ -105,7 +105,7 @@ abbrev pub after_reading : Digest → Result (Parts × List ℕ) LogFault → Op
 after_reading root (Err fault) = Some (reading_fault fault)
 after_reading root (Ok (parts, log)) = parts_fault root parts log
 
--- of bytes that are to be a carried log of a file with this root digest
+-- the first fault of bytes that are to be a carried log of a file with the root digest `root`
 abbrev pub proof_fault : Digest → List ℕ → Option ProofFault
 proof_fault root bytes = after_reading root (carried_at bytes)
 
@@ -141,25 +141,25 @@ pub record SpellsCarried (bytes : List ℕ) (c : CarriedLog) : Type 0 where
   pub parts_are : carried_bytes (parts_in c) log ≡ bytes
   pub log_is : SpellsLog log c.log
 
--- ---- the first fault of its log
+-- ---- the first fault of a carried log's log
 
 -- whether a page is carried
 abbrev pub is_carried : List CarriedPage → ℕ → Bool
 is_carried carried page = list_any (λ (p : CarriedPage). p.page == page) carried
 
--- the page at a place is the one that was looked for
+-- the page at a place is the one that is looked for
 abbrev pub IsThere : List CarriedPage → ℕ → ℕ → Type 0
 IsThere ps page i = (i < length ps) × ((d : CarriedPage) → (get_or ps i d).page ≡ page)
 
 abbrev pub IsNowhere : List CarriedPage → ℕ → Type 0
 IsNowhere ps page = (i : ℕ) (d : CarriedPage) → i < length ps → (get_or ps i d).page ≢ page
 
--- the first record, of which the first is number i, whose page isn't carried
+-- the first record whose page isn't carried; the records are counted from `i`
 unfoldable pub missing_from : List CarriedPage → List Record → ℕ → Option ProofFault
 missing_from carried [] i = None
 missing_from carried (r ∷ rs) i = if is_carried carried r.page then missing_from carried rs (i + 1) else Some (faults.Missing i)
 
--- a verdict as a fault; want of memory is one of its own
+-- a verdict as a fault; `Memory` is a fault of its own
 abbrev pub fault_by : Verdict → ProofFault
 fault_by verdicts.Memory = faults.Memory
 fault_by verdict = faults.Verdict verdict
@@ -168,13 +168,13 @@ abbrev pub after_verdict : Option Verdict → Option ProofFault
 after_verdict (Some verdict) = Some (faults.Verdict verdict)
 after_verdict None = None
 
--- of the log, judged by the carried pages
+-- the first fault of the log, judged by the carried pages
 unfoldable pub judged_fault : Space → CarriedLog → Option ProofFault
 judged_fault s c = first_fault (missing_from c.carried c.log.records 0)
     (after_verdict (verdict_on s (reading c.head.dim c.live.pages (file_of c)) c.live c.log))
 
--- ---- what is hashed to check it
+-- ---- what is hashed to check a carried log
 
--- for the paths of all pages
+-- the messages of the paths of all pages
 unfoldable pub hashed_in : CarriedLog → List (List ℕ)
 hashed_in c = flat_map (λ (p : CarriedPage). check_messages c.live.pages p.page p.bytes p.path) c.carried

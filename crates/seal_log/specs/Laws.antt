@@ -14,9 +14,9 @@ use Rattle.seal_log.specs.Collisions.{Collide}
 use Rattle.seal_log.specs.Carrying.{Carries}
 use Rattle.seal_log.specs.Judged.{CarriedLog, IsCarried, SpellsCarried, proof_fault, judged_fault, hashed_in}
 
--- Of each file that is sound in the space and whose pages have the carried log's root digest: the log's answers are those of
--- the plain scan of the file's points in order of id; or else two different byte strings with one digest are found, one of
--- those that are hashed for the file, the other of those that are hashed to check the carried paths.
+-- For each file that is sound in the space and whose pages have the carried log's root digest: the log's answers are those of
+-- the plain scan of the file's points in order of id. Or else two different byte strings with one digest are found: one of
+-- those that are hashed for the file, and one of those that are hashed to check the carried paths.
 abbrev pub ShowsAnswers : Space → CarriedLog → Type 0
 ShowsAnswers s c =
     (file : List ℕ) (head : Head) (live : Live) → IsSoundFile s head live file → root_digest file live.pages ≡ c.root →
@@ -31,8 +31,8 @@ abbrev pub FaultIsNoCarriedLog : Type 0
 FaultIsNoCarriedLog = (root : Digest) (bytes : List ℕ) → IsBytes bytes → (proof_fault root bytes ≡ None)
     ↔ ((c : CarriedLog) × (c.root ≡ root) × IsCarried c × SpellsCarried bytes c)
 
--- A sound file's carried log of a sound log is accepted under the file's root digest, by whoever reads it and by whoever
--- judges it, with that log.
+-- A sound file's carried log of a sound log is accepted under the file's root digest, with that log: both when it is read and
+-- when it is judged.
 pub record IsAccepted (s : Space) (root : Digest) (bytes : List ℕ) (log : Log) : Type 0 where
   pub faultless : proof_fault root bytes ≡ None
   pub judged : (c : CarriedLog) → c.root ≡ root → IsCarried c → SpellsCarried bytes c → (judged_fault s c ≡ None) × (c.log ≡ log)

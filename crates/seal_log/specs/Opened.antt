@@ -5,7 +5,7 @@ use Rattle.node_page.specs.Bytes.{number_at}
 use Rattle.node_page.specs.Slots.{SpellsSlot}
 use Rattle.node_page.specs.Opening.{slot_of_live, IsLawfulLive}
 
--- the slot on this page is live and of so many pages, where the other slot is on that page
+-- the slot on `page` is live and counts `pages` pages, where the other slot is on `other`
 pub record IsLiveIn (side : ℕ) (page other : List ℕ) (limit pages : ℕ) (live : Live) : Type 0 where
   pub side_is : live.side ≡ side
   pub newest : IsTrue (slice_index other 0 == 165) → number_at 8 8 other < live.generation
@@ -13,6 +13,6 @@ pub record IsLiveIn (side : ℕ) (page other : List ℕ) (limit pages : ℕ) (li
   pub lawful : IsLawfulLive limit (4096 * pages) live
   pub all : live.pages ≡ pages
 
--- one of the two slots is
+-- the live slot is one of the two
 abbrev pub IsLiveOf : List ℕ → List ℕ → ℕ → ℕ → Live → Type 0
 IsLiveOf first second limit pages live = IsLiveIn 0 first second limit pages live ⊎ IsLiveIn 1 second first limit pages live

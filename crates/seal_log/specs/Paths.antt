@@ -1,4 +1,4 @@
--- The path of a page: the partner of its digest, and of each digest that it goes into, from below.
+-- The path of a page: the partner of its digest, then the partner of each digest above it, from the bottom up.
 use Rattle.std.specs.Prelude.{ℕ, zero, suc, ◌+◌, ◌-◌, ◌/◌, ◌%◌, ◌==◌, ◌||◌, nat_le, nat_lt, Bool, false, List, [], ◌∷◌, ◌++◌, slice_get, Option, Some, None, if◌then◌else◌}
 use Rattle.std.specs.Str.{bytes_eq}
 use Rattle.std.specs.Option.{option_to_list}
@@ -19,19 +19,19 @@ partner_of i = if i % 2 == 1 then i - 1 else i + 1
 unfoldable pub partners_at : List Digest → ℕ → List Digest
 partners_at level i = option_to_list (slice_get level (partner_of i))
 
--- of the digest at a place of the lowest of these levels
+-- the path of the digest at a place of the lowest level
 unfoldable pub path_in : List (List Digest) → ℕ → List Digest
 path_in [] i = []
 path_in (level ∷ above) i = partners_at level i ++ path_in above (i / 2)
 
 -- ---- the check of a path
 
--- the widths of the levels from one of this width up to one of a single digest, of which there are at most so many more
+-- the widths of the levels from `width` up to a level of one digest, at most `more` levels above it
 unfoldable pub widths_within : ℕ → ℕ → List ℕ
 widths_within zero width = width ∷ []
 widths_within (suc more) width = width ∷ (if nat_le width 1 then [] else widths_within more ((width + 1) / 2))
 
--- the widths of the levels over so many leaves
+-- the widths of the levels over `leaves` leaves
 unfoldable pub widths_over : ℕ → List ℕ
 widths_over leaves = widths_within leaves leaves
 
@@ -39,8 +39,8 @@ widths_over leaves = widths_within leaves leaves
 unfoldable pub message_at : ℕ → Digest → Digest → List ℕ
 message_at i digest partner = if i % 2 == 1 then pair_message partner digest else pair_message digest partner
 
--- the digest at the top to which a path leads from the digest at a place of the lowest of these levels; none where the path
--- has another number of digests
+-- the digest at the top that a path leads to, from the digest at place `i` of the lowest level; none where the path has another
+-- number of digests
 unfoldable pub climbed : List ℕ → ℕ → Digest → List Digest → Option Digest
 climbed [] i digest [] = Some digest
 climbed [] i digest (partner ∷ path) = None
@@ -56,12 +56,12 @@ climb_messages (width ∷ widths) i digest (partner ∷ path) =
     if has_partner width i then message_at i digest partner ∷ climb_messages widths (i / 2) (sha256 (message_at i digest partner)) path
     else climb_messages widths (i / 2) digest (partner ∷ path)
 
--- the top is that of a file of so many pages with this root digest
+-- the top is that of a file of `pages` pages with the root digest `root`
 unfoldable pub is_top : Digest → ℕ → Option Digest → Bool
 is_top root pages None = false
 is_top root pages (Some top) = bytes_eq (sha256 (root_message pages top)) root
 
--- the path of a page of so many, which has these bytes, leads to the root
+-- `path` leads from `bytes`, as page `i` of a file of `pages` pages, to the root digest `root`
 unfoldable pub leads_to : Digest → ℕ → ℕ → List ℕ → List Digest → Bool
 leads_to root pages i bytes path = is_top root pages (climbed (widths_over pages) i (sha256 (leaf_message bytes)) path)
 

@@ -1,5 +1,5 @@
--- Reading a carried log from left to right, by the fields that logs have too: a value and the bytes behind it, or the first
--- fault that is met.
+-- Reading a carried log from left to right, by the fields that logs have too. A reading gives a value and the bytes behind it,
+-- or the first fault that is met.
 use Rattle.std.specs.Prelude.{ℕ, zero, suc, ◌==◌, nat_le, true, List, [], ◌∷◌, length, Option, Some, None, Result, Ok, Err, if◌then◌else◌}
 use Rattle.prune_log.specs.declared.fault.LogFault.{LogFault}
 use Rattle.prune_log.specs.declared.fault.LogFault.TheVariants as faults
@@ -34,7 +34,7 @@ page_at pages last bytes = do
   path ← path_at body.1
   Ok (record { page = page.0; bytes = body.0; path = path.0 }, path.1)
 
--- so many pages
+-- a given number of pages
 unfoldable pub pages_at : ℕ → ℕ → Option ℕ → List ℕ → Result (List CarriedPage × List ℕ) LogFault
 pages_at pages zero last bytes = Ok ([], bytes)
 pages_at pages (suc n) last bytes = do

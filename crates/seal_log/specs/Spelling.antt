@@ -37,7 +37,7 @@ abbrev pub is_behind : Option ℕ → ℕ → Bool
 is_behind None page = page == 0
 is_behind (Some last) page = if nat_lt last 2 then page == last + 1 else nat_lt last page
 
--- whether a page of a file of so many pages may stand behind the last one
+-- whether a page of a file of `pages` pages may stand behind the last one
 abbrev pub may_follow : ℕ → Option ℕ → ℕ → Bool
 may_follow pages last page = nat_lt page pages && is_behind last page
 
@@ -45,19 +45,19 @@ may_follow pages last page = nat_lt page pages && is_behind last page
 abbrev pub IsDigest : List ℕ → Type 0
 IsDigest d = length d ≡ 32
 
--- 4096 bytes, and digests, fewer than a byte can count
+-- a page of 4096 bytes with a path of at most 255 digests
 pub record IsCarriedPage (p : CarriedPage) : Type 0 where
   pub number : p.page < 2 ^ 32
   pub size : length p.bytes ≡ 4096
   pub few : length p.path < 256
   pub path : AllByRecursion IsDigest p.path
 
--- each page may stand behind the one before it, the first behind the last of those before, if there are any
+-- each page may stand behind the one before it, and the first behind `last`
 abbrev pub AreInPlace : ℕ → Option ℕ → List CarriedPage → Type 0
 AreInPlace pages last [] = Unit {0}
 AreInPlace pages last (p ∷ ps) = (may_follow pages last p.page ≡ true) × AreInPlace pages (Some p.page) ps
 
--- at least the head and the two slots
+-- the parts that have a spelling; the first three carried pages are the head and the two slots
 pub record AreLawful (parts : Parts) : Type 0 where
   pub pages : parts.pages < 2 ^ 32
   pub some : 3 ≤ length parts.carried

@@ -24,7 +24,7 @@ use std::alloc::Global;
 use std::marker::Model;
 use tree_shape::Live;
 
-/// A carried log that was read: each of its pages leads to one root digest, the first three open to a head and a live slot,
+/// A carried log that was read. Each of its pages leads to one root digest, its first three pages open to a head and a live slot,
 /// and its log has a spelling.
 #[derive(Drop)]
 pub struct Carried {
@@ -46,31 +46,31 @@ impl Model for Carried {
 }
 
 impl Carried {
-    /// The head of the file.
+    /// Returns the head of the file.
     pub fn head(&self) -> Head
         ensures { result ≡ self.now.head }
     {
         self.head
     }
 
-    /// The live slot of the file.
+    /// Returns the live slot of the file.
     pub fn live(&self) -> Live
         ensures { result ≡ self.now.live }
     {
         self.live
     }
 
-    /// The log that is carried.
+    /// Returns the carried log's log.
     pub fn log(&self) -> &Log
         ensures value { result.now ≡ self.now.log }
         ensures lawful { IsLawfulLog result.now }
-        // So is each carried log.
+        // The carried log is lawful too.
         ensures carried { IsCarried self.now }
     {
         &self.log
     }
 
-    /// The node on a page of the carried file.
+    /// Returns the node on page `page` of the carried file.
     pub fn node_on(&self, alloc: Global, page: u32) -> Result<SharedNode, PageFault>
         requires { page < self.now.live.pages }
         ensures lawful { IfOk result (IsLawfulNode self.now.head.dim) }
@@ -82,7 +82,7 @@ impl Carried {
         node_on(alloc, page, &bytes, self.head.dim, false)
     }
 
-    /// The fault of the first record whose page isn't carried.
+    /// Returns the fault of the first record whose page isn't carried.
     pub fn missing(&self) -> Option<ProofFault>
         ensures { result ≡ missing_from self.now.carried self.now.log.records 0 }
     {
@@ -90,7 +90,7 @@ impl Carried {
     }
 }
 
-// The fault of the first record whose page isn't carried.
+// Returns the fault of the first record whose page isn't carried.
 fn first_missing(carried: &[CarriedPage], records: &[Record]) -> Option<ProofFault>
     requires { AllPairs (λ p q. p.page < q.page) carried.now }
     ensures { result ≡ missing_from carried.now records.now 0 }
@@ -103,7 +103,7 @@ fn first_missing(carried: &[CarriedPage], records: &[Record]) -> Option<ProofFau
     None
 }
 
-// The first page whose path doesn't lead to the root.
+// Returns the first page whose path doesn't lead to the root.
 fn first_astray(root: &[u8; 32], pages: u32, carried: &[CarriedPage]) -> Option<ProofFault>
     requires { AllByRecursion (λ p. p.page < pages) carried.now }
     ensures { result ≡ path_fault root.now pages carried.now }
@@ -116,7 +116,7 @@ fn first_astray(root: &[u8; 32], pages: u32, carried: &[CarriedPage]) -> Option<
     None
 }
 
-// A fault that is met in reading.
+// Returns the fault of a carried log for a fault met in reading it.
 fn reading_fault(fault: LogFault) -> ProofFault
     ensures { result ≡ reading_fault fault }
 {
@@ -132,7 +132,7 @@ fn reading_fault(fault: LogFault) -> ProofFault
     }
 }
 
-// The log that bytes spell.
+// Reads the log that `bytes` spells.
 fn read_log(alloc: Global, bytes: &[u8]) -> Result<Log, ProofFault>
     ensures spells { IfOk result (SpellsLog bytes.now) }
     ensures faultless { OnOk result (after_log (log_fault bytes.now) ≡ None) }
@@ -145,7 +145,7 @@ fn read_log(alloc: Global, bytes: &[u8]) -> Result<Log, ProofFault>
     }
 }
 
-// The head and the live slot to which carried pages open as a file.
+// Opens the carried pages as a file: returns its head and its live slot.
 fn open_pages(pages: u32, carried: &[CarriedPage]) -> Result<(Head, Live), ProofFault>
     requires { AreLawful (record { pages = pages; carried = carried.now }) }
     ensures opens { IfOk result (λ opened. OpensTo (carried_file pages carried.now) opened.0 opened.1) }
@@ -166,7 +166,7 @@ fn open_pages(pages: u32, carried: &[CarriedPage]) -> Result<(Head, Live), Proof
     }
 }
 
-// What parts and a log's bytes are as a carried log under a root digest.
+// Checks that `parts` and the bytes `log` make a carried log under the root digest `root`, and returns it.
 fn judge_parts(
     alloc: Global,
     root: &[u8; 32],
@@ -196,12 +196,12 @@ fn judge_parts(
     })
 }
 
-/// Reads a carried log whose pages are to lead to a root digest, or names its first fault in the order of `ProofFault`, of
-/// which `Missing` and `Verdict` do not come. It asks for no more memory than the bytes that are left can fill.
+/// Reads a carried log whose pages are to lead to the root digest `root`. Otherwise returns its first fault in the order of
+/// `ProofFault`; `Missing` and `Verdict` do not come. It asks for no more memory than the bytes that are left can fill.
 pub fn read_proof(alloc: Global, bytes: &[u8], root: &[u8; 32]) -> Result<Carried, ProofFault>
     ensures root { IfOk result (λ c. c.root ≡ root.now) }
     ensures carried { IfOk result IsCarried }
-    // What is read is spelled so.
+    // The bytes spell the carried log that is returned.
     ensures spelled { IfOk result (SpellsCarried bytes.now) }
     ensures faultless { OnOk result (proof_fault root.now bytes.now ≡ None) }
     ensures fault { IfErr result (λ fault. (fault ≡ ProofFault.Memory) ⊎ (proof_fault root.now bytes.now ≡ Some fault)) }

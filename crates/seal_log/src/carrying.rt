@@ -1,4 +1,4 @@
-// The carried log of a log.
+// Makes the carried log of a log.
 ghost use Rattle.std.specs.Prelude.{◌≡◌, ◌++◌, ◌+◌, ◌≤◌, ◌<◌, ◌^◌, length, All, IsTrue, OnOk, IfOk, IsErrOf, vec_len};
 ghost use Rattle.outside_io.specs.Causes.{Rose};
 ghost use Rattle.disk_model.specs.Disk.{IsUnchanged};
@@ -19,7 +19,7 @@ use prune_log::fields::put_u32;
 use prune_log::{encode_log, frame};
 use std::alloc::Global;
 
-// Pages 0, 1 and 2 and those that the records name, in ascending order, each once.
+// Returns pages 0, 1 and 2 and the pages that the records name, in ascending order, each once.
 fn needed_pages(alloc: Global, log: &Log) -> Result<Vec<u32>, Memory>
     ensures needed { IfOk result (λ pages. AreNeeded log.now pages.items) }
     ensures few { IfOk result (λ pages. vec_len pages ≤ 3 + length log.now.records) }
@@ -33,7 +33,7 @@ fn needed_pages(alloc: Global, log: &Log) -> Result<Vec<u32>, Memory>
     Ok(pages)
 }
 
-// Writes the path of a page at the end.
+// Appends the path of page `page`.
 fn put_path(alloc: Global, tree: &Tree, page: u32, out: &mut Vec<u8>) -> Result<(), Memory>
     requires { length tree.now ≤ 262144 }
     ensures { OnOk result (out.new.items ≡ out.old.items ++ listed 1 digest_bytes (path_in (levels_over tree.now) page)) }
@@ -46,7 +46,7 @@ fn put_path(alloc: Global, tree: &Tree, page: u32, out: &mut Vec<u8>) -> Result<
     Ok(())
 }
 
-// Reads a page and writes it with its path at the end.
+// Reads a page and appends it with its path.
 fn put_page<D: Disk>(
     alloc: Global,
     disk: &mut D,
@@ -74,7 +74,7 @@ fn put_page<D: Disk>(
     Ok(())
 }
 
-// Reads pages and writes them at the end.
+// Reads pages and appends each with its path.
 fn put_pages<D: Disk>(
     alloc: Global,
     disk: &mut D,
@@ -97,7 +97,7 @@ fn put_pages<D: Disk>(
     Ok(())
 }
 
-// Writes what stands before the carried pages at the end: the letters, the version, and both numbers of pages.
+// Appends what stands before the carried pages: the letters, the version, the number of the file's pages and of the carried pages.
 fn put_front(out: &mut Vec<u8>, pages: u32, count: u32) -> Result<(), Memory>
     ensures { OnOk result (out.new.items ≡ out.old.items ++ (opening_bytes ++ (big_bytes 4 pages ++ big_bytes 4 count))) }
 {
@@ -107,8 +107,8 @@ fn put_front(out: &mut Vec<u8>, pages: u32, count: u32) -> Result<(), Memory>
     put_u32(out, count)
 }
 
-/// The carried log of a log over the file with this tree: pages 0, 1 and 2 and those that the log's records name, with their
-/// paths, and the log. Each page is read once. `Disk` comes only where the disk failed. Nothing is changed.
+/// Returns the carried log of a log over the file with this tree: pages 0, 1 and 2 and the pages that the log's records name, with
+/// their paths, and the log. Reads each page once. `Disk` comes only where the disk failed. Changes nothing.
 pub fn carry<D: Disk>(
     alloc: Global,
     disk: &mut D,

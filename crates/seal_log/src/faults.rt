@@ -8,13 +8,13 @@ use prune_log::LogFault;
 use std::alloc::{AllocError, AllocFailed};
 use thiserror::Error;
 
-/// Why a file is not sealed, or a log not carried.
+/// Why sealing a file or carrying a log failed.
 #[derive(Clone, Copy, Debug, PartialEq, Eq, Error)]
 pub enum SealFault {
     /// The disk failed.
     #[error("a page could not be read")]
     Disk,
-    /// There was no memory.
+    /// Memory ran out.
     #[error("out of memory")]
     Memory,
 }
@@ -35,11 +35,11 @@ impl<T: Drop> From<AllocFailed<T>> for SealFault {
     }
 }
 
-/// Why a carried log is not accepted: its first fault. The first five are met from left to right, and the others are tried
-/// in their order.
+/// Why a carried log is not accepted: its first fault. The first five are met while reading from left to right. The others are
+/// tried in their order.
 #[derive(Clone, Copy, Debug, PartialEq, Eq, Error)]
 pub enum ProofFault {
-    /// It does not begin with the letters `MTPF`.
+    /// The bytes do not begin with the letters `MTPF`.
     #[error("not a carried log")]
     Magic,
     /// The version is not 1.
@@ -48,20 +48,20 @@ pub enum ProofFault {
     /// A field's bytes are not all there.
     #[error("a carried log that is cut")]
     Cut,
-    /// There are fewer than three pages, the first three are not pages 0, 1 and 2, one does not stand behind the one before
-    /// it, or one is none of the file's.
+    /// There are fewer than three pages, the first three are not pages 0, 1 and 2, a page does not stand behind the one before it,
+    /// or a page is past the end of the file.
     #[error("a carried log whose pages are not in order")]
     Order,
     /// Bytes are left behind the log.
     #[error("a carried log with more in it than its fields")]
     Tail,
-    /// The path of this page has another number of digests, or does not lead to the root.
+    /// The path of this page has the wrong number of digests, or does not lead to the root.
     #[error("the path of page {0} does not lead to the root")]
     Path(u32),
     /// Page 0 is no head of version 2.
     #[error("the head: {0}")]
     Head(HeadFault),
-    /// Pages 1 and 2 give no live slot of a file of so many pages.
+    /// Pages 1 and 2 give no live slot that counts the file's pages.
     #[error("no live slot")]
     Slot,
     /// The log's bytes are no log.
@@ -73,7 +73,7 @@ pub enum ProofFault {
     /// The log is not sound on the carried pages.
     #[error("the log is not sound: {0}")]
     Verdict(Verdict),
-    /// There was no memory.
+    /// Memory ran out.
     #[error("out of memory")]
     Memory,
 }

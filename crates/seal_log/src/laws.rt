@@ -12,7 +12,7 @@ pub fn carried_logs_are_accepted()
     ensures { CarriedLogsAreAccepted }
 {}
 
-/// What an accepted carried log shows in a metric space.
+/// States what an accepted carried log shows in a metric space.
 pub fn accepted_logs_show_answers()
     ensures { AcceptedLogsShowAnswers }
 {}

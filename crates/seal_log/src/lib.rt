@@ -1,5 +1,5 @@
-//! Logs that are checked without the file: a file is sealed by 32 bytes, and a carried log has the pages that its log needs,
-//! each with the path that shows it to be a page of a file of that seal.
+//! Logs that are checked without the file. A file is sealed by 32 bytes. A carried log holds the pages that its log needs, each
+//! with the path that shows it to be a page of a file with that seal.
 #![tactic(auto)]
 
 mod carried;
@@ -23,5 +23,5 @@ pub use sealing::seal;
 pub use tree::Tree;
 pub use verifying::{Proved, verify_carried};
 
-/// Want of memory.
+/// The error when memory runs out.
 pub type Memory = std::alloc::AllocError;

@@ -10,7 +10,7 @@ use crate::ProofFault;
 use node_page::{Head, HeadFault, decode_head, decode_slot, read_gate};
 use tree_shape::{LAST_GENERATION, Live, MOST_PAGES};
 
-// The head on page 0, of version 2.
+// Reads the head on page 0, which has to be of version 2.
 pub fn read_head(page: &[u8; 4096]) -> Result<Head, ProofFault>
     ensures spells { IfOk result (SpellsHead page.now) }
     ensures version { IfOk result (λ head. head.version ≡ 2) }
@@ -26,7 +26,7 @@ pub fn read_head(page: &[u8; 4096]) -> Result<Head, ProofFault>
     Ok(head)
 }
 
-// Whether a live slot keeps the bounds of a file of so many pages whose head has this limit.
+// Returns whether `live` keeps the bounds of a file of `pages` pages whose head has the limit `limit`.
 fn is_lawful(limit: u32, pages: u32, live: &Live) -> bool
     ensures { IsTrue result ↔ (IsLawfulLive limit (4096 * pages) live.now × (live.now.pages ≡ pages)) }
 {
@@ -41,7 +41,7 @@ fn is_lawful(limit: u32, pages: u32, live: &Live) -> bool
         && live.pages == pages
 }
 
-// The live slot on this page, where the other slot is on that one: its gate is open, and the other's is closed or of a lesser
+// Returns the live slot on `page`, where the other slot is on `other`: its gate is open, and the other's is closed or of a lesser
 // generation.
 fn live_in(side: u8, page: &[u8; 4096], other: &[u8; 4096], limit: u32, pages: u32) -> Option<Live>
     ensures some { IfSome result (IsLiveIn side page.now other.now limit pages) }
@@ -67,7 +67,7 @@ fn live_in(side: u8, page: &[u8; 4096], other: &[u8; 4096], limit: u32, pages: u
     Some(live)
 }
 
-// The live slot of a file of so many pages with these two slots, whose head has this limit.
+// Returns the live slot of a file of `pages` pages with the slots `first` and `second`, whose head has the limit `limit`.
 pub fn live_of(first: &[u8; 4096], second: &[u8; 4096], limit: u32, pages: u32) -> Option<Live>
     ensures some { IfSome result (IsLiveOf first.now second.now limit pages) }
     ensures none { IsNone result → (live : Live) → IsLiveOf first.now second.now limit pages live → ⊥ }

@@ -7,7 +7,7 @@ ghost use Rattle.seal_log.specs.Judged.{bytes_of, carried_file, is_carried, HasP
 
 use crate::CarriedPage;
 
-// Where a page stands among ascending ones.
+// Returns the place of page `page` among the carried pages, which ascend.
 fn place_of(carried: &[CarriedPage], page: u32) -> Result<usize, usize>
     requires { AllPairs (λ p q. p.page < q.page) carried.now }
     ensures there { IfOk result (IsThere carried.now page) }
@@ -16,7 +16,7 @@ fn place_of(carried: &[CarriedPage], page: u32) -> Result<usize, usize>
     carried.binary_search_by_key(&page, |p| p.page)
 }
 
-/// The carried page of this number, if there is one.
+/// Returns the carried page `page`, if there is one.
 pub fn find_page(carried: &[CarriedPage], page: u32) -> Option<&CarriedPage>
     requires { AllPairs (λ p q. p.page < q.page) carried.now }
     ensures test { is_some result ≡ is_carried carried.now page }
@@ -29,7 +29,7 @@ pub fn find_page(carried: &[CarriedPage], page: u32) -> Option<&CarriedPage>
     }
 }
 
-/// The bytes of a page of the carried file, which are 0 where it isn't carried.
+/// Returns the bytes of page `page` of the carried file; all are 0 where the page isn't carried.
 pub fn page_bytes(carried: &[CarriedPage], page: u32) -> [u8; 4096]
     requires ascend { AllPairs (λ p q. p.page < q.page) carried.now }
     requires size { AllByRecursion HasPageSize carried.now }

@@ -9,23 +9,23 @@ use prune_log::LogFault;
 use prune_log::fields::{byte_at, front_at, u32_at, u64_at};
 use std::alloc::Global;
 
-/// The letters `MTPF`, the first of them highest.
+/// The letters `MTPF` as a number, the first letter highest.
 pub const MAGIC: u32 = 0x4d54_5046;
 
 /// The version that is read and written.
 pub const VERSION: u8 = 1;
 
-/// The head and the two slots.
+/// The least number of carried pages: the head and the two slots.
 const LEAST_PAGES: u32 = 3;
 
-/// A page that is carried, with the path of its digest.
+/// A carried page with the path of its digest.
 #[derive(Drop)]
 pub struct CarriedPage {
-    /// Its number.
+    /// The page's number.
     pub page: u32,
-    /// Its bytes.
+    /// The page's bytes.
     pub bytes: Listed<u8>,
-    /// The partners of its digest and of those that it goes into, from below.
+    /// The partner of the page's digest, then the partner of each digest above it, from the bottom up.
     pub path: Listed<[u8; 32]>,
 }
 
@@ -38,7 +38,7 @@ pub struct Parts {
     pub carried: Listed<CarriedPage>,
 }
 
-// The bytes behind the letters and the version.
+// Reads the letters and the version, and returns the bytes behind them.
 #[tactic(auto, unfolding(crate::specs::Reading::opening_at))]
 fn opening_at(bytes: &[u8]) -> Result<&[u8], LogFault>
     ensures { Gives (λ x. x.now) result (opening_at bytes.now) }
@@ -54,7 +54,7 @@ fn opening_at(bytes: &[u8]) -> Result<&[u8], LogFault>
     Ok(rest)
 }
 
-// A digest.
+// Reads a digest.
 fn digest_at(bytes: &[u8]) -> Result<([u8; 32], &[u8]), LogFault>
     ensures { Gives (λ x. (x.0, x.1.now)) result (front_at 32 bytes.now) }
 {
@@ -64,7 +64,7 @@ fn digest_at(bytes: &[u8]) -> Result<([u8; 32], &[u8]), LogFault>
     Ok((digest, rest))
 }
 
-// So many digests.
+// Reads `count` digests.
 fn digests_at(alloc: Global, count: u8, bytes: &[u8]) -> Result<(Vec<[u8; 32]>, &[u8]), LogFault>
     ensures { Gives (λ x. (x.0.items, x.1.now)) result (many (front_at 32) always count None bytes.now) }
 {
@@ -78,7 +78,7 @@ fn digests_at(alloc: Global, count: u8, bytes: &[u8]) -> Result<(Vec<[u8; 32]>, 
     Ok((digests, rest))
 }
 
-// A number of digests in a byte, and the digests.
+// Reads a number of digests from one byte, then the digests.
 #[tactic(auto, unfolding(crate::specs::Reading::path_at))]
 fn path_at(alloc: Global, bytes: &[u8]) -> Result<(Listed<[u8; 32]>, &[u8]), LogFault>
     ensures { Gives (λ x. (x.0, x.1.now)) result (path_at bytes.now) }
@@ -88,7 +88,7 @@ fn path_at(alloc: Global, bytes: &[u8]) -> Result<(Listed<[u8; 32]>, &[u8]), Log
     Ok((Listed::new(digests), rest))
 }
 
-// Whether a page may stand behind the last one.
+// Returns whether page `page` may stand behind page `last`.
 fn is_behind(last: Option<u32>, page: u32) -> bool
     ensures { result ≡ is_behind last page }
 {
@@ -104,7 +104,7 @@ fn is_behind(last: Option<u32>, page: u32) -> bool
     }
 }
 
-// The number of a page, which may stand behind the last one.
+// Reads the number of a page, which has to be one that may stand behind `last`.
 #[tactic(auto, unfolding(crate::specs::Reading::place_at))]
 fn place_at(pages: u32, last: Option<u32>, bytes: &[u8]) -> Result<(u32, &[u8]), LogFault>
     ensures { Gives (λ x. (x.0, x.1.now)) result (place_at pages last bytes.now) }
@@ -116,7 +116,7 @@ fn place_at(pages: u32, last: Option<u32>, bytes: &[u8]) -> Result<(u32, &[u8]),
     Ok((page, rest))
 }
 
-// A page, its bytes and its path.
+// Reads a page: its number, its bytes and its path.
 #[tactic(auto, unfolding(crate::specs::Reading::page_at))]
 fn page_at(
     alloc: Global,
@@ -133,7 +133,7 @@ fn page_at(
     Ok((CarriedPage { page, bytes, path }, rest))
 }
 
-// So many pages.
+// Reads the given number of pages.
 fn pages_at(
     alloc: Global,
     pages: u32,
@@ -154,7 +154,7 @@ fn pages_at(
     Ok((carried, rest))
 }
 
-// The number of the carried pages, at least three.
+// Reads the number of the carried pages, at least three.
 #[tactic(auto, unfolding(crate::specs::Reading::count_at))]
 fn count_at(bytes: &[u8]) -> Result<(u32, &[u8]), LogFault>
     ensures { Gives (λ x. (x.0, x.1.now)) result (count_at bytes.now) }
@@ -166,7 +166,7 @@ fn count_at(bytes: &[u8]) -> Result<(u32, &[u8]), LogFault>
     Ok((count, rest))
 }
 
-// What stands before the log, and the bytes behind it.
+// Reads what stands before the log, and returns the bytes behind it too.
 #[tactic(auto, unfolding(crate::specs::Reading::parts_at))]
 fn parts_at(alloc: Global, bytes: &[u8]) -> Result<(Parts, &[u8]), LogFault>
     ensures { Gives (λ x. (x.0, x.1.now)) result (parts_at bytes.now) }
@@ -179,7 +179,7 @@ fn parts_at(alloc: Global, bytes: &[u8]) -> Result<(Parts, &[u8]), LogFault>
     Ok((Parts { pages, carried }, rest))
 }
 
-// What stands before the log, and the log's bytes, where they take all bytes.
+// Reads what stands before the log, and returns it with the log's bytes. Together they take all of `bytes`.
 #[tactic(auto, unfolding(crate::specs::Reading::carried_at))]
 pub fn carried_at(alloc: Global, bytes: &[u8]) -> Result<(Parts, &[u8]), LogFault>
     ensures { Gives (λ x. (x.0, x.1.now)) result (carried_at bytes.now) }

@@ -5,7 +5,7 @@ ghost use Rattle.seal_log.specs.Paths.{has_partner, message_at, widths_over, cli
 
 use crate::digests::{leaf_digest, pair_digest, root_digest};
 
-// Whether the digest at a place of a level of this width has a partner.
+// Returns whether the digest at place `place` of a level of `width` digests has a partner.
 #[tactic(auto, unfolding(crate::specs::Paths::has_partner))]
 pub fn has_partner(width: u64, place: u64) -> bool
     requires { place < width }
@@ -14,7 +14,7 @@ pub fn has_partner(width: u64, place: u64) -> bool
     place % 2 == 1 || place + 1 < width
 }
 
-// The digest of the digest at a place and its partner.
+// Returns the digest of the pair of the digest at `place` and its partner.
 #[tactic(auto, unfolding(crate::specs::Paths::message_at))]
 fn joined(place: u64, digest: &[u8; 32], partner: &[u8; 32]) -> [u8; 32]
     ensures { result ≡ sha256 (message_at place digest.now partner.now) }
@@ -26,8 +26,8 @@ fn joined(place: u64, digest: &[u8; 32], partner: &[u8; 32]) -> [u8; 32]
     }
 }
 
-// The digest that the digest at a place of a level of this width goes into, and what is left of the path; none where the path
-// is at its end too early.
+// Goes up one level from place `place` of a level of `width` digests: returns the digest above, and the rest of the path. Returns
+// none where the path ends too early.
 fn step_up(
     width: u64,
     place: u64,
@@ -47,8 +47,8 @@ fn step_up(
     }
 }
 
-// The digest at the top to which a path leads from the digest at a place of a level of this width; none where the path has
-// another number of digests.
+// Climbs from the digest at place `place` of a level of `width` digests, and returns the digest at the top. Returns none where the
+// path has another number of digests.
 fn climb(
     mut width: u64,
     mut place: u64,
@@ -72,7 +72,7 @@ fn climb(
     }
 }
 
-/// Whether the path of a page of so many, which has these bytes, leads to the root.
+/// Returns whether `path` leads from `bytes`, as page `page` of a file of `pages` pages, to the root digest `root`.
 #[tactic(auto, unfolding(crate::specs::Paths::leads_to, crate::specs::Paths::is_top))]
 pub fn leads_to(root: &[u8; 32], pages: u32, page: u32, bytes: &[u8], path: &[[u8; 32]]) -> bool
     requires { page < pages }

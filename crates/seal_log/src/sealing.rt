@@ -12,7 +12,7 @@ use disk_model::Disk;
 use page_store::read_page;
 use std::alloc::Global;
 
-// The digest of a page.
+// Reads page `page` and returns its digest.
 fn seal_page<D: Disk>(disk: &mut D, page: u32) -> Result<[u8; 32], SealFault>
     requires { page < 2 ^ 24 }
     ensures sealed { IfOk result (λ digest. IsTrue (D.state disk.old).tells → digest ≡ sha256 (leaf_message (page_of (D.state disk.old).bytes page))) }
@@ -29,8 +29,8 @@ fn seal_page<D: Disk>(disk: &mut D, page: u32) -> Result<[u8; 32], SealFault>
     Ok(leaf_digest(&bytes))
 }
 
-/// The digests of the first pages of a file, each of which is read once. `Disk` comes only where the disk failed. Nothing is
-/// changed.
+/// Returns the tree over the digests of the first `pages` pages of a file. Reads each page once. `Disk` comes only where the disk
+/// failed. Changes nothing.
 pub fn seal<D: Disk>(alloc: Global, disk: &mut D, pages: u32) -> Result<Tree, SealFault>
     requires some { 4 ≤ pages }
     requires few { pages ≤ 262144 }

@@ -8,10 +8,10 @@ use metric_laws::Listed;
 use std::alloc::Global;
 use std::marker::Model;
 
-/// The digests of a file's pages, and those of all levels over them. Contracts see the digests of the pages.
+/// The digests of a file's pages, and those of all levels above them. Contracts see the digests of the pages.
 #[derive(Drop)]
 pub struct Tree {
-    // From the pages' digests up to a level of one.
+    // From the pages' digests up to a level of one digest.
     levels: Vec<Listed<[u8; 32]>>,
     root: [u8; 32],
 }
@@ -27,7 +27,7 @@ impl Model for Tree {
     ghost invariant = { λ t. AreLevels t.levels.items t.root };
 }
 
-// The first digest of the level above, and what is left of this level.
+// Returns the first digest of the level above, and the rest of this level.
 fn next_above(level: &[[u8; 32]]) -> Option<([u8; 32], &[[u8; 32]])>
     ensures none { IsNone result → level.now ≡ [] }
     ensures some { IfSome result (λ x. paired level.now ≡ x.0 ∷ paired x.1.now) }
@@ -40,7 +40,7 @@ fn next_above(level: &[[u8; 32]]) -> Option<([u8; 32], &[[u8; 32]])>
     }
 }
 
-// A level paired from the left.
+// Returns the level above `level`: its digests paired from the left.
 fn paired(alloc: Global, level: &[[u8; 32]]) -> Result<Vec<[u8; 32]>, Memory>
     ensures { IfOk result (λ above. above.items ≡ paired level.now) }
 {
@@ -54,7 +54,7 @@ fn paired(alloc: Global, level: &[[u8; 32]]) -> Result<Vec<[u8; 32]>, Memory>
     Ok(above)
 }
 
-// The place of the partner.
+// Returns the place of the partner of the digest at `place`.
 #[tactic(auto, unfolding(crate::specs::Paths::partner_of))]
 fn partner_of(place: usize) -> usize
     ensures { result ≡ partner_of place }
@@ -62,7 +62,7 @@ fn partner_of(place: usize) -> usize
     if place % 2 == 1 { place - 1 } else { place + 1 }
 }
 
-// The partner of the digest at a place, if there is one.
+// Returns the partner of the digest at `place`, if there is one.
 fn partner_at(level: &[[u8; 32]], place: usize) -> Option<[u8; 32]>
     ensures { result ≡ slice_get level.now (partner_of place) }
 {
@@ -70,7 +70,7 @@ fn partner_at(level: &[[u8; 32]], place: usize) -> Option<[u8; 32]>
 }
 
 impl Tree {
-    /// The tree over the digests of pages.
+    /// Makes the tree over the digests `leaves` of a file's pages.
     pub fn over(alloc: Global, leaves: Vec<[u8; 32]>) -> Result<Tree, Memory>
         requires some { 1 ≤ vec_len leaves }
         requires few { vec_len leaves < 2 ^ 32 }
@@ -89,14 +89,14 @@ impl Tree {
         Ok(Tree { levels, root })
     }
 
-    /// The root digest of the file: of its number of pages and all of them.
+    /// Returns the root digest of the file: of its number of pages and all its pages.
     pub fn root(&self) -> [u8; 32]
         ensures { result ≡ root_over self.now }
     {
         self.root
     }
 
-    /// The path of a page.
+    /// Returns the path of page `page`.
     pub fn path(&self, alloc: Global, page: u32) -> Result<Vec<[u8; 32]>, Memory>
         ensures { IfOk result (λ path. path.items ≡ path_in (levels_over self.now) page) }
     {
@@ -111,7 +111,7 @@ impl Tree {
         Ok(path)
     }
 
-    /// The number of the file's pages.
+    /// Returns the number of the file's pages.
     pub fn pages(&self) -> u32
         ensures { result ≡ length self.now }
     {

@@ -1,4 +1,4 @@
-// The judging of a carried log.
+// Judges a carried log.
 ghost use Rattle.std.specs.Prelude.{◌≡◌, ◌⊎◌, ◌<◌, None, Some, IfOk, IfErr, OnOk, IsTrue};
 ghost use Rattle.page_store.specs.Reading.{is_within};
 ghost use Rattle.seal_log.specs.Judged.{fault_by, judged_fault};
@@ -12,11 +12,11 @@ use page_store::{PageFault, Pages, SharedNode};
 use scan_model::{Hit, Query};
 use std::alloc::Global;
 
-/// The pages of a carried file: those that aren't carried are zero.
+/// The pages of a carried file. Pages that aren't carried are zero.
 #[derive(Drop)]
 struct CarriedPages<'a> {
     carried: &'a Carried,
-    // How often a page was asked for. The count stands still at the greatest `u64`.
+    // The number of requests for a node. The count stops at the greatest `u64`.
     asked: u64,
 }
 
@@ -45,7 +45,7 @@ impl Pages for CarriedPages<'_> {
     }
 }
 
-// Whether nodes may stand on a page.
+// Returns whether page `page` may hold a node.
 #[tactic(auto, unfolding(page_store::specs::Reading::is_within))]
 fn is_within(pages: u32, page: u32) -> bool
     ensures test { result ≡ is_within pages page }
@@ -57,13 +57,13 @@ fn is_within(pages: u32, page: u32) -> bool
 /// What an accepted carried log shows.
 #[derive(Drop)]
 pub struct Proved {
-    /// What was asked.
+    /// The query that was asked.
     pub query: Query,
-    /// What was answered, by distance, then by id.
+    /// The answers, by distance, then by id.
     pub answers: Listed<Hit>,
 }
 
-// A query once more.
+// Copies a query.
 fn copy_query(alloc: Global, query: &Query) -> Result<Query, Memory>
     ensures { IfOk result (λ copy. copy ≡ query.now) }
 {
@@ -79,7 +79,7 @@ fn copy_query(alloc: Global, query: &Query) -> Result<Query, Memory>
     }
 }
 
-// A log's query and answers.
+// Copies a log's query and answers.
 fn shown_by(alloc: Global, log: &Log) -> Result<Proved, Memory>
     ensures { IfOk result (λ proved. (proved.query ≡ log.now.query) × (proved.answers ≡ log.now.answers)) }
 {
@@ -88,7 +88,7 @@ fn shown_by(alloc: Global, log: &Log) -> Result<Proved, Memory>
     Ok(Proved { query, answers })
 }
 
-// A verdict as a fault. Want of memory is one of its own.
+// Returns the fault of a carried log for a verdict. `Memory` is a fault of its own.
 fn fault_by(verdict: Verdict) -> ProofFault
     ensures { result ≡ fault_by verdict }
 {
@@ -99,11 +99,11 @@ fn fault_by(verdict: Verdict) -> ProofFault
 }
 
 /// Accepts a carried log exactly where the page of each record of its log is carried and the log is sound on the carried file
-/// in the metric's space. Else it names the first fault: `Missing`, then `Verdict`.
+/// in the metric's space. Otherwise returns the first fault: `Missing`, then `Verdict`.
 ///
-/// What an accepted log shows: of each file that is sound in this space and whose pages have the root digest under which the
-/// log was read, the answers are those of the plain scan of the file's points; or else two different byte strings with one
-/// SHA-256 digest are found, one of those that are hashed for the file, the other of those that are hashed to check the paths.
+/// What an accepted log shows: take any file that is sound in this space and whose pages have the root digest under which the log
+/// was read. Then the answers are those of the plain scan of the file's points. Or else two different byte strings with one
+/// SHA-256 digest are found: one of those that are hashed for the file, and one of those that are hashed to check the paths.
 pub fn verify_carried<M: Metric>(
     alloc: Global,
     carried: &Carried,

@@ -4,7 +4,7 @@ use Rattle.std.specs.List.{flat_map, range_with_len}
 use Rattle.std.specs.Int.{w32, w64, to_be_bytes, abs_diff}
 use Rattle.small_trees.specs.declared.entry.Entry.{Entry}
 
--- zeros up to a length
+-- the bytes with zeros appended up to the length `end`
 abbrev pub padded : ℕ → List ℕ → List ℕ
 padded end bytes = bytes ++ replicate (end - length bytes) 0
 
@@ -19,27 +19,27 @@ first_bytes level count = level ∷ 0 ∷ 0 ∷ count ∷ replicate 12 0
 unfoldable pub node_bytes : ℕ → List Entry → List ℕ
 node_bytes level entries = first_bytes level (length entries) ++ flat_map entry_bytes entries
 
--- the object at a number, which is its id, below a routing point
+-- the object `i`: its id and its coordinate are `i`; it is below a routing object at `centre`
 abbrev pub object_at : ℕ → ℕ → Entry
 object_at centre i = record { id = i; tag = i + 100; parent = abs_diff i centre; point = i }
 
--- so many objects from a number on
+-- `count` objects, from the number `from` on
 unfoldable pub numbers : ℕ → ℕ → ℕ → List Entry
 numbers from count centre = map (object_at centre) (range_with_len from count)
 
--- an entry for a page whose objects lie within 8 of a routing point
+-- an entry for a child page; the objects below it lie within 8 of the routing object
 abbrev pub child : ℕ → ℕ → Entry
 child page point = record { id = page; tag = 8; parent = 0; point = point }
 
--- a page's bytes behind those of the pages before it
+-- a page's bytes after those of the pages before it
 abbrev pub on_page : ℕ → List ℕ → List ℕ → List ℕ
 on_page page node bytes = padded (page * 4096) bytes ++ node
 
--- These objects in one leaf on page 3, which is the root.
+-- The given objects in one leaf on page 3, which is the root.
 abbrev pub one_leaf : List Entry → List ℕ → List ℕ
 one_leaf objects bytes = padded (4 * 4096) (on_page 3 (node_bytes 0 objects) bytes)
 
--- The numbers 0 to 32 in two leaves, on pages 3 and 4, and on page 5 the root, whose second child is this page.
+-- The numbers 0 to 32 in two leaves, on pages 3 and 4, and the root on page 5, whose second child is page `second`.
 abbrev pub three_nodes : ℕ → List ℕ → List ℕ
 three_nodes second bytes =
     on_page 5 (node_bytes 1 (child 3 7 ∷ child second 24 ∷ [])) (on_page 4 (node_bytes 0 (numbers 16 17 24)) (on_page 3 (node_bytes 0 (numbers 0 16 7)) bytes))
@@ -47,7 +47,7 @@ three_nodes second bytes =
 abbrev pub two_leaves : ℕ → List ℕ → List ℕ
 two_leaves second bytes = padded (6 * 4096) (three_nodes second bytes)
 
--- A root on page 3 with six entries for one page, and six objects in a leaf on page 4.
+-- A root on page 3 with six entries for page `page`, and a leaf on page 4 with six objects.
 abbrev pub two_nodes : ℕ → List ℕ → List ℕ
 two_nodes page bytes = on_page 4 (node_bytes 0 (numbers 0 6 0)) (on_page 3 (node_bytes 1 (replicate 6 (record { id = page; tag = 0; parent = 0; point = 0 }))) bytes)
 

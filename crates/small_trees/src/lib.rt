@@ -1,4 +1,4 @@
-//! Small trees over points of one coordinate, as the bytes of their pages: what the tests of crates above search.
+//! Small trees over points of one coordinate, as the bytes of their pages. The tests of crates above search them.
 #![tactic(auto)]
 
 mod entry;

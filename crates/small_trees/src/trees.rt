@@ -4,7 +4,7 @@ ghost use Rattle.small_trees.specs.Trees.{child, entry_bytes, node_bytes, number
 use crate::Entry;
 use std::alloc::{AllocError, Global};
 
-/// Appends zeros up to this length, where there are fewer bytes.
+/// Appends zeros up to the length `end`, where there are fewer bytes.
 pub fn pad(bytes: &mut Vec<u8>, end: usize) -> Result<(), AllocError>
     ensures { OnOk result (bytes.new.items ≡ padded end bytes.old.items) }
 {
@@ -25,7 +25,7 @@ fn put_entry(bytes: &mut Vec<u8>, entry: &Entry) -> Result<(), AllocError>
 }
 
 #[tactic(auto, unfolding(crate::specs::Trees::node_bytes))]
-// Appends a node of this level, from the start of its page to its last entry.
+// Appends a node of the level `level`, from the start of its page to its last entry.
 fn put_node(bytes: &mut Vec<u8>, level: u8, entries: &[Entry]) -> Result<(), AllocError>
     requires { length entries.now ≤ 32 }
     ensures { OnOk result (bytes.new.items ≡ bytes.old.items ++ node_bytes level entries.now) }
@@ -39,8 +39,7 @@ fn put_node(bytes: &mut Vec<u8>, level: u8, entries: &[Entry]) -> Result<(), All
 }
 
 #[tactic(auto, unfolding(crate::specs::Trees::numbers))]
-// So many objects at the numbers from this one on, below a routing point: each has its number as its id, and 100 more as its
-// tag.
+// Returns `count` objects at the numbers from `from` on, below a routing object. The id of each is its number, and its tag 100 more.
 fn numbers(alloc: Global, from: u32, count: u32, centre: u32) -> Result<Vec<Entry>, AllocError>
     requires { from + count ≤ 1000 }
     ensures { IfOk result (λ entries. entries.items ≡ numbers from count centre) }
@@ -58,7 +57,7 @@ fn numbers(alloc: Global, from: u32, count: u32, centre: u32) -> Result<Vec<Entr
     Ok(entries)
 }
 
-// An entry of a root for a page whose objects lie within 8 of a routing point.
+// Returns an entry of a root for page `page`. The objects below it lie within 8 of the routing object at `point`.
 fn child(page: u32, point: u32) -> Entry
     ensures { result ≡ child page point }
 {
@@ -70,7 +69,8 @@ fn child(page: u32, point: u32) -> Entry
     }
 }
 
-/// A root on page 3 that is a leaf with these objects. The bytes of the pages before are these, or zeros.
+/// Returns a file whose root on page 3 is a leaf with the objects `objects`. The bytes of the pages before are `before`, padded with
+/// zeros.
 pub fn one_leaf(before: Vec<u8>, objects: &[Entry]) -> Result<Vec<u8>, AllocError>
     requires { length objects.now ≤ 32 }
     ensures { IfOk result (λ bytes. bytes.items ≡ one_leaf objects.now before.items) }
@@ -82,8 +82,8 @@ pub fn one_leaf(before: Vec<u8>, objects: &[Entry]) -> Result<Vec<u8>, AllocErro
     Ok(bytes)
 }
 
-/// The numbers 0 to 32 in two leaves, on pages 3 and 4, and on page 5 the root, whose second child is this page. The bytes of
-/// the pages before are these, or zeros.
+/// Returns a file with the numbers 0 to 32 in two leaves, on pages 3 and 4. The root is on page 5, and its second child is page
+/// `second`. The bytes of the pages before are `before`, padded with zeros.
 pub fn two_leaves(alloc: Global, before: Vec<u8>, second: u32) -> Result<Vec<u8>, AllocError>
     ensures { IfOk result (λ bytes. bytes.items ≡ two_leaves second before.items) }
 {
@@ -98,8 +98,8 @@ pub fn two_leaves(alloc: Global, before: Vec<u8>, second: u32) -> Result<Vec<u8>
     Ok(bytes)
 }
 
-/// A root on page 3 with six entries for this page, and six objects in a leaf on page 4. The bytes of the pages before are
-/// these, or zeros.
+/// Returns a file with a root on page 3, which has six entries for page `page`, and six objects in a leaf on page 4. The bytes of
+/// the pages before are `before`, padded with zeros.
 pub fn six_entries(alloc: Global, before: Vec<u8>, page: u32) -> Result<Vec<u8>, AllocError>
     ensures { IfOk result (λ bytes. bytes.items ≡ six_entries page before.items) }
 {

@@ -204,7 +204,7 @@ moves t n a b own from to ss h apart₁ apart₂ some = go (candidates a b from 
           others = λ on f g. (let e = tally_set on to ss i low in let u : one (is_on on (side_at ss i)) ≡ 0 = rw (was, f) refl in let v : one (is_on on to) ≡ 0 = rw g refl in omega arith);
         }
 
--- so many steps from one side to another
+-- `k` steps that each move an entry from one side to another
 pub record Moved (n a b k : ℕ) (from to : Side) (old new : List Side) : Type 0 where
   pub holds : Holds n a b new
   pub from_less : tally_sides from new + k ≡ tally_sides from old

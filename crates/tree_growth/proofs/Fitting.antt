@@ -6,7 +6,7 @@ use Rattle.std.proofs.lemmas.Bool.Decides.{nat_tests}
 use Rattle.std.proofs.Math.Nat.{mul-le-mul, mul-le-mul_left, mul-le-mul_right, pow-suc, pow-zero}
 use Rattle.tree_growth.specs.Groups.{group_count, parts_of}
 
--- what is asked of a number of groups
+-- what a number of groups has to satisfy
 pub record Fits (low room n g : ℕ) : Type 0 where
   pub some : 0 < g
   pub enough : g * low ≤ n

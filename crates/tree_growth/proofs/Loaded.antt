@@ -13,7 +13,7 @@ use Rattle.tree_growth.specs.Bulk.{Load, object_at, point_of, radius_of, groups_
 use Rattle.tree_growth.proofs.Sized.{length_set, low_set, nearest_some, length_more, length_seeds, ones_long}
 use Rattle.tree_growth.proofs.Added.{one, tally, tally_is, tally_node, all_below}
 
--- so many objects, each in one of g groups
+-- `n` objects, each in one of `g` groups
 abbrev pub IsLow : ℕ → ℕ → List Member → Type 0
 IsLow g n ps = (length ps ≡ n) × AllByRecursion (λ p. p.group < g) ps
 

@@ -62,7 +62,7 @@ abbrev pub seeds_of : ℕ → List Member → ℕ
 seeds_of a [] = 0
 seeds_of a (p ∷ ps) = one_if (p.is_seed && (p.group == a)) + seeds_of a ps
 
--- where nobody may be taken, no group has more than enough or than its seeds
+-- where no object may be taken, no group has more than enough objects, or more than its seeds
 pub no_candidate : (far : Far) (least a : ℕ) (all : List Member) (k : ℕ) (ps : List Member) → candidate_from far least a all k None ps ≡ None → AllByRecursion (λ p. is_candidate least all p ≡ false) ps
 no_candidate far least a all k [] e = tt
 no_candidate far least a all k (p ∷ ps) e = cases (is_candidate least all p) refl (no_candidate far least a all (k + 1) ps) e

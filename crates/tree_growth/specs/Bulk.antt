@@ -7,7 +7,7 @@ use Rattle.tree_shape.specs.Fill.{most_for, least_for}
 use Rattle.tree_shape.specs.Plain.{Object, Plain, Tall, objects_of}
 use Rattle.tree_growth.specs.Groups.{entry, group_count, seeds_from, grouped, members_from}
 
--- what is loaded, and the most and the least entries of a node of its tree
+-- what is loaded, and the greatest and the least number of a node's entries
 pub record Load : Type 0 where
   pub space : Space
   pub points : List (List ℕ)
@@ -22,20 +22,20 @@ point_of l k = slice_index_or l.points k []
 abbrev pub object_at : Load → ℕ → Object
 object_at l k = record { id = k; tag = slice_index_or l.tags k 0; point = point_of l k }
 
--- a point's distances to the seeds, which are places of the points
+-- a point's distances to the seeds, which are given as places of the points
 abbrev pub row_of : Space → List (List ℕ) → List ℕ → List ℕ → List ℕ
 row_of s points seeds p = map (λ k. s.dist p (slice_index_or points k [])) seeds
 
--- the distances of the set's objects to the seeds, which are places of the set
+-- the distances of the set's objects to the seeds, which are given as places of the set
 abbrev pub table_of : Load → List ℕ → List ℕ → List (List ℕ)
 table_of l set seeds = map (row_of l.space (map (point_of l) set) seeds) (map (point_of l) set)
 
--- the groups of the seeds from group a on
+-- the groups of the seeds, numbered from `a` on
 abbrev pub groups_from : ℕ → List ℕ → List ℕ → List Member → List Group
 groups_from a [] set ps = []
 groups_from a (s ∷ seeds) set ps = record { seed = slice_index set s; members = members_from a set ps } ∷ groups_from (a + 1) seeds set ps
 
--- g groups of a set at a level above 0
+-- the `g` groups of a set at level `h`
 abbrev pub groups_by : Load → ℕ → ℕ → List ℕ → List Group
 groups_by l g h set =
     groups_from 0 (seeds_from (length set) g 0 g) set (grouped (entry (table_of l set (seeds_from (length set) g 0 g)))
@@ -45,7 +45,7 @@ groups_by l g h set =
 abbrev pub groups_at : Load → Bool → ℕ → List ℕ → List Group
 groups_at l is_root h set = groups_by l (group_count l.most l.least is_root (l.most ^ h) (length set)) h set
 
--- the greatest distance of an object from the seed
+-- the greatest distance of the objects from the seed
 abbrev pub radius_of : Load → List ℕ → List ℕ → ℕ
 radius_of l seed [] = 0
 radius_of l seed (k ∷ ks) = max (l.space.dist (point_of l k) seed) (radius_of l seed ks)
@@ -60,7 +60,7 @@ built_at l is_root (suc h) set =
       below = built_at l false h p.members;
     }) (groups_at l is_root (suc h) set)
 
--- the least height, from this one on, of a tree that has room for n objects
+-- the least height, from `h` on, of a tree that has room for `n` objects
 abbrev pub height_from : ℕ → ℕ → ℕ → ℕ → ℕ
 height_from most n h zero = h
 height_from most n h (suc left) = if nat_le n (most ^ (h + 1)) then h else height_from most n (h + 1) left
@@ -80,10 +80,10 @@ places l = places_from 0 (length l.points)
 abbrev pub built_of : Load → Tall
 built_of l = record { height = height_of l.most (length l.points); tree = built_at l true (height_of l.most (length l.points)) (places l) }
 
--- the tree of these rows with their tags, by the fill of the space
+-- the tree of the rows `rows` with their tags, by the space's fill
 abbrev pub built : Space → List (List ℕ) → List ℕ → Tall
 built s rows tags = built_of (record { space = s; points = rows; tags = tags; most = most_for s.words; least = least_for s.words })
 
--- a bulk load keeps its objects: of each kind there are as many in the tree as there are rows of that kind
+-- a bulk load keeps its objects: the tree has as many objects of each kind as there are rows of that kind
 abbrev pub LoadKeepsObjects : Type 0
 LoadKeepsObjects = (l : Load) → 1 ≤ l.most → (kind : Object → Bool) → count_by kind (objects_of (built_of l)) ≡ count_by kind (map (object_at l) (places l))

@@ -10,7 +10,7 @@ use Rattle.tree_growth.specs.declared.rules.Side.TheVariants.{First, Second, Ope
 abbrev pub Ball : Type 0
 Ball = List ℕ × ℕ
 
--- of elements in a row, the first for which the number is least
+-- the first element with the least number
 abbrev pub least_from : {X : Type 0} → (X → ℕ) → X → List X → X
 least_from f x [] = x
 least_from f x (y ∷ ys) = least_from f (if nat_lt (f y) (f x) then y else x) ys
@@ -19,8 +19,8 @@ abbrev pub first_least : {X : Type 0} → (X → ℕ) → List X → Option X
 first_least f [] = None
 first_least f (x ∷ xs) = Some (least_from f x xs)
 
--- the radii of a node's entries, which are 0 in a leaf, and the distances of the entries, row by row; a row has the
--- distances to one entry
+-- the radii of a node's entries, which are 0 in a leaf, and the distances between the entries, row by row; a row has the distances
+-- to one entry
 pub record Table : Type 0 where
   pub radii : List ℕ
   pub distances : List ℕ
@@ -45,7 +45,7 @@ is_on Second Second = true
 is_on Open Open = true
 is_on _ _ = false
 
--- the sides of a node's entries stand in a list, place by place
+-- the side of the entry at place `i`; the sides of a node's entries are listed by place
 abbrev pub side_at : List Side → ℕ → Side
 side_at sides i = slice_index_or sides i Open
 
@@ -53,7 +53,7 @@ side_at sides i = slice_index_or sides i Open
 abbrev pub members : Side → List Side → List ℕ
 members on sides = filter (λ i. is_on on (side_at sides i)) (range_with_len 0 (length sides))
 
--- of the entries on a side all may leave it but the two promoted ones
+-- whether an entry may leave its side: all may but the two promoted ones
 abbrev pub may_leave : ℕ → ℕ → Side → List Side → ℕ → Bool
 may_leave a b from sides i = is_on from (side_at sides i) && (not (i == a) && not (i == b))
 
@@ -61,17 +61,18 @@ abbrev pub put_on : Side → List Side → Option ℕ → List Side
 put_on to sides None = sides
 put_on to sides (Some i) = slice_set sides i to
 
--- one side receives from another the entry that is nearest to its own promoted point, ties by lowest place
+-- a side receives from another side the entry nearest to its own promoted point; ties go to the lowest place
 abbrev pub received : Table → ℕ → ℕ → ℕ → Side → Side → List Side → List Side
 received t a b own from to sides =
     put_on to sides (first_least (λ i. apart t own i) (filter (may_leave a b from sides) (range_with_len 0 (length sides))))
 
--- so many steps, of two kinds in turn
+-- `n` steps, of two kinds in turn
 abbrev pub in_turn : {X : Type 0} → ℕ → (X → X) → (X → X) → X → X
 in_turn zero f g x = x
 in_turn (suc n) f g x = in_turn n g f (f x)
 
--- each promoted entry is in its own group, and each other one in that of the nearer promoted point, ties in the first
+-- each promoted entry is in its own group, and each other entry in the group of the nearer promoted point; ties go to the first
+-- group
 abbrev pub nearer : Table → ℕ → ℕ → ℕ → Side
 nearer t a b i = if i == a then First else (if i == b then Second else (if nat_le (apart t a i) (apart t b i) then First else Second))
 
@@ -81,11 +82,11 @@ by_nearer t a b = map (nearer t a b) (range_with_len 0 (size t))
 abbrev pub count_on : Side → List Side → ℕ
 count_on on sides = count_by (is_on on) sides
 
--- a group that has fewer than the least receives what it lacks
+-- a group with fewer than `least` entries receives the missing ones
 abbrev pub filled_up : Table → ℕ → ℕ → ℕ → ℕ → Side → Side → List Side → List Side
 filled_up t a b least own from to sides = in_turn (least - count_on to sides) (received t a b own from to) (received t a b own from to) sides
 
--- the generalized hyperplane
+-- the generalized hyperplane partition
 abbrev pub hyperplane : Table → ℕ → ℕ → ℕ → List Side
 hyperplane t a b least = filled_up t a b least b First Second (filled_up t a b least a Second First (by_nearer t a b))
 
@@ -93,16 +94,16 @@ hyperplane t a b least = filled_up t a b least b First Second (filled_up t a b l
 abbrev pub only_promoted : ℕ → ℕ → ℕ → Side
 only_promoted a b i = if i == a then First else (if i == b then Second else Open)
 
--- the balanced partition: beginning with the first, the groups take in turn the nearest of the entries that are left
+-- the balanced partition: the groups take in turn the nearest of the remaining entries; the first group begins
 abbrev pub balanced : Table → ℕ → ℕ → List Side
 balanced t a b =
     in_turn (size t - 2) (received t a b a Open First) (received t a b b Open Second) (map (only_promoted a b) (range_with_len 0 (size t)))
 
--- partition 1 is the hyperplane, 2 the balanced one
+-- partition 1 is the hyperplane, partition 2 the balanced one
 abbrev pub partitioned : Table → ℕ → ℕ → ℕ → ℕ → List Side
 partitioned t a b split least = if split == 1 then hyperplane t a b least else balanced t a b
 
--- how far an entry reaches from a promoted point
+-- how far an entry reaches from a promoted point: its distance plus its radius, capped
 abbrev pub reach : Table → ℕ → ℕ → ℕ
 reach t p i = capped (apart t p i) (slice_index_or t.radii i 0)
 
@@ -114,7 +115,7 @@ greatest (x ∷ xs) = max x (greatest xs)
 abbrev pub group_radius : Table → ℕ → Side → List Side → ℕ
 group_radius t p on sides = greatest (map (reach t p) (members on sides))
 
--- what the promotion makes least: m_RAD, 1, the sum of the radii; mM_RAD, 2, the greater one
+-- the cost that the promotion minimizes: the sum of the radii for m_RAD (1), and the greater radius for mM_RAD (2)
 abbrev pub cost_of : ℕ → ℕ → ℕ → ℕ
 cost_of promote r s = if promote == 1 then r + s else max r s
 
@@ -129,7 +130,7 @@ pairs_with n a = map (λ b. (a, b)) (range_with_len (a + 1) (n - (a + 1)))
 abbrev pub pairs : ℕ → List (ℕ × ℕ)
 pairs n = flat_map (pairs_with n) (range_with_len 0 n)
 
--- two places of so many, the first below the second
+-- two places below `n`, the first below the second
 abbrev pub IsPair : ℕ → ℕ × ℕ → Type 0
 IsPair n p = (p.0 < p.1) × (p.1 < n)
 
@@ -137,11 +138,11 @@ abbrev pub or_pair : Option (ℕ × ℕ) → ℕ × ℕ
 or_pair None = (0, 1)
 or_pair (Some p) = p
 
--- the promoted places; a node of two entries or more has a pair
+-- the promoted places; a node of at least two entries has a pair
 abbrev pub promoted : Table → ℕ → ℕ → ℕ → ℕ × ℕ
 promoted t promote split least = or_pair (first_least (pair_cost t promote split least) (pairs (size t)))
 
--- a split: which entries go to the first half, and the two halves' balls
+-- a split: which entries go to the first half, and the balls of the two halves
 pub record Split : Type 0 where
   pub mask : List Bool
   pub first : Ball

@@ -7,7 +7,7 @@ use Rattle.tree_shape.specs.Plain.{Object, Branch, Plain, Tall, objects_of}
 use Rattle.tree_growth.specs.Dealing.{Ball, Split, first_least, split_of}
 use Rattle.tree_growth.specs.declared.rules.Aim.{Aim}
 
--- the entries as a new point sees them, from this place on
+-- the entries as a new point sees them; the first has the place `i`
 abbrev pub aims : Space → List ℕ → ℕ → List Ball → List Aim
 aims s p i [] = []
 aims s p i (b ∷ bs) = record { place = i; radius = b.1; dist = s.dist p b.0 } ∷ aims s p (i + 1) bs
@@ -18,7 +18,7 @@ is_inside a = nat_le a.dist a.radius
 abbrev pub is_outside : Aim → Bool
 is_outside a = not (is_inside a)
 
--- by how much the radius has to grow
+-- by how much the covering radius has to grow
 abbrev pub excess : Aim → ℕ
 excess a = a.dist - a.radius
 
@@ -30,33 +30,34 @@ abbrev pub or_else : Option Aim → Option Aim → Option Aim
 or_else None b = b
 or_else (Some a) b = Some a
 
--- of the entries that hold the point the nearest one; where none does, the one whose radius grows least; ties by lowest place
+-- the nearest of the entries that cover the point; where none does, the entry whose covering radius grows least; ties go to the
+-- lowest place
 abbrev pub chosen_of : List Aim → Option Aim
 chosen_of seen = or_else (first_least (λ a. a.dist) (filter is_inside seen)) (first_least excess (filter is_outside seen))
 
 abbrev pub chosen : Space → List Ball → List ℕ → ℕ
 chosen s bs p = place_of (chosen_of (aims s p 0 bs))
 
--- the rules that an insertion follows: the most entries of a node, the distance, the choice and the split
+-- the rules that an insertion follows: the greatest number of a node's entries, the distance, the choice and the split
 pub record Rules : Type 0 where
   pub most : ℕ
   pub dist : List ℕ → List ℕ → ℕ
   pub choose : List Ball → List ℕ → ℕ
   pub split : List Ball → Split
 
--- the rules of a space with a promotion and a partition, for nodes of so many entries
+-- the rules of a space with a promotion and a partition, for nodes of at most `most` and at least `least` entries
 abbrev pub rules_for : Space → ℕ → ℕ → ℕ → ℕ → Rules
 rules_for s promote split most least = record { most = most; dist = s.dist; choose = chosen s; split = split_of s promote split least }
 
 abbrev pub rules : Space → ℕ → ℕ → Rules
 rules s promote split = rules_for s promote split (most_for s.words) (least_for s.words)
 
--- what a node has grown to: itself, or two halves with their routing points and radii
+-- what a node has grown into: itself, or two halves with their routing points and radii
 pub data Grown (X : Type 0) : Type 0 where
   One : X → Grown X
   Two : Branch X → Branch X → Grown X
 
--- the elements that a mask takes, and those that it leaves, each in the old order
+-- the elements that a mask takes, and the elements that it leaves, in their old order
 abbrev pub taken : {X : Type 0} → List Bool → List X → List X
 taken [] xs = []
 taken (m ∷ ms) [] = []
@@ -77,13 +78,13 @@ fit R ball xs =
     else Two (branch (R.split (map ball xs)).first (taken (R.split (map ball xs)).mask xs))
     (branch (R.split (map ball xs)).second (left (R.split (map ball xs)).mask xs))
 
--- a branch whose subtree has grown: its radius reaches the new point; of two halves the first takes its place, and the
+-- a branch whose subtree has grown: its radius reaches the new point; of two halves the first takes the branch's place, and the
 -- second is appended
 abbrev pub with_grown : {X : Type 0} → ℕ → Branch X → Grown X → List (Branch X) → List (Branch X)
 with_grown d b (One x) bs = record { point = b.point; radius = max b.radius d; below = x } ∷ bs
 with_grown d b (Two c e) bs = c ∷ (bs ++ e ∷ [])
 
--- the branches of a node, where the one at a place grows
+-- the branches of a node, where the branch at a place grows
 abbrev pub grown_at : {X : Type 0} → (X → Grown X) → (List ℕ → ℕ) → ℕ → List (Branch X) → List (Branch X)
 grown_at grow far i [] = []
 grown_at grow far zero (b ∷ bs) = with_grown (far b.point) b (grow b.below) bs
@@ -95,7 +96,7 @@ object_ball o = (o.point, 0)
 abbrev pub branch_ball : {X : Type 0} → Branch X → Ball
 branch_ball b = (b.point, b.radius)
 
--- what a tree grows to by one more object, which is appended to a leaf
+-- what a tree grows into when an object is added, which is appended to a leaf
 abbrev pub inserted : Rules → Object → (h : ℕ) → Plain h → Grown (Plain h)
 inserted R o zero os = fit R object_ball (os ++ o ∷ [])
 inserted R o (suc h) bs =
@@ -106,7 +107,7 @@ abbrev pub new_root : (h : ℕ) → Grown (Plain h) → Tall
 new_root h (One t) = record { height = h; tree = t }
 new_root h (Two c d) = record { height = suc h; tree = c ∷ d ∷ [] }
 
--- the tree with one more object
+-- the tree with an object more
 abbrev pub placed_by : Rules → Object → Tall → Tall
 placed_by R o t = new_root t.height (inserted R o t.height t.tree)
 
@@ -118,8 +119,8 @@ abbrev pub HasEntries : (h : ℕ) → Plain h → Type 0
 HasEntries zero os = Unit {0}
 HasEntries (suc h) bs = (0 < length bs) × AllByRecursion (λ b. HasEntries h b.below) bs
 
--- an insertion adds its object and loses none: of each kind of objects there are as many as before, and one more where
--- the new object is of that kind
+-- an insertion adds its object and loses none: of each kind of objects there are as many as before, and one more if the new object
+-- is of that kind
 abbrev pub InsertionAddsOne : Type 0
 InsertionAddsOne =
     (s : Space) (promote split : ℕ) (o : Object) (t : Tall) → HasEntries t.height t.tree → (kind : Object → Bool) →

@@ -1,4 +1,4 @@
--- What grows of a sound tree is sound.
+-- What grows from a sound tree is sound.
 use Rattle.std.specs.Prelude.{ℕ, ◌≤◌, List, IsTrue}
 use Rattle.std.specs.List.{AllByRecursion}
 use Rattle.metric_laws.specs.Space.{Space, IsSpace}

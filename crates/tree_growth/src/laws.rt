@@ -22,7 +22,7 @@ pub fn groups_are_sized()
     ensures { GroupsAreSized }
 {}
 
-/// A bulk load puts each object into the group of the nearest seed that had room at its turn.
+/// A bulk load puts each object into the group of the nearest seed that has room at its turn.
 pub fn objects_take_nearest()
     ensures { ObjectsTakeNearest }
 {}
@@ -57,7 +57,7 @@ pub fn promoted_is_pair()
     ensures { PromotedIsPair }
 {}
 
-/// Each entry is in one of the two groups of a partition, and each group has its least.
+/// Each entry is in one of the two groups of a partition, and each group has its least number of entries.
 pub fn partition_is_fair()
     ensures { PartitionIsFair }
 {}

@@ -7,7 +7,7 @@ pub enum Side {
     First,
     /// The group of the second promoted point.
     Second,
-    /// Neither group as yet.
+    /// Neither group yet.
     Open,
 }
 
@@ -22,7 +22,7 @@ pub struct Aim {
     pub dist: u64,
 }
 
-/// An object's group while a bulk load parts a set, by this project's own procedure.
+/// An object's group while a bulk load divides a set, by this project's own procedure.
 #[derive(Clone, Copy, PartialEq, Eq)]
 pub struct Member {
     /// The group's number, from 0.
@@ -34,8 +34,8 @@ pub struct Member {
 /// A group of a bulk load, by the places of its objects.
 #[derive(Drop)]
 pub struct Group {
-    /// The seed's place, whose point is the routing point.
+    /// The seed's place. The seed's point is the routing point.
     pub seed: u32,
-    /// The places of all its objects, the seed's among them.
+    /// The places of all its objects, including the seed's.
     pub members: Listed<u32>,
 }

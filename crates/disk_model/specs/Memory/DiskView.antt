@@ -1,4 +1,4 @@
--- How a disk in memory keeps what it shows.
+-- How a disk in memory represents its state.
 use Rattle.std.specs.Prelude.{◌≡◌, ◌≤◌, length, vec_capacity}
 use Rattle.disk_model.specs.declared.memory_disk.MemoryDisk.TheInside.{Inside}
 use Rattle.disk_model.specs.Memory.Model.{SimulatedDisk}
@@ -17,7 +17,7 @@ simulated disk = record {
   reads = disk.reads;
 }
 
--- the bytes are those that the recorded calls leave, and memory for a file of the greatest size has been taken
+-- the bytes are those that the recorded calls leave, and memory for a file of the greatest size is reserved
 pub record IsInStep (disk : Inside) : Type 0 where
   pub read : (replayed (at_rest disk.first.items) disk.noted.past).read ≡ disk.bytes.items
   pub within : length disk.bytes.items ≤ disk.room

@@ -1,4 +1,4 @@
--- Files made in one piece.
+-- Files made as one list.
 use Rattle.std.specs.Prelude.{◌≡◌, ℕ, ◌+◌, ◌-◌, ◌<◌, max, List, ◌++◌, length, map, take, drop, replicate, slice_index}
 use Rattle.std.specs.List.{range_with_len}
 use Rattle.std.proofs.Common.{arith, inl, inr, refl, sym, ◌∙◌, ap, subst, zero-add, length-append, length-drop}
@@ -7,11 +7,11 @@ use Rattle.std.proofs.lemmas.List.FromFn.{length-map-range_with_len, get_or-map-
 use Rattle.std.proofs.lemmas.Bool.{cases_lt}
 use Rattle.disk_model.specs.Disk.{Written}
 
--- the list of this length whose places hold f
+-- the list of length `n` whose place `i` holds `f i`
 unfoldable pub tabulated : ℕ → (ℕ → ℕ) → List ℕ
 tabulated n f = map f (range_with_len 0 n)
 
--- the file with these bytes at this place, and 0 in a gap before them
+-- the file with `bytes` at place `at`, and zeros in a gap before them
 unfoldable pub overwritten : ℕ → List ℕ → List ℕ → List ℕ
 overwritten at bytes file = take at (file ++ replicate at 0) ++ bytes ++ drop (at + length bytes) file
 
@@ -53,7 +53,7 @@ unfolding overwritten front
 length-overwritten at bytes file =
     omega (arith, length-behind at bytes file, length-append (front at file ++ bytes) (drop (at + length bytes) file), length-drop (at + length bytes) file)
 
--- it is the file after the write
+-- the overwritten file is the file after the write
 pub overwritten-written : (at : ℕ) (bytes file : List ℕ) → Written at bytes file (overwritten at bytes file)
 unfolding overwritten front
 overwritten-written at bytes file = record {
@@ -77,7 +77,7 @@ overwritten-written at bytes file = record {
     size : length (front at file ++ bytes) ≡ at + length bytes
     size = length-behind at bytes file
 
--- nothing else is the file after a write
+-- only the overwritten file is the file after the write
 pub written_is : (at : ℕ) (bytes old new : List ℕ) → Written at bytes old new → new ≡ overwritten at bytes old
 written_is at bytes old new written = ext_get_or 0 new (overwritten at bytes old) (written.size ∙ sym (length-overwritten at bytes old)) (λ i below. same i)
   where

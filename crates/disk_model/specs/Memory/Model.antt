@@ -2,8 +2,8 @@
 use Rattle.std.specs.Prelude.{◌⊎◌, ℕ, ◌+◌, ◌-◌, ◌<◌, ◌≤◌, Bool, List, [], ◌∷◌, ◌++◌, Option, length, Contains, IsSomeAnd, if◌then◌else◌, nat_le}
 use Rattle.outside_io.specs.Memory.{next_count}
 
--- a call that changes nothing (a size, a read, or a sync that failed), a sync that answered Ok, and a write with its
--- place, its bytes and whether it was done or failed
+-- a call that changes nothing (a size, a read, or a sync that failed); a sync that returned Ok; or a write with its place, its bytes
+-- and whether it was done or failed
 pub data Call : Type 0 where
   look : Call
   sync : Call
@@ -14,14 +14,14 @@ pub record Noted : Type 0 where
   pub number : ℕ
   pub call : Call
 
--- what the record shows: the calls, the oldest first, and the units that are left
+-- what the record shows: the calls, oldest first, and the units that are left
 pub record Recorded : Type 0 where
   pub past : List Noted
   pub left : ℕ
 
--- A disk in memory: the file that it was made with, all of it synced; the calls that are recorded, and the units that are
--- left for more; the greatest size; the numbers of the calls that are to fail, and the one from which on all fail; and how
--- many calls, faults and reads there were.
+-- A disk in memory: the file that it was made with, all of it synced; the recorded calls, and the units that are left for more; the
+-- greatest size; the numbers of the calls that are to fail, and the number from which on all calls fail; and the numbers of calls,
+-- faults and reads.
 pub record SimulatedDisk : Type 0 where
   pub first : List ℕ
   pub past : List Noted
@@ -39,7 +39,7 @@ units_of look = 1
 units_of sync = 1
 units_of (write at bytes done) = length bytes + 1
 
--- the record has the units for the call
+-- whether the record has enough units for the call
 abbrev pub fits : SimulatedDisk → Call → Bool
 fits disk call = nat_le (units_of call) disk.left
 
@@ -51,18 +51,18 @@ with_call disk call = record disk {
   calls = next_count disk.calls;
 }
 
--- the disk with an answer given: a fault is counted
+-- the disk after a result was returned: a fault is counted
 abbrev pub with_answer : SimulatedDisk → Bool → SimulatedDisk
 with_answer disk ok = record disk { faults = (if ok then disk.faults else next_count disk.faults) }
 
--- the disk after a call that was answered so
+-- the disk after a call that was done or failed, as `ok` says
 abbrev pub after_call : SimulatedDisk → Call → Bool → SimulatedDisk
 after_call disk call ok = with_answer (with_call disk call) ok
 
--- the next call fails by its number: it is named, or is that of the stop or above
+-- the next call fails by its number: the number is listed, or is at or above the stop
 abbrev pub IsNamed : SimulatedDisk → Type 0
 IsNamed disk = Contains disk.fails disk.calls ⊎ IsSomeAnd disk.stop (λ stop. stop ≤ disk.calls)
 
--- the next call, which writes this many bytes or none, fails by its number, or since too few units are left
+-- the next call, which writes `count` bytes, fails: by its number, or because too few units are left
 abbrev pub IsRefused : SimulatedDisk → ℕ → Type 0
 IsRefused disk count = IsNamed disk ⊎ (disk.left < count + 1)

@@ -1,4 +1,4 @@
--- How a record keeps what it shows.
+-- How a record represents its state.
 use Rattle.std.specs.Prelude.{◌≡◌, ◌+◌, ◌-◌, ◌≤◌, length, vec_capacity}
 use Rattle.disk_model.specs.declared.record.Record.TheInside.{Inside}
 use Rattle.disk_model.specs.Memory.Record.{past_of, total}
@@ -10,7 +10,7 @@ recorded r = record {
   left = r.units - (length r.entries.items + length r.bytes.items);
 }
 
--- the bytes are those of the entries, and memory for all units has been taken
+-- the bytes are those of the entries, and memory for all units is reserved
 pub record IsRecord (r : Inside) : Type 0 where
   pub whole : total r.entries.items ≡ length r.bytes.items
   pub entry_room : r.units ≤ vec_capacity r.entries
