@@ -33,12 +33,12 @@ use Rattle.index_core.specs.Lending.{SameRoom}
 
 -- ---- what is written
 
--- an object more, with its point and its tag; or all objects at once, of an index that has none
+-- one more object, with its point and its tag; or all objects at once, for an index that has none
 pub data Write : Type 0 where
   Inserts : List ℕ → ℕ → Write
   Loads : List (List ℕ) → List ℕ → Write
 
--- the points of the objects after it, in order of id, and their tags
+-- the points of the objects after the write, in order of id, and their tags
 abbrev pub points_after : Write → List (List ℕ) → List (List ℕ)
 points_after (Inserts point tag) points = points ++ point ∷ []
 points_after (Loads rows labels) points = rows
@@ -47,17 +47,17 @@ abbrev pub tags_after : Write → List ℕ → List ℕ
 tags_after (Inserts point tag) tags = tags ++ tag ∷ []
 tags_after (Loads rows labels) tags = labels
 
--- how many objects it adds
+-- how many objects the write adds
 abbrev pub added_by : Write → ℕ
 added_by (Inserts point tag) = 1
 added_by (Loads rows labels) = length rows
 
--- what it answers where there were so many objects: the new object's id, or how many objects there are
+-- the answer of a write to an index of `count` objects: the new object's id, or the number of objects loaded
 abbrev pub answer_to : Write → ℕ → ℕ
 answer_to (Inserts point tag) count = count
 answer_to (Loads rows labels) count = length rows
 
--- the tree after it, by the rules of the head: that of VLDB's insertion, or of this project's bulk loading
+-- the tree after the write, by the rules of the head: VLDB's insertion, or this project's bulk loading
 abbrev pub tree_after : Space → Head → Write → ℕ → Tall → Tall
 tree_after s head (Inserts point tag) count tree = placed s head.promote head.split (record { id = count; tag = tag; point = point }) tree
 tree_after s head (Loads rows labels) count tree = built s rows labels
@@ -96,8 +96,8 @@ abbrev pub offered_to : Write → Live → FreePages → List ℕ
 offered_to (Inserts point tag) t f = offered_pages t f
 offered_to (Loads rows labels) t f = f.free
 
--- The pages of a new tree that the old one has not are the first of these numbers and, where they are too few, the pages from the
--- file's end on.
+-- The pages of a new tree that are not in the old one are the first of `numbers` and, where `numbers` are too few, the pages from
+-- the file's end on.
 pub record AreLeastPages (numbers : List ℕ) (end : ℕ) (old new : List ℕ) : Type 0 where
   pub made : List ℕ
   pub numbered : made ≡ map (number_at numbers end) (range_with_len 0 (length made))
@@ -114,7 +114,7 @@ pub record StandsOnLeast {M : Type 0} (s : Space) (write : Write) (old new : Ope
 
 -- ---- on any file
 
--- the next live slot; nothing else of the index changes but what is kept of its pages and its free list
+-- the next live slot; nothing else of the index changes but its cache and its free list
 pub record IsNext {M : Type 0} (write : Write) (old new : OpenIndex M) : Type 0 where
   pub live : Live
   pub is : new ≡ record old { file = record old.file { live = live; kept = new.file.kept }; free = new.free }
@@ -124,7 +124,7 @@ pub record IsNext {M : Type 0} (write : Write) (old new : OpenIndex M) : Type 0 
   pub pages : old.file.live.pages ≤ live.pages
   pub room : SameRoom old.file.kept new.file.kept
 
--- A refusal leaves all as it was, but for what is kept of the pages, and for the free list, which may have been made.
+-- A refusal leaves everything as it was, but for the cache, and for the free list, which may have been made.
 pub record IsRefused {M : Type 0} (old new : OpenIndex M) (before after : DiskState) : Type 0 where
   pub is : new ≡ record old { file = record old.file { kept = new.file.kept }; free = new.free }
   pub room : SameRoom old.file.kept new.file.kept
@@ -163,7 +163,7 @@ pub record HasWritten {M : Type 0} (s : Space) (write : Write) (old new : OpenIn
 
 -- ---- one commit
 
--- Nodes were placed for the file: on the first of its free pages, of which so many are used, and from its end on.
+-- Nodes were placed for the file: on the first `used` of its free pages, and from its end on.
 pub record IsPlacedOn {M : Type 0} (file : OpenFile M) (f : FreePages) (used : ℕ) (placed : Placed) : Type 0 where
   pub added : ℕ
   pub asked : ℕ
