@@ -164,7 +164,7 @@ impl Free {
         is_free(&self.free, page) || is_held(&self.held, page)
     }
 
-    /// Makes `page` free. A page that is free or held already stays so. Takes spare room where there is some, and memory otherwise.
+    /// Makes `page` free. A page that is free or held already stays so. Where room is spare it does not run out of memory.
     pub fn give_back(&mut self, page: u32) -> Result<(), Memory>
         ensures ok { OnOk result (self.new ≡ with_free self.old page) }
         ensures others { self.new ≡ record self.old { free = self.new.free; spare = self.new.spare } }

@@ -15,7 +15,7 @@ pub record HasLive (live : Live) (file : List ℕ) : Type 0 where
 abbrev pub IsLivePage : Nodes → Live → ℕ → Type 0
 IsLivePage nodes live page = IsNodePage live page × IsReached nodes live.root page
 
--- a live slot that can follow this one: the other side, the next generation, and bounds that need no file
+-- a live slot that can follow `live`: the other side, the next generation, and bounds that need no file
 pub record IsSuccessor (live next : Live) : Type 0 where
   pub sides : live.side + next.side ≡ 1
   pub generation : next.generation ≡ live.generation + 1

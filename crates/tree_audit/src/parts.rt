@@ -129,7 +129,7 @@ fn note_all(met: &mut Met, numbers: &[u32]) -> Result<bool, Memory>
     Ok(true)
 }
 
-// Notes what a part met. Returns false where some of it was met before.
+// Notes what a part met. Returns false where some of it is out of bounds or was met before.
 fn note_part(visits: &mut Visits, part: &Part) -> Result<bool, Memory>
     ensures pages_limit { visits.new.pages.limit ≡ visits.old.pages.limit }
     ensures ids_limit { visits.new.ids.limit ≡ visits.old.ids.limit }
