@@ -24,7 +24,7 @@ unpinned generation f = with_pins f (without_pin generation f.pins)
 abbrev pub LiesBesideTree : {M : Type 0} → Nodes → OpenIndex M → Type 0
 LiesBesideTree nodes index = MatchOption index.free (Unit {0}) (AreSpare nodes index.file.live)
 
--- the pages of its free list are exactly those outside `tree`
+-- the free and held pages, once the list is made, are exactly those outside `tree`
 abbrev pub LiesOutside : {M : Type 0} → List ℕ → OpenIndex M → Type 0
 LiesOutside tree index = MatchOption index.free (Unit {0}) (AreOutside index.file.live.pages tree)
 

@@ -51,7 +51,7 @@ impl<P: Pages> Pages for Lent<P> {
 
     ghost shelf = { λ l. lent_shelf P.shelf l };
 
-    // The pages' own invariant, and the capacity of the cache.
+    // What the pages keep across calls, and the capacity of the cache.
     ghost keeps = { λ l m. P.keeps (lent_inner l) (lent_inner m) × SameRoom (lent_kept l) (lent_kept m) };
 
     ghost keeps_none = { λ l. (P.keeps_none (lent_inner l), same_room_by_none (lent_kept l)) };
