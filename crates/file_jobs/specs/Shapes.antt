@@ -73,7 +73,7 @@ pub record Shapes (disk0 disk1 : DiskState) (out0 out1 : SinkState) (status : �
   pub not_index : status ≡ 6 → (name : List ℕ) × Tells out0 out1 (not_index_text name) × (IsTrue disk0.tells → IsNoIndex disk0.bytes name)
   pub memory : status ≡ 8 → Tells out0 out1 (codes "fault memory\n")
   pub damaged : status ≡ 9 → (fault : PageFault) × Tells out0 out1 (damaged_text fault) × (IsTrue disk0.tells → IsDamaged disk0.bytes fault)
-  -- of a sound file neither of these is told
+  -- a sound file gives neither status 6 nor status 9
   pub sound : IsTrue disk0.tells → (head : Head) (live : Live) → IsSound head live disk0.bytes → (status ≢ 6) × (status ≢ 9)
 
 -- why the walk of an opened file on a disk stopped, where the disk counts `faults` faults now

@@ -1,4 +1,4 @@
--- What an opened index is, and on which disks it stands.
+-- An opened index, and the disks on which it stands.
 use Rattle.std.specs.Prelude.{◌≡◌, ℕ, ◌≤◌, false, IsTrue, Option, MatchOption, All}
 use Rattle.disk_model.specs.Disk.{DiskState, IsUnchanged}
 use Rattle.tree_shape.specs.declared.live.Live.{Live}
@@ -34,7 +34,7 @@ pub record StandsOn {M : Type 0} (file : OpenFile M) (disk : DiskState) : Type 0
   pub opens : IsTrue disk.tells → OpensTo disk.bytes file.head file.live
   pub agrees : KeptAgrees file.kept (pages_on file disk 0)
 
--- what is kept can be nodes of these pages, whatever a disk holds
+-- what is kept can be nodes of a file of `pages` pages, whatever a disk holds
 abbrev pub IsLawfulKept : ℕ → ℕ → Option Pairs → Type 0
 IsLawfulKept dim pages kept = MatchOption kept (Unit {0}) (λ pairs. All (λ pair. IsWithin pages pair.0 × IsLawfulNode dim pair.1) pairs.entries)
 

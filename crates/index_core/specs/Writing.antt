@@ -64,14 +64,14 @@ tree_after s head (Loads rows labels) count tree = built s rows labels
 
 -- ---- on a sound file
 
--- the disk tells its bytes, the live tree in them is sound, and its objects have these points and tags, in order of id
+-- the disk tells its bytes, the live tree in them is sound, and its objects have `points` and `tags`, in order of id
 pub record HasObjects {M : Type 0} (s : Space) (file : OpenFile M) (disk : DiskState) (points : List (List ℕ)) (tags : List ℕ) : Type 0 where
   pub tells : IsTrue disk.tells
   pub sound : IsSoundTree s (nodes_on file disk) file.live
   pub points_are : points_on file disk ≡ points
   pub tags_are : tags_on file disk ≡ tags
 
--- the file opens to this head, is sound, and its objects have these points and tags, in order of id
+-- the file opens to `head`, is sound, and its objects have `points` and `tags`, in order of id
 pub record HoldsObjects (s : Space) (head : Head) (points : List (List ℕ)) (tags : List ℕ) (file : List ℕ) : Type 0 where
   pub live : Live
   pub is : IsFileOf s head live points tags file
@@ -131,7 +131,7 @@ pub record IsRefused {M : Type 0} (old new : OpenIndex M) (before after : DiskSt
   pub free : MatchOption old.free (Unit {0}) (λ f. new.free ≡ Some f)
   pub same : IsUnchanged before after
 
--- these pages are guarded by the pin of a generation
+-- the pin of a generation guards the given pages
 abbrev pub GuardsPages : {M : Type 0} → ℕ → List ℕ → OpenIndex M → Type 0
 GuardsPages generation tree index = MatchOption index.free ⊥ (λ f. IsGuarded index.file.live.pages generation f tree)
 
@@ -139,10 +139,10 @@ GuardsPages generation tree index = MatchOption index.free ⊥ (λ f. IsGuarded 
 abbrev pub KeepsPages : List ℕ → DiskState → DiskState → Type 0
 KeepsPages tree before after = EachImage before after (λ image. AllByRecursion (λ page. page_of image page ≡ page_of before.bytes page) tree)
 
--- What a write does, on any file. Commit comes where the disk failed in the commit, and stops the index, which then has no free list
--- and no pins any more. On a sound file a crash at any moment leaves the objects before or after, and after Ok the file has the tree
--- after, whose new nodes stand on the least pages; where free and held pages were exactly those outside the tree they are so again,
--- whatever the answer. What a pin guards stays guarded, and holds what it held at every moment.
+-- What a write does, on any file. `Commit` comes where the disk failed in the commit. It stops the index, which then has no free list
+-- and no pins. On a sound file a crash at any moment leaves the objects before or after. After `Ok` the file has the tree after, with
+-- its new nodes on the least pages. Where free and held pages were exactly those outside the tree they are so again, whatever the
+-- result. After `Ok` what a pin guards is still guarded. Whatever the result, a guarded page holds at every moment what it held.
 pub record HasWritten {M : Type 0} (s : Space) (write : Write) (old new : OpenIndex M) (before after : DiskState) (result : Result ℕ IndexFault) : Type 0 where
   pub answer : IfOk result (λ n. n ≡ answer_to write old.file.live.count)
   pub next : OnOk result (IsNext write old new)
@@ -171,16 +171,16 @@ pub record IsPlacedOn {M : Type 0} (file : OpenFile M) (f : FreePages) (used : �
   pub used_is : used ≡ min (length placed.staged) (length (take asked f.free))
   pub left_within : AllByRecursion (IsWithin file.live.pages) placed.left
 
--- they stand on the pages that are offered to this write, and then on those from the file's end on
+-- the new nodes stand on the pages that are offered to `write`, and then on those from the file's end on
 abbrev pub IsNumberedFor : {M : Type 0} → Write → OpenFile M → FreePages → Placed → Type 0
 IsNumberedFor write file f placed =
     pages_of placed.staged ≡ map (number_at (offered_to write file.live f) file.live.pages) (range_with_len 0 (length placed.staged))
 
--- they take the place of the left ones, or are a tree by themselves in place of the root
+-- the new nodes take the place of the left ones, or are a tree by themselves in place of the root
 abbrev pub Follows : Nodes → Live → Placed → Type 0
 Follows nodes t placed = TakesPlace nodes t placed ⊎ (StandsByItself placed × (placed.left ≡ t.root ∷ []))
 
--- what is kept once pages are forgotten
+-- the cache after pages are forgotten
 abbrev pub forgotten : List ℕ → Pairs → Pairs
 forgotten [] kept = kept
 forgotten (page ∷ pages) kept = forgotten pages (without kept page)
@@ -196,7 +196,7 @@ pub record IsMadeBy (s : Space) (head : Head) (write : Write) (old : Nodes) (t :
   pub balance : (page : ℕ) → times page (live_pages new placed.next) + times page placed.left ≡ times page
       (live_pages old t) + times page (pages_of placed.staged)
 
--- what was placed is this write, on a sound file: none of its pages lies in the live tree, and it makes the tree after the write
+-- what was placed is the write, on a sound file: none of its pages lies in the live tree, and it makes the tree after the write
 pub record IsPlacedFor (s : Space) (head : Head) (write : Write) (old : Nodes) (t : Live) (placed : Placed) : Type 0 where
   pub apart : AreBeside old t (pages_of placed.staged)
   pub makes : (new : Nodes) → IsOver old t placed.staged new → IsMadeBy s head write old t placed new

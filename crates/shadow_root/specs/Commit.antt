@@ -78,7 +78,7 @@ pub record IsReady (dim : ℕ) (live next : Live) (staged : List StagedNode) (st
 abbrev pub IsElsewhere : List StagedNode → ℕ → Type 0
 IsElsewhere staged i = (k : ℕ) (s : StagedNode) → IsStagedAs staged k s → (i < 4096 * s.page) ⊎ (4096 * s.page + 4096 ≤ i)
 
--- a file of this length has room for the staged pages
+-- a file of the given length has room for the staged pages
 abbrev pub HasRoom : List StagedNode → ℕ → Type 0
 HasRoom staged most = (k : ℕ) (s : StagedNode) → IsStagedAs staged k s → 4096 * s.page + 4096 ≤ most
 

@@ -6,7 +6,7 @@ use Rattle.node_page.specs.declared.head.Head.{Head}
 use Rattle.node_page.specs.Opening.{OpensTo}
 use Rattle.page_store.specs.Reached.{IsReached}
 
--- the file opens to this live slot, whatever its head
+-- the file opens to the live slot `live`, whatever its head
 pub record HasLive (live : Live) (file : List ℕ) : Type 0 where
   pub head : Head
   pub opens : OpensTo file head live

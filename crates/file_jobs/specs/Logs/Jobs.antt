@@ -27,7 +27,7 @@ Follows (Some stop.Sink) more middle new = IsCut more middle new
 Follows (Some stop.Disk) more middle new = new ≡ middle
 Follows (Some stop.Memory) more middle new = new ≡ middle
 
--- some of these texts were put, each whole, and then what follows them
+-- some of `texts` were put, each whole, and then what follows them
 pub record Puts (texts : List (List ℕ)) (old new : Option (List ℕ)) (why : Option Stop) : Type 0 where
   pub put : List (List ℕ)
   pub more : List (List ℕ)
