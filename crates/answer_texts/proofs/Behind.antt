@@ -1,4 +1,4 @@
--- What stands on the outputs behind what was put whole.
+-- What stands on the outputs after what was put whole.
 use Rattle.std.proofs.Common.{◌≡◌, ◌⊎◌, ℕ, List, [], ◌∷◌, ◌++◌, inl, inr, refl, sym, ap, ◌∙◌, append_assoc, Option}
 use Rattle.std.specs.Io.KnownBytes.{Appends}
 use Rattle.std.proofs.KnownBytes.{Appends-trans}
@@ -23,7 +23,7 @@ pub told_behind : (w0 w1 w2 : Option (List ℕ)) (Failed : Type 0) (bs line : Li
 told_behind w0 w1 w2 Failed bs line is (inl whole) = (line, inl refl, Appends-trans w0 w1 w2 bs line is whole)
 told_behind w0 w1 w2 Failed bs line is (inr cut) = let part = front_appended w0 w1 w2 bs line is cut.0 in (part.0, inr (part.1, cut.1), part.2)
 
--- a reply and its log, cut behind these texts and frames
+-- a reply and its log, cut after the given texts and frames
 pub record Behind (texts frames reply frame : List ℕ) (out0 out2 log0 log2 : SinkState) : Type 0 where
   pub rest : List ℕ
   pub log_rest : List ℕ

@@ -1,4 +1,4 @@
--- Commands that were answered, and what is written of them: the texts of their replies, and the frames of their logs.
+-- Commands that were answered, and what is written on them: the texts of their replies, and the frames of their logs.
 use Rattle.std.specs.Prelude.{ℕ, Bool, List, [], ◌∷◌, ◌++◌, map, Option, Some, None}
 use Rattle.rows_text.specs.declared.command.Command.{Command}
 use Rattle.rows_text.specs.declared.reply.Reply.{Reply}
@@ -6,13 +6,13 @@ use Rattle.rows_text.specs.Texts.{text}
 use Rattle.log_model.specs.declared.logs.Log.{Log}
 use Rattle.prune_log.specs.Spelling.{frames_bytes, log_bytes}
 
--- a command, and what it was answered: its reply, and the log of its query
+-- a command and its answer: its reply, and the log of its query
 pub record Answered : Type 0 where
   pub command : Command
   pub reply : Reply
   pub log : Option Log
 
--- the commands, the replies and the texts of these
+-- the commands, the replies and the texts of a list
 abbrev pub commands_of : List Answered → List Command
 commands_of answered = map (λ a. a.command) answered
 
@@ -31,6 +31,6 @@ abbrev pub logs_of : List Answered → List Log
 logs_of [] = []
 logs_of (a ∷ answered) = if_any a.log ++ logs_of answered
 
--- the frames of these logs
+-- the frames of a list of logs
 abbrev pub framed : List Log → List ℕ
 framed logs = frames_bytes log_bytes logs

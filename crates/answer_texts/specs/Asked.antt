@@ -17,11 +17,11 @@ pub record Held : Type 0 where
   pub nodes : Nodes
   pub live : Live
 
--- what a file with these bytes holds
+-- what a file with the given bytes holds
 abbrev pub held_in : ℕ → Live → List ℕ → Held
 held_in dim live file = record { nodes = nodes_in dim live file; live = live }
 
--- its objects, with no cursor open
+-- the objects of what a file holds, with no cursor open
 abbrev pub state_of : Held → State
 state_of held = record { objects = record { points = points_by_id held.nodes held.live; tags = tags_by_id held.nodes held.live }; cursors = []; next = 0 }
 

@@ -10,8 +10,8 @@ use Rattle.answer_texts.specs.Answered.{Answered}
 abbrev pub IsTold : Type 0 → List ℕ → List ℕ → Type 0
 IsTold Failed rest line = (rest ≡ line) ⊎ (IsFrontOf rest line × Failed)
 
--- What stands on the outputs when a run on a sound file ends with a status: the replies of these commands and the frames of their
--- logs, and then `rest` and `log_rest`, where `more` are the other commands, of which the next one may be cut short.
+-- What stands on the outputs when a run on a sound file ends with a status: the replies of the answered commands and the frames of
+-- their logs, and then `rest` and `log_rest`. `more` are the other commands; the next one may be cut short.
 pub record Ends (Failed : Type 0) (IsCutShort : List ℕ → List ℕ → Type 0) (status : ℕ) (answered : List Answered) (more : List Command)
     (rest log_rest : List ℕ) : Type 0 where
   pub done : status ≡ 0 → (more ≡ []) × (rest ≡ []) × (log_rest ≡ [])
@@ -27,7 +27,7 @@ pub record Ends (Failed : Type 0) (IsCutShort : List ℕ → List ℕ → Type 0
 
 -- ---- on any file
 
--- Some bytes were put, and last of all this line; or a front of it, where an output failed meanwhile.
+-- Some bytes were put, and `line` last of all; or a front of it, where an output failed meanwhile.
 pub record EndsIn (out0 out1 : SinkState) (line : List ℕ) : Type 0 where
   pub mid : SinkState
   pub bytes : List ℕ

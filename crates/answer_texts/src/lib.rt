@@ -24,8 +24,8 @@ pub struct Texts {
     frame: Vec<u8>,
 }
 
-/// Adds what is written for a command with this reply and this log: the text of the reply to `replies`, and the frame of the
-/// log, where there is one, to `frames`. A hit is written with its tag where tags are shown.
+/// Adds what is written for a command with the reply `reply` and the log `log`: the text of the reply to `replies`, and the frame
+/// of the log, if there is one, to `frames`. A hit is written with its tag where `show` is set.
 pub fn add_texts(
     alloc: Global,
     reply: &Reply,
@@ -47,7 +47,7 @@ pub fn add_texts(
     Ok(())
 }
 
-/// What is written for a command with this reply and this log. A hit is written with its tag where tags are shown.
+/// Returns what is written for a command with the reply `reply` and the log `log`. A hit is written with its tag where `show` is set.
 pub fn texts_of(
     alloc: Global,
     reply: &Reply,
@@ -67,7 +67,7 @@ pub fn texts_of(
     Ok(texts)
 }
 
-/// Puts the frame of a log to `log_out`, where there is one, and then the text of a reply to `out`, each in one put. So a reply
+/// Puts the frame of a log to `log_out`, if there is one, and then the text of a reply to `out`, each in one put. So a reply
 /// is never there without its log.
 pub fn put_texts<K: Sink, T: Sink>(
     reply: &[u8],
@@ -92,7 +92,7 @@ pub fn put_texts<K: Sink, T: Sink>(
 }
 
 impl Texts {
-    /// Puts them as `put_texts` does.
+    /// Puts the reply and the frame as `put_texts` does.
     pub fn put<K: Sink, T: Sink>(&self, out: &mut K, log_out: &mut T) -> Result<(), Failed>
         ensures reply { OnOk result (Appends (K.state out.old).written (K.state out.new).written self.now.reply.items) }
         ensures frame { OnOk result (Appends (T.state log_out.old).written (T.state log_out.new).written self.now.frame.items) }

@@ -1,4 +1,4 @@
--- What several workers made, none of whom failed.
+-- What several workers made, where none failed.
 use Rattle.std.proofs.Common.{◌≡◌, ℕ, List, length, map, sym, ap, ◌∙◌, Option, Some, Result, Ok, slice_get}
 use Rattle.std.specs.Option.{option_map}
 use Rattle.std.proofs.lemmas.List.{length-map}

@@ -25,7 +25,7 @@ pub record AreNumbersOf (s : Space) (live : Live) (image : List ℕ) (a : Audite
   pub objects : a.objects ≡ live.count
   pub nodes : a.nodes ≡ length (pages_at (nodes_in s.words live image) live.height live.root)
 
--- the first fault of an image, or want of memory; there is no disk that may fail
+-- the first fault of an image, or out of memory; there is no disk that may fail
 abbrev pub IsFaultOf : Space → Live → List ℕ → AuditFault → Type 0
 IsFaultOf s live image Memory = Unit {0}
 IsFaultOf s live image (Page page.Disk) = ⊥
@@ -40,7 +40,7 @@ IsFaultOf s live image fault = audit_of s live image ≡ Some fault
 abbrev pub IsPartOf : Space → Live → DiskState → ℕ → InnerEntry → Part → Type 0
 IsPartOf s live disk i e part = IsTrue disk.tells → part_told s (reading s.words live.pages disk.bytes) live i e ≡ Ok (met_in part)
 
--- the entries of the root, the first of which has this place, were walked, each by itself, and those without a fault met this
+-- the entries of the root from place `i` on were walked, each by itself, and `parts` has what was met below those without a fault
 abbrev pub AreTried : Space → Live → DiskState → ℕ → List InnerEntry → List (Result Part AuditFault) → Type 0
 AreTried s live disk i [] [] = Unit {0}
 AreTried s live disk i [] (part ∷ parts) = ⊥

@@ -2,7 +2,7 @@
 use Rattle.std.specs.Prelude.{◌≡◌, ◌≢◌, ℕ, ◌+◌, ◌-◌, ◌*◌, ◌/◌, ◌%◌, ◌^◌, ◌<◌, ◌≤◌, List, length, Option, Some, None, Result, Ok, slice_get, if◌then◌else◌, nat_lt}
 use Rattle.std.specs.declared.alloc.AllocError.{AllocError}
 
--- so many rounds, each of which gives each of so many workers one place
+-- a number of rounds; each round gives each of `workers` workers one place
 pub record Rounds : Type 0 where
   pub rounds : ℕ
   pub workers : ℕ
@@ -11,11 +11,11 @@ pub record Rounds : Type 0 where
 abbrev pub IsDeal : Rounds → Type 0
 IsDeal d = (1 ≤ d.rounds) × (d.rounds < 2 ^ 33) × (1 ≤ d.workers) × (d.workers ≤ 64)
 
--- by how much the turns of a round are shifted: the next round by one more, and after as many rounds as there are workers by one more still
+-- the shift of a round's turns: each round shifts by one more, and after every `workers` rounds by one more still
 abbrev pub shift_of : Rounds → ℕ → ℕ
 shift_of d round = (round + round / d.workers) % d.workers
 
--- the sum of two numbers below the number of workers, wound round
+-- the sum of two numbers below the number of workers, modulo that number
 abbrev pub wound : ℕ → ℕ → ℕ
 wound workers n = if nat_lt n workers then n else n - workers
 

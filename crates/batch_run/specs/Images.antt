@@ -6,16 +6,16 @@ use Rattle.page_store.specs.Reading.{reading}
 use Rattle.batch_run.specs.declared.images.ImageFault.{ImageFault}
 use Rattle.batch_run.specs.declared.images.ImageFault.TheVariants as fault
 
--- the first bytes of a file, as many as so many pages have; past its end they are 0
+-- the first `pages` pages of a file; past its end the bytes are 0
 pub record IsImageOf (pages : ℕ) (file image : List ℕ) : Type 0 where
   pub size : length image ≡ pages * 4096
   pub bytes : (i : ℕ) → i < pages * 4096 → slice_index image i ≡ slice_index file i
 
--- these are bytes of a file, from the start of a page on
+-- `bytes` are bytes of a file, from the start of page `page` on
 abbrev pub HasBytes : List ℕ → ℕ → List ℕ → Type 0
 HasBytes file page bytes = (i : ℕ) → i < length bytes → slice_index bytes i ≡ slice_index file (4096 * page + i)
 
--- The part of a file from a page on was read: it has so many pages, or those that there are.
+-- The part of a file from page `from` on was read: it has `part_pages` pages, or as many as are left.
 pub record IsPartRead (disk : DiskState) (part_pages pages from : ℕ) (bytes : List ℕ) : Type 0 where
   pub size : length bytes ≡ 4096 * min part_pages (pages - from)
   pub told : IsTrue disk.tells → HasBytes disk.bytes from bytes
@@ -26,6 +26,6 @@ HasImageCause pages before now fault.TooLong = 262144 < pages
 HasImageCause pages before now fault.Disk = Rose before now
 HasImageCause pages before now fault.Memory = Unit {0}
 
--- the image of so many pages holds in each of them what the file holds
+-- the image of `pages` pages holds in each of them what the file holds
 abbrev pub ImagesHoldTheFile : Type 0
 ImagesHoldTheFile = (dim pages : ℕ) (file image : List ℕ) → IsImageOf pages file image → reading dim pages image ≡ reading dim pages file

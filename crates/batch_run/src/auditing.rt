@@ -18,8 +18,8 @@ use tree_audit::laws::parts_make_the_whole;
 use tree_audit::{AuditFault, Audited, Part, audit, audit_part, join_parts};
 use tree_shape::{InnerEntry, Live, Node, fill};
 
-// The entry of the root at this place and the subtree below it, audited through a reader of its own, as if nothing was met
-// before. Where there is no reader to be had the answer is that of a disk that failed.
+// Audits the entry of the root at `place` and the subtree below it, through a reader of its own, as if nothing was met
+// before. Where the disk gives no reader, fails as if the disk failed.
 fn part_of<D: SharedDisk, M: Metric>(
     alloc: Global,
     disk: &D,
@@ -50,7 +50,7 @@ fn part_of<D: SharedDisk, M: Metric>(
     )
 }
 
-// Each entry of the root, audited by itself. The entries are cut in order into pieces of `ceil(e / workers)`.
+// Audits each entry of the root by itself. The entries are cut in order into pieces of `ceil(e / workers)`.
 fn try_parts<R: Threads + Sync, D: SharedDisk, M: Metric>(
     rt: &R,
     alloc: Global,
@@ -74,7 +74,7 @@ fn try_parts<R: Threads + Sync, D: SharedDisk, M: Metric>(
     share(rt, alloc, entries.len(), workers, &work)
 }
 
-// Whether an inner node of this level with so many entries may be the root.
+// Returns whether an inner node of level `level` with `count` entries may be the root.
 fn is_root(live: &Live, dim: u8, level: u8, count: usize) -> bool
     requires some { 1 ≤ dim }
     requires few { dim ≤ 64 }
@@ -85,11 +85,11 @@ fn is_root(live: &Live, dim: u8, level: u8, count: usize) -> bool
     live.height >= 1 && u32::from(level) == live.height && count >= 2 && count <= fill(dim).most
 }
 
-/// The numbers of a tree that its parts, audited apart from one another by so many threads, show to be sound. There are none where
-/// a part has a fault or couldn't be read, two parts have something in common, or the root is no inner node; then the audit of the
-/// whole tree tells what is so.
+/// Returns the numbers of a tree that its parts show to be sound, audited apart from one another by `workers` threads. Returns
+/// `None` where a part has a fault or couldn't be read, two parts have something in common, or the root is no inner node; then
+/// the audit of the whole tree tells more.
 ///
-/// Each worker audits the subtrees of some entries of the root that stand side by side, through readers of its own, and then one
+/// Each worker audits the subtrees of some entries of the root that stand side by side, through readers of its own. Then one
 /// thread compares what they met.
 pub fn sound_by_parts<R: Threads + Sync, D: SharedDisk, M: Metric>(
     rt: &R,
@@ -129,10 +129,10 @@ pub fn sound_by_parts<R: Threads + Sync, D: SharedDisk, M: Metric>(
     }
 }
 
-/// Audits the live tree in the file with these bytes, whose points have `dim` coordinates: its numbers, or its first fault in
-/// the order of `audit`. It is the same for every number of workers, 1 to 64.
+/// Audits the live tree in the file with the bytes `image`, whose points have `dim` coordinates: returns its numbers, or its
+/// first fault in the order of `audit`. The result is the same for every number of workers, 1 to 64.
 ///
-/// Where its parts do not show the tree to be sound, one worker audits it whole, which names the fault.
+/// Where its parts do not show the tree to be sound, one worker audits it whole and names the fault.
 pub fn audit_image<R: Threads + Sync, M: Metric>(
     rt: &R,
     alloc: Global,

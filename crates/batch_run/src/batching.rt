@@ -18,8 +18,8 @@ use std::alloc::Global;
 use std::thread::Threads;
 use tree_shape::Live;
 
-/// What becomes of one command on the file in memory with these pages, whose live slot this is. Where tags are not wanted,
-/// hits have none.
+/// Returns the outcome of `command` on the file in memory with `pages` and the live slot `live`. Where `tags` is false, hits have no
+/// tags.
 pub fn outcome_of<M: Metric>(
     alloc: Global,
     pages: &mut Cached<ImagePages<'_>>,
@@ -50,7 +50,7 @@ pub fn outcome_of<M: Metric>(
     }
 }
 
-// What becomes of one command on the file with these bytes.
+// Returns the outcome of `command` on the file with the bytes `image`.
 fn outcome_on<M: Metric>(
     alloc: Global,
     image: &[u8],
@@ -66,12 +66,12 @@ fn outcome_on<M: Metric>(
     outcome_of(alloc, &mut pages, metric, live, command, true)
 }
 
-/// What becomes of each command of a script on the file with these bytes, whose live slot this is, in the commands' order. It
-/// is the same for every number of workers, 1 to 64, who share the commands evenly. No command changes anything: one that
-/// would, and each on a cursor, is refused as read-only.
+/// Returns the outcome of each of `commands`, in order, on the file with the bytes `image` and the live slot `live`. The result is the
+/// same for every number of workers, 1 to 64, which share the commands evenly. No command changes anything: one that would, and
+/// each on a cursor, is refused as read-only.
 ///
 /// On a sound image each reply is that of a plain list of the image's objects, and each log the least one. On any image a
-/// search that comes to a damaged page is `Damaged`, and the commands after it are answered all the same.
+/// search that meets a damaged page is `Damaged`, and the commands after it are answered all the same.
 pub fn batch<R: Threads + Sync, M: Metric>(
     rt: &R,
     alloc: Global,

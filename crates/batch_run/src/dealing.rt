@@ -8,8 +8,8 @@ use par_work::share;
 use std::alloc::Global;
 use std::thread::Threads;
 
-/// How places are dealt out among workers, as cards are. A round gives each worker one place, and who gets the first one
-/// changes from round to round: so neither a stretch of dear places nor every so many-th place is one worker's alone.
+/// The dealing of places to workers, as cards are dealt. A round gives each worker one place, and who gets the first one
+/// changes from round to round: so neither a stretch of dear places nor every n-th place goes to one worker alone.
 ///
 /// A worker has a seat for each round. Those of the first worker come first.
 #[derive(Clone, Copy)]
@@ -21,7 +21,7 @@ pub struct Deal {
 }
 
 impl Deal {
-    /// So many rounds that each of so many places is dealt.
+    /// Returns enough rounds to deal `count` places to `workers`.
     pub fn of(count: usize, workers: usize) -> Self
         requires some { 1 ≤ workers }
         requires few { workers ≤ 64 }
@@ -36,7 +36,7 @@ impl Deal {
         }
     }
 
-    // By how much the turns of a round are shifted.
+    // Returns the shift of the turns of `round`.
     fn shift(&self, round: usize) -> usize
         requires some { 1 ≤ self.now.workers }
         requires round { round < 2 ^ 33 }
@@ -46,7 +46,7 @@ impl Deal {
         (round + round / self.workers) % self.workers
     }
 
-    /// The place that is dealt to a seat. In the last round it may be one that there is not.
+    /// Returns the place that is dealt to `seat`. In the last round it may be past the last place.
     pub fn place(&self, seat: usize) -> usize
         requires some { (1 ≤ self.now.rounds) × (1 ≤ self.now.workers) }
         requires few { (self.now.rounds < 2 ^ 33) × (self.now.workers ≤ 64) }
@@ -63,7 +63,7 @@ impl Deal {
         round * self.workers + turn
     }
 
-    // The worker whose turn in a round that is shifted so is this.
+    // Returns the worker that has the turn `turn` in a round with the shift `shift`.
     fn worker(&self, turn: usize, shift: usize) -> usize
         requires few { self.now.workers ≤ 64 }
         requires turn { turn < self.now.workers }
@@ -77,7 +77,7 @@ impl Deal {
         turn + self.workers - shift
     }
 
-    /// The seat to which a place is dealt.
+    /// Returns the seat that `place` is dealt to.
     pub fn seat(&self, place: usize) -> usize
         requires some { (1 ≤ self.now.rounds) × (1 ≤ self.now.workers) }
         requires few { (self.now.rounds < 2 ^ 33) × (self.now.workers ≤ 64) }
@@ -92,7 +92,7 @@ impl Deal {
     }
 }
 
-/// What the seats hold, in the order of the places.
+/// Returns what the seats hold, in the order of the places.
 pub fn in_order<X: Drop>(
     alloc: Global,
     deal: &Deal,
@@ -117,8 +117,8 @@ pub fn in_order<X: Drop>(
     Ok(all)
 }
 
-/// What the work gives at each place below `count`, in order, or want of memory where it wants it at one of them. Each worker
-/// gets places from all parts of the work, so that none waits long for the others.
+/// Runs the work at each place below `count` and returns the results in order, or fails when memory runs out at one of them. Each
+/// worker gets places from all parts of the work, so that none waits long for the others.
 pub fn share_evenly<R: Threads + Sync, X: Send + Drop, F: Fn(usize) -> Result<X, Memory> + Sync>(
     rt: &R,
     alloc: Global,

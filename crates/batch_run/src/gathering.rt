@@ -5,7 +5,7 @@ ghost use Rattle.std.specs.Prelude.{◌≡◌, map, Ok, IfOk, IfSome};
 use crate::Memory;
 use std::alloc::Global;
 
-/// What was made, where none of it failed.
+/// Returns what was made, where none of it failed, and `None` otherwise.
 pub fn all_done<X: Drop, E: Drop>(
     alloc: Global,
     tried: Vec<Result<X, E>>,

@@ -24,16 +24,16 @@ pub enum ImageFault {
     /// There are more than `MOST_WHOLE_PAGES` pages.
     #[error("the file has too many pages")]
     TooLong,
-    /// There was no memory for the bytes.
+    /// Memory ran out for the bytes.
     #[error("out of memory")]
     Memory,
 }
 
-/// Reads the first pages of a file, of 4096 bytes each, in one read. Where the file ends before, the bytes past its end are 0.
-/// `TooLong` comes before all else and touches nothing; `Disk` comes where the disk failed.
+/// Reads the first `pages` pages of a file, of 4096 bytes each, in one read. Where the file ends before, the bytes past its end
+/// are 0. `TooLong` comes before all else and touches nothing; `Disk` comes where the disk failed.
 pub fn read_image<D: Disk>(alloc: Global, disk: &mut D, pages: u32) -> Result<Vec<u8>, ImageFault>
     ensures image { IfOk result (λ image. IsTrue (D.state disk.old).tells → IsImageOf pages (D.state disk.old).bytes image.items) }
-    // Also of a disk that does not tell its bytes.
+    // The size holds also where the disk does not tell its bytes.
     ensures size { IfOk result (λ image. length image.items ≡ pages * 4096) }
     ensures few { IfOk result (λ _. pages ≤ 262144) }
     ensures cause { IfErr result (HasImageCause pages (D.state disk.old).faults (D.state disk.new).faults) }
@@ -55,7 +55,7 @@ pub fn read_image<D: Disk>(alloc: Global, disk: &mut D, pages: u32) -> Result<Ve
     }
 }
 
-// Reads so many pages from a page on, through a reader of its own.
+// Reads `pages` pages from page `from` on, through a reader of its own.
 fn read_part<D: SharedDisk>(
     alloc: Global,
     disk: &D,
@@ -78,7 +78,7 @@ fn read_part<D: SharedDisk>(
     }
 }
 
-// The parts of a file, of so many pages each, that so many threads read; or None where one of them was not read.
+// Reads a file in parts of `part_pages` pages by `workers` threads. Returns `None` where one of them was not read.
 fn parts_by<R: Threads + Sync, D: SharedDisk>(
     rt: &R,
     alloc: Global,
@@ -95,7 +95,7 @@ fn parts_by<R: Threads + Sync, D: SharedDisk>(
     ensures size { IfOk result (λ found. IfSome found (λ parts. length parts ≡ pages * 4096)) }
 {
     let count = pages.div_ceil(part_pages) as usize;
-    // Each worker fills a place that is made here. Lists that workers made would be freed here, and this thread would take their
+    // Each worker fills a place that is made here. Lists made by workers would be freed here, and this thread would take their
     // memory again: then it and a later worker would wait for one heap.
     let mut tried = Vec::with_capacity(alloc, count)?;
     for _part in 0..count {
@@ -115,7 +115,7 @@ fn parts_by<R: Threads + Sync, D: SharedDisk>(
     }
 }
 
-// A file in one part, of so many pages.
+// Makes a file of `pages` pages in one part.
 fn one_part(alloc: Global, bytes: Vec<u8>, pages: u32) -> Result<Parts, Memory>
     requires { length bytes.items ≤ 4096 * pages }
     ensures { IfOk result (λ parts. parts ≡ bytes.items) }
@@ -125,7 +125,7 @@ fn one_part(alloc: Global, bytes: Vec<u8>, pages: u32) -> Result<Parts, Memory>
     Ok(Parts::new(parts, pages.max(1)))
 }
 
-/// Reads the same bytes by so many threads, 1 to 64, each of which reads a part through a reader of its own. Where one of them
+/// Reads the same bytes by `workers` threads, 1 to 64. Each reads a part through a reader of its own. Where one of them
 /// could not read its part, and where there is one thread, the file is read as `read_image` reads it.
 pub fn read_parts<R: Threads + Sync, D: SharedDisk>(
     rt: &R,
@@ -137,7 +137,7 @@ pub fn read_parts<R: Threads + Sync, D: SharedDisk>(
     requires some_workers { 1 ≤ workers }
     requires few_workers { workers ≤ 64 }
     ensures image { IfOk result (λ parts. IsTrue (D.state disk.old).tells → IsImageOf pages (D.state disk.old).bytes parts) }
-    // Also of a disk that does not tell its bytes.
+    // The size holds also where the disk does not tell its bytes.
     ensures size { IfOk result (λ parts. length parts ≡ pages * 4096) }
     ensures few { IfOk result (λ _. pages ≤ 262144) }
     ensures cause { IfErr result (HasImageCause pages (D.state disk.old).faults (D.state disk.new).faults) }

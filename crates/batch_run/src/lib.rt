@@ -13,5 +13,5 @@ pub use auditing::{audit_image, sound_by_parts};
 pub use batching::batch;
 pub use images::{ImageFault, read_image, read_parts};
 
-/// Want of memory.
+/// The error when memory runs out.
 pub type Memory = std::alloc::AllocError;

@@ -8,7 +8,7 @@ use Rattle.tree_growth.proofs.Published.{nearest_some, length_more}
 use Rattle.bulk_load.specs.Candidates.{NotAfter}
 use Rattle.bulk_load.specs.Hints.{IsHint, AreHints, HaveGrown}
 
--- the one that was found comes no later than x
+-- the group that was found comes no later than x
 abbrev Found : Option (ℕ × ℕ) → ℕ × ℕ → Type 0
 Found o x = (w : ℕ × ℕ) × (o ≡ Some w) × NotAfter w x
 
@@ -103,7 +103,7 @@ module _ (far : Far) (room k : ℕ) where
             f.1 ∙ ap (λ (x : ℕ × ℕ). Some x) (ap (λ (x : ℕ). (x, f.0.1)) mine ∙ ap (λ (j : ℕ). (far k j, j)) same))
       ]
 
--- the same of what may be no hint
+-- like `hint_is`, for an object that may have no hint
 pub hinted : (far : Far) (room k : ℕ) (counts : List ℕ) (hint : Option ℕ) (group : ℕ) → IfSome hint (IsHint far room k counts) → hint ≡ Some group → group < length counts → get_or counts group 0 < room →
     nearest_from far room k 0 None counts ≡ Some (far k group, group)
 hinted far room k counts hint group may is inside free = hint_is far room k counts group (subst (λ (o : Option ℕ). IfSome o (IsHint far room k counts)) is may) inside free

@@ -35,7 +35,7 @@ rows_once l id n = cases (nat_lt id n) refl
     cases true e = among l id 0 n (omega arith) (let low : id < n = grind (arith, nat_tests) in omega (arith, low))
     cases false e = behind l id 0 n (let high : n ≤ id = grind (arith, nat_tests) in omega (arith, high))
 
--- an object with the point and the tag of the row of its id
+-- an object with the point and the tag of the row that its id names
 abbrev pub IsRow : List (List ℕ) → List ℕ → Object → Type 0
 IsRow rows labels o = (o.point ≡ slice_index_or rows o.id []) × (o.tag ≡ slice_index_or labels o.id 0)
 

@@ -39,7 +39,7 @@ module _ (s : Space) (centers : List (List ℕ)) where
       row_at (λ c. map (s.dist c) centers) (length centers) (λ c. length_map (s.dist c) centers) centers i j first second
       ∙ get_or-map (s.dist (get_or centers i [])) centers j [] 0 second
 
--- the distances of one object to centres that are so far apart
+-- the distances of one object to centres, with `apart` as the distances between the centres
 module _ (s : Space) (object : List ℕ) (centers : List (List ℕ)) (apart row : List ℕ) (are : AreMeasurable s (object ∷ []) centers apart) (is : map (s.dist object) centers ≡ row)
     (i j : ℕ) (first : i < length row) (second : j < length row) where
   long : length row ≡ length centers
@@ -71,7 +71,7 @@ points_fit s rows set fit places i d low =
     let inside : i < length set = subst (λ (n : ℕ). i < n) (length_map (λ k. get_or rows k []) set) low in
     subst (λ (p : List ℕ). IsTrue (s.fits p)) (sym (get_or-map (λ k. get_or rows k []) set i 0 d inside)) (fit (get_or set i 0) [] (places i 0 inside))
 
--- the points of seeds do, which are places of a set
+-- the points of seeds fit, which are places of a set
 pub centers_fit : (s : Space) (rows : List (List ℕ)) (set seeds : List ℕ) → All (λ p. IsTrue (s.fits p)) rows → All (λ k. k < length rows) set → All (λ k. k < length set) seeds →
     All (λ p. IsTrue (s.fits p)) (points_of (points_of rows set) seeds)
 centers_fit s rows set seeds fit places inside =

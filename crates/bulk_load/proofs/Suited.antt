@@ -47,7 +47,7 @@ places_ascend : (k n : ℕ) → Ascends k (places_from k n)
 places_ascend k zero = tt
 places_ascend k (suc n) = (omega arith, places_ascend (k + 1) n)
 
--- the groups of a set, each of which can be built, are two or more, and not too many for a node
+-- each group of a set can be built, and there are two groups or more, and not too many for a node
 pub record GroupsFit (l : Load) (is_root : Bool) (h : ℕ) (set : List ℕ) : Type 0 where
   pub each : AllByRecursion (IsGroupFor l h) (groups_at l is_root (suc h) set)
   pub two : 2 ≤ length (groups_at l is_root (suc h) set)
@@ -203,7 +203,7 @@ module _ (l : Load) (space : IsSpace l.space) (lawful : IsLawfulLoad l) where
       let c = pow-suc 2 (suc (h + h)) in
       let d = pow-suc 2 (h + h) in omega (arith, ih, a, m, b, c, d)
 
-  -- no tree of so many rows is higher
+  -- no tree of at most 2^24 rows is higher than 12
   pub height_low : length l.points ≤ 2 ^ 24 → height_of l.most (length l.points) ≤ 12
   height_low few = elim height_fits.1 [
     | inl none ↦ omega (arith, none)

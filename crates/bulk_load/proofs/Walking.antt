@@ -163,7 +163,7 @@ one_received : (far : Far) (least a need next : ℕ) (ps : List Member) (b : ℕ
 one_received far least a need next ps b e found =
     ap (λ (k : ℕ). received far least a k ps) e ∙ ap (λ (o : Option (ℕ × ℕ)). received far least a next (moved_to a o ps)) found
 
--- where the walk over the sorted candidates stands: `rest` of them are left, and the members were `first` at its begin
+-- where the walk over the sorted candidates stands: `rest` of them are left, and `first` were the members at its begin
 pub record Walk (far : Far) (least a : ℕ) (first ps : List Member) (rest : List (ℕ × ℕ)) : Type 0 where
   pub few : in_group a ps ≤ least
   pub same : received far least a (least - in_group a ps) ps ≡ received far least a (least - in_group a first) first
@@ -247,7 +247,7 @@ walk_moves far least a first ps b rest w short may = record {
           | inr i ↦ all_in (NotAfter b) rest (far j a, j) w.rise.0 i
         ]))
 
-    -- whoever is a candidate now was one before
+    -- every candidate of now was a candidate before
     was : (p : Member) → is_candidate least new p ≡ true → is_candidate least ps p ≡ true
     was p c = cases (p.group == a) refl (in_group-set p.group b.1 ps (member_of a) nobody inside) (more_than least new p c)
       where

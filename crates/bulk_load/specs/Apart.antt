@@ -15,12 +15,12 @@ use Rattle.bulk_load.specs.Postorder.{group_entry, nodes_at}
 abbrev pub apart : ℕ → ℕ
 apart = number_at [] 0
 
--- a group's entry, but for its child, and the nodes of its subtree, whose root is of this level
+-- a group's entry, but for its child, and the nodes of its subtree, whose root is of level `h`
 pub record IsMadeOf (l : Load) (seed : Option ℕ) (h : ℕ) (g : Group) (made : Made) : Type 0 where
   pub entry : made.entry ≡ group_entry l seed g 0
   pub nodes : made.nodes.items ≡ nodes_at l apart h (Some g.seed) g.members 0
 
--- each group's, in their order, or want of memory
+-- what is made of each group, in order; or memory ran out
 abbrev pub AreMadeOf : Load → Option ℕ → ℕ → List Group → List (Result Made AllocError) → Type 0
 AreMadeOf l seed h [] [] = Unit {0}
 AreMadeOf l seed h (g ∷ gs) (Ok made ∷ parts) = IsMadeOf l seed h g made × AreMadeOf l seed h gs parts

@@ -3,7 +3,7 @@ use Rattle.std.specs.Prelude.{◌≡◌, ℕ, ◌+◌, ◌≤◌, Bool, List, []
 use Rattle.tree_growth.specs.declared.rules.Member.{Member}
 use Rattle.tree_growth.specs.Groups.{Far, in_group, is_candidate}
 
--- the counts are those of the groups
+-- the counts are those of the groups' members
 abbrev pub AreCounts : List ℕ → List Member → Type 0
 AreCounts counts all = (group : ℕ) → slice_index counts group ≡ in_group group all
 

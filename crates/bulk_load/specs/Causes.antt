@@ -11,8 +11,7 @@ use Rattle.bulk_load.specs.Postorder.{subtrees_of}
 abbrev pub node_count : Space → List (List ℕ) → List ℕ → ℕ
 node_count s rows labels = length (subtrees_of (built s rows labels))
 
--- there is no further generation, or the nodes that get none of the numbers need more pages than a file may have, or memory
--- ran out
+-- there is no further generation, or the nodes that get none of `numbers` need more pages than a file may have, or memory ran out
 abbrev pub HasBuildCause : Space → List (List ℕ) → List ℕ → List ℕ → Live → BuildFault → Type 0
 HasBuildCause s rows labels numbers t (NoRoom pages needed) =
     (t.generation ≢ 2 ^ 48 - 1) × (pages ≡ t.pages) × (needed ≡ node_count s rows labels - length numbers) × (2 ^ 24 < pages + needed)

@@ -5,7 +5,7 @@ use Rattle.tree_shape.specs.declared.filling.Bounds.{Bounds}
 use Rattle.tree_growth.specs.Bulk.{Load}
 use Rattle.tree_shape.specs.Fill.{most_for, least_for}
 
--- these are the bounds of nodes over points of some dimension
+-- `fill` has the bounds of nodes over points of some dimension
 pub record IsFill (fill : Bounds) : Type 0 where
   pub dim : ℕ
   pub some : 1 ≤ dim
@@ -19,6 +19,6 @@ pub record IsSized (fill : Bounds) (is_root : Bool) (h n : ℕ) : Type 0 where
   pub enough : is_root ≡ false → fill.least ^ (h + 1) ≤ n
   pub at_most : n ≤ fill.most ^ (h + 1)
 
--- what is loaded: these points with their tags, into nodes of these bounds
+-- what is loaded: points with their tags, into nodes of the bounds
 abbrev pub load_of : Space → List (List ℕ) → List ℕ → Bounds → Load
 load_of s points tags fill = record { space = s; points = points; tags = tags; most = fill.most; least = fill.least }

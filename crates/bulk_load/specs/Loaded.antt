@@ -21,9 +21,9 @@ Stand staged nodes = AllByRecursion (λ s. nodes s.page ≡ Some s.node) staged
 abbrev pub LeavesOld : Nodes → Live → Placed → Nodes → Type 0
 LeavesOld old t placed new = (page : ℕ) → IsIn page placed.left ↔ (IsIn page (live_pages old t) × (IsIn page (live_pages new placed.next) → ⊥))
 
--- nodes among which the staged ones stand have the tree of the rows and of nothing else, it is sound, its subtrees were staged
--- children first, and its pages are the staged ones; of a sound old tree that none of the numbers lies in, exactly the pages that are not in the new one
--- are left
+-- Nodes that hold the staged ones have the tree of the rows and of nothing else. The tree is sound, its subtrees were staged children
+-- first, and its pages are the staged ones. For every sound old tree that none of `numbers` lies in, exactly its pages that are not
+-- in the new tree are left.
 pub record HasLoaded (s : Space) (rows : List (List ℕ)) (labels : List ℕ) (t : Live) (numbers : List ℕ) (placed : Placed) (new : Nodes) : Type 0 where
   pub tree : tree_of new placed.next ≡ built s rows labels
   pub sound : IsSoundTree s new placed.next

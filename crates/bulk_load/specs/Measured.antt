@@ -4,12 +4,12 @@ use Rattle.std.specs.List.{flat_map}
 use Rattle.metric_laws.specs.Space.{Space}
 use Rattle.tree_growth.specs.Bulk.{row_of}
 
--- a row for each object, with a distance to each of the seeds, which are `width` many
+-- a row for each object, with `width` distances, one to each seed
 pub record Measured : Type 0 where
   pub width : ℕ
   pub table : List (List ℕ)
 
--- the points of a set, which holds places of the rows; or of seeds, which are places of a set's points
+-- the points of a set of places of the rows; or of seeds that are places of a set's points
 abbrev pub points_of : List (List ℕ) → List ℕ → List (List ℕ)
 points_of rows set = map (λ k. slice_index_or rows k []) set
 
@@ -21,11 +21,11 @@ measured_to s points centers = record { width = length centers; table = map (λ 
 abbrev pub measured : Space → List (List ℕ) → List ℕ → Measured
 measured s points seeds = record { width = length seeds; table = map (row_of s points seeds) points }
 
--- how far centres are apart: the distances of the first to all, of the second to all, and so on
+-- the distances between centres: those of the first to all, of the second to all, and so on
 abbrev pub all_apart : Space → List (List ℕ) → List ℕ
 all_apart s centers = flat_map (λ c. map (s.dist c) centers) centers
 
--- objects and centres are points of the space, and the centres are so far apart
+-- objects and centres are points of the space, and `apart` has the distances between the centres
 pub record AreMeasurable (s : Space) (objects centers : List (List ℕ)) (apart : List ℕ) : Type 0 where
   pub objects_fit : All (λ p. IsTrue (s.fits p)) objects
   pub centers_fit : All (λ p. IsTrue (s.fits p)) centers

@@ -37,7 +37,7 @@ leaf_entry l seed k = record {
   point = point_of l k;
 }
 
--- the entry of a group, whose node stands on this page, in the node of a seed's set
+-- the entry of a group, whose node stands on a page, in the node of a seed's set
 abbrev pub group_entry : Load → Option ℕ → Group → ℕ → InnerEntry
 group_entry l seed g page =
     record {
@@ -47,7 +47,7 @@ group_entry l seed g page =
       point = point_of l g.seed;
     }
 
--- the number of the last of so many nodes from a place on
+-- the number of the last of the nodes `ns`, which begin at place `i`
 abbrev pub last_of : (ℕ → ℕ) → ℕ → List Node → ℕ
 last_of number i ns = number (i + length ns - 1)
 

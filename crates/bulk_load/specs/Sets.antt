@@ -34,7 +34,7 @@ pub record IsLawfulLoad (l : Load) : Type 0 where
   pub most : l.most ≡ most_for l.space.words
   pub least : l.least ≡ least_for l.space.words
 
--- a set of rows, in order, of a size that a node of this level can hold
+-- a set of rows, in order, of a size that a node of level `h` can hold
 pub record IsSetFor (l : Load) (is_root : Bool) (h : ℕ) (set : List ℕ) : Type 0 where
   pub places : AllByRecursion (λ k. k < length l.points) set
   pub ascends : Ascends 0 set
@@ -43,6 +43,6 @@ pub record IsSetFor (l : Load) (is_root : Bool) (h : ℕ) (set : List ℕ) : Typ
   pub enough : is_root ≡ false → l.least ^ (h + 1) ≤ length set
   pub at_most : length set ≤ l.most ^ (h + 1)
 
--- a group whose subtree's root is of this level
+-- a group whose subtree's root is of level `h`
 abbrev pub IsGroupFor : Load → ℕ → Group → Type 0
 IsGroupFor l h g = (g.seed < length l.points) × IsSetFor l false h g.members

@@ -24,7 +24,7 @@ use std::alloc::Global;
 use std::thread::Threads;
 use tree_shape::{LAST_GENERATION, Live, fill};
 
-// The least height of a tree that has room for so many objects.
+// Returns the least height of a tree with room for `count` objects, at most `most` entries to a node.
 fn height_for(most: usize, count: usize) -> u32
     requires most { (2 ≤ most) × (most ≤ 32) }
     requires count { count ≤ 2 ^ 24 }
@@ -39,7 +39,7 @@ fn height_for(most: usize, count: usize) -> u32
     height
 }
 
-// The places of so many rows.
+// Returns the places of `count` rows.
 fn all_places(alloc: Global, count: usize) -> Result<Vec<u32>, Memory>
     requires { count < 2 ^ 32 }
     ensures { IfOk result (λ places. places.items ≡ places_from 0 count) }
@@ -51,7 +51,7 @@ fn all_places(alloc: Global, count: usize) -> Result<Vec<u32>, Memory>
     Ok(places)
 }
 
-// The tree of all rows, in place of one that has no objects.
+// Makes the tree of all rows, in place of one that has no objects.
 fn new_tree<R: Threads + Sync, M: Metric>(
     rt: &R,
     alloc: Global,
@@ -87,9 +87,9 @@ fn new_tree<R: Threads + Sync, M: Metric>(
     })
 }
 
-/// Loads rows with their tags into an index that has no objects, and gives the nodes of their tree, for a commit. Row i gets
-/// the id i. The rows alone settle the tree: any number of workers gives the same. New nodes get the pages `numbers`, in
-/// order, and then those from the file's end on; children are numbered before their parent, in order of groups.
+/// Makes the nodes of the tree of `rows` with `tags`, for a commit to an index that has no objects. Row i gets the id i. The rows
+/// alone settle the tree: any number of workers gives the same. New nodes get the pages `numbers`, in order, and then those from
+/// the file's end on. Children are numbered before their parent, in order of groups.
 pub fn build<R: Threads + Sync, M: Metric>(
     rt: &R,
     alloc: Global,
@@ -118,7 +118,7 @@ pub fn build<R: Threads + Sync, M: Metric>(
     ensures apart { IfOk result (λ placed. (old : Nodes) → IsSoundTree (M.space metric) old live.now →
         AreOutside old live.now numbers.now → AreOutside old live.now (pages_of placed.staged)) }
 
-    // It is a tree by itself, and the old root is left.
+    // What is placed is a tree by itself, and the old root is left.
     ensures by_itself { IfOk result StandsByItself }
     ensures left { IfOk result (λ placed. placed.left ≡ live.now.root ∷ []) }
 
@@ -126,7 +126,7 @@ pub fn build<R: Threads + Sync, M: Metric>(
     ensures loaded { IfOk result (λ placed. (new : Nodes) → Stand placed.staged new →
         HasLoaded (M.space metric) rows.now.points tags.now live.now numbers.now placed new) }
 
-    // When it is refused.
+    // Why it is refused.
     ensures worn { (result ≡ Err BuildFault.Worn) ↔ (live.now.generation ≡ 2 ^ 48 - 1) }
     ensures cause { IfErr result (HasBuildCause (M.space metric) rows.now.points tags.now numbers.now live.now) }
 {

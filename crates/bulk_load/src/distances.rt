@@ -9,7 +9,7 @@ use metric_laws::{Memory, Metric, Point, Rows};
 use std::alloc::Global;
 use std::marker::Model;
 
-/// The points of seeds, which are places of a set of rows.
+/// Returns the points of `seeds`, which are places of `set`, a set of rows.
 pub fn centers_at(
     alloc: Global,
     rows: &Rows,
@@ -28,7 +28,7 @@ pub fn centers_at(
     Ok(centers)
 }
 
-// Adds a seed's distances to all seeds.
+// Appends the distances from one seed to all seeds.
 fn add_distances<M: Metric>(
     metric: M,
     from: &[u32],
@@ -43,7 +43,7 @@ fn add_distances<M: Metric>(
     Ok(())
 }
 
-/// How far the points of seeds are apart: the distances of the first to all, of the second to all, and so on.
+/// Returns the distances between `centers`: those of the first to all, of the second to all, and so on.
 pub fn mutual_distances<M: Metric>(
     alloc: Global,
     metric: M,
@@ -58,8 +58,8 @@ pub fn mutual_distances<M: Metric>(
     Ok(apart)
 }
 
-// The nearer of a seed at this distance and the nearest so far, as a distance and a number. Of two as near the nearest so far
-// stays.
+// Returns the nearer of seed `number` at `distance` and the nearest so far, `best`, as a distance and a number. `best` stays where
+// both are as near.
 fn nearer(distance: u64, number: usize, best: Option<(u64, usize)>) -> Option<(u64, usize)>
     ensures { result ≡ nearer_of true distance number best }
 {
@@ -90,7 +90,7 @@ impl<'a, M: Metric> Model for Row<'a, M> {
 }
 
 impl<'a, M: Metric> Row<'a, M> {
-    /// How far the object is from a group's seed.
+    /// Returns the distance of the object to the seed of `group`.
     pub fn far(&self, group: usize) -> u64
         requires { group < length self.now }
         ensures { result ≡ slice_index self.now group }
@@ -99,7 +99,7 @@ impl<'a, M: Metric> Row<'a, M> {
             .dist(self.object, self.centers[group].as_slice())
     }
 
-    // How far the seeds of two groups are apart, which is no more than by way of the object.
+    // Returns the distance between the seeds of two groups. It is no more than by way of the object.
     fn apart(&self, first: usize, second: usize) -> u64
         requires first { first < length self.now }
         requires second { second < length self.now }
@@ -108,9 +108,9 @@ impl<'a, M: Metric> Row<'a, M> {
         self.apart[first * self.centers.len() + second]
     }
 
-    /// The nearer of two seeds: the nearest so far, as its distance and its group, which stays where both are as near, and that of
-    /// another group. The other's distance is not computed where the seeds are at least twice as far apart as the object is from
-    /// the nearest so far: by the triangle inequality it is no less.
+    /// Returns the nearer of two seeds: the nearest so far, `best`, as its distance and its group, and that of `group`. `best` stays
+    /// where both are as near. The distance to the seed of `group` is not computed where the seeds are at least twice as far apart
+    /// as the object is from the nearest so far: by the triangle inequality it is no less.
     pub fn nearer(&self, best: Option<(u64, usize)>, group: usize) -> Option<(u64, usize)>
         requires group { group < length self.now }
         requires best { IfSome best (λ b. (b.1 < length self.now) × (b.0 ≡ slice_index self.now b.1)) }
@@ -147,7 +147,8 @@ impl<'a, M: Metric> Model for Distances<'a, M> {
 }
 
 impl<'a, M: Metric> Distances<'a, M> {
-    /// The distances of a set, which holds places of the rows, to the points of its seeds, which are so far apart.
+    /// Makes the distances of `set`, places of `rows`, to `centers`, the points of its seeds, with `apart` as the distances between
+    /// them.
     pub fn new(
         metric: M,
         rows: &'a Rows,
@@ -168,21 +169,21 @@ impl<'a, M: Metric> Distances<'a, M> {
         }
     }
 
-    /// The number of objects.
+    /// Returns the number of objects.
     pub fn objects(&self) -> usize
         ensures { result ≡ length self.now.table }
     {
         self.set.len()
     }
 
-    /// The number of seeds.
+    /// Returns the number of seeds.
     pub fn seeds(&self) -> usize
         ensures { result ≡ self.now.width }
     {
         self.centers.len()
     }
 
-    /// The distances of the object at a place.
+    /// Returns the distances of the object at `place`.
     pub fn of(&self, place: usize) -> Row<'_, M>
         requires { place < length self.now.table }
         ensures row { result ≡ slice_index_or self.now.table place [] }
@@ -196,7 +197,7 @@ impl<'a, M: Metric> Distances<'a, M> {
         }
     }
 
-    /// How far the object at a place is from a group's seed.
+    /// Returns the distance of the object at `place` to the seed of `group`.
     pub fn far(&self, place: usize, group: usize) -> u64
         requires place { place < length self.now.table }
         requires group { group < self.now.width }

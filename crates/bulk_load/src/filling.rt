@@ -10,7 +10,7 @@ use metric_laws::{Memory, Metric};
 use std::alloc::Global;
 use tree_growth::Member;
 
-/// How many objects each of so many groups has.
+/// Counts the objects of each of `groups` groups.
 #[tactic(auto, using(crate::proofs::Received::in_group_more, crate::proofs::Received::in_group_few))]
 fn tally(alloc: Global, placed: &[Member], groups: usize) -> Result<Vec<usize>, Memory>
     requires { All (λ p. p.group < groups) placed.now }
@@ -24,7 +24,7 @@ fn tally(alloc: Global, placed: &[Member], groups: usize) -> Result<Vec<usize>, 
     Ok(counts)
 }
 
-// Whether the object at a place may leave its group for a small one.
+// Returns whether the object at `place` may leave its group for a small one.
 fn may_leave(least: usize, placed: &[Member], counts: &[usize], place: usize) -> bool
     requires place { place < length placed.now }
     requires groups { All (λ p. p.group < length counts.now) placed.now }
@@ -35,7 +35,7 @@ fn may_leave(least: usize, placed: &[Member], counts: &[usize], place: usize) ->
     !member.is_seed && least < counts[member.group as usize]
 }
 
-// The objects that a group may receive, as their distances from its seed and their places, nearest first.
+// Returns the objects that `group` may receive, as their distances from its seed and their places, nearest first.
 fn candidates<M: Metric>(
     alloc: Global,
     distances: &Distances<'_, M>,
@@ -61,7 +61,7 @@ fn candidates<M: Metric>(
     Ok(near)
 }
 
-// Moves the object at a place to a group where it may leave its own.
+// Moves the object at `place` to `group`, where it may leave its own.
 fn move_over(least: usize, group: usize, place: usize, placed: &mut [Member], counts: &mut [usize])
     requires group { (group < length counts.old) × (length counts.old ≤ 64) }
     requires place { place < length placed.old }

@@ -16,7 +16,7 @@ use std::thread::Threads;
 use tree_growth::{Group, Member};
 use tree_shape::Bounds;
 
-// So many lists of members, all empty.
+// Makes `number` empty lists of members.
 fn empty_lists(alloc: Global, number: usize) -> Result<Vec<Vec<u32>>, Memory>
     ensures { IfOk result (λ v. lists_in v.items ≡ replicate number []) }
 {
@@ -27,7 +27,7 @@ fn empty_lists(alloc: Global, number: usize) -> Result<Vec<Vec<u32>>, Memory>
     Ok(lists)
 }
 
-// Puts a row at the end of the list of a group.
+// Appends `row` to the list of `group`.
 fn add_member(lists: &mut Vec<Vec<u32>>, group: usize, row: u32) -> Result<(), Memory>
     requires { group < vec_len lists.old }
     ensures { OnOk result (lists_in lists.new.items ≡ slice_set (lists_in lists.old.items) group
@@ -37,7 +37,7 @@ fn add_member(lists: &mut Vec<Vec<u32>>, group: usize, row: u32) -> Result<(), M
     Ok(())
 }
 
-// The members of each of so many groups, by one pass over the objects.
+// Lists the members of each of `groups` groups, by one pass over the objects.
 fn member_lists(
     alloc: Global,
     groups: usize,
@@ -56,7 +56,7 @@ fn member_lists(
     Ok(lists)
 }
 
-// The groups of seeds, by their places in the set, with a list of members for each.
+// Makes the groups of `seeds`, which are places of `set`, each with its list of members.
 fn with_seeds(
     alloc: Global,
     seeds: &[u32],
@@ -76,7 +76,7 @@ fn with_seeds(
     Ok(groups)
 }
 
-// The groups, by their seeds' places in the set.
+// Makes the groups of `seeds`, which are places of `set`, from the group of each object.
 fn groups_of(
     alloc: Global,
     seeds: &[u32],
@@ -92,7 +92,7 @@ fn groups_of(
     with_seeds(alloc, seeds, set, lists)
 }
 
-// The group of each object, where each of the groups has `least` objects or more.
+// Returns the group of each object, where each group has at least `least` objects.
 fn parted<R: Threads + Sync, M: Metric>(
     rt: &R,
     alloc: Global,
@@ -113,8 +113,8 @@ fn parted<R: Threads + Sync, M: Metric>(
     Ok(placed)
 }
 
-/// The groups of a set that make the entries of a node at a level above 0. The set holds places of the rows, and so do the
-/// groups. Only want of memory refuses.
+/// Returns the groups of `set` that make the entries of a node at a level above 0. The set and the groups hold places of the rows.
+/// Fails only out of memory.
 pub fn groups<R: Threads + Sync, M: Metric>(
     rt: &R,
     alloc: Global,

@@ -14,7 +14,7 @@ use std::thread::Threads;
 /// are, the more hints are out of date when their turn comes.
 const BLOCK: usize = 16384;
 
-// The number of the nearest group that has room for the object at a place, where one has.
+// Returns the number of the nearest group that has room for the object at `place`, if one has.
 fn hint_for<M: Metric>(placing: &Placing<'_, M>, counts: &[usize], place: usize) -> Option<u32>
     requires place { place < length placing.now.distances.now.table }
     requires width { placing.now.distances.now.width ≤ 64 }
@@ -27,7 +27,7 @@ fn hint_for<M: Metric>(placing: &Placing<'_, M>, counts: &[usize], place: usize)
     }
 }
 
-/// Hints for the objects of one block, from a place on.
+/// Hints for the objects of one block.
 #[derive(Drop)]
 pub struct Hints {
     pub first: usize,
@@ -35,7 +35,7 @@ pub struct Hints {
 }
 
 impl Hints {
-    /// No hints.
+    /// Makes no hints.
     pub fn none(alloc: Global) -> Self
         ensures { (far : Far) (room : ℕ) (counts : List ℕ) → AreHints far room result.first counts result.groups.items }
     {
@@ -45,8 +45,8 @@ impl Hints {
         }
     }
 
-    /// Has several workers look at the objects of the block that begins at a place, where the groups have so many objects.
-    /// Between the beginnings of blocks there is nothing to do, and for one worker never.
+    /// Has several workers look at the objects of the block that begins at `place`, where the groups have `counts` objects. Does
+    /// nothing where no block begins at `place`, and nothing for one worker.
     #[tactic(auto, using(crate::proofs::Ahead::hints_are))]
     pub fn look_ahead<R: Threads + Sync, M: Metric>(
         &mut self,
@@ -77,7 +77,7 @@ impl Hints {
         Ok(())
     }
 
-    /// What is known of the object at a place.
+    /// Returns the hint for the object at `place`, if there is one.
     #[tactic(auto, using(crate::proofs::Ahead::hint_at))]
     pub fn at(&self, place: usize) -> Option<u32>
         ensures { (far : Far) (room : ℕ) (counts : List ℕ) → AreHints far room self.now.first counts self.now.groups.items →

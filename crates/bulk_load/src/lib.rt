@@ -1,5 +1,5 @@
-//! Bulk loading, by this project's own procedure: how all objects are parted into groups, and each group again, down to the
-//! leaves, and the tree of nodes that this makes.
+//! Bulk loading, by this project's own procedure: parting all objects into groups, and each group again, down to the leaves, and
+//! the tree of nodes that this makes.
 #![tactic(auto)]
 
 mod building;

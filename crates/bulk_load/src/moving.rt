@@ -9,7 +9,7 @@ use metric_laws::{Listed, Memory};
 use page_store::Numbering;
 use tree_shape::{InnerEntry, Node};
 
-// Gives an entry's child its page, where the children's numbers begin at a place of all nodes.
+// Gives the child of `entry` its page, where the children's numbers begin at place `first` of all nodes.
 fn move_child(numbering: &Numbering<'_>, first: usize, entry: &mut InnerEntry)
     requires pages { numbering.now.first ≤ 2 ^ 24 }
     requires child { first + entry.old.child ≤ 2 ^ 26 }
@@ -18,7 +18,7 @@ fn move_child(numbering: &Numbering<'_>, first: usize, entry: &mut InnerEntry)
     entry.child = numbering.page_at(first + entry.child as usize);
 }
 
-// Gives the children of entries their pages, where the children's numbers begin at a place of all nodes.
+// Gives the children of `entries` their pages, where the children's numbers begin at place `first` of all nodes.
 fn move_children(numbering: &Numbering<'_>, first: usize, entries: &mut [InnerEntry])
     requires pages { numbering.now.first ≤ 2 ^ 24 }
     requires children { AllByRecursion (λ e. first + e.child ≤ 2 ^ 26) entries.old }
@@ -29,7 +29,7 @@ fn move_children(numbering: &Numbering<'_>, first: usize, entries: &mut [InnerEn
     }
 }
 
-// The node with its children's pages, where the children's numbers begin at a place of all nodes.
+// Returns `node` with its children's pages, where the children's numbers begin at place `first` of all nodes.
 fn moved(numbering: &Numbering<'_>, first: usize, many: usize, node: Node) -> Node
     requires pages { numbering.now.first ≤ 2 ^ 24 }
     requires few { first + many ≤ 2 ^ 26 }
@@ -49,7 +49,7 @@ fn moved(numbering: &Numbering<'_>, first: usize, many: usize, node: Node) -> No
     }
 }
 
-/// Adds nodes that were numbered from 0 after the others, each child with its page, and gives the page of the last one.
+/// Appends the nodes `below`, numbered from 0, to `nodes`, gives each child its page, and returns the page of the last node.
 pub fn add_nodes(
     numbering: &Numbering<'_>,
     below: Vec<Node>,

@@ -25,7 +25,7 @@ pub struct Placing<'a, M: Metric> {
     pub workers: usize,
 }
 
-/// The number of groups of a set of so many objects, where a group has at most `room`.
+/// Returns the number of groups of a set of `objects` objects, where a group has at most `room`.
 pub fn group_number(fill: &Bounds, is_root: bool, room: usize, objects: usize) -> usize
     requires room { 0 < room }
     requires few { objects < 2 ^ 32 }
@@ -39,7 +39,7 @@ pub fn group_number(fill: &Bounds, is_root: bool, room: usize, objects: usize) -
     }
 }
 
-/// Where the seeds of so many groups stand in a set of so many objects.
+/// Returns the places of the seeds of `groups` groups in a set of `objects` objects.
 #[tactic(auto, using(crate::proofs::Steps::seed_low))]
 pub fn seed_places(alloc: Global, objects: usize, groups: usize) -> Result<Vec<u32>, Memory>
     requires objects { (0 < objects) × (objects < 2 ^ 32) }
@@ -55,7 +55,7 @@ pub fn seed_places(alloc: Global, objects: usize, groups: usize) -> Result<Vec<u
     Ok(places)
 }
 
-/// The nearest group that has room for the object at a place, and how far its seed is.
+/// Returns the distance and the number of the nearest group that has room for the object at `place`.
 pub fn nearest<M: Metric>(
     distances: &Distances<'_, M>,
     place: usize,
@@ -78,7 +78,7 @@ pub fn nearest<M: Metric>(
     best
 }
 
-// The group of a hint, if it still has room.
+// Returns the group of `hint`, if it still has room.
 fn with_room(hint: Option<u32>, room: usize, counts: &[usize]) -> Option<usize>
     ensures { IfSome result (λ group. (hint ≡ Some group) × (group < length counts.now) × (slice_index counts.now group < room)) }
 {
@@ -90,7 +90,7 @@ fn with_room(hint: Option<u32>, room: usize, counts: &[usize]) -> Option<usize>
     }
 }
 
-// The group for the object at a place: that of the hint while it has room, and else the nearest that has.
+// Returns the group for the object at `place`: that of `hint` while it has room, and else the nearest that has.
 #[tactic(auto, using(crate::proofs::Ahead::hinted))]
 fn group_for<M: Metric>(
     placing: &Placing<'_, M>,
@@ -115,7 +115,7 @@ fn group_for<M: Metric>(
     }
 }
 
-// Chooses a group with room for the object at a place, and counts it there.
+// Chooses a group with room for the object at `place`, and counts it there.
 fn choose<M: Metric>(
     placing: &Placing<'_, M>,
     place: usize,
@@ -139,7 +139,7 @@ fn choose<M: Metric>(
     }
 }
 
-// Where the object at a place goes, and how many seeds are before the next place, where so many are before this one.
+// Returns where the object at `place` goes, and how many seeds are before the next place; `before` seeds are before this one.
 #[tactic(auto, using(crate::proofs::Steps::seed_step, crate::proofs::Steps::member_step))]
 fn place_one<M: Metric>(
     placing: &Placing<'_, M>,
@@ -184,7 +184,7 @@ fn place_one<M: Metric>(
     }
 }
 
-/// The group of each object, before small groups are filled up. Several workers look ahead for each block of objects; one
+/// Returns the group of each object, before small groups are filled up. Several workers look ahead for each block of objects; one
 /// alone has nothing to look ahead for.
 #[tactic(auto, using(crate::proofs::Ahead::hints_grow))]
 pub fn place_all<R: Threads + Sync, M: Metric>(

@@ -1,4 +1,4 @@
-//! The tree of all rows, of which several workers make the subtrees of the root's groups apart from one another.
+//! The tree of all rows. Several workers make the subtrees of the root's groups apart from one another.
 
 ghost use Rattle.std.specs.Prelude.{◌≡◌, ℕ, ◌+◌, ◌-◌, ◌≤◌, ◌<◌, ◌^◌, ◌++◌, All, IfSome, Some, length, slice_index_or, IfOk, OnOk};
 ghost use Rattle.tree_growth.specs.Bulk.{groups_at};
@@ -25,7 +25,7 @@ pub struct Made {
     pub nodes: Vec<Node>,
 }
 
-// What one worker makes of a group of a set.
+// Makes one worker's part: the entry and the nodes of `group`.
 fn made_of<R: Threads + Sync, M: Metric>(
     rt: &R,
     alloc: Global,
@@ -62,7 +62,7 @@ fn made_of<R: Threads + Sync, M: Metric>(
     Ok(Made { entry, nodes })
 }
 
-// What the workers make of a set's groups.
+// Makes the parts of all `groups` of `set`, by several workers.
 #[tactic(auto, using(crate::proofs::Moved::all_made))]
 fn all_made<R: Threads + Sync, M: Metric>(
     rt: &R,
@@ -93,7 +93,7 @@ fn all_made<R: Threads + Sync, M: Metric>(
     share(rt, alloc, groups.len(), loading.workers, &work)
 }
 
-/// Adds the nodes of a set's tree as `add_subtree` does, by as many workers as the load has.
+/// Appends the nodes of the tree of `set` as `add_subtree` does, by as many workers as the load has.
 pub fn add_tree<R: Threads + Sync, M: Metric>(
     rt: &R,
     alloc: Global,

@@ -16,7 +16,7 @@ use std::thread::Threads;
 use tree_growth::Group;
 use tree_shape::{Bounds, InnerEntry, LeafEntry, Node};
 
-/// What a load goes by.
+/// What a load works with.
 #[derive(Clone, Copy)]
 pub struct Loading<'a, M: Metric> {
     pub metric: M,
@@ -42,7 +42,7 @@ pub struct Set<'a> {
     pub places: &'a [u32],
 }
 
-// The distance that is stored beside a point.
+// Returns the parent distance of `p`: its distance to the point of `seed`, and 0 without a seed.
 fn parent_of<M: Metric>(loading: &Loading<'_, M>, seed: Option<u32>, p: &[u32]) -> u64
     requires seed { IfSome seed (λ k. k < length loading.now.rows.now.points) }
     ensures { result ≡ parent_distance (M.space loading.now.metric) (seed_point (load_by (M.space loading.now.metric) loading.now) seed) p.now }
@@ -53,7 +53,7 @@ fn parent_of<M: Metric>(loading: &Loading<'_, M>, seed: Option<u32>, p: &[u32]) 
     }
 }
 
-// The entry of a row in a leaf.
+// Makes the entry of `row` in a leaf.
 fn leaf_entry_of<M: Metric>(
     alloc: Global,
     loading: &Loading<'_, M>,
@@ -76,7 +76,7 @@ fn leaf_entry_of<M: Metric>(
     })
 }
 
-// The entries of a leaf.
+// Makes the entries of a leaf.
 fn leaf_entries<M: Metric>(
     alloc: Global,
     loading: &Loading<'_, M>,
@@ -95,7 +95,7 @@ fn leaf_entries<M: Metric>(
     Ok(entries)
 }
 
-// The greatest distance of a row's point to a seed's.
+// Returns the greatest distance of a member's point to the point of `seed`.
 fn radius<M: Metric>(loading: &Loading<'_, M>, seed: u32, members: &[u32]) -> u64
     requires seed { seed < length loading.now.rows.now.points }
     requires members { All (λ k. k < length loading.now.rows.now.points) members.now }
@@ -112,7 +112,7 @@ fn radius<M: Metric>(loading: &Loading<'_, M>, seed: u32, members: &[u32]) -> u6
     greatest
 }
 
-/// The entry of a group, the root of whose subtree stands on a page.
+/// Makes the entry of `group`, where the root of its subtree stands on `page`.
 pub fn group_entry_of<M: Metric>(
     alloc: Global,
     loading: &Loading<'_, M>,
@@ -137,7 +137,7 @@ pub fn group_entry_of<M: Metric>(
     })
 }
 
-// Adds a node after the others, and gives its page.
+// Appends `node` to `nodes`, and returns its page.
 fn push_node<M: Metric>(
     loading: &Loading<'_, M>,
     node: Node,
@@ -153,7 +153,7 @@ fn push_node<M: Metric>(
     Ok(page)
 }
 
-/// Adds the node of a set above level 0 after the others, and gives its page.
+/// Appends the node of a set above level 0 to `nodes`, and returns its page.
 pub fn push_inner<M: Metric>(
     loading: &Loading<'_, M>,
     level: u32,
@@ -173,7 +173,7 @@ pub fn push_inner<M: Metric>(
     push_node(loading, node, nodes)
 }
 
-/// The groups of a set above level 0.
+/// Returns the groups of a set above level 0.
 pub fn groups_in<R: Threads + Sync, M: Metric>(
     rt: &R,
     alloc: Global,
@@ -201,8 +201,7 @@ pub fn groups_in<R: Threads + Sync, M: Metric>(
     )
 }
 
-/// Adds the nodes of a set's subtree after the others, children before their parent, and gives the page of the subtree's
-/// root.
+/// Appends the nodes of the subtree of `set` to `nodes`, children before their parent, and returns the page of the subtree's root.
 pub fn add_subtree<R: Threads + Sync, M: Metric>(
     rt: &R,
     alloc: Global,

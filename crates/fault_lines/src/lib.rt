@@ -30,7 +30,7 @@ fn node_fault_name(fault: NodeFault) -> &'static [u8]
     }
 }
 
-/// Why a page is no head, in a word.
+/// Returns the word for why a page is no head.
 pub fn head_fault_name(fault: HeadFault) -> &'static [u8]
     ensures { result.now ≡ head_fault_name fault }
 {

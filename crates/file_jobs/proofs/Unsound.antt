@@ -15,7 +15,7 @@ no_index_unsound faults one file name (inr (h, l, opens, version, named)) head l
     let same = one file head h live l sound.opens opens in
     omega (arith, ap (λ (x : Head). x.version) same.0, sound.version, version)
 
--- a file of which a page gives no node is not sound
+-- a file with a page that gives no node is not sound
 pub damaged_unsound : OneLiveSlot → (file : List ℕ) (fault : PageFault) → IsDamaged file fault → (head : Head) (live : Live) → ¬ IsSound head live file
 damaged_unsound one file fault damaged head live sound =
     let same = one file head damaged.head live damaged.live sound.opens damaged.opens in

@@ -38,7 +38,7 @@ pub record Creates (head : Head) (disk0 disk1 : DiskState) (out0 out1 : SinkStat
 abbrev pub IsIndex : List ℕ → Type 0
 IsIndex file = (head : Head) × (live : Live) × OpensTo file head live × (head.version ≡ 2)
 
--- the file does not open, or is of the first version, as this word says
+-- the file does not open, or is of version 1, as the word says
 abbrev pub IsNoIndex : List ℕ → List ℕ → Type 0
 IsNoIndex file name =
     ((why : Unopened) × (open_fault file ≡ Some why) × (name ≡ unopened_name why))
@@ -52,7 +52,7 @@ pub record Refuses (disk0 disk1 : DiskState) (out0 out1 : SinkState) (status : �
 
 -- ---- audit
 
--- a file of version 2 opens, and the audit of its live tree in its head's space tells this
+-- a file of version 2 opens, and `fault` is what the audit of its live tree in its head's space tells
 pub record IsAudited (file : List ℕ) (fault : Option AuditFault) : Type 0 where
   pub head : Head
   pub live : Live
@@ -60,7 +60,7 @@ pub record IsAudited (file : List ℕ) (fault : Option AuditFault) : Type 0 wher
   pub version : head.version ≡ 2
   pub told : audit_fault (space_of head) (reading head.dim live.pages file) live ≡ fault
 
--- a sound file with so many objects and nodes
+-- a sound file with `objects` objects and `nodes` nodes
 pub record IsSoundWith (file : List ℕ) (objects nodes : ℕ) : Type 0 where
   pub audited : IsAudited file None
   pub objects_are : objects ≡ audited.live.count
@@ -82,7 +82,7 @@ pub record Audits (disk0 disk1 : DiskState) (out0 out1 : SinkState) (status : �
   pub not_index : status ≡ 6 → (name : List ℕ) × Tells out0 out1 (not_index_text name) × (IsTrue disk0.tells → IsNoIndex disk0.bytes name)
   pub memory : status ≡ 8 → Tells out0 out1 (codes "fault memory\n")
 
--- why an audit of a file on a disk failed, where the disk's faults are so many now
+-- why an audit of a file on a disk failed, where the disk counts `faults` faults now
 abbrev pub HasFault : DiskState → ℕ → Option AuditFault → AuditFault → Type 0
 HasFault old faults told audit.Memory = Unit {0}
 HasFault old faults told (audit.Page page.Disk) = Rose old.faults faults
@@ -91,7 +91,7 @@ HasFault old faults told (audit.Page (page.Repeats p)) = ⊥
 HasFault old faults told (audit.Page (page.Level p)) = ⊥
 HasFault old faults told fault = IsTrue old.tells → told ≡ Some fault
 
--- the disk's failure and want of memory, which no bytes tell
+-- a failure of the disk or out of memory, which no bytes tell
 abbrev pub IsPassing : AuditFault → Type 0
 IsPassing audit.Memory = Unit {0}
 IsPassing (audit.Page page.Disk) = Unit {0}

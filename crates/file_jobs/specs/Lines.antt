@@ -38,7 +38,7 @@ sound_text objects nodes = codes "sound\n" ++ counted (codes "objects ") objects
 abbrev pub rejected_text : AuditFault → List ℕ
 rejected_text fault = codes "rejected " ++ audit_fault_text fault ++ line_end
 
--- the line of a file of which a page gave no node
+-- the line of a file with a page that gave no node
 abbrev pub damaged_text : PageFault → List ℕ
 damaged_text fault = codes "fault damaged " ++ page_fault_text fault ++ line_end
 
@@ -46,7 +46,7 @@ damaged_text fault = codes "fault damaged " ++ page_fault_text fault ++ line_end
 abbrev pub point_text : List ℕ → List ℕ
 point_text point = join_with_byte 44 (map decimal point)
 
--- a text of what there is, and a dash where there is nothing
+-- a text of the value, and a dash where there is none
 abbrev pub or_dash : {A : Type 0} → (A → List ℕ) → Option A → List ℕ
 or_dash text None = codes "-"
 or_dash text (Some x) = text x
@@ -56,7 +56,7 @@ abbrev pub node_text : ShapeLine → List ℕ
 node_text line =
     decimal line.level ++ numbered space line.entries ++ space ++ or_dash point_text line.centre ++ space ++ or_dash decimal line.radius ++ line_end
 
--- the lines of a tree of this height, with so many objects and with these nodes
+-- the lines of a tree of height `height`, with `objects` objects and the nodes `lines`
 abbrev pub shape_text : ℕ → ℕ → List ShapeLine → List ℕ
 shape_text height objects lines =
     counted (codes "height ") height ++ counted (codes "objects ") objects ++ counted (codes "nodes ") (length lines) ++ flat_map node_text lines

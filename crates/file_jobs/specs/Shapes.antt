@@ -23,12 +23,12 @@ use Rattle.file_jobs.specs.Jobs.{IsNoIndex}
 abbrev pub IsSound : Head → Live → List ℕ → Type 0
 IsSound head live file = IsSoundFile (space_of head) head live file
 
--- the lines of all nodes to which child numbers lead from the root, in pre-order; in a sound file those of its tree
+-- the lines of all nodes that child numbers lead to from the root, in pre-order; in a sound file those of its tree
 pub record AreLinesOf (head : Head) (live : Live) (file : List ℕ) (lines : List ShapeLine) : Type 0 where
   pub walk : DrawsTo (nodes_in head.dim live file) (root_named live.root ∷ []) lines []
   pub tree : IsSound head live file → lines ≡ tree_lines (nodes_in head.dim live file) live
 
--- the file opens to a tree of this height, with so many objects and with these nodes
+-- the file opens to a tree of height `height`, with `objects` objects and the nodes `lines`
 pub record IsShapeOf (file : List ℕ) (height objects : ℕ) (lines : List ShapeLine) : Type 0 where
   pub head : Head
   pub live : Live
@@ -38,20 +38,20 @@ pub record IsShapeOf (file : List ℕ) (height objects : ℕ) (lines : List Shap
   pub objects_are : objects ≡ live.count
   pub lines_are : AreLinesOf head live file lines
 
--- The walk of the tree by child numbers names this page, which holds no node or is none of the file's; or it names this page
--- after it has opened as many as there are.
+-- The walk of the tree by child numbers names the page, and it holds no node or lies outside the file; or the walk names the page
+-- after it has opened as many pages as the file has.
 abbrev pub StopsAt : ℕ → Live → List ℕ → PageFault → Type 0
 StopsAt dim live file (page.Bad p fault) = (reading dim live.pages file p ≡ Err (page.Bad p fault)) × NamesInside (nodes_in dim live file) live p
 StopsAt dim live file (page.Outside p) = (reading dim live.pages file p ≡ Err (page.Outside p)) × NamesInside (nodes_in dim live file) live p
 StopsAt dim live file (page.Repeats p) = Names (nodes_in dim live file) live.root live.pages p
 StopsAt dim live file _ = ⊥
 
--- so the walk stops, and the file is not sound
+-- the walk stops at the fault, and the file is not sound
 pub record HasDamage (head : Head) (live : Live) (file : List ℕ) (fault : PageFault) : Type 0 where
   pub stops : StopsAt head.dim live file fault
   pub unsound : ¬ IsSound head live file
 
--- the file opens to a tree of which a page gives no node
+-- the file opens to a tree with a page that gives no node
 pub record IsDamaged (file : List ℕ) (fault : PageFault) : Type 0 where
   pub head : Head
   pub live : Live
@@ -73,10 +73,10 @@ pub record Shapes (disk0 disk1 : DiskState) (out0 out1 : SinkState) (status : �
   pub not_index : status ≡ 6 → (name : List ℕ) × Tells out0 out1 (not_index_text name) × (IsTrue disk0.tells → IsNoIndex disk0.bytes name)
   pub memory : status ≡ 8 → Tells out0 out1 (codes "fault memory\n")
   pub damaged : status ≡ 9 → (fault : PageFault) × Tells out0 out1 (damaged_text fault) × (IsTrue disk0.tells → IsDamaged disk0.bytes fault)
-  -- of a sound file neither of these is told
+  -- a sound file gives neither status 6 nor status 9
   pub sound : IsTrue disk0.tells → (head : Head) (live : Live) → IsSound head live disk0.bytes → (status ≢ 6) × (status ≢ 9)
 
--- why the walk of an opened file on a disk stopped, where the disk's faults are so many now
+-- why the walk of an opened file on a disk stopped, where the disk counts `faults` faults now
 abbrev pub HasStop : Head → Live → DiskState → ℕ → PageFault → Type 0
 HasStop head live old faults page.Disk = Rose old.faults faults
 HasStop head live old faults page.Memory = Unit {0}

@@ -48,7 +48,7 @@ pub fn create_index<D: Disk, K: Sink>(disk: &mut D, head: &Head, out: &mut K) ->
     }
 }
 
-// The line of a file that is not opened.
+// Returns the line of a file that is not opened.
 fn unopened_line(fault: OpenFault) -> &'static [u8]
     ensures { result.now ≡ unopened_text fault }
 {
@@ -67,7 +67,7 @@ fn unopened_line(fault: OpenFault) -> &'static [u8]
     }
 }
 
-/// The space of a head.
+/// Returns the space of `head`.
 pub fn space_of(head: &Head) -> MixSpace
     requires { IsLawfulHead head.now }
     ensures kind { mix_kind result ≡ head.now.kind }
@@ -79,7 +79,7 @@ pub fn space_of(head: &Head) -> MixSpace
     }
 }
 
-/// The audit of an opened file of version 2. `AuditFault::Page` with `PageFault::Disk` comes where the disk failed.
+/// Audits the tree of an opened file of version 2. `AuditFault::Page` with `PageFault::Disk` comes where the disk failed.
 pub fn audit_opened<D: Disk>(
     alloc: Global,
     disk: &mut D,
@@ -106,7 +106,7 @@ pub fn audit_opened<D: Disk>(
     audit(alloc, &mut pages, &mut ruler, head.dim, live)
 }
 
-/// Ends an audit whose index is rejected, with status 1, or that could not go on, with status 5 or 8.
+/// Ends an audit with the line of `fault`: status 1 where the index is rejected, 5 or 8 where the audit could not go on.
 pub fn end_rejected<K: Sink>(alloc: Global, fault: AuditFault, out: &mut K) -> Status
     ensures rejected { result.0 ≡ 1 → Appends (K.state out.old).written (K.state out.new).written (rejected_text fault) }
     ensures part { result.0 ≡ 4 → AppendsPrefix (K.state out.old).written (K.state out.new).written (rejected_text fault) }
@@ -157,13 +157,13 @@ pub fn end_sound<K: Sink>(alloc: Global, audited: &Audited, out: &mut K) -> Stat
     }
 }
 
-/// Opens an index of version 2. Else it writes why it is none, and answers the status: 5 where the disk failed, and 6 where
-/// the file is no index of version 2. Nothing is changed.
+/// Opens an index of version 2. Otherwise writes why the file is none, and returns the status: 5 where the disk failed, and 6
+/// where the file is no index of version 2. Nothing is changed.
 pub fn open_index<D: Disk, K: Sink>(disk: &mut D, out: &mut K) -> Result<(Head, Live), Status>
     ensures same { IsUnchanged (D.state disk.old) (D.state disk.new) }
     ensures opens { IfOk result (λ opened. IsTrue (D.state disk.old).tells → OpensTo (D.state disk.old).bytes opened.0 opened.1) }
     ensures version { IfOk result (λ opened. opened.0.version ≡ 2) }
-    // Also of a disk that does not tell its bytes what is answered is lawful.
+    // The head is lawful also where the disk does not tell its bytes.
     ensures head { IfOk result (λ opened. IsLawfulHead opened.0) }
     ensures some { IfOk result (λ opened. 4 ≤ opened.1.pages) }
     ensures pages { IfOk result (λ opened. opened.1.pages ≤ 2 ^ 24) }
@@ -187,7 +187,7 @@ pub fn open_index<D: Disk, K: Sink>(disk: &mut D, out: &mut K) -> Result<(Head, 
 }
 
 /// Audits an index, and writes `sound` with the numbers of its objects and nodes, or `rejected` with its first fault and
-/// status 1. Status 4: the lines could not be written; 5: the disk failed; 6: the file is no index of version 2; 8: want of
+/// status 1. Status 4: the lines could not be written; 5: the disk failed; 6: the file is no index of version 2; 8: out of
 /// memory. Nothing is changed.
 pub fn audit_index<D: Disk, K: Sink>(alloc: Global, disk: &mut D, out: &mut K) -> Status
     ensures audits { Audits (D.state disk.old) (D.state disk.new) (K.state out.old) (K.state out.new) result.0 }

@@ -4,7 +4,7 @@ ghost use Rattle.file_jobs.specs.Laws.{HeadsHaveSpaces};
 
 use metric_mix::laws::mix_spaces_are_spaces;
 
-/// The space of a head is a metric space.
+/// States that the space of a head is a metric space.
 pub fn heads_have_spaces()
     ensures { HeadsHaveSpaces }
 {

@@ -1,6 +1,6 @@
-// The most that a job takes in.
+// The limits of a job's input.
 
-/// The most bytes of a script.
+/// The most bytes in a script.
 pub const MOST_INPUT: u64 = 1 << 26;
 
 /// The most bytes of logs.

@@ -17,7 +17,7 @@ pub const FAULT_INPUT: &[u8] = b"fault input\n";
 /// The line of an input, or an index, that is too long.
 pub const FAULT_LONG: &[u8] = b"fault long\n";
 
-/// The line of want of memory.
+/// The line when memory runs out.
 pub const FAULT_MEMORY: &[u8] = b"fault memory\n";
 
 /// The line of a disk that failed.
@@ -26,10 +26,10 @@ pub const FAULT_DISK: &[u8] = b"fault disk\n";
 /// The line of a file of another version.
 pub const FAULT_VERSION: &[u8] = b"fault notindex version\n";
 
-/// The line of a file that is to be made anew and holds something.
+/// The line of a file that is to be made anew but is not empty.
 pub const FAULT_NOT_EMPTY: &[u8] = b"fault notindex notempty\n";
 
-/// Ends with a status, after a line that says why. Only where the output fails the line is cut short.
+/// Writes `line` and ends with `status`. Only where the output fails the line is cut short.
 pub fn end_with<K: Sink>(out: &mut K, line: &[u8], status: u8) -> Status
     ensures status { result.0 ≡ status }
     ensures line { Tells (K.state out.old) (K.state out.new) line.now }
@@ -39,7 +39,7 @@ pub fn end_with<K: Sink>(out: &mut K, line: &[u8], status: u8) -> Status
     Status(status)
 }
 
-/// Puts lines, and ends with this status, or with status 4 where they can't be written.
+/// Puts `line`, and ends with `status`, or with status 4 where it can't be written.
 pub fn put_line<K: Sink>(out: &mut K, line: &[u8], status: u8) -> Status
     requires { status ≢ 4 }
     ensures statuses { (result.0 ≡ status) ⊎ (result.0 ≡ 4) }
@@ -54,7 +54,7 @@ pub fn put_line<K: Sink>(out: &mut K, line: &[u8], status: u8) -> Status
     }
 }
 
-/// The line of a file of which a page gave no node.
+/// Returns the line of a file with a page that gave no node.
 pub fn damaged_text(alloc: Global, fault: PageFault) -> Result<Vec<u8>, Memory>
     ensures { IfOk result (λ text. text.items ≡ damaged_text fault) }
 {
@@ -97,7 +97,7 @@ fn push_audit_fault(fault: AuditFault, out: &mut Vec<u8>) -> Result<(), Memory>
     }
 }
 
-/// The line of an index that is not sound.
+/// Returns the line of an index that is not sound.
 pub fn rejected_text(alloc: Global, fault: AuditFault) -> Result<Vec<u8>, Memory>
     ensures { IfOk result (λ text. text.items ≡ rejected_text fault) }
 {
@@ -108,7 +108,7 @@ pub fn rejected_text(alloc: Global, fault: AuditFault) -> Result<Vec<u8>, Memory
     Ok(text)
 }
 
-/// The lines of a sound index.
+/// Returns the lines of a sound index.
 pub fn sound_text(alloc: Global, audited: &Audited) -> Result<Vec<u8>, Memory>
     ensures { IfOk result (λ text. text.items ≡ sound_text audited.now.objects audited.now.nodes) }
 {

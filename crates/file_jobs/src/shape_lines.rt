@@ -10,7 +10,7 @@ use outside_io::Memory;
 use std::alloc::Global;
 use tree_outline::{Shape, ShapeLine};
 
-// Each coordinate after a comma.
+// Appends each coordinate after a comma.
 fn push_after_commas(point: &[u32], out: &mut Vec<u8>) -> Result<(), Memory>
     ensures { OnOk result (out.new.items ≡ out.old.items ++ coordinates_text point.now) }
 {
@@ -20,7 +20,7 @@ fn push_after_commas(point: &[u32], out: &mut Vec<u8>) -> Result<(), Memory>
     Ok(())
 }
 
-// A point's coordinates, joined by commas.
+// Appends a point's coordinates, joined by commas.
 fn push_point(point: &[u32], out: &mut Vec<u8>) -> Result<(), Memory>
     ensures { OnOk result (out.new.items ≡ out.old.items ++ point_text point.now) }
 {
@@ -31,7 +31,7 @@ fn push_point(point: &[u32], out: &mut Vec<u8>) -> Result<(), Memory>
     push_after_commas(rest, out)
 }
 
-// The centre of a node's region; the root has none.
+// Appends the centre of a node's region; the root has none.
 fn push_centre(centre: Option<&Point>, out: &mut Vec<u8>) -> Result<(), Memory>
     ensures { OnOk result (out.new.items ≡ out.old.items ++ or_dash point_text (option_copied centre.entry)) }
 {
@@ -41,7 +41,7 @@ fn push_centre(centre: Option<&Point>, out: &mut Vec<u8>) -> Result<(), Memory>
     }
 }
 
-// The radius of a node's region; the root has none.
+// Appends the covering radius of a node's region; the root has none.
 fn push_radius(radius: Option<u64>, out: &mut Vec<u8>) -> Result<(), Memory>
     ensures { OnOk result (out.new.items ≡ out.old.items ++ or_dash decimal radius) }
 {
@@ -72,7 +72,7 @@ fn push_nodes(lines: &[ShapeLine], out: &mut Vec<u8>) -> Result<(), Memory>
     Ok(())
 }
 
-/// The lines of a tree.
+/// Returns the lines of a tree.
 pub fn shape_text(alloc: Global, shape: &Shape) -> Result<Vec<u8>, Memory>
     requires { shape.now.nodes ≡ length shape.now.lines }
     ensures { IfOk result (λ text. text.items ≡ shape_text shape.now.height shape.now.objects shape.now.lines) }

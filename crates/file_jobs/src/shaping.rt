@@ -23,7 +23,7 @@ use std::alloc::Global;
 use tree_outline::{Shape, shape_of};
 use tree_shape::Live;
 
-// The shape of an opened file of version 2.
+// Returns the shape of an opened file of version 2.
 fn shape_opened<D: Disk>(
     alloc: Global,
     disk: &mut D,
@@ -42,7 +42,7 @@ fn shape_opened<D: Disk>(
     shape_of(alloc, &mut pages, live)
 }
 
-// Ends with the lines of a tree.
+// Writes the lines of a tree and ends.
 fn end_shaped<K: Sink>(alloc: Global, shape: &Shape, out: &mut K) -> Status
     requires { shape.now.nodes ≡ length shape.now.lines }
     ensures done { result.0 ≡ 0 → Appends (K.state out.old).written (K.state out.new).written (shape_text shape.now.height shape.now.objects shape.now.lines) }
@@ -59,7 +59,7 @@ fn end_shaped<K: Sink>(alloc: Global, shape: &Shape, out: &mut K) -> Status
     }
 }
 
-/// Ends a job that met a page which gave no node: with status 5 and 8 where the disk failed or memory ran out, and else with
+/// Ends a job that met a page without a node: with status 5 where the disk failed, 8 when memory ran out, and else with
 /// status 9 and the page's fault.
 pub fn end_at_page<K: Sink>(alloc: Global, fault: PageFault, out: &mut K) -> Status
     ensures disk { result.0 ≡ 5 → (fault ≡ PageFault.Disk) × Tells (K.state out.old) (K.state out.new) (codes "fault disk\n") }
@@ -79,8 +79,8 @@ pub fn end_at_page<K: Sink>(alloc: Global, fault: PageFault, out: &mut K) -> Sta
 }
 
 /// Walks the tree of an index, and writes its height, the numbers of its objects and nodes, and a line for each node in
-/// pre-order: its level, the number of its entries, and the centre and the radius of its region, of which the root has none.
-/// Status 4: the lines could not be written; 5: the disk failed; 6: the file is no index of version 2; 8: want of memory; 9: a
+/// pre-order: its level, the number of its entries, and the centre and the radius of its region, which the root has not.
+/// Status 4: the lines could not be written; 5: the disk failed; 6: the file is no index of version 2; 8: out of memory; 9: a
 /// page of a file that is not sound gave no node, or was named once too often. Nothing is changed.
 pub fn shape_index<D: Disk, K: Sink>(alloc: Global, disk: &mut D, out: &mut K) -> Status
     ensures shapes { Shapes (D.state disk.old) (D.state disk.new) (K.state out.old) (K.state out.new) result.0 }

@@ -53,7 +53,7 @@ releasing_all least old_free old_held free held way =
       way.queue ∙ ap (λ (r : List Held). r ++ held_below least way.done) none ∙ ap (held_below least) all,
     )
 
--- the first of a queue, of which some are left
+-- the first of a queue whose front has `left` more after it
 first_rest : (rest back : List Held) (first : Held) (queue : List Held) (left : ℕ) → length rest ≡ left + 1 → first ∷ queue ≡ rest ++ back → (more : List Held) × (rest ≡ first ∷ more) × (queue ≡ more ++ back) × (length more ≡ left)
 first_rest [] back first queue left count is = absurd (omega arith)
 first_rest (r ∷ rest) back first queue left count is = (rest, (let e : r ∷ rest ≡ first ∷ rest = (cc) in e), (cc), omega arith)

@@ -60,7 +60,7 @@ below flags opened flagged = all_weaker (IsWithin (length flags)) (λ (n : ℕ).
 pub few_opened : (flags : List Bool) (opened : List ℕ) → AreOpened flags opened → length opened ≤ length flags
 few_opened flags opened flagged = few (length flags) opened (below flags opened flagged) flagged.once
 
--- page 0 is none of them, so there are fewer than pages
+-- page 0 was not opened, so fewer pages are opened than there are
 pub fewer_opened : (flags : List Bool) (opened : List ℕ) → AreOpened flags opened → 1 ≤ length flags → length opened + 1 ≤ length flags
 fewer_opened flags opened flagged some =
     let more = few (length flags) (opened ++ 0 ∷ []) (all_append (λ (n : ℕ). n < length flags) opened (0 ∷ []) (below flags opened flagged) (omega arith, tt)) once in
@@ -90,7 +90,7 @@ unflagged flags opened n flagged unset = elim (cases_lt n (length flags)) [
     none : (m : ℕ) → not (m == 0) ≡ false → m ≡ 0
     none m e = grind (arith, nat_tests)
 
--- a page whose flag is set was
+-- a page whose flag is set was opened
 flagged_is : (flags : List Bool) (opened : List ℕ) (n : ℕ) → AreOpened flags opened → slice_index_or flags n false ≡ true → (times n opened == 0) ≡ false
 flagged_is flags opened n flagged is = elim (cases_lt n (length flags)) [
   | inl lt ↦ some (times n opened) (sym (flagged.told n lt) ∙ is)

@@ -14,16 +14,16 @@ use Rattle.page_store.specs.Succession.{ShareNone}
 use Rattle.free_pages.specs.declared.held.Held.{Held}
 use Rattle.free_pages.specs.Keeping.{FreePages, IsFreeOrHeld, IsKept, with_left, with_pins, without_pin}
 
--- these pages were left, one after another, by a commit to this generation
+-- a commit to generation `generation` left the pages, one after another
 abbrev pub with_all_left : ℕ → List ℕ → FreePages → FreePages
 with_all_left generation [] f = f
 with_all_left generation (page ∷ pages) f = with_all_left generation pages (with_left f page generation)
 
--- after a commit to a generation the first so many free pages hold new nodes, and these pages are left
+-- after a commit to `generation` the first `used` free pages hold new nodes, and the pages `left` are left
 abbrev pub after_commit : ℕ → List ℕ → ℕ → FreePages → FreePages
 after_commit used left generation f = with_all_left generation left (record f { free = drop used f.free })
 
--- free and held pages may hold nodes of a file of so many pages
+-- free and held pages may hold nodes of a file of `pages` pages
 abbrev pub AreWithin : ℕ → FreePages → Type 0
 AreWithin pages f = (page : ℕ) → IsFreeOrHeld f page → IsWithin pages page
 
@@ -35,7 +35,7 @@ LiesBeside tree f = (page : ℕ) → IsFreeOrHeld f page → IsIn page tree → 
 abbrev pub AreOutside : ℕ → List ℕ → FreePages → Type 0
 AreOutside pages tree f = (page : ℕ) → IsFreeOrHeld f page ↔ (IsWithin pages page × (IsIn page tree → ⊥))
 
--- A commit gives new nodes the first so many free pages and each page from the file's end on, and leaves other pages.
+-- A commit gives new nodes the first `used` free pages and each page from the file's end on, and leaves other pages.
 pub record IsExchange (pages next_pages used : ℕ) (f : FreePages) (staged left : List ℕ) : Type 0 where
   pub given : AllByRecursion (λ page. IsIn page (take used f.free) ⊎ (pages ≤ page)) staged
   pub uses : (page : ℕ) → IsIn page (take used f.free) → IsIn page staged
@@ -48,7 +48,7 @@ pub record IsExchange (pages next_pages used : ℕ) (f : FreePages) (staged left
 abbrev pub FreePagesAreNumbers : Type 0
 FreePagesAreNumbers = (pages n : ℕ) (f : FreePages) → IsKept f → AreWithin pages f → AreNumbers pages (take n f.free)
 
--- what is placed on the first free pages is such a commit
+-- what is placed on the first free pages is an exchange
 abbrev pub PlacementsExchange : Type 0
 PlacementsExchange =
     (head : Head) (t : Live) (n added : ℕ) (f : FreePages) (placed : Placed) → IsKept f → AreWithin t.pages f → 3 ≤ t.pages →
@@ -62,8 +62,8 @@ CommitsKeepWithin =
     (pages next_pages used generation : ℕ) (f : FreePages) (staged left : List ℕ) → IsExchange pages next_pages used f staged left → AreWithin pages f →
     AreWithin next_pages (after_commit used left generation f)
 
--- where a tree lay beside the free and held pages, the next one does, each page of which is one of the old tree's or a new one, and
--- none of which was left
+-- where a tree lay beside the free and held pages, the next tree does, if each of its pages is a page of the old tree or a new one,
+-- and none was left
 abbrev pub CommitsKeepBeside : Type 0
 CommitsKeepBeside =
     (pages next_pages used generation : ℕ) (f : FreePages) (staged left tree next_tree : List ℕ) → IsKept f →
@@ -71,8 +71,8 @@ CommitsKeepBeside =
     LiesBeside tree f → ((page : ℕ) → IsIn page next_tree → IsIn page tree ⊎ IsIn page staged) → ShareNone left next_tree →
     LiesBeside next_tree (after_commit used left generation f)
 
--- Where free and held pages were exactly those outside a tree, they are exactly those outside the next one, whose pages and the left
--- ones together are the old tree's and the new ones.
+-- Where free and held pages were exactly those outside a tree, they are exactly those outside the next tree, if the pages of the
+-- next tree and the left ones together are those of the old tree and the new ones.
 abbrev pub CommitsKeepOutside : Type 0
 CommitsKeepOutside =
     (pages next_pages used generation : ℕ) (f : FreePages) (staged left tree next_tree : List ℕ) → IsKept f →
@@ -81,14 +81,14 @@ CommitsKeepOutside =
     ((page : ℕ) → times page next_tree + times page left ≡ times page tree + times page staged) →
     AreOutside next_pages next_tree (after_commit used left generation f)
 
--- These pages are guarded by the pin of a generation: none of them is free, and one that is held was left by a later commit.
+-- The pages of `tree` are guarded by the pin of a generation: none is free, and each that is held was left by a later commit.
 pub record IsGuarded (pages generation : ℕ) (f : FreePages) (tree : List ℕ) : Type 0 where
   pub pinned : IsIn generation f.pins
   pub within : AllByRecursion (IsWithin pages) tree
   pub unfree : (page : ℕ) → IsIn page tree → IsIn page f.free → ⊥
   pub later : (h : Held) → IsIn h f.held → IsIn h.page tree → generation < h.generation
 
--- A pin guards the pages of a tree that lies beside the free and held ones. What is guarded stays so while commits to later
+-- A pin guards the pages of a tree that lies beside the free and held pages. What is guarded stays so while commits to later
 -- generations go on, as long as the pin is there, and no new node goes to a guarded page.
 pub record PinsGuard : Type 0 where
   pub begin : (pages generation : ℕ) (f : FreePages) (tree : List ℕ) → IsIn generation f.pins →

@@ -7,7 +7,7 @@ use Rattle.free_pages.specs.Keeping.{FreePages}
 use Rattle.page_store.specs.Reached.{IsWholeTree}
 use Rattle.free_pages.specs.Walk.{outside_pages, tree_walk}
 
--- the free pages are those outside the live tree, each page of which was asked for once
+-- the free pages are those outside the live tree, and at most one page was asked for per page of the tree
 pub record AreOutsideTree (t : Live) (old new : Shelf) (free : List ℕ) : Type 0 where
   pub tree : List ℕ
   pub walk : tree_walk old.read t ≡ Ok tree

@@ -6,8 +6,8 @@ use Rattle.tree_shape.specs.Tree.{times}
 use Rattle.page_store.specs.Numbers.{Ascends}
 use Rattle.free_pages.specs.declared.held.Held.{Held}
 
--- the free pages in ascending order; the pinned generations, each as often as it is pinned; the held pages by page; how many
--- pages can be given back or left with no memory; and the greatest generation that a commit named
+-- the free pages in ascending order; the pinned generations, each as often as it is pinned; the held pages in order of page; how many
+-- pages can be given back or left without more memory; and the greatest generation that a commit named
 pub record FreePages : Type 0 where
   pub free : List ℕ
   pub pins : List ℕ
@@ -20,7 +20,7 @@ abbrev pub put_by : {X : Type 0} → (X → ℕ) → X → List X → List X
 put_by key x [] = x ∷ []
 put_by key x (y ∷ ys) = if nat_lt (key x) (key y) then x ∷ y ∷ ys else (if nat_lt (key y) (key x) then y ∷ put_by key x ys else y ∷ ys)
 
--- a page more among ascending ones
+-- one more page among ascending ones
 abbrev pub with_page : ℕ → List ℕ → List ℕ
 with_page page pages = put_by (λ n. n) page pages
 
@@ -39,15 +39,15 @@ is_among page pages = not (times page pages == 0)
 abbrev pub is_kept : FreePages → ℕ → Bool
 is_kept f page = is_among page f.free || is_among page (held_pages f.held)
 
--- the same as a fact
+-- `is_kept` as a fact
 abbrev pub IsFreeOrHeld : FreePages → ℕ → Type 0
 IsFreeOrHeld f page = IsIn page f.free ⊎ IsIn page (held_pages f.held)
 
--- a generation below this one is pinned
+-- a generation below `generation` is pinned
 abbrev pub is_pinned_below : ℕ → List ℕ → Bool
 is_pinned_below generation pins = list_any (λ pin. nat_lt pin generation) pins
 
--- the generations without one pin of this one
+-- the generations without one pin of `generation`
 abbrev pub without_pin : ℕ → List ℕ → List ℕ
 without_pin generation [] = []
 without_pin generation (pin ∷ pins) = if pin == generation then pins else pin ∷ without_pin generation pins
@@ -61,20 +61,20 @@ abbrev pub with_held : FreePages → ℕ → ℕ → FreePages
 with_held f page generation =
     if is_kept f page then f else record f { held = put_by (λ h. h.page) (record { page = page; generation = generation }) f.held; spare = f.spare - 1 }
 
--- a page that a commit to this generation left is held while a pin below is there, and is free otherwise
+-- a page that a commit to `generation` left is held while a generation below is pinned, and is free otherwise
 abbrev pub with_left : FreePages → ℕ → ℕ → FreePages
 with_left f page generation =
     let kept = if is_pinned_below generation f.pins then with_held f page generation else with_free f page in record kept { newest = max f.newest generation }
 
--- the held pages for which a pin below is there, with these pins
+-- the held pages with a pin below them, given the pins
 abbrev pub still_held : List ℕ → List Held → List Held
 still_held pins held = filter (λ h. is_pinned_below h.generation pins) held
 
--- the pages of the others
+-- the pages of the other held ones
 abbrev pub released : List ℕ → List Held → List ℕ
 released pins held = held_pages (filter (λ h. not (is_pinned_below h.generation pins)) held)
 
--- with these pins, each held page for which no pin below is there becomes free
+-- with the given pins, each held page with no pin below it becomes free
 abbrev pub with_pins : FreePages → List ℕ → FreePages
 with_pins f pins = record f { free = with_pages (released pins f.held) f.free; pins = pins; held = still_held pins f.held }
 

@@ -30,14 +30,14 @@ WholeTreesAreWalked =
     (read : Read) (t : Live) (tree : List ℕ) → IsWholeTree (nodes_of read) t tree → AllByRecursion (λ page. IsSome (nodes_of read page)) tree →
     (order : List ℕ) × (tree_walk read t ≡ Ok order)
 
--- The walk is the one by child numbers. Where it ends, that one is whole and opened the same pages; where it stops, that one
--- names the page that holds no node or that repeats.
+-- The walk is the walk by child numbers. Where it ends, the walk by child numbers is whole and opened the same pages; where it
+-- stops, that walk names the page that holds no node or that repeats.
 pub record WalksAreTours : Type 0 where
   pub ends : (read : Read) (t : Live) (tree : List ℕ) → tree_walk read t ≡ Ok tree → Tours (nodes_of read) (t.root ∷ []) tree []
   pub stops : (read : Read) (t : Live) (fault : PageFault) → tree_walk read t ≡ Err fault →
       (opened : ℕ) × (page : ℕ) × Names (nodes_of read) t.root opened page × ((read page ≡ Err fault) ⊎ (fault ≡ Repeats page))
 
--- the pages outside some are those that may hold nodes and are none of them
+-- the pages outside a tree are those that may hold nodes and are not in the tree
 abbrev pub OutsideIsOutside : Type 0
 OutsideIsOutside = (pages : ℕ) (tree : List ℕ) (page : ℕ) → IsIn page (outside_pages pages tree) ↔ (IsWithin pages page × (IsIn page tree → ⊥))
 
@@ -47,15 +47,15 @@ LeavingKeepsPages =
     (f : FreePages) (page generation : ℕ) (p : ℕ) → (IsFreeOrHeld (with_free f page) p ↔ ((p ≡ page) ⊎ IsFreeOrHeld f p))
     × (IsFreeOrHeld (with_left f page generation) p ↔ ((p ≡ page) ⊎ IsFreeOrHeld f p))
 
--- with other pins the same pages are free or held; those become free for which no pin below is there
+-- with other pins the same pages are free or held; the pages with no pin below them become free
 abbrev pub PinsKeepPages : Type 0
 PinsKeepPages =
     (f : FreePages) (pins : List ℕ) (p : ℕ) → (IsFreeOrHeld (with_pins f pins) p ↔ IsFreeOrHeld f p)
     × (IsIn p (with_pins f pins).free ↔ (IsIn p f.free ⊎ ((h : Held) × IsIn h f.held × (h.page ≡ p) × (is_pinned_below h.generation pins ≡ false))))
 
--- while a generation below is pinned, a page that is left becomes held, where it isn't free or held already, and none becomes
--- free; what is held stays so when a page is left; other pins hold exactly the held pages that have a pin below; and no held
--- page is free
+-- While a generation below is pinned, a page that is left becomes held, unless it is free or held already, and none becomes
+-- free. What is held stays so when a page is left. Other pins hold exactly the held pages that have a pin below. No held page is
+-- free.
 pub record HeldWhilePinned : Type 0 where
   pub left : (f : FreePages) (page generation : ℕ) → is_pinned_below generation f.pins ≡ true →
       ((with_left f page generation).free ≡ f.free)

@@ -8,13 +8,13 @@ use Rattle.page_store.specs.Shelf.{Shelf, HoldsSame}
 use Rattle.free_pages.specs.Keeping.{is_among}
 use Rattle.free_pages.specs.Walk.{walked, tree_walk}
 
--- the pages are from 3 up and below their number, none stands twice, and a flag for each page tells whether it is one of them
+-- the opened pages are from 3 up and below the number of pages, none stands twice, and a flag for each page tells whether it was opened
 pub record AreOpened (flags : List Bool) (opened : List ℕ) : Type 0 where
   pub within : AllByRecursion (IsWithin (length flags)) opened
   pub once : (page : ℕ) → times page opened ≤ 1
   pub told : (page : ℕ) → page < length flags → slice_index_or flags page false ≡ is_among page opened
 
--- a walk has opened so many pages, the flagged ones, for each of which it asked once, and has these to come
+-- a walk has opened `count` pages, the flagged ones, asked for at most one page per opened one, and has the pages `coming` to come
 pub record IsUnderWay (old now : Shelf) (t : Live) (count : ℕ) (flags : List Bool) (coming : List ℕ) : Type 0 where
   pub opened : List ℕ
   pub flagged : AreOpened flags opened

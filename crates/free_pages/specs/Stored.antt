@@ -3,7 +3,7 @@ use Rattle.std.specs.Prelude.{◌≡◌, ℕ, ◌+◌, ◌≤◌, nat_lt, Bool, 
 use Rattle.free_pages.specs.declared.held.Held.{Held}
 use Rattle.free_pages.specs.Keeping.{FreePages, IsKept, held_pages, is_among, put_by}
 
--- what the search for a key's place answers: a value with the key is there, or a value with the key belongs at this place
+-- what the search for a key returns: `Ok` where a value with the key is there, or `Err` with the place where such a value belongs
 abbrev pub IsPlaceBy : {X : Type 0} → (X → ℕ) → ℕ → List X → Result ℕ ℕ → Type 0
 IsPlaceBy {X} key n xs r = MatchResult r
     (λ i. (is_among n (map key xs) ≡ true) × ((v : X) → key v ≡ n → put_by key v xs ≡ xs))
@@ -15,16 +15,16 @@ IsPlace n xs r = MatchResult r
     (λ i. (is_among n xs ≡ true) × (put_by (λ m. m) n xs ≡ xs))
     (λ i. (is_among n xs ≡ false) × (i ≤ length xs) × (put_by (λ m. m) n xs ≡ insert xs i n))
 
--- the least pinned generation, where there is one, is below this one
+-- the least pinned generation, if there is one, is below `generation`
 abbrev pub is_below : Option ℕ → ℕ → Bool
 is_below None generation = false
 is_below (Some pin) generation = nat_lt pin generation
 
--- the held pages for which the least pin is below
+-- the held pages with the least pin below them
 abbrev pub held_below : Option ℕ → List Held → List Held
 held_below least held = filter (λ h. is_below least h.generation) held
 
--- the pages of the others
+-- the pages of the other held ones
 abbrev pub freed_below : Option ℕ → List Held → List ℕ
 freed_below least held = held_pages (filter (λ h. not (is_below least h.generation)) held)
 
@@ -34,7 +34,7 @@ pub record IsStored (f : FreePages) (free_capacity held_capacity : ℕ) : Type 0
   pub free_room : length f.free + length f.held + f.spare ≤ free_capacity
   pub held_room : length f.held + f.spare ≤ held_capacity
 
--- each held page of a queue in turn goes to its back or behind the free pages; so many are left
+-- each held page of a queue in turn goes to its back or to the end of the free pages; `left` pages are left
 pub record IsReleasing (least : Option ℕ) (old_free : List ℕ) (old_held : List Held) (free : List ℕ) (held : List Held) (left : ℕ) : Type 0 where
   pub done : List Held
   pub rest : List Held

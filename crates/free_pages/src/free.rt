@@ -22,7 +22,7 @@ use std::collections::VecDeque;
 use std::marker::Model;
 use tree_shape::Live;
 
-/// The pages of a file that its live tree doesn't need. New nodes get the least of the free ones. A page that a commit to a
+/// The pages of a file that its live tree doesn't need. New nodes get the least free pages. A page that a commit to a
 /// generation left is held while a generation below is pinned, and is free otherwise.
 #[derive(Drop)]
 pub struct Free {
@@ -32,7 +32,8 @@ pub struct Free {
     held: VecDeque<Held>,
     // In the order of pinning.
     pins: Vec<u64>,
-    // For so many pages more there is room among the held ones, and for these and the held ones among the free ones.
+    // The number of pages that can still be given back or left: the held pages have room for that many more, and the free pages for
+    // these and all held ones.
     spare: usize,
     // The greatest generation that `leave` named, 0 at first.
     newest: u64,
@@ -57,11 +58,11 @@ impl Model for Free {
 }
 
 impl Free {
-    /// The pages of a file from 3 up that no child numbers lead to from the root of its live tree. The tree is walked in
-    /// pre-order, as deep as child numbers lead, whatever the height and the levels say: each of its pages is asked for once
-    /// and judged when the walk comes to it. One that the walk opened before is `Repeats`, unasked; one that holds no node is
-    /// `Bad`, and one below 3 or not below the number of pages `Outside`. None of these comes on a sound tree. `Disk` comes
-    /// where the disk failed. The walk takes a byte for each page of the file, and each free page takes 4.
+    /// Returns the pages of a file from 3 up that no child numbers lead to from the root of its live tree. The tree is walked in
+    /// pre-order, as deep as child numbers lead, whatever the height and the levels say. Each of its pages is asked for once and
+    /// checked when the walk reaches it. A page that the walk opened before is `Repeats`, unasked; one that holds no node is `Bad`;
+    /// and one below 3 or not below the number of pages is `Outside`. None of these comes on a sound tree. `Disk` comes where the
+    /// disk failed. The walk takes a byte for each page of the file, and each free page takes 4.
     pub fn of<P: Pages>(alloc: Global, pages: &mut P, live: &Live) -> Result<Self, PageFault>
         requires pages { live.now.pages ≡ (P.shelf pages.old).pages }
         ensures same { HoldsSame (P.shelf pages.old) (P.shelf pages.new) }
@@ -95,7 +96,7 @@ impl Free {
         })
     }
 
-    /// The least free page, which is free no longer, or `None` where no page is free.
+    /// Takes the least free page, which is free no longer, or returns `None` where no page is free.
     pub fn take(&mut self) -> Option<u32>
         ensures none { IfNone result ((self.old.free ≡ []) × (self.new ≡ self.old)) }
         ensures least { IfSome result (λ page. self.old.free ≡ page ∷ self.new.free) }
@@ -105,28 +106,28 @@ impl Free {
         self.free.pop_front()
     }
 
-    /// Free and held pages are in order and apart, and each page that is held is held by a pin.
+    /// States that free and held pages are in order and apart, and that each held page is held by a pin.
     pub fn are_kept(&self)
         ensures { IsKept self.now }
     {
         let _free = &self.free;
     }
 
-    /// The number of free pages.
+    /// Returns the number of free pages.
     pub fn len(&self) -> usize
         ensures { result ≡ length self.now.free }
     {
         self.free.len()
     }
 
-    /// Whether no page is free.
+    /// Returns whether no page is free.
     pub fn is_empty(&self) -> bool
         ensures { result ≡ (length self.now.free == 0) }
     {
         self.free.is_empty()
     }
 
-    /// The `n` least free pages in ascending order, or all where there are fewer. They stay free.
+    /// Returns the `n` least free pages in ascending order, or all where there are fewer. They stay free.
     pub fn least(&self, alloc: Global, n: usize) -> Result<Vec<u32>, Memory>
         ensures { IfOk result (λ pages. pages.items ≡ take n self.now.free) }
     {
@@ -138,7 +139,7 @@ impl Free {
         Ok(least)
     }
 
-    /// Makes room for `n` pages, so that as many can be given back or left with no memory.
+    /// Makes room for `n` pages, so that as many can be given back or left without more memory.
     pub fn reserve(&mut self, n: usize) -> Result<(), Memory>
         ensures ok { OnOk result (self.new ≡ record self.old { spare = max self.old.spare n }) }
         ensures err { OnErr result (self.new ≡ self.old) }
@@ -155,7 +156,7 @@ impl Free {
         Ok(())
     }
 
-    // Whether the page is free or held.
+    // Returns whether `page` is free or held.
     fn has(&self, page: u32) -> bool
         ensures is { result ≡ is_kept self.now page }
         ensures kept { IsKept self.now }
@@ -163,7 +164,7 @@ impl Free {
         is_free(&self.free, page) || is_held(&self.held, page)
     }
 
-    /// Makes a page free. One that is free or held already stays so. It finds memory where room is spare.
+    /// Makes `page` free. A page that is free or held already stays so. Where room is spare it does not run out of memory.
     pub fn give_back(&mut self, page: u32) -> Result<(), Memory>
         ensures ok { OnOk result (self.new ≡ with_free self.old page) }
         ensures others { self.new ≡ record self.old { free = self.new.free; spare = self.new.spare } }
@@ -181,7 +182,7 @@ impl Free {
         Ok(())
     }
 
-    /// Pins a generation once more: pages that later commits leave are held until it is unpinned as often. No earlier
+    /// Pins `generation` once more: pages that later commits leave are held until it is unpinned as often. No earlier
     /// `leave` named a later generation.
     pub fn pin(&mut self, generation: u64) -> Result<(), Memory>
         requires { self.old.newest ≤ generation }
@@ -193,7 +194,7 @@ impl Free {
         Ok(())
     }
 
-    /// Takes back one pin of a generation. The held pages for which no pin below is left become free.
+    /// Takes back one pin of `generation`. The held pages with no pin left below them become free.
     pub fn unpin(&mut self, generation: u64)
         requires { IsIn generation self.old.pins }
         ensures pins { self.new ≡ with_pins self.old (without_pin generation self.old.pins) }
@@ -204,8 +205,8 @@ impl Free {
         release(&mut self.free, &mut self.held, least);
     }
 
-    /// Leaves a page after a commit to this generation: it is held while a generation below is pinned, and free otherwise.
-    /// One that is free or held already stays so.
+    /// Leaves `page` after a commit to `generation`: it is held while a generation below is pinned, and free otherwise.
+    /// A page that is free or held already stays so.
     pub fn leave(&mut self, page: u32, generation: u64)
         requires { 1 ≤ self.old.spare }
         ensures left { self.new ≡ with_left self.old page generation }
@@ -230,8 +231,8 @@ impl Free {
         }
     }
 
-    /// Settles the list after a commit to this generation, which gave its first `used` pages to new nodes and left these: each
-    /// is held while a generation below is pinned, and free otherwise.
+    /// Settles the list after a commit to `generation`, which gave the first `used` free pages to new nodes and left the pages
+    /// `left`: each of them is held while a generation below is pinned, and free otherwise.
     pub fn settle(&mut self, used: usize, left: &[u32], generation: u64)
         requires used { used ≤ length self.old.free }
         requires room { length left.now ≤ self.old.spare }

@@ -1,5 +1,5 @@
-//! The pages of a file that its live tree doesn't need: the least are taken for new nodes, and a commit leaves others. Pages
-//! of trees that are still read are held back.
+//! The pages of a file that its live tree doesn't need: new nodes take the least of them, and a commit leaves others. Pages of
+//! trees that are still read are held back.
 #![tactic(auto)]
 
 mod free;

@@ -16,7 +16,7 @@ use page_store::Memory;
 use std::alloc::Global;
 use std::collections::VecDeque;
 
-// Where the page is, or where it belongs.
+// Searches for `page`: `Ok` where it is in `free`, and else `Err` with the place where it belongs.
 fn place_of(free: &VecDeque<u32>, page: u32) -> Result<usize, usize>
     requires { Ascends 0 free.now.items }
     ensures { IsPlace page free.now.items result }
@@ -24,7 +24,7 @@ fn place_of(free: &VecDeque<u32>, page: u32) -> Result<usize, usize>
     free.binary_search(&page)
 }
 
-/// Whether the page is one of these.
+/// Returns whether `page` is in `free`.
 pub fn is_free(free: &VecDeque<u32>, page: u32) -> bool
     requires { Ascends 0 free.now.items }
     ensures { result ≡ is_among page free.now.items }
@@ -32,7 +32,7 @@ pub fn is_free(free: &VecDeque<u32>, page: u32) -> bool
     place_of(free, page).is_ok()
 }
 
-/// Puts the page in its place, for which there is room. One that is there stays.
+/// Puts `page` in its place in `free`, which has room for it. A page that is there stays.
 pub fn put_free(free: &mut VecDeque<u32>, page: u32)
     requires ascending { Ascends 0 free.old.items }
     requires room { length free.old.items < deque_capacity free.old }
@@ -44,7 +44,7 @@ pub fn put_free(free: &mut VecDeque<u32>, page: u32)
     }
 }
 
-// Where the page is, or where it belongs.
+// Searches for `page`: `Ok` where it is in `held`, and else `Err` with the place where it belongs.
 fn place_of_held(held: &VecDeque<Held>, page: u32) -> Result<usize, usize>
     requires { Ascends 0 (held_pages held.now.items) }
     ensures { IsPlaceBy (λ h. h.page) page held.now.items result }
@@ -52,7 +52,7 @@ fn place_of_held(held: &VecDeque<Held>, page: u32) -> Result<usize, usize>
     held.binary_search_by_key(&page, |held| held.page)
 }
 
-/// Whether the page is one of these.
+/// Returns whether `page` is in `held`.
 pub fn is_held(held: &VecDeque<Held>, page: u32) -> bool
     requires { Ascends 0 (held_pages held.now.items) }
     ensures { result ≡ is_among page (held_pages held.now.items) }
@@ -60,7 +60,7 @@ pub fn is_held(held: &VecDeque<Held>, page: u32) -> bool
     place_of_held(held, page).is_ok()
 }
 
-/// Puts a page in its place, for which there is room. One that is there stays as it is.
+/// Puts `more` in its place in `held`, which has room for it. A page that is there stays as it is.
 pub fn put_held(held: &mut VecDeque<Held>, more: Held)
     requires ascending { Ascends 0 (held_pages held.old.items) }
     requires room { length held.old.items < deque_capacity held.old }
@@ -72,7 +72,7 @@ pub fn put_held(held: &mut VecDeque<Held>, more: Held)
     }
 }
 
-// The lesser of a pin and the least pin so far.
+// Returns the lesser of `pin` and the least pin so far.
 fn lesser(least: Option<u64>, pin: u64) -> u64
     ensures { (generation : ℕ) → is_below (Some result) generation ≡ (is_below least generation || nat_lt pin generation) }
 {
@@ -82,7 +82,7 @@ fn lesser(least: Option<u64>, pin: u64) -> u64
     }
 }
 
-/// The least of the pinned generations.
+/// Returns the least of the pinned generations.
 pub fn least_pin(pins: &[u64]) -> Option<u64>
     ensures { (generation : ℕ) → is_below result generation ≡ is_pinned_below generation pins.now }
 {
@@ -93,7 +93,7 @@ pub fn least_pin(pins: &[u64]) -> Option<u64>
     least
 }
 
-/// Whether the least pin is below the generation.
+/// Returns whether the least pin is below `generation`.
 pub fn is_below(least: Option<u64>, generation: u64) -> bool
     ensures { result ≡ is_below least generation }
 {
@@ -103,7 +103,7 @@ pub fn is_below(least: Option<u64>, generation: u64) -> bool
     }
 }
 
-/// Takes out one pin of the generation, if it is pinned.
+/// Takes out one pin of `generation`, if it is pinned.
 pub fn take_out(pins: &mut Vec<u64>, generation: u64)
     ensures { pins.new.items ≡ without_pin generation pins.old.items }
 {
@@ -115,7 +115,7 @@ pub fn take_out(pins: &mut Vec<u64>, generation: u64)
     }
 }
 
-// Puts the pages in ascending order, in place.
+// Sorts the pages in ascending order, in place.
 fn sort_pages(free: &mut VecDeque<u32>)
     ensures permutation { IsPermutation free.old.items free.new.items }
     ensures sorted { IsNonDecreasing free.new.items }
@@ -124,7 +124,7 @@ fn sort_pages(free: &mut VecDeque<u32>)
     free.make_contiguous().sort_unstable();
 }
 
-// The first held page goes to the back of its queue, where the least pin is below its generation, and else to the back of the
+// Moves the first held page to the back of its queue, where the least pin is below its generation, and else to the back of the
 // free pages.
 fn release_first(free: &mut VecDeque<u32>, held: &mut VecDeque<Held>, least: Option<u64>)
     requires { length free.old.items + length held.old.items ≤ deque_capacity free.old }
@@ -145,7 +145,7 @@ fn release_first(free: &mut VecDeque<u32>, held: &mut VecDeque<Held>, least: Opt
     }
 }
 
-/// Each held page becomes free, unless the least pin is below its generation.
+/// Frees each held page, unless the least pin is below its generation.
 pub fn release(free: &mut VecDeque<u32>, held: &mut VecDeque<Held>, least: Option<u64>)
     requires free_ascend { Ascends 0 free.old.items }
     requires held_ascend { Ascends 0 (held_pages held.old.items) }
@@ -165,7 +165,7 @@ pub fn release(free: &mut VecDeque<u32>, held: &mut VecDeque<Held>, least: Optio
     sort_pages(free);
 }
 
-/// The pages that a walk didn't open, from 3 up.
+/// Returns the pages from 3 up that a walk didn't open.
 pub fn unopened(alloc: Global, opened: &[bool], count: usize) -> Result<VecDeque<u32>, Memory>
     requires { length opened.now < 2 ^ 32 }
     ensures outside { IfOk result (λ free. (tree : List ℕ) → AreOpened opened.now tree → free.items ≡ outside_pages (length opened.now) tree) }

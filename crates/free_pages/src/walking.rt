@@ -13,15 +13,15 @@ use tree_shape::{InnerEntry, Live, Node};
 /// A walk by child numbers.
 #[derive(Drop)]
 pub struct Walk {
-    /// For each page whether it was opened.
+    /// Whether each page was opened.
     pub opened: Vec<bool>,
-    /// How many were.
+    /// How many pages were opened.
     pub count: usize,
     /// The pages that were named and are still to come, the next one last.
     pub coming: Vec<u32>,
 }
 
-// Puts the children on top, the first one topmost.
+// Pushes the children of `entries`, the first one topmost.
 fn put_on_top(coming: &mut Vec<u32>, entries: &[InnerEntry]) -> Result<(), Memory>
     ensures { OnOk result (reverse coming.new.items ≡ map (λ e. e.child) entries.now ++ reverse coming.old.items) }
 {
@@ -31,7 +31,7 @@ fn put_on_top(coming: &mut Vec<u32>, entries: &[InnerEntry]) -> Result<(), Memor
     Ok(())
 }
 
-// Puts the pages that a node names on top.
+// Pushes the pages that `node` names.
 fn name_children(coming: &mut Vec<u32>, node: &Node) -> Result<(), Memory>
     ensures { OnOk result (reverse coming.new.items ≡ children node.now ++ reverse coming.old.items) }
 {
@@ -41,7 +41,7 @@ fn name_children(coming: &mut Vec<u32>, node: &Node) -> Result<(), Memory>
     }
 }
 
-// Whether a page was opened.
+// Returns whether `page` was opened.
 fn is_opened(opened: &[bool], page: u32) -> bool
     ensures { result ≡ slice_index_or opened.now page false }
 {
@@ -49,7 +49,7 @@ fn is_opened(opened: &[bool], page: u32) -> bool
     page < opened.len() && opened[page]
 }
 
-// Begins with the root.
+// Begins a walk at the root.
 fn begin(alloc: Global, live: &Live) -> Result<Walk, Memory>
     ensures few { IfOk result (λ walk. length walk.opened.items < 2 ^ 32) }
     ensures begun { IfOk result (λ walk. (s : Shelf) → IsUnderWay s s live.now walk.count walk.opened.items (reverse walk.coming.items)) }
@@ -61,7 +61,7 @@ fn begin(alloc: Global, live: &Live) -> Result<Walk, Memory>
     })
 }
 
-// Opens a page to which the walk comes.
+// Opens a page that the walk reaches.
 fn visit<P: Pages>(
     alloc: Global,
     pages: &mut P,

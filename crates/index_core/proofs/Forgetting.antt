@@ -33,7 +33,7 @@ forgotten_none law (p ∷ pages) kept = λ k d low page i. elim i [
   | inr w ↦ forgotten_none law pages (without kept p) k d low page w
 ]
 
--- what is kept agrees with pages that grow, where each page that is no new node's holds what it held
+-- what is kept agrees with pages that grow, where each page without a new node holds what it held
 pub forgotten_agrees : AgreementLasts → ForgettingKeepsAgreement → (pages : List ℕ) (kept : Option Pairs) (old new : Shelf) → GrowsTo old new →
     ((page : ℕ) (node : Node) → IsNodeOf old page node → (IsIn page pages → ⊥) → IsTrue new.tells → new.read page ≡ old.read page) → KeptAgrees kept old → KeptAgrees (forgotten_of pages kept) new
 forgotten_agrees lasts law pages None old new grows same agrees = tt
@@ -45,7 +45,7 @@ forgotten_agrees lasts law pages (Some kept) old new grows same agrees =
     still : (pages : List ℕ) (kept : Pairs) → Agrees kept old → Agrees (forgotten pages kept) old
     still pages kept agrees = forgotten_all (λ pair. IsNodeOf old pair.0 pair.1) pages kept agrees
 
--- what is kept can still be nodes of the pages, of which there may be more
+-- what is kept can still be nodes of the pages, also where there are more pages
 pub forgotten_lawful : (dim old new : ℕ) (pages : List ℕ) (kept : Option Pairs) → old ≤ new → IsLawfulKept dim old kept → IsLawfulKept dim new (forgotten_of pages kept)
 forgotten_lawful dim old new pages None more lawful = tt
 forgotten_lawful dim old new pages (Some kept) more lawful = λ k d low. wider _ (forgotten_all (λ pair. IsWithin old pair.0 × IsLawfulNode dim pair.1) pages kept lawful k d low)

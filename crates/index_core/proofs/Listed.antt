@@ -151,7 +151,7 @@ list_cause {M} fault result before_pages after_pages file before faults t old li
     cases (Repeats page) w = (tt, w.1)
     cases (Level page) w = absurd w
 
--- a walk that may only be stopped by the disk or by want of memory blames no page
+-- a walk that stops only because the disk fails or memory runs out blames no page
 pub blames_none : (fault : PageFault) (result : IndexFault) → result ≡ read_fault fault → IsPassing fault → BlamesNoPage result
 blames_none fault result is passing = subst BlamesNoPage (sym is) (cases fault passing)
   where

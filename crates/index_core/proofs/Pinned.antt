@@ -30,7 +30,7 @@ pinned_lawful t f lawful = record {
   pins = all_append (λ pin. pin ≤ t.generation) f.pins (t.generation ∷ []) lawful.pins (omega arith, tt);
 }
 
--- a list to which a pin came, or for which there was no memory
+-- a list that got a pin, or stays as it was because memory ran out
 pub pin_lawful : {X E : Type 0} (t : Live) (f g : FreePages) (r : Result X E) → IsLawfulFree t f → OnOk r (g ≡ pinned t.generation f) → OnErr r (g ≡ f) → IsLawfulFree t g
 pin_lawful t f g (Ok x) lawful ok err = subst (IsLawfulFree t) (sym ok) (pinned_lawful t f lawful)
 pin_lawful t f g (Err x) lawful ok err = subst (IsLawfulFree t) (sym err) lawful

@@ -1,4 +1,4 @@
--- The tags of what was found, as those who called the index see them.
+-- The tags of what was found, as callers of the index see them.
 use Rattle.std.specs.Prelude.{◌≡◌, ℕ, ◌+◌, ◌≤◌, [], ◌∷◌, length, Vec, vec_len, IsTrue, Result, Ok, Err, IfOk, IfErr, MatchResult}
 use Rattle.std.specs.List.{AllZip}
 use Rattle.std.specs.declared.alloc.Global.{Global}

@@ -27,38 +27,38 @@ use Rattle.index_core.specs.Index.{OpenIndex}
 use Rattle.index_core.specs.declared.faults.IndexFault.{IndexFault}
 use Rattle.index_core.specs.declared.faults.IndexFault.TheVariants.{Disk, Damaged, Full, NotEmpty, NoRoom, Worn, Stopped, Memory, Commit}
 
--- the bytes open to a head of this version
+-- `bytes` open to a head that satisfies a predicate
 abbrev pub OpensAs : List ℕ → (Head → Type 0) → Type 0
 OpensAs bytes P = (head : Head) × (live : Live) × OpensTo bytes head live × P head
 
--- Why no index was opened with a metric of so many coordinates: the disk failed, or this is the first fault of the bytes;
--- or the bytes open, but to a head of the first version, or to one of points of other lengths.
+-- Why an index was not opened with a metric of `words` coordinates: the disk failed, or the fault is the first fault of the bytes; or
+-- the bytes open to a head of version 1, or to a head whose points have another number of coordinates.
 abbrev pub HasReaderCause : ℕ → DiskState → DiskState → OpenFault → Type 0
 HasReaderCause words old new fault =
     HasOpenCause old new fault
     ⊎ (((fault ≡ NoHead Version) × (IsTrue old.tells → OpensAs old.bytes (λ head. head.version ≡ 1)))
     ⊎ ((fault ≡ NoHead Space) × (IsTrue old.tells → OpensAs old.bytes (λ head. (head.version ≡ 2) × (head.dim ≢ words)))))
 
--- what the refusal of a walk is to whoever called the index
+-- maps a walk's fault to the index's
 abbrev pub read_fault : PageFault → IndexFault
 read_fault page.Disk = Disk
 read_fault page.Memory = Memory
 read_fault fault = Damaged fault
 
--- why a reading call refuses, by why its walk does
+-- why a reading call refuses, given why its walk does
 abbrev pub HasReadCause : (PageFault → Type 0) → IndexFault → Type 0
 HasReadCause walk Disk = walk page.Disk
 HasReadCause walk (Damaged fault) = IsDamage fault × walk fault
 HasReadCause walk Memory = Unit {0}
 HasReadCause walk _ = ⊥
 
--- what may come at any time: the disk failed, or memory ran out
+-- faults that any call may meet: the disk failed, or memory ran out
 abbrev pub MayComeAnytime : IndexFault → Type 0
 MayComeAnytime Disk = Unit {0}
 MayComeAnytime Memory = Unit {0}
 MayComeAnytime _ = ⊥
 
--- what the refusal of an insertion is to whoever called the index
+-- maps an insertion's fault to the index's
 abbrev pub place_fault : PlaceFault → IndexFault
 place_fault (place.Page fault) = read_fault fault
 place_fault place.Full = Full
@@ -66,8 +66,7 @@ place_fault (place.NoRoom pages needed) = NoRoom pages needed
 place_fault place.Worn = Worn
 place_fault place.Memory = Memory
 
--- an insertion found the file damaged: a page holds no node, or is none of the file's, or stands at another level than its depth asks
--- for
+-- an insertion found the file damaged: a page holds no node, lies outside the file, or has another level than its depth asks for
 abbrev pub IsPathDamage : PageFault → Type 0
 IsPathDamage (page.Bad p fault) = Unit {0}
 IsPathDamage (page.Outside p) = Unit {0}
@@ -78,13 +77,13 @@ IsPathDamage _ = ⊥
 abbrev pub rules_of : {M : Type 0} → Metrized → OpenFile M → Rules
 rules_of s file = rules s file.head.promote file.head.split
 
--- the free pages that an insertion may use, the least ones first: a split of each node from the leaf up and a new root take so many
--- at the most
+-- the free pages that an insertion may use, the least ones first: it needs at most `2 * height + 3` for a split of each node from
+-- the leaf up and a new root
 abbrev pub offered_pages : Live → FreePages → List ℕ
 offered_pages t f = take (2 * t.height + 3) f.free
 
--- Why an object was not placed: the disk failed, memory ran out, or the first fault of its walk; or the new nodes that get none of
--- the free pages need more pages than a file may have.
+-- Why an object was not placed: the disk failed, memory ran out, or its walk met a fault, which is the first one; or the new nodes
+-- that get no free page need more pages than a file may have.
 abbrev pub HasPathCause : {M : Type 0} → Metrized → OpenFile M → FreePages → Object → DiskState → DiskState → IndexFault → Type 0
 HasPathCause s file f o old new Disk = Rose old.faults new.faults
 HasPathCause s file f o old new (Damaged fault) =
@@ -99,15 +98,15 @@ abbrev pub BlamesNoPage : IndexFault → Type 0
 BlamesNoPage (Damaged fault) = ⊥
 BlamesNoPage _ = Unit {0}
 
--- why no free list was made: the disk failed, which then counted so many faults, or memory ran out, or it is the first fault of the
--- walk of the live tree by child numbers
+-- why no free list was made: the disk failed and its fault count rose to `faults`, memory ran out, or the fault is the first one of
+-- the walk of the live tree by child numbers
 abbrev pub HasListCause : {M : Type 0} → OpenFile M → DiskState → ℕ → IndexFault → Type 0
 HasListCause file old faults Disk = Rose old.faults faults
 HasListCause file old faults (Damaged fault) = IsDamage fault × (IsTrue old.tells → tree_walk (pages_on file old 0).read file.live ≡ Err fault)
 HasListCause file old faults Memory = Unit {0}
 HasListCause file old faults _ = ⊥
 
--- the walk of a tree by child numbers is whole, and these are the pages from 3 up to which it does not come
+-- the walk of a tree by child numbers completes, and `free` lists the pages from 3 up that it does not reach
 abbrev pub LieOutside : Read → Live → List ℕ → Type 0
 LieOutside read t free = (tree : List ℕ) × (tree_walk read t ≡ Ok tree) × (free ≡ outside_pages t.pages tree)
 
@@ -121,9 +120,9 @@ pub record IsMadeList {M : Type 0} (file : OpenFile M) (disk : DiskState) (f : F
 abbrev pub IsListOf : {M : Type 0} → OpenIndex M → DiskState → FreePages → Type 0
 IsListOf index disk f = MatchOption index.free (IsMadeList index.file disk f) (λ g. f ≡ g)
 
--- Why an object was not inserted: a commit failed before; the disk failed; a page is damaged to which the walk came that makes the free
--- list, or else, once there is a list, that of the insertion; the new nodes have no room; memory ran out; or the disk failed in the
--- commit. That the index is full or worn is said by itself.
+-- Why an object was not inserted: a commit failed before; the disk failed; the walk that makes the free list met a damaged page, or
+-- else, once there is a list, the walk of the insertion did; the new nodes have no room; memory ran out; or the disk failed in the
+-- commit. The causes Full and Worn are stated elsewhere.
 abbrev pub HasInsertCause : {M : Type 0} → Metrized → OpenIndex M → Object → DiskState → DiskState → IndexFault → Type 0
 HasInsertCause s index o old new Stopped = index.stopped ≡ true
 HasInsertCause s index o old new Full = Unit {0}

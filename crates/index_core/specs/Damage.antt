@@ -17,7 +17,7 @@ use Rattle.index_core.specs.declared.faults.IndexFault.{IndexFault}
 use Rattle.index_core.specs.declared.faults.IndexFault.TheVariants.{Damaged}
 use Rattle.index_core.specs.Files.{OpenFile}
 
--- A walk by child numbers comes to the page again: it has opened this page already, or as many as there are.
+-- A walk by child numbers reaches the page again: it has opened this page already, or as many pages as the file has.
 pub record ComesAgain (nodes : Nodes) (t : Live) (page : ℕ) : Type 0 where
   pub opened : List ℕ
   pub coming : List ℕ
@@ -25,12 +25,12 @@ pub record ComesAgain (nodes : Nodes) (t : Live) (page : ℕ) : Type 0 where
   pub comes : IsIn page coming
   pub again : IsIn page opened ⊎ (t.pages ≤ length opened)
 
--- child numbers lead from one page to another in so many steps
+-- child numbers lead from one page to another in `steps` steps
 abbrev pub LeadsTo : Nodes → ℕ → ℕ → ℕ → Type 0
 LeadsTo nodes zero from page = page ≡ from
 LeadsTo nodes (suc steps) from page = (e : InnerEntry) × IsIn e (inner_entries (nodes from)) × LeadsTo nodes steps e.child page
 
--- a node so high above the leaves: a leaf is at none, and an inner node at its level
+-- a node stands at a height above the leaves: a leaf at 0, and an inner node at its level
 abbrev pub IsAtHeight : ℕ → Node → Type 0
 IsAtHeight zero (Leaf es) = Unit {0}
 IsAtHeight zero (Inner level es) = ⊥
@@ -51,9 +51,9 @@ pub record HasOtherLevel (nodes : Nodes) (t : Live) (page : ℕ) : Type 0 where
 abbrev pub IsFullTop : ℕ → Nodes → Live → ℕ → Type 0
 IsFullTop dim nodes t page = (page ≡ t.root) × (t.height ≡ 14) × (most_for dim ≤ length (inner_entries (nodes page)))
 
--- What a fault says of a page is so, in the tree of a live slot in a file of these bytes, whose points have so many coordinates. Child
--- numbers lead to the page from the root. It holds no node, for this reason; or it is none of the pages that may hold nodes; or a walk
--- comes to it again; or its node has another level than its depth asks for, or is full at the greatest.
+-- What a fault says of a page is true, in the tree of live slot `t` in a file with `bytes`, whose points have `dim` coordinates.
+-- Child numbers lead to the page from the root. Bad: it holds no node, for the reason given. Outside: it is no page that may hold a
+-- node. Repeats: a walk reaches it again. Level: its node has another level than its depth asks for, or is full at the greatest height.
 abbrev pub IsDamageOf : ℕ → List ℕ → Live → PageFault → Type 0
 IsDamageOf dim bytes t (Bad page fault) = IsReached (nodes_of (reading dim t.pages bytes)) t.root page × (reading dim t.pages bytes page ≡ Err (Bad page fault))
 IsDamageOf dim bytes t (Outside page) = IsReached (nodes_of (reading dim t.pages bytes)) t.root page × (IsWithin t.pages page → ⊥)

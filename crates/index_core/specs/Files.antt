@@ -1,4 +1,4 @@
--- What an opened index is, and on which disks it stands.
+-- An opened index, and the disks on which it stands.
 use Rattle.std.specs.Prelude.{◌≡◌, ℕ, ◌≤◌, false, IsTrue, Option, MatchOption, All}
 use Rattle.disk_model.specs.Disk.{DiskState, IsUnchanged}
 use Rattle.tree_shape.specs.declared.live.Live.{Live}
@@ -13,15 +13,14 @@ use Rattle.page_store.specs.Shelves.{disk_shelf}
 use Rattle.page_cache.specs.Keeping.{Pairs}
 use Rattle.index_core.specs.Lending.{KeptAgrees, SameRoom}
 
--- an opened index: its head, its live slot, the metric that it was opened with, and what is kept of its pages, where
--- something is
+-- an opened index: its head, its live slot, the metric that it was opened with, and its cache of nodes, if any
 pub record OpenFile (M : Type 0) : Type 0 where
   pub head : Head
   pub live : Live
   pub metric : M
   pub kept : Option Pairs
 
--- the pages of an opened index on a disk, of which so many were asked for
+-- the pages of an opened index on a disk, where `asked` reads were asked for so far
 abbrev pub pages_on : {M : Type 0} → OpenFile M → DiskState → ℕ → Shelf
 pages_on file disk asked = disk_shelf false file.head.dim file.live.pages disk asked
 
@@ -35,11 +34,11 @@ pub record StandsOn {M : Type 0} (file : OpenFile M) (disk : DiskState) : Type 0
   pub opens : IsTrue disk.tells → OpensTo disk.bytes file.head file.live
   pub agrees : KeptAgrees file.kept (pages_on file disk 0)
 
--- what is kept can be nodes of these pages, whatever a disk holds
+-- what is kept can be nodes of a file of `pages` pages, whatever a disk holds
 abbrev pub IsLawfulKept : ℕ → ℕ → Option Pairs → Type 0
 IsLawfulKept dim pages kept = MatchOption kept (Unit {0}) (λ pairs. All (λ pair. IsWithin pages pair.0 × IsLawfulNode dim pair.1) pairs.entries)
 
--- what always holds of an opened index whose points have so many coordinates, wherever it stands
+-- what always holds of an opened index whose points have `words` coordinates, wherever it stands
 pub record IsLawfulFile {M : Type 0} (words : ℕ) (file : OpenFile M) : Type 0 where
   pub head : IsLawfulHead file.head
   pub version : file.head.version ≡ 2

@@ -1,4 +1,4 @@
--- What an index is that is opened for writing, and on which disks it stands.
+-- An index that is opened for writing, and the disks on which it stands.
 use Rattle.std.specs.Prelude.{◌≡◌, ℕ, ◌≤◌, Bool, false, IsTrue, IsSome, List, Option, MatchOption}
 use Rattle.std.specs.List.{AllByRecursion}
 use Rattle.disk_model.specs.Disk.{DiskState, LeavesOnly}

@@ -1,4 +1,4 @@
--- Pages that are lent to a search, behind what is kept of them where something is.
+-- Pages that are lent to a search, behind a cache of nodes if there is one.
 use Rattle.std.specs.Prelude.{◌≡◌, Option, Some, None, MatchOption, refl}
 use Rattle.std.proofs.Common.{◌∙◌}
 use Rattle.page_store.specs.Shelf.{Shelf}
@@ -7,7 +7,7 @@ use Rattle.page_cache.specs.Cache.{asked_for}
 use Rattle.index_core.specs.declared.lending.Lent.{Lent}
 use Rattle.index_core.specs.declared.lending.Lent.TheVariants.{Plain, Behind}
 
--- what is kept, where something is, agrees with the pages
+-- the cache, if any, agrees with the pages
 abbrev pub KeptAgrees : Option Pairs → Shelf → Type 0
 KeptAgrees kept shelf = MatchOption kept (Unit {0}) (λ pairs. Agrees pairs shelf)
 
@@ -16,17 +16,17 @@ abbrev pub lent_inner : {P : Type 0} → Lent P → P
 lent_inner (Plain inner) = inner
 lent_inner (Behind cached) = cached.inner
 
--- what is kept of them
+-- the cache, if any
 abbrev pub lent_kept : {P : Type 0} → Lent P → Option Pairs
 lent_kept (Plain inner) = None
 lent_kept (Behind cached) = Some cached.kept
 
--- what they mean to a search, by what the pages themselves mean
+-- the pages as a search sees them, given how the pages themselves are seen
 abbrev pub lent_shelf : {P : Type 0} → (P → Shelf) → Lent P → Shelf
 lent_shelf shelf (Plain inner) = shelf inner
 lent_shelf shelf (Behind cached) = asked_for (shelf cached.inner) cached.asked
 
--- what is kept has room for as much as before
+-- the cache has the same capacity as before
 abbrev pub SameRoom : Option Pairs → Option Pairs → Type 0
 SameRoom None None = Unit {0}
 SameRoom None (Some new) = ⊥

@@ -12,19 +12,19 @@ use Rattle.index_core.specs.Index.{OpenIndex, AreSpare}
 abbrev pub IsPinned : {M : Type 0} → ℕ → OpenIndex M → Type 0
 IsPinned generation index = MatchOption index.free ⊥ (λ f. IsIn generation f.pins)
 
--- a free list with a pin more
+-- a free list with one pin more
 abbrev pub pinned : ℕ → FreePages → FreePages
 pinned generation f = record f { pins = f.pins ++ generation ∷ [] }
 
--- a free list with a pin of this generation less
+-- a free list with one pin of `generation` less
 abbrev pub unpinned : ℕ → FreePages → FreePages
 unpinned generation f = with_pins f (without_pin generation f.pins)
 
--- the free list, once it is made, lies beside the live tree of these nodes
+-- the free list, once it is made, lies beside the live tree of the nodes
 abbrev pub LiesBesideTree : {M : Type 0} → Nodes → OpenIndex M → Type 0
 LiesBesideTree nodes index = MatchOption index.free (Unit {0}) (AreSpare nodes index.file.live)
 
--- its pages are exactly those outside these
+-- the free and held pages, once the list is made, are exactly those outside `tree`
 abbrev pub LiesOutside : {M : Type 0} → List ℕ → OpenIndex M → Type 0
 LiesOutside tree index = MatchOption index.free (Unit {0}) (AreOutside index.file.live.pages tree)
 
@@ -35,6 +35,6 @@ HasPinned generation old new =
     (MatchOption new.free ⊥ (λ g. g.pins ≡ generation ∷ []))
     (λ f. new.free ≡ Some (pinned generation f))
 
--- child numbers lead from the root to each of these pages
+-- child numbers lead from the root to each of the pages
 abbrev pub AreReached : Nodes → ℕ → List ℕ → Type 0
 AreReached nodes root tree = AllByRecursion (IsReached nodes root) tree

@@ -33,12 +33,12 @@ use Rattle.index_core.specs.Lending.{SameRoom}
 
 -- ---- what is written
 
--- an object more, with its point and its tag; or all objects at once, of an index that has none
+-- one more object, with its point and its tag; or all objects at once, for an index that has none
 pub data Write : Type 0 where
   Inserts : List ℕ → ℕ → Write
   Loads : List (List ℕ) → List ℕ → Write
 
--- the points of the objects after it, in order of id, and their tags
+-- the points of the objects after the write, in order of id, and their tags
 abbrev pub points_after : Write → List (List ℕ) → List (List ℕ)
 points_after (Inserts point tag) points = points ++ point ∷ []
 points_after (Loads rows labels) points = rows
@@ -47,31 +47,31 @@ abbrev pub tags_after : Write → List ℕ → List ℕ
 tags_after (Inserts point tag) tags = tags ++ tag ∷ []
 tags_after (Loads rows labels) tags = labels
 
--- how many objects it adds
+-- how many objects the write adds
 abbrev pub added_by : Write → ℕ
 added_by (Inserts point tag) = 1
 added_by (Loads rows labels) = length rows
 
--- what it answers where there were so many objects: the new object's id, or how many objects there are
+-- the answer of a write to an index of `count` objects: the new object's id, or the number of objects loaded
 abbrev pub answer_to : Write → ℕ → ℕ
 answer_to (Inserts point tag) count = count
 answer_to (Loads rows labels) count = length rows
 
--- the tree after it, by the rules of the head: that of VLDB's insertion, or of this project's bulk loading
+-- the tree after the write, by the rules of the head: VLDB's insertion, or this project's bulk loading
 abbrev pub tree_after : Space → Head → Write → ℕ → Tall → Tall
 tree_after s head (Inserts point tag) count tree = placed s head.promote head.split (record { id = count; tag = tag; point = point }) tree
 tree_after s head (Loads rows labels) count tree = built s rows labels
 
 -- ---- on a sound file
 
--- the disk tells its bytes, the live tree in them is sound, and its objects have these points and tags, in order of id
+-- the disk tells its bytes, the live tree in them is sound, and its objects have `points` and `tags`, in order of id
 pub record HasObjects {M : Type 0} (s : Space) (file : OpenFile M) (disk : DiskState) (points : List (List ℕ)) (tags : List ℕ) : Type 0 where
   pub tells : IsTrue disk.tells
   pub sound : IsSoundTree s (nodes_on file disk) file.live
   pub points_are : points_on file disk ≡ points
   pub tags_are : tags_on file disk ≡ tags
 
--- the file opens to this head, is sound, and its objects have these points and tags, in order of id
+-- the file opens to `head`, is sound, and its objects have `points` and `tags`, in order of id
 pub record HoldsObjects (s : Space) (head : Head) (points : List (List ℕ)) (tags : List ℕ) (file : List ℕ) : Type 0 where
   pub live : Live
   pub is : IsFileOf s head live points tags file
@@ -96,8 +96,8 @@ abbrev pub offered_to : Write → Live → FreePages → List ℕ
 offered_to (Inserts point tag) t f = offered_pages t f
 offered_to (Loads rows labels) t f = f.free
 
--- The pages of a new tree that the old one has not are the first of these numbers and, where they are too few, the pages from the
--- file's end on.
+-- The pages of a new tree that are not in the old one are the first of `numbers` and, where `numbers` are too few, the pages from
+-- the file's end on.
 pub record AreLeastPages (numbers : List ℕ) (end : ℕ) (old new : List ℕ) : Type 0 where
   pub made : List ℕ
   pub numbered : made ≡ map (number_at numbers end) (range_with_len 0 (length made))
@@ -114,7 +114,7 @@ pub record StandsOnLeast {M : Type 0} (s : Space) (write : Write) (old new : Ope
 
 -- ---- on any file
 
--- the next live slot; nothing else of the index changes but what is kept of its pages and its free list
+-- the next live slot; nothing else of the index changes but its cache and its free list
 pub record IsNext {M : Type 0} (write : Write) (old new : OpenIndex M) : Type 0 where
   pub live : Live
   pub is : new ≡ record old { file = record old.file { live = live; kept = new.file.kept }; free = new.free }
@@ -124,14 +124,14 @@ pub record IsNext {M : Type 0} (write : Write) (old new : OpenIndex M) : Type 0 
   pub pages : old.file.live.pages ≤ live.pages
   pub room : SameRoom old.file.kept new.file.kept
 
--- A refusal leaves all as it was, but for what is kept of the pages, and for the free list, which may have been made.
+-- A refusal leaves everything as it was, but for the cache, and for the free list, which may have been made.
 pub record IsRefused {M : Type 0} (old new : OpenIndex M) (before after : DiskState) : Type 0 where
   pub is : new ≡ record old { file = record old.file { kept = new.file.kept }; free = new.free }
   pub room : SameRoom old.file.kept new.file.kept
   pub free : MatchOption old.free (Unit {0}) (λ f. new.free ≡ Some f)
   pub same : IsUnchanged before after
 
--- these pages are guarded by the pin of a generation
+-- the pin of a generation guards the given pages
 abbrev pub GuardsPages : {M : Type 0} → ℕ → List ℕ → OpenIndex M → Type 0
 GuardsPages generation tree index = MatchOption index.free ⊥ (λ f. IsGuarded index.file.live.pages generation f tree)
 
@@ -139,10 +139,10 @@ GuardsPages generation tree index = MatchOption index.free ⊥ (λ f. IsGuarded 
 abbrev pub KeepsPages : List ℕ → DiskState → DiskState → Type 0
 KeepsPages tree before after = EachImage before after (λ image. AllByRecursion (λ page. page_of image page ≡ page_of before.bytes page) tree)
 
--- What a write does, on any file. Commit comes where the disk failed in the commit, and stops the index, which then has no free list
--- and no pins any more. On a sound file a crash at any moment leaves the objects before or after, and after Ok the file has the tree
--- after, whose new nodes stand on the least pages; where free and held pages were exactly those outside the tree they are so again,
--- whatever the answer. What a pin guards stays guarded, and holds what it held at every moment.
+-- What a write does, on any file. `Commit` comes where the disk failed in the commit. It stops the index, which then has no free list
+-- and no pins. On a sound file a crash at any moment leaves the objects before or after. After `Ok` the file has the tree after, with
+-- its new nodes on the least pages. Where free and held pages were exactly those outside the tree they are so again, whatever the
+-- result. After `Ok` what a pin guards is still guarded. Whatever the result, a guarded page holds at every moment what it held.
 pub record HasWritten {M : Type 0} (s : Space) (write : Write) (old new : OpenIndex M) (before after : DiskState) (result : Result ℕ IndexFault) : Type 0 where
   pub answer : IfOk result (λ n. n ≡ answer_to write old.file.live.count)
   pub next : OnOk result (IsNext write old new)
@@ -163,7 +163,7 @@ pub record HasWritten {M : Type 0} (s : Space) (write : Write) (old new : OpenIn
 
 -- ---- one commit
 
--- Nodes were placed for the file: on the first of its free pages, of which so many are used, and from its end on.
+-- Nodes were placed for the file: on the first `used` of its free pages, and from its end on.
 pub record IsPlacedOn {M : Type 0} (file : OpenFile M) (f : FreePages) (used : ℕ) (placed : Placed) : Type 0 where
   pub added : ℕ
   pub asked : ℕ
@@ -171,16 +171,16 @@ pub record IsPlacedOn {M : Type 0} (file : OpenFile M) (f : FreePages) (used : �
   pub used_is : used ≡ min (length placed.staged) (length (take asked f.free))
   pub left_within : AllByRecursion (IsWithin file.live.pages) placed.left
 
--- they stand on the pages that are offered to this write, and then on those from the file's end on
+-- the new nodes stand on the pages that are offered to `write`, and then on those from the file's end on
 abbrev pub IsNumberedFor : {M : Type 0} → Write → OpenFile M → FreePages → Placed → Type 0
 IsNumberedFor write file f placed =
     pages_of placed.staged ≡ map (number_at (offered_to write file.live f) file.live.pages) (range_with_len 0 (length placed.staged))
 
--- they take the place of the left ones, or are a tree by themselves in place of the root
+-- the new nodes take the place of the left ones, or are a tree by themselves in place of the root
 abbrev pub Follows : Nodes → Live → Placed → Type 0
 Follows nodes t placed = TakesPlace nodes t placed ⊎ (StandsByItself placed × (placed.left ≡ t.root ∷ []))
 
--- what is kept once pages are forgotten
+-- the cache after pages are forgotten
 abbrev pub forgotten : List ℕ → Pairs → Pairs
 forgotten [] kept = kept
 forgotten (page ∷ pages) kept = forgotten pages (without kept page)
@@ -196,7 +196,7 @@ pub record IsMadeBy (s : Space) (head : Head) (write : Write) (old : Nodes) (t :
   pub balance : (page : ℕ) → times page (live_pages new placed.next) + times page placed.left ≡ times page
       (live_pages old t) + times page (pages_of placed.staged)
 
--- what was placed is this write, on a sound file: none of its pages lies in the live tree, and it makes the tree after the write
+-- what was placed is the write, on a sound file: none of its pages lies in the live tree, and it makes the tree after the write
 pub record IsPlacedFor (s : Space) (head : Head) (write : Write) (old : Nodes) (t : Live) (placed : Placed) : Type 0 where
   pub apart : AreBeside old t (pages_of placed.staged)
   pub makes : (new : Nodes) → IsOver old t placed.staged new → IsMadeBy s head write old t placed new

@@ -11,8 +11,8 @@ pub enum IndexFault {
     /// A page could not be read.
     #[error("the disk failed")]
     Disk,
-    /// The file is no sound index: a page holds no node, or is none of the file's, or is reached twice, or an
-    /// insertion met a page at another level than its depth asks for.
+    /// The file is no sound index: a page holds no node, lies outside the file, or is reached twice, or an insertion met a page
+    /// at another level than its depth asks for.
     #[error("a damaged index: {0}")]
     Damaged(PageFault),
     /// The index has as many objects as its head allows, or would have more.
@@ -21,7 +21,7 @@ pub enum IndexFault {
     /// A load found objects.
     #[error("the index has objects")]
     NotEmpty,
-    /// The new nodes need so many pages more than the file has, and a file may have no more.
+    /// The new nodes need `needed` pages more than the file's `pages`, and a file may not have that many.
     #[error("{needed} pages more than {pages} are too many")]
     NoRoom { pages: u32, needed: u32 },
     /// There is no further generation.
@@ -30,7 +30,7 @@ pub enum IndexFault {
     /// A commit failed before: the file has to be opened anew.
     #[error("a commit failed before")]
     Stopped,
-    /// There was no memory.
+    /// Memory ran out.
     #[error("out of memory")]
     Memory,
     /// The disk failed in the commit: the file has the tree before or the one after, and has to be opened anew.
@@ -38,7 +38,7 @@ pub enum IndexFault {
     Commit,
 }
 
-// What the refusal of a walk is to whoever called the index.
+// Maps a walk's fault to the index's.
 pub(crate) fn read_fault(fault: PageFault) -> IndexFault
     ensures { result ≡ read_fault fault }
 {
@@ -49,7 +49,7 @@ pub(crate) fn read_fault(fault: PageFault) -> IndexFault
     }
 }
 
-// What the refusal of an insertion is to whoever called the index.
+// Maps an insertion's fault to the index's.
 pub(crate) fn place_fault(fault: PlaceFault) -> IndexFault
     ensures { result ≡ place_fault fault }
 {
@@ -62,7 +62,7 @@ pub(crate) fn place_fault(fault: PlaceFault) -> IndexFault
     }
 }
 
-// What the answer of a walk is to whoever called the index.
+// Maps a walk's answer to the index's: keeps `Ok`, and maps the fault.
 pub(crate) fn answer_of<T>(answer: Result<T, PageFault>) -> Result<T, IndexFault>
     ensures { MatchResult answer (λ value. result ≡ Ok value) (λ fault. result ≡ Err (read_fault fault)) }
 {

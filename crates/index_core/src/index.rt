@@ -23,7 +23,7 @@ use std::alloc::Global;
 use std::marker::Model;
 use tree_shape::Live;
 
-/// An index file that is opened for writing. It does not hold its disk, which each call that reads or writes is lent.
+/// An index file that is opened for writing. It does not hold its disk: each call that reads or writes gets one.
 /// Contracts see what they see of a `View`, the free list once it is made, whether the index is stopped, and how many threads
 /// a load may use.
 #[derive(Drop)]
@@ -45,9 +45,9 @@ impl<M: Metric> Model for Index<M> {
 }
 
 impl<M: Metric> Index<M> {
-    /// Opens an index file whose points this metric measures, after a sync: what a read gives then is all that a crash may
-    /// leave. The faults are those of `View::open_read`, and `Disk` comes also where the sync failed. A load uses one
-    /// thread, and no free list is made yet.
+    /// Opens an index file whose points `metric` measures, after a sync: what a read gives then is all that a crash may leave.
+    /// The faults are those of `View::open_read`. `Disk` comes also where the sync failed. A load uses one thread, and no free list
+    /// is made yet.
     pub fn open_write<D: Disk>(disk: &mut D, metric: M) -> Result<Self, OpenFault>
         ensures stands { IfOk result (λ index. StandsAlone index (D.state disk.new)) }
         ensures lawful { IfOk result (λ index. IsLawfulFile (M.space metric).words index.file) }
@@ -60,7 +60,7 @@ impl<M: Metric> Index<M> {
         ensures cause { IfErr result (HasReaderCause (M.space metric).words (D.state disk.old) (D.state disk.new)) }
         ensures bytes { (D.state disk.new).bytes ≡ (D.state disk.old).bytes }
         ensures tells { (D.state disk.new).tells ≡ (D.state disk.old).tells }
-        // The sync takes images away, and a refusal besides that of a disk that failed comes after it.
+        // The sync only removes crash images. A refusal other than `Disk` comes after it.
         ensures time { EachImage (D.state disk.old) (D.state disk.new) (MayLeave (D.state disk.old)) }
         ensures fewer { (image : List ℕ) → MayLeave (D.state disk.new) image → MayLeave (D.state disk.old) image }
         ensures synced { IfErr result (λ fault. (fault ≡ OpenFault.Disk) ⊎ LeavesOnly (D.state disk.new) (D.state disk.new).bytes) }
@@ -82,14 +82,14 @@ impl<M: Metric> Index<M> {
         }
     }
 
-    /// What always holds of an opened index, for whoever is lent one.
+    /// States what always holds of an opened index, for callers that hold a reference to one.
     pub fn is_lawful(&self)
         ensures { IsLawfulFile (M.space self.now.file.metric).words self.now.file }
     {
         self.view.is_lawful();
     }
 
-    /// How many threads a load may use from now on, 1 to 64.
+    /// Sets how many threads a load may use from now on, 1 to 64.
     pub fn set_workers(&mut self, workers: usize)
         requires some { 1 ≤ workers }
         requires few { workers ≤ 64 }
@@ -98,7 +98,7 @@ impl<M: Metric> Index<M> {
         self.workers = workers;
     }
 
-    /// How many threads a load may use.
+    /// Returns how many threads a load may use.
     pub fn workers(&self) -> usize
         ensures is { result ≡ self.now.workers }
         ensures some { 1 ≤ result }
@@ -107,47 +107,47 @@ impl<M: Metric> Index<M> {
         self.workers
     }
 
-    /// Keeps the nodes that are asked for last from now on, at most so many, of which there has to be one: a page whose node
-    /// is kept is not read again. What was kept before is dropped. `Memory` changes nothing.
+    /// Keeps the last `nodes` nodes asked for from now on (at least 1): a page whose node is kept is not read again. What was kept
+    /// before is dropped. `Memory` changes nothing.
     pub fn use_cache(&mut self, alloc: Global, nodes: usize) -> Result<(), Memory>
         requires { 1 ≤ nodes }
         ensures ok { OnOk result (self.new ≡ record self.old { file = record self.old.file { kept = Some (lru_cache [] nodes) } }) }
         ensures err { OnErr result (self.new ≡ self.old) }
-        // Nothing is kept yet that a disk could gainsay.
+        // Nothing is kept yet, so nothing can contradict a disk.
         ensures agrees { OnOk result ((pages : Shelf) → KeptAgrees self.new.file.kept pages) }
     {
         self.view.use_cache(alloc, nodes)
     }
 
-    /// How many objects there are.
+    /// Returns the number of objects.
     pub fn count(&self) -> u32
         ensures { result ≡ self.now.file.live.count }
     {
         self.view.count()
     }
 
-    /// The live slot of the file.
+    /// Returns the live slot of the file.
     pub fn live(&self) -> Live
         ensures { result ≡ self.now.file.live }
     {
         self.view.live()
     }
 
-    /// The head of the file.
+    /// Returns the head of the file.
     pub fn head(&self) -> Head
         ensures { result ≡ self.now.file.head }
     {
         self.view.head()
     }
 
-    /// The metric with which the file was opened.
+    /// Returns the metric with which the file was opened.
     pub fn metric(&self) -> M
         ensures { result ≡ self.now.file.metric }
     {
         self.view.metric()
     }
 
-    /// Every object within `r` of `q`, by distance, then by id, and the log that shows it. `Stopped` comes where a commit
+    /// Returns every object within `r` of `q`, by distance, then by id, and the log that shows it. `Stopped` comes where a commit
     /// failed before, and touches nothing. The other refusals are those of `View::range`.
     pub fn range<D: Disk>(
         &mut self,
@@ -170,7 +170,7 @@ impl<M: Metric> Index<M> {
         ensures cause { self.old.stopped ≡ false →
             IfErr result (HasRangeCause (M.space self.old.file.metric) self.old.file q.now r (D.state disk.old)
             (D.state disk.new)) }
-        // A page that it blames is damaged.
+        // A page that the refusal blames is damaged.
         ensures damage { IfErr result (BlamesDamage self.old.file (D.state disk.old)) }
     {
         if self.stopped {
@@ -179,7 +179,7 @@ impl<M: Metric> Index<M> {
         self.view.range(alloc, disk, q, r)
     }
 
-    /// The `k` objects nearest to `q`, by distance, then by id, and the log that shows it. The refusals are those of `range`.
+    /// Returns the `k` objects nearest to `q`, by distance, then by id, and the log that shows it. The refusals are those of `range`.
     pub fn nearest<D: Disk>(
         &mut self,
         alloc: Global,
@@ -198,11 +198,11 @@ impl<M: Metric> Index<M> {
         ensures rest { self.new ≡ record self.old { file = self.new.file } }
         ensures searched { self.old.stopped ≡ false → HasSearched (M.space self.old.file.metric) self.old.file (Nearest q.now k)
             (D.state disk.old) (D.state disk.new) result }
-        // On any file: the records are a front of a walk with the least marks, and the answers those that it names.
+        // On any file: the records are a front of a walk with the least marks, and the answers are those that the records name.
         ensures front { IfOk result (λ found. IsTrue (D.state disk.old).tells →
             IsFront (M.space self.old.file.metric) (nodes_on self.old.file (D.state disk.old)) self.old.file.live q.now k found) }
         ensures cause { self.old.stopped ≡ false → IfErr result (HasReachCause self.old.file (D.state disk.old) (D.state disk.new)) }
-        // A page that it blames is damaged.
+        // A page that the refusal blames is damaged.
         ensures damage { IfErr result (BlamesDamage self.old.file (D.state disk.old)) }
     {
         if self.stopped {
@@ -211,8 +211,8 @@ impl<M: Metric> Index<M> {
         self.view.nearest(alloc, disk, q, k)
     }
 
-    /// The levels, numbers of entries, routing points and covering radii of the tree's nodes, in pre-order. The refusals are
-    /// those of `range`.
+    /// Returns the levels, numbers of entries, routing points and covering radii of the tree's nodes, in pre-order. The refusals
+    /// are those of `range`.
     pub fn shape<D: Disk>(&mut self, alloc: Global, disk: &mut D) -> Result<Shape, IndexFault>
         requires stands { MayGoOn self.old (D.state disk.old) }
         ensures stopped { self.old.stopped ≡ true → (result ≡ Err IndexFault.Stopped) × (self.new ≡ self.old) × (disk.new ≡ disk.old) }

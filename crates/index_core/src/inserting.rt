@@ -1,4 +1,4 @@
-// Inserts into an index, each of them one commit.
+// Inserts into an index. Each is one commit.
 ghost use Rattle.std.specs.Prelude.{◌≡◌, ◌≢◌, ◌↔◌, ◌⊎◌, ◌+◌, ◌-◌, ◌^◌, ◌≤◌, false, true, Some, Err, IsTrue, IsSome, IfErr, OnOk};
 ghost use Rattle.outside_io.specs.Causes.{Rose};
 ghost use Rattle.disk_model.specs.Disk.{LeavesOnly};
@@ -19,8 +19,8 @@ use std::alloc::Global;
 use tree_shape::{LAST_GENERATION, Live};
 
 impl<M: Metric> Index<M> {
-    // Commits what was placed on pages of this free list, and then gives the answer. The index is stopped where the disk fails in
-    // the commit.
+    // Commits `placement`, made on pages of the free list `free`, and then returns `answer`. A disk fault in the commit stops the
+    // index.
     pub(crate) fn commit_placed<D: Disk>(
         &mut self,
         disk: &mut D,
@@ -68,7 +68,7 @@ impl<M: Metric> Index<M> {
         Ok(answer)
     }
 
-    /// Adds an object with this point, and answers its id, which is the number of objects before. Its tag is the id. The
+    /// Adds an object with point `p`, and returns its id, which is the number of objects before. Its tag is the id. The
     /// refusals are those of `insert_tagged`.
     pub fn insert<D: Disk>(
         &mut self,
@@ -87,7 +87,7 @@ impl<M: Metric> Index<M> {
             (result ≡ Err IndexFault.Worn) ↔ ((self.old.file.live.count ≢ self.old.file.head.limit) × (self.old.file.live.generation ≡ 2 ^ 48 - 1)) }
         ensures cause { IfErr result (HasInsertCause (M.space self.old.file.metric) self.old
             (record { id = self.old.file.live.count; tag = self.old.file.live.count; point = p.now }) (D.state disk.old) (D.state disk.new)) }
-        // A page that it blames is damaged.
+        // A page that the refusal blames is damaged.
         ensures damage { IfErr result (BlamesDamage self.old.file (D.state disk.old)) }
         ensures undamaged { IfErr result (λ fault. IsSoundOn (M.space self.old.file.metric) self.old.file (D.state disk.old) → BlamesNoPage fault) }
         ensures few { IsSome self.old.free → (D.state disk.new).reads ≤ (D.state disk.old).reads + (self.old.file.live.height + 2) }
@@ -100,14 +100,16 @@ impl<M: Metric> Index<M> {
         self.insert_tagged(alloc, disk, p, tag)
     }
 
-    /// Adds an object with this point and this tag, and answers its id, which is the number of objects before. What it writes is
+    /// Adds an object with point `p` and tag `tag`, and returns its id, which is the number of objects before. What it writes is
     /// one commit: after `Ok` the object is there whatever crash comes, and before that a crash leaves the file with it or
-    /// without it. The refusals come in this order, and all but the last change nothing: `Stopped` where a commit failed before;
-    /// `Full` where there are as many objects as the head allows; `Worn` where there is no further generation; `Disk` or
-    /// `Damaged` of the walks, which name the page (`Bad`, `Outside`, `Level`, or `Repeats` where the free list is made); `NoRoom`
-    /// where the new nodes need more pages than a file may have; and `Commit` where the disk failed in the commit, which stops
-    /// the index: the file then has the object or not, and is to be opened anew. `Memory` may come in place of any but the first
-    /// three, and never after the first write. An insert reads `height + 1` pages, and the first one the tree once besides.
+    /// without it. An insert reads `height + 1` pages, and the first insert reads the tree once besides.
+    ///
+    /// The refusals come in this order, and all but the last change nothing: `Stopped` where a commit failed before; `Full` where
+    /// there are as many objects as the head allows; `Worn` where there is no further generation; `Disk` or `Damaged` of the walks,
+    /// with the page (`Bad`, `Outside`, `Level`, or `Repeats` where the free list is made); `NoRoom` where the new nodes need more
+    /// pages than a file may have; and `Commit` where the disk failed in the commit. `Commit` stops the index: the file then has
+    /// the object or not, and has to be opened anew. `Memory` may come in place of any but the first three, and never after the
+    /// first write.
     pub fn insert_tagged<D: Disk>(
         &mut self,
         alloc: Global,
@@ -127,7 +129,7 @@ impl<M: Metric> Index<M> {
             (result ≡ Err IndexFault.Worn) ↔ ((self.old.file.live.count ≢ self.old.file.head.limit) × (self.old.file.live.generation ≡ 2 ^ 48 - 1)) }
         ensures cause { IfErr result (HasInsertCause (M.space self.old.file.metric) self.old
             (record { id = self.old.file.live.count; tag = tag; point = p.now }) (D.state disk.old) (D.state disk.new)) }
-        // A page that it blames is damaged.
+        // A page that the refusal blames is damaged.
         ensures damage { IfErr result (BlamesDamage self.old.file (D.state disk.old)) }
         ensures undamaged { IfErr result (λ fault. IsSoundOn (M.space self.old.file.metric) self.old.file (D.state disk.old) → BlamesNoPage fault) }
         ensures few { IsSome self.old.free → (D.state disk.new).reads ≤ (D.state disk.old).reads + (self.old.file.live.height + 2) }

@@ -1,4 +1,4 @@
-// The pages of an opened file, through what is kept of them where something is.
+// The pages of an opened file, through its cache of nodes if there is one.
 ghost use Rattle.std.specs.Prelude.{◌≡◌, ◌+◌, ◌≤◌, IfOk, IfErr, Err, false, None, Some};
 ghost use Rattle.index_core.specs.Lending.{lent_inner, lent_kept, lent_shelf, KeptAgrees};
 
@@ -6,17 +6,17 @@ use page_cache::{Cached, Kept};
 use page_store::{PageFault, Pages, SharedNode};
 use std::alloc::Global;
 
-/// Pages as they are, or behind what is kept of them.
+/// Pages, with or without a cache of nodes.
 #[derive(Drop)]
 pub enum Lent<P: Pages> {
-    /// The pages themselves.
+    /// The pages without a cache.
     Plain(P),
     /// The pages behind a cache.
     Behind(Cached<P>),
 }
 
 impl<P: Pages> Lent<P> {
-    /// These pages, behind what is kept of them where something is.
+    /// Makes pages of `inner`, behind the cache `kept` if there is one.
     pub fn of(inner: P, kept: Option<Kept>) -> Self
         requires agrees { KeptAgrees kept (P.shelf inner) }
         requires unasked { (P.shelf inner).asked ≡ 0 }
@@ -30,7 +30,7 @@ impl<P: Pages> Lent<P> {
         }
     }
 
-    /// The pages, and what is kept of them now.
+    /// Returns the pages and the cache as it is now.
     pub fn into_parts(self) -> (P, Option<Kept>)
         ensures inner { result.0 ≡ lent_inner self }
         ensures kept { result.1 ≡ lent_kept self }
@@ -51,7 +51,7 @@ impl<P: Pages> Pages for Lent<P> {
 
     ghost shelf = { λ l. lent_shelf P.shelf l };
 
-    // What the pages keep, and how many nodes may be kept.
+    // What the pages keep across calls, and the capacity of the cache.
     ghost keeps = { λ l m. P.keeps (lent_inner l) (lent_inner m) × SameRoom (lent_kept l) (lent_kept m) };
 
     ghost keeps_none = { λ l. (P.keeps_none (lent_inner l), same_room_by_none (lent_kept l)) };

@@ -18,5 +18,5 @@ pub use index::Index;
 pub use tree_outline::{Shape, ShapeLine};
 pub use view::View;
 
-/// Want of memory.
+/// The error when memory runs out.
 pub type Memory = std::alloc::AllocError;

@@ -1,4 +1,4 @@
-// The free list of an index, which is made when it is first needed.
+// The free list of an index. It is made when it is first needed.
 ghost use Rattle.std.specs.Prelude.{◌≡◌, ◌+◌, ◌≤◌, None, IsTrue, IsSome, IfOk, IfErr, OnOk};
 ghost use Rattle.free_pages.specs.Keeping.{IsKept};
 ghost use Rattle.index_core.specs.Answers.{IsSoundOn};
@@ -17,7 +17,7 @@ use metric_laws::Metric;
 use std::alloc::Global;
 
 impl<M: Metric> View<M> {
-    // The pages that the live tree doesn't need, by a walk of the tree.
+    // Lists the pages that the live tree does not need, by a walk of the tree.
     fn list_free<D: Disk>(&mut self, alloc: Global, disk: &mut D) -> Result<Free, IndexFault>
         requires stands { StandsOn self.old (D.state disk.old) }
         ensures stands { StandsOn self.new (D.state disk.new) }

@@ -1,4 +1,4 @@
-// Loads of an index that has no objects, each of them one commit.
+// Loads of an index that has no objects. Each is one commit.
 ghost use Rattle.std.specs.Prelude.{◌≡◌, ◌≢◌, ◌+◌, ◌-◌, ◌^◌, ◌≤◌, ◌<◌, ◌∷◌, [], All, length, false, None, Some, Err, IsTrue, IsSome, IfOk, IfErr, OnOk};
 ghost use Rattle.disk_model.specs.Disk.{LeavesOnly};
 ghost use Rattle.tree_shape.specs.Tree.{Nodes, IsSoundTree};
@@ -24,7 +24,7 @@ use std::alloc::Global;
 use std::thread::Threads;
 use tree_shape::LAST_GENERATION;
 
-// What the refusal of a load is to whoever called the index.
+// Maps a load's fault to the index's.
 fn build_fault(fault: BuildFault) -> IndexFault
     ensures { result ≡ build_fault fault }
 {
@@ -36,7 +36,7 @@ fn build_fault(fault: BuildFault) -> IndexFault
 }
 
 impl<M: Metric> View<M> {
-    // Places the tree of these rows, on free pages, in place of a tree that has no objects.
+    // Places the tree of `rows` with `tags` on free pages, in place of a tree that has no objects.
     pub(crate) fn build<R: Threads + Sync>(
         &self,
         rt: &R,
@@ -90,7 +90,7 @@ impl<M: Metric> View<M> {
     }
 }
 
-// The tags of rows that come without: their ids.
+// Returns the default tags of `rows` rows: their ids.
 fn tags_of(alloc: Global, rows: usize) -> Result<Vec<u64>, Memory>
     ensures { IfOk result (λ tags. tags.items ≡ ids rows) }
 {
@@ -102,7 +102,7 @@ fn tags_of(alloc: Global, rows: usize) -> Result<Vec<u64>, Memory>
 }
 
 impl<M: Metric> Index<M> {
-    // Whether so many rows may be loaded, as far as the index itself tells.
+    // Checks whether `rows` rows may be loaded, as far as the index itself tells.
     fn may_load(&self, rows: usize) -> Result<(), IndexFault>
         ensures ok { OnOk result (load_fault self.now rows ≡ None) }
         ensures err { IfErr result (λ fault. load_fault self.now rows ≡ Some fault) }
@@ -123,7 +123,7 @@ impl<M: Metric> Index<M> {
         Ok(())
     }
 
-    // Loads rows, which may be loaded, with this free list.
+    // Loads `rows`, which may be loaded, on pages of the free list `free`.
     fn load_on<R: Threads + Sync, D: Disk>(
         &mut self,
         rt: &R,
@@ -165,7 +165,7 @@ impl<M: Metric> Index<M> {
         }
     }
 
-    /// Loads these rows into an index that has no objects, and answers how many they are. Row i gets the id i, and its id as its
+    /// Loads `rows` into an index that has no objects, and returns how many they are. Row i gets the id i, and its id as its
     /// tag. The refusals are those of `load_tagged`.
     pub fn load<R: Threads + Sync, D: Disk>(
         &mut self,
@@ -186,7 +186,7 @@ impl<M: Metric> Index<M> {
         ensures cause { load_fault self.old (length rows.now.points) ≡ None →
             IfErr result (HasLoadingCause (M.space self.old.file.metric) self.old rows.now.points
             (ids (length rows.now.points)) (D.state disk.old) (D.state disk.new).faults) }
-        // A page that it blames is damaged.
+        // A page that the refusal blames is damaged.
         ensures damage { IfErr result (BlamesDamage self.old.file (D.state disk.old)) }
         ensures undamaged { IfErr result (λ fault. IsSoundOn (M.space self.old.file.metric) self.old.file (D.state disk.old) → BlamesNoPage fault) }
         ensures few { IsSome self.old.free → (D.state disk.new).reads ≤ (D.state disk.old).reads + 1 }
@@ -205,14 +205,15 @@ impl<M: Metric> Index<M> {
         self.load_tagged(rt, alloc, disk, rows, tags.as_slice())
     }
 
-    /// Loads these rows with their tags into an index that has no objects, and answers how many they are. Row i gets the id i. It
-    /// is one commit: after `Ok` the objects are there whatever crash comes, and before that a crash leaves the file with all of
-    /// them or with none. The refusals come in this order, and all but the last change nothing: `Stopped` where a commit failed
-    /// before; `NotEmpty` where there are objects; `Full` where there are more rows than the head allows; `Worn` where there is
-    /// no further generation; `Disk` or `Damaged` (`Bad`, `Outside` or `Repeats`, with the page) of the walk that makes the free
-    /// list, where it isn't made yet; `NoRoom` where the new nodes need more pages than a file may have; `Memory`; and `Commit`
-    /// where the disk failed in the commit, which stops the index: the file then has the objects or not, and is to be opened
-    /// anew. As many threads as `workers` says share the work; any number of them makes the same tree.
+    /// Loads `rows` with `tags` into an index that has no objects, and returns how many they are. Row i gets the id i. It is one
+    /// commit: after `Ok` the objects are there whatever crash comes, and before that a crash leaves the file with all of them or with
+    /// none. As many threads as `workers` says share the work; any number of them makes the same tree.
+    ///
+    /// The refusals come in this order, and all but the last change nothing: `Stopped` where a commit failed before; `NotEmpty` where
+    /// there are objects; `Full` where there are more rows than the head allows; `Worn` where there is no further generation; `Disk`
+    /// or `Damaged` (`Bad`, `Outside` or `Repeats`, with the page) of the walk that makes the free list, where it isn't made yet;
+    /// `NoRoom` where the new nodes need more pages than a file may have; `Memory`; and `Commit` where the disk failed in the commit.
+    /// `Commit` stops the index: the file then has the objects or not, and has to be opened anew.
     pub fn load_tagged<R: Threads + Sync, D: Disk>(
         &mut self,
         rt: &R,
@@ -233,7 +234,7 @@ impl<M: Metric> Index<M> {
         ensures cause { load_fault self.old (length rows.now.points) ≡ None →
             IfErr result (HasLoadingCause (M.space self.old.file.metric) self.old rows.now.points tags.now
             (D.state disk.old) (D.state disk.new).faults) }
-        // A page that it blames is damaged.
+        // A page that the refusal blames is damaged.
         ensures damage { IfErr result (BlamesDamage self.old.file (D.state disk.old)) }
         ensures undamaged { IfErr result (λ fault. IsSoundOn (M.space self.old.file.metric) self.old.file (D.state disk.old) → BlamesNoPage fault) }
         ensures few { IsSome self.old.free → (D.state disk.new).reads ≤ (D.state disk.old).reads + 1 }

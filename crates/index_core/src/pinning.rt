@@ -18,10 +18,10 @@ use std::alloc::Global;
 use tree_shape::Live;
 
 impl<M: Metric> Index<M> {
-    /// Pins the live tree once more, and answers its slot: until it is unpinned as often, each of its pages stays as it is,
-    /// whatever is inserted or loaded. A stop forgets all pins. `Stopped` comes where a commit failed before; `Disk`, `Damaged`
-    /// and `Memory` come from the walk of the live tree, where no free list is made yet, and `Memory` also for want of room for
-    /// the pin. Nothing is written.
+    /// Pins the live tree once more, and returns its slot. Until it is unpinned as often, each of its pages stays as it is, whatever
+    /// is inserted or loaded. A stop forgets all pins. `Stopped` comes where a commit failed before. `Disk`, `Damaged` and `Memory`
+    /// come from the walk of the live tree, where no free list is made yet. `Memory` comes also where there is no room for the pin.
+    /// Nothing is written.
     pub fn pin<D: Disk>(&mut self, alloc: Global, disk: &mut D) -> Result<Live, IndexFault>
         requires stands { MayGoOn self.old (D.state disk.old) }
         ensures stopped { self.old.stopped ≡ true → (result ≡ Err IndexFault.Stopped) × (self.new ≡ self.old) × (disk.new ≡ disk.old) }
@@ -40,7 +40,7 @@ impl<M: Metric> Index<M> {
             IsExact self.new (D.state disk.new) }
         ensures refused { IfErr result (λ fault. IsRefused self.old self.new (D.state disk.old) (D.state disk.new)) }
         ensures cause { self.old.stopped ≡ false → IfErr result (HasListCause self.old.file (D.state disk.old) (D.state disk.new).faults) }
-        // A page that it blames is damaged.
+        // A page that the refusal blames is damaged.
         ensures damage { IfErr result (BlamesDamage self.old.file (D.state disk.old)) }
         ensures made { self.old.stopped ≡ false → IfErr result (λ fault. fault ≢ IndexFault.Memory → self.old.free ≡ None) }
         ensures undamaged { IfErr result (λ fault. IsSoundOn (M.space self.old.file.metric) self.old.file (D.state disk.old) → BlamesNoPage fault) }
@@ -61,7 +61,7 @@ impl<M: Metric> Index<M> {
         }
     }
 
-    // Puts a free list in.
+    // Puts the free list `free` back.
     pub(crate) fn put_free(&mut self, free: Free)
         requires { IsLawfulFree self.old.file.live free }
         ensures { self.new ≡ record self.old { free = Some free } }
@@ -69,12 +69,12 @@ impl<M: Metric> Index<M> {
         self.free = Some(free);
     }
 
-    /// Takes back one pin of a generation, which has to be pinned. The pages that no other pin holds become free.
+    /// Takes back one pin of `generation`, which has to be pinned. The pages that no other pin holds become free.
     pub fn unpin(&mut self, generation: u64)
         requires { IsPinned generation self.old }
         ensures list { MatchOption self.old.free ⊥ (λ f. self.new ≡ record self.old { free = Some (unpinned generation f) }) }
         ensures guarded { (other : ℕ) (tree : List ℕ) → IsPinned other self.new → GuardsPages other tree self.old → GuardsPages other tree self.new }
-        // The same pages are free or held.
+        // The same pages are free or held as before.
         ensures beside { (nodes : Nodes) → LiesBesideTree nodes self.old → LiesBesideTree nodes self.new }
         ensures outside { (tree : List ℕ) → LiesOutside tree self.old → LiesOutside tree self.new }
     {

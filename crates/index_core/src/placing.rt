@@ -18,7 +18,7 @@ use metric_laws::{Meter, Metric};
 use page_store::Placed;
 use std::alloc::Global;
 
-/// What was placed for a file, and how many of the free pages it uses, which are the first ones.
+/// What was placed for a file, and how many of its first free pages that uses.
 #[derive(Drop)]
 pub struct Placement {
     pub placed: Placed,
@@ -26,8 +26,8 @@ pub struct Placement {
 }
 
 impl<M: Metric> View<M> {
-    // Places an object more, on free pages. A split of each node from the leaf up and a new root take `2 * height + 3` pages at the
-    // most.
+    // Places one more object, with point `p` and tag `tag`, on free pages. A split of each node from the leaf up and a new root take
+    // at most `2 * height + 3` pages.
     pub(crate) fn place<D: Disk>(
         &mut self,
         alloc: Global,

@@ -16,10 +16,10 @@ use metric_laws::Metric;
 use std::alloc::Global;
 
 impl<M: Metric> View<M> {
-    /// The tag of each hit, by the walk of the found log: that of the first object with its id that the walk meets, and 0
-    /// where it meets none. Of what `range` or `nearest` found on a sound file these are the tags of the hits' objects. No
-    /// distance is computed, and the disk is read at most once per record of the log. The refusals are those of `range`,
-    /// but that no page is `Repeats`.
+    /// Returns the tag of each hit, by the walk of the found log: the tag of the first object with the hit's id that the walk meets,
+    /// and 0 where it meets none. For what `range` or `nearest` found on a sound file these are the tags of the hits' objects. No
+    /// distance is computed, and the disk is read at most once per record of the log. The refusals are those of `range`, except that
+    /// no page is `Repeats`.
     pub fn tags<D: Disk>(
         &mut self,
         alloc: Global,
@@ -43,7 +43,7 @@ impl<M: Metric> View<M> {
 }
 
 impl<M: Metric> Index<M> {
-    /// The tag of each hit, by the walk of the found log. The refusals are those of `range`, but that no page is `Repeats`.
+    /// Returns the tag of each hit, by the walk of the found log. The refusals are those of `range`, except that no page is `Repeats`.
     pub fn tags<D: Disk>(
         &mut self,
         alloc: Global,
@@ -58,7 +58,7 @@ impl<M: Metric> Index<M> {
         ensures rest { self.new ≡ record self.old { file = self.new.file } }
         ensures tagged { self.old.stopped ≡ false → HasTagged (M.space self.old.file.metric) self.old.file found.now
             (D.state disk.old) (D.state disk.new) result }
-        // A page that it blames is damaged.
+        // A page that the refusal blames is damaged.
         ensures damage { IfErr result (BlamesDamage self.old.file (D.state disk.old)) }
     {
         if self.stopped {

@@ -28,8 +28,8 @@ use std::marker::Model;
 use tree_outline::{Shape, shape_of};
 use tree_shape::Live;
 
-/// An index file that is opened for reading. It does not hold its disk, which each call that reads is lent; no call writes
-/// or syncs. Contracts see the head, the live slot, the metric, and what is kept of the pages.
+/// An index file that is opened for reading. It does not hold its disk: each call that reads gets one. No call writes or syncs.
+/// Contracts see the head, the live slot, the metric, and the cache of nodes.
 #[derive(Drop)]
 pub struct View<M: Metric> {
     pub(crate) head: Head,
@@ -49,9 +49,9 @@ impl<M: Metric> Model for View<M> {
 }
 
 impl<M: Metric> View<M> {
-    /// Opens an index file whose points this metric measures. Besides the faults of a file that is no index,
-    /// `Head(HeadFault::Version)` comes where the file is of version 1, and `Head(HeadFault::Space)` where its points have
-    /// not as many coordinates as the metric's. `Disk` comes where the disk failed.
+    /// Opens an index file whose points `metric` measures. Besides the faults of a file that is no index,
+    /// `Head(HeadFault::Version)` comes where the file is of version 1, and `Head(HeadFault::Space)` where its points have another
+    /// number of coordinates than the metric's. `Disk` comes where the disk failed.
     pub fn open_read<D: Disk>(disk: &mut D, metric: M) -> Result<Self, OpenFault>
         ensures stands { IfOk result (λ view. StandsOn view (D.state disk.new)) }
         ensures lawful { IfOk result (IsLawfulFile (M.space metric).words) }
@@ -81,48 +81,48 @@ impl<M: Metric> View<M> {
         })
     }
 
-    /// What always holds of an opened file, for whoever is lent one.
+    /// States what always holds of an opened file, for callers that hold a reference to one.
     pub fn is_lawful(&self)
         ensures { IsLawfulFile (M.space self.now.metric).words self.now }
     {
         let _head = &self.head;
     }
 
-    /// How many objects there are.
+    /// Returns the number of objects.
     pub fn count(&self) -> u32
         ensures { result ≡ self.now.live.count }
     {
         self.live.count
     }
 
-    /// The live slot of the file.
+    /// Returns the live slot of the file.
     pub fn live(&self) -> Live
         ensures { result ≡ self.now.live }
     {
         self.live
     }
 
-    /// The head of the file.
+    /// Returns the head of the file.
     pub fn head(&self) -> Head
         ensures { result ≡ self.now.head }
     {
         self.head
     }
 
-    /// The metric with which the file was opened.
+    /// Returns the metric with which the file was opened.
     pub fn metric(&self) -> M
         ensures { result ≡ self.now.metric }
     {
         self.metric
     }
 
-    /// Keeps the nodes that are asked for last from now on, at most so many, of which there has to be one: a page whose node
-    /// is kept is not read again. What was kept before is dropped. `Memory` changes nothing.
+    /// Keeps the last `nodes` nodes asked for from now on (at least 1): a page whose node is kept is not read again. What was kept
+    /// before is dropped. `Memory` changes nothing.
     pub fn use_cache(&mut self, alloc: Global, nodes: usize) -> Result<(), Memory>
         requires { 1 ≤ nodes }
         ensures ok { OnOk result (self.new ≡ record self.old { kept = Some (lru_cache [] nodes) }) }
         ensures err { OnErr result (self.new ≡ self.old) }
-        // Nothing is kept yet that a disk could gainsay.
+        // Nothing is kept yet, so nothing can contradict a disk.
         ensures agrees { OnOk result ((pages : Shelf) → KeptAgrees self.new.kept pages) }
     {
         empty_cache_agrees();
@@ -130,7 +130,7 @@ impl<M: Metric> View<M> {
         Ok(())
     }
 
-    // The pages of the file on its disk, behind what is kept of them, which whoever is lent them gives back.
+    // Lends the pages of the file on its disk, behind the cache if there is one. The borrower gives the cache back.
     pub(crate) fn lend<'a, D: Disk>(&mut self, disk: &'a mut D) -> Lent<DiskPages<'a, D>>
         requires stands { StandsOn self.old (D.state disk.old) }
         ensures taken { self.new ≡ record self.old { kept = None } }
@@ -144,9 +144,9 @@ impl<M: Metric> View<M> {
         Lent::of(pages, self.kept.take())
     }
 
-    /// Every object within `r` of `q`, by distance, then by id, and the log that shows it. `Damaged` holds `Bad`, `Outside`
-    /// or `Repeats` with the page to which the walk came; none of these comes on a sound file. `Disk` comes where the disk
-    /// failed. The disk is read at most once per record of the log, and never more often than the file has pages.
+    /// Returns every object within `r` of `q`, by distance, then by id, and the log that shows it. `Damaged` holds `Bad`, `Outside`
+    /// or `Repeats` with the page that the walk reached; none of these comes on a sound file. `Disk` comes where the disk failed. The
+    /// disk is read at most once per record of the log, and never more often than the file has pages.
     pub fn range<D: Disk>(
         &mut self,
         alloc: Global,
@@ -173,7 +173,7 @@ impl<M: Metric> View<M> {
         answer_of(answer)
     }
 
-    /// The `k` objects nearest to `q`, by distance, then by id, and the log that shows it. The refusals are those of `range`.
+    /// Returns the `k` objects nearest to `q`, by distance, then by id, and the log that shows it. The refusals are those of `range`.
     /// On a sound file the disk is read at most once per record of the log, and on any file never more often than it has pages.
     pub fn nearest<D: Disk>(
         &mut self,
@@ -190,7 +190,7 @@ impl<M: Metric> View<M> {
         ensures no_fault { OnOk result ((D.state disk.new).faults ≡ (D.state disk.old).faults) }
         ensures few { (D.state disk.new).reads ≤ (D.state disk.old).reads + self.old.live.pages }
         ensures searched { HasSearched (M.space self.old.metric) self.old (Nearest q.now k) (D.state disk.old) (D.state disk.new) result }
-        // On any file: the records are a front of a walk with the least marks, and the answers those that it names.
+        // On any file: the records are a front of a walk with the least marks, and the answers are those that the records name.
         ensures front { IfOk result (λ found. IsTrue (D.state disk.old).tells →
             IsFront (M.space self.old.metric) (nodes_on self.old (D.state disk.old)) self.old.live q.now k found) }
         ensures cause { IfErr result (HasReachCause self.old (D.state disk.old) (D.state disk.new)) }
@@ -204,9 +204,9 @@ impl<M: Metric> View<M> {
         answer_of(answer)
     }
 
-    /// The height, the number of objects, and of each node of the tree, in pre-order, its level, its number of entries, and
-    /// the routing point and the covering radius by which it is named. The refusals are those of `range`, where the walk by
-    /// child numbers comes to such a page. The disk is read at most once per line, and never more often than the file has pages.
+    /// Returns the height, the number of objects, and for each node of the tree, in pre-order, its level, its number of entries, and
+    /// the routing point and the covering radius by which it is named. The refusals are those of `range`, where the walk by child
+    /// numbers reaches such a page. The disk is read at most once per line, and never more often than the file has pages.
     pub fn shape<D: Disk>(&mut self, alloc: Global, disk: &mut D) -> Result<Shape, IndexFault>
         requires stands { StandsOn self.old (D.state disk.old) }
         ensures stands { StandsOn self.new (D.state disk.new) }

@@ -18,7 +18,7 @@ use page_cache::laws::forgetting_keeps_agreement;
 use page_store::{Placed, Staged};
 use shadow_root::commit;
 
-// Drops what is kept of the pages that new nodes go to.
+// Drops from the cache the pages that new nodes go to.
 fn forget_all(kept: &mut Kept, staged: &Staged)
     ensures { kept.new ≡ forgotten (pages_of staged.now) kept.old }
 {
@@ -27,7 +27,7 @@ fn forget_all(kept: &mut Kept, staged: &Staged)
     }
 }
 
-// The same where something is kept.
+// Like `forget_all`, where there is a cache.
 fn forget(kept: &mut Option<Kept>, staged: &Staged)
     ensures { kept.new ≡ forgotten_of (pages_of staged.now) kept.old }
 {
@@ -37,7 +37,7 @@ fn forget(kept: &mut Option<Kept>, staged: &Staged)
 }
 
 impl<M: Metric> View<M> {
-    // Commits what was placed for the file, and settles the free list, whose first `used` pages it took and which has room for the
+    // Commits `placed` for the file, and settles the free list `free`: its first `used` pages are taken, and it has room for the
     // pages that are left. What is kept of pages that are written anew is dropped before the first write.
     pub(crate) fn write<D: Disk>(
         &mut self,

@@ -24,7 +24,7 @@ use Rattle.insert_path.specs.Walk.{inner_ball}
 use Rattle.insert_path.specs.Descent.{Plan, leaf_ball, leaf_with, inner_with, new_entry, entry_of, regrown, IsNear, AreHalves, is_two, IsStaged, Descends}
 use Rattle.insert_path.proofs.Walked.{one_more, regrown_long}
 
--- the points of two halves have so many coordinates
+-- the points of two halves have `dim` coordinates
 abbrev pub IsLong : ℕ → Grew → Type 0
 IsLong dim (One page) = Unit {0}
 IsLong dim (Two c d) = (length c.point ≡ dim) × (length d.point ≡ dim)

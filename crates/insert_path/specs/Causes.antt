@@ -14,13 +14,13 @@ use Rattle.page_store.specs.declared.pages.PageFault.TheVariants.{Disk, Bad, Out
 use Rattle.page_store.specs.Reading.{is_within, nodes_of}
 use Rattle.page_store.specs.Shelf.{Shelf, HoldsSame}
 
--- pages were asked for at most so often, and hold what they held
+-- at most `most` pages were asked for, and the pages hold what they held
 pub record HasAsked (most : ℕ) (old new : Shelf) : Type 0 where
   pub same : HoldsSame old new
   pub asked : new.asked ≤ old.asked + most
   pub reads : new.reads ≤ old.reads + most
 
--- why a walk stops whose first fault on its pages is this one: the disk failed, memory ran out, or it is that fault
+-- why a walk stops, where `first` is the first fault on its pages: the disk failed, memory ran out, or the fault is `first`
 abbrev pub HasWalkCause : Shelf → Shelf → Option PageFault → PageFault → Type 0
 HasWalkCause old new first Disk = Rose old.faults new.faults
 HasWalkCause old new first (Bad page fault) = (fault ≢ NodeMemory) × (IsTrue old.tells → first ≡ Some (Bad page fault))
@@ -29,12 +29,12 @@ HasWalkCause old new first Memory = Unit {0}
 HasWalkCause old new first (Repeats page) = ⊥
 HasWalkCause old new first (Level page) = IsTrue old.tells → first ≡ Some (Level page)
 
--- the fault of an insertion whose walk stopped: want of memory is the insertion's own
+-- the fault of an insertion whose walk stopped: running out of memory is the insertion's own fault
 abbrev pub fault_of : PageFault → PlaceFault
 fault_of Memory = NoMemory
 fault_of fault = Page fault
 
--- why an insertion into a file stops; that it is full or worn is said by itself
+-- why an insertion into a file stops; that the index is full or worn is stated elsewhere
 abbrev pub HasPlaceCause : Space → Rules → List ℕ → Live → Object → Shelf → Shelf → PlaceFault → Type 0
 HasPlaceCause s R numbers t o old new (Page Memory) = ⊥
 HasPlaceCause s R numbers t o old new (Page fault) = HasWalkCause old new (place_fault s R old.read t o) fault
@@ -45,7 +45,7 @@ HasPlaceCause s R numbers t o old new (NoRoom pages needed) =
     (pages ≡ t.pages) × (2 ^ 24 < pages + needed)
     × (IsTrue old.tells → (place_fault s R old.read t o ≡ None) × (needed ≡ length (fresh_of R o (tree_of (nodes_of old.read) t)) - length numbers))
 
--- the same before the room is known
+-- like `HasPlaceCause`, before the room is known
 abbrev pub HasTreeCause : Shelf → Shelf → Option PageFault → PlaceFault → Type 0
 HasTreeCause old new first (Page Memory) = ⊥
 HasTreeCause old new first (Page fault) = HasWalkCause old new first fault

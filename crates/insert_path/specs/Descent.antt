@@ -22,7 +22,7 @@ use Rattle.insert_path.specs.declared.grew.Grew.{Grew}
 use Rattle.insert_path.specs.declared.grew.Grew.TheVariants.{One, Two}
 use Rattle.insert_path.specs.Walk.{inner_ball}
 
--- what an insertion goes by: the space, the ways of promotion and partition, the most and the least entries of a node, the
+-- the parameters of an insertion: the space, the ways of promotion and partition, the most and the least entries of a node, the
 -- number of the new node at each place, and the object
 pub record Plan : Type 0 where
   pub space : Space
@@ -81,7 +81,7 @@ pub record IsHalved {E : Type 0} (P : Plan) (ball : E → Ball) (set : E → ℕ
   pub staged : new ≡ old ++ make hs.first.entries ∷ make hs.second.entries ∷ []
   pub grew : g ≡ Two (stem_of (P.number (length old)) hs.first) (stem_of (P.number (length old + 1)) hs.second)
 
--- a node of these entries is staged after others
+-- a node of the entries is staged after others
 abbrev pub IsStaged : {E : Type 0} → Plan → (E → Ball) → (E → ℕ → E) → (List E → Node) → List E → List Node → List Node → Grew → Type 0
 IsStaged {E} P ball set make es old new g = IsWhole P make es old new g ⊎ ((hs : Halves E) × IsHalved P ball set make es hs old new g)
 
@@ -117,8 +117,8 @@ abbrev pub above_of : Bool → List ℕ → Option (List ℕ)
 above_of true q = None
 above_of false q = Some q
 
--- the descent from a page of this height: which nodes it stages after others, which pages it leaves, and what the page's
--- node has grown to
+-- the descent from a page at a height: which nodes it stages after others, which pages it leaves, and what the page's node has
+-- grown to
 abbrev pub Descends : Plan → Shelf → ℕ → ℕ → Option (List ℕ) → List ℕ → List Node → List ℕ → List Node → Grew → Type 0
 Descends P shelf zero page above left_old old left_new new g =
     (es : List LeafEntry) × IsNodeOf shelf page (Leaf es) × (left_new ≡ left_old ++ page ∷ [])
@@ -148,7 +148,7 @@ Roots number h (One page) old new root height = (new ≡ old) × (root ≡ page)
 Roots number h (Two c d) old new root height =
     (h < 14) × (new ≡ old ++ Inner (h + 1) (root_entry c ∷ root_entry d ∷ []) ∷ []) × (root ≡ number (length old)) × (height ≡ h + 1)
 
--- the walk of an insertion from the live root, which stages these nodes and leaves these pages, and the new root
+-- the walk of an insertion from the live root: the nodes that it stages, the pages that it leaves, and the new root
 abbrev pub Walks : Plan → Shelf → Live → List ℕ → List Node → ℕ → ℕ → Type 0
 Walks P shelf t left nodes root height =
     (mid : List Node) × (g : Grew) × Descends P shelf t.height t.root None [] [] left mid g × Roots P.number t.height g mid nodes root height

@@ -14,7 +14,7 @@ use Rattle.page_store.specs.Staging.{pages_of}
 use Rattle.insert_path.specs.Walk.{chosen_child, walk_fault}
 use Rattle.page_store.specs.Placing.{live_pages, staged_tree}
 
--- the pages that a point's walk opens, from a page of this height down
+-- the pages that a point's walk opens, from a page at a height down
 abbrev pub walk_pages : Space → Nodes → List ℕ → ℕ → ℕ → List ℕ
 walk_pages s nodes p zero page = page ∷ []
 walk_pages s nodes p (suc h) page = page ∷ walk_pages s nodes p h (chosen_child s p (inner_entries (nodes page)))
@@ -63,9 +63,9 @@ pub record HasWalked (s : Space) (R : Rules) (read : Read) (t : Live) (o : Objec
   pub many : length placed.staged ≡ length (fresh_of R o (tree_of (nodes_of read) t))
   pub left : placed.left ≡ walk_pages s (nodes_of read) o.point t.height t.root
 
--- the file with the staged nodes has the tree of the insertion: it is sound, its list has one object more, its staged nodes are
--- the new subtrees from the leaf upward, and the pages that are left are those of the old tree that are not in it, so that its
--- pages and they are the old tree's and the staged ones
+-- The file with the staged nodes has the tree of the insertion. The tree is sound, its list has one object more, and its staged nodes
+-- are the new subtrees from the leaf upward. The pages that are left are those of the old tree that are not in the new one: the new
+-- tree's pages and the left ones together are the old tree's and the staged ones.
 pub record HasInserted (s : Space) (R : Rules) (old : Nodes) (t : Live) (o : Object) (placed : Placed) (new : Nodes) : Type 0 where
   pub tree : tree_of new placed.next ≡ placed_by R o (tree_of old t)
   pub sound : IsSoundTree s new placed.next

@@ -29,7 +29,7 @@ inner_fault below s p h page (Ok (Leaf es)) = Some (Level page)
 inner_fault below s p h page (Ok (Inner level es)) = if level == h then below (chosen_child s p es) else Some (Level page)
 inner_fault below s p h page (Err fault) = Some fault
 
--- the first fault that the walk of a point meets from a page of this height down
+-- the first fault that the walk of a point meets from a page at a height down
 abbrev pub walk_fault : Space → Read → List ℕ → ℕ → ℕ → Option PageFault
 walk_fault s read p zero page = leaf_fault page (read page)
 walk_fault s read p (suc h) page = inner_fault (walk_fault s read p h) s p (suc h) page (read page)

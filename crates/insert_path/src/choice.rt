@@ -9,7 +9,7 @@ use metric_laws::Ruler;
 use tree_growth::Aim;
 use tree_shape::InnerEntry;
 
-// The nearer one of two entries that hold the point, the earlier one if they are equal.
+// Returns the nearer of two entries that hold the point, the earlier one if they are equal.
 fn nearer(best: Option<Aim>, aim: Aim) -> Option<Aim>
     ensures { result ≡ kept (λ a. a.dist) best aim }
 {
@@ -19,7 +19,7 @@ fn nearer(best: Option<Aim>, aim: Aim) -> Option<Aim>
     }
 }
 
-// The one of two entries that has to grow less, the earlier one if they are equal.
+// Returns the entry of two whose radius has to grow less, the earlier one if they are equal.
 fn smaller(best: Option<Aim>, aim: Aim) -> Option<Aim>
     requires aim { IsTrue (is_outside aim) }
     requires best { IfSome best (λ a. IsTrue (is_outside a)) }
@@ -32,14 +32,14 @@ fn smaller(best: Option<Aim>, aim: Aim) -> Option<Aim>
     }
 }
 
-// The entries seen so far: the nearest one that holds the point, and the one that has to grow least.
+// The entries seen so far: the nearest one that holds the point, and the one whose radius has to grow least.
 #[derive(Clone, Copy)]
 struct Seen {
     inside: Option<Aim>,
     outside: Option<Aim>,
 }
 
-// One more entry.
+// Adds one more entry.
 fn see(seen: Seen, aim: Aim) -> Seen
     requires { IfSome seen.outside (λ a. IsTrue (is_outside a)) }
     ensures inside { result.inside ≡ kept_if (λ a. a.dist) is_inside seen.inside aim }
@@ -59,7 +59,7 @@ fn see(seen: Seen, aim: Aim) -> Seen
     }
 }
 
-// What is seen of all entries.
+// Looks at all entries.
 #[tactic(auto, using(crate::proofs::Seen::seen_more))]
 fn see_all<R: Ruler>(ruler: &mut R, entries: &[InnerEntry], p: &[u32]) -> Seen
     ensures metric { R.metric ruler.new ≡ R.metric ruler.old }
@@ -84,7 +84,7 @@ fn see_all<R: Ruler>(ruler: &mut R, entries: &[InnerEntry], p: &[u32]) -> Seen
     seen
 }
 
-// The place of the entry that is chosen of those seen.
+// Returns the place of the entry that is chosen of those seen.
 fn place_of(seen: Seen) -> usize
     ensures { result ≡ place_of (or_else seen.inside seen.outside) }
 {
@@ -101,9 +101,9 @@ fn place_of(seen: Seen) -> usize
     }
 }
 
-/// The entry of an inner node that a new point goes to, by its place: of the entries that hold the point within their
-/// radius the nearest one, and where none does, the one whose radius has to grow least; ties by lowest place. It computes
-/// one distance an entry.
+/// Returns the place of the entry of an inner node that a new point goes to: of the entries that hold the point within their
+/// radius the nearest one, and where none does, the one whose radius has to grow least; ties by lowest place. Computes one
+/// distance per entry.
 pub fn choose<R: Ruler>(ruler: &mut R, entries: &[InnerEntry], p: &[u32]) -> usize
     requires { 0 < length entries.now }
     ensures metric { R.metric ruler.new ≡ R.metric ruler.old }

@@ -18,7 +18,7 @@ use page_store::{PageFault, Pages, own_node};
 use std::alloc::Global;
 use tree_shape::{InnerEntry, LeafEntry, Node};
 
-// The distance that is stored beside a point.
+// Returns the parent distance of `p`.
 fn parent_of<R: Ruler>(ruler: &mut R, spot: &Spot<'_>, p: &[u32]) -> u64
     ensures metric { R.metric ruler.new ≡ R.metric ruler.old }
     ensures dist { result ≡ parent_distance (R.M.space (R.metric ruler.old)) (above_of spot.now.root spot.now.above.now) p.now }
@@ -31,7 +31,7 @@ fn parent_of<R: Ruler>(ruler: &mut R, spot: &Spot<'_>, p: &[u32]) -> u64
     }
 }
 
-// The entry of a new page.
+// Makes the entry of a new page.
 fn entry_from<R: Ruler>(ruler: &mut R, spot: &Spot<'_>, stem: Stem) -> InnerEntry
     ensures metric { R.metric ruler.new ≡ R.metric ruler.old }
     ensures within { result.parent ≤ bound }
@@ -162,7 +162,7 @@ fn back_at<R: Ruler>(
     Ok(grew)
 }
 
-// Inserts the object below a page, and says what the page's node has grown to.
+// Inserts the object below a page, and returns what the page's node has grown to.
 pub fn descend<P: Pages, R: Ruler>(
     alloc: Global,
     pages: &mut P,

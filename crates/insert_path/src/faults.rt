@@ -4,8 +4,8 @@ ghost use Rattle.insert_path.specs.Causes.{fault_of};
 use page_store::PageFault;
 use thiserror::Error;
 
-/// Why an object could not be inserted. The faults are tried in the order `Full`, `Worn`, `Page`, `NoRoom`; want of memory
-/// may come before any but the first two.
+/// Why an object could not be inserted. The faults are tried in the order `Full`, `Worn`, `Page`, `NoRoom`. `Memory` may come
+/// before any but the first two.
 #[derive(Clone, Copy, Debug, PartialEq, Eq, Error)]
 pub enum PlaceFault {
     /// A page of the walk gave no node, or stands at a level that its depth does not ask for; or the root, which is named,
@@ -15,18 +15,18 @@ pub enum PlaceFault {
     /// The index has as many objects as its head allows.
     #[error("the index is full")]
     Full,
-    /// The new nodes need so many pages more than the file may have.
+    /// The new nodes need `needed` pages besides the file's `pages`, more than a file may have.
     #[error("no room for {needed} pages after {pages}")]
     NoRoom { pages: u32, needed: u32 },
     /// There is no further generation.
     #[error("the index is worn")]
     Worn,
-    /// There was no memory.
+    /// Memory ran out.
     #[error("out of memory")]
     Memory,
 }
 
-/// The fault of an insertion whose walk stopped.
+/// Maps the fault of a walk to that of the insertion.
 pub fn fault_of(fault: PageFault) -> PlaceFault
     ensures { result ≡ fault_of fault }
 {

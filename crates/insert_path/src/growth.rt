@@ -16,7 +16,7 @@ use page_store::{NewTree, PageFault, Pages};
 use std::alloc::Global;
 use tree_shape::{InnerEntry, Live, Node};
 
-// The entry of a half in a new root.
+// Makes the entry of a half in a new root.
 fn entry_in_root(stem: Stem) -> InnerEntry
     ensures { result ≡ root_entry stem }
 {
@@ -28,7 +28,7 @@ fn entry_in_root(stem: Stem) -> InnerEntry
     }
 }
 
-// The two entries of a new root.
+// Makes the two entries of a new root.
 fn root_entries(alloc: Global, first: Stem, second: Stem) -> Result<Listed<InnerEntry>, Memory>
     ensures { IfOk result (λ es. es ≡ root_entry first ∷ root_entry second ∷ []) }
 {
@@ -38,7 +38,7 @@ fn root_entries(alloc: Global, first: Stem, second: Stem) -> Result<Listed<Inner
     Ok(Listed::new(entries))
 }
 
-// Stages a new root above two halves, and gives its page.
+// Stages a new root above two halves, and returns its page.
 fn stage_root(
     alloc: Global,
     task: &Task<'_>,
@@ -57,7 +57,7 @@ fn stage_root(
     Ok(page)
 }
 
-// The root after a descent: where the old root has grown to two halves, a new one is staged.
+// Returns the root after a descent: where the old root has grown to two halves, stages a new one.
 fn grow_root(
     alloc: Global,
     task: &Task<'_>,

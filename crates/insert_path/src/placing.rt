@@ -22,9 +22,9 @@ use promote_split::Policy;
 use std::alloc::Global;
 use tree_shape::{LAST_GENERATION, Live, fill};
 
-/// Inserts an object with the point `p` and the tag `tag` into the tree of a file, and gives the nodes that are new, for a
-/// commit. Its id is the number of objects before. New nodes get the pages `numbers`, in order, and then those from the
-/// file's end on; they are numbered from the leaf upward, the first half of a node before the second, a new root last.
+/// Inserts an object with the point `p` and the tag `tag` into the tree of a file, and returns the new nodes, for a commit. Its id
+/// is the number of objects before. New nodes get the pages `numbers`, in order, and then those from the file's end on. They are
+/// numbered from the leaf upward, the first half of a node before the second, a new root last.
 pub fn place<P: Pages, R: Ruler>(
     alloc: Global,
     pages: &mut P,
@@ -57,7 +57,7 @@ pub fn place<P: Pages, R: Ruler>(
         IsSoundTree (R.M.space (R.metric ruler.old)) (nodes_of (P.shelf pages.old).read) live.now →
         AreOutside (nodes_of (P.shelf pages.old).read) live.now (pages_of placed.staged)) }
 
-    // Page by page it takes the place of what is left, also on a file that isn't sound.
+    // Page by page, the new nodes take the place of what is left, also on a file that isn't sound.
     ensures left_within { IfOk result (λ placed. AllByRecursion (IsWithin live.now.pages) placed.left) }
     ensures takes_place { IfOk result (λ placed. IsTrue (P.shelf pages.old).tells → TakesPlace (nodes_of (P.shelf pages.old).read) live.now placed) }
 
@@ -71,7 +71,7 @@ pub fn place<P: Pages, R: Ruler>(
         HasInserted (R.M.space (R.metric ruler.old)) (rules (R.M.space (R.metric ruler.old)) head.now.promote head.now.split)
         (nodes_of (P.shelf pages.old).read) live.now (record { id = live.now.count; tag = tag; point = p.now }) placed new) }
 
-    // When it is refused.
+    // Why it is refused.
     ensures full { (result ≡ Err PlaceFault.Full) ↔ (live.now.count ≡ head.now.limit) }
     ensures worn { (result ≡ Err PlaceFault.Worn) ↔ ((live.now.count ≢ head.now.limit) × (live.now.generation ≡ 2 ^ 48 - 1)) }
     ensures cause { IfErr result

@@ -15,10 +15,10 @@ use tree_shape::{InnerEntry, LeafEntry, Node};
 
 /// An entry that makes nodes.
 pub trait NodeEntry: Entry {
-    /// The node of a level with these entries.
+    /// The node at a level with the given entries.
     ghost make: { ℕ → List Self → Node };
 
-    /// The node of a level with these entries.
+    /// Makes the node at `level` with `entries`.
     fn node(level: u8, entries: Listed<Self>) -> Node
         ensures { result ≡ make level entries };
 }
@@ -43,7 +43,7 @@ impl NodeEntry for InnerEntry {
     }
 }
 
-// Stages a node after the others, and gives its page.
+// Stages `node` after the others, and returns its page.
 pub fn stage_node(task: &Task<'_>, node: Node, nodes: &mut Vec<Node>) -> Result<u32, Memory>
     requires first { task.now.numbering.first ≤ 2 ^ 24 }
     requires few { length nodes.old.items < 2 ^ 10 }
@@ -56,7 +56,7 @@ pub fn stage_node(task: &Task<'_>, node: Node, nodes: &mut Vec<Node>) -> Result<
     Ok(page)
 }
 
-// Stages a half, and gives what stands above it.
+// Stages a half, and returns its page, routing point and covering radius.
 fn stage_half<E: NodeEntry>(
     task: &Task<'_>,
     level: u8,
@@ -104,7 +104,7 @@ fn stage_halves<E: NodeEntry>(
     Ok(Grew::Two(first, second))
 }
 
-// Stages a node that has an entry too many, in halves.
+// Stages a node with one entry too many, in halves.
 fn stage_split<R: Ruler, E: NodeEntry>(
     alloc: Global,
     ruler: &mut R,
@@ -132,7 +132,7 @@ fn stage_split<R: Ruler, E: NodeEntry>(
     Ok(grew)
 }
 
-// Stages a node that may have an entry too many, whole or in halves.
+// Stages a node that may have one entry too many, whole or in halves.
 pub fn stage<R: Ruler, E: NodeEntry>(
     alloc: Global,
     ruler: &mut R,

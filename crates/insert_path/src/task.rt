@@ -10,7 +10,7 @@ pub struct NewObject<'a> {
     pub point: &'a [u32],
 }
 
-/// What an insertion goes by.
+/// The parameters of an insertion.
 #[derive(Clone, Copy)]
 pub struct Task<'a> {
     /// How nodes are split.

@@ -12,7 +12,7 @@ use Rattle.page_store.proofs.Published.{tours_more, page_stops, holds_both, hold
 use Rattle.log_model.proofs.Published.{count_up_more}
 use Rattle.metric_join.specs.Joined.{IsWalked}
 
--- the walk has opened so many pages, and has these still to open
+-- the walk has opened `opened` pages, and still has to open the pages `left`
 pub record IsTouring (live : Live) (old now : Shelf) (opened : ℕ) (left : List ℕ) : Type 0 where
   pub holds : HoldsSame old now
   pub asked : now.asked ≡ count_up old.asked opened

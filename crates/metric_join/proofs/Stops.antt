@@ -20,7 +20,7 @@ use Rattle.metric_join.specs.Steps.{IsWaiting, IsUnderWay, HasStop, HasStopped, 
 use Rattle.metric_join.proofs.Tours.{whole_opens}
 use Rattle.metric_join.proofs.Standing.{opened_whole}
 
--- a page of one side, whose path may go through so many more nodes
+-- a page of one side, whose path may go through `room` more nodes
 module _ (live : Live) (old now next : Shelf) (page room asked : ℕ) (holds : HoldsSame old now) (count : now.asked ≡ count_up old.asked asked) (enough : live.pages ≤ room + asked)
     (whole : IsTrue old.tells → IsWhole (nodes_of old.read) page room) where
   no_fault : (fault : PageFault) → now.read page ≡ Err fault → IsTrue old.tells → ⊥

@@ -29,11 +29,11 @@ use Rattle.metric_join.specs.declared.faults.JoinFault.TheVariants.{Left, Right,
 use Rattle.metric_join.specs.declared.opening.Opening.{Opening}
 use Rattle.metric_join.specs.declared.walking.Waiting.{Waiting}
 
--- the least mark by its own distance, of an entry with this point and this radius
+-- the least mark of an entry by its own distance, given its point and radius
 abbrev pub measured_at : JoinSearch → JoinNeed → List ℕ → ℕ → Mark
 measured_at j n point radius = if far_apart (apart_from j.space n point) j.rho radius (radius_of (other n)) then Far else Near
 
--- the least mark of an entry with this point, this distance to the routing point above and this radius
+-- the least mark of an entry, given its point, parent distance and radius
 abbrev pub least_at : JoinSearch → JoinNeed → List ℕ → ℕ → ℕ → Mark
 least_at j n point stored radius = if far_stored n.apart stored j.rho (radius + radius_of (other n)) then Skip else measured_at j n point radius
 
@@ -44,13 +44,13 @@ marks_for j n es = map (least_for_entry j n) es
 abbrev pub pairs_for : JoinSearch → JoinNeed → List Entry → List JoinNeed
 pairs_for j n es = map (with_entry j.space n) (near_ones es (marks_for j n es))
 
--- these entries were marked, and the pairs that they leave were added
+-- the entries were marked, and the pairs that they leave were added
 pub record TakesEntries (j : JoinSearch) (n : JoinNeed) (es : List Entry) (old new : Opening) : Type 0 where
   pub marks : new.marks.items ≡ old.marks.items ++ marks_for j n es
   pub hits : new.matches.hits.items ≡ old.matches.hits.items ++ hits_among (pairs_for j n es)
   pub needs : new.matches.needs.items ≡ old.matches.needs.items ++ needs_among (pairs_for j n es)
 
--- the pairs that wait, and how much there is still to walk
+-- the waiting pairs, and how much there is still to walk
 abbrev pub needs_in : List Waiting → List JoinNeed
 needs_in ws = map (λ w. w.need) ws
 
@@ -66,7 +66,7 @@ abbrev pub IsStanding : Shelf → Item → ℕ → Type 0
 IsStanding shelf (Subtree page rank centre radius) room = (1 ≤ rank) × (IsTrue shelf.tells → IsWhole (nodes_of shelf.read) page room)
 IsStanding shelf (Object id point) room = Unit {0}
 
--- a pair that waits, when so many nodes were opened on each side
+-- a waiting pair, when `lefts` and `rights` nodes were opened on the two sides
 pub record IsWaiting (l r : Live) (left right : Shelf) (lefts rights : ℕ) (w : Waiting) : Type 0 where
   pub need : IsTrue (is_need w.need)
   pub left_stands : IsStanding left w.need.left w.left_room
@@ -88,7 +88,7 @@ pub record IsUnderWay (j : JoinSearch) (l r : Live) (left left2 right right2 : S
       JoinWalksBy JoinLeast j (nodes_of left.read) (nodes_of right.read) (needs_in stack) rs hs →
       JoinWalksBy JoinLeast j (nodes_of left.read) (nodes_of right.read) (root_pair l r ∷ []) (records ++ rs) (hits ++ hs)
 
--- the pair of one of the needs that an opened pair leaves waits with the room that is left on each side
+-- the waiting pair of a need that an opened pair leaves, with the room that is left on each side
 abbrev pub following : Waiting → JoinNeed → Waiting
 following w need =
     if opens_right w.need
@@ -99,7 +99,7 @@ following w need =
 abbrev pub record_for : Waiting → List Mark → JoinRecord
 record_for w marks = record { right = opens_right w.need; page = page_of (opened w.need); marks = marks }
 
--- a page of one side was asked for once and gave this node; the other side was left alone
+-- a page of one side was asked for once and gave `node`; the other side was left alone
 pub record IsOpenedOn (side side2 other other2 : Shelf) (page room : ℕ) (node : Node) : Type 0 where
   pub is : IsNodeOf side page node
   pub asked : side2.asked ≡ next_count side.asked
@@ -124,11 +124,11 @@ HasStopped left left2 right right2 w (Left fault) = (opens_right w.need ≡ fals
 HasStopped left left2 right right2 w (Right fault) = (opens_right w.need ≡ true) × HasStop w.right_room right right2 (page_of (opened w.need)) fault
 HasStopped left left2 right right2 w Memory = Unit {0}
 
--- distances were computed for some of the marks that were added, none of them Skip
+-- distances were computed for some of the marks that were added, and for none that is Skip
 abbrev pub CountsMarks : ℕ → ℕ → List Mark → List Mark → Type 0
 CountsMarks used used2 old new = (n : ℕ) × (measured_by old + n ≤ measured_by new) × (used2 ≡ count_up used n)
 
--- why the walk of pairs stops on a side: the disk failed; of pages that tell what they hold nothing else comes, since the first
+-- why the walk of pairs stops on a side: the disk failed; where the pages tell what they hold nothing else comes, since the first
 -- walk was whole
 abbrev pub HasSideStop : Live → Shelf → Shelf → PageFault → Type 0
 HasSideStop live old new pages.Disk = Rose old.faults new.faults

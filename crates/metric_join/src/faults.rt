@@ -28,7 +28,7 @@ impl From<AllocError> for JoinFault {
     }
 }
 
-/// The fault of a join whose page of one side gave no node.
+/// Returns the fault of a join, given the side and the page's fault.
 pub fn fault_of(right: bool, fault: PageFault) -> JoinFault
     ensures { result ≡ fault_of right fault }
 {

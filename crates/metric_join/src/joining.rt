@@ -16,7 +16,7 @@ use page_store::Pages;
 use std::alloc::Global;
 use tree_shape::Live;
 
-// What a walk that is whole answers.
+// Makes the answer of a whole walk.
 fn joined_of(alloc: Global, ll: &Live, lr: &Live, r: u64, walk: JoinWalk) -> Result<Joined, Memory>
     ensures left { IfOk result (λ joined. joined.log.left ≡ (ll.now.generation, ll.now.root)) }
     ensures right { IfOk result (λ joined. joined.log.right ≡ (lr.now.generation, lr.now.root)) }
@@ -41,17 +41,17 @@ fn joined_of(alloc: Global, ll: &Live, lr: &Live, r: u64, walk: JoinWalk) -> Res
     })
 }
 
-/// Every pair of a left and a right object within `r` of each other, by the left id, then by the right, and the log that
-/// shows it. Each tree is walked once by child numbers, the left one first. Then the walk of pairs begins with the two
-/// roots: of two items the one of greater rank is opened, the left one at a tie, and each of its entries is skipped where
-/// stored distances rule it out, left out where its own distance does, and else paired with the other item. The rank of a
-/// root is its height plus 1, that of another node the level that its parent states, and that of an object 0. The tests
-/// are those of a query (VLDB 1997, section 4.1), with the other item's centre for the query's point and its radius added.
+/// Finds every pair of a left and a right object within `r` of each other, by the left id, then by the right, and the log that
+/// shows it. Each tree is walked once by child numbers, the left one first. Then the walk of pairs begins with the two roots. Of
+/// two items the one of greater rank is opened, the left one at a tie. Each of its entries is skipped where stored distances rule
+/// it out, left out where its own distance does, and else paired with the other item. The rank of a root is its height plus 1,
+/// that of another node the level that its parent states, and that of an object 0. The tests are those of a query (VLDB 1997,
+/// section 4.1), with the other item's centre as the query's point and its radius added.
 ///
-/// `Left` and `Right` hold why a page of that side gave no node. A page that holds no node is `Bad`, one below 3 or not
-/// below the number of pages is `Outside`. Where the first walk of a tree has opened as many nodes as the live slot counts
-/// pages, or where a path of the walk of pairs has gone through as many, a further page is `Repeats`. None of these comes
-/// on sound trees. `Disk` comes where that side's disk failed.
+/// `Left` and `Right` hold why a page of that side gave no node. A page that holds no node is `Bad`. A page below 3 or not below
+/// the number of pages is `Outside`. One page more is `Repeats` where the first walk of a tree has opened as many nodes as the
+/// live slot counts pages, or where a path of the walk of pairs has gone through as many. None of these comes on sound trees.
+/// `Disk` comes where that side's disk failed.
 pub fn join<P: Pages, Q: Pages, R: Ruler>(
     alloc: Global,
     left: &mut P,

@@ -12,7 +12,7 @@ use metric_laws::Ruler;
 use std::alloc::Global;
 use tree_shape::{InnerEntry, LeafEntry, Node};
 
-/// What the opening of a pair makes.
+/// The result of opening a pair.
 #[derive(Drop)]
 pub struct Opening {
     /// One mark for each entry of the node.
@@ -21,16 +21,16 @@ pub struct Opening {
     pub matches: Matches,
 }
 
-// What was found of an entry that is not skipped.
+// What was found for an entry that is not skipped.
 #[derive(Clone, Copy)]
 struct Marked {
     // Its least mark.
     mark: Mark,
-    // How far it is from the other item, where that has a centre.
+    // Its distance from the other item, where that has a centre.
     apart: Option<u64>,
 }
 
-// The least mark of an entry that is not skipped, by its distance.
+// Returns the least mark of an entry that is not skipped, by its distance.
 fn measured_mark<R: Ruler>(ruler: &mut R, probe: JoinProbe, point: &[u32], radius: u64) -> Marked
     ensures metric { R.metric ruler.new ≡ R.metric ruler.old }
     ensures counted { CountsUpTo (R.used ruler.old) (R.used ruler.new) 1 }
@@ -47,7 +47,7 @@ fn measured_mark<R: Ruler>(ruler: &mut R, probe: JoinProbe, point: &[u32], radiu
 }
 
 impl Opening {
-    // An opening of no entries yet, with room for so many marks. Its pairs take the memory of this list, which has none yet.
+    // Makes an opening of no entries yet, with room for `entries` marks. Its pairs reuse the memory of `needs`, which is empty.
     fn new(alloc: Global, entries: usize, needs: Vec<JoinNeed>) -> Result<Self, Memory>
         requires { needs.items ≡ [] }
         ensures marks { IfOk result (λ opening. opening.marks.items ≡ []) }
@@ -86,9 +86,9 @@ fn measure_object<R: Ruler>(
     Ok(())
 }
 
-// Marks an object, and adds its pair where it is marked Near.
-// Most entries are skipped, so the test for it stands in the loops over them, and what the others need stands apart: a
-// function clears the places of its values where it begins.
+// Marks an object, and adds its pair where it is marked Near. Most entries are skipped, so the test for that stands in the loops
+// over them, and the work for the others stands apart: a function clears the places of its values where it begins. function clears
+// the places of its values where it begins.
 #[inline(always)]
 fn mark_object<R: Ruler>(
     ruler: &mut R,
@@ -108,7 +108,7 @@ fn mark_object<R: Ruler>(
     measure_object(ruler, probe, entry, opening)
 }
 
-// Marks a subtree that an inner node of this level names and that is not skipped, and adds its pair where it is marked Near.
+// Marks a subtree that an inner node of level `level` names and that is not skipped, and adds its pair where it is marked Near.
 #[inline(never)]
 fn measure_subtree<R: Ruler>(
     ruler: &mut R,
@@ -133,7 +133,7 @@ fn measure_subtree<R: Ruler>(
     Ok(())
 }
 
-// Marks a subtree that an inner node of this level names, and adds its pair where it is marked Near.
+// Marks a subtree that an inner node of level `level` names, and adds its pair where it is marked Near.
 #[inline(always)]
 fn mark_subtree<R: Ruler>(
     ruler: &mut R,
@@ -160,7 +160,7 @@ fn mark_subtree<R: Ruler>(
     measure_subtree(ruler, probe, level, entry, opening)
 }
 
-// Marks a leaf's entries.
+// Marks the entries of a leaf.
 fn mark_leaf<R: Ruler>(
     ruler: &mut R,
     probe: JoinProbe,
@@ -178,7 +178,7 @@ fn mark_leaf<R: Ruler>(
     Ok(())
 }
 
-// Marks the entries of an inner node of a level.
+// Marks the entries of an inner node of level `level`.
 fn mark_inner<R: Ruler>(
     ruler: &mut R,
     probe: JoinProbe,
@@ -197,8 +197,8 @@ fn mark_inner<R: Ruler>(
     Ok(())
 }
 
-/// Opens the node of a pair's item of greater rank: its least marks, and the pairs that they leave, which take the memory of
-/// this list without pairs.
+/// Opens the node of a pair's item of greater rank: returns its least marks, and the pairs that they leave. The pairs reuse the
+/// memory of `needs`, which is empty.
 pub fn open_node<R: Ruler>(
     ruler: &mut R,
     probe: JoinProbe,

@@ -9,7 +9,7 @@ use page_store::{PageFault, Pages};
 use std::alloc::Global;
 use tree_shape::{Live, Node};
 
-// Puts the pages that a node names on the stack, so that the first of them is on top.
+// Pushes the pages that `node` names on the stack, so that the first of them is on top.
 fn push_children(stack: &mut Vec<u32>, node: &Node) -> Result<(), Memory>
     ensures { OnOk result (reverse stack.new.items ≡ children node.now ++ reverse stack.old.items) }
 {
@@ -21,7 +21,7 @@ fn push_children(stack: &mut Vec<u32>, node: &Node) -> Result<(), Memory>
     Ok(())
 }
 
-// Opens a page, and puts the pages that its node names on the stack.
+// Opens a page, and pushes the pages that its node names on the stack.
 fn open_page<P: Pages>(
     alloc: Global,
     pages: &mut P,
@@ -41,8 +41,8 @@ fn open_page<P: Pages>(
     }
 }
 
-/// Walks the live tree by child numbers, each page before those that its node names. After as many pages as there are, a
-/// further one is refused unasked.
+/// Walks the live tree by child numbers, each page before those that its node names. After as many pages as the file has, one
+/// more is refused unasked.
 pub fn tour<P: Pages>(alloc: Global, pages: &mut P, live: &Live) -> Result<(), PageFault>
     ensures same { HoldsSame (P.shelf pages.old) (P.shelf pages.new) }
     ensures keeps { P.keeps pages.old pages.new }

@@ -19,7 +19,7 @@ use std::alloc::Global;
 use std::mem;
 use tree_shape::Live;
 
-/// A pair that waits to be opened.
+/// A pair that is still to be opened.
 #[derive(Drop)]
 pub struct Waiting {
     /// The pair.
@@ -30,7 +30,7 @@ pub struct Waiting {
     pub right_room: u32,
 }
 
-/// A list that has no pairs any more, whose memory the next opening takes.
+/// An empty list of pairs, whose memory the next opening reuses.
 #[derive(Drop)]
 pub struct Spare {
     list: Vec<JoinNeed>,
@@ -51,7 +51,7 @@ impl Spare {
     }
 }
 
-/// A walk from the pair of roots, half way.
+/// A walk from the pair of roots, under way.
 #[derive(Drop)]
 pub struct JoinWalk {
     /// The radius that prunes.
@@ -60,14 +60,14 @@ pub struct JoinWalk {
     pub records: Vec<JoinRecord>,
     /// The pairs of objects that are marked Near, in the order of the walk.
     pub hits: Vec<Pair>,
-    /// The pairs that wait, the next one last.
+    /// The waiting pairs, the next one last.
     pub stack: Vec<Waiting>,
     /// The list of the pair that was opened last.
     pub spare: Spare,
 }
 
 impl JoinWalk {
-    /// A walk that needs the pair of roots.
+    /// Begins a walk with the pair of roots.
     pub fn begin(alloc: Global, left: &Live, right: &Live, r: u64) -> Result<Self, Memory>
         ensures rho { IfOk result (λ walk. walk.rho ≡ min r bound) }
         ensures records { IfOk result (λ walk. walk.records.items ≡ []) }
@@ -114,7 +114,7 @@ impl JoinWalk {
     }
 }
 
-// A need of an opened pair, with the room that is left on each side.
+// Makes a waiting pair of a need of an opened pair, with the room that is left on each side.
 fn follow(waiting: &Waiting, need: JoinNeed) -> Waiting
     ensures { result ≡ following waiting.now need }
 {
@@ -133,7 +133,7 @@ fn follow(waiting: &Waiting, need: JoinNeed) -> Waiting
     }
 }
 
-// Puts the needs of an opened pair on the stack, so that the first of them is on top, and gives the list back without them.
+// Pushes the needs of an opened pair on the stack, so that the first of them is on top, and returns their list, emptied.
 fn put_on_top(
     stack: &mut Vec<Waiting>,
     waiting: &Waiting,
@@ -149,7 +149,7 @@ fn put_on_top(
     Ok(left)
 }
 
-// The node of a page of one side, where its path has room left.
+// Reads the node of a page of one side, where its path has room left.
 fn node_at<P: Pages>(
     alloc: Global,
     pages: &mut P,
@@ -170,7 +170,7 @@ fn node_at<P: Pages>(
     pages.node(alloc, page)
 }
 
-// The node of the opened item.
+// Reads the node of the opened item.
 fn opened_node<P: Pages, Q: Pages>(
     alloc: Global,
     left: &mut P,
@@ -200,7 +200,7 @@ fn opened_node<P: Pages, Q: Pages>(
     }
 }
 
-// Opens the item of greater rank of a pair that was needed.
+// Opens the item of greater rank of a needed pair.
 fn open_pair<P: Pages, Q: Pages, R: Ruler>(
     alloc: Global,
     left: &mut P,

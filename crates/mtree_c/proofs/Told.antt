@@ -37,7 +37,7 @@ told : (o0 o1 : SinkState) (text line : List ℕ) → o0.written ≡ Some [] →
 told o0 o1 text line empty holds none never (inl put) = appended o0.written o1.written text line empty holds put
 told o0 o1 text line empty holds none never (inr part) = absurd (unmoved (subst (λ (x : ℕ). Rose x 0) none (subst (λ (x : ℕ). Rose o0.faults x) never part.1)))
 
--- a text is handed over, where memory sufficed for it
+-- a text is handed over, where the memory for it sufficed
 pub hands_text : (IsText : List ℕ → ℕ → Type 0) (before after written : List ℕ) (faults size status of : ℕ)
     → (status ≢ 4 → status ≢ 8 → (status ≡ of) × (faults ≡ 0) × StandAtFront written before after × (size ≡ length written))
     → (status ≡ 4 → (of ≢ 4) × (of ≢ 8) × (faults ≡ 0) × (after ≡ before) × (size ≡ length written) × (length before < size))

@@ -1,4 +1,4 @@
--- What a query is answered on the bytes of a file.
+-- The answer of a query on the bytes of a file.
 use Rattle.std.specs.Prelude.{◌≡◌, ◌≢◌, ◌⊎◌, ◌<◌, ℕ, List, [], ◌∷◌, length, false, Some, Result, Ok, Err}
 use Rattle.std.specs.declared.alloc.AllocError.{AllocError}
 use Rattle.scan_model.specs.declared.hit.Hit.{Hit}
@@ -29,7 +29,7 @@ tagged (h ∷ hits) (tag ∷ tags) = record { id = h.id; distance = h.dist; tag 
 
 -- ---- on the bytes of a file
 
--- the bytes are a file of version 2, and a command on it comes to this
+-- the bytes are a file of version 2, and `o` is the outcome of a command on it
 pub record ComesTo (file : List ℕ) (c : Command) (o : Outcome) : Type 0 where
   pub head : Head
   pub live : Live
@@ -37,13 +37,13 @@ pub record ComesTo (file : List ℕ) (c : Command) (o : Outcome) : Type 0 where
   pub version : head.version ≡ 2
   pub outcome : IsOutcomeOf (space_of head) live file c o
 
--- it asks for none of the nearest, or about what is no point of the file's space
+-- the query asks for none of the nearest, or its point is not in the file's space
 abbrev pub IsNoQuery : List ℕ → Command → Type 0
 IsNoQuery file c =
     ((q : List ℕ) × (c ≡ command.Nearest 0 q)) ⊎ ((head : Head) × (live : Live) × OpensTo file head live × (head.version ≡ 2)
     × (has_points_of (space_of head) c ≡ false))
 
--- why a query has no answer, by its status: 2 it was no query; 6 the bytes are no file of version 2; 9 its search came to a damaged page
+-- why a query has no answer, by its status: 2 it was no query; 6 the bytes are no file of version 2; 9 its search met a damaged page
 pub record HasNoAnswer (file : List ℕ) (c : Command) (status : ℕ) : Type 0 where
   pub no_query : status ≡ 2 → IsNoQuery file c
   pub no_index : status ≡ 6 → (name : List ℕ) × IsNoIndex file name
@@ -72,11 +72,11 @@ abbrev pub frame_for : List ℕ → Log → List ℕ
 frame_for [] log = []
 frame_for room log = frame_bytes (log_bytes log)
 
--- these hits, tags and log, as they are handed over to a caller with this buffer for the log
+-- the hits with their tags and the log, as they are handed over to a caller with the given buffer for the log
 abbrev pub answer_for : List ℕ → List Hit → List ℕ → Log → Answer
 answer_for room hits tags log = record { hits = tagged hits tags; frame = frame_for room log }
 
--- what the query of a command is answered on the file
+-- the answer to the query of a command on the file
 abbrev pub IsAnswer : List ℕ → Command → List ℕ → Answer → Type 0
 IsAnswer file c room a =
     (hits : List Hit) × (tags : List ℕ) × (log : Log) × ComesTo file c (outcome.Done (reply.Hits hits tags) (Some log)) × (a ≡ answer_for room hits tags log)
@@ -84,8 +84,8 @@ IsAnswer file c room a =
 abbrev pub sizes_of : Answer → Sizes
 sizes_of a = record { hits = length a.hits; log = length a.frame }
 
--- What a query's call hands over. Status 0: the answer stands in the buffers; 4: one of them has no room for its part. Where it isn't 0
--- the buffers are as they were, and where it is neither 0 nor 4 the sizes are 0.
+-- What a query's call hands over. Status 0: the answer stands in the buffers; 4: one of them has no room for its part. Where the status
+-- isn't 0 the buffers are as they were. Where it is neither 0 nor 4 the sizes are 0.
 pub record HandsAnswer (file : List ℕ) (c : Command) (hits0 hits1 : List TaggedHit) (log0 log1 : List ℕ) (sizes : Sizes) (status : ℕ) : Type 0 where
   pub done : status ≡ 0 → (a : Answer) × IsAnswer file c log0 a × (sizes ≡ sizes_of a) × StandAtFront a.hits hits0 hits1 × StandAtFront a.frame log0 log1
   pub short : status ≡ 4 → (a : Answer) × IsAnswer file c log0 a × (sizes ≡ sizes_of a) × ((length hits0 < length a.hits) ⊎ (length log0 < length a.frame))

@@ -21,7 +21,7 @@ pub record IsAuditText (file text : List ℕ) (status : ℕ) : Type 0 where
   pub no_index : status ≡ 6 → IsUnopenedText file text
   pub statuses : (status ≡ 0) ⊎ ((status ≡ 1) ⊎ (status ≡ 6))
 
--- The text on logs. Status 0 and 1: what is to be said of the file and of them; 6: it is no file of version 2; 7: there are more than
+-- The text on logs. Status 0 and 1: what is to be said of the file and the logs; 6: it is no file of version 2; 7: there are more than
 -- 2^30 bytes of logs.
 pub record IsLogText (what : Report) (file logs text : List ℕ) (status : ℕ) : Type 0 where
   pub judged : (status ≡ 0) ⊎ (status ≡ 1) → (said : Saying) × Says what file logs said × (text ≡ concat said.texts) × (status ≡ said.status)

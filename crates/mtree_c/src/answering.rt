@@ -27,7 +27,7 @@ use slice_disk::SliceDisk;
 use std::alloc::Global;
 use tree_shape::Live;
 
-/// An object that a query is answered with.
+/// An object in the answer to a query.
 #[repr(C)]
 #[derive(Clone, Copy, PartialEq, Eq)]
 pub struct TaggedHit {
@@ -39,7 +39,7 @@ pub struct TaggedHit {
     pub tag: u64,
 }
 
-/// How much a query's answer takes.
+/// The sizes of a query's answer.
 #[repr(C)]
 #[derive(Clone, Copy, PartialEq, Eq)]
 pub struct Sizes {
@@ -49,10 +49,10 @@ pub struct Sizes {
     pub log: usize,
 }
 
-/// No answer.
+/// The sizes of no answer.
 const NOTHING: Sizes = Sizes { hits: 0, log: 0 };
 
-// What a query is answered: the hits by distance, then by id, their tags, and the log that shows them.
+// The answer to a query: the hits by distance, then by id, their tags, and the log that shows them.
 #[derive(Drop)]
 struct Answer {
     hits: Listed<Hit>,
@@ -60,7 +60,7 @@ struct Answer {
     log: Log,
 }
 
-// The head and the live slot of a file of version 2, or the status where it is none.
+// Reads the head and the live slot of a file of version 2, or returns the status where it is none.
 fn open_file(alloc: Global, file: &[u8]) -> Result<(Head, Live), u8>
     ensures opens { IfOk result (λ opened. OpensTo file.now opened.0 opened.1) }
     ensures version { IfOk result (λ opened. opened.0.version ≡ 2) }
@@ -76,7 +76,7 @@ fn open_file(alloc: Global, file: &[u8]) -> Result<(Head, Live), u8>
     }
 }
 
-// The answer that a query came to, or the status where it came to none.
+// Returns the answer in the outcome of a query, or the status where there is none.
 fn answer_of(came: Result<Outcome, Memory>) -> Result<Answer, u8>
     requires { IfOk came IsLawful }
     ensures each { IfOk result (λ a. length a.tags ≡ length a.hits) }
@@ -94,7 +94,7 @@ fn answer_of(came: Result<Outcome, Memory>) -> Result<Answer, u8>
     }
 }
 
-// What a range is answered on the bytes of a file, or the status where it has no answer.
+// Answers a range query on the bytes of a file, or returns the status where it has no answer.
 fn range_answer(alloc: Global, file: &[u8], point: &[u32], radius: u64) -> Result<Answer, u8>
     ensures each { IfOk result (λ a. length a.tags ≡ length a.hits) }
     ensures log { IfOk result (λ a. IsLawfulLog a.log) }
@@ -115,7 +115,7 @@ fn range_answer(alloc: Global, file: &[u8], point: &[u32], radius: u64) -> Resul
     ))
 }
 
-// The same of the nearest.
+// Answers a k-NN query on the bytes of a file, or returns the status where it has no answer.
 fn nearest_answer(alloc: Global, file: &[u8], point: &[u32], count: u64) -> Result<Answer, u8>
     ensures each { IfOk result (λ a. length a.tags ≡ length a.hits) }
     ensures log { IfOk result (λ a. IsLawfulLog a.log) }
@@ -139,7 +139,7 @@ fn nearest_answer(alloc: Global, file: &[u8], point: &[u32], count: u64) -> Resu
     ))
 }
 
-// The frame of a log, or nothing where there is no room at all.
+// Returns the frame of a log, or nothing where there is no room at all.
 fn frame_for(alloc: Global, log: &Log, room: &[u8]) -> Result<Vec<u8>, Memory>
     requires { IsLawfulLog log.now }
     ensures { IfOk result (λ bytes. bytes.items ≡ frame_for room.now log.now) }
@@ -151,7 +151,7 @@ fn frame_for(alloc: Global, log: &Log, room: &[u8]) -> Result<Vec<u8>, Memory>
     Ok(bytes)
 }
 
-// Hands over what a query is answered, or its status.
+// Hands over the answer of a query, or its status.
 fn hand_over(
     alloc: Global,
     answer: Result<Answer, u8>,
@@ -186,10 +186,10 @@ fn hand_over(
     0
 }
 
-/// Every object within `radius` of a point, by distance, then by id, in the bytes of an index file. Status 0: `sizes.hits`
+/// Finds every object within `radius` of a point, by distance, then by id, in the bytes of an index file. Status 0: `sizes.hits`
 /// hits stand at the front of `hits`, and where `log` is not empty, the frame of the log that shows them, of `sizes.log`
-/// bytes, at the front of `log`; 2: the point is none of the file's space; 4: a buffer has no room for what `sizes` tells; 6:
-/// the bytes are no index of version 2; 8: want of memory; 9: the search came to a damaged page. Where the status isn't 0,
+/// bytes, at the front of `log`; 2: the point is not in the file's space; 4: a buffer has no room for what `sizes` tells; 6:
+/// the bytes are no index of version 2; 8: out of memory; 9: the search met a damaged page. Where the status isn't 0,
 /// both buffers are left as they are.
 #[unsafe(no_mangle)]
 pub extern "C" fn mtree_range(
@@ -207,7 +207,7 @@ pub extern "C" fn mtree_range(
     hand_over(alloc, answer, hits, log, sizes)
 }
 
-/// The `count` objects nearest to a point, by distance, then by id. All else is as in [`mtree_range`], with status 2 also
+/// Finds the `count` objects nearest to a point, by distance, then by id. All else is as in [`mtree_range`], with status 2 also
 /// where `count` is 0.
 #[unsafe(no_mangle)]
 pub extern "C" fn mtree_nearest(

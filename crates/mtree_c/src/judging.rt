@@ -1,4 +1,4 @@
-// Audits a file and judges logs, and says so in the lines that the program writes.
+// Audits a file and judges logs, and writes the lines of the program on them.
 ghost use Rattle.std.specs.Prelude.{◌≡◌};
 ghost use Rattle.log_jobs.specs.Laws.{FaultlessIsComplete};
 ghost use Rattle.file_jobs.specs.declared.logs.report.Report.TheVariants.{Answers, Verdicts};
@@ -20,13 +20,13 @@ use std::alloc::Global;
 #[repr(C)]
 #[derive(Clone, Copy, PartialEq, Eq)]
 pub struct RootDigest {
-    /// Its bytes.
+    /// The bytes of the digest.
     pub bytes: [u8; 32],
 }
 
 /// Audits the bytes of an index file. The lines at the front of `text`, of `size` bytes, are those of the program's `audit`,
 /// and so is the status: 0 the file is sound; 1 it has a fault; 4 `text` has no room for `size` bytes, and is left as it is;
-/// 6 it is no index of version 2; 8 want of memory, with nothing said.
+/// 6 it is no index of version 2; 8 out of memory, with nothing said.
 #[unsafe(no_mangle)]
 pub extern "C" fn mtree_audit(alloc: Global, file: &[u8], text: &mut [u8], size: &mut usize) -> u8
     ensures { HandsText (IsAuditText file.now) text.old text.new size.new result }
@@ -57,7 +57,7 @@ pub extern "C" fn mtree_verify(
     hand_text(status, &out, text, size)
 }
 
-/// Audits the bytes of an index file, and where it is sound judges the logs of `logs` by it and says their answers. The lines
+/// Audits the bytes of an index file, and where it is sound judges the logs of `logs` by it and gives their answers. The lines
 /// are those of the program's `check`; the statuses are those of [`mtree_verify`], with 1 also where the file is not sound.
 #[unsafe(no_mangle)]
 pub extern "C" fn mtree_check(

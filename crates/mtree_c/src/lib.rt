@@ -1,6 +1,6 @@
 //! The index for programs in other languages. Each call takes the bytes of an index file, which the caller holds in memory or
-//! maps, and answers into the caller's own buffers. Nothing is kept between calls, and no call writes a file. A status is one
-//! of the program's own table: 0 done, 1 rejected, 2 no query, 4 a buffer is too small, 6 no index of version 2, 7 too long,
+//! maps, and writes its answer into the caller's own buffers. Nothing is kept between calls, and no call writes a file. A status is
+//! one of the program's own table: 0 done, 1 rejected, 2 no query, 4 a buffer is too small, 6 no index of version 2, 7 too long,
 //! 8 out of memory, 9 a damaged page. 5, the status of a disk that failed, never comes: the bytes can always be read.
 #![tactic(auto)]
 
@@ -12,16 +12,16 @@ mod rooms;
 pub use answering::{Sizes, TaggedHit, mtree_nearest, mtree_range};
 pub use judging::{RootDigest, mtree_audit, mtree_check, mtree_proof, mtree_verify};
 
-/// No call can do what was asked for: the point is none of the file's space, or none of the nearest are asked for.
+/// The query can't be answered: its point is not in the file's space, or it asks for none of the nearest.
 pub(crate) const NO_QUERY: u8 = 2;
 
 /// A buffer is too small.
 pub(crate) const SHORT: u8 = 4;
 
-/// Want of memory.
+/// Out of memory.
 pub(crate) const MEMORY: u8 = 8;
 
-/// A search came to a damaged page.
+/// A search met a damaged page.
 pub(crate) const DAMAGED: u8 = 9;
 
 #[cfg(test)]

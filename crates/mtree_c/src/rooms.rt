@@ -10,7 +10,7 @@ use crate::{MEMORY, SHORT};
 use outside_io::Status;
 use scan_model::Hit;
 
-/// Puts bytes at the front of a buffer that has room for them.
+/// Puts `bytes` at the front of `room`, which has room for them.
 pub fn put_bytes(bytes: &[u8], room: &mut [u8])
     requires { length bytes.now ≤ length room.old }
     ensures { StandAtFront bytes.now room.old room.new }
@@ -19,7 +19,7 @@ pub fn put_bytes(bytes: &[u8], room: &mut [u8])
     front.copy_from_slice(bytes);
 }
 
-/// Puts hits and their tags at the front of a buffer that has room for them.
+/// Puts `hits` and their `tags` at the front of `room`, which has room for them.
 pub fn put_hits(hits: &[Hit], tags: &[u64], room: &mut [TaggedHit])
     requires each { length tags.now ≡ length hits.now }
     requires room { length hits.now ≤ length room.old }
@@ -34,7 +34,7 @@ pub fn put_hits(hits: &[Hit], tags: &[u64], room: &mut [TaggedHit])
     }
 }
 
-/// Hands over the text of a job that ended with this status. Status 4: the text has no room; 8: memory ran out.
+/// Hands over the text of a job that ended with `status`. Returns 4 where the text has no room, and 8 when memory ran out.
 pub fn hand_text(status: Status, written: &Gathered, text: &mut [u8], size: &mut usize) -> u8
     ensures done { result ≢ 4 → result ≢ 8 → (result ≡ status.0) × (written.now.faults ≡ 0)
         × StandAtFront written.now.bytes.items text.old text.new × (size.new ≡ length written.now.bytes.items) }

@@ -46,7 +46,7 @@ const NINE: TaggedHit = TaggedHit {
 
 const NOTHING: Sizes = Sizes { hits: 0, log: 0 };
 
-// Ranges: the point, the radius, the room for hits, and the status, the hits and their number that come of it.
+// Ranges: the point, the radius, the room for hits, and the expected status, hits and number of hits.
 #[test]
 fn ranges(rt: HostRuntime) -> Result<(), Fail> {
     let alloc = rt.alloc();
@@ -85,7 +85,7 @@ fn ranges(rt: HostRuntime) -> Result<(), Fail> {
     Ok(())
 }
 
-// Where there is a buffer for it the log's frame is handed over, and the file verifies it.
+// Where there is a buffer for it, the log's frame is handed over, and the file verifies it.
 #[test]
 fn logs(rt: HostRuntime) -> Result<(), Fail> {
     let alloc = rt.alloc();
@@ -167,7 +167,7 @@ fn texts(rt: HostRuntime) -> Result<(), Fail> {
     Ok(())
 }
 
-// Bytes of carried logs, and the status and the text on them.
+// Bytes of carried logs, with the expected status and text.
 #[test]
 fn carried_logs(rt: HostRuntime) -> Result<(), Fail> {
     let cases: [(&[u8], u8, &str); 3] = [

@@ -107,7 +107,7 @@ module _ (s : Space) (axioms : IsSpace s) (q : List ℕ) (q_fits : IsTrue (s.fit
     counted r = count_near (at 0) r (objects_below nodes root)
 
     module _ (kept : Sheets) (queue : List Pending) (best : List ℕ) (opened : List ℕ) (holds : Holds s nodes q k root kept queue best opened) (rho : ℕ) (radius : IsRadius k best rho) where
-      -- where all that waits is beyond r, the least distances tell how many are within
+      -- where all queued subtrees are beyond r, the least distances tell how many are within
       pub all_beyond : (r : ℕ) → r ≤ bound → ((x : Pending) → IsIn x queue → r < x.low) → min k (within r best) ≡ min k (counted r)
       all_beyond r low far =
           let c = holds.counts r low in
@@ -143,7 +143,7 @@ module _ (s : Space) (axioms : IsSpace s) (q : List ℕ) (q_fits : IsTrue (s.fit
               let c = all_beyond final is.bounded (λ y i. let g = first y i in omega arith) in
               absurd (omega arith)
 
-      -- where all that waits is beyond the radius, it is the final one
+      -- where all queued subtrees are beyond the radius, it is the final one
       pub final_at_end : ((x : Pending) → IsIn x queue → rho < x.low) → IsFinal k counted rho
       final_at_end far = record {
         bounded = radius.bounded;
@@ -239,7 +239,7 @@ module _ (s : Space) (axioms : IsSpace s) (q : List ℕ) (q_fits : IsTrue (s.fit
         pub kept_after : (page : ℕ) (above : Option ℕ) → IsKept kept page above → IsKept kept' page above
         kept_after page above old = elim (others page above) [ inl same ↦ (seen, rw (same.0, same.1) here) | inr same ↦ (old.0, same ∙ old.1) ]
 
-        -- what waited still waits, or was opened
+        -- what was queued is still queued, or was opened
         pub waits_after : (y : Pending) → IsIn y queue → IsKept kept' y.page y.above ⊎ IsIn y queue'
         waits_after y i =
             elim (in-permutation queue (x ∷ rest) y popped i) [

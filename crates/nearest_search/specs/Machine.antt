@@ -31,7 +31,7 @@ count_near f r os = total (λ o. one_within r (away f o.point)) os
 abbrev pub count_below : Search → Nodes → ℕ → Pending → ℕ
 count_below f nodes r x = count_near f r (objects_below nodes x.page)
 
--- what is queued of a subtree, and of the root
+-- the queued form of a subtree, and of the root
 abbrev pub pending_of : Search → InnerEntry → Pending
 pending_of f e = record { low = away f e.point - e.radius; page = e.child; above = Some (away f e.point) }
 
@@ -61,7 +61,7 @@ entries_in (Some node) = entry_count node
 abbrev pub entries_of : Nodes → ℕ → ℕ
 entries_of nodes page = entries_in (nodes page)
 
--- the weight of the pages below this one, itself included, that a walk with the least marks opens
+-- the weight of the page and the pages below it that a walk with the least marks opens
 abbrev pub opens : (ℕ → ℕ) → Search → Nodes → ℕ → ℕ → ℕ
 opens w f nodes zero page = w page
 opens w f nodes (suc h) page = w page + total (λ e. if reaches f e then opens w f nodes h e.child else 0) (inner_entries (nodes page))
@@ -94,7 +94,7 @@ pub record IsPending (f : Search) (nodes : Nodes) (x : Pending) : Type 0 where
   pub above_is : x.above ≡ far_above f above
   pub low_is : AllByRecursion (λ o. x.low ≤ away f o.point) (objects_at nodes height x.page)
 
--- what holds of the openings that are kept, at the final radius: what they reach is kept, or waits in the queue
+-- what holds of the openings that are kept, at the final radius: what they reach is kept or queued
 pub record IsClosed (f : Search) (nodes : Nodes) (kept : Sheets) (root : ℕ) (queue : List Pending) (opened : List ℕ) : Type 0 where
   pub begun : IsKept kept root None ⊎ IsIn (pending_root root) queue
   pub reached : (page : ℕ) (above : Option ℕ) → IsKept kept page above → (e : InnerEntry) → IsIn e (inner_entries (nodes page)) → IsTrue (reaches f e) →

@@ -21,19 +21,19 @@ leaf_dists f above es = map (λ h. h.dist) (map (hit_of f) (near_ones es (leaf_m
 abbrev pub inner_pendings : Search → Option ℕ → List InnerEntry → List Pending
 inner_pendings f above es = map (pending_of f) (near_ones es (inner_marks f above es))
 
--- these are the k least of the old distances and the new ones, as far as counts tell
+-- the new list has the k least of the old distances and the new ones, as far as counts tell
 abbrev pub Takes : ℕ → List ℕ → List ℕ → List ℕ → Type 0
 Takes k old new ds = (r : ℕ) → min k (within r new) ≡ min k (within r old + within r ds)
 
--- what a search knows in the middle: the subtrees that are not opened yet, the least distances, what was seen of the opened pages, and the
--- count of the distances that were computed
+-- what a search knows in the middle: the subtrees that are not opened yet, the least distances, what was seen of the opened pages,
+-- and the count of the distances that were computed
 pub record State : Type 0 where
   pub queue : List Pending
   pub best : List ℕ
   pub kept : Sheets
   pub used : ℕ
 
--- the page of x was read at the search's radius
+-- the page of `x` was read at the search's radius
 pub record IsOpened (f : Search) (shelf : Shelf) (k : ℕ) (x : Pending) (old new : State) : Type 0 where
   pub node : Node
   pub is : IsNodeOf shelf x.page node

@@ -18,7 +18,7 @@ abbrev pub IsStopped : Sheets → Live → List Record → List Need → Type 0
 IsStopped kept live records [] = Unit {0}
 IsStopped kept live records (n ∷ ns) = (length records ≡ live.pages) ⊎ (kept n.page n.above ≡ None)
 
--- wherever what is kept was seen of these nodes, a walk with the least marks at the radius comes to here
+-- for all nodes that what is kept was seen of, a walk with the least marks at the radius reaches this state
 abbrev pub IsWalk : ℕ → Sheets → ℕ → List Record → List Hit → List Need → Type 0
 IsWalk rho kept root records hits left =
     (s : Space) (q : List ℕ) (nodes : Nodes) → AreSeenOf s q rho nodes kept → ReachesBy AreLeast (search_at s q rho) nodes (root_need root ∷ []) records hits left
@@ -29,7 +29,7 @@ pub record TakesSeen (rho : ℕ) (n : Need) (seen : Seen) (old new : Traversal) 
   pub records : new.records.items ≡ old.records.items ++ record_seen rho n.page seen ∷ []
   pub needs : reverse new.stack.items ≡ needs_seen rho seen ++ reverse old.stack.items
 
--- the walk over what is kept has come to here
+-- the walk over what is kept has reached this state
 pub record IsRelogging (rho : ℕ) (kept : Sheets) (root : ℕ) (records : List Record) (hits : List Hit) (left : List Need) : Type 0 where
   pub walk : IsWalk rho kept root records hits left
   pub few_marks : AllByRecursion (λ r. length r.marks ≤ 32) records

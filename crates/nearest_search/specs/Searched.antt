@@ -35,9 +35,9 @@ IsReachedBy nodes page (c ∷ path) p = (e : InnerEntry) × IsIn e (inner_entrie
 abbrev pub IsReached : Nodes → ℕ → ℕ → Type 0
 IsReached nodes root p = (path : List ℕ) × IsReachedBy nodes root path p
 
--- A search has opened so many pages, the root first, and asked for each of them once. Where the pages tell what they hold,
--- what it keeps was seen of their nodes, and it is a walk that may come to what it queues; where they tell a sound tree, what it knows is true of that
--- tree.
+-- A search has opened `opened` pages, the root first, and asked for each of them once. Where the pages tell what they hold,
+-- what it keeps was seen of their nodes, and it is a walk that may reach what it queues. Where they tell a sound tree, what it
+-- knows is true of that tree.
 pub record IsExploring (s : Space) (old now : Shelf) (live : Live) (q : List ℕ) (k : ℕ) (state : State) (opened used : ℕ) : Type 0 where
   pub same : HoldsSame old now
   pub asked : now.asked ≡ count_up old.asked opened
@@ -53,22 +53,22 @@ pub record IsExploring (s : Space) (old now : Shelf) (live : Live) (q : List ℕ
   pub spent : IsTrue old.tells → state.used ≤ used + total (entries_of (nodes_of old.read)) pages
   pub holds : IsTrue old.tells → IsSoundTree s (nodes_of old.read) live → Holds s (nodes_of old.read) q k live.root state.kept state.queue state.best pages
 
--- nothing within the radius waits
+-- nothing within the radius is queued
 pub record IsExplored (s : Space) (old now : Shelf) (live : Live) (q : List ℕ) (k : ℕ) (state : State) (rho opened used : ℕ) : Type 0 where
   pub radius : IsRadius k state.best rho
   pub beyond : (x : Pending) → IsIn x state.queue → rho < x.low
   pub exploring : IsExploring s old now live q k state opened used
 
--- So many pages were asked for, at most as many as is said, and at most 32 distances were computed for each of them: one for each of
--- the entries that a node may have.
+-- The pages asked for are counted, at most `most`, and at most 32 distances were computed for each of them: one for each entry
+-- that a node may have.
 pub record IsFrugal (most asked used asked' used' : ℕ) : Type 0 where
   pub opened : ℕ
   pub few : opened ≤ most
   pub asked_is : asked' ≡ count_up asked opened
   pub used_few : used' ≤ used + 32 * opened
 
--- why a search refuses: the disk failed or memory ran out; or a reached page holds no node, or is none of the file's; or a walk
--- opened as many pages as there are, each asked for once, and comes to this reached one besides
+-- Why a search refuses: the disk failed or memory ran out; or a reached page holds no node, or lies outside the file; or a walk
+-- opened as many pages as the file has, asked for each once, and reaches one page more.
 abbrev pub HasNearestCause : Live → Shelf → Shelf → PageFault → Type 0
 HasNearestCause live old new Disk = Rose old.faults new.faults
 HasNearestCause live old new Memory = Unit {0}
@@ -81,11 +81,11 @@ HasNearestCause live old new (Repeats page) =
     × (IsTrue old.tells → IsReached (nodes_of old.read) live.root page × OpensBefore (nodes_of old.read) (live.root ∷ []) live.pages page)
 HasNearestCause live old new (Level page) = ⊥
 
--- the number of marks in a log, which is that of the entries of the nodes that its walk opens
+-- the number of marks in a log, which is the number of entries in the nodes that its walk opens
 abbrev pub marks_in : List Record → ℕ
 marks_in rs = total (λ r. length r.marks) rs
 
--- On a sound tree: the scan's first k, the least log of the query, and one page asked for per record of it.
+-- On a sound tree: the scan's first k, the least log of the query, and one page asked for per record of the log.
 pub record IsNearest (s : Space) (nodes : Nodes) (live : Live) (q : List ℕ) (k : ℕ) (old new : Shelf) (found : Found) : Type 0 where
   pub scanned : found.hits ≡ nearest_hits s (points_by_id nodes live) q k
   pub least : IsLeastLog s nodes live (Nearest q k) found.log

@@ -16,7 +16,7 @@ use Rattle.nearest_search.specs.declared.seen.Sight.{Sight}
 use Rattle.nearest_search.specs.declared.seen.Seen.{Seen}
 use Rattle.nearest_search.specs.declared.seen.Seen.TheVariants.{Objects, Subtrees}
 
--- no object of an entry is nearer than this, by the distances to the routing point above
+-- the distance below which no object of an entry lies, by the distances to the routing point above
 abbrev pub skip_of : Option ℕ → ℕ → ℕ → ℕ
 skip_of None stored radius = 0
 skip_of (Some above) stored radius = gap above stored - radius
@@ -41,7 +41,7 @@ is_near Skip = false
 is_near Far = false
 is_near Near = true
 
--- those that are marked Near at a radius, and what they are to the log: hits, and needed pages
+-- the sights that are marked Near at a radius, and what they are to the log: hits, and needed pages
 abbrev pub seen_near : ℕ → List Sight → List Sight
 seen_near rho xs = filter (λ x. is_near (mark_at rho x)) xs
 
@@ -51,7 +51,7 @@ hit_seen x = record { id = x.name; dist = x.dist }
 abbrev pub need_seen : Sight → Need
 need_seen x = record { page = x.name; above = Some x.dist }
 
--- this was seen of the node's entries by a search with a radius of at least rho
+-- what was seen of the node's entries by a search with a radius of at least rho
 abbrev pub IsSeenOf : Space → List ℕ → ℕ → Option ℕ → Node → Seen → Type 0
 IsSeenOf s q rho above (Leaf es) (Objects xs) = (r : ℕ) × (rho ≤ r) × (xs.items ≡ map (object_sight (search_at s q r) above) es)
 IsSeenOf s q rho above (Leaf es) (Subtrees xs) = ⊥

@@ -18,7 +18,7 @@ use page_store::{PageFault, Pages};
 use std::alloc::Global;
 use tree_shape::Live;
 
-/// What was explored.
+/// The result of an exploration.
 #[derive(Clone, Copy)]
 pub struct Explored {
     /// The final radius: nothing that is not opened is nearer.

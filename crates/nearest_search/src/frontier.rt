@@ -24,7 +24,7 @@ impl Model for Frontier {
 }
 
 impl Frontier {
-    /// No subtrees.
+    /// Makes an empty frontier.
     pub fn new(alloc: Global) -> Self
         ensures { result ≡ [] }
     {
@@ -41,7 +41,7 @@ impl Frontier {
         Ok(())
     }
 
-    /// Takes the nearest subtree, unless each is further than `rho`. One that is as far as `rho` is taken: it may hold an
+    /// Takes the nearest subtree, unless all are further than `rho`. A subtree at the distance `rho` is taken: it may hold an
     /// answer of a lower id.
     pub fn take_next(&mut self, rho: u64) -> Option<Pending>
         ensures some { IfSome result (λ x. IsNext rho self.old x self.new) }

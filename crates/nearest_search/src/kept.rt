@@ -38,7 +38,7 @@ impl Kept {
         }
     }
 
-    /// Gives what was seen at the opening `turn`, where it is kept.
+    /// Returns what was seen at the opening `turn`, if it is kept.
     pub fn get(&self, turn: Turn) -> Option<&Seen>
         ensures { option_copied result ≡ kept_seen self.now turn.page turn.above }
     {

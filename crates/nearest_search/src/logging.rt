@@ -29,7 +29,7 @@ fn push_hits(hits: &mut Vec<Hit>, rho: u64, seen: &[Sight]) -> Result<(), Memory
     Ok(())
 }
 
-// Puts the subtrees of `seen` that are marked Near at the radius `rho` on the stack, so that the first of them is on top.
+// Pushes the subtrees of `seen` that are marked Near at the radius `rho` on the stack, so that the first of them is on top.
 fn push_needs(stack: &mut Vec<Need>, rho: u64, seen: &[Sight]) -> Result<(), Memory>
     ensures { OnOk result (reverse stack.new.items ≡ map need_seen (seen_near rho seen.now) ++ reverse stack.old.items) }
 {
@@ -46,7 +46,7 @@ fn push_needs(stack: &mut Vec<Need>, rho: u64, seen: &[Sight]) -> Result<(), Mem
     Ok(())
 }
 
-// Gives the least marks of `seen` at the radius `rho`.
+// Returns the least marks of `seen` at the radius `rho`.
 fn marks_at(alloc: Global, rho: u64, seen: &[Sight]) -> Result<Vec<Mark>, Memory>
     ensures { IfOk result (λ marks. marks.items ≡ map (mark_at rho) seen.now) }
 {
@@ -71,7 +71,7 @@ fn push_record(
     Ok(())
 }
 
-// Takes in a page that was needed, by what was seen of its entries, with the least marks at the radius `rho`.
+// Takes in a needed page by what was seen of its entries, with the least marks at the radius `rho`.
 fn take_seen(
     alloc: Global,
     walk: &mut Traversal,

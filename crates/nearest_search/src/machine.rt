@@ -8,7 +8,7 @@ use crate::kth::Best;
 use crate::pending::Pending;
 use std::alloc::{AllocError, Global};
 
-/// What a search knows in the middle.
+/// The state of a search between two steps.
 #[derive(Drop)]
 pub struct Machine {
     /// The subtrees that are not opened yet.
@@ -19,7 +19,7 @@ pub struct Machine {
     pub kept: Kept,
 }
 
-// The root waits.
+// Returns a frontier that holds only the root.
 fn waiting_root(alloc: Global, root: u32) -> Result<Frontier, AllocError>
     ensures { IfOk result (λ f. f ≡ pending_root root ∷ []) }
 {
@@ -33,7 +33,7 @@ fn waiting_root(alloc: Global, root: u32) -> Result<Frontier, AllocError>
 }
 
 impl Machine {
-    /// A search for the `k` nearest objects that has only to open the root.
+    /// Begins a search for the `k` nearest objects, with only the root to open.
     pub fn begin(alloc: Global, k: u64, root: u32) -> Result<Self, AllocError>
         requires { 1 ≤ k }
         ensures queue { IfOk result (λ m. m.frontier ≡ pending_root root ∷ []) }

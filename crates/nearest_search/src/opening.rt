@@ -92,7 +92,7 @@ pub fn queue_inner<R: Ruler>(
     Ok(())
 }
 
-// Takes in the node of a page that was opened below a routing point at the distance `above`. Gives what was seen of its entries.
+// Takes in the node of a page that was opened below a routing point at the distance `above`. Returns what was seen of its entries.
 fn see_node<R: Ruler>(
     alloc: Global,
     ruler: &mut R,

@@ -1,5 +1,5 @@
-/// A subtree that is not opened yet. The nearest possible ones come first (VLDB 1997, section 4.2), then those of lower
-/// pages.
+/// A subtree that is not opened yet. Those that may hold the nearest objects come first (VLDB 1997, section 4.2), then those of
+/// lower pages.
 #[derive(Clone, Copy, PartialEq, Eq, PartialOrd, Ord)]
 pub struct Pending {
     /// No object below the page is nearer to the query than this.

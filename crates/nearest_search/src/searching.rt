@@ -17,13 +17,13 @@ use scan_model::Query;
 use std::alloc::Global;
 use tree_shape::Live;
 
-/// The `k` objects nearest to `q`, by distance, then by id (VLDB 1997, section 4.2), and the log that shows it: subtrees are
-/// opened by their least possible distance, also those that are as far as the `k`-th object, and the log is that of a
-/// range search at the `k`-th object's distance.
+/// Finds the `k` objects nearest to `q`, by distance, then by id (VLDB 1997, section 4.2), and the log that shows it. Subtrees are
+/// opened by their least possible distance, also those as far as the `k`-th object. The log is that of a range search at the
+/// `k`-th object's distance.
 ///
-/// A page that holds no node is `Bad`, one below 3 or not below the number of pages is `Outside`; where as many nodes were
-/// opened as the file has pages and a further one is to be opened, that one is `Repeats`. None of these comes on a sound
-/// tree. `Disk` comes where the disk failed.
+/// A page that holds no node is `Bad`. A page below 3 or not below the number of pages is `Outside`. Where as many nodes were
+/// opened as the file has pages and one more is to be opened, that one is `Repeats`. None of these comes on a sound tree.
+/// `Disk` comes where the disk failed.
 pub fn nearest<P: Pages, R: Ruler>(
     alloc: Global,
     pages: &mut P,
@@ -46,7 +46,7 @@ pub fn nearest<P: Pages, R: Ruler>(
     ensures front { IfOk result (λ found. IsTrue (P.shelf pages.old).tells →
         IsFront (R.M.space (R.metric ruler.old)) (nodes_of (P.shelf pages.old).read) live.now q.now k found) }
     ensures cause { IfErr result (HasNearestCause live.now (P.shelf pages.old) (P.shelf pages.new)) }
-    // Whatever the result, at most as many pages were asked for, and read, as the file has.
+    // Whatever the result, at most as many pages are asked for, and read, as the file has.
     ensures asked { CountsUpTo (P.shelf pages.old).asked (P.shelf pages.new).asked live.now.pages }
     ensures reads { (P.shelf pages.new).reads ≤ (P.shelf pages.old).reads + live.now.pages }
     // At most one distance was computed for each entry of the pages that were asked for.

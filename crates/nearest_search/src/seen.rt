@@ -30,7 +30,7 @@ pub enum Seen {
 }
 
 impl Sight {
-    /// Gives the least mark of the entry at the radius `rho`.
+    /// Returns the least mark of the entry at the radius `rho`.
     pub fn mark(&self, rho: u64) -> Mark
         ensures { result ≡ mark_at rho self.now }
     {
@@ -43,7 +43,7 @@ impl Sight {
         Mark::Near
     }
 
-    /// Tells whether the entry is marked Near at the radius `rho`.
+    /// Returns whether the entry is marked Near at the radius `rho`.
     pub fn is_near(&self, rho: u64) -> bool
         ensures { result ≡ is_near (mark_at rho self.now) }
     {
@@ -54,8 +54,8 @@ impl Sight {
     }
 }
 
-/// Gives the radius below which the parent test rules an entry out (VLDB 1997, section 4.1): no object of the entry is nearer. It is 0
-/// where no routing point stands above.
+/// Returns the radius below which the parent test rules an entry out (VLDB 1997, section 4.1): no object of the entry is nearer. It is
+/// 0 where no routing point stands above.
 pub fn skip_of(above: Option<u64>, stored: u64, radius: u64) -> u64
     ensures { result ≡ skip_of above stored radius }
 {

@@ -9,7 +9,7 @@ use std::alloc::Global;
 use std::thread;
 use std::thread::Threads;
 
-// What the work gives from one place up to another.
+// Returns the results of the work from one place up to another.
 fn answers_of<X: Send + Drop, F: Fn(usize) -> X>(
     alloc: Global,
     work: &F,
@@ -28,7 +28,7 @@ fn answers_of<X: Send + Drop, F: Fn(usize) -> X>(
     Ok(out)
 }
 
-// What the work gives at the piece of the places that has this number, from 0.
+// Returns the results of the work at piece `number` of the places, from 0.
 fn piece<X: Send + Drop, F: Fn(usize) -> X>(
     alloc: Global,
     work: &F,
@@ -45,8 +45,8 @@ fn piece<X: Send + Drop, F: Fn(usize) -> X>(
     answers_of(alloc, work, from, piece_end(from, size, count))
 }
 
-/// What the work gives at each place below `count`, in order. The places are cut in order into pieces of
-/// `ceil(count / workers)`, each of which a thread of its own does; the caller does the work of one that can't be started.
+/// Returns the results of the work at each place below `count`, in order. The places are cut in order into pieces of
+/// `ceil(count / workers)`. A thread of its own does each piece; the caller does a piece whose thread can't be started.
 pub fn share<R: Threads + Sync, X: Send + Drop, F: Fn(usize) -> X + Sync>(
     rt: &R,
     alloc: Global,

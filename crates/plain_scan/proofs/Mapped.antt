@@ -1,4 +1,4 @@
--- A list of which the first elements are changed, one after another.
+-- A list with its first elements changed, one after another.
 use Rattle.std.proofs.Common.{◌≡◌, ℕ, zero, suc, ◌+◌, ◌<◌, List, [], ◌∷◌, ◌++◌, length, take, drop, get_or, slice_set, refl, ◌∙◌, ap, arith}
 use Rattle.std.specs.Prelude.{map}
 

@@ -8,13 +8,13 @@ pub record OpenCursors : Type 0 where
   pub cursors : List Cursor
   pub next : ℕ
 
--- one cursor more, which has all these hits still to give
+-- one more cursor, which has all the hits still to give
 abbrev pub opened : OpenCursors → List Hit → List ℕ → OpenCursors
 opened before hits tags = record {
   cursors = before.cursors ++ record { number = before.next; hits = hits; tags = tags } ∷ [];
   next = before.next + 1;
 }
 
--- the state with these objects and these cursors
+-- the state with the given objects and cursors
 abbrev pub with_cursors : Holdings → OpenCursors → State
 with_cursors objects those = record { objects = objects; cursors = those.cursors; next = those.next }

@@ -22,19 +22,19 @@ abbrev pub first_text : List (List ℕ) → List ℕ
 first_text [] = []
 first_text (t ∷ texts) = t
 
--- what a put of a text did, or its want of memory
+-- what a put of a text did, or that memory ran out
 abbrev pub Puts : Option (List ℕ) → Option (List ℕ) → List ℕ → Result (Unit {0}) Stop → Type 0
 Puts old new text (Ok done) = Appends old new text
 Puts old new text (Err stop.Memory) = Keeps old new
 Puts old new text (Err stop.Sink) = AppendsPrefix old new text
 
--- what stands behind the acknowledged replies when a run ends, where `more` are the texts of the others
+-- what stands after the acknowledged replies when a run ends, where `more` are the texts of the others
 abbrev pub Follows : Result (Unit {0}) Stop → List (List ℕ) → List ℕ → Type 0
 Follows (Ok done) more rest = (more ≡ []) × (rest ≡ [])
 Follows (Err stop.Memory) more rest = rest ≡ []
 Follows (Err stop.Sink) more rest = IsFrontOf rest (first_text more)
 
--- the first of these texts are written, each whole, and then what follows them
+-- the first of `texts` are written, each whole, and then what follows them
 pub record Writes (old new : Option (List ℕ)) (texts : List (List ℕ)) (result : Result (Unit {0}) Stop) : Type 0 where
   pub acknowledged : List (List ℕ)
   pub more : List (List ℕ)
@@ -43,7 +43,7 @@ pub record Writes (old new : Option (List ℕ)) (texts : List (List ℕ)) (resul
   pub follows : Follows result more rest
   pub written : Appends old new (concat acknowledged ++ rest)
 
--- the first of these texts are written, each whole, and `more` are to come
+-- the first of `texts` are written, each whole, and `more` are to come
 pub record HasWritten (old new : Option (List ℕ)) (texts more : List (List ℕ)) : Type 0 where
   pub acknowledged : List (List ℕ)
   pub whole : texts ≡ acknowledged ++ more

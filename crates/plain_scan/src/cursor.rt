@@ -27,7 +27,7 @@ impl Model for OpenCursor {
 }
 
 impl OpenCursor {
-    /// A cursor that has given nothing.
+    /// Makes a cursor that has given nothing.
     pub fn new(number: u32, hits: Vec<Hit>, tags: Vec<u64>) -> Self
         requires { length tags.items ≡ length hits.items }
         ensures { result ≡ record { number = number; hits = hits.items; tags = tags.items } }
@@ -40,14 +40,14 @@ impl OpenCursor {
         }
     }
 
-    /// Its number.
+    /// Returns the cursor's number.
     pub fn number(&self) -> u32
         ensures { result ≡ self.now.number }
     {
         self.number
     }
 
-    // How many hits are given next, where `n` are asked for.
+    // Returns how many hits are given next, where `n` are asked for.
     fn more(&self, n: u64) -> usize
         ensures { result ≡ min n (length self.now.hits) }
     {
@@ -55,7 +55,7 @@ impl OpenCursor {
         if n < left as u64 { n as usize } else { left }
     }
 
-    /// Copies of the next `n` hits, or of all that are left.
+    /// Copies the next `n` hits, or all that are left.
     pub fn next_hits(&self, alloc: Global, n: u64) -> Result<Vec<Hit>, Memory>
         ensures { IfOk result (λ hits. hits.items ≡ take n self.now.hits) }
     {
@@ -65,7 +65,7 @@ impl OpenCursor {
             .collect(alloc)
     }
 
-    /// Their tags.
+    /// Copies the tags of the next `n` hits, or of all that are left.
     pub fn next_tags(&self, alloc: Global, n: u64) -> Result<Vec<u64>, Memory>
         ensures tags { IfOk result (λ tags. tags.items ≡ take n self.now.tags) }
         ensures count { IfOk result (λ tags. length tags.items ≡ length (take n self.now.hits)) }
@@ -76,7 +76,7 @@ impl OpenCursor {
             .collect(alloc)
     }
 
-    /// Leaves out the next `n` hits, where this is the cursor's number.
+    /// Drops the next `n` hits, where `number` is the cursor's number.
     pub fn advance(&mut self, number: u32, n: u64)
         ensures { self.new ≡ advanced number n self.old }
     {

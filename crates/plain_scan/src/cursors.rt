@@ -27,7 +27,7 @@ impl Model for Cursors {
     ghost view = { λ c. record { cursors = c.open.items; next = c.next } };
 }
 
-// The cursor of this number leaves out its next `n` hits.
+// Drops the next `n` hits of cursor `number`.
 fn advance_cursors(cursors: &mut [OpenCursor], number: u32, n: u64)
     ensures { cursors.new ≡ map (advanced number n) cursors.old }
 {
@@ -37,7 +37,7 @@ fn advance_cursors(cursors: &mut [OpenCursor], number: u32, n: u64)
 }
 
 impl Cursors {
-    /// No open cursor; the first has the number 0.
+    /// Makes no open cursors; the first will have the number 0.
     pub fn new(alloc: Global) -> Self
         ensures { result ≡ record { cursors = []; next = 0 } }
     {
@@ -47,14 +47,14 @@ impl Cursors {
         }
     }
 
-    /// Whether as many are open as may be.
+    /// Returns whether as many cursors are open as may be.
     pub fn is_full(&self) -> bool
         ensures { result ≡ not (nat_lt (length self.now.cursors) most_cursors) }
     {
         self.open.len() >= MOST_CURSORS
     }
 
-    /// Opens a cursor that has all these hits still to give, and gives its number.
+    /// Opens a cursor with all of `hits` still to give, and returns its number.
     pub fn open(&mut self, hits: Vec<Hit>, tags: Vec<u64>) -> Result<u32, Memory>
         requires tagged { length tags.items ≡ length hits.items }
         requires numbers { self.old.next + 1 < 2 ^ 32 }
@@ -69,14 +69,14 @@ impl Cursors {
         Ok(number)
     }
 
-    // The open cursor of this number.
+    // Returns the open cursor `number`.
     fn cursor_named(&self, number: u32) -> Option<&OpenCursor>
         ensures { option_map (λ c. c.now) result ≡ find (λ c. c.number == number) self.now.cursors }
     {
         self.open.iter().find(|cursor| cursor.number() == number)
     }
 
-    /// The next `n` hits of the cursor of this number, or all that are left.
+    /// Returns the next `n` hits of cursor `number`, or all that are left.
     pub fn advance(&mut self, alloc: Global, number: u32, n: u64) -> Result<Reply, Memory>
         ensures ok { (objects : Holdings) →
             IfOk result (λ reply. next_from (with_cursors objects self.old) number n
@@ -100,7 +100,7 @@ impl Cursors {
         })
     }
 
-    /// Closes the cursor of this number.
+    /// Closes cursor `number`.
     pub fn close(&mut self, number: u32) -> Reply
         ensures step { (objects : Holdings) →
             close_from (with_cursors objects self.old) number (cursor_named number (with_cursors objects self.old))

@@ -12,5 +12,5 @@ pub use list::PlainList;
 pub use points::has_points_of;
 pub use session::{Scan, Stop, run_script};
 
-/// Want of memory.
+/// The error when memory runs out.
 pub type Memory = std::alloc::AllocError;

@@ -20,7 +20,7 @@ pub struct PlainList {
     cursors: Cursors,
 }
 
-// The tags of objects that are their ids.
+// Returns the tags of objects with their ids as tags.
 fn ids(alloc: Global, count: usize) -> Result<Vec<u64>, Memory>
     ensures ids { IfOk result (λ ids. ids.items ≡ numbers_from 0 count) }
     ensures count { IfOk result (λ ids. length ids.items ≡ count) }
@@ -33,7 +33,7 @@ fn ids(alloc: Global, count: usize) -> Result<Vec<u64>, Memory>
 }
 
 impl PlainList {
-    /// An empty list of points of `words` coordinates.
+    /// Makes an empty list of points of `words` coordinates.
     pub fn new(alloc: Global, words: usize) -> Self
         ensures state { state_of result ≡ nothing_yet }
         ensures words { result.rows.words ≡ words }
@@ -83,7 +83,7 @@ impl PlainList {
         Reply::Loaded(count as u32)
     }
 
-    // The tag of each hit.
+    // Returns the tag of each hit.
     fn tags_of(&self, alloc: Global, hits: &[Hit]) -> Result<Vec<u64>, Memory>
         ensures { IfOk result (λ tags. tags.items ≡ tags_of (state_of self.now).objects hits.now) }
     {
@@ -125,7 +125,7 @@ impl PlainList {
         Ok(Reply::Cursor(self.cursors.open(hits, tags)?))
     }
 
-    // Does what a command asks for whose points are points of the space.
+    // Carries out a command, where its points are points of the space.
     fn execute<M: Metric>(
         &mut self,
         alloc: Global,
@@ -175,7 +175,7 @@ impl PlainList {
         }
     }
 
-    /// Does what a command asks for, under a limit on the number of objects. After want of memory the list is as before.
+    /// Carries out a command, under a limit on the number of objects. When memory runs out the list is as before.
     pub fn step<M: Metric>(
         &mut self,
         alloc: Global,

@@ -5,7 +5,7 @@ ghost use Rattle.rows_text.specs.Meaning.{has_points_of};
 use metric_laws::{Metric, Rows};
 use rows_text::Command;
 
-// Whether each row is a point of the metric's space.
+// Returns whether each row is a point of the metric's space.
 pub fn all_fit<M: Metric>(metric: &M, rows: &Rows) -> bool
     ensures { result ≡ list_all (M.space metric.now).fits rows.now.points }
 {
@@ -17,7 +17,7 @@ pub fn all_fit<M: Metric>(metric: &M, rows: &Rows) -> bool
     true
 }
 
-/// Whether each point of a command is a point of the metric's space.
+/// Returns whether each point of `command` is a point of the metric's space.
 pub fn has_points_of<M: Metric>(metric: &M, command: &Command) -> bool
     ensures { result ≡ has_points_of (M.space metric.now) command.now }
 {

@@ -16,7 +16,7 @@ use std::alloc::Global;
 /// Why a run ended before its script did.
 #[derive(Clone, Copy, PartialEq, Eq)]
 pub enum Stop {
-    /// There was no memory.
+    /// Memory ran out.
     Memory,
     /// A reply could not be written.
     Sink,
@@ -33,7 +33,7 @@ pub struct Scan<M: Metric> {
     pub show_tags: bool,
 }
 
-// Does one command and writes its reply.
+// Carries out one command and writes its reply.
 fn answer<M: Metric, K: Sink>(
     alloc: Global,
     scan: &Scan<M>,
@@ -70,9 +70,9 @@ fn answer<M: Metric, K: Sink>(
     }
 }
 
-/// Does each command of a script in turn on an empty list, and writes its reply.
+/// Carries out each command of a script in turn on an empty list, and writes its reply.
 ///
-/// After [`Stop::Sink`] a front of the next reply may be written. [`Stop::Memory`] is answered only where memory runs out.
+/// After [`Stop::Sink`] a front of the next reply may be written. [`Stop::Memory`] comes only where memory runs out.
 pub fn run_script<M: Metric, K: Sink>(
     alloc: Global,
     scan: &Scan<M>,

@@ -1,4 +1,4 @@
--- A pair of which an entry is far from both costs as much as the entry reaches, however the others are dealt.
+-- A pair with an entry far from both costs as much as the entry reaches, however the others are dealt.
 use Rattle.std.proofs.Common.{◌≡◌, ◌≢◌, ℕ, zero, suc, ◌+◌, ◌-◌, ◌<◌, ◌≤◌, Bool, true, false, cond, List, [], ◌∷◌, refl, sym, ap, arith, ◌∙◌, length, map, get_or}
 use Rattle.std.specs.Prelude.{filter, Option, Some, None, if◌then◌else◌, ◌==◌, nat_le, slice_set, max}
 use Rattle.std.specs.List.{range_with_len}

@@ -10,7 +10,7 @@ use Rattle.promote_split.specs.Steps.{half_entries}
 use Rattle.promote_split.specs.declared.halves.Half.{Half}
 use Rattle.promote_split.specs.declared.halves.Halves.{Halves}
 
--- a half: its point and radius are those of its ball, and it has these entries, each with its distance to the half's point
+-- a half: its point and radius are those of its ball, and it has the entries `es`, each with its distance to the half's point
 pub record IsHalf {E : Type 0} (s : Space) (ball : E → Ball) (set : E → ℕ → E) (b : Ball) (es : List E) (h : Half E) : Type 0 where
   pub point_is : h.point ≡ b.0
   pub radius_is : h.radius ≡ b.1

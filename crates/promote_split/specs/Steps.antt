@@ -3,7 +3,7 @@ use Rattle.std.specs.Prelude.{ℕ, Bool, List, [], ◌∷◌, Option, Some, None
 use Rattle.tree_growth.specs.Dealing.{is_on, first_least, least_from}
 use Rattle.tree_growth.specs.declared.rules.Side.{Side}
 
--- the one of two elements with the lesser number, the earlier one if they are equal
+-- the element with the lesser number of two, the earlier one if they are equal
 abbrev pub kept : {X : Type 0} → (X → ℕ) → Option X → X → Option X
 kept f None y = Some y
 kept f (Some x) y = Some (if nat_lt (f y) (f x) then y else x)

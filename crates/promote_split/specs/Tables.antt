@@ -10,6 +10,6 @@ pub record IsTable (t : Table) : Type 0 where
   pub radii_within : AllByRecursion (λ r. r ≤ bound) t.radii
   pub distances_within : AllByRecursion (λ d. d ≤ bound) t.distances
 
--- a count of 64 bits rose by so many, unless it came to its end
+-- a 64-bit count rose by `n`, where the sum is below 2^64
 abbrev pub HasCounted : ℕ → ℕ → ℕ → Type 0
 HasCounted n old new = old + n < 2 ^ 64 → new ≡ old + n

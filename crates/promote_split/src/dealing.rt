@@ -8,7 +8,7 @@ use metric_laws::Memory;
 use std::alloc::Global;
 use tree_growth::Side;
 
-// Whether two sides are the same.
+// Returns whether two sides are the same.
 pub fn is_same(on: Side, side: Side) -> bool
     ensures { result ≡ is_on on side }
 {
@@ -36,7 +36,7 @@ struct Step {
     to: Side,
 }
 
-// The place with the lesser number, the earlier one if they are equal.
+// Returns the place with the lesser number, the earlier one if they are equal.
 fn closer(row: &[u64], best: Option<usize>, i: usize) -> Option<usize>
     requires best { IfSome best (λ j. j < length row.now) }
     requires i { i < length row.now }
@@ -49,7 +49,7 @@ fn closer(row: &[u64], best: Option<usize>, i: usize) -> Option<usize>
     }
 }
 
-// Whether the entry stands on the side and is none of the promoted ones.
+// Returns whether entry `i` stands on the side `from` and is not promoted.
 fn can_leave(pair: Promoted, from: Side, sides: &[Side], i: usize) -> bool
     requires { i < length sides.now }
     ensures { result ≡ may_leave pair.a pair.b from sides.now i }
@@ -57,7 +57,7 @@ fn can_leave(pair: Promoted, from: Side, sides: &[Side], i: usize) -> bool
     is_same(from, sides[i]) && i != pair.a && i != pair.b
 }
 
-// The nearer one of the best so far and a further entry, if that one may leave its side.
+// Returns the nearer of the best entry so far and entry `i`, if entry `i` may leave its side.
 fn consider(
     row: &[u64],
     sides: &[Side],
@@ -79,7 +79,7 @@ fn consider(
     }
 }
 
-// The nearest entry that may leave its side.
+// Returns the nearest entry that may leave its side.
 fn nearest(row: &[u64], sides: &[Side], from: Side, pair: Promoted) -> Option<usize>
     requires { length row.now ≡ length sides.now }
     ensures nearest { result ≡ first_least (λ i. slice_index_or row.now i 0)
@@ -93,7 +93,7 @@ fn nearest(row: &[u64], sides: &[Side], from: Side, pair: Promoted) -> Option<us
     best
 }
 
-// A side receives from another one the entry that is nearest to its own promoted one.
+// Moves to the receiving side the entry of the other side that is nearest to the receiver's promoted one.
 fn receive(matrix: &Matrix, pair: Promoted, step: Step, sides: &mut [Side])
     requires long { length sides.old ≡ size matrix.now }
     requires own { step.own < size matrix.now }
@@ -104,7 +104,7 @@ fn receive(matrix: &Matrix, pair: Promoted, step: Step, sides: &mut [Side])
     }
 }
 
-// How many entries stand on a side.
+// Counts the entries on a side.
 fn count_on(on: Side, sides: &[Side]) -> usize
     ensures { result ≡ count_on on sides.now }
 {
@@ -117,7 +117,7 @@ fn count_on(on: Side, sides: &[Side]) -> usize
     count
 }
 
-// A side receives what it lacks.
+// Moves entries to a side until it has what it lacks.
 #[tactic(auto, using(crate::proofs::Least::turn_more))]
 fn fill_up(matrix: &Matrix, pair: Promoted, least: usize, step: Step, sides: &mut [Side])
     requires long { length sides.old ≡ size matrix.now }
@@ -130,7 +130,7 @@ fn fill_up(matrix: &Matrix, pair: Promoted, least: usize, step: Step, sides: &mu
     }
 }
 
-// The side of an entry by its distances to the promoted ones.
+// Returns the side of an entry by its distances to the promoted ones.
 fn side_by_nearer(first: &[u64], second: &[u64], pair: Promoted, i: usize) -> Side
     requires first { i < length first.now }
     requires second { i < length second.now }
@@ -149,7 +149,7 @@ fn side_by_nearer(first: &[u64], second: &[u64], pair: Promoted, i: usize) -> Si
     }
 }
 
-// Each entry goes to the nearer promoted one.
+// Deals each entry to the nearer promoted one.
 fn start_by_nearer(matrix: &Matrix, pair: Promoted, sides: &mut Vec<Side>) -> Result<(), Memory>
     requires a { pair.a < size matrix.now }
     requires b { pair.b < size matrix.now }
@@ -165,7 +165,7 @@ fn start_by_nearer(matrix: &Matrix, pair: Promoted, sides: &mut Vec<Side>) -> Re
     Ok(())
 }
 
-// The generalized hyperplane: each entry to the nearer promoted one, and then groups that are too small are filled up.
+// Deals by the generalized hyperplane: each entry to the nearer promoted one, and then fills up groups that are too small.
 fn by_hyperplane(
     matrix: &Matrix,
     pair: Promoted,
@@ -193,7 +193,7 @@ fn by_hyperplane(
     Ok(())
 }
 
-// The groups take the remaining entries in turn, beginning with the first.
+// Deals the remaining entries to the groups in turn, beginning with the first.
 fn deal(matrix: &Matrix, pair: Promoted, sides: &mut [Side])
     requires long { length sides.old ≡ size matrix.now }
     requires a { pair.a < size matrix.now }
@@ -218,7 +218,7 @@ fn deal(matrix: &Matrix, pair: Promoted, sides: &mut [Side])
     }
 }
 
-// The side of an entry before the groups take the others.
+// Returns the side of an entry before the groups take the others.
 fn side_at_first(pair: Promoted, i: usize) -> Side
     ensures { result ≡ only_promoted pair.a pair.b i }
 {
@@ -231,7 +231,7 @@ fn side_at_first(pair: Promoted, i: usize) -> Side
     }
 }
 
-// The promoted entries alone have a group.
+// Gives a group to the promoted entries alone.
 fn start_open(pair: Promoted, count: usize, sides: &mut Vec<Side>) -> Result<(), Memory>
     ensures sides { OnOk result (sides.new.items ≡ map (only_promoted pair.a pair.b) (range_with_len 0 count)) }
     ensures long { OnOk result (length sides.new.items ≡ count) }
@@ -243,7 +243,7 @@ fn start_open(pair: Promoted, count: usize, sides: &mut Vec<Side>) -> Result<(),
     Ok(())
 }
 
-// The balanced partition.
+// Deals by the balanced partition.
 fn by_turns(matrix: &Matrix, pair: Promoted, sides: &mut Vec<Side>) -> Result<(), Memory>
     requires a { pair.a < size matrix.now }
     requires b { pair.b < size matrix.now }
@@ -288,7 +288,7 @@ fn keep_place(on: Side, sides: &[Side], i: usize, places: &mut Vec<usize>) -> Re
     Ok(())
 }
 
-// The places of the entries on a side.
+// Returns the places of the entries on a side.
 fn places_on(alloc: Global, on: Side, sides: &[Side]) -> Result<Vec<usize>, Memory>
     ensures { IfOk result (λ places. places.items ≡ members on sides.now) }
 {
@@ -300,8 +300,8 @@ fn places_on(alloc: Global, on: Side, sides: &[Side]) -> Result<Vec<usize>, Memo
 }
 
 /// Deals the entries of a node into two groups around the promoted entries `a` and `b`: by the generalized hyperplane
-/// where `split` is 1, else balanced (VLDB 1997, section 4.3). Each group has at least `least` entries. The answer is
-/// the places of the two groups, each in ascending order.
+/// where `split` is 1, else balanced (VLDB 1997, section 4.3). Each group has at least `least` entries. Returns the places of
+/// the two groups, each in ascending order.
 pub fn partition(
     alloc: Global,
     matrix: &Matrix,

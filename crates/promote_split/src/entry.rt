@@ -3,27 +3,27 @@ ghost use Rattle.tree_growth.specs.Dealing.{Ball};
 
 use tree_shape::{InnerEntry, LeafEntry};
 
-/// What a split looks at of an entry.
+/// The part of an entry that a split looks at.
 pub trait Entry: Drop {
-    /// The point, and the radius of what lies below it.
+    /// The point, and the covering radius.
     ghost ball: { Self → Ball };
 
-    /// The entry with another distance to the routing point above.
+    /// The entry with another parent distance.
     ghost with_parent: { Self → ℕ → Self };
 
-    /// The entry's point.
+    /// Returns the entry's point.
     fn point(&self) -> &[u32]
         ensures { result.now ≡ (ball self.now).0 };
 
-    /// The covering radius, and 0 at a leaf.
+    /// Returns the covering radius, and 0 at a leaf.
     fn radius(&self) -> u64
         ensures { result ≡ (ball self.now).1 };
 
-    /// Changes the distance to the routing point above, and nothing else.
+    /// Changes the parent distance, and nothing else.
     fn set_parent(&mut self, parent: u64)
         ensures { self.new ≡ with_parent self.old parent };
 
-    /// The distance above is no part of the ball.
+    /// Shows that the parent distance is no part of the ball.
     ghost same_ball: { (e : Self) (d : ℕ) → ball (with_parent e d) ≡ ball e };
 }
 

@@ -1,4 +1,4 @@
-//! How the entries of a node that is too full are split into two halves (VLDB 1997, sections 3.3 and 4).
+//! The split of a node with too many entries into two halves (VLDB 1997, sections 3.3 and 4).
 #![tactic(auto)]
 
 mod dealing;

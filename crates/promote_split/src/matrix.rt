@@ -9,7 +9,7 @@ use metric_laws::{Memory, Ruler};
 use std::alloc::Global;
 use std::marker::Model;
 
-/// The radii of a node's entries and all their distances, each computed once. Contracts see the two lists, the distances
+/// The radii of a node's entries and the distances between them, each computed once. Contracts see the two lists, the distances
 /// row by row: a row has the distances of all entries to one.
 #[derive(Drop)]
 pub struct Matrix {
@@ -69,21 +69,21 @@ impl Matrix {
         Ok(Matrix { radii, distances })
     }
 
-    /// The number of entries.
+    /// Returns the number of entries.
     pub fn len(&self) -> usize
         ensures { result ≡ size self.now }
     {
         self.radii.len()
     }
 
-    /// Whether there is no entry.
+    /// Returns whether there is no entry.
     pub fn is_empty(&self) -> bool
         ensures { result ≡ (size self.now == 0) }
     {
         self.radii.is_empty()
     }
 
-    /// The covering radii of the entries.
+    /// Returns the covering radii of the entries.
     pub fn radii(&self) -> &[u64]
         ensures radii { result.now ≡ self.now.radii }
         ensures within { AllByRecursion (λ d. d ≤ bound) result.now }
@@ -91,7 +91,7 @@ impl Matrix {
         self.radii.as_slice()
     }
 
-    /// The distances of all entries to one.
+    /// Returns the distances of all entries to entry `to`.
     pub fn row(&self, to: usize) -> &[u64]
         requires { to < size self.now }
         ensures row { result.now ≡ row self.now to }

@@ -10,7 +10,7 @@ use metric_laws::{Memory, cap};
 use std::alloc::Global;
 use tree_growth::Side;
 
-/// How a node is split.
+/// The split policy of a node.
 #[derive(Clone, Copy, PartialEq, Eq)]
 pub struct Policy {
     /// How the two entries are promoted: 1 by the least sum of the radii, m_RAD, else by the least greater radius, mM_RAD
@@ -20,7 +20,7 @@ pub struct Policy {
     pub split: u8,
 }
 
-// The greater one of a radius and what an entry reaches, if it is on the side.
+// Returns the greater of `radius` and the reach of entry `i`, if that entry is on the side `on`.
 fn widen(row: &[u64], radii: &[u64], on: Side, sides: &[Side], i: usize, radius: u64) -> u64
     requires row { length row.now ≡ length sides.now }
     requires radii { length radii.now ≡ length sides.now }
@@ -38,8 +38,8 @@ fn widen(row: &[u64], radii: &[u64], on: Side, sides: &[Side], i: usize, radius:
     }
 }
 
-/// The radius of a group around the entry `to`: of a leaf's entries the greatest distance, of others the greatest sum of
-/// a distance and a radius, at most the greatest distance.
+/// Returns the radius of a group around the entry `to`: for the entries of a leaf the greatest distance, for others the greatest
+/// sum of a distance and a radius, at most the greatest distance.
 pub fn radius_of(matrix: &Matrix, to: usize, on: Side, sides: &[Side]) -> u64
     requires to { to < size matrix.now }
     requires long { length sides.now ≡ size matrix.now }
@@ -55,7 +55,7 @@ pub fn radius_of(matrix: &Matrix, to: usize, on: Side, sides: &[Side]) -> u64
     radius
 }
 
-// What the promotion of two entries costs. The sides are written anew.
+// Returns the cost of promoting two entries. The sides are written anew.
 fn cost(
     matrix: &Matrix,
     policy: Policy,
@@ -78,14 +78,14 @@ fn cost(
     })
 }
 
-// The best pair so far, and what it costs.
+// The best pair so far, and its cost.
 #[derive(Clone, Copy)]
 struct Best {
     pair: (usize, usize),
     cost: u64,
 }
 
-// The better one of a pair and the best so far.
+// Returns the better of a pair and the best so far.
 fn better(best: Best, pair: (usize, usize), cost: u64) -> Best
     ensures pair { result.pair ≡ (if nat_lt cost best.cost then pair else best.pair) }
     ensures cost { result.cost ≡ (if nat_lt cost best.cost then cost else best.cost) }
@@ -97,8 +97,8 @@ fn better(best: Best, pair: (usize, usize), cost: u64) -> Best
     }
 }
 
-// Whether a pair costs this much or more, whatever the policy is: an entry reaches so far from both promoted ones, and it
-// belongs to the group of one of them.
+// Returns true only where a pair costs `cost` or more, whatever the policy is: then an entry reaches that far from both promoted
+// ones, and it belongs to the group of one of them.
 fn is_dear(matrix: &Matrix, pair: Promoted, cost: u64) -> bool
     requires a { pair.a < size matrix.now }
     requires b { pair.b < size matrix.now }
@@ -117,7 +117,7 @@ fn is_dear(matrix: &Matrix, pair: Promoted, cost: u64) -> bool
     false
 }
 
-// The better one of a pair and the best so far. Nothing is dealt around a pair that can be no better.
+// Returns the better of a pair and the best so far. Deals nothing around a pair that can be no better.
 fn try_pair(
     matrix: &Matrix,
     policy: Policy,
@@ -166,9 +166,9 @@ fn try_with(
     Ok(best)
 }
 
-/// The two entries of a node that are promoted, by their places, the first below the second: of all pairs the one that
-/// costs least by the policy, ties to the first in lexicographic order. Each group of a pair's partition has at least
-/// `least` entries.
+/// Returns the places of the two entries of a node that are promoted, the first below the second: of all pairs the one that
+/// costs least by the policy, ties to the first in lexicographic order. Each group of a pair's partition has at least `least`
+/// entries.
 #[tactic(auto, using(crate::proofs::Least::all_pairs))]
 pub fn promote(
     alloc: Global,

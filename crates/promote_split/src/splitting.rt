@@ -49,7 +49,7 @@ fn put<E: Entry>(
     Ok(())
 }
 
-// Parts the entries, which are handed in backward.
+// Parts the entries into two groups. They are handed in backward.
 fn part<E: Entry>(
     entries: &mut Vec<E>,
     sides: &[Side],
@@ -74,7 +74,7 @@ fn part<E: Entry>(
     Ok(())
 }
 
-// The entries on the sides, each half in the old order.
+// Returns the entries of each side, each half in the old order.
 fn groups_of<E: Entry>(
     alloc: Global,
     entries: Vec<E>,
@@ -135,8 +135,8 @@ fn split_by<E: Entry>(
     })
 }
 
-/// Splits the n entries of a node into two halves by the policy, by n * n distances. The entries keep their order, each is
-/// in one half, and its stored distance becomes the one to that half's point.
+/// Splits the n entries of a node into two halves by the policy, by n * n distances. The entries keep their order. Each is in one
+/// half, and its stored distance becomes the one to that half's point.
 pub fn split<R: Ruler, E: Entry>(
     alloc: Global,
     ruler: &mut R,

@@ -53,7 +53,7 @@ goes_on_stays : {R : Type 0} (row : Fields → Option R) (make make2 : List R �
 goes_on_stays row make make2 place i i2 left fields after =
     rw (lt_more (length after) left) refl
 
--- a load with these rows more
+-- a load with `more` rows
 abbrev made_points : Table → List (List ℕ) → Command
 made_points rows more = command.Load (record rows { points = rows.points ++ more })
 
@@ -87,7 +87,7 @@ stays_by true words tags rows place left fields after =
 stays_by false words tags rows place left fields after =
     goes_on_stays (row_of words) (made_points rows) (made_points rows) place (length rows.points) (length rows.points) left fields after
 
--- the row that a record of a load spells: its tags, of which a load has none, and its point
+-- a record of a load spells no row: no tag with a point in a tload, and no point in a load
 abbrev bad_row : Bool → ℕ → Fields → Type 0
 bad_row true words fields = tag_row_of words fields ≡ None
 bad_row false words fields = row_of words fields ≡ None

@@ -15,7 +15,7 @@ not_zero : (n : ℕ) → n ≢ 0 → (n == 0) ≡ false
 not_zero zero some = absurd (some refl)
 not_zero (suc n) some = grind arith
 
--- the command of a load of which nothing is read
+-- the command of a load whose rows are still to be read
 new_end : (words n : ℕ) (tagged : Bool) (load : OpenLoad) (after : List Fields) → IsNewLoad words tagged n load →
     load_end load after ≡ end_by tagged words [] (record { words = words; points = [] }) None n after
 new_end words n tagged load after new = λ i. end_by (new.tagged_is i) (new.words_are i) (new.tags i) (new.rows i) (new.bad i) (new.left i) after
@@ -34,7 +34,7 @@ new_load words n tagged load (name ∷ number ∷ []) after new two spelt some =
     (λ i. new_end words n tagged load after new i ∷ commands_after words (new.left i) after) ∙ from_new words n tagged number after spelt some
 new_load words n tagged load (name ∷ number ∷ more ∷ others) after new two spelt some = absurd (omega arith)
 
--- a script of which nothing is read
+-- a script with nothing read yet
 pub new_reading : (words : ℕ) (reading : Reading) → IsNewReading words reading → (after : List Fields) → commands_with reading after ≡ commands_after words 0 after
 new_reading words reading new after = λ i. new.commands i ++ load_or_after (new.words_are i) (new.load i) after
 

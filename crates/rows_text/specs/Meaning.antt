@@ -106,11 +106,11 @@ cursor_step s state q =
     then record { reply = reply.Cursor state.next; state = record state { cursors = state.cursors ++ cursor_over s state q ∷ []; next = state.next + 1 } }
     else refused state refusal.Cursors
 
--- the open cursor of this number
+-- the open cursor with the number `number`
 abbrev pub cursor_named : ℕ → State → Option Cursor
 cursor_named number state = find (λ c. c.number == number) state.cursors
 
--- a cursor, where it has this number after its next n hits
+-- a cursor after its next n hits, where it has the number `number`
 abbrev pub advanced : ℕ → ℕ → Cursor → Cursor
 advanced number n c = if c.number == number then record c { hits = drop n c.hits; tags = drop n c.tags } else c
 
@@ -128,7 +128,7 @@ close_from state number (Some c) = record {
   state = record state { cursors = filter (λ other. not (other.number == number)) state.cursors };
 }
 
--- what a command does whose points are points of the space
+-- what a command does, where its points are points of the space
 abbrev pub execute : Setting → State → Command → Step
 execute setting state (command.Insert p) = insert_step setting.limit state p (length state.objects.points)
 execute setting state (command.TagInsert tag p) = insert_step setting.limit state p tag
@@ -142,7 +142,7 @@ execute setting state (command.Cursor q) = cursor_step setting.space state q
 execute setting state (command.Next cursor n) = next_from state cursor n (cursor_named cursor state)
 execute setting state (command.Close cursor) = close_from state cursor (cursor_named cursor state)
 
--- one command: a point that is none of the space is refused before all else
+-- one command: a point that is not in the space is refused before all else
 abbrev pub step : Setting → State → Command → Step
 step setting state command = if has_points_of setting.space command then execute setting state command else refused state refusal.Unfit
 
@@ -152,7 +152,7 @@ accepts (reply.Id id) = true
 accepts (reply.Loaded count) = true
 accepts other = false
 
--- Where a file has no room for new nodes, or no number for a further commit, a step that would accept objects is refused for this
+-- Where a file has no room for new nodes, or no number for a further commit, a step that would accept objects is refused for that
 -- reason, and changes nothing.
 abbrev pub hindered : Option Refusal → State → Step → Step
 hindered None state done = done
@@ -168,20 +168,20 @@ abbrev pub after : Setting → State → List Command → State
 after setting state [] = state
 after setting state (c ∷ commands) = after setting (step setting state c).state commands
 
--- the replies to as many commands as there are reasons, each of which may stand in the way of its command
+-- the replies to as many commands as there are reasons; each reason may stand in the way of its command
 abbrev pub hindered_replies : Setting → State → List Command → List (Option Refusal) → List Reply
 hindered_replies setting state [] whys = []
 hindered_replies setting state (c ∷ commands) [] = []
 hindered_replies setting state (c ∷ commands) (why ∷ whys) =
     let done = hindered why state (step setting state c) in done.reply ∷ hindered_replies setting done.state commands whys
 
--- the state after them
+-- the state after those commands
 abbrev pub hindered_after : Setting → State → List Command → List (Option Refusal) → State
 hindered_after setting state [] whys = state
 hindered_after setting state (c ∷ commands) [] = state
 hindered_after setting state (c ∷ commands) (why ∷ whys) = hindered_after setting (hindered why state (step setting state c)).state commands whys
 
--- what nothing stands in the way of is what the commands do
+-- where nothing stands in the way, replies and state are what the commands give
 abbrev pub UnhinderedIsPlain : Type 0
 UnhinderedIsPlain =
     (setting : Setting) (state : State) (commands : List Command) (whys : List (Option Refusal)) → length whys ≡ length commands →

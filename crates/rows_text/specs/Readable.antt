@@ -3,7 +3,7 @@ use Rattle.std.specs.Prelude.{◌≡◌, ℕ, ◌≤◌, ◌<◌, length}
 use Rattle.rows_text.specs.declared.command.Command.{Command}
 use Rattle.rows_text.specs.declared.command.Command.TheVariants.{Insert, Load, Range, Nearest, Count, Bad, TagInsert, TagLoad, Cursor, Next, Close}
 
--- points have so many coordinates, counts are at least 1, a load has a row, and each row of a tload a tag
+-- points have `words` coordinates, counts are at least 1, a load has a row, and each row of a tload a tag
 abbrev pub IsReadable : ℕ → Command → Type 0
 IsReadable words (Insert p) = length p ≡ words
 IsReadable words (TagInsert tag p) = length p ≡ words

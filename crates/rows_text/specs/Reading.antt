@@ -16,12 +16,12 @@ abbrev pub unless_bad : Option ℕ → Command → Command
 unless_bad None whole = whole
 unless_bad (Some i) whole = command.Bad (refusal.Row i)
 
--- what is made of the rows that are left of a load, where these records follow; the first of them has the number i
+-- what is made of the `left` remaining rows of a load, where the records `after` follow; the first has the number i
 abbrev pub goes_on : {R : Type 0} → (Fields → Option R) → (List R → Command) → Option ℕ → ℕ → ℕ → List Fields → Command
 goes_on row make bad i left after =
     if nat_lt (length after) left then command.Bad refusal.Short else unless_bad bad (rows_from row make i (take left after))
 
--- an open load, with these rows more
+-- an open load, with `more` rows
 abbrev pub with_points : OpenLoad → List (List ℕ) → Command
 with_points load more = command.Load (record load.rows { points = load.rows.points ++ more })
 
@@ -29,13 +29,13 @@ abbrev pub with_tagged : OpenLoad → List (ℕ × List ℕ) → Command
 with_tagged load more =
     command.TagLoad (load.tags.items ++ map (λ row. row.0) more) (record load.rows { points = load.rows.points ++ map (λ row. row.1) more })
 
--- the command of an open load, where these records follow
+-- the command of an open load, where the records `after` follow
 abbrev pub load_end : OpenLoad → List Fields → Command
 load_end load after =
     if load.tagged then goes_on (tag_row_of load.words) (with_tagged load) load.bad (length load.rows.points) load.left after
     else goes_on (row_of load.words) (with_points load) load.bad (length load.rows.points) load.left after
 
--- a load of n rows of which none is read
+-- a load of n rows with none read yet
 pub record IsNewLoad (words : ℕ) (tagged : Bool) (n : ℕ) (load : OpenLoad) : Type 0 where
   pub words_are : load.words ≡ words
   pub tagged_is : load.tagged ≡ tagged
@@ -55,12 +55,12 @@ pub record IsSameLoad (old new : OpenLoad) : Type 0 where
 abbrev pub one_more : Table → List ℕ → Table
 one_more rows p = record rows { points = rows.points ++ p ∷ [] }
 
--- besides these tags and this table the load holds the point, where there is one
+-- the load holds the point, if there is one, besides the tags and the table
 abbrev pub AddsPoint : Option (List ℕ) → List ℕ → Table → OpenLoad → Bool → Type 0
 AddsPoint None tags rows new found = (found ≡ false) × (new.tags.items ≡ tags) × (new.rows ≡ rows)
 AddsPoint (Some p) tags rows new found = (found ≡ true) × (new.tags.items ≡ tags) × (new.rows ≡ one_more rows p)
 
--- the same with a tag and a point, where there are both
+-- the load holds the tag and the point, if there are both, besides the tags and the table
 abbrev pub AddsTagged : Option (ℕ × List ℕ) → List ℕ → Table → OpenLoad → Bool → Type 0
 AddsTagged None tags rows new found = (found ≡ false) × (new.tags.items ≡ tags) × (new.rows ≡ rows)
 AddsTagged (Some row) tags rows new found = (found ≡ true) × (new.tags.items ≡ tags ++ row.0 ∷ []) × (new.rows ≡ one_more rows row.1)

@@ -84,15 +84,15 @@ abbrev pub or_row : Command → Option ℕ → Command
 or_row whole None = whole
 or_row whole (Some i) = command.Bad (refusal.Row i)
 
--- what is made of rows, the first of which has the number i
+-- what is made of rows, where the first has the number i
 abbrev pub rows_from : {R : Type 0} → (Fields → Option R) → (List R → Command) → ℕ → List Fields → Command
 rows_from row make i rows = or_row (make (filter_map row rows)) (position_from (λ fields. is_none (row fields)) i rows)
 
--- what is made of n rows, where these records follow
+-- what is made of n rows, where the records `after` follow
 abbrev pub load_from : {R : Type 0} → (Fields → Option R) → (List R → Command) → ℕ → List Fields → Command
 load_from row make n after = if nat_lt (length after) n then command.Bad refusal.Short else rows_from row make 0 (take n after)
 
--- `load,n` or `tload,n`, where these records follow
+-- `load,n` or `tload,n`, where the records `after` follow
 abbrev pub load_of : {R : Type 0} → (Fields → Option R) → (List R → Command) → List Fields → Fields → Command
 load_of row make after (number ∷ []) =
     with_number (λ n. if n == 0 then command.Bad refusal.Count else load_from row make n after) (number_below (2 ^ 64) number)
@@ -106,7 +106,7 @@ load_points words points = command.Load (record { words = words; points = points
 abbrev pub load_tagged : ℕ → List (ℕ × List ℕ) → Command
 load_tagged words rows = command.TagLoad (map (λ row. row.0) rows) (record { words = words; points = map (λ row. row.1) rows })
 
--- the command of a record by itself: all but the loads
+-- the command of a single record: all but the loads
 abbrev pub single_of : ℕ → Fields → Command
 single_of words [] = command.Bad refusal.Command
 single_of words (name ∷ fields) =
@@ -120,7 +120,7 @@ single_of words (name ∷ fields) =
     else if bytes_eq name (codes "count") then count_of fields
     else command.Bad refusal.Command
 
--- the command of a record, where these records follow
+-- the command of a record, where the records `after` follow
 abbrev pub command_of : ℕ → Fields → List Fields → Command
 command_of words [] after = single_of words []
 command_of words (name ∷ fields) after =

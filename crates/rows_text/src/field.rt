@@ -35,14 +35,14 @@ fn without_end_blanks(field: &[u8]) -> &[u8]
     rest
 }
 
-// A field without the spaces and tabs at its ends.
+// Returns `field` without the spaces and tabs at its ends.
 fn trimmed(field: &[u8]) -> &[u8]
     ensures { result.now ≡ without_blanks field.now }
 {
     without_end_blanks(without_front_blanks(field))
 }
 
-/// The field at a place, trimmed; an empty one where there is none.
+/// Returns the field at place `i`, trimmed; an empty one where there is none.
 pub fn field(row: &ByteRecord, i: usize) -> &[u8]
     ensures { result.now ≡ get_or (fields_in row.now) i [] }
 {

@@ -2,12 +2,12 @@
 
 ghost use Rattle.rows_text.specs.Meaning.{RunIsItsSteps, UnhinderedIsPlain};
 
-/// The replies to two scripts in a row are those to the first, and then those to the second from where the first ended.
+/// States that the replies to two scripts in a row are those to the first, and then those to the second from where the first ended.
 pub fn run_is_its_steps()
     ensures { RunIsItsSteps }
 {}
 
-/// Where no file stands in the way, the replies to commands and the state after them are those of a plain list.
+/// States that, where no file stands in the way, the replies to commands and the state after them are those of a plain list.
 pub fn unhindered_is_plain()
     ensures { UnhinderedIsPlain }
 {}

@@ -21,5 +21,5 @@ pub use reply::Reply;
 pub use script::read_script;
 pub use text::{query_text, reply_text};
 
-/// Want of memory.
+/// The error when memory runs out.
 pub type Memory = std::alloc::AllocError;

@@ -30,7 +30,7 @@ impl OpenLoad {
     ghost use Rattle.rows_text.specs.Script.{row_of, tag_row_of};
     ghost use Rattle.rows_text.specs.Reading.{AddsPoint, AddsRow, AddsTagged, IsNewLoad, IsSameLoad, TakesRecord, load_end};
 
-    /// A load of `n` rows.
+    /// Begins a load of `n` rows.
     pub fn new(alloc: Global, words: usize, tagged: bool, n: u64) -> OpenLoad
         ensures { IsNewLoad words tagged n result }
     {
@@ -44,14 +44,14 @@ impl OpenLoad {
         }
     }
 
-    /// Whether all rows are read.
+    /// Returns whether all rows are read.
     pub fn is_full(&self) -> bool
         ensures { result ≡ (self.now.left == 0) }
     {
         self.left == 0
     }
 
-    // Holds the point of a record, if it is one.
+    // Adds the point of `row`, if it is one. Returns whether it is.
     fn push_point(&mut self, alloc: Global, row: &ByteRecord) -> Result<bool, Memory>
         ensures adds { IfOk result (AddsPoint (row_of self.old.words (fields_in row.now)) self.old.tags.items self.old.rows self.new) }
         ensures same { IsSameLoad self.old self.new }
@@ -66,7 +66,7 @@ impl OpenLoad {
         Ok(true)
     }
 
-    // Holds the tag and the point of a record, if it has both.
+    // Adds the tag and the point of `row`, if it has both. Returns whether it does.
     fn push_tagged(&mut self, alloc: Global, row: &ByteRecord) -> Result<bool, Memory>
         ensures adds { IfOk result (AddsTagged (tag_row_of self.old.words (fields_in row.now)) self.old.tags.items self.old.rows self.new) }
         ensures same { IsSameLoad self.old self.new }
@@ -85,7 +85,7 @@ impl OpenLoad {
         Ok(true)
     }
 
-    // Holds the row of a record, if it is one.
+    // Adds the row of `row`, if it is one. Returns whether it is.
     fn push(&mut self, alloc: Global, row: &ByteRecord) -> Result<bool, Memory>
         ensures adds { IfOk result (AddsRow self.old self.new (fields_in row.now)) }
         ensures same { IsSameLoad self.old self.new }
@@ -108,13 +108,13 @@ impl OpenLoad {
         }
         let place = self.rows.len();
         if !self.push(alloc, row)? {
-            // So many rows as don't fit 32 bits don't fit the memory either.
+            // A number of rows above 32 bits doesn't fit the memory either.
             self.bad = Some(u32::try_from(place).map_err(|_| AllocError)?);
         }
         Ok(())
     }
 
-    /// The command, where no further record follows.
+    /// Returns the command, where no further record follows.
     pub fn end(self) -> Command
         ensures { result ≡ load_end self [] }
     {

@@ -9,7 +9,7 @@ use csv::ByteRecord;
 use metric_laws::Point;
 use std::alloc::Global;
 
-/// The coordinates that the fields from a place on spell.
+/// Reads the coordinates that the fields from place `start` on spell.
 pub fn coordinates_from(
     alloc: Global,
     row: &ByteRecord,
@@ -27,7 +27,7 @@ pub fn coordinates_from(
     Ok(Some(found))
 }
 
-/// The point that the fields from a place on spell.
+/// Reads the point that the fields from place `start` on spell.
 pub fn point_from(alloc: Global, row: &ByteRecord, start: usize) -> Result<Option<Point>, Memory>
     ensures { IfOk result (λ p. p ≡ coordinates (drop start (fields_in row.now))) }
 {

@@ -12,7 +12,7 @@ use crate::{Command, Memory, Refusal};
 use csv::ByteRecord;
 use std::alloc::Global;
 
-// What `load,n` or `tload,n` starts.
+// Returns what `load,n` or `tload,n` starts.
 fn read_load(alloc: Global, words: usize, tagged: bool, row: &ByteRecord) -> Start
     ensures { (after : List Fields)
         → started words result after ≡ load_records words tagged (drop 1 (fields_in row.now)) after }
@@ -29,7 +29,7 @@ fn read_load(alloc: Global, words: usize, tagged: bool, row: &ByteRecord) -> Sta
     Start::Load(OpenLoad::new(alloc, words, tagged, n))
 }
 
-// What a record starts.
+// Returns what a record starts.
 fn read_start(alloc: Global, words: usize, row: &ByteRecord) -> Result<Start, Memory>
     requires some { 1 ≤ words }
     requires few { words ≤ 64 }
@@ -47,7 +47,7 @@ fn read_start(alloc: Global, words: usize, row: &ByteRecord) -> Result<Start, Me
 }
 
 impl Reading {
-    /// Nothing is read.
+    /// Begins a script of points with `words` coordinates.
     pub fn new(alloc: Global, words: usize) -> Reading
         requires some { 1 ≤ words }
         requires few { words ≤ 64 }
@@ -96,7 +96,7 @@ impl Reading {
         self.begin(alloc, row)
     }
 
-    /// The commands, where no further record follows.
+    /// Returns the commands, where no further record follows.
     pub fn finish(self) -> Result<Vec<Command>, Memory>
         ensures { IfOk result (λ commands. commands.items ≡ commands_with self []) }
     {

@@ -1,13 +1,13 @@
 /// Why a record or a command is refused.
 #[derive(Clone, Copy, Debug, PartialEq, Eq)]
 pub enum Refusal {
-    /// The first field names no command, or the command has not so many fields.
+    /// The first field names no command, or the command has another number of fields.
     Command,
 
-    /// The point has not the space's number of coordinates.
+    /// The point has another number of coordinates than the space.
     Dimension,
 
-    /// A field is no number, or one above its limit.
+    /// A field is no number, or is above its limit.
     Number,
 
     /// A count is 0.
@@ -16,30 +16,30 @@ pub enum Refusal {
     /// Fewer records follow a load than it announces.
     Short,
 
-    /// This record of a load, from 0, is no point.
+    /// The record with this number (from 0) of a load is no point.
     Row(u32),
 
     /// A load finds objects.
     NotEmpty,
 
-    /// The list has no room for so many objects.
+    /// The list has no room for the objects.
     Full,
 
-    /// The index has come to its last generation.
+    /// The index has reached its last generation.
     Worn,
 
-    /// The file has no room for so many pages.
+    /// The file has no room for the pages.
     NoRoom,
 
     /// The command would change what is only read.
     ReadOnly,
 
-    /// No cursor of this number is open.
+    /// No cursor with the number is open.
     NoCursor,
 
     /// As many cursors are open as may be.
     Cursors,
 
-    /// A point is none of the space.
+    /// A point is not in the space.
     Unfit,
 }

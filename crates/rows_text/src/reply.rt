@@ -2,7 +2,7 @@ use crate::Refusal;
 use metric_laws::Listed;
 use scan_model::{Hit, Pair};
 
-/// What a command is answered.
+/// The answer to a command.
 #[derive(Drop)]
 pub enum Reply {
     /// The id of the object that was added.

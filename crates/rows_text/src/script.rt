@@ -7,7 +7,7 @@ use crate::{Command, Memory};
 use csv::{ErrorKind, ReaderBuilder};
 use std::alloc::{AllocError, Global};
 
-// The commands of a script over points of `words` coordinates.
+// Reads the commands of a script over points of `words` coordinates.
 fn read_commands(alloc: Global, bytes: &[u8], words: usize) -> Result<Vec<Command>, Memory>
     requires some { 1 ≤ words }
     requires few { words ≤ 64 }
@@ -22,7 +22,7 @@ fn read_commands(alloc: Global, bytes: &[u8], words: usize) -> Result<Vec<Comman
         match row {
             Ok(row) => reading.take(alloc, &row)?,
             Err(error) => match error.kind() {
-                // A slice gives no error of reading, which no clause says.
+                // A slice gives no reading error, but no clause says so.
                 ErrorKind::OutOfMemory | ErrorKind::Io(_) => return Err(AllocError),
                 _ => unreachable!(),
             },
@@ -31,8 +31,8 @@ fn read_commands(alloc: Global, bytes: &[u8], words: usize) -> Result<Vec<Comman
     reading.finish()
 }
 
-/// The commands of a script over points of `words` coordinates. Of the space only this number matters here: whether a
-/// point is one of the space is asked when its command is executed.
+/// Reads the commands of a script over points of `words` coordinates. Only this number of the space matters here: whether a
+/// point is in the space is checked when its command is executed.
 ///
 /// The records are those of `csv` with commas, double quotes, no header and any number of fields, after one byte
 /// order mark, which is dropped. They are read one at a time, and a load's rows go straight into its table.

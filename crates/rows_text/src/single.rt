@@ -120,7 +120,7 @@ fn read_count(row: &ByteRecord) -> Command
     Command::Count
 }
 
-/// The command of a record by itself.
+/// Reads the command of a single record.
 pub fn read_single(alloc: Global, words: usize, row: &ByteRecord) -> Result<Command, Memory>
     requires some { 1 ≤ words }
     requires few { words ≤ 64 }

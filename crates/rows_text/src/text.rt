@@ -14,7 +14,7 @@ fn push_number(n: u64, out: &mut Vec<u8>) -> Result<(), Memory>
     out.extend_from_slice(buffer.format(n).as_bytes())
 }
 
-// `WORD N`, where the word has its blank.
+// Appends `WORD N`, where `word` ends with its blank.
 fn push_counted(word: &[u8], n: u64, out: &mut Vec<u8>) -> Result<(), Memory>
     ensures ok { OnOk result (out.new.items ≡ out.old.items ++ counted word.now n) }
     ensures err { KeepsFront out.old.items out.new.items }
@@ -65,7 +65,7 @@ fn push_tagged(hits: &[Hit], tags: &[u64], out: &mut Vec<u8>) -> Result<(), Memo
     Ok(())
 }
 
-// `WORD N` and a line for each of the N hits.
+// Appends `WORD N` and a line for each of the N hits.
 fn push_hit_lines(
     word: &[u8],
     hits: &[Hit],
@@ -175,7 +175,7 @@ fn push_reply(reply: &Reply, show: bool, out: &mut Vec<u8>) -> Result<(), Memory
     }
 }
 
-/// Appends the lines of a reply: a hit is `ID DIST`, or `ID TAG DIST` where tags are shown. After want of memory `out` is
+/// Appends the lines of a reply: a hit is `ID DIST`, or `ID TAG DIST` where tags are shown. When memory runs out, `out` is
 /// as before.
 pub fn reply_text(reply: &Reply, show: bool, out: &mut Vec<u8>) -> Result<(), Memory>
     requires { show ≡ true → TagsAre reply.now }
@@ -228,7 +228,7 @@ fn push_query(query: &Query, out: &mut Vec<u8>) -> Result<(), Memory>
     out.extend_from_slice(b"\n")
 }
 
-/// Appends the line of a query, as a script has it. After want of memory `out` is as before.
+/// Appends the line of a query, as a script has it. When memory runs out, `out` is as before.
 pub fn query_text(query: &Query, out: &mut Vec<u8>) -> Result<(), Memory>
     ensures ok { OnOk result (out.new.items ≡ out.old.items ++ query_line query.now) }
     ensures err { OnErr result (out.new.items ≡ out.old.items) }

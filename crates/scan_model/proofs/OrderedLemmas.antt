@@ -110,7 +110,7 @@ neither_above o Greater is le ge = cc
 weight_itself : {X : Type 0} {cmp : X → X → Ordering} → IsTotalOrder cmp → (x : X) → weight cmp x x ≡ 1
 weight_itself order x = rw (tied_itself order x) refl
 
--- what occurs among values of which none is below y is not below y
+-- a value that occurs among values that are not below y is not below y
 occurs_above : {X : Type 0} {cmp : X → X → Ordering} → IsTotalOrder cmp → (x y : X) (l : List X) → Above cmp y l → 0 < count cmp x l → is_gt (cmp y x) ≡ false
 occurs_above order x y [] above occurs = absurd (omega arith)
 occurs_above {cmp = cmp} order x y (z ∷ zs) above occurs = elim (cases_Bool (is_eq (cmp x z))) [

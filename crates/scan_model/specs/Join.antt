@@ -1,9 +1,9 @@
--- What a scan over two lists of points answers to a join.
+-- The answer of a scan over two lists of points to a join.
 use Rattle.std.specs.Prelude.{ℕ, Bool, ◌+◌, List, [], ◌∷◌, ◌++◌, filter, nat_le}
 use Rattle.metric_laws.specs.Space.{Space}
 use Rattle.scan_model.specs.declared.hit.Pair.{Pair}
 
--- the point p, whose id is i, with each right point; the first of these has the id j
+-- the point p, with the id i, paired with each right point; the first right point has the id j
 abbrev pub pairs_from : Space → ℕ → List ℕ → ℕ → List (List ℕ) → List Pair
 pairs_from s i p j [] = []
 pairs_from s i p j (q ∷ points) = record { left = i; right = j; dist = s.dist p q } ∷ pairs_from s i p (j + 1) points

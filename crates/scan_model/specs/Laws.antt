@@ -28,12 +28,12 @@ RangeAnswersAreAll =
     (s : Space) (points : List (List ℕ)) (q : List ℕ) (r : ℕ) →
     Ascends HitBefore (range_hits s points q r) × ((h : Hit) → IsIn h (range_hits s points q r) ↔ IsRangeAnswer s points q r h)
 
--- the object of this id, with its distance from q
+-- the object with the id, with its distance from q
 abbrev pub object_hit : Space → List (List ℕ) → List ℕ → ℕ → Hit
 object_hit s points q id = record { id = id; dist = s.dist (slice_index_or points id []) q }
 
--- The hits are k objects of the list, or all of them where there are fewer, in order; and each object that is left out comes
--- behind all of them: it is further away, or as far and of a greater id.
+-- The hits are k objects of the list, or all of them where there are fewer, in order. Each object that is left out comes after all of
+-- them: it is further away, or as far and with a greater id.
 pub record AreNearest (s : Space) (points : List (List ℕ)) (q : List ℕ) (k : ℕ) (hits : List Hit) : Type 0 where
   pub count : length hits ≡ min k (length points)
   pub ascend : Ascends HitBefore hits

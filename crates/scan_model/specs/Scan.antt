@@ -1,4 +1,4 @@
--- What a scan over a list of points answers to a query.
+-- The answer of a scan over a list of points to a query.
 use Rattle.std.specs.Prelude.{ℕ, Bool, ◌+◌, List, [], ◌∷◌, filter, take, nat_le}
 use Rattle.metric_laws.specs.Space.{Space, bound}
 use Rattle.scan_model.specs.declared.hit.Hit.{Hit}

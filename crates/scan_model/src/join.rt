@@ -30,7 +30,7 @@ fn push_pairs<M: Metric>(
     Ok(())
 }
 
-/// Every pair of a left and a right object within `r` of each other, by the left id, then by the right.
+/// Returns every pair of a left and a right object within `r` of each other, by the left id, then by the right.
 pub fn scan_join<M: Metric>(
     alloc: Global,
     m: &M,

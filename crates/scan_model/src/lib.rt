@@ -1,4 +1,4 @@
-//! The plain answers: scans over lists of points. They are what every search over an index has to answer.
+//! The plain answers: scans over lists of points. Every search over an index has to give the same answers.
 #![tactic(auto)]
 
 mod hit;
@@ -12,5 +12,5 @@ pub use join::scan_join;
 pub use query::Query;
 pub use scan::{scan_nearest, scan_range};
 
-/// Want of memory.
+/// The error when memory runs out.
 pub type Memory = std::alloc::AllocError;

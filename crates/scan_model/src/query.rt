@@ -1,6 +1,6 @@
 use metric_laws::Point;
 
-/// What is asked of a list of points.
+/// A query on a list of points.
 #[derive(Drop)]
 pub enum Query {
     /// Every object within the radius `r` of `q`.

@@ -7,7 +7,7 @@ use crate::{Hit, Memory};
 use metric_laws::{BOUND, Metric, Rows};
 use std::alloc::Global;
 
-// Every object within `r` of `q`, by id.
+// Returns every object within `r` of `q`, by id.
 fn hits_within<M: Metric>(
     alloc: Global,
     m: &M,
@@ -37,7 +37,7 @@ fn copy_of(alloc: Global, hits: &[Hit]) -> Result<Vec<Hit>, Memory>
     hits.iter().copied().collect(alloc)
 }
 
-// The first `k` hits by distance and id, in order. They are selected first, so that no others are sorted.
+// Returns the first `k` hits by distance and id, in order. They are selected first, so that no others are sorted.
 fn first_in_order(alloc: Global, hits: &mut [Hit], k: usize) -> Result<Vec<Hit>, Memory>
     requires { k < length hits.old }
     ensures { IfOk result (λ first. first.items ≡ take k (ordered hit_cmp hits.old)) }
@@ -47,7 +47,7 @@ fn first_in_order(alloc: Global, hits: &mut [Hit], k: usize) -> Result<Vec<Hit>,
     copy_of(alloc, first)
 }
 
-/// Every object within `r` of `q`, by distance, then by id.
+/// Returns every object within `r` of `q`, by distance, then by id.
 pub fn scan_range<M: Metric>(
     alloc: Global,
     m: &M,
@@ -65,7 +65,7 @@ pub fn scan_range<M: Metric>(
     Ok(hits)
 }
 
-/// The `k` objects nearest to `q`, by distance, then by id; all of them where there are fewer.
+/// Returns the `k` objects nearest to `q`, by distance, then by id; all of them where there are fewer.
 pub fn scan_nearest<M: Metric>(
     alloc: Global,
     m: &M,

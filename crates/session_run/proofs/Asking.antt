@@ -65,7 +65,7 @@ fault_cause before after walk fault.Worn cause rose undamaged = absurd cause
 fault_cause before after walk fault.Stopped cause rose undamaged = absurd cause
 fault_cause before after walk fault.Commit cause rose undamaged = absurd cause
 
--- and it gives no answer
+-- a fault that ends the session gives no answer
 pub fault_ends : (walk : PageFault → Type 0) (why : IndexFault) → HasReadCause walk why → (end : Stop) × (answer_of_fault why ≡ Err end)
 fault_ends walk fault.Disk cause = (_, refl)
 fault_ends walk (fault.Damaged f) cause = (_, refl)

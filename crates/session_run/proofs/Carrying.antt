@@ -100,7 +100,7 @@ guarded_pinned : (pages generation : ℕ) (tree : List ℕ) (free : Option FreeP
 guarded_pinned pages generation tree None is = is
 guarded_pinned pages generation tree (Some f) is = is.pinned
 
--- the generation that guards pages is pinned
+-- a generation whose pin guards pages is pinned
 pub guards_pinned : {M : Type 0} (index : OpenIndex M) (generation : ℕ) (tree : List ℕ) → GuardsPages generation tree index → IsPinned generation index
 guards_pinned index generation tree is = guarded_pinned index.file.live.pages generation tree index.free is
 

@@ -97,7 +97,7 @@ module _ {M : Type 0} (s : Space) (show : Bool) (old : OpenIndex M) (disk0 : Dis
   abbrev pub file0 : Held
   file0 = held_on old.file disk0
 
-  -- the first commands are done, each of them a turn, and these are the others
+  -- the first commands are done, each of them a turn, and `rest` are the others
   pub record HasDone (new : OpenIndex M) (pinned : PinnedCursors) (disk1 : DiskState) (rest : List Command) (out1 log1 : SinkState) (acknowledged : ℕ) : Type 0 where
     pub turns : List Turn
     pub cursors : OpenCursors

@@ -32,7 +32,7 @@ use Rattle.session_run.specs.Pinned.{GoesThrough, IsKeptBy, nodes_for}
 
 -- ---- walks of a tree that stands
 
--- what a walk opened and may come to are the pages from which it starts and those that it opened name
+-- the pages that a walk opened and may still open are at most its start pages and those that the opened ones name
 balance : (nodes : Nodes) (start opened coming : List ℕ) → WalksTo nodes start opened coming → (k : ℕ) → times k opened + times k coming ≤ times k (start ++ named_in nodes opened)
 balance nodes start [] coming walk k = let few = walk k in let a = times-append k start [] in omega arith
 balance nodes start (page ∷ opened) coming (before, walk, is, some, counts) k =

@@ -94,7 +94,7 @@ module _ {M : Type 0} (s : Space) (show : Bool) (old new : OpenIndex M) (pinned0
       stopped opened stop.Memory is = (refl, refl)
       stopped opened stop.Sink is = absurd is
 
-  -- there was no memory for what is written
+  -- memory ran out for what is to be written
   pub turned_memory : (a : Answer) (out log : SinkState) → HasCarriedOut s show old new pinned0 pinned1 before after c (Ok a) → HasTurned s show old new pinned0 pinned1 before after c out out log log (Err stop.Memory)
   turned_memory a out log did = record {
     going = tt;

@@ -34,12 +34,12 @@ pub record IsKeptBy {M : Type 0} (s : Space) (index : OpenIndex M) (c : PinnedCu
   pub point : IsTrue (s.fits c.cursor.point)
   pub few : c.cursor.live.pages ≤ 2 ^ 24
 
--- all can be stepped, and each has a number of its own
+-- all cursors can be stepped, and each has a number of its own
 pub record AreKeptBy {M : Type 0} (s : Space) (index : OpenIndex M) (pinned : PinnedCursors) : Type 0 where
   pub each : AllByRecursion (IsKeptBy s index) pinned.cursors.items
   pub numbers : AreNumbered 0 pinned.next pinned.cursors.items
 
--- these pages hold what they held
+-- the pages of `tree` hold what they held
 abbrev pub HoldSame : List ℕ → List ℕ → List ℕ → Type 0
 HoldSame tree before after = AllByRecursion (λ page. page_of after page ≡ page_of before page) tree
 
@@ -48,12 +48,12 @@ pub record KeepsGuarded {M : Type 0} (old new : OpenIndex M) (before after : Dis
   pub guarded : (generation : ℕ) (tree : List ℕ) → GuardsPages generation tree old → GuardsPages generation tree new
   pub kept : IsTrue before.tells → (generation : ℕ) (tree : List ℕ) → GuardsPages generation tree old → HoldSame tree before.bytes after.bytes
 
--- the nodes of the pages among which a cursor's tree is
+-- the nodes of the pages that hold a cursor's tree
 abbrev pub nodes_for : {M : Type 0} → OpenIndex M → List ℕ → PinnedCursor → Nodes
 nodes_for index bytes c = nodes_of (reading index.file.head.dim c.cursor.live.pages bytes)
 
--- A cursor goes through a tree that the file holds still, sound or not: the tree stands on pages that hold nodes and are guarded, and
--- the cursor is a walk of it.
+-- A cursor goes through a tree that the file still holds, sound or not: the tree stands on pages that hold nodes and are guarded, and
+-- the cursor is a walk of the tree.
 pub record GoesThrough {M : Type 0} (index : OpenIndex M) (bytes : List ℕ) (c : PinnedCursor) : Type 0 where
   pub tree : List ℕ
   pub stands : StandsOnPages (nodes_for index bytes c) c.cursor.live tree
@@ -61,7 +61,7 @@ pub record GoesThrough {M : Type 0} (index : OpenIndex M) (bytes : List ℕ) (c 
   pub guarded : GuardsPages c.cursor.live.generation tree index
   pub walked : IsWalked (nodes_for index bytes c) c.cursor
 
--- all cursors do, where the disk tells its bytes
+-- all cursors go through their trees, where the disk tells its bytes
 abbrev pub AllGoThrough : {M : Type 0} → OpenIndex M → DiskState → PinnedCursors → Type 0
 AllGoThrough index disk pinned = IsTrue disk.tells → AllByRecursion (GoesThrough index disk.bytes) pinned.cursors.items
 
@@ -72,15 +72,15 @@ abbrev pub pins_among : ℕ → Option FreePages → ℕ
 pins_among generation None = 0
 pins_among generation (Some f) = times generation f.pins
 
--- one of these cursors goes through the tree of this generation
+-- one of the cursors goes through the tree of the generation
 abbrev pub is_walked : ℕ → List PinnedCursor → Bool
 is_walked generation cursors = list_any (λ c. c.cursor.live.generation == generation) cursors
 
--- how many pins these cursors have of this generation: one for all that go through its tree
+-- how many pins of the generation the cursors have: one for all cursors that go through its tree
 abbrev pub pins_for : ℕ → List PinnedCursor → ℕ
 pins_for generation cursors = if is_walked generation cursors then 1 else 0
 
--- Pins come and go with the cursors, and in no other way.
+-- Pins come and go only with the cursors.
 abbrev pub PinsFollow : {M : Type 0} → OpenIndex M → OpenIndex M → List PinnedCursor → List PinnedCursor → Type 0
 PinsFollow old new before after =
     (generation : ℕ) →
@@ -88,12 +88,12 @@ PinsFollow old new before after =
 
 -- ---- on a sound file
 
--- the pages of a file hold this tree
+-- the pages of a file hold the tree
 abbrev pub HoldsTree : ℕ → Nodes → Live → List ℕ → Type 0
 HoldsTree dim nodes live bytes = (page : ℕ) → IsIn page (live_pages nodes live) → nodes_of (reading dim live.pages bytes) page ≡ nodes page
 
--- A cursor stands for one that has these hits still to give: its tree is sound, the file holds it still on pages that are guarded,
--- and the cursor stands on it.
+-- A cursor stands for `meant`, with the hits that are still to be given: its tree is sound, the file still holds it on pages that are
+-- guarded, and the cursor stands on it.
 pub record StandsFor {M : Type 0} (s : Space) (index : OpenIndex M) (bytes : List ℕ) (c : PinnedCursor) (meant : Cursor) : Type 0 where
   pub nodes : Nodes
   pub number : meant.number ≡ c.number
@@ -104,16 +104,16 @@ pub record StandsFor {M : Type 0} (s : Space) (index : OpenIndex M) (bytes : Lis
   pub hits : meant.hits ≡ rest_of s nodes c.cursor
   pub tags : meant.tags ≡ tags_of nodes c.cursor.live meant.hits
 
--- the open cursors stand for these, one for one
+-- the open cursors stand for `opened`, one for one
 pub record StandFor {M : Type 0} (s : Space) (index : OpenIndex M) (bytes : List ℕ) (pinned : PinnedCursors) (opened : OpenCursors) : Type 0 where
   pub each : AllZip (StandsFor s index bytes) pinned.cursors.items opened.cursors
   pub next : opened.next ≡ pinned.next
 
--- the file is sound, and the open cursors stand for these
+-- the file is sound, and the open cursors stand for `opened`
 pub record GoesOn {M : Type 0} (s : Space) (index : OpenIndex M) (disk : DiskState) (pinned : PinnedCursors) (opened : OpenCursors) : Type 0 where
   pub sound : IsSoundOn s index.file disk
   pub cursors : StandFor s index disk.bytes pinned opened
 
--- the same of some open cursors
+-- the same for some `opened`
 abbrev pub CanGoOn : {M : Type 0} → Space → OpenIndex M → DiskState → PinnedCursors → Type 0
 CanGoOn s index disk pinned = (opened : OpenCursors) × GoesOn s index disk pinned opened

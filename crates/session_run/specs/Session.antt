@@ -32,7 +32,7 @@ use Rattle.session_run.specs.Turns.{Turn, AreTurns, IsTurn, answers_of, file_aft
 abbrev pub setting_of : {M : Type 0} → Space → OpenFile M → Setting
 setting_of s file = record { space = s; limit = file.head.limit }
 
--- the objects of the index with these open cursors
+-- the objects of the index, with the open cursors
 abbrev pub state_on : {M : Type 0} → OpenFile M → DiskState → OpenCursors → State
 state_on file disk cursors = with_cursors (record { points = points_on file disk; tags = tags_on file disk }) cursors
 
@@ -42,7 +42,7 @@ no_cursors = record { cursors = []; next = 0 }
 
 -- ---- what a crash leaves
 
--- the file is sound and has the objects of this state
+-- the file is sound and has the objects of the state
 abbrev pub HoldsState : Space → Head → State → List ℕ → Type 0
 HoldsState s head state image = HoldsObjects s head state.objects.points state.objects.tags image
 
@@ -51,7 +51,7 @@ abbrev pub HoldsNext : Setting → Head → State → List Command → List ℕ 
 HoldsNext setting head state [] image = ⊥
 HoldsNext setting head state (c ∷ more) image = HoldsState setting.space head (step setting state c).state image
 
--- the objects after the first of these turns, for some number of them
+-- the objects after the first n of `turns`, for some n
 abbrev pub HoldsSome : Setting → Head → State → List Turn → List ℕ → Type 0
 HoldsSome setting head state [] image = HoldsState setting.space head state image
 HoldsSome setting head state (t ∷ turns) image = HoldsState setting.space head state image ⊎ HoldsSome setting head t.state turns image
@@ -68,8 +68,8 @@ pub record IsCutShort (setting : Setting) (head : Head) (show : Bool) (state : S
   pub next : more ≡ turn.answered.command ∷ others
   pub cut : AreCut (text show turn.answered.reply) (framed (if_any turn.answered.log)) rest log_rest
 
--- how a session ends after the acknowledged commands: with no command left; or an output failed in the next command's frame or reply;
--- or it was stopped before anything of them was put
+-- how a session ends after the acknowledged commands: no command is left; or an output failed in the next command's frame or reply;
+-- or it stopped before any of these was put
 abbrev pub Ends : Setting → Head → Bool → State → Held → List Command → Option Stop → List ℕ → List ℕ → Type 0
 Ends setting head show state file more None rest log_rest = (more ≡ []) × (rest ≡ []) × (log_rest ≡ [])
 Ends setting head show state file more (Some stop.Sink) rest log_rest = IsCutShort setting head show state file more rest log_rest
@@ -89,18 +89,18 @@ IsAsking command.Count = Unit {0}
 IsAsking (command.Bad why) = Unit {0}
 IsAsking other = ⊥
 
--- how many pages these logs show that were opened
+-- how many opened pages the logs show
 abbrev pub records_in : List Log → ℕ
 records_in [] = 0
 records_in (log ∷ logs) = length log.records + records_in logs
 
--- how many pages are read at the most for these logs: each once for the hits, and once more for their tags where they are shown
+-- the most pages read for the logs: each once for the hits, and once more for their tags where they are shown
 abbrev pub most_read : Bool → List Log → ℕ
 most_read show logs = if show then 2 * records_in logs else records_in logs
 
--- What a session of these commands does on a sound file. The first commands are acknowledged: each is a turn, whose reply is put
--- whole, and before it the frame of its log. At every moment a crash leaves the objects after some of them, or after one command
--- more; at the end those after all acknowledged ones, or after one command more. Where all only ask, few pages were read.
+-- What a session of `commands` does on a sound file. The first commands are acknowledged: each is a turn, whose log frame is put and
+-- then its reply, whole. At every moment a crash leaves the objects after some of the commands; at the end it leaves those after all
+-- acknowledged ones, or after one command more. Where all commands only ask, at most `most_read` pages were read.
 pub record HasRun (setting : Setting) (head : Head) (show : Bool) (commands : List Command) (state : State) (file : Held)
     (disk0 disk1 : DiskState) (out0 out1 log0 log1 : SinkState) (acknowledged : ℕ) (stopped : Option Stop) (left : Held) : Type 0 where
   pub turns : List Turn
@@ -121,7 +121,7 @@ pub record HasRun (setting : Setting) (head : Head) (show : Bool) (commands : Li
 
 -- ---- why it stops
 
--- a page is damaged: it holds no node, or is none of the file's, or is reached twice, or stands at another level than its depth asks for
+-- a page is damaged: it holds no node, lies outside the file, is reached twice, or stands at another level than its depth asks for
 abbrev pub IsDamage : PageFault → Type 0
 IsDamage (page.Bad p fault) = Unit {0}
 IsDamage (page.Outside p) = Unit {0}
@@ -129,14 +129,14 @@ IsDamage (page.Repeats p) = Unit {0}
 IsDamage (page.Level p) = Unit {0}
 IsDamage _ = ⊥
 
--- what a fault says of a page is so in a file of these bytes: it opens to this head and to a live slot, from whose root child numbers
--- lead to the page
+-- what a fault says of a page is true in a file with `bytes`: they open to `head` and to a live slot, and child numbers lead from its
+-- root to the page
 pub record IsDamageIn (head : Head) (bytes : List ℕ) (fault : PageFault) : Type 0 where
   pub live : Live
   pub opens : OpensTo bytes head live
   pub is : IsDamageOf head.dim bytes live fault
 
--- the same of a session that stopped, where the disk tells its bytes
+-- the same for a session that stopped, where the disk tells its bytes
 abbrev pub StandsBy : Head → DiskState → Stop → Type 0
 StandsBy head disk (stop.Damaged fault) = IsTrue disk.tells → IsDamageIn head disk.bytes fault
 StandsBy head disk _ = Unit {0}

@@ -37,7 +37,7 @@ use Rattle.session_run.specs.Session.{Grew, HasStopCause, HoldsState, IsAsking, 
 abbrev pub plain_answer : Reply → Answer
 plain_answer r = record { reply = r; log = None }
 
--- what the index's refusal is to a session: a reply, or its end
+-- maps the index's refusal to a session's: a reply, or its end
 abbrev pub answer_of_fault : IndexFault → Result Answer Stop
 answer_of_fault fault.Full = Ok (plain_answer (reply.Refused refusal.Full))
 answer_of_fault fault.NotEmpty = Ok (plain_answer (reply.Refused refusal.NotEmpty))
@@ -76,8 +76,8 @@ abbrev pub HoldsEither : {M : Type 0} → Space → OpenFile M → DiskState →
 HoldsEither s file disk cursors c image = HoldsOne s file.head (state_on file disk cursors)
     (step (setting_of s file) (state_on file disk cursors) c).state image
 
--- What a command did on a sound file is a turn, whose reply has the text of the answer's; a crash within it leaves the objects before
--- or after.
+-- What a command did on a sound file is a turn whose reply has the text of the answer's reply. A crash within it leaves the objects
+-- before or after.
 pub record IsTaken {M : Type 0} (s : Space) (show : Bool) (old new : OpenFile M) (opened cursors : OpenCursors)
     (before after : DiskState) (c : Command) (answer : Answer) : Type 0 where
   pub turn : Turn
@@ -90,8 +90,8 @@ pub record IsTaken {M : Type 0} (s : Space) (show : Bool) (old new : OpenFile M)
   pub moments : EachImage before after (HoldsOne s old.head (state_on old before opened) turn.state)
   pub reads : IsAsking c → after.reads ≤ before.reads + most_read show (if_any turn.answered.log)
 
--- What one command does, where these are the cursors. On a sound file it is a turn; where it ends the session, a crash leaves the
--- objects before or after.
+-- What one command does to the index. On a sound file it is a turn. Where it ends the session, a crash leaves the objects before or
+-- after.
 pub record HasStepped {M : Type 0} (s : Space) (show : Bool) (old new : OpenIndex M) (opened cursors : OpenCursors)
     (before after : DiskState) (c : Command) (result : Result Answer Stop) : Type 0 where
   pub going : OnOk result (new.stopped ≡ false)
@@ -106,8 +106,8 @@ pub record HasStepped {M : Type 0} (s : Space) (show : Bool) (old new : OpenInde
   pub taken : IsSoundOn s old.file before → IfOk result (IsTaken s show old.file new.file opened cursors before after c)
   pub moments : IsSoundOn s old.file before → OnErr result (EachImage before after (HoldsEither s old.file before opened c))
 
--- What one command does. On a sound file, where the open cursors stand for some, it is a turn of these, and afterwards the open
--- cursors stand for those after it; where it ends the session, a crash leaves the objects before or after.
+-- What one command does. On a sound file, where the open cursors stand for some, it is a turn on these, and afterwards the open
+-- cursors stand for those after it. Where it ends the session, a crash leaves the objects before or after.
 pub record HasCarriedOut {M : Type 0} (s : Space) (show : Bool) (old new : OpenIndex M) (pinned0 pinned1 : PinnedCursors)
     (before after : DiskState) (c : Command) (result : Result Answer Stop) : Type 0 where
   pub going : OnOk result (new.stopped ≡ false)
@@ -126,7 +126,7 @@ pub record HasCarriedOut {M : Type 0} (s : Space) (show : Bool) (old new : OpenI
       IfOk result (λ a. (cursors : OpenCursors) × IsTaken s show old.file new.file opened cursors before after c a × GoesOn s new after pinned1 cursors)
   pub moments : (opened : OpenCursors) → GoesOn s old before pinned0 opened → OnErr result (EachImage before after (HoldsEither s old.file before opened c))
 
--- the reply has the next n hits of the cursor of this number, and the open cursors stand for those after it
+-- the reply has the next n hits of cursor `number`, and the open cursors stand for those after the command
 pub record HasAdvanced {M : Type 0} (s : Space) (index : OpenIndex M) (bytes : List ℕ) (pinned : PinnedCursors)
     (opened : OpenCursors) (number n : ℕ) (r : Reply) : Type 0 where
   pub cursors : OpenCursors
@@ -137,7 +137,7 @@ pub record HasAdvanced {M : Type 0} (s : Space) (index : OpenIndex M) (bytes : L
         state = with_cursors objects cursors;
       }
 
--- the cursor of this number is closed, if there is one, and the open cursors stand for the others
+-- cursor `number` is closed, if there is one, and the open cursors stand for the others
 pub record HasClosed {M : Type 0} (s : Space) (index : OpenIndex M) (bytes : List ℕ) (pinned : PinnedCursors)
     (opened : OpenCursors) (number : ℕ) (r : Reply) : Type 0 where
   pub cursors : OpenCursors
@@ -176,7 +176,7 @@ pub record IsPartlyPut {M : Type 0} (s : Space) (show : Bool) (old : OpenFile M)
   pub command : turn.answered.command ≡ c
   pub cut : IsCut out0 out1 log0 log1 (text show turn.answered.reply) (framed (if_any turn.answered.log))
 
--- what stands on the outputs after a command at which the session stops
+-- what the outputs hold after a command at which the session stops
 abbrev pub IsStoppedAt : {M : Type 0} → Space → Bool → OpenFile M → OpenCursors → DiskState → Command → SinkState → SinkState →
     SinkState → SinkState → Stop → Type 0
 IsStoppedAt s show old opened before c out0 out1 log0 log1 stop.Sink = IsPartlyPut s show old opened before c out0 out1 log0 log1

@@ -22,13 +22,13 @@ use Rattle.index_core.specs.Writing.{Write, Inserts, Loads, tree_after}
 abbrev pub held_on : {M : Type 0} → OpenFile M → DiskState → Held
 held_on file disk = record { nodes = nodes_on file disk; live = file.live }
 
--- the tree is sound, and has these objects
+-- the tree is sound, and has the objects of the holdings
 abbrev pub HasObjectsOf : Space → Held → Holdings → Type 0
 HasObjectsOf s file objects = IsTreeOf s file.nodes file.live objects.points objects.tags
 
 -- ---- what is written
 
--- what a command writes, where there are so many objects
+-- what a command writes to an index of `count` objects
 abbrev pub write_of : ℕ → Command → Option Write
 write_of count (command.Insert p) = Some (Inserts p count)
 write_of count (command.TagInsert tag p) = Some (Inserts p tag)
@@ -42,8 +42,8 @@ nodes_made s head (Inserts point tag) file =
     length (fresh_of (rules s head.promote head.split) (record { id = file.live.count; tag = tag; point = point }) (tree_of file.nodes file.live))
 nodes_made s head (Loads rows labels) file = node_count s rows labels
 
--- Why a file stands in the way of a write: there is no further generation; or the new nodes that get none of the free pages, of
--- which so many were given, need more pages than a file may have.
+-- Why a file stands in the way of a write: there is no further generation; or, with some number of free pages given, the new nodes that
+-- get none of them need more pages than a file may have.
 abbrev pub Hinders : Space → Head → Held → Refusal → Write → Type 0
 Hinders s head file refusal.Worn write = file.live.generation ≡ 2 ^ 48 - 1
 Hinders s head file refusal.NoRoom write = (given : ℕ) × (2 ^ 24 < file.live.pages + (nodes_made s head write file - given))
@@ -66,7 +66,7 @@ IsVersionAfter s head old c false new = new ≡ old
 
 -- ---- turns
 
--- a command of a session, and what became of it: its reply and the log of its query, what stood in its way, and the objects, the
+-- a command of a session and its outcome: its reply and the log of its query, what stood in its way, and the objects, the
 -- cursors and the file after it
 pub record Turn : Type 0 where
   pub answered : Answered
@@ -74,7 +74,7 @@ pub record Turn : Type 0 where
   pub state : State
   pub file : Held
 
--- what a turn is, from this state and this file on: its meaning, unless the file stands in the way; its log; and the file after it,
+-- what a turn is, from a state and a file on: its meaning, unless the file stands in the way; its log; and the file after it,
 -- which is sound and has the objects
 pub record IsTurn (setting : Setting) (head : Head) (state : State) (file : Held) (turn : Turn) : Type 0 where
   pub meaning : hindered turn.why state (step setting state turn.answered.command) ≡ record { reply = turn.answered.reply; state = turn.state }

@@ -6,7 +6,7 @@ use index_core::IndexFault;
 use log_model::Log;
 use rows_text::{Refusal, Reply};
 
-/// What a command is answered: the reply, and the log of a query.
+/// The answer to a command: the reply, and the log of a query.
 #[derive(Drop)]
 pub struct Answer {
     /// The reply.
@@ -17,7 +17,7 @@ pub struct Answer {
 }
 
 impl Answer {
-    /// An answer without a log.
+    /// Makes an answer without a log.
     pub fn plain(reply: Reply) -> Self
         ensures { result ≡ plain_answer reply }
     {
@@ -25,7 +25,7 @@ impl Answer {
     }
 }
 
-/// What the index's refusal is to a session: a reply, or its end.
+/// Maps the index's refusal to a session's: a reply, or its end.
 pub fn answer_of_fault(fault: IndexFault) -> Result<Answer, Stop>
     ensures { result ≡ answer_of_fault fault }
 {
@@ -41,7 +41,7 @@ pub fn answer_of_fault(fault: IndexFault) -> Result<Answer, Stop>
     Ok(Answer::plain(Reply::Refused(why)))
 }
 
-/// What an insert is answered.
+/// Returns the answer to an insert.
 pub fn inserted(written: Result<u32, IndexFault>) -> Result<Answer, Stop>
     ensures { result ≡ written_answer (λ id. Reply.Id id) written }
 {
@@ -51,7 +51,7 @@ pub fn inserted(written: Result<u32, IndexFault>) -> Result<Answer, Stop>
     }
 }
 
-/// What a load is answered.
+/// Returns the answer to a load.
 pub fn loaded(written: Result<u32, IndexFault>) -> Result<Answer, Stop>
     ensures { result ≡ written_answer (λ count. Reply.Loaded count) written }
 {

@@ -18,7 +18,7 @@ use rows_text::{Command, Refusal, Reply};
 use std::alloc::Global;
 use std::thread::Threads;
 
-// Does what a command asks for whose points are points of the space.
+// Carries out `command`, where its points are points of the space.
 fn execute<R: Threads + Sync, M: Metric, D: Disk>(
     rt: &R,
     alloc: Global,
@@ -61,7 +61,7 @@ fn execute<R: Threads + Sync, M: Metric, D: Disk>(
     }
 }
 
-/// Does what a command asks for. A command with a point that is none of the space is refused.
+/// Carries out `command`. Refuses a command with a point that is not in the space.
 pub fn step<R: Threads + Sync, M: Metric, D: Disk>(
     rt: &R,
     alloc: Global,

@@ -45,18 +45,18 @@ pub struct PinnedCursor {
     pub cursor: Cursor,
 }
 
-/// The open cursors of a session, in order of their numbers, and the number of the next. The tree of each is pinned, once for
-/// all cursors that go through it.
+/// The open cursors of a session, in order of their numbers, and the number of the next one. Each tree is pinned once for all
+/// cursors that go through it.
 #[derive(Drop)]
 pub struct PinnedCursors {
-    /// The open ones.
+    /// The open cursors.
     pub cursors: Vec<PinnedCursor>,
 
-    /// The number of the next.
+    /// The number of the next cursor.
     pub next: u32,
 }
 
-// The next hits of a cursor, in its tree as the disk has it.
+// Steps `cursor` by up to `n` hits, in its tree as the disk has it.
 fn step_cursor<M: Metric, D: Disk>(
     alloc: Global,
     index: &Index<M>,
@@ -95,7 +95,7 @@ fn step_cursor<M: Metric, D: Disk>(
     cursor.step(alloc, &mut pages, &mut ruler, n)
 }
 
-// Pins the live tree, where no open cursor has it pinned already.
+// Pins the live tree, unless an open cursor has it pinned already.
 fn pin_tree<M: Metric, D: Disk>(
     alloc: Global,
     index: &mut Index<M>,
@@ -127,7 +127,7 @@ fn pin_tree<M: Metric, D: Disk>(
     Ok(())
 }
 
-// Why the step of a cursor ends a session.
+// Maps a page's fault in a cursor's step to the end of the session.
 fn stop_of_page(fault: PageFault) -> Stop
     ensures { result ≡ stop_of_page fault }
 {
@@ -139,7 +139,7 @@ fn stop_of_page(fault: PageFault) -> Stop
 }
 
 impl PinnedCursors {
-    /// No open cursor; the first has the number 0.
+    /// Makes no open cursors; the first will have the number 0.
     pub fn new(alloc: Global) -> Self
         ensures cursors { result.cursors.items ≡ [] }
         ensures next { result.next ≡ 0 }
@@ -150,14 +150,14 @@ impl PinnedCursors {
         }
     }
 
-    // Whether as many are open as may be.
+    // Returns whether as many cursors are open as may be.
     fn is_full(&self) -> bool
         ensures { result ≡ not (nat_lt (length self.now.cursors.items) most_cursors) }
     {
         self.cursors.len() >= MOST_CURSORS
     }
 
-    // Whether an open cursor goes through the tree of this generation.
+    // Returns whether an open cursor goes through the tree of `generation`.
     fn has_tree(&self, generation: u64) -> bool
         ensures { result ≡ is_walked generation self.now.cursors.items }
     {
@@ -166,7 +166,7 @@ impl PinnedCursors {
             .any(|pinned| pinned.cursor.live().generation == generation)
     }
 
-    // Where the open cursor of this number stands.
+    // Returns the place of the open cursor `number`.
     fn place_of(&self, number: u32) -> Option<usize>
         ensures { result ≡ position (λ c. c.number == number) self.now.cursors.items }
     {
@@ -218,7 +218,7 @@ impl PinnedCursors {
         Ok(Answer::plain(Reply::Cursor(number)))
     }
 
-    /// The next `n` hits of the cursor of this number, or all that are left.
+    /// Returns the next `n` hits of cursor `number`, or all that are left.
     pub fn advance<M: Metric, D: Disk>(
         &mut self,
         alloc: Global,
@@ -255,7 +255,7 @@ impl PinnedCursors {
         }
     }
 
-    // Takes back the pin of a tree, unless an open cursor goes through it.
+    // Takes back the pin of the tree of `generation`, unless an open cursor goes through it.
     fn release<M: Metric>(&self, index: &mut Index<M>, generation: u64)
         requires pinned { IsPinned generation index.old }
         requires kept { AllByRecursion (IsKeptBy (M.space index.old.file.metric) index.old) self.now.cursors.items }
@@ -272,7 +272,7 @@ impl PinnedCursors {
         index.unpin(generation);
     }
 
-    // Leaves out the cursor of this number.
+    // Removes cursor `number`.
     fn remove(&mut self, number: u32)
         ensures cursors { self.new.cursors.items ≡ filter (λ c. not (c.number == number)) self.old.cursors.items }
         ensures next { self.new.next ≡ self.old.next }
@@ -280,7 +280,7 @@ impl PinnedCursors {
         self.cursors.retain(|pinned| pinned.number != number);
     }
 
-    /// Closes the cursor of this number.
+    /// Closes cursor `number`.
     pub fn close<M: Metric>(&mut self, index: &mut Index<M>, number: u32) -> Reply
         requires kept { AreKeptBy (M.space index.old.file.metric) index.old self.old }
         ensures only { index.new ≡ record index.old { free = index.new.free } }

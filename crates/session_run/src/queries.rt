@@ -17,7 +17,7 @@ use metric_laws::{Listed, Metric, Point};
 use rows_text::Reply;
 use std::alloc::Global;
 
-// The hits that were found, with their tags where they are shown, and their log.
+// Returns the hits of `found`, with their tags where `show` asks for them, and their log.
 fn found_answer<M: Metric, D: Disk>(
     alloc: Global,
     index: &mut Index<M>,
@@ -52,7 +52,7 @@ fn found_answer<M: Metric, D: Disk>(
     })
 }
 
-/// Every object within `r` of `q`.
+/// Answers with every object within `r` of `q`.
 pub fn range<M: Metric, D: Disk>(
     alloc: Global,
     index: &mut Index<M>,
@@ -78,7 +78,7 @@ pub fn range<M: Metric, D: Disk>(
     }
 }
 
-/// The `k` objects nearest to `q`.
+/// Answers with the `k` objects nearest to `q`.
 pub fn nearest<M: Metric, D: Disk>(
     alloc: Global,
     index: &mut Index<M>,

@@ -22,14 +22,14 @@ use std::thread::Threads;
 /// How a session ended.
 #[derive(Clone, Copy, PartialEq, Eq)]
 pub struct Ended {
-    /// How many commands were acknowledged: each has its reply written whole.
+    /// How many commands were acknowledged: the reply of each is written whole.
     pub acknowledged: u64,
 
     /// Why it ended before its script did.
     pub stopped: Option<Stop>,
 }
 
-// Does one command, and writes the frame of its log and its reply.
+// Carries out one command, and writes the frame of its log and its reply.
 fn turn<R: Threads + Sync, M: Metric, D: Disk, K: Sink, T: Sink>(
     rt: &R,
     alloc: Global,
@@ -65,16 +65,16 @@ fn turn<R: Threads + Sync, M: Metric, D: Disk, K: Sink, T: Sink>(
     }
 }
 
-/// Does each command of a script in turn on an index, and writes its reply to `out`, in one put and after its commit. A query
-/// that is answered has its log put to `log_out` before its reply, as one frame. A refusal doesn't end the session; the first
+/// Carries out each of `commands` in turn on `index`, and writes its reply to `out`, in one put and after its commit. The log of a
+/// query that is answered is put to `log_out` before its reply, as one frame. A refusal doesn't end the session; the first
 /// fault does.
 ///
-/// A cursor goes through the tree of its opening, which it pins; those that are open when the script is done are closed. After
+/// A cursor goes through the tree of its opening and pins it. Cursors that are open when the commands are done are closed. After
 /// a fault their pins stay with the index.
 ///
-/// On a sound index each reply is that of a plain list, unless the file has no room or no further generation, each log is the
-/// least one, and a crash at any moment leaves the objects after some first commands, at the end at least those of the
-/// acknowledged ones.
+/// On a sound index each reply is that of a plain list, unless the file has no room or no further generation, and each log is the
+/// least one. A crash at any moment leaves the objects after some first commands; at the end, at least those of the acknowledged
+/// ones.
 pub fn session<R: Threads + Sync, M: Metric, D: Disk, K: Sink, T: Sink>(
     rt: &R,
     alloc: Global,
@@ -99,7 +99,7 @@ pub fn session<R: Threads + Sync, M: Metric, D: Disk, K: Sink, T: Sink>(
     ensures head { result.stopped ≡ None → index.new.file.head ≡ index.old.file.head }
     ensures cause { MatchOption result.stopped (Unit {0}) (HasStopCause (IsSoundOn (M.space index.old.file.metric) index.old.file (D.state disk.old))
         (D.state disk.old) (D.state disk.new) (K.state out.old) (K.state out.new) (T.state log_out.old) (T.state log_out.new)) }
-    // A page that is said to be damaged is one to which child numbers lead, and is so.
+    // A page that is said to be damaged is one that child numbers lead to, and is damaged.
     ensures damage { MatchOption result.stopped (Unit {0}) (StandsBy index.old.file.head (D.state disk.new)) }
     ensures tells { (D.state disk.new).tells ≡ (D.state disk.old).tells }
     ensures later { (D.state disk.old).faults ≤ (D.state disk.new).faults }

@@ -85,7 +85,7 @@ first_of true true g0 g1 third fault is = both (g0 == g1) (if nat_lt g1 g0 then 
     both true n is = let same : TwoRoots ≡ fault = cc in ap told_as same
     both false n is = absurd cc
 
--- ---- of a file
+-- ---- a file
 
 -- whether a slot's page reads open, and its generation
 abbrev pub open_on : List ℕ → Bool
@@ -193,7 +193,7 @@ module _ (first second : List ℕ) (limit size : ℕ) (side : Side) (wins : side
   refused_at_err Second same (Err fault) refused = λ file has.
       slot_refused first second limit size file has Second (wins ∙ ap (λ (s : Side). Ok s) same) refused.1 ∙ ap told_as (sym refused.0)
 
--- ---- of one slot
+-- ---- one slot
 
 pub not_clear : (page : List ℕ) (other : Bool) → (HasSlotRest page → ⊥) → (is_clear page && other) ≡ false
 not_clear page other none = test (is_clear page) refl

@@ -83,7 +83,7 @@ slot_generation : (file : List ℕ) (s g : ℕ) → number_at 8 8 (page_of file 
 unfolding generation_of
 slot_generation file s g is = is
 
--- the bytes of a page but for its gate
+-- the bytes of a page except its gate
 same_generation : (old new : List ℕ) (side : ℕ) → ((k : ℕ) → 1 ≤ k → k < 4096 → slice_index new (gate_at side + k) ≡ slice_index old (gate_at side + k)) → generation_of new side ≡ generation_of old side
 unfolding generation_of
 same_generation old new side same = number_kept 8 8 (page_of new (1 + side)) (page_of old (1 + side))
@@ -170,7 +170,7 @@ module _ (dim : ℕ) (live : Live) (staged : List StagedNode) (start : DiskState
   gate_generation : (old new : List ℕ) → Torn gate 1 old new → gate + 4096 ≤ length old → generation_of new (1 - live.side) ≡ generation_of old (1 - live.side)
   gate_generation old new torn long = same_generation old new (1 - live.side) (λ k from to. torn.above (gate + k) (omega arith) (omega arith))
 
-  -- Where the other gate reads open, no image has a generation behind that gate that would win: images mix.
+  -- Where the other gate reads open, no image has a winning generation behind that gate: images mix.
   pub loses : (mid : DiskState) → ((image : List ℕ) → MayLeave mid image → Kept image) → MayLeave mid mid.bytes
       → ((one two : List ℕ) (i : ℕ) → MayLeave mid one → MayLeave mid two → i < length one → i < length two → MayLeave mid (set one i (slice_index two i)))
       → slice_index mid.bytes gate ≡ 165 → (image : List ℕ) → MayLeave mid image → generation_of image (1 - live.side) < live.generation

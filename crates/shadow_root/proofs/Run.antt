@@ -14,7 +14,7 @@ use Rattle.shadow_root.specs.Commit.{IsStagedAs, IsInPlace, HasNext, IsBeforeOrA
 use Rattle.shadow_root.proofs.Torn.{rewritten_page, torn_page, written_page}
 use Rattle.shadow_root.proofs.Phases.{gate_at, kept_from_rewritten, kept_closed, kept_shut, fields_by, opens_by, still_before, opened, opening, open_byte}
 
--- a fact that holds whatever is answered
+-- a fact that holds whatever the result
 pub whatever : {T E P : Type 0} (answer : Result T E) → P → OnOk answer P
 whatever (Ok x) p = p
 whatever (Err e) p = tt

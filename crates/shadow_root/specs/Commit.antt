@@ -38,8 +38,8 @@ pub record HasNext (dim : ℕ) (next : Live) (staged : List StagedNode) (file : 
 abbrev pub IsOldPage : Live → ℕ → Type 0
 IsOldPage live p = (p ≡ 0) ⊎ IsWithin live.pages p
 
--- Page 0, and a page of the old file that is not staged, has the bytes that it had in every image at the start, where
--- it had the same in each.
+-- Page 0, and each page of the old file that is not staged, keeps the bytes that it had at the start, where every image had the
+-- same bytes there.
 abbrev pub KeepsOthers : Live → List StagedNode → DiskState → List ℕ → Type 0
 KeepsOthers live staged start file =
     (p : ℕ) (bytes : List ℕ) → IsOldPage live p → IsNotStaged staged p →
@@ -55,14 +55,14 @@ pub record IsBeforeOrAfter (dim : ℕ) (live next : Live) (staged : List StagedN
   pub others : KeepsOthers live staged start file
   pub size : IsNoLonger next start file
 
--- the staged nodes can be written, on pages among next's; and every page that is new is staged
+-- the staged nodes can be written on pages of `next`, and every page that is new is staged
 pub record IsStagedFor (dim : ℕ) (live next : Live) (staged : List StagedNode) : Type 0 where
   pub within : (k : ℕ) (s : StagedNode) → IsStagedAs staged k s → IsWithin next.pages s.page
   pub lawful : (k : ℕ) (s : StagedNode) → IsStagedAs staged k s → IsLawfulNode dim s.node
   pub every : (p : ℕ) → live.pages ≤ p → p < next.pages → (k : ℕ) × (s : StagedNode) × IsStagedAs staged k s × (s.page ≡ p)
 
--- a disk that tells its bytes is ready for the commit: its head has this dimension and a limit that the next tree keeps,
--- each image opens to live and holds what a read gives in each page of live's tree, and no staged page lies in that tree
+-- A disk that tells its bytes is ready for the commit. Its head has dimension `dim` and a limit that the next tree keeps. Each image
+-- opens to `live` and holds what a read gives in each page of the tree of `live`. No staged page lies in that tree.
 pub record IsReady (dim : ℕ) (live next : Live) (staged : List StagedNode) (start : DiskState) : Type 0 where
   pub head : Head
   pub opens : OpensTo start.bytes head live
@@ -78,11 +78,11 @@ pub record IsReady (dim : ℕ) (live next : Live) (staged : List StagedNode) (st
 abbrev pub IsElsewhere : List StagedNode → ℕ → Type 0
 IsElsewhere staged i = (k : ℕ) (s : StagedNode) → IsStagedAs staged k s → (i < 4096 * s.page) ⊎ (4096 * s.page + 4096 ≤ i)
 
--- a file of this length has room for the staged pages
+-- a file of the given length has room for the staged pages
 abbrev pub HasRoom : List StagedNode → ℕ → Type 0
 HasRoom staged most = (k : ℕ) (s : StagedNode) → IsStagedAs staged k s → 4096 * s.page + 4096 ≤ most
 
--- nothing but the staged pages, and what lies past the old end, has changed, and nothing was written past the staged pages
+-- only the staged pages, and what lies past the old end, have changed, and nothing was written past the staged pages
 pub record IsRewritten (staged : List StagedNode) (old new : List ℕ) : Type 0 where
   pub no_shorter : length old ≤ length new
   pub no_longer : (most : ℕ) → length old ≤ most → HasRoom staged most → length new ≤ most
@@ -92,13 +92,12 @@ pub record IsRewritten (staged : List StagedNode) (old new : List ℕ) : Type 0 
 abbrev pub IsFromRewritten : List StagedNode → DiskState → List ℕ → Type 0
 IsFromRewritten staged start file = (image : List ℕ) × MayLeave start image × IsRewritten staged image file
 
--- the file is an image of the start, or one in which this place, which read open where the disk tells its bytes, was
--- written
+-- the file is an image of the start, or one with a write at the gate's place, which read open where the disk tells its bytes
 abbrev pub IsFromClosed : ℕ → DiskState → List ℕ → Type 0
 IsFromClosed gate start file = (image : List ℕ) × MayLeave start image
     × ((file ≡ image) ⊎ ((IsTrue start.tells → slice_index start.bytes gate ≡ 165) × Torn gate 1 image file))
 
--- a slot's page has these fields behind its gate
+-- a slot's page has the fields of `live` after its gate
 pub record HasFields (page : List ℕ) (live : Live) : Type 0 where
   pub generation : number_at 8 8 page ≡ live.generation
   pub root : number_at 16 4 page ≡ live.root
@@ -112,7 +111,7 @@ abbrev pub StaysWithin : List StagedNode → DiskState → List ℕ → Type 0
 StaysWithin staged start file = (most : ℕ) → 12288 ≤ most → HasRoom staged most →
     ((image : List ℕ) → MayLeave start image → length image ≤ most) → length file ≤ most
 
--- as before the commit
+-- the file is as before the commit
 pub record IsKept (dim : ℕ) (live : Live) (staged : List StagedNode) (start : DiskState) (file : List ℕ) : Type 0 where
   pub tree : KeepsTree dim live start.bytes file
   pub others : KeepsOthers live staged start file
@@ -128,7 +127,7 @@ pub record IsStaged (dim : ℕ) (live next : Live) (staged : List StagedNode) (s
   pub count : next.count ≤ head.limit
   pub shut : slice_index file (4096 * (1 + (1 - live.side))) ≢ 165
 
--- and the fields of the next slot stand behind that gate
+-- the nodes are in place, the other gate is closed, and the fields of the next slot stand after that gate
 pub record IsPrepared (dim : ℕ) (live next : Live) (staged : List StagedNode) (start : DiskState) (file : List ℕ) : Type 0 where
   pub before : IsStaged dim live next staged start file
   pub fields : HasFields (page_of file (1 + (1 - live.side))) next

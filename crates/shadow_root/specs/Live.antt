@@ -6,7 +6,7 @@ use Rattle.node_page.specs.declared.head.Head.{Head}
 use Rattle.node_page.specs.Opening.{OpensTo}
 use Rattle.page_store.specs.Reached.{IsReached}
 
--- the file opens to this live slot, whatever its head
+-- the file opens to the live slot `live`, whatever its head
 pub record HasLive (live : Live) (file : List ℕ) : Type 0 where
   pub head : Head
   pub opens : OpensTo file head live
@@ -15,7 +15,7 @@ pub record HasLive (live : Live) (file : List ℕ) : Type 0 where
 abbrev pub IsLivePage : Nodes → Live → ℕ → Type 0
 IsLivePage nodes live page = IsNodePage live page × IsReached nodes live.root page
 
--- a live slot that can follow this one: the other side, the next generation, and bounds that need no file
+-- a live slot that can follow `live`: the other side, the next generation, and bounds that need no file
 pub record IsSuccessor (live next : Live) : Type 0 where
   pub sides : live.side + next.side ≡ 1
   pub generation : next.generation ≡ live.generation + 1

@@ -24,7 +24,7 @@ pub record IsBare (file : List ℕ) : Type 0 where
   pub size : length file ≡ 16384
   pub second_slot : AreZero 0 4096 (page_of file 2)
 
--- a file that holds something is left as it is; else the disk failed
+-- a file that holds something is left as it is; otherwise the disk failed
 abbrev pub HasCreateCause : DiskState → DiskState → CreateFault → Type 0
 HasCreateCause old new NotEmpty = (IsTrue old.tells → 0 < length old.bytes) × IsUnchanged old new
 HasCreateCause old new Disk = Rose old.faults new.faults

@@ -41,14 +41,14 @@ abbrev pub number_of : Side → ℕ
 number_of First = 0
 number_of Second = 1
 
--- the file has these slots, a head with this limit, and this size
+-- the file has the slots `first` and `second`, a head with the limit `limit`, and `size` bytes
 pub record HasSlots (first second : List ℕ) (limit size : ℕ) (file : List ℕ) : Type 0 where
   pub first_is : page_of file 1 ≡ first
   pub second_is : page_of file 2 ≡ second
   pub limit_is : (head_of (page_of file 0)).limit ≡ limit
   pub size_is : length file ≡ size
 
--- the slots of the file lead to this live slot
+-- the slots of the file lead to the live slot `live`
 pub record LeadsTo (limit size : ℕ) (live : Live) (file : List ℕ) : Type 0 where
   pub side : live.side ≤ 1
   pub newest : IsTrue (is_open file (1 - live.side)) → generation_of file (1 - live.side) < live.generation
@@ -64,7 +64,7 @@ IsSlotFault Disk = ⊥
 IsSlotFault Short = ⊥
 IsSlotFault (Head fault) = ⊥
 
--- the file has this size, and its head this limit
+-- the file has `size` bytes, and its head the limit `limit`
 pub record IsOf (limit size : ℕ) (file : List ℕ) : Type 0 where
   pub limit_is : (head_of (page_of file 0)).limit ≡ limit
   pub size_is : length file ≡ size

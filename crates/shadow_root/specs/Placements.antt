@@ -55,13 +55,13 @@ CommitsKeepHead =
     IsStagedFor dim t next staged → KeepsBytes t staged old file → HasLive next file →
     OpensTo file head next
 
--- the tree is sound, and these are its points and tags in order of id
+-- the tree is sound, with the points and tags in order of id
 pub record IsTreeOf (s : Space) (nodes : Nodes) (t : Live) (points : List (List ℕ)) (tags : List ℕ) : Type 0 where
   pub sound : IsSoundTree s nodes t
   pub points_are : points_by_id nodes t ≡ points
   pub tags_are : tags_by_id nodes t ≡ tags
 
--- the file is sound, and these are its points and tags in order of id
+-- the file is sound, with the points and tags in order of id
 pub record IsFileOf (s : Space) (head : Head) (t : Live) (points : List (List ℕ)) (tags : List ℕ) (file : List ℕ) : Type 0 where
   pub opens : OpensTo file head t
   pub version : head.version ≡ 2
@@ -69,7 +69,7 @@ pub record IsFileOf (s : Space) (head : Head) (t : Live) (points : List (List �
   pub tree : IsTreeOf s (nodes_in head.dim t file) t points tags
 
 -- What a commit on a sound file leaves at any moment has the old points and tags, or those of the next tree, where every file
--- over the old one has a sound tree of these.
+-- over the old one has a sound tree with them.
 abbrev pub CommitsKeepLists : Type 0
 CommitsKeepLists =
     (s : Space) (head : Head) (t next : Live) (staged : List StagedNode) (points : List (List ℕ)) (tags : List ℕ) (old file : List ℕ) →

@@ -1,5 +1,5 @@
-// A commit in three steps, each ended by a sync: the new nodes, and the other slot's gate closed; the other slot's body;
-// that slot's gate opened.
+// A commit in three steps, each ended by a sync: write the new nodes, and close the other slot's gate; write the other slot's body;
+// open that slot's gate.
 ghost use Rattle.std.specs.Prelude.{◌≡◌, ◌≢◌, ◌+◌, ◌*◌, ◌-◌, ◌^◌, ◌<◌, ◌≤◌, ℕ, length, slice_index, IsTrue, OnOk};
 ghost use Rattle.outside_io.specs.Causes.{HasCause};
 ghost use Rattle.disk_model.specs.Disk.{LeavesOnly, EachImage, Torn, Written};
@@ -87,7 +87,7 @@ fn stage<D: Disk>(
     disk.sync()
 }
 
-// The place of a slot's gate.
+// Returns the place of the gate of the slot of `live`.
 pub fn gate_of(live: &Live) -> u64
     requires { live.now.side ≤ 1 }
     ensures { result ≡ 4096 * (1 + live.now.side) }
@@ -95,7 +95,7 @@ pub fn gate_of(live: &Live) -> u64
     PAGE * (1 + u64::from(live.side))
 }
 
-// The slot of a live tree.
+// Makes the slot of a live tree.
 pub fn slot_of(live: &Live) -> Slot
     ensures { result ≡ slot_of_live live.now }
 {
@@ -109,7 +109,7 @@ pub fn slot_of(live: &Live) -> Slot
     }
 }
 
-// A write that is on the disk before it answers `Ok`.
+// Writes `bytes` at `at`, and syncs before it returns `Ok`.
 pub fn write_through<D: Disk>(disk: &mut D, at: u64, bytes: &[u8]) -> Result<(), Failed>
     requires range { at + length bytes.now ≤ 2 ^ 37 }
     requires only { LeavesOnly (D.state disk.old) (D.state disk.old).bytes }
@@ -124,9 +124,9 @@ pub fn write_through<D: Disk>(disk: &mut D, at: u64, bytes: &[u8]) -> Result<(),
     disk.sync()
 }
 
-/// Makes `next` the live tree of a file of version 2 over points of `dim` coordinates, whose new nodes are staged beside
-/// the live tree `live`. The live slot changes by the opening of one gate byte: a crash at any moment leaves the one tree
-/// or the other. `Failed` comes only where the disk failed; then the file is to be opened anew.
+/// Makes `next` the live tree of a file of version 2 over points of `dim` coordinates. Its new nodes are staged beside the live
+/// tree `live`. The opening of one gate byte changes the live slot: a crash at any moment leaves the one tree or the other.
+/// `Failed` comes only where the disk failed; then the file has to be opened anew.
 pub fn commit<D: Disk>(
     disk: &mut D,
     dim: u8,

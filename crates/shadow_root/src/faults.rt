@@ -10,16 +10,16 @@ pub enum OpenFault {
     /// The file is shorter than the head and the two slots, 12288 bytes.
     #[error("shorter than any index file")]
     Short,
-    /// The first page is no head.
+    /// The first page holds no head.
     #[error("no index file: {0}")]
     Head(HeadFault),
-    /// Neither gate is open: the file's making was stopped.
+    /// Neither gate is open: the making of the file was not finished.
     #[error("an unfinished index file")]
     Unfinished,
     /// Both gates are open with one generation.
     #[error("an index file with two roots")]
     TwoRoots,
-    /// The live slot has more in it than its fields, or does not keep its bounds.
+    /// The live slot has other bytes than its fields, or does not keep its bounds.
     #[error("an index file whose live slot is out of range")]
     Slot,
 }
@@ -27,7 +27,7 @@ pub enum OpenFault {
 /// Why a file was not made.
 #[derive(Clone, Copy, Debug, PartialEq, Eq, Error)]
 pub enum CreateFault {
-    /// The file holds something already.
+    /// The file is not empty.
     #[error("the file is not empty")]
     NotEmpty,
     /// The disk failed.

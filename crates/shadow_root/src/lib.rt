@@ -1,4 +1,4 @@
-//! The file as such: made, opened, and changed in one atomic step whatever crash comes.
+//! The index file: making it, opening it, and changing it in one atomic step whatever crash comes.
 #![tactic(auto)]
 
 mod committing;

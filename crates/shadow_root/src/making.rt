@@ -37,7 +37,7 @@ fn write_page<D: Disk>(disk: &mut D, number: u32, page: &[u8; 4096]) -> Result<(
     disk.write_at(PAGE * u64::from(number), page)
 }
 
-// The head, a closed slot, a slot of zeros and a page of zeros, which is an empty leaf.
+// Writes the head, a closed slot, a slot of zeros and a page of zeros, which is an empty leaf.
 fn lay_out<D: Disk>(
     disk: &mut D,
     head: &[u8; 4096],
@@ -61,7 +61,7 @@ fn lay_out<D: Disk>(
     disk.sync()
 }
 
-// The head and the closed slot of a new file, and its empty leaf; then the gate.
+// Writes the head and the closed slot of a new file, and its empty leaf; then opens the gate.
 fn make<D: Disk>(disk: &mut D, head: &Head) -> Result<(), Failed>
     requires lawful { IsLawfulHead head.now }
     requires version { head.now.version ≡ 2 }
@@ -82,7 +82,7 @@ fn make<D: Disk>(disk: &mut D, head: &Head) -> Result<(), Failed>
     write_through(disk, PAGE, &[OPEN])
 }
 
-// The slot of a new file before its gate is opened.
+// Returns the slot of a new file before its gate is opened.
 fn closed_slot() -> Slot
     ensures { result ≡ record { gate = false; generation = 1; root = 3; height = 0; count = 0; pages = 4 } }
 {
@@ -92,9 +92,9 @@ fn closed_slot() -> Slot
     }
 }
 
-/// Makes an empty index in an empty file, and gives its live tree. `NotEmpty` comes exactly where the file's size isn't 0,
-/// which is then left as it is; `Disk` only where the disk failed, and then nothing is said of the file. The head's fields
-/// are lawful and its version is 2.
+/// Makes an empty index in an empty file, and returns its live tree. `NotEmpty` comes exactly where the file's size isn't 0;
+/// the file is then left as it is. `Disk` comes only where the disk failed, and then nothing is known of the file. The head's
+/// fields are lawful and its version is 2.
 pub fn create<D: Disk>(disk: &mut D, head: &Head) -> Result<Live, CreateFault>
     requires lawful { IsLawfulHead head.now }
     requires version { head.now.version ≡ 2 }
@@ -103,7 +103,7 @@ pub fn create<D: Disk>(disk: &mut D, head: &Head) -> Result<Live, CreateFault>
     ensures empty { OnOk result (IsTrue (D.state disk.old).tells → length (D.state disk.old).bytes ≡ 0) }
     ensures made { OnOk result (IsTrue (D.state disk.old).tells → IsMade head.now (D.state disk.new).bytes) }
     ensures bare { OnOk result (IsTrue (D.state disk.old).tells → IsBare (D.state disk.new).bytes) }
-    // A crash from now on leaves that.
+    // A crash from now on leaves the new file.
     ensures only { OnOk result (LeavesOnly (D.state disk.new) (D.state disk.new).bytes) }
     ensures fault { IfErr result (HasCreateCause (D.state disk.old) (D.state disk.new)) }
     ensures tells { (D.state disk.new).tells ≡ (D.state disk.old).tells }

@@ -14,16 +14,16 @@ use node_page::{Gate, Head, Slot, decode_head, decode_slot, read_gate};
 use page_store::read_page;
 use tree_shape::{LAST_GENERATION, Live, MOST_PAGES};
 
-/// The bytes of the head and the two slots.
+/// The size of the head and the two slots, in bytes.
 const LEAST_SIZE: u64 = 12_288;
 
-// One of the two slots.
+// The side of a slot.
 enum Side {
     First,
     Second,
 }
 
-// The side of the live slot.
+// Returns the side of the live slot.
 fn live_side(first: &Gate, second: &Gate) -> Result<Side, OpenFault>
     ensures { result ≡ side_of first.now.open second.now.open first.now.generation second.now.generation }
 {
@@ -39,7 +39,7 @@ fn live_side(first: &Gate, second: &Gate) -> Result<Side, OpenFault>
     Ok(Side::Second)
 }
 
-// The live tree of a slot.
+// Makes the live tree of a slot.
 fn live_at(side: u8, slot: &Slot) -> Live
     ensures { result ≡ live_at side slot.now }
 {
@@ -53,7 +53,7 @@ fn live_at(side: u8, slot: &Slot) -> Live
     }
 }
 
-// Whether a live slot keeps the bounds of a file of this size whose head has this limit.
+// Returns whether a live slot keeps the bounds of a file of `size` bytes whose head has the limit `limit`.
 #[tactic(auto, unfolding(node_page::specs::Opening::is_lawful_live))]
 fn is_lawful(limit: u32, size: u64, live: &Live) -> bool
     ensures { result ≡ is_lawful_live limit size live.now }
@@ -69,7 +69,7 @@ fn is_lawful(limit: u32, size: u64, live: &Live) -> bool
         && u64::from(live.pages) * 4096 <= size
 }
 
-// The live tree of the slot on this page, which is open.
+// Reads the live tree of the slot on `page`, which is open.
 fn live_in(page: &[u8; 4096], side: u8, limit: u32, size: u64) -> Result<Live, OpenFault>
     ensures spelled { IfOk result (λ live. (slot : Slot) × SpellsSlot page.now slot × (live ≡ live_at side slot)) }
     ensures lawful { IfOk result (IsLawfulLive limit size) }
@@ -87,7 +87,7 @@ fn live_in(page: &[u8; 4096], side: u8, limit: u32, size: u64) -> Result<Live, O
     Ok(live)
 }
 
-// The live tree of a file with these slots.
+// Returns the live tree of a file with the slots `first` and `second`.
 fn live_of(
     first: &[u8; 4096],
     second: &[u8; 4096],
@@ -107,7 +107,7 @@ fn live_of(
     }
 }
 
-// The live tree of a file of this size whose head has this limit.
+// Reads the live tree of a file of `size` bytes whose head has the limit `limit`.
 fn read_live<D: Disk>(disk: &mut D, limit: u32, size: u64) -> Result<Live, OpenFault>
     ensures lawful { IfOk result (IsLawfulLive limit size) }
     ensures side { IfOk result (λ live. live.side ≤ 1) }
@@ -130,7 +130,7 @@ fn read_live<D: Disk>(disk: &mut D, limit: u32, size: u64) -> Result<Live, OpenF
     live_of(&first, &second, limit, size)
 }
 
-// The head of a file.
+// Reads the head of a file.
 fn read_head<D: Disk>(disk: &mut D) -> Result<Head, OpenFault>
     ensures lawful { IfOk result IsLawfulHead }
     ensures ok { IfOk result (λ head. IsTrue (D.state disk.old).tells → SpellsHead (page_of (D.state disk.old).bytes 0) head) }
@@ -150,11 +150,11 @@ fn read_head<D: Disk>(disk: &mut D) -> Result<Head, OpenFault>
     }
 }
 
-/// The head of an index file and its live tree, or the first of the faults in the order of `OpenFault`; `Disk` comes only
+/// Reads the head of an index file and its live tree. Returns the first fault in the order of `OpenFault`; `Disk` comes only
 /// where the disk failed. The head may be of version 1 or 2. Nothing is written, and at most three pages are read.
 pub fn open<D: Disk>(disk: &mut D) -> Result<(Head, Live), OpenFault>
     ensures ok { IfOk result (λ opened. IsTrue (D.state disk.old).tells → OpensTo (D.state disk.old).bytes opened.0 opened.1) }
-    // Also of a disk that does not tell its bytes what is answered is lawful.
+    // The head is lawful also where the disk does not tell its bytes.
     ensures head { IfOk result (λ opened. IsLawfulHead opened.0) }
     ensures live { IfOk result (λ opened. (opened.1.side ≤ 1) × ((size : ℕ) × IsLawfulLive opened.0.limit size opened.1)) }
     ensures fault { IfErr result (HasOpenCause (D.state disk.old) (D.state disk.new)) }

@@ -15,7 +15,7 @@ pub struct SliceDisk<'a> {
 }
 
 impl<'a> SliceDisk<'a> {
-    /// A disk that holds these bytes.
+    /// Makes a disk that holds `bytes`.
     pub fn new(bytes: &'a [u8]) -> Self
         ensures bytes { result.bytes.now ≡ bytes.now }
         ensures faults { result.faults ≡ 0 }
@@ -40,7 +40,7 @@ impl<'a> SliceDisk<'a> {
     }
 }
 
-// Fills `buf` with the bytes from a place on, and with 0 past their end.
+// Fills `buf` with the bytes from place `at` on, and with 0 past their end.
 fn copy_out(file: &[u8], at: usize, buf: &mut [u8])
     requires { at + length buf.old ≤ 2 ^ 37 }
     ensures { EachIndex buf.new (λ i. slice_index buf.new i ≡ slice_index file.now (at + i)) }

@@ -1,4 +1,4 @@
-//! A disk over the bytes of a file that someone else holds in memory, as a mapped file. It only reads.
+//! A disk over the bytes of a file that the caller holds in memory, or maps. It only reads.
 #![tactic(auto)]
 
 mod disk;

@@ -47,7 +47,7 @@ of_entry old new told (Radius p i o) fault = λ tells. fault
 of_entry old new told (Id i) fault = λ tells. fault
 of_entry old new told (Count a b) fault = λ tells. fault
 
--- a fault of a later stretch of the walk, of which what is told goes up
+-- a fault of a later stretch of the walk, where `up` passes on what is told
 pub of_child : (old mid new : Shelf) (told : Result Seen AuditFault) (up : Result Seen AuditFault → Result Seen AuditFault) (v : AuditFault) → mid.tells ≡ old.tells → old.faults ≤ mid.faults
     → ((w : AuditFault) → up (Err w) ≡ Err w) → IsWalkFault mid new told v → IsWalkFault old new (up told) v
 of_child old mid new told up Memory same later goes fault = tt

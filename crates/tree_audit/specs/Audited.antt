@@ -80,7 +80,7 @@ abbrev pub after_node : Result Node PageFault → (Node → Result Seen AuditFau
 after_node (Err fault) rest = Err (Page fault)
 after_node (Ok node) rest = rest node
 
--- a page that the walk comes to
+-- the arrival of the walk at a page
 abbrev pub on_arrival : Read → ℕ → Seen → (Node → Result Seen AuditFault) → Result Seen AuditFault
 on_arrival read page seen rest = if times page seen.pages == 0 then after_node (read page) rest else Err (Twice page)
 
@@ -92,7 +92,7 @@ abbrev pub inner_node : Space → ℕ → ℕ → ℕ → Node → (List InnerEn
 inner_node s h least page (Leaf es) rest = Err (Fill page)
 inner_node s h least page (Inner level es) rest = if (level == h) && is_filled s least (length es) then rest es else Err (Fill page)
 
--- the walk of a page at this level, under these steps, the root's first
+-- the walk of a page at a level, under the steps of a path, the root's first
 abbrev pub audited_at : Space → Read → ℕ → ℕ → ℕ → List Step → ℕ → Seen → Result Seen AuditFault
 audited_at s read count zero least path page seen =
     on_arrival read page seen (λ node. leaf_node s least page node (λ es.
@@ -110,7 +110,7 @@ after_walk count (Ok seen) = if length seen.ids == count then None else Some (Co
 abbrev pub audit_fault : Space → Read → Live → Option AuditFault
 audit_fault s read t = after_walk t.count (audited_at s read t.count t.height (root_least t.height) [] t.root (record { pages = []; ids = [] }))
 
--- why a walk stopped: want of memory, which may come at any time; the disk's failure; or the fault that is told
+-- why a walk stopped: memory ran out, which may come at any time; the disk failed; or the fault is the one that is told
 abbrev pub IsWalkFault : Shelf → Shelf → Result Seen AuditFault → AuditFault → Type 0
 IsWalkFault old new told Memory = Unit {0}
 IsWalkFault old new told (Page Disk) = Rose old.faults new.faults

@@ -20,7 +20,7 @@ pub record AreFewer (numbers : Numbers) : Type 0 where
   pub none : times 0 numbers.met ≡ 0
   pub fewer : length numbers.met + 1 ≤ max 1 numbers.limit
 
--- more numbers can be met: they are below the limit, and neither among them nor among those that were met one stands twice
+-- `more` can be met: they are below the limit, no number stands twice among them, and none was met
 pub record AreNew (numbers : Numbers) (more : List ℕ) : Type 0 where
   pub within : AllByRecursion (λ n. n < numbers.limit) more
   pub once : (n : ℕ) → times n (numbers.met ++ more) ≤ 1

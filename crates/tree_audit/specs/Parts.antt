@@ -17,7 +17,7 @@ use Rattle.tree_audit.specs.Visits.{entry_told}
 abbrev pub met_in : Part → Seen
 met_in part = record { pages = part.pages.items; ids = part.ids.items }
 
--- what an audit tells of the entry of the root at this place, and of the subtree below it, where nothing was met before
+-- what an audit tells of the entry of the root at place `i`, and of the subtree below it, where nothing was met before
 abbrev pub part_told : Space → Read → Live → ℕ → InnerEntry → Result Seen AuditFault
 part_told s read t i e = entry_told s read t.count t.height [] t.root i e (record { pages = []; ids = [] })
 
@@ -30,14 +30,15 @@ abbrev pub ids_met : List Part → List ℕ
 ids_met [] = []
 ids_met (part ∷ parts) = part.ids.items ++ ids_met parts
 
--- each of the entries, the first of which has this place, was walked by itself, without a fault, and met this
+-- each of the entries from place `i` on was walked by itself, without a fault, and `parts` has what was met
 abbrev pub AreWalked : Space → Read → Live → ℕ → List InnerEntry → List Part → Type 0
 AreWalked s read t i [] [] = Unit {0}
 AreWalked s read t i [] (part ∷ parts) = ⊥
 AreWalked s read t i (e ∷ es) [] = ⊥
 AreWalked s read t i (e ∷ es) (part ∷ parts) = (part_told s read t i e ≡ Ok (met_in part)) × AreWalked s read t (i + 1) es parts
 
--- no page was met twice, the root among them, and no object; they are within the slot's bounds, and as many objects as it tells
+-- No page was met twice, the root among them, and no object. Pages and ids are within the slot's bounds, and the objects are as many as
+-- the slot tells.
 pub record AreApart (t : Live) (parts : List Part) : Type 0 where
   pub pages : (page : ℕ) → times page (t.root ∷ pages_met parts) ≤ 1
   pub ids : (id : ℕ) → times id (ids_met parts) ≤ 1
@@ -45,7 +46,7 @@ pub record AreApart (t : Live) (parts : List Part) : Type 0 where
   pub ids_within : AllByRecursion (λ id. id < t.count) (ids_met parts)
   pub count : length (ids_met parts) ≡ t.count
 
--- a tree whose root has these entries, and whose parts are apart, has no fault, and its pages are those that the parts met
+-- a tree with the given root entries, whose parts are apart, has no fault, and its pages are those that the parts met
 abbrev pub PartsMakeTheWhole : Type 0
 PartsMakeTheWhole =
     (s : Space) (read : Read) (t : Live) (es : List InnerEntry) (parts : List Part) → 1 ≤ t.height → read t.root ≡ Ok (Inner t.height es) →

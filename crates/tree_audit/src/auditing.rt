@@ -17,20 +17,20 @@ use tree_shape::Live;
 /// The numbers of a sound tree.
 #[derive(Clone, Copy, PartialEq, Eq)]
 pub struct Audited {
-    /// How many objects it holds.
+    /// The number of objects.
     pub objects: u32,
-    /// How many nodes it has.
+    /// The number of nodes.
     pub nodes: u32,
 }
 
-// The least entries of a root of this height.
+// Returns the least entries of a root at height `height`.
 fn root_least(height: u32) -> usize
     ensures { result ≡ root_least height }
 {
     if height == 0 { 0 } else { 2 }
 }
 
-/// Nothing met yet, with room for the pages and objects of a file.
+/// Makes empty visits, with room for the pages and objects of a file.
 pub fn visits_for(alloc: Global, live: &Live) -> Result<Visits, Memory>
     ensures { IfOk result (λ v. v ≡ record { pages = record { limit = live.now.pages; met = [] }; ids = record { limit = live.now.count; met = [] } }) }
 {
@@ -40,12 +40,11 @@ pub fn visits_for(alloc: Global, live: &Live) -> Result<Visits, Memory>
     })
 }
 
-/// Audits the live tree of a file over points of `dim` coordinates: the numbers of a sound tree, or the first fault in the
-/// walk's order. At each page that is: it was met before; it gives no node; its level or number of entries is wrong. Then
-/// at each entry: its point is none of the space; its stored distance is wrong; at an object, the first radius from the
-/// root down that leaves it out, and an id out of range or met before; at an inner entry, the walk of its child. At the
-/// end, another number of objects than the slot's. Each page is asked for once; the audit takes about 5 bytes for each
-/// page and object.
+/// Audits the live tree of a file over points of `dim` coordinates: returns the numbers of a sound tree, or the first fault in
+/// the walk's order. At each page the faults are: it was met before; it gives no node; its level or number of entries is wrong. Then
+/// at each entry: its point is not in the space; its stored distance is wrong; at an object, the first radius from the root down
+/// that leaves it out, and an id out of range or met before; at an inner entry, the walk of its child. At the end, another number
+/// of objects than the slot's. Each page is asked for once. The audit takes about 5 bytes for each page and object.
 pub fn audit<P: Pages, R: Ruler>(
     alloc: Global,
     pages: &mut P,
@@ -71,7 +70,7 @@ pub fn audit<P: Pages, R: Ruler>(
         (audit_fault (R.M.space (R.metric ruler.old)) (P.shelf pages.old).read live.now)) }
     ensures asked { IfOk result (λ a. (P.shelf pages.new).asked ≤ (P.shelf pages.old).asked + a.nodes) }
     ensures reads { IfOk result (λ a. (P.shelf pages.new).reads ≤ (P.shelf pages.old).reads + a.nodes) }
-    // Whatever the result, at most as many pages were asked for, and read, as the file has; one where it has none.
+    // Whatever the result, at most as many pages are asked for, and read, as the file has; one where it has none.
     ensures all_asked { (P.shelf pages.new).asked ≤ (P.shelf pages.old).asked + max 1 live.now.pages }
     ensures all_reads { (P.shelf pages.new).reads ≤ (P.shelf pages.old).reads + max 1 live.now.pages }
 {

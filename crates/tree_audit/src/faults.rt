@@ -4,16 +4,16 @@ use thiserror::Error;
 /// Why a tree is not sound. Entries are named by their page and their place in its node, from 0.
 #[derive(Clone, Copy, Debug, PartialEq, Eq, Error)]
 pub enum AuditFault {
-    /// A page gave no node: the disk failed, the page's bytes are no node, or it is none of the file's.
+    /// A page gave no node: the disk failed, the page's bytes are no node, or it lies outside the file.
     #[error("{0}")]
     Page(PageFault),
     /// The node on this page has another level than its depth asks, or too few or too many entries.
     #[error("the node on page {0} has a wrong level or number of entries")]
     Fill(u32),
-    /// The walk came to this page before.
+    /// The walk reached this page before.
     #[error("page {0} is reached twice")]
     Twice(u32),
-    /// The point of this entry is none of the space.
+    /// The point of this entry is not in the space.
     #[error("entry {1} of page {0} has no point of the space")]
     Unfit(u32, u32),
     /// The distance that this entry stores is not the one to the routing point above.
@@ -33,7 +33,7 @@ pub enum AuditFault {
         /// How many the tree has.
         found: u32,
     },
-    /// There was no memory for the audit.
+    /// Memory ran out for the audit.
     #[error("out of memory")]
     Memory,
 }

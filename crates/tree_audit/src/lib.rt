@@ -1,4 +1,4 @@
-//! The auditor: whether a whole tree is sound, and if not, its first fault in a fixed order.
+//! The auditor: checks whether a whole tree is sound, and if not, returns its first fault in a fixed order.
 #![tactic(auto)]
 
 mod auditing;

@@ -26,7 +26,7 @@ impl Model for Met {
 }
 
 impl Met {
-    /// No number below the limit was met yet.
+    /// Begins with no number below `limit` met.
     pub fn new(alloc: Global, limit: u32) -> Result<Met, Memory>
         ensures { IfOk result (λ m. m ≡ record { limit = limit; met = [] }) }
     {
@@ -36,14 +36,14 @@ impl Met {
         })
     }
 
-    /// The limit. Every number that was met is below it.
+    /// Returns the limit. Every number that was met is below it.
     pub fn limit(&self) -> u32
         ensures { result ≡ self.now.limit }
     {
         self.flags.len() as u32
     }
 
-    /// Whether the number was met.
+    /// Returns whether `number` was met.
     pub fn has(&self, number: u32) -> bool
         ensures { result ≡ not (times number self.now.met == 0) }
     {
@@ -51,7 +51,7 @@ impl Met {
         number < self.flags.len() && self.flags[number]
     }
 
-    /// Notes that the number, which was not met before, is met.
+    /// Notes `number`, which was not met before.
     pub fn add(&mut self, number: u32) -> Result<(), Memory>
         requires small { number < self.old.limit }
         requires new { times number self.old.met ≡ 0 }
@@ -64,21 +64,21 @@ impl Met {
         Ok(())
     }
 
-    /// The numbers that were met, in the order of meeting.
+    /// Returns the numbers that were met, in the order of meeting.
     pub fn into_numbers(self) -> Vec<u32>
         ensures { result.items ≡ self.met }
     {
         self.numbers
     }
 
-    /// Whether the number is below the limit and was not met.
+    /// Returns whether `number` is below the limit and was not met.
     pub fn is_new(&self, number: u32) -> bool
         ensures { result ≡ (nat_lt number self.now.limit && (times number self.now.met == 0)) }
     {
         number < self.limit() && !self.has(number)
     }
 
-    /// No number was met twice, and each that was is below the limit.
+    /// States that no number was met twice, and that each number that was met is below the limit.
     pub fn is_lawful(&self)
         ensures once { (number : ℕ) → times number self.now.met ≤ 1 }
         ensures small { AllByRecursion (λ number. number < self.now.limit) self.now.met }
@@ -86,7 +86,7 @@ impl Met {
         let _numbers = &self.numbers;
     }
 
-    /// How many numbers were met.
+    /// Returns how many numbers were met.
     pub fn len(&self) -> u32
         ensures { result ≡ length self.now.met }
     {

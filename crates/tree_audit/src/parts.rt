@@ -67,8 +67,8 @@ fn walk_entry<P: Pages, R: Ruler>(
     walk(alloc, pages, ruler, visits, &mut path, child)
 }
 
-/// Audits the entry of the root at this place, and the subtree below it, as `audit` does, but as if nothing was met before:
-/// what was met, or the first fault. So the parts of a tree can be audited apart from one another.
+/// Audits the entry of the root at `place`, and the subtree below it, as `audit` does, but as if nothing was met before:
+/// returns what was met, or the first fault. So the parts of a tree can be audited apart from one another.
 pub fn audit_part<P: Pages, R: Ruler>(
     alloc: Global,
     pages: &mut P,
@@ -114,7 +114,7 @@ pub fn audit_part<P: Pages, R: Ruler>(
     })
 }
 
-// Notes numbers that are below the limit and were not met before. It stops, and says no, at the first other one.
+// Notes numbers that are below the limit and were not met before. Stops, and returns false, at the first other one.
 fn note_all(met: &mut Met, numbers: &[u32]) -> Result<bool, Memory>
     ensures limit { met.new.limit ≡ met.old.limit }
     ensures all { IfOk result (λ all. all ≡ true → met.new.met ≡ met.old.met ++ numbers.now) }
@@ -129,7 +129,7 @@ fn note_all(met: &mut Met, numbers: &[u32]) -> Result<bool, Memory>
     Ok(true)
 }
 
-// Notes what a part met. It says no where something of it was met before.
+// Notes what a part met. Returns false where some of it is out of bounds or was met before.
 fn note_part(visits: &mut Visits, part: &Part) -> Result<bool, Memory>
     ensures pages_limit { visits.new.pages.limit ≡ visits.old.pages.limit }
     ensures ids_limit { visits.new.ids.limit ≡ visits.old.ids.limit }
@@ -143,8 +143,8 @@ fn note_part(visits: &mut Visits, part: &Part) -> Result<bool, Memory>
     note_all(&mut visits.ids, &part.ids)
 }
 
-/// The numbers of a tree whose root's entries were each audited by themselves, without a fault. There are none exactly where
-/// two of them met the same page or object, one met the root, what they met is out of the slot's bounds, or they met another
+/// Returns the numbers of a tree whose root's entries were each audited by themselves, without a fault. Returns `None` exactly
+/// where two of them met the same page or object, one met the root, what they met is out of the slot's bounds, or they met another
 /// number of objects than the slot tells.
 pub fn join_parts(alloc: Global, live: &Live, parts: &[Part]) -> Result<Option<Audited>, Memory>
     ensures apart { IfOk result (λ joined. MatchOption joined (AreApart live.now parts.now → ⊥) (λ a. AreApart live.now parts.now)) }

@@ -44,15 +44,15 @@ pub struct Visits {
 pub struct Spot {
     /// The page.
     pub page: u32,
-    /// The level that the page's node is to have.
+    /// The level that the page's node has to have.
     pub level: u32,
-    /// The least entries that it is to have.
+    /// The least entries that it has to have.
     pub least: usize,
-    /// How many coordinates a point has.
+    /// The number of coordinates of a point.
     pub dim: u8,
 }
 
-// The distance that is to be stored beside a point.
+// Returns the parent distance that has to be stored beside `p`.
 fn parent_of<R: Ruler>(ruler: &mut R, path: &[Step], p: &[u32]) -> u64
     ensures same { R.metric ruler.new ≡ R.metric ruler.old }
     ensures value { result ≡ parent_distance (R.M.space (R.metric ruler.old)) (last_point path.now) p.now }
@@ -63,7 +63,7 @@ fn parent_of<R: Ruler>(ruler: &mut R, path: &[Step], p: &[u32]) -> u64
     }
 }
 
-// How far a point is from that of a step. From the last one it is as far as is stored beside it, which was measured.
+// Returns the distance of a point to that of step `i`. For the last step it is the stored one, which was measured.
 fn distance_to<R: Ruler>(ruler: &mut R, path: &[Step], i: usize, p: &[u32], stored: u64) -> u64
     requires i { i < length path.now }
     requires stored { stored ≡ parent_distance (R.M.space (R.metric ruler.old)) (last_point path.now) p.now }
@@ -77,7 +77,7 @@ fn distance_to<R: Ruler>(ruler: &mut R, path: &[Step], i: usize, p: &[u32], stor
     }
 }
 
-// Whether the object lies within the radius of each step, from the root down.
+// Checks that the object lies within the radius of each step, from the root down.
 fn audit_inside<R: Ruler>(
     ruler: &mut R,
     path: &[Step],
@@ -100,7 +100,7 @@ fn audit_inside<R: Ruler>(
     Ok(())
 }
 
-// One object of a leaf.
+// Audits one object of a leaf.
 fn audit_object<R: Ruler>(
     ruler: &mut R,
     path: &[Step],
@@ -138,7 +138,7 @@ fn audit_object<R: Ruler>(
     }
 }
 
-// The objects of a leaf.
+// Audits the objects of a leaf.
 fn audit_objects<R: Ruler>(
     ruler: &mut R,
     path: &[Step],
@@ -165,7 +165,7 @@ fn audit_objects<R: Ruler>(
     Ok(())
 }
 
-// An entry of an inner node, before its child.
+// Audits an entry of an inner node, before its child.
 fn audit_entry<R: Ruler>(
     ruler: &mut R,
     path: &[Step],
@@ -189,7 +189,7 @@ fn audit_entry<R: Ruler>(
     Ok(())
 }
 
-// The node of a page.
+// Reads the node of `page`.
 fn open_page<P: Pages>(alloc: Global, pages: &mut P, page: u32) -> Result<SharedNode, AuditFault>
     ensures ok { IfOk result (IsNodeOf (P.shelf pages.old) page) }
     ensures err { IfErr result (IsOpenFault (P.shelf pages.old) (P.shelf pages.new) page) }
@@ -206,7 +206,7 @@ fn open_page<P: Pages>(alloc: Global, pages: &mut P, page: u32) -> Result<Shared
     }
 }
 
-// Whether so many entries are enough and not too many.
+// Returns whether `count` entries are enough and not too many.
 fn is_filled(at: &Spot, count: usize) -> bool
     requires some { 1 ≤ at.now.dim }
     requires few { at.now.dim ≤ 64 }
@@ -215,7 +215,7 @@ fn is_filled(at: &Spot, count: usize) -> bool
     at.least <= count && count <= fill(at.dim).most
 }
 
-// The objects of a leaf at the place where the walk stands.
+// Audits the objects of a leaf where the walk stands.
 fn audit_leaf<R: Ruler>(
     ruler: &mut R,
     path: &[Step],
@@ -243,7 +243,7 @@ fn audit_leaf<R: Ruler>(
     audit_objects(ruler, path, at.page, objects, ids)
 }
 
-// The node of a page to which the walk comes.
+// Reads the node of a page that the walk reaches.
 fn arrive<P: Pages>(
     alloc: Global,
     pages: &mut P,
@@ -280,7 +280,7 @@ fn arrive<P: Pages>(
     Ok(node)
 }
 
-// The step to a child.
+// Makes the step to a child.
 fn step_to(alloc: Global, page: u32, place: u32, entry: &InnerEntry) -> Result<Step, Memory>
     ensures { IfOk result (λ t. t ≡ step page place entry.now) }
 {
@@ -292,7 +292,7 @@ fn step_to(alloc: Global, page: u32, place: u32, entry: &InnerEntry) -> Result<S
     })
 }
 
-/// Goes down to the child of an entry, which is audited before: the step to it stands last on the path.
+/// Goes down to the child of `entry`, which is audited before: the step to it stands last on the path.
 pub fn step_down<R: Ruler>(
     alloc: Global,
     ruler: &mut R,
@@ -333,7 +333,7 @@ pub fn step_down<R: Ruler>(
     })
 }
 
-// Whether an inner node has this level and a lawful number of entries.
+// Returns whether an inner node has this level and a lawful number of entries.
 fn is_inner(at: &Spot, level: u8, count: usize) -> bool
     requires some { 1 ≤ at.now.dim }
     requires few { at.now.dim ≤ 64 }
@@ -373,7 +373,7 @@ pub fn walk<P: Pages, R: Ruler>(
     ensures asked { OnOk result ((P.shelf pages.new).asked + length visits.old.pages.met ≤ (P.shelf pages.old).asked + length visits.new.pages.met) }
     ensures reads { OnOk result ((P.shelf pages.new).reads + length visits.old.pages.met ≤ (P.shelf pages.old).reads + length visits.new.pages.met) }
     ensures fewer { AreFewer visits.new.pages }
-    // Besides the pages that were met, at most one was asked for, and read.
+    // Besides the pages that were met, at most one is asked for, and read.
     ensures all_asked { (P.shelf pages.new).asked + length visits.old.pages.met ≤ (P.shelf pages.old).asked + length visits.new.pages.met + 1 }
     ensures all_reads { (P.shelf pages.new).reads + length visits.old.pages.met ≤ (P.shelf pages.old).reads + length visits.new.pages.met + 1 }
 {

@@ -39,8 +39,8 @@ lines_at nodes (suc h) n = lines_of n (nodes n.page) ++ flat_map (λ e. lines_at
 abbrev pub tree_lines : Nodes → Live → List ShapeLine
 tree_lines nodes t = lines_at nodes t.height (root_named t.root)
 
--- The walk by child numbers, as the lines that it draws: it has drawn these, and has still to open these nodes. The pages that
--- it opened make a walk of page_store (`Tours`).
+-- The walk by child numbers, as the lines that it draws: it has drawn the lines, and still has to open the nodes listed last. The
+-- pages that it opened make a walk of page_store (`Tours`).
 abbrev pub DrawsTo : Nodes → List Named → List ShapeLine → List Named → Type 0
 DrawsTo nodes ns [] left = left ≡ ns
 DrawsTo nodes [] (l ∷ ls) left = ⊥
@@ -80,7 +80,7 @@ pub record AreFront (s : Space) (nodes : Nodes) (t : Live) (lines : List ShapeLi
   pub are : coming ≡ map (λ p. p.named) spots
   pub whole : lines ++ flat_map (λ p. lines_at nodes p.height p.named) spots ≡ tree_lines nodes t
 
--- A walk has opened a page for each of these lines, and these nodes are still to come.
+-- A walk has opened a page for each line, and the nodes `coming` are still to come.
 pub record IsDrawing (old now : Shelf) (t : Live) (lines : List ShapeLine) (coming : List Named) : Type 0 where
   pub same : HoldsSame old now
   pub asked : now.asked ≡ count_up old.asked (length lines)

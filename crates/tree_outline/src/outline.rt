@@ -19,7 +19,7 @@ use tree_shape::{InnerEntry, Live, Node};
 pub struct ShapeLine {
     /// The node's level: 0 for a leaf.
     pub level: u8,
-    /// How many entries it has.
+    /// The number of entries.
     pub entries: u32,
     /// The routing point of the entry that names it; the root has none.
     pub centre: Option<Point>,
@@ -32,15 +32,15 @@ pub struct ShapeLine {
 pub struct Shape {
     /// The root's level.
     pub height: u32,
-    /// How many objects there are.
+    /// The number of objects.
     pub objects: u32,
-    /// How many nodes there are.
+    /// The number of nodes.
     pub nodes: u32,
     /// The nodes, in pre-order.
     pub lines: Listed<ShapeLine>,
 }
 
-/// A node that a walk has still to open, as the entry above it names it.
+/// A node that a walk still has to open, as the entry above it names it.
 #[derive(Drop)]
 pub struct Named {
     /// The node's page.
@@ -51,7 +51,7 @@ pub struct Named {
     pub radius: Option<u64>,
 }
 
-// Puts the nodes that these entries name on top, the first one topmost.
+// Pushes the nodes that `entries` name, the first one topmost.
 fn put_on_top(coming: &mut Vec<Named>, entries: Vec<InnerEntry>) -> Result<(), Memory>
     ensures { OnOk result (reverse coming.new.items ≡ map named_by entries.items ++ reverse coming.old.items) }
 {
@@ -66,7 +66,7 @@ fn put_on_top(coming: &mut Vec<Named>, entries: Vec<InnerEntry>) -> Result<(), M
     Ok(())
 }
 
-// The line of a node.
+// Makes the line of a node.
 fn line_of(named: Named, node: &Node) -> ShapeLine
     requires { entry_count node.now ≤ 32 }
     ensures { result ≡ line_of named node.now }
@@ -83,7 +83,7 @@ fn line_of(named: Named, node: &Node) -> ShapeLine
     }
 }
 
-// The entries of an inner node; a leaf has none.
+// Returns the entries of an inner node; a leaf has none.
 fn into_entries(alloc: Global, node: Node) -> Vec<InnerEntry>
     ensures { result.items ≡ inner_entries (Some node) }
 {
@@ -122,15 +122,14 @@ fn draw<P: Pages>(
     }
 }
 
-/// Walks the live tree in pre-order by its child numbers. After the last page that the file has, a further one is refused
-/// unasked.
+/// Walks the live tree in pre-order by its child numbers. After as many pages as the file has, one more is refused unasked.
 pub fn shape_of<P: Pages>(alloc: Global, pages: &mut P, live: &Live) -> Result<Shape, PageFault>
     ensures same { HoldsSame (P.shelf pages.old) (P.shelf pages.new) }
     ensures keeps { P.keeps pages.old pages.new }
     ensures counted { IfOk result (IsCounted live.now) }
     ensures asked_once { IfOk result (λ shape. (P.shelf pages.new).asked ≡ count_up (P.shelf pages.old).asked (length shape.lines)) }
     ensures read_once { IfOk result (λ shape. (P.shelf pages.new).reads ≤ (P.shelf pages.old).reads + length shape.lines) }
-    // Whatever the result, at most as many pages were asked for, and read, as the file has.
+    // Whatever the result, at most as many pages are asked for, and read, as the file has.
     ensures asked { CountsUpTo (P.shelf pages.old).asked (P.shelf pages.new).asked live.now.pages }
     ensures reads { (P.shelf pages.new).reads ≤ (P.shelf pages.old).reads + live.now.pages }
     ensures no_fault { OnOk result ((P.shelf pages.new).faults ≡ (P.shelf pages.old).faults) }

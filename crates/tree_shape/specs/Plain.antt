@@ -17,7 +17,7 @@ pub record Branch (X : Type 0) : Type 0 where
   pub radius : ℕ
   pub below : X
 
--- a tree of this height
+-- a tree, given its height
 abbrev pub Plain : ℕ → Type 0
 Plain zero = List Object
 Plain (suc h) = List (Branch (Plain h))

@@ -14,7 +14,7 @@ ObjectFits s o = IsTrue (s.fits o.point)
 abbrev pub BranchCovers : (s : Space) (h : ℕ) → Branch (Plain h) → Type 0
 BranchCovers s h b = AllByRecursion (λ o. s.dist o.point b.point ≤ b.radius) (objects_in h b.below)
 
--- the tree, with at least so many entries: fill, points that fit and covering
+-- the tree, with at least `least` entries: fill, points that fit and covering
 abbrev pub IsSoundPlain : Space → (h : ℕ) → ℕ → Plain h → Type 0
 IsSoundPlain s zero least os = IsFilled s.words least (length os) × AllByRecursion (ObjectFits s) os
 IsSoundPlain s (suc h) least bs =

@@ -47,18 +47,18 @@ parent_distance s (Some q) p = s.dist p q
 abbrev pub Covers : Space → InnerEntry → List LeafEntry → Type 0
 Covers s e os = AllByRecursion (λ o. s.dist o.point e.point ≤ e.radius) os
 
--- a leaf entry under this routing point
+-- a leaf entry under the routing point `above`
 pub record IsSoundObject (s : Space) (above : Option (List ℕ)) (o : LeafEntry) : Type 0 where
   pub point_fits : IsTrue (s.fits o.point)
   pub parent_is : o.parent ≡ parent_distance s above o.point
 
--- an inner entry under this routing point, with the objects below it
+-- an inner entry under the routing point `above`, with the objects below it
 pub record IsSoundEntry (s : Space) (above : Option (List ℕ)) (os : List LeafEntry) (e : InnerEntry) : Type 0 where
   pub point_fits : IsTrue (s.fits e.point)
   pub parent_is : e.parent ≡ parent_distance s above e.point
   pub covers : Covers s e os
 
--- the subtree of a page, at this level, with at least so many entries, under this routing point
+-- the subtree of a page, at a level, with at least `least` entries, under the routing point `above`
 abbrev pub IsSoundAt : Space → Nodes → ℕ → ℕ → Option (List ℕ) → ℕ → Type 0
 IsSoundAt s nodes zero least above page =
     (es : List LeafEntry) × (nodes page ≡ Some (Leaf es)) × IsFilled s.words least (length es) × AllByRecursion (IsSoundObject s above) es
@@ -74,21 +74,21 @@ objects nodes t = objects_at nodes t.height t.root
 abbrev pub IsNodePage : Live → ℕ → Type 0
 IsNodePage t page = (3 ≤ page) × (page < t.pages)
 
--- the live tree is sound: every page that is reached may hold a node and is reached once, its node has the level of its
--- depth and so many entries as it may; every point is one of the space; every stored distance is the one to the routing
--- point above; every object lies within the radius of each routing entry above it; the ids are 0 to count - 1, each once
+-- The live tree is sound. Every page that is reached may hold a node and is reached once. Its node has the level of its depth and a
+-- lawful number of entries. Every point is in the space. Every stored distance is the one to the routing point above. Every object
+-- lies within the radius of each routing entry above it. The ids are 0 to count - 1, each once.
 pub record IsSoundTree (s : Space) (nodes : Nodes) (t : Live) : Type 0 where
   pub parts : IsSoundAt s nodes t.height (root_least t.height) None t.root
   pub within : AllByRecursion (IsNodePage t) (pages_at nodes t.height t.root)
   pub once : (page : ℕ) → times page (pages_at nodes t.height t.root) ≤ 1
   pub ids : (id : ℕ) → times id (map (λ e. e.id) (objects nodes t)) ≡ (if nat_lt id t.count then 1 else 0)
 
--- the point of the first object with this id
+-- the point of the first object with the id
 abbrev pub point_of : ℕ → List LeafEntry → List ℕ
 point_of id [] = []
 point_of id (e ∷ es) = if e.id == id then e.point else point_of id es
 
--- the points of so many ids from this one on
+-- the points of n ids from `id` on
 abbrev pub points_from : List LeafEntry → ℕ → ℕ → List (List ℕ)
 points_from es id zero = []
 points_from es id (suc n) = point_of id es ∷ points_from es (id + 1) n
@@ -97,12 +97,12 @@ points_from es id (suc n) = point_of id es ∷ points_from es (id + 1) n
 abbrev pub points_by_id : Nodes → Live → List (List ℕ)
 points_by_id nodes t = points_from (objects nodes t) 0 t.count
 
--- the tag of the first object with this id
+-- the tag of the first object with the id
 abbrev pub tag_of : ℕ → List LeafEntry → ℕ
 tag_of id [] = 0
 tag_of id (e ∷ es) = if e.id == id then e.tag else tag_of id es
 
--- the tags of so many ids from this one on
+-- the tags of n ids from `id` on
 abbrev pub tags_from : List LeafEntry → ℕ → ℕ → List ℕ
 tags_from es id zero = []
 tags_from es id (suc n) = tag_of id es ∷ tags_from es (id + 1) n

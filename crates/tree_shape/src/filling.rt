@@ -16,7 +16,7 @@ const ROOM: usize = 4080;
 /// The bytes of an entry besides its coordinates.
 const ENTRY: usize = 20;
 
-/// How many entries a node over points of `dim` coordinates may have.
+/// Returns how many entries a node over points of `dim` coordinates may have.
 pub fn fill(dim: u8) -> Bounds
     requires some { 1 ≤ dim }
     requires few { dim ≤ 64 }

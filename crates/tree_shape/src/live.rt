@@ -1,4 +1,4 @@
-/// The live tree of a file: what its live slot says.
+/// The live tree of a file, as its live slot describes it.
 #[derive(Clone, Copy, PartialEq, Eq)]
 pub struct Live {
     /// The side of the slot, 0 or 1.
@@ -11,11 +11,11 @@ pub struct Live {
     pub height: u32,
     /// The number of objects.
     pub count: u32,
-    /// The number of pages of the file that count; nodes stand below.
+    /// The number of pages of the file that count. Nodes stand below it.
     pub pages: u32,
 }
 
-/// The last generation.
+/// The greatest generation.
 pub const LAST_GENERATION: u64 = (1 << 48) - 1;
 
 /// The most pages of a file: 64 GiB.

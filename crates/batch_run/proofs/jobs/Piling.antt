@@ -106,7 +106,7 @@ rounds_apart : (r q n : ℕ) → r < q → r * n + n ≤ q * n
 rounds_apart r q n less = grind arith
 
 module _ (s : Space) (live : Live) (image : List ℕ) (show : Bool) (commands : List Command) (d : Rounds) where
-  -- a worker who has a place in this round had one in each before
+  -- a worker with a place in this round had one in each before
   marked_all : (round worker : ℕ) (pile : Pile) → worker < d.workers → round < d.rounds → place_of d (worker * d.rounds + round) < length commands →
       IsPileIn s live image show commands d round worker pile → length pile.marks.items ≡ round
   marked_all round worker pile low less place is = cases (nat_lt (length pile.marks.items) round) refl
@@ -213,7 +213,7 @@ module _ (s : Space) (live : Live) (image : List ℕ) (show : Bool) (commands : 
             let found : get_or commands i c ≡ held.0 = get_or_from_slice_get commands i held.0 c (subst (λ (q : ℕ). slice_get commands q ≡ Some held.0) same held.1) in
             rw found (held.2.0, held.2.1, prepares held.2.0 m.pile m.mark p held.2.2 there.2.1)
 
--- what is prepared for the commands of a script, of which there are so many
+-- what is prepared for the `count` commands of a script
 pub zipped_in : (s s' : Space) (live : Live) (image : List ℕ) (show : Bool) (commands : List Command) (d : Rounds) (count : ℕ) (piles : List Pile) (all : List Prepared) → s ≡ s' → count ≡ length commands →
     ArePiles s live image show commands d piles → AreShown d count piles all → AllZip (IsPreparedFor s' live image show) commands all
 zipped_in s s' live image show commands d count piles all same count_is are shown =

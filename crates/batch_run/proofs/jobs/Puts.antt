@@ -24,7 +24,7 @@ logged_push : (ps : List Prepared) (o : Prepared) → all_logged (ps ++ o ∷ []
 logged_push [] o = append-nil (logged o)
 logged_push (p ∷ ps) o = ap (λ (l : List ℕ). logged p ++ l) (logged_push ps o) ∙ sym (append_assoc (logged p) (all_logged ps) (logged o))
 
--- these all were put whole
+-- all of `ps` were put whole
 pub record SoFar (ps : List Prepared) (out0 out1 log0 log1 : SinkState) : Type 0 where
   pub done : AllByRecursion IsDone ps
   pub written : Appends out0.written out1.written (all_said ps)

@@ -243,7 +243,7 @@ module _ (s : Space) (live : Live) (image : List ℕ) (show : Bool) where
         }
       ]
 
--- there was no memory before the first put
+-- memory ran out before the first put
 pub out_of_memory : (s : Space) (live : Live) (image : List ℕ) (out0 out1 log : SinkState) (status : ℕ) → status ≡ 8 → Tells out0 out1 (codes "fault memory\n") → HasFinished s live image out0 out1 log log status
 out_of_memory s live image out0 out1 log status is told = record {
   output = λ e. absurd (omega arith);

@@ -25,7 +25,7 @@ use Rattle.answer_texts.specs.Put.{AreCut}
 use Rattle.image_answers.specs.Outcomes.{HasDamage, IsTurn}
 use Rattle.file_jobs.specs.Spaces.{space_of}
 
--- Of the command after the acknowledged ones a front of its log's frame was put; or all of the frame, and a front of its reply.
+-- For the command after the acknowledged ones, a front of its log's frame was put; or all of the frame, and a front of its reply.
 pub record IsCutShort (s : Space) (show : Bool) (held : Held) (more : List Command) (rest log_rest : List ℕ) : Type 0 where
   pub turn : Answered
   pub others : List Command
@@ -33,7 +33,7 @@ pub record IsCutShort (s : Space) (show : Bool) (held : Held) (more : List Comma
   pub next : more ≡ turn.command ∷ others
   pub cut : AreCut (text show turn.reply) (framed (if_any turn.log)) rest log_rest
 
--- A batch of this script on a sound file that holds this.
+-- A batch of a script on a sound file.
 pub record RunsOn (show : Bool) (bytes : List ℕ) (s : Space) (held : Held) (out0 out1 log0 log1 : SinkState) (status : ℕ) : Type 0 where
   pub turns : List Answered
   pub more : List Command
@@ -47,13 +47,13 @@ pub record RunsOn (show : Bool) (bytes : List ℕ) (s : Space) (held : Held) (ou
   pub written : Appends out0.written out1.written (concat (texts_of show turns) ++ rest)
   pub logged : Appends log0.written log1.written (framed (logs_of turns) ++ log_rest)
 
--- what a batch does whose script has these bytes
+-- what a batch does whose script is `bytes`
 abbrev pub RunsScript : Bool → List ℕ → DiskState → SinkState → SinkState → SinkState → SinkState → ℕ → Type 0
 RunsScript show bytes disk0 out0 out1 log0 log1 status =
     IsTrue disk0.tells → (head : Head) (live : Live) → IsSoundFile (space_of head) head live disk0.bytes →
     RunsOn show bytes (space_of head) (held_in head.dim live disk0.bytes) out0 out1 log0 log1 status
 
--- the file opens, and the search of a query comes to this damaged page of it
+-- the file opens, and the search of a query meets the damaged page
 pub record HasDamagedPage (file : List ℕ) (fault : PageFault) : Type 0 where
   pub head : Head
   pub live : Live
@@ -65,17 +65,18 @@ pub record HasDamagedPage (file : List ℕ) (fault : PageFault) : Type 0 where
 abbrev pub TellsDamage : DiskState → SinkState → SinkState → Type 0
 TellsDamage disk0 out0 out1 = (fault : PageFault) × EndsIn out0 out1 (damaged_text fault) × (IsTrue disk0.tells → HasDamagedPage disk0.bytes fault)
 
--- What a batch does with a file and a script: on a sound file this, and on any file its refusals have their causes. Nothing is changed.
+-- What a batch does with a file and a script: on a sound file it runs the script, and on any file its refusals have their causes.
+-- Nothing is changed.
 pub record RunsBatch (show : Bool) (input : Option (List ℕ)) (disk0 disk1 : DiskState) (out0 out1 log0 log1 : SinkState) (status : ℕ) : Type 0 where
   pub runs : IfSome input (λ bytes. RunsScript show bytes disk0 out0 out1 log0 log1 status)
   pub unchanged : IsUnchanged disk0 disk1
   pub disk : status ≡ 5 → Rose disk0.faults disk1.faults
   pub not_index : status ≡ 6 → (name : List ℕ) × Tells out0 out1 (not_index_text name) × (IsTrue disk0.tells → IsNoIndex disk0.bytes name)
   pub damaged : status ≡ 9 → TellsDamage disk0 out0 out1
-  -- whatever the file is: the line of a fault stands there, and only an index is searched
+  -- on any file: where the status is a fault's, its line stands there, and only an index is searched
   pub lines : TellsFault status out0 out1
   pub index : (status ≡ 0) ⊎ (status ≡ 9) → IsTrue disk0.tells → IsIndex disk0.bytes
-  -- a file with too many pages is answered nothing else, but where it isn't read so far
+  -- a file with too many pages never gives status 0, 4 or 9
   pub large : IsTrue disk0.tells → IsLarge disk0.bytes → (status ≡ 0) ⊎ ((status ≡ 4) ⊎ (status ≡ 9)) → ⊥
 
 -- Some input was taken. Where it is more than 2 ^ 26 bytes the status is 7; and 7 comes only there or where the file has too many pages.
@@ -86,13 +87,13 @@ pub record IsTooLong (left0 left1 : Option (List ℕ)) (disk0 : DiskState) (stat
   pub long : 2 ^ 26 < length bytes → status ≡ 7
   pub only : status ≡ 7 → (2 ^ 26 < length bytes) ⊎ (IsTrue disk0.tells → IsLarge disk0.bytes)
 
--- a batch ends so and in no other way
+-- the statuses with which a batch ends
 abbrev pub IsBatchStatus : ℕ → Type 0
 IsBatchStatus n = (n ≡ 0) ⊎ ((n ≡ 3) ⊎ ((n ≡ 4) ⊎ ((n ≡ 5) ⊎ ((n ≡ 6) ⊎ ((n ≡ 7) ⊎ ((n ≡ 8) ⊎ (n ≡ 9)))))))
 
 -- ---- on an opened file
 
--- What ends a batch on an image of a file, on any file: an output failed, a search came to a damaged page, or memory ran out.
+-- What ends a batch on an image of any file: an output failed, a search met a damaged page, or memory ran out.
 pub record HasFinished (s : Space) (live : Live) (image : List ℕ) (out0 out1 log0 log1 : SinkState) (status : ℕ) : Type 0 where
   pub output : status ≡ 4 → Rose out0.faults out1.faults ⊎ Rose log0.faults log1.faults
   pub damaged : status ≡ 9 → (fault : PageFault) × EndsIn out0 out1 (damaged_text fault)

@@ -16,19 +16,19 @@ use Rattle.batch_run.specs.declared.jobs.piles.Prepared.TheVariants as prepared
 use Rattle.batch_run.specs.declared.jobs.piles.Span.{Span}
 use Rattle.batch_run.specs.Dealing.{Rounds, place_of}
 
--- of an answer the text of its reply and the frame of its log are prepared, and of a damaged page nothing but its name
+-- for an answer, the text of its reply and the frame of its log are prepared, and for a damaged page only its name
 abbrev pub IsPrepared : Bool → Outcome → Prepared → Type 0
 IsPrepared show (outcome.Done r log) (prepared.Said reply frame) = (reply.now ≡ text show r) × (frame.now ≡ framed (if_any log))
 IsPrepared show (outcome.Damaged fault) (prepared.Damaged named) = named ≡ fault
 IsPrepared show _ _ = ⊥
 
--- this is prepared for a command: what is prepared of its outcome on an image
+-- what is prepared for a command: that of its outcome on an image
 abbrev pub IsPreparedFor : Space → Live → List ℕ → Bool → Command → Prepared → Type 0
 IsPreparedFor s live image show c p = (o : Outcome) × IsOutcomeOf s live image c o × IsPrepared show o p
 
 -- ---- piles
 
--- the span lies within so many bytes
+-- the span lies within `size` bytes
 abbrev pub IsWithin : ℕ → Span → Type 0
 IsWithin size span = (span.from ≤ span.to) × (span.to ≤ size)
 
@@ -44,7 +44,7 @@ IsMarked show (outcome.Done r log) pile (mark.Said reply frame) =
 IsMarked show (outcome.Damaged fault) pile (mark.Damaged named) = named ≡ fault
 IsMarked show _ pile _ = ⊥
 
--- a mark for this outcome was added to a pile, and nothing that was there was changed
+-- a mark for the outcome was added to a pile, and nothing that was there was changed
 pub record HasMore (show : Bool) (o : Outcome) (pile0 pile1 : Pile) : Type 0 where
   pub mark : Mark
   pub added : pile1.marks.items ≡ pile0.marks.items ++ mark ∷ []
@@ -52,7 +52,7 @@ pub record HasMore (show : Bool) (o : Outcome) (pile0 pile1 : Pile) : Type 0 whe
   pub replies : (more : List ℕ) × (pile1.replies.items ≡ pile0.replies.items ++ more)
   pub frames : (more : List ℕ) × (pile1.frames.items ≡ pile0.frames.items ++ more)
 
--- such a mark for the outcome of this command
+-- a mark for the outcome of the command was added
 abbrev pub HasMoreFor : Space → Live → List ℕ → Bool → Command → Pile → Pile → Type 0
 HasMoreFor s live image show c pile0 pile1 = (o : Outcome) × IsOutcomeOf s live image c o × HasMore show o pile0 pile1
 
@@ -61,7 +61,7 @@ abbrev pub LiesIn : Pile → Mark → Type 0
 LiesIn pile (mark.Said reply frame) = IsWithin (length pile.replies.items) reply × IsWithin (length pile.frames.items) frame
 LiesIn pile (mark.Damaged fault) = Unit {0}
 
--- this is what a pile has where a mark says
+-- what a pile has where a mark says
 abbrev pub IsShown : Pile → Mark → Prepared → Type 0
 IsShown pile (mark.Said reply frame) (prepared.Said text log) = (text.now ≡ spanned pile.replies.items reply) × (log.now ≡ spanned pile.frames.items frame)
 IsShown pile (mark.Damaged fault) (prepared.Damaged named) = named ≡ fault
@@ -69,7 +69,7 @@ IsShown pile _ _ = ⊥
 
 -- ---- the piles of all workers
 
--- A worker's pile after so many rounds: a mark for each command that was dealt to the worker, in the order of the rounds.
+-- A worker's pile after `rounds` rounds: a mark for each command that was dealt to the worker, in the order of the rounds.
 pub record IsPileIn (s : Space) (live : Live) (image : List ℕ) (show : Bool) (commands : List Command) (d : Rounds) (rounds worker : ℕ) (pile : Pile) : Type 0 where
   pub marked : (round : ℕ) (m : Mark) → slice_get pile.marks.items round ≡ Some m → (c : Command) × (slice_get commands (place_of d (worker * d.rounds + round)) ≡ Some c)
       × ((o : Outcome) × IsOutcomeOf s live image c o × IsMarked show o pile m)

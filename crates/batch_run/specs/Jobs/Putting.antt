@@ -11,7 +11,7 @@ use Rattle.batch_run.specs.declared.jobs.piles.Prepared.TheVariants as prepared
 use Rattle.batch_run.specs.declared.jobs.stop.Stop.{Stop}
 use Rattle.batch_run.specs.declared.jobs.stop.Stop.TheVariants as stop
 
--- it is an answer
+-- what was prepared is an answer
 abbrev pub IsDone : Prepared → Type 0
 IsDone (prepared.Said reply frame) = Unit {0}
 IsDone (prepared.Damaged fault) = ⊥
@@ -25,7 +25,7 @@ abbrev pub logged : Prepared → List ℕ
 logged (prepared.Said reply frame) = frame.now
 logged (prepared.Damaged fault) = []
 
--- those of several, one after another
+-- the texts and frames of several, one after another
 abbrev pub all_said : List Prepared → List ℕ
 all_said [] = []
 all_said (p ∷ ps) = said p ++ all_said ps
@@ -34,20 +34,20 @@ abbrev pub all_logged : List Prepared → List ℕ
 all_logged [] = []
 all_logged (p ∷ ps) = logged p ++ all_logged ps
 
--- what was put of one
+-- what was put for one command
 abbrev pub IsPut : Prepared → SinkState → SinkState → SinkState → SinkState → Result (Unit {0}) Stop → Type 0
 IsPut p out0 out1 log0 log1 (Ok done) = IsDone p × Appends out0.written out1.written (said p) × Appends log0.written log1.written (logged p)
 IsPut p out0 out1 log0 log1 (Err stop.Sink) = IsDone p × IsCut out0 out1 log0 log1 (said p) (logged p)
 IsPut p out0 out1 log0 log1 (Err (stop.Damaged fault)) = (p ≡ prepared.Damaged fault) × (out1 ≡ out0) × (log1 ≡ log0)
 
--- what stands behind those that were put, where these are left
+-- what was put after those that were put whole, where the others are left
 abbrev pub Follows : List Prepared → List ℕ → List ℕ → Result (Unit {0}) Stop → Type 0
 Follows left rest log_rest (Ok done) = (left ≡ []) × (rest ≡ []) × (log_rest ≡ [])
 Follows left rest log_rest (Err (stop.Damaged fault)) = ((others : List Prepared) × (left ≡ prepared.Damaged fault ∷ others)) × (rest ≡ []) × (log_rest ≡ [])
 Follows left rest log_rest (Err stop.Sink) =
     (p : Prepared) × (others : List Prepared) × (left ≡ p ∷ others) × IsDone p × AreCut (said p) (logged p) rest log_rest
 
--- the first of these were put whole, and then what follows them
+-- the first of `all` were put whole, and then what follows them
 pub record ArePut (all : List Prepared) (out0 out1 log0 log1 : SinkState) (result : Result (Unit {0}) Stop) : Type 0 where
   pub put : List Prepared
   pub left : List Prepared
@@ -59,7 +59,7 @@ pub record ArePut (all : List Prepared) (out0 out1 log0 log1 : SinkState) (resul
   pub written : Appends out0.written out1.written (all_said put ++ rest)
   pub framed : Appends log0.written log1.written (all_logged put ++ log_rest)
 
--- how a batch ends that stopped for this reason
+-- how a batch ends that stopped for a reason
 abbrev pub HasEnded : Stop → SinkState → SinkState → ℕ → Type 0
 HasEnded stop.Sink out0 out1 status = (status ≡ 4) × (out1 ≡ out0)
 HasEnded (stop.Damaged fault) out0 out1 status = IsDamage fault → ((status ≡ 9) × Tells out0 out1 (damaged_text fault))

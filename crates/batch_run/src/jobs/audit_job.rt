@@ -19,7 +19,7 @@ use std::thread::Threads;
 use tree_audit::{AuditFault, Audited};
 use tree_shape::Live;
 
-// The audit of an opened file of version 2: by several threads, where they find no fault.
+// Audits an opened file of version 2: by several threads, where they find no fault.
 fn audit_by<R: Threads + Sync, D: SharedDisk>(
     rt: &R,
     alloc: Global,
@@ -52,9 +52,9 @@ fn audit_by<R: Threads + Sync, D: SharedDisk>(
     audit_opened(alloc, disk, head, live)
 }
 
-/// Audits an index as `audit_index` does, with the same lines and statuses, by so many threads, 1 to 64. Where there are
-/// several, each reads its part of the file by itself, unless it has more than 262144 pages; then one thread does the work. One
-/// thread does it too where the parts show a fault, and names the first.
+/// Audits an index as `audit_index` does, with the same lines and statuses, by `workers` threads, 1 to 64. Where there are
+/// several, each reads its part of the file by itself. One thread does the work where the file has more than 262144 pages, and
+/// where the parts show a fault; then it names the first fault.
 pub fn audit_index_by<R: Threads + Sync, D: SharedDisk, K: Sink>(
     rt: &R,
     alloc: Global,

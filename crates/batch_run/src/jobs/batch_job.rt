@@ -33,7 +33,7 @@ use std::alloc::Global;
 use std::thread::Threads;
 use tree_shape::Live;
 
-// Ends a batch that stopped for this reason.
+// Ends a batch that stopped for the reason `why`.
 fn end_stopped<K: Sink>(alloc: Global, why: Stop, out: &mut K) -> Status
     ensures ended { HasEnded why (K.state out.old) (K.state out.new) result.0 }
     ensures later { (K.state out.old).faults ≤ (K.state out.new).faults }
@@ -44,18 +44,18 @@ fn end_stopped<K: Sink>(alloc: Global, why: Stop, out: &mut K) -> Status
     }
 }
 
-// What is to be done with an index.
+// The task of a batch on an index.
 #[derive(Clone, Copy)]
 struct Task<'a> {
     // The bytes of the script.
     bytes: &'a [u8],
     // Whether a hit is written with its tag.
     show_tags: bool,
-    // How many threads there may be.
+    // The most threads.
     workers: usize,
 }
 
-// Does a task on an image of the index.
+// Runs a task on an image of the index.
 fn run_on_image<R: Threads + Sync, K: Sink, T: Sink>(
     rt: &R,
     alloc: Global,
@@ -120,7 +120,7 @@ fn end_unread<K: Sink>(fault: ImageFault, out: &mut K) -> Status
     }
 }
 
-// Opens the index, reads it into memory, and does a task on it.
+// Opens the index, reads it into memory, and runs a task on it.
 fn run_on_index<R: Threads + Sync, D: SharedDisk, K: Sink, T: Sink>(
     rt: &R,
     alloc: Global,
@@ -152,13 +152,13 @@ fn run_on_index<R: Threads + Sync, D: SharedDisk, K: Sink, T: Sink>(
     run_on_image(rt, alloc, image, &head, &live, task, out, log_out)
 }
 
-/// Runs the script of `input` on the index, which is read into memory and not changed, by so many threads, 1 to 64. Each reply
+/// Runs the script of `input` on the index, which is read into memory and not changed, by `workers` threads, 1 to 64. Each reply
 /// is written to `out`, and before it the log of a query to `log_out`, all in the order of the commands. A command that would
 /// change something, or use a cursor, is refused as read-only.
 ///
 /// Status 3: the input could not be read; 4: a reply or a log could not be written; 5: the disk failed; 6: the file is no index
-/// of version 2; 7: the input is longer than 2 ^ 26 bytes, or the index has more than 262144 pages; 8: want of memory; 9: a
-/// search came to a damaged page of a file that is not sound.
+/// of version 2; 7: the input is longer than 2 ^ 26 bytes, or the index has more than 262144 pages; 8: out of memory; 9: a
+/// search met a damaged page of a file that is not sound.
 pub fn run_batch<R: Threads + Sync, D: SharedDisk, S: Source, K: Sink, T: Sink>(
     rt: &R,
     alloc: Global,

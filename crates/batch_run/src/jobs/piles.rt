@@ -16,7 +16,7 @@ pub enum Prepared<'a> {
     /// The text of its reply, and the frame of its log, which is empty where there is none.
     Said { reply: &'a [u8], frame: &'a [u8] },
 
-    /// Nothing: the search of its query came to this damaged page.
+    /// Nothing: the search of its query met the damaged page.
     Damaged(PageFault),
 }
 
@@ -33,26 +33,26 @@ pub enum Mark {
     /// Where the text of its reply stands, and where the frame of its log does.
     Said { reply: Span, frame: Span },
 
-    /// Nowhere: the search of its query came to this damaged page.
+    /// Nowhere: the search of its query met the damaged page.
     Damaged(PageFault),
 }
 
-// The bytes of replies, and of frames, for which a pile has room from the start. The system gives memory where it is filled, so
-// room that stays empty costs none; but a list of this size that grows is moved, and no other thread gets memory meanwhile.
+// The bytes of replies, and of frames, that a pile has room for from the start. The system gives memory where it is filled, so
+// room that stays empty costs none. But a list of this size that grows is moved, and no other thread gets memory meanwhile.
 const ROOM: usize = 1 << 22;
 
 /// What is to be put for several commands: the texts of all their replies in one list, and the frames of all their logs in
-/// another. So memory is asked for seldom, however many commands there are.
+/// another. So memory is asked for seldom, whatever the number of commands.
 #[derive(Drop)]
 pub struct Pile {
     replies: Vec<u8>,
     frames: Vec<u8>,
-    /// One for each command, in their order.
+    /// One mark for each command, in their order.
     pub marks: Vec<Mark>,
 }
 
 impl Pile {
-    /// For no commands.
+    /// Makes a pile for no commands.
     pub fn new(alloc: Global) -> Result<Self, Memory>
         ensures { IfOk result (λ pile. pile.marks.items ≡ []) }
     {
@@ -63,7 +63,7 @@ impl Pile {
         })
     }
 
-    /// Adds what is to be put for one more command, whose outcome this is. A hit is written with its tag where tags are shown.
+    /// Adds what is to be put for one more command, with the outcome `outcome`. A hit is written with its tag where `show` is set.
     pub fn add(&mut self, alloc: Global, outcome: &Outcome, show: bool) -> Result<(), Memory>
         requires { CanBeShown show outcome.now }
         ensures { OnOk result (HasMore show outcome.now self.old self.new) }
@@ -90,7 +90,7 @@ impl Pile {
         Ok(())
     }
 
-    /// What is to be put for the command with this mark.
+    /// Returns what is to be put for the command with the mark `mark`.
     pub fn at(&self, mark: Mark) -> Prepared<'_>
         requires { LiesIn self.now mark }
         ensures { IsShown self.now mark result }

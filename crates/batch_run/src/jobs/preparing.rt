@@ -1,4 +1,4 @@
-//! What is to be put for the commands of a batch, which its workers prepare.
+//! What is to be put for the commands of a batch, prepared by its workers.
 
 ghost use Rattle.std.specs.Prelude.{◌≡◌, ◌≤◌, ◌<◌, ◌*◌, ◌^◌, All, length, IfOk, OnOk};
 ghost use Rattle.rows_text.specs.Readable.{IsReadable};
@@ -42,7 +42,7 @@ fn add_for<M: Metric>(
     pile.add(alloc, &outcome, show)
 }
 
-// What is to be put for the commands that are dealt to a worker, round by round.
+// Prepares what is to be put for the commands that are dealt to `worker`, round by round.
 fn pile_of<M: Metric>(
     alloc: Global,
     image: Image<'_>,
@@ -79,9 +79,9 @@ fn pile_of<M: Metric>(
     Ok(pile)
 }
 
-/// What is to be put for each command of a script on the file with these bytes: the piles of the workers to whom the commands
-/// are dealt. Each worker writes what its own come to, so that no log is held but as its bytes. A hit is written with its tag
-/// where tags are shown.
+/// Prepares what is to be put for each of `commands` on the file with the bytes of `image`: a pile for each worker, for the
+/// commands dealt to it. A worker writes its logs as bytes at once, so that no log is held in another form. A hit is written with
+/// its tag where `show` is set.
 pub fn prepare_all<R: Threads + Sync, M: Metric>(
     rt: &R,
     alloc: Global,
@@ -111,7 +111,7 @@ pub fn prepare_all<R: Threads + Sync, M: Metric>(
     }
 }
 
-/// What the piles have, in the order of the commands, of which there are `count`.
+/// Returns what the piles have, in the order of the `count` commands.
 pub fn in_turn<'a>(
     alloc: Global,
     deal: &Deal,

@@ -31,7 +31,7 @@ fn put_one<K: Sink, T: Sink>(
 }
 
 /// Puts what was prepared for the commands, in their order, and each in one put: first the frame of a query's log to `log_out`,
-/// then the reply to `out`. It stops at the first one that is no answer.
+/// then the reply to `out`. Stops at the first one that is no answer.
 pub fn put_all<K: Sink, T: Sink>(
     prepared: &[Prepared<'_>],
     out: &mut K,

@@ -6,6 +6,6 @@ pub enum Stop {
     /// A reply or a log could not be written.
     Sink,
 
-    /// The search of a query came to a damaged page. It never does on a sound index.
+    /// The search of a query met a damaged page. That never happens on a sound index.
     Damaged(PageFault),
 }

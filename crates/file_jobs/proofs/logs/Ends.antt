@@ -145,7 +145,7 @@ module _ (Unchanged Says Failed : Type 0) (IsNoIndex : List ℕ → Type 0) (unc
     memory = λ other. of_two status 5 6 8 either other (omega arith) (omega arith);
   }
 
-  -- there was no memory for the logs
+  -- memory ran out for the logs
   pub judged_late : (w0 w1 : SinkState) (status : ℕ) → status ≡ 8 → Tells w0 w1 (codes "fault memory\n") → JudgesBytes Unchanged Says Failed IsNoIndex w0 w1 status
   judged_late w0 w1 status is line = record {
     unchanged = unchanged;

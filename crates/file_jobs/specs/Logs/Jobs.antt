@@ -16,18 +16,18 @@ abbrev pub stop_of : {A : Type 0} → Result A Stop → Option Stop
 stop_of (Ok done) = None
 stop_of (Err why) = Some why
 
--- a front of the first of these texts was put
+-- a front of the first text was put
 abbrev pub IsCut : List (List ℕ) → Option (List ℕ) → Option (List ℕ) → Type 0
 IsCut more middle new = (text : List ℕ) × (others : List (List ℕ)) × (more ≡ text ∷ others) × AppendsPrefix middle new text
 
--- what was put behind whole texts, where `more` are the others: nothing, or a front of the next one where out failed
+-- what was put after whole texts, where `more` are the others: nothing, or a front of the next text where out failed
 abbrev pub Follows : Option Stop → List (List ℕ) → Option (List ℕ) → Option (List ℕ) → Type 0
 Follows None more middle new = (more ≡ []) × (new ≡ middle)
 Follows (Some stop.Sink) more middle new = IsCut more middle new
 Follows (Some stop.Disk) more middle new = new ≡ middle
 Follows (Some stop.Memory) more middle new = new ≡ middle
 
--- some of these texts were put, each whole, and then what follows them
+-- some of `texts` were put, each whole, and then what follows them
 pub record Puts (texts : List (List ℕ)) (old new : Option (List ℕ)) (why : Option Stop) : Type 0 where
   pub put : List (List ℕ)
   pub more : List (List ℕ)
@@ -44,7 +44,7 @@ Stops stop.Sink old new status = (status ≡ 4) × (new ≡ old)
 Stops stop.Disk old new status = (status ≡ 5) × Tells old new (codes "fault disk\n")
 Stops stop.Memory old new status = (status ≡ 8) × Tells old new (codes "fault memory\n")
 
--- what was put behind whole texts, where `more` are the others, when a job ends with a status
+-- what was put after whole texts, where `more` are the others, when a job ends with a status
 pub record Ends (status : ℕ) (said : Saying) (more : List (List ℕ)) (middle new : SinkState) : Type 0 where
   pub done : (status ≡ 0) ⊎ (status ≡ 1) → (status ≡ said.status) × (more ≡ []) × (new.written ≡ middle.written)
   pub output : status ≡ 4 → IsCut more middle.written new.written
@@ -60,8 +60,8 @@ pub record Writes (status : ℕ) (said : Saying) (old new : SinkState) : Type 0 
   pub written : Appends old.written middle (concat put)
   pub ends : Ends status said more (record old { written = middle }) new
 
--- What a job does with files and bytes of logs. `Says` is that it wrote what there is to say of them, up to what the status tells;
--- `Failed` is that a disk failed, and `IsNoIndex` that a file is no index, as a word says.
+-- What a job does with files and bytes of logs. `Says`: it wrote what there is to say of them, up to what the status tells. `Failed`:
+-- a disk failed. `IsNoIndex`: a file is no index, as a word says.
 pub record JudgesBytes (Unchanged Says Failed : Type 0) (IsNoIndex : List ℕ → Type 0) (out0 out1 : SinkState) (status : ℕ) : Type 0 where
   pub unchanged : Unchanged
   pub done : (status ≡ 0) ⊎ (status ≡ 1) → Says
@@ -71,7 +71,7 @@ pub record JudgesBytes (Unchanged Says Failed : Type 0) (IsNoIndex : List ℕ �
   pub not_index : status ≡ 6 → (name : List ℕ) × Tells out0 out1 (not_index_text name) × IsNoIndex name
   pub memory : status ≡ 8 → Tells out0 out1 (codes "fault memory\n") ⊎ Says
 
--- a job ends so and in no other way once it has read its logs
+-- the statuses of a job that has read its logs
 abbrev pub IsJudgeStatus : ℕ → Type 0
 IsJudgeStatus n = (n ≡ 0) ⊎ ((n ≡ 1) ⊎ ((n ≡ 4) ⊎ ((n ≡ 5) ⊎ ((n ≡ 6) ⊎ (n ≡ 8)))))
 
@@ -83,7 +83,7 @@ pub record TakesLogs (left0 left1 : Option (List ℕ)) (bytes : List ℕ) : Type
   pub few : length bytes ≤ 2 ^ 30
   pub all : IsAtEnd left1
 
--- the logs could not be read, are too many, or there is no memory for them
+-- the logs could not be read, are too many, or memory ran out for them
 pub record EndsUnread (left0 left1 : Option (List ℕ)) (out0 out1 : SinkState) (status : ℕ) : Type 0 where
   pub bytes : List ℕ
   pub taken : Consumes left0 left1 bytes
@@ -94,7 +94,7 @@ pub record EndsUnread (left0 left1 : Option (List ℕ)) (out0 out1 : SinkState) 
   pub memory_line : status ≡ 8 → Tells out0 out1 (codes "fault memory\n")
   pub statuses : (status ≡ 3) ⊎ ((status ≡ 7) ⊎ (status ≡ 8))
 
--- what a job does that takes bytes of logs from `left0`, and does this with files and the bytes
+-- what a job does that takes bytes of logs from `left0`; `Judges` is what it does with files and the bytes
 pub record ReadsLogs (Unchanged : Type 0) (Judges : List ℕ → Type 0) (left0 left1 : Option (List ℕ)) (out0 out1 : SinkState) (status : ℕ) : Type 0 where
   pub bytes : List ℕ
   pub taken : Consumes left0 left1 bytes

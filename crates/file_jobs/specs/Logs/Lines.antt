@@ -29,7 +29,7 @@ verdict_text verdict.Memory = codes "memory"
 abbrev pub frame : ℕ → List ℕ
 frame i = numbered (codes "frame ") i
 
--- the line of a log that is rejected for this reason
+-- the line of a log that is rejected, with the reason
 abbrev pub rejected_line : ℕ → List ℕ → List ℕ
 rejected_line i why = frame i ++ codes " rejected " ++ why ++ line_end
 

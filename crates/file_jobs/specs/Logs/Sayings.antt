@@ -12,7 +12,7 @@ use Rattle.file_jobs.specs.declared.logs.report.Report.TheVariants as report
 
 -- ---- a log
 
--- what is written of logs of one kind: the words of a verdict, and what was asked with its answers
+-- what is written of logs of one kind: the words of a verdict, and the query with its answers
 pub record Words (L V : Type 0) : Type 0 where
   pub verdict : V → List ℕ
   pub answers : L → List ℕ
@@ -30,12 +30,12 @@ abbrev pub sound_frame : {L V : Type 0} → Words L V → Report → ℕ → L �
 sound_frame words report.Verdicts i log = accepted_frame i
 sound_frame words report.Answers i log = complete_frame words i log
 
--- the text on the log of frame i with this first fault
+-- the text on the log of frame i with its first fault
 abbrev pub frame_text : {L V : Type 0} → Words L V → Report → ℕ → L → Option V → List ℕ
 frame_text words what i log None = sound_frame words what i log
 frame_text words what i log (Some why) = rejected_frame words i why
 
--- the texts on logs that are judged so, of which the first stands in frame i
+-- the texts on logs, where the first stands in frame i
 abbrev pub frame_texts : {L V : Type 0} → Words L V → Report → (L → Option V) → ℕ → List L → List (List ℕ)
 frame_texts words what judge i [] = []
 frame_texts words what judge i (log ∷ logs) = frame_text words what i log (judge log) ∷ frame_texts words what judge (i + 1) logs
@@ -58,7 +58,7 @@ pub record Saying : Type 0 where
   pub texts : List (List ℕ)
   pub status : ℕ
 
--- of bytes that were read as logs, or that have this fault
+-- what is said of bytes that were read as logs, or that have a fault
 abbrev pub on_logs : {L V : Type 0} → Words L V → Report → (L → Option V) → Result (List L) LogFault → Saying
 on_logs words what judge (Err why) = record { texts = undecoded_text why ∷ []; status = 1 }
 on_logs words what judge (Ok logs) = record {
@@ -66,12 +66,12 @@ on_logs words what judge (Ok logs) = record {
   status = if are_sound judge logs then 0 else 1;
 }
 
--- the line on an audited file of this name
+-- the line on an audited file, with its name
 abbrev pub file_text : List ℕ → Option AuditFault → List ℕ
 file_text name None = name ++ codes " sound\n"
 file_text name (Some why) = name ++ space ++ rejected_text why
 
--- of a file with this first fault, and where it has none, what else there is to say
+-- what is said of a file with its first fault, and where it has none, what else there is to say
 abbrev pub on_file : List ℕ → Option AuditFault → Saying → Saying
 on_file name (Some why) rest = record { texts = file_text name (Some why) ∷ []; status = 1 }
 on_file name None rest = record { texts = file_text name None ∷ rest.texts; status = rest.status }

@@ -19,7 +19,7 @@ use std::alloc::Global;
 use tree_audit::AuditFault;
 use tree_shape::Live;
 
-// The first fault of an opened file, where it has one.
+// Returns the first fault of an opened file, if it has one.
 fn audit_file<D: Disk>(
     alloc: Global,
     disk: &mut D,
@@ -42,7 +42,7 @@ fn audit_file<D: Disk>(
     }
 }
 
-/// Audits an opened file and puts the line on it, by this name. The answer is whether it has no fault.
+/// Audits an opened file and puts the line on it under `name`. Returns whether it has no fault.
 pub fn put_audit<D: Disk, K: Sink>(
     alloc: Global,
     name: &[u8],

@@ -8,14 +8,14 @@ use outside_io::Memory;
 use prune_log::LogFault;
 use std::alloc::Global;
 
-/// What judges logs of one kind by the pages of files.
+/// A judge of logs of one kind, by the pages of files.
 pub trait Court {
     /// A log.
     type Log: Drop;
     /// The first fault of a log.
     type Verdict: Copy;
 
-    /// What is written of its logs.
+    /// What is written of the logs.
     ghost words: { Words Self.Log Self.Verdict };
 
     /// Which logs can be judged.
@@ -27,35 +27,35 @@ pub trait Court {
     /// The pages tell what they hold.
     ghost tells: { Self → Type 0 };
 
-    /// The first fault of each log, where it has one.
+    /// The first fault of each log, if it has one.
     ghost judges: { Self → Self.Log → Option Self.Verdict };
 
     /// How often the disks of the pages were read.
     ghost read_count: { Self → ℕ };
 
-    /// How often the judging of a log reads them at the most.
+    /// The most reads of those disks that judging a log takes.
     ghost most_reads: { Self.Log → ℕ };
 
-    /// What every call keeps: whoever lends pages to a court learns by it what happened to them.
+    /// What every call keeps. It tells the lender of the pages what happened to them.
     ghost keeps: { Self → Self → Type 0 };
 
     /// A disk failed between one state and a later one.
     ghost failed: { Self → Self → Type 0 };
 
-    /// Reads the logs of frames.
+    /// Reads the logs of the frames in `bytes`.
     fn read_frames(alloc: Global, bytes: &[u8]) -> Result<Vec<Self::Log>, LogFault>
         ensures gives { Gives (λ logs. logs.items) result (reads bytes.now) }
         ensures lawful { IfOk result (λ logs. All is_lawful logs.items) };
 
-    /// Appends a verdict.
+    /// Appends the verdict `why`.
     fn push_verdict(why: Self::Verdict, out: &mut Vec<u8>) -> Result<(), Memory>
         ensures { OnOk result (out.new.items ≡ out.old.items ++ words.verdict why) };
 
-    /// Appends what was asked and what was answered.
+    /// Appends the query and the answers of `log`.
     fn push_answers(alloc: Global, log: Self::Log, out: &mut Vec<u8>) -> Result<(), Memory>
         ensures { OnOk result (out.new.items ≡ out.old.items ++ words.answers log) };
 
-    /// The first fault of a log, where it has one.
+    /// Returns the first fault of `log`, if it has one.
     fn judge(&mut self, alloc: Global, log: &Self::Log) -> Result<Option<Self::Verdict>, Stop>
         requires { is_lawful log.now }
         ensures told { IfOk result (λ found. tells self.old → judges self.old log.now ≡ found) }
@@ -66,12 +66,12 @@ pub trait Court {
         ensures disk { IsErrOf result Stop.Disk → failed self.old self.new }
         ensures not_sink { IsErrOf result Stop.Sink → ⊥ };
 
-    /// What is kept by no call is kept.
+    /// Shows that no call keeps everything.
     ghost keeps_none: { (c : Self) → keeps c c };
 
-    /// What is kept by one call and by the next is kept by both.
+    /// Shows that what two calls in a row keep is kept by both.
     ghost keeps_both: { (c d e : Self) → keeps c d → keeps d e → keeps c e };
 
-    /// A disk that failed late failed since the start.
+    /// Shows that a disk that failed late failed since the start.
     ghost failed_since: { (c d e : Self) → keeps c d → failed d e → failed c e };
 }

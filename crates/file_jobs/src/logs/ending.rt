@@ -8,8 +8,8 @@ use crate::{FAULT_DISK, FAULT_INPUT, FAULT_LONG, FAULT_MEMORY, MOST_LOGS, end_wi
 use outside_io::{ReadAll, Sink, Source, Status, read_all};
 use std::alloc::Global;
 
-/// Reads the bytes of logs. Else it writes why there are none, and answers the status: 3 where they could not be read, 7 where
-/// there are more than 2^30, and 8 for want of memory.
+/// Reads the bytes of logs. Otherwise writes why there are none, and returns the status: 3 where they could not be read, 7 where
+/// there are more than 2^30, and 8 when memory runs out.
 pub fn read_logs<S: Source, K: Sink>(
     alloc: Global,
     log_in: &mut S,
@@ -31,7 +31,7 @@ pub fn read_logs<S: Source, K: Sink>(
     }
 }
 
-/// Ends a job that stopped.
+/// Ends a job that stopped for the reason `why`.
 pub fn end_stopped<K: Sink>(why: Stop, out: &mut K) -> Status
     ensures ends { Stops why (K.state out.old) (K.state out.new) result.0 }
     ensures later { (K.state out.old).faults ≤ (K.state out.new).faults }

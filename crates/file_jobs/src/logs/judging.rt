@@ -14,7 +14,7 @@ use outside_io::{Memory, Sink, Status};
 use prune_log::LogFault;
 use std::alloc::Global;
 
-// The text on the log of a frame with this first fault, or with none.
+// Makes the text on the log of frame `frame` with its first fault, or with none.
 fn frame_text<C: Court>(
     alloc: Global,
     report: Report,
@@ -41,7 +41,7 @@ fn frame_text<C: Court>(
     Ok(text)
 }
 
-// Judges the log of a frame and puts its text. The answer is whether it has no fault.
+// Judges the log of frame `frame` and puts its text. Returns whether it has no fault.
 fn judge_frame<C: Court, K: Sink>(
     alloc: Global,
     report: Report,
@@ -68,7 +68,7 @@ fn judge_frame<C: Court, K: Sink>(
     Ok(fault.is_none())
 }
 
-// Judges the logs of all frames and puts their texts. The answer is whether none has a fault.
+// Judges the logs of all frames and puts their texts. Returns whether none has a fault.
 fn judge_frames<C: Court, K: Sink>(
     alloc: Global,
     report: Report,
@@ -96,7 +96,7 @@ fn judge_frames<C: Court, K: Sink>(
     Ok(sound)
 }
 
-/// Judges the logs that bytes spell, puts the text on each as soon as it is judged, and answers the status.
+/// Judges the logs that `bytes` spell, puts the text on each as soon as it is judged, and returns the status.
 pub fn judge_bytes<C: Court, K: Sink>(
     alloc: Global,
     report: Report,

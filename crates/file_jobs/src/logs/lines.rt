@@ -69,7 +69,7 @@ pub fn push_answers(
     reply_text(&reply, false, out)
 }
 
-/// Why bytes are no log, in a word.
+/// Returns the word for why bytes are no log.
 pub fn log_fault_name(fault: LogFault) -> &'static [u8]
     ensures { result.now ≡ log_fault_name fault }
 {
@@ -85,7 +85,7 @@ pub fn log_fault_name(fault: LogFault) -> &'static [u8]
     }
 }
 
-/// The line of bytes that are no logs.
+/// Returns the line of bytes that are no logs.
 pub fn undecoded_text(fault: LogFault) -> &'static [u8]
     ensures { result.now ≡ undecoded_text fault }
 {

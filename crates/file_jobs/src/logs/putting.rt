@@ -28,7 +28,7 @@ pub fn put<K: Sink>(out: &mut K, text: &[u8]) -> Result<(), Stop>
     }
 }
 
-/// The line behind all frames.
+/// Returns the line after all frames.
 pub fn end_text(report: Report, sound: bool) -> &'static [u8]
     ensures { result.now ≡ end_text report sound }
 {
@@ -39,7 +39,7 @@ pub fn end_text(report: Report, sound: bool) -> &'static [u8]
     }
 }
 
-/// The line on a file of this name with this first fault, or with none.
+/// Returns the line on the file `name` with its first fault, or with none.
 pub fn file_text(alloc: Global, name: &[u8], fault: Option<AuditFault>) -> Result<Vec<u8>, Memory>
     ensures { IfOk result (λ text. text.items ≡ file_text name.now fault) }
 {

@@ -1,8 +1,8 @@
-/// What is said of a log that is accepted.
+/// What is said of an accepted log.
 #[derive(Clone, Copy, PartialEq, Eq)]
 pub enum Report {
-    /// That it is accepted. No file is audited.
+    /// The log is accepted. No file is audited.
     Verdicts,
-    /// That it is complete, with what was asked and its answers. Each file is audited before.
+    /// The log is complete, with the query and its answers. Each file is audited before.
     Answers,
 }

@@ -14,7 +14,7 @@ pub enum Stop {
     /// A page could not be read.
     #[error("the disk failed")]
     Disk,
-    /// There was no memory.
+    /// Memory ran out.
     #[error("out of memory")]
     Memory,
 }
