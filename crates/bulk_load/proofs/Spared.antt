@@ -29,40 +29,40 @@ module _ (f : List ℕ → List ℕ) (k : ℕ) (long : (c : List ℕ) → length
 pub row_more : (f : List ℕ → List ℕ) (cs : List (List ℕ)) (k : ℕ) → k < length cs → flat_map f (drop k cs) ≡ f (get_or cs k []) ++ flat_map f (drop (k + 1) cs)
 row_more f cs k low = ap (flat_map f) (drop_more cs k [] low)
 
-module _ (s : Space) (centers : List (List ℕ)) where
-  pub apart_long : length (all_apart s centers) ≡ length centers * length centers
-  apart_long = rows_long (λ c. map (s.dist c) centers) (length centers) (λ c. length_map (s.dist c) centers) centers
+module _ (s : Space) (centres : List (List ℕ)) where
+  pub apart_long : length (all_apart s centres) ≡ length centres * length centres
+  apart_long = rows_long (λ c. map (s.dist c) centres) (length centres) (λ c. length_map (s.dist c) centres) centres
 
-  pub apart_at : (i j : ℕ) → i < length centers → j < length centers →
-      get_or (all_apart s centers) (i * length centers + j) 0 ≡ s.dist (get_or centers i []) (get_or centers j [])
+  pub apart_at : (i j : ℕ) → i < length centres → j < length centres →
+      get_or (all_apart s centres) (i * length centres + j) 0 ≡ s.dist (get_or centres i []) (get_or centres j [])
   apart_at i j first second =
-      row_at (λ c. map (s.dist c) centers) (length centers) (λ c. length_map (s.dist c) centers) centers i j first second
-      ∙ get_or-map (s.dist (get_or centers i [])) centers j [] 0 second
+      row_at (λ c. map (s.dist c) centres) (length centres) (λ c. length_map (s.dist c) centres) centres i j first second
+      ∙ get_or-map (s.dist (get_or centres i [])) centres j [] 0 second
 
 -- the distances of one object to centres, with `apart` as the distances between the centres
-module _ (s : Space) (object : List ℕ) (centers : List (List ℕ)) (apart row : List ℕ) (are : AreMeasurable s (object ∷ []) centers apart) (is : map (s.dist object) centers ≡ row)
+module _ (s : Space) (object : List ℕ) (centres : List (List ℕ)) (apart row : List ℕ) (are : AreMeasurable s (object ∷ []) centres apart) (is : map (s.dist object) centres ≡ row)
     (i j : ℕ) (first : i < length row) (second : j < length row) where
-  long : length row ≡ length centers
-  long = sym (ap length is) ∙ length_map (s.dist object) centers
+  long : length row ≡ length centres
+  long = sym (ap length is) ∙ length_map (s.dist object) centres
 
   -- where the distance of two centres stands
-  pub stands_inside : i * length centers + j < length apart
+  pub stands_inside : i * length centres + j < length apart
   stands_inside =
-      subst (λ (n : ℕ). i * length centers + j < n) (sym (ap length are.apart_is ∙ apart_long s centers))
-      (mul-add-lt i (length centers) j (length centers) (subst (λ (n : ℕ). i < n) long first) (subst (λ (n : ℕ). j < n) long second))
+      subst (λ (n : ℕ). i * length centres + j < n) (sym (ap length are.apart_is ∙ apart_long s centres))
+      (mul-add-lt i (length centres) j (length centres) (subst (λ (n : ℕ). i < n) long first) (subst (λ (n : ℕ). j < n) long second))
 
   -- two centres are no farther apart than by way of the object
-  pub by_way_of : IsSpace s → get_or apart (i * length centers + j) 0 ≤ get_or row i 0 + get_or row j 0
+  pub by_way_of : IsSpace s → get_or apart (i * length centres + j) 0 ≤ get_or row i 0 + get_or row j 0
   by_way_of axioms =
-      let low : i < length centers = subst (λ (n : ℕ). i < n) long first in
-      let low2 : j < length centers = subst (λ (n : ℕ). j < n) long second in
-      let gap : get_or apart (i * length centers + j) 0 ≡ s.dist (get_or centers i []) (get_or centers j []) =
-      ap (λ (l : List ℕ). get_or l (i * length centers + j) 0) are.apart_is ∙ apart_at s centers i j low low2 in
-      let here : get_or row i 0 ≡ s.dist object (get_or centers i []) = ap (λ (l : List ℕ). get_or l i 0) (sym is) ∙ get_or-map (s.dist object) centers i [] 0 low in
-      let there : get_or row j 0 ≡ s.dist object (get_or centers j []) = ap (λ (l : List ℕ). get_or l j 0) (sym is) ∙ get_or-map (s.dist object) centers j [] 0 low2 in
+      let low : i < length centres = subst (λ (n : ℕ). i < n) long first in
+      let low2 : j < length centres = subst (λ (n : ℕ). j < n) long second in
+      let gap : get_or apart (i * length centres + j) 0 ≡ s.dist (get_or centres i []) (get_or centres j []) =
+      ap (λ (l : List ℕ). get_or l (i * length centres + j) 0) are.apart_is ∙ apart_at s centres i j low low2 in
+      let here : get_or row i 0 ≡ s.dist object (get_or centres i []) = ap (λ (l : List ℕ). get_or l i 0) (sym is) ∙ get_or-map (s.dist object) centres i [] 0 low in
+      let there : get_or row j 0 ≡ s.dist object (get_or centres j []) = ap (λ (l : List ℕ). get_or l j 0) (sym is) ∙ get_or-map (s.dist object) centres j [] 0 low2 in
       let fits = are.objects_fit 0 [] (omega arith) in
-      let turned = axioms.symmetric (get_or centers i []) object (are.centers_fit i [] low) fits in
-      let triangle = axioms.triangle (get_or centers i []) object (get_or centers j []) (are.centers_fit i [] low) fits (are.centers_fit j [] low2) in
+      let turned = axioms.symmetric (get_or centres i []) object (are.centres_fit i [] low) fits in
+      let triangle = axioms.triangle (get_or centres i []) object (get_or centres j []) (are.centres_fit i [] low) fits (are.centres_fit j [] low2) in
       omega (arith, gap, here, there, turned, triangle)
 
 -- the points of places fit where all do
@@ -72,8 +72,8 @@ points_fit s rows set fit places i d low =
     subst (λ (p : List ℕ). IsTrue (s.fits p)) (sym (get_or-map (λ k. get_or rows k []) set i 0 d inside)) (fit (get_or set i 0) [] (places i 0 inside))
 
 -- the points of seeds fit, which are places of a set
-pub centers_fit : (s : Space) (rows : List (List ℕ)) (set seeds : List ℕ) → All (λ p. IsTrue (s.fits p)) rows → All (λ k. k < length rows) set → All (λ k. k < length set) seeds →
+pub centres_fit : (s : Space) (rows : List (List ℕ)) (set seeds : List ℕ) → All (λ p. IsTrue (s.fits p)) rows → All (λ k. k < length rows) set → All (λ k. k < length set) seeds →
     All (λ p. IsTrue (s.fits p)) (points_of (points_of rows set) seeds)
-centers_fit s rows set seeds fit places inside =
+centres_fit s rows set seeds fit places inside =
     points_fit s (points_of rows set) seeds (points_fit s rows set fit places)
     (λ i d low. subst (λ (n : ℕ). get_or seeds i d < n) (sym (length_map (λ k. get_or rows k []) set)) (inside i d low))

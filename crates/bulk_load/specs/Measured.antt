@@ -15,7 +15,7 @@ points_of rows set = map (λ k. slice_index_or rows k []) set
 
 -- the distances of points to centres
 abbrev pub measured_to : Space → List (List ℕ) → List (List ℕ) → Measured
-measured_to s points centers = record { width = length centers; table = map (λ p. map (s.dist p) centers) points }
+measured_to s points centres = record { width = length centres; table = map (λ p. map (s.dist p) centres) points }
 
 -- the distances of a set's points to its seeds, which are places of the set
 abbrev pub measured : Space → List (List ℕ) → List ℕ → Measured
@@ -23,10 +23,10 @@ measured s points seeds = record { width = length seeds; table = map (row_of s p
 
 -- the distances between centres: those of the first to all, of the second to all, and so on
 abbrev pub all_apart : Space → List (List ℕ) → List ℕ
-all_apart s centers = flat_map (λ c. map (s.dist c) centers) centers
+all_apart s centres = flat_map (λ c. map (s.dist c) centres) centres
 
 -- objects and centres are points of the space, and `apart` has the distances between the centres
-pub record AreMeasurable (s : Space) (objects centers : List (List ℕ)) (apart : List ℕ) : Type 0 where
+pub record AreMeasurable (s : Space) (objects centres : List (List ℕ)) (apart : List ℕ) : Type 0 where
   pub objects_fit : All (λ p. IsTrue (s.fits p)) objects
-  pub centers_fit : All (λ p. IsTrue (s.fits p)) centers
-  pub apart_is : apart ≡ all_apart s centers
+  pub centres_fit : All (λ p. IsTrue (s.fits p)) centres
+  pub apart_is : apart ≡ all_apart s centres

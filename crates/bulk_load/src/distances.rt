@@ -10,7 +10,7 @@ use std::alloc::Global;
 use std::marker::Model;
 
 /// Returns the points of `seeds`, which are places of `set`, a set of rows.
-pub fn centers_at(
+pub fn centres_at(
     alloc: Global,
     rows: &Rows,
     set: &[u32],
@@ -20,40 +20,40 @@ pub fn centers_at(
     requires seeds { All (λ k. k < length set.now) seeds.now }
     ensures { IfOk result (λ v. v.items ≡ points_of (points_of rows.now.points set.now) seeds.now) }
 {
-    let mut centers = Vec::with_capacity(alloc, seeds.len())?;
+    let mut centres = Vec::with_capacity(alloc, seeds.len())?;
     for seed in seeds {
         let row = set[*seed as usize] as usize;
-        centers.push(Point::new(alloc, rows.point(row))?)?;
+        centres.push(Point::new(alloc, rows.point(row))?)?;
     }
-    Ok(centers)
+    Ok(centres)
 }
 
 // Appends the distances from one seed to all seeds.
 fn add_distances<M: Metric>(
     metric: M,
     from: &[u32],
-    centers: &[Point],
+    centres: &[Point],
     apart: &mut Vec<u64>,
 ) -> Result<(), Memory>
-    ensures { OnOk result (apart.new.items ≡ apart.old.items ++ map ((M.space metric).dist from.now) centers.now) }
+    ensures { OnOk result (apart.new.items ≡ apart.old.items ++ map ((M.space metric).dist from.now) centres.now) }
 {
-    for to in centers {
+    for to in centres {
         apart.push(metric.dist(from, to.as_slice()))?;
     }
     Ok(())
 }
 
-/// Returns the distances between `centers`: those of the first to all, of the second to all, and so on.
+/// Returns the distances between `centres`: those of the first to all, of the second to all, and so on.
 pub fn mutual_distances<M: Metric>(
     alloc: Global,
     metric: M,
-    centers: &[Point],
+    centres: &[Point],
 ) -> Result<Vec<u64>, Memory>
-    ensures { IfOk result (λ v. v.items ≡ all_apart (M.space metric) centers.now) }
+    ensures { IfOk result (λ v. v.items ≡ all_apart (M.space metric) centres.now) }
 {
-    let mut apart = Vec::with_capacity(alloc, centers.len().saturating_mul(centers.len()))?;
-    for from in centers {
-        add_distances(metric, from.as_slice(), centers, &mut apart)?;
+    let mut apart = Vec::with_capacity(alloc, centres.len().saturating_mul(centres.len()))?;
+    for from in centres {
+        add_distances(metric, from.as_slice(), centres, &mut apart)?;
     }
     Ok(apart)
 }
@@ -74,7 +74,7 @@ fn nearer(distance: u64, number: usize, best: Option<(u64, usize)>) -> Option<(u
 pub struct Row<'a, M: Metric> {
     metric: M,
     object: &'a [u32],
-    centers: &'a [Point],
+    centres: &'a [Point],
     apart: &'a [u64],
 }
 
@@ -84,9 +84,9 @@ impl<'a, M: Metric> Model for Row<'a, M> {
 
     ghost Value = { List ℕ };
 
-    ghost view = { λ r. map ((M.space r.metric).dist r.object.now) r.centers.now };
+    ghost view = { λ r. map ((M.space r.metric).dist r.object.now) r.centres.now };
 
-    ghost invariant = { λ r. AreMeasurable (M.space r.metric) (r.object.now ∷ []) r.centers.now r.apart.now };
+    ghost invariant = { λ r. AreMeasurable (M.space r.metric) (r.object.now ∷ []) r.centres.now r.apart.now };
 }
 
 impl<'a, M: Metric> Row<'a, M> {
@@ -96,7 +96,7 @@ impl<'a, M: Metric> Row<'a, M> {
         ensures { result ≡ slice_index self.now group }
     {
         self.metric
-            .dist(self.object, self.centers[group].as_slice())
+            .dist(self.object, self.centres[group].as_slice())
     }
 
     // Returns the distance between the seeds of two groups. It is no more than by way of the object.
@@ -105,7 +105,7 @@ impl<'a, M: Metric> Row<'a, M> {
         requires second { second < length self.now }
         ensures { result ≤ slice_index self.now first + slice_index self.now second }
     {
-        self.apart[first * self.centers.len() + second]
+        self.apart[first * self.centres.len() + second]
     }
 
     /// Returns the nearer of two seeds: the nearest so far, `best`, as its distance and its group, and that of `group`. `best` stays
@@ -130,7 +130,7 @@ pub struct Distances<'a, M: Metric> {
     metric: M,
     rows: &'a Rows,
     set: &'a [u32],
-    centers: &'a [Point],
+    centres: &'a [Point],
     apart: &'a [u64],
 }
 
@@ -140,31 +140,31 @@ impl<'a, M: Metric> Model for Distances<'a, M> {
 
     ghost Value = { Measured };
 
-    ghost view = { λ d. measured_to (M.space d.metric) (points_of d.rows.now.points d.set.now) d.centers.now };
+    ghost view = { λ d. measured_to (M.space d.metric) (points_of d.rows.now.points d.set.now) d.centres.now };
 
     ghost invariant = { λ d. All (λ k. k < length d.rows.now.points) d.set.now
-        × AreMeasurable (M.space d.metric) d.rows.now.points d.centers.now d.apart.now };
+        × AreMeasurable (M.space d.metric) d.rows.now.points d.centres.now d.apart.now };
 }
 
 impl<'a, M: Metric> Distances<'a, M> {
-    /// Makes the distances of `set`, places of `rows`, to `centers`, the points of its seeds, with `apart` as the distances between
+    /// Makes the distances of `set`, places of `rows`, to `centres`, the points of its seeds, with `apart` as the distances between
     /// them.
     pub fn new(
         metric: M,
         rows: &'a Rows,
         set: &'a [u32],
-        centers: &'a [Point],
+        centres: &'a [Point],
         apart: &'a [u64],
     ) -> Self
         requires set { All (λ k. k < length rows.now.points) set.now }
-        requires measurable { AreMeasurable (M.space metric) rows.now.points centers.now apart.now }
-        ensures { result ≡ measured_to (M.space metric) (points_of rows.now.points set.now) centers.now }
+        requires measurable { AreMeasurable (M.space metric) rows.now.points centres.now apart.now }
+        ensures { result ≡ measured_to (M.space metric) (points_of rows.now.points set.now) centres.now }
     {
         Distances {
             metric,
             rows,
             set,
-            centers,
+            centres,
             apart,
         }
     }
@@ -180,7 +180,7 @@ impl<'a, M: Metric> Distances<'a, M> {
     pub fn seeds(&self) -> usize
         ensures { result ≡ self.now.width }
     {
-        self.centers.len()
+        self.centres.len()
     }
 
     /// Returns the distances of the object at `place`.
@@ -192,7 +192,7 @@ impl<'a, M: Metric> Distances<'a, M> {
         Row {
             metric: self.metric,
             object: self.rows.point(self.set[place] as usize),
-            centers: self.centers,
+            centres: self.centres,
             apart: self.apart,
         }
     }

@@ -7,7 +7,7 @@ ghost use Rattle.tree_growth.specs.Groups.{entry, placed_from, filled_from};
 ghost use Rattle.bulk_load.specs.Groupable.{IsFill, IsSized, load_of};
 ghost use Rattle.bulk_load.specs.MemberLists.{lists_in, HaveMembers, groups_with};
 
-use crate::distances::{Distances, centers_at, mutual_distances};
+use crate::distances::{Distances, centres_at, mutual_distances};
 use crate::filling::fill_up;
 use crate::placing::{Placing, group_number, place_all, seed_places};
 use metric_laws::{Listed, Memory, Metric, Rows};
@@ -140,9 +140,9 @@ pub fn groups<R: Threads + Sync, M: Metric>(
     let room = fill.most.pow(level);
     let least = fill.least.pow(level);
     let seeds = seed_places(alloc, n, group_number(fill, root, room, n))?;
-    let centers = centers_at(alloc, rows, set, seeds.as_slice())?;
-    let apart = mutual_distances(alloc, metric, centers.as_slice())?;
-    let distances = Distances::new(metric, rows, set, centers.as_slice(), apart.as_slice());
+    let centres = centres_at(alloc, rows, set, seeds.as_slice())?;
+    let apart = mutual_distances(alloc, metric, centres.as_slice())?;
+    let distances = Distances::new(metric, rows, set, centres.as_slice(), apart.as_slice());
     let placing = Placing {
         distances: &distances,
         room,

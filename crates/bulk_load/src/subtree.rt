@@ -101,12 +101,12 @@ fn radius<M: Metric>(loading: &Loading<'_, M>, seed: u32, members: &[u32]) -> u6
     requires members { All (λ k. k < length loading.now.rows.now.points) members.now }
     ensures { let L = load_by (M.space loading.now.metric) loading.now in result ≡ radius_of L (point_of L seed) members.now }
 {
-    let center = loading.rows.point(seed as usize);
+    let centre = loading.rows.point(seed as usize);
     let mut greatest = 0;
     for row in members {
         let dist = loading
             .metric
-            .dist(loading.rows.point(*row as usize), center);
+            .dist(loading.rows.point(*row as usize), centre);
         greatest = greatest.max(dist);
     }
     greatest

@@ -5,11 +5,11 @@ use Rattle.std.specs.Prelude.{◌≡◌, ℕ, zero, suc, ◌+◌, ◌-◌, ◌^�
 abbrev pub next_count : ℕ → ℕ
 next_count n = min (n + 1) (2 ^ 64 - 1)
 
--- a count that rose so many times by one, each time up to the greatest `u64`
+-- a count after `n` steps of one, each up to the greatest `u64`
 abbrev pub count_up : ℕ → ℕ → ℕ
 count_up count zero = count
 count_up count (suc n) = count_up (next_count count) n
 
--- a count rose by one so many times, at most as often as is said
+-- a count rose in at most `most` steps of one
 abbrev pub CountsUpTo : ℕ → ℕ → ℕ → Type 0
 CountsUpTo old new most = (n : ℕ) × (n ≤ most) × (new ≡ count_up old n)

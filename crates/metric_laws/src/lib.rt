@@ -16,5 +16,5 @@ pub use pruning::{cap, centre_test, pair_test, parent_test};
 pub use rows::Rows;
 pub use ruler::{Meter, Ruler};
 
-/// Want of memory.
+/// The error of a call that found no memory.
 pub type Memory = std::alloc::AllocError;

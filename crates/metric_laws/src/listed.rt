@@ -15,21 +15,21 @@ impl<T: Drop> Model for Listed<T> {
 }
 
 impl<T: Drop> Listed<T> {
-    /// The list of these items.
+    /// Makes the list of `items`.
     pub fn new(items: Vec<T>) -> Self
         ensures { result ≡ items.items }
     {
         Listed { items }
     }
 
-    /// The items.
+    /// Returns the items.
     pub fn as_slice(&self) -> &[T]
         ensures { result.now ≡ self.now }
     {
         self.items.as_slice()
     }
 
-    /// The items, given back.
+    /// Gives the items back.
     pub fn into_vec(self) -> Vec<T>
         ensures { result.items ≡ self }
     {

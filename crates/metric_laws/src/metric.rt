@@ -12,15 +12,15 @@ pub trait Metric: Copy + Send + Sync {
     /// The axioms of a metric space (VLDB 1997, section 2), which each metric proves.
     ghost axioms: { (m : Self) → IsSpace (space m) };
 
-    /// The number of coordinates of a point, 1 to 64.
+    /// Returns the number of coordinates of a point, 1 to 64.
     fn words(&self) -> usize
         ensures { result ≡ (space self.now).words };
 
-    /// Whether the list is a point of the space.
+    /// Returns whether `p` is a point of the space.
     fn fits(&self, p: &[u32]) -> bool
         ensures { result ≡ (space self.now).fits p.now };
 
-    /// The distance. Of lists that are no points only the bound is promised.
+    /// Returns the distance of `a` and `b`. Of lists that are not points it promises the bound alone.
     fn dist(&self, a: &[u32], b: &[u32]) -> u64
         ensures value { result ≡ (space self.now).dist a.now b.now }
         ensures bounded { result ≤ BOUND };

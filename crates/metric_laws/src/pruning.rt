@@ -27,7 +27,7 @@ pub fn pair_test(d: u64, r: u64, ra: u64, rb: u64) -> bool
     d > r.saturating_add(ra).saturating_add(rb)
 }
 
-/// The sum of two distances, or the greatest distance where the sum is above it.
+/// Returns the sum of two distances, at most the greatest distance.
 pub fn cap(a: u64, b: u64) -> u64
     requires { a + b < 2 ^ 64 }
     ensures { result ≡ capped a b }

@@ -4,22 +4,21 @@ ghost use Rattle.metric_laws.specs.Space.{IsSpace};
 
 use crate::{BOUND, Metric};
 
-/// Measures by its metric and counts the distances. Searches, splits, auditors and verifiers have no other way to
-/// a distance.
+/// Measures distances and counts them. Searches, splits, auditors and verifiers have no other way to a distance.
 pub trait Ruler {
     type M: Metric;
 
-    /// The metric by which is measured.
+    /// The metric that measures.
     ghost metric: { Self → Self.M };
 
     /// The number of distances so far. It stands still at the end of 64 bits.
     ghost used: { Self → ℕ };
 
-    /// Whether the list is a point of the metric's space.
+    /// Returns whether `p` is a point of the metric's space.
     fn fits(&self, p: &[u32]) -> bool
         ensures { result ≡ (Self.M.space (metric self.now)).fits p.now };
 
-    /// The distance by the metric.
+    /// Returns the distance of `a` and `b`, and counts one more.
     fn dist(&mut self, a: &[u32], b: &[u32]) -> u64
         ensures value { result ≡ (Self.M.space (metric self.old)).dist a.now b.now }
         ensures bounded { result ≤ BOUND }
@@ -30,7 +29,7 @@ pub trait Ruler {
     ghost axioms: { (r : Self) → IsSpace (Self.M.space (metric r)) };
 }
 
-/// A metric with a count of the distances that it gave.
+/// A metric with a count of the distances that it computed.
 #[derive(Clone, Copy)]
 pub struct Meter<M: Metric> {
     metric: M,
@@ -38,7 +37,7 @@ pub struct Meter<M: Metric> {
 }
 
 impl<M: Metric> Meter<M> {
-    /// A meter that has measured nothing.
+    /// Makes a meter that has computed no distance.
     pub fn new(metric: M) -> Self
         ensures metric { result.metric ≡ metric }
         ensures used { result.used ≡ 0 }
@@ -46,7 +45,7 @@ impl<M: Metric> Meter<M> {
         Meter { metric, used: 0 }
     }
 
-    /// How many distances were computed, or the greatest `u64`.
+    /// Returns how many distances were computed, at most the greatest `u64`.
     pub fn used(&self) -> u64
         ensures { result ≡ self.now.used }
     {

@@ -237,7 +237,7 @@ node_is version dim page (Inner level es) (told, low, high, has, some, are, near
     ap (λ (b : Bool). if b then Leaf (leaves version dim page (count_of page)) else Inner (slice_index page 0) (inners dim page (count_of page))) not_leaf
     ∙ ap (λ (n : ℕ). Inner (slice_index page 0) (inners dim page n)) has.told ∙ ap (λ (n : ℕ). Inner n (inners dim page (length es))) told ∙ ap (Inner level) (sym are)
 
--- want of memory is no fault of a page
+-- a lack of memory is not a fault of a page
 pub never_memory : (version : Version) (dim : ℕ) (page : List ℕ) (fault : NodeFault) → fault_in version dim page ≡ Some fault → fault ≡ Memory → ⊥
 unfolding fault_in
 never_memory version dim page fault is memory =

@@ -13,17 +13,17 @@ use Rattle.node_page.specs.declared.node.Version.TheVariants.{First, Second}
 use Rattle.node_page.specs.declared.node.NodeFault.{NodeFault}
 use Rattle.node_page.specs.declared.node.NodeFault.TheVariants.{Kind, Count, Distance, Tail}
 
--- f at 0, 1 and so on, so many in all
+-- the list of f 0, f 1 and so on, n in all
 unfoldable pub firsts : {E : Type 0} → (ℕ → E) → ℕ → List E
 firsts f zero = []
 firsts f (suc n) = firsts f n ++ f n ∷ []
 
--- whether the test holds at 0, 1 and so on, so many in all
+-- whether the test f holds at 0, 1 and so on, n in all
 unfoldable pub all_of : (ℕ → Bool) → ℕ → Bool
 all_of f zero = true
 all_of f (suc n) = all_of f n && f n
 
--- these are the numbers of four bytes at the front of a page, as many as they are
+-- each of `numbers` is the number of four bytes at its place of the page
 abbrev pub IsFront : List ℕ → List ℕ → Type 0
 IsFront page numbers = numbers ≡ firsts (λ j. number_at (4 * j) 4 page) (length numbers)
 
@@ -64,7 +64,7 @@ inner_at dim page at = record {
   point = point_at dim page (at + 20);
 }
 
--- the place of an entry over points of so many coordinates
+-- the place of entry i over points of `dim` coordinates
 abbrev pub place_in : Version → Bool → ℕ → ℕ → ℕ
 place_in version leaf dim i = 16 + (parent_place version leaf + 8 + 4 * dim) * i
 
@@ -76,7 +76,7 @@ place_of dim i = 16 + (20 + 4 * dim) * i
 unfoldable pub count_of : List ℕ → ℕ
 count_of page = number_at 2 2 page
 
--- the page has so many entries, at most as many as it may, and 0 where there is no field
+-- the page has `count` entries, at most as many as it may have, and 0 where there is no field
 pub record HasCount (version : Version) (leaf : Bool) (dim : ℕ) (page : List ℕ) (count : ℕ) : Type 0 where
   pub told : count_of page ≡ count
   pub at_most : count ≤ most_for dim
@@ -110,7 +110,7 @@ near_at version leaf page at = nat_le (number_at (at + parent_place version leaf
 unfoldable pub is_count : ℕ → Bool → ℕ → Bool
 is_count dim leaf count = nat_le count (most_for dim) && (leaf || nat_lt 0 count)
 
--- whether all distances of so many entries are at most the bound
+-- whether all distances of the first `count` entries are at most the bound
 unfoldable pub are_near : Version → ℕ → Bool → List ℕ → ℕ → Bool
 are_near version dim leaf page count = all_of (λ i. near_at version leaf page (place_in version leaf dim i)) count
 

@@ -17,12 +17,12 @@ pub fn one_slot_page()
     ensures { OneSlotPage }
 {}
 
-/// A page has no fault exactly where it spells a node over points of so many coordinates.
+/// A page has no fault exactly where it spells a node over points of `dim` coordinates.
 pub fn fault_is_no_node()
     ensures { FaultIsNoNode }
 {}
 
-/// A page of the first version has no fault exactly where it spells a node over points of so many coordinates.
+/// A page of the first version has no fault exactly where it spells a node over points of `dim` coordinates.
 pub fn fault_is_no_old_node()
     ensures { FaultIsNoOldNode }
 {}

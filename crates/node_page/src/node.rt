@@ -11,7 +11,7 @@ use std::rc::RcSlice;
 use thiserror::Error;
 use tree_shape::{InnerEntry, LeafEntry, Node, fill};
 
-/// Why there is no node of a page.
+/// Why a page holds no node.
 #[derive(Clone, Copy, Debug, PartialEq, Eq, Error)]
 pub enum NodeFault {
     /// The level is above 14.
@@ -46,7 +46,7 @@ const ENTRIES: usize = 16;
 /// The bytes of a distance.
 const DISTANCE: usize = 8;
 
-// The bytes of an entry before its parent distance, which its coordinates follow.
+// Returns the number of bytes of an entry before its parent distance. The coordinates follow that.
 fn parent_place(version: Version, leaf: bool) -> usize
     ensures value { result ≡ parent_place version leaf }
     ensures low { 4 ≤ result }
@@ -58,7 +58,7 @@ fn parent_place(version: Version, leaf: bool) -> usize
     }
 }
 
-// The place of an entry.
+// Returns the place of entry `index`.
 fn place_in(version: Version, leaf: bool, dim: u8, index: usize) -> usize
     requires few { dim ≤ 64 }
     requires small { index ≤ 32 }
@@ -67,7 +67,7 @@ fn place_in(version: Version, leaf: bool, dim: u8, index: usize) -> usize
     ENTRIES + (parent_place(version, leaf) + DISTANCE + 4 * usize::from(dim)) * index
 }
 
-// The place of an entry of the second version.
+// Returns the place of entry `index` of the second version.
 pub fn place_of(dim: u8, index: usize) -> usize
     requires few { dim ≤ 64 }
     requires small { index ≤ 32 }
@@ -76,7 +76,7 @@ pub fn place_of(dim: u8, index: usize) -> usize
     place_in(Version::Second, false, dim, index)
 }
 
-// Whether the distances of an entry are within the bound.
+// Returns whether the distances of the entry at the place `at` are within the bound.
 #[tactic(auto, unfolding(crate::specs::Nodes::near_at))]
 fn is_near(page: &[u8; 4096], at: usize, version: Version, leaf: bool) -> bool
     requires { at + parent_place version leaf + 8 ≤ 4096 }
@@ -86,7 +86,7 @@ fn is_near(page: &[u8; 4096], at: usize, version: Version, leaf: bool) -> bool
         && (leaf || get_u64(page, at + 4) <= BOUND)
 }
 
-// Whether the distances of so many entries are within the bound.
+// Returns whether the distances of the first `count` entries are within the bound.
 fn are_near(page: &[u8; 4096], dim: u8, version: Version, leaf: bool, count: usize) -> bool
     requires few { dim ≤ 64 }
     requires most { count ≤ most_for dim }
@@ -100,7 +100,7 @@ fn are_near(page: &[u8; 4096], dim: u8, version: Version, leaf: bool, count: usi
     true
 }
 
-// Whether a node may have so many entries.
+// Returns whether a node may have `count` entries.
 #[tactic(auto, unfolding(crate::specs::Nodes::is_count))]
 fn is_count(dim: u8, leaf: bool, count: usize) -> bool
     requires some { 1 ≤ dim }
@@ -110,7 +110,7 @@ fn is_count(dim: u8, leaf: bool, count: usize) -> bool
     count <= fill(dim).most && (leaf || count > 0)
 }
 
-// The number of entries that a page tells.
+// Reads the number of entries.
 #[tactic(auto, unfolding(crate::specs::Nodes::count_of))]
 fn count_of(page: &[u8; 4096]) -> usize
     ensures { result ≡ count_of page.now }
@@ -118,7 +118,7 @@ fn count_of(page: &[u8; 4096]) -> usize
     usize::from(get_u16(page, 2))
 }
 
-// Whether each byte that no field takes is 0.
+// Returns whether each byte that no field takes is 0.
 #[tactic(auto, unfolding(crate::specs::Nodes::is_rest_zero))]
 fn is_rest_zero(page: &[u8; 4096], dim: u8, version: Version, leaf: bool, count: usize) -> bool
     requires few { dim ≤ 64 }
@@ -129,7 +129,7 @@ fn is_rest_zero(page: &[u8; 4096], dim: u8, version: Version, leaf: bool, count:
     are_zero(page, 1, 2) && are_zero(page, 4, 16) && are_zero(page, end, 4096)
 }
 
-// The first fault of a page.
+// Returns the first fault of a page.
 #[tactic(auto, unfolding(crate::specs::Nodes::fault_in))]
 fn fault_of(page: &[u8; 4096], dim: u8, version: Version) -> Option<NodeFault>
     requires some { 1 ≤ dim }
@@ -163,7 +163,7 @@ fn read_front(page: &[u8; 4096], numbers: &mut [u32])
     BigEndian::read_u32_into(&page[..4 * numbers.len()], numbers);
 }
 
-// The numbers of four bytes in `page` below the place `end`.
+// Reads the numbers of four bytes in `page` below the place `end`.
 fn numbers_below(alloc: Global, page: &[u8; 4096], end: usize) -> Result<RcSlice<u32>, AllocError>
     requires { end ≤ 4096 }
     ensures front { IfOk result (λ numbers. IsFront page.now (rc_slice_items numbers)) }
@@ -174,7 +174,7 @@ fn numbers_below(alloc: Global, page: &[u8; 4096], end: usize) -> Result<RcSlice
     RcSlice::from_vec(numbers)
 }
 
-// The point from a place on, a part of the numbers at the front of its page.
+// Returns the point from the place `at` on, which is a part of the `numbers` at the front of its page.
 fn point_at(
     page: &[u8; 4096],
     numbers: &RcSlice<u32>,
@@ -189,7 +189,7 @@ fn point_at(
     Point::part_of(numbers, at / 4, usize::from(dim))
 }
 
-// The tag of the leaf entry from a place on.
+// Reads the tag of the leaf entry from the place `at` on.
 fn tag_at(page: &[u8; 4096], at: usize, version: Version) -> u64
     requires { at + 12 ≤ 4096 }
     ensures { result ≡ tag_at version page.now at }
@@ -200,7 +200,7 @@ fn tag_at(page: &[u8; 4096], at: usize, version: Version) -> u64
     }
 }
 
-// The leaf entry from a place on.
+// Reads the leaf entry from the place `at` on.
 #[tactic(auto, unfolding(crate::specs::Nodes::leaf_in))]
 fn leaf_in(
     page: &[u8; 4096],
@@ -224,7 +224,7 @@ fn leaf_in(
     })
 }
 
-// The inner entry from a place on.
+// Reads the inner entry from the place `at` on.
 #[tactic(auto, unfolding(crate::specs::Nodes::inner_at))]
 fn inner_at(
     page: &[u8; 4096],
@@ -246,7 +246,7 @@ fn inner_at(
     })
 }
 
-// The entries of a leaf.
+// Reads the entries of a leaf.
 fn leaf_entries(
     alloc: Global,
     page: &[u8; 4096],
@@ -267,7 +267,7 @@ fn leaf_entries(
     Ok(Listed::new(entries))
 }
 
-// The entries of an inner node.
+// Reads the entries of an inner node.
 fn inner_entries(
     alloc: Global,
     page: &[u8; 4096],
@@ -286,7 +286,7 @@ fn inner_entries(
     Ok(Listed::new(entries))
 }
 
-// The node of a page.
+// Reads the node of a page that has no fault.
 #[tactic(auto, unfolding(crate::specs::Nodes::node_in))]
 fn node_in(alloc: Global, page: &[u8; 4096], dim: u8, version: Version) -> Result<Node, AllocError>
     requires few { dim ≤ 64 }
@@ -329,13 +329,13 @@ fn decode(alloc: Global, page: &[u8; 4096], dim: u8, version: Version) -> Result
 pub fn decode_node(alloc: Global, page: &[u8; 4096], dim: u8) -> Result<Node, NodeFault>
     requires some { 1 ≤ dim }
     requires few { dim ≤ 64 }
-    // What is read is spelled so.
+    // The page spells the node that is read.
     ensures ok { IfOk result (λ node. SpellsNode dim page.now node) }
-    // What is read can be written.
+    // The node that is read can be written.
     ensures lawful { IfOk result (λ node. IsLawfulNode dim node) }
-    // What is read is the page's node, and the page has no fault.
+    // The node that is read is the page's, and the page has no fault.
     ensures told { IfOk result (λ node. (node_fault dim page.now ≡ None) × (node ≡ node_of dim page.now)) }
-    // What is spelled so is read, unless memory runs out.
+    // A node that the page spells is read, unless memory runs out.
     ensures only { (node : Node) → SpellsNode dim page.now node → (result ≡ Ok node) ⊎ (result ≡ Err NodeFault.Memory) }
     ensures fault { IfErr result (λ fault. (fault ≡ NodeFault.Memory) ⊎ (node_fault dim page.now ≡ Some fault)) }
     ensures memory { IfErr result (λ fault. fault ≡ NodeFault.Memory → node_fault dim page.now ≡ None) }
@@ -348,13 +348,13 @@ pub fn decode_node(alloc: Global, page: &[u8; 4096], dim: u8) -> Result<Node, No
 pub fn decode_old_node(alloc: Global, page: &[u8; 4096], dim: u8) -> Result<Node, NodeFault>
     requires some { 1 ≤ dim }
     requires few { dim ≤ 64 }
-    // What is read is spelled so.
+    // The page spells the node that is read.
     ensures ok { IfOk result (λ node. SpellsOldNode dim page.now node) }
-    // What is read can be written.
+    // The node that is read can be written.
     ensures lawful { IfOk result (λ node. IsLawfulNode dim node) }
-    // What is read is the page's node, and the page has no fault.
+    // The node that is read is the page's, and the page has no fault.
     ensures told { IfOk result (λ node. (old_node_fault dim page.now ≡ None) × (node ≡ old_node_of dim page.now)) }
-    // What is spelled so is read, unless memory runs out.
+    // A node that the page spells is read, unless memory runs out.
     ensures only { (node : Node) → SpellsOldNode dim page.now node → (result ≡ Ok node) ⊎ (result ≡ Err NodeFault.Memory) }
     ensures fault { IfErr result (λ fault. (fault ≡ NodeFault.Memory) ⊎ (old_node_fault dim page.now ≡ Some fault)) }
     ensures memory { IfErr result (λ fault. fault ≡ NodeFault.Memory → old_node_fault dim page.now ≡ None) }

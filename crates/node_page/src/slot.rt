@@ -4,7 +4,7 @@ ghost use Rattle.node_page.specs.Slots.{SpellsSlot, HasSlotRest, slot_of};
 
 use crate::bytes::{are_zero, clear, get_u32, get_u64, put_u8, put_u32, put_u64};
 
-/// One of the two pages that say which tree counts.
+/// One of the two pages that say which tree is live.
 #[derive(Clone, Copy, PartialEq, Eq)]
 pub struct Slot {
     /// Whether the slot counts.
@@ -24,7 +24,7 @@ pub struct Slot {
 /// The gate's byte of a slot that counts. Every other byte is a closed gate.
 const OPEN: u8 = 0xa5;
 
-// How a gate is written.
+// Returns the byte of a gate.
 fn gate_byte(gate: bool) -> u8
     ensures { result ≡ (if gate then 165 else 0) }
 {
@@ -45,7 +45,7 @@ pub fn encode_slot(slot: &Slot, page: &mut [u8; 4096])
     put_u32(page, 28, slot.pages);
 }
 
-// The fields of a slot.
+// Reads the fields of a slot.
 #[tactic(auto, unfolding(crate::specs::Slots::slot_of))]
 fn fields_of(page: &[u8; 4096]) -> Slot
     ensures { result ≡ slot_of page.now }
@@ -60,18 +60,18 @@ fn fields_of(page: &[u8; 4096]) -> Slot
     }
 }
 
-// Whether each byte that no field takes is 0.
+// Returns whether each byte that no field takes is 0.
 fn is_clear(page: &[u8; 4096]) -> bool
     ensures { result ≡ (are_zero 1 7 page.now && are_zero 32 4064 page.now) }
 {
     are_zero(page, 1, 8) && are_zero(page, 32, 4096)
 }
 
-/// Reads a slot from its page. It is none exactly where a byte that no field takes is not 0.
+/// Reads a slot from its page. Returns none exactly where a byte that no field takes is not 0.
 pub fn decode_slot(page: &[u8; 4096]) -> Option<Slot>
-    // What is read is spelled so.
+    // The page spells the slot that is read.
     ensures some { IfSome result (λ slot. SpellsSlot page.now slot) }
-    // What is spelled so is read.
+    // A slot that the page spells is read.
     ensures only { (slot : Slot) → SpellsSlot page.now slot → result ≡ Some slot }
     ensures none { IsNone result ↔ (HasSlotRest page.now → ⊥) }
 {
@@ -81,7 +81,7 @@ pub fn decode_slot(page: &[u8; 4096]) -> Option<Slot>
     Some(fields_of(page))
 }
 
-/// What is looked at of a slot before it is known which of the two is live.
+/// The part of a slot that tells which of the two is live.
 #[derive(Clone, Copy, PartialEq, Eq)]
 pub struct Gate {
     /// Whether the slot counts.

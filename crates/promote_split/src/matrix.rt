@@ -63,8 +63,8 @@ impl Matrix {
             radii.push(entry.radius())?;
         }
         let mut distances = Vec::with_capacity(alloc, entries.len().saturating_mul(entries.len()))?;
-        for center in entries {
-            push_row(ruler, entries, center.point(), &mut distances)?;
+        for centre in entries {
+            push_row(ruler, entries, centre.point(), &mut distances)?;
         }
         Ok(Matrix { radii, distances })
     }

@@ -1,4 +1,4 @@
-//! Tests of one list, and one pass over two lists, as far as both go.
+//! Tests of one list, and passes over two lists, as far as both go.
 
 ghost use Rattle.std.specs.Prelude.{◌≡◌, ◌==◌, ◌≤◌, ◌+◌, ◌-◌, ◌^◌, not, length, min, max, fold, count_by, sum_by};
 ghost use Rattle.std.specs.List.{zip};
@@ -8,8 +8,7 @@ ghost use Rattle.vector_kinds.specs.Vectors.{is_vector};
 /// The longest lists whose differences are counted and added in 32 bits.
 pub const LONGEST: usize = 1 << 16;
 
-
-/// Whether the list has this many places.
+/// Returns whether `p` has `dim` places.
 pub fn has_places(p: &[u32], dim: u8) -> bool
     ensures { result ≡ is_vector dim p.now }
 {
@@ -65,7 +64,7 @@ pub fn saturating_sum(a: &[u32], b: &[u32]) -> u64
     })
 }
 
-/// The greatest difference, 0 of empty lists.
+/// Returns the greatest difference, 0 for empty lists.
 pub fn greatest(a: &[u32], b: &[u32]) -> u32
     ensures { result ≡ fold (λ most p. max most (gap p.0 p.1)) 0 (zip a.now b.now) }
 {

@@ -14,7 +14,7 @@ pub struct Hamming {
 }
 
 impl Hamming {
-    /// The metric on points of `dim` coordinates.
+    /// Makes the metric on points of `dim` coordinates.
     pub fn new(dim: u8) -> Self
         requires some { 1 ≤ dim }
         requires few { dim ≤ 64 }

@@ -26,14 +26,14 @@ pub enum Space {
 impl Space {
     ghost use Rattle.vector_kinds.specs.Kinds.{kind_of, dim_of};
 
-    /// The space of a kind, 1 Hamming, 2 L1 or 3 the maximum, and a dimension of 1 to 64.
+    /// Makes the space of `kind`, 1 Hamming, 2 L1 or 3 the maximum, over points of `dim` coordinates, 1 to 64.
     pub fn new(kind: u8, dim: u8) -> Result<Self, SpaceFault>
         ensures kind { IfOk result (λ s. kind_of s ≡ kind) }
         ensures dim { IfOk result (λ s. dim_of s ≡ dim) }
 
         ensures ok { IsOk result ↔ ((1 ≤ kind) × (kind ≤ 3) × (1 ≤ dim) × (dim ≤ 64)) }
 
-        // The kind is judged first.
+        // The kind is checked first.
         ensures no_kind { IsErrOf result SpaceFault.Kind ↔ ((kind < 1) ⊎ (3 < kind)) }
         ensures no_dim { IsErrOf result SpaceFault.Dim ↔ ((1 ≤ kind) × (kind ≤ 3) × ((dim < 1) ⊎ (64 < dim))) }
     {
@@ -50,7 +50,7 @@ impl Space {
         })
     }
 
-    /// The number of the metric, 1 to 3.
+    /// Returns the number of the metric, 1 to 3.
     pub fn kind(&self) -> u8
         ensures value { result ≡ kind_of self.now }
         ensures some { 1 ≤ result }
@@ -63,7 +63,7 @@ impl Space {
         }
     }
 
-    /// The number of coordinates of a point.
+    /// Returns the number of coordinates of a point.
     pub fn dim(&self) -> u8
         ensures value { result ≡ dim_of self.now }
         ensures some { 1 ≤ result }

@@ -3,5 +3,5 @@ use Rattle.bulk_load.proofs.distances.add_distances.Given as goal
 
 abbrev pub invariant-loop-to : goal.invariant-loop-to
 invariant-loop-to g l =
-    l.apart.items ++ map ((g.M.Metric.space l.metric).dist l.from) (drop l.to-index l.centers)
-    ≡ l.fn.apart.items ++ map ((g.M.Metric.space l.metric).dist l.from) l.centers
+    l.apart.items ++ map ((g.M.Metric.space l.metric).dist l.from) (drop l.to-index l.centres)
+    ≡ l.fn.apart.items ++ map ((g.M.Metric.space l.metric).dist l.from) l.centres

@@ -6,4 +6,4 @@ use Rattle.bulk_load.proofs.distances.mutual_distances.Given as goal
 abbrev pub invariant-loop-from : goal.invariant-loop-from
 invariant-loop-from g l =
     let s = g.M.Metric.space l.metric in
-    l.apart.items ++ flat_map (λ c. map (s.dist c) l.centers) (drop l.from-index l.centers) ≡ all_apart s l.centers
+    l.apart.items ++ flat_map (λ c. map (s.dist c) l.centres) (drop l.from-index l.centres) ≡ all_apart s l.centres

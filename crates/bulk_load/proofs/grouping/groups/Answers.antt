@@ -7,7 +7,7 @@ use Rattle.bulk_load.specs.Groupable.{load_of}
 use Rattle.bulk_load.specs.Measured.{Measured, all_apart, measured, points_of}
 use Rattle.bulk_load.proofs.Measuring.{measured_same}
 use Rattle.bulk_load.proofs.Members.{groups_are}
-use Rattle.bulk_load.proofs.Spared.{centers_fit}
+use Rattle.bulk_load.proofs.Spared.{centres_fit}
 use Rattle.bulk_load.proofs.Sizes.{increasing_few, bounds_of, some_objects, some_groups, room_fits}
 use Rattle.bulk_load.proofs.grouping.groups.Goals as goal
 
@@ -52,11 +52,11 @@ new-distances-requires-clause-measurable g c =
     let points : List (List ℕ) = points_of rows c.args.set.now in
     let seeds : List ℕ = c.as_slice.result.now in
     let inside : All (λ k. k < length c.args.set.now) seeds = search rules in
-    let centers : c.as_slice-3.result.now ≡ points_of points seeds = c.as_slice-3.ensures.value ∙ c.in_ok-centers.ensures in
+    let centres : c.as_slice-3.result.now ≡ points_of points seeds = c.as_slice-3.ensures.value ∙ c.in_ok-centres.ensures in
     λ κs outlive. record {
       objects_fit = c.requires.points;
-      centers_fit = subst (λ (cs : List (List ℕ)). All (λ p. IsTrue (s.fits p)) cs) (sym centers)
-          (centers_fit s rows c.args.set.now seeds c.requires.points c.requires.places inside);
+      centres_fit = subst (λ (cs : List (List ℕ)). All (λ p. IsTrue (s.fits p)) cs) (sym centres)
+          (centres_fit s rows c.args.set.now seeds c.requires.points c.requires.places inside);
       apart_is = c.as_slice-4.ensures.value ∙ c.in_ok-apart.ensures ∙ ap (all_apart s) (c.as_slice-2.ensures.value ∙ sym c.as_slice-3.ensures.value);
     }
 
@@ -68,7 +68,7 @@ parted-requires-clause-width g c =
     let is = c.group_number.ensures in
     let width : c.new-distances.result.width ≡ c.group_number.result =
     ap (λ (m : Measured). m.width) (c.new-distances.ensures ∙ measured_same (g.M.Metric.space c.args.metric) (points_of c.args.rows.now.points c.args.set.now) c.as_slice.result.now c.as_slice-3.result.now
-    (c.as_slice-3.ensures.value ∙ c.in_ok-centers.ensures)) ∙ c.as_slice.ensures.len ∙ c.in_ok-seeds.ensures.len in
+    (c.as_slice-3.ensures.value ∙ c.in_ok-centres.ensures)) ∙ c.as_slice.ensures.len ∙ c.in_ok-seeds.ensures.len in
     λ κs outlive. (omega arith, omega arith)
 
 pub returns : goal.returns
@@ -77,7 +77,7 @@ returns g c =
     let placed = c.as_slice-7.result.now in
     let seeds = c.as_slice.result.now in
     let is : c.new-distances.result ≡ measured s (points_of c.args.rows.now.points c.args.set.now) seeds =
-    c.new-distances.ensures ∙ measured_same s (points_of c.args.rows.now.points c.args.set.now) seeds c.as_slice-3.result.now (c.as_slice-3.ensures.value ∙ c.in_ok-centers.ensures) in
+    c.new-distances.ensures ∙ measured_same s (points_of c.args.rows.now.points c.args.set.now) seeds c.as_slice-3.result.now (c.as_slice-3.ensures.value ∙ c.in_ok-centres.ensures) in
     if_ok (λ gs. gs.items ≡ groups_from 0 c.as_slice-6.result.now c.args.set.now placed)
     (λ gs. (tags : List ℕ) → gs.items ≡ groups_at (load tags) c.args.root c.args.level c.args.set.now) c.groups_of.result c.groups_of.ensures
     (λ gs e tags. groups_are (load tags) c.args.root c.args.level c.args.set.now c.pow-room.result c.pow-least.result c.group_number.result seeds (map (point_of (load tags)) c.args.set.now)

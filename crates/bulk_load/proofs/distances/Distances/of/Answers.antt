@@ -10,9 +10,9 @@ returns-clause-row g c =
     let s = g.M.Metric.space c.self.inside.metric in
     let rows : List (List ℕ) = c.self.inside.rows.now.points in
     let places : List ℕ = c.self.inside.set.now in
-    let centers : List (List ℕ) = c.self.inside.centers.now in
+    let centres : List (List ℕ) = c.self.inside.centres.now in
     let long : length c.args.self.now.table ≡ length places =
-    sym (ap (λ (m : Measured). length m.table) c.self.view_is) ∙ length_map (λ p. map (s.dist p) centers) (points_of rows places) ∙ length_map (λ i. get_or rows i []) places in
+    sym (ap (λ (m : Measured). length m.table) c.self.view_is) ∙ length_map (λ p. map (s.dist p) centres) (points_of rows places) ∙ length_map (λ i. get_or rows i []) places in
     let low : c.args.place < length places = subst (λ (n : ℕ). c.args.place < n) long c.requires in
-    row_is s rows places centers c.args.place c.point.result.now low c.point.ensures
+    row_is s rows places centres c.args.place c.point.result.now low c.point.ensures
     ∙ ap (λ (m : Measured). get_or m.table c.args.place []) c.self.view_is

@@ -14,12 +14,12 @@ invariant-loop-entry g l = record {
 }
 
 -- the rows so far, and those of the rest
-abbrev pub invariant-loop-center : goal.invariant-loop-center
-invariant-loop-center g l = record {
+abbrev pub invariant-loop-centre : goal.invariant-loop-centre
+invariant-loop-centre g l = record {
   metric : g.R.Ruler.metric l.ruler ≡ g.R.Ruler.metric l.fn.ruler;
-  counted : HasCounted (l.center-index * length l.entries) (g.R.Ruler.used l.fn.ruler) (g.R.Ruler.used l.ruler);
-  rows : l.distances.items ++ flat_map (λ (p : Ball). map (λ (q : Ball). (g.R.M.Metric.space (g.R.Ruler.metric l.fn.ruler)).dist q.0 p.0) (map g.E.Entry.ball l.entries)) (map g.E.Entry.ball (drop l.center-index l.entries))
+  counted : HasCounted (l.centre-index * length l.entries) (g.R.Ruler.used l.fn.ruler) (g.R.Ruler.used l.ruler);
+  rows : l.distances.items ++ flat_map (λ (p : Ball). map (λ (q : Ball). (g.R.M.Metric.space (g.R.Ruler.metric l.fn.ruler)).dist q.0 p.0) (map g.E.Entry.ball l.entries)) (map g.E.Entry.ball (drop l.centre-index l.entries))
       ≡ flat_map (λ (p : Ball). map (λ (q : Ball). (g.R.M.Metric.space (g.R.Ruler.metric l.fn.ruler)).dist q.0 p.0) (map g.E.Entry.ball l.entries)) (map g.E.Entry.ball l.entries);
-  square : length l.distances.items ≡ l.center-index * length l.entries;
+  square : length l.distances.items ≡ l.centre-index * length l.entries;
   within : AllByRecursion (λ d. d ≤ bound) l.distances.items;
 }
