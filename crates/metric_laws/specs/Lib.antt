@@ -3,3 +3,4 @@ pub mod Pruning
 pub mod Counts
 pub mod Rows
 pub mod Lists
+pub mod Points

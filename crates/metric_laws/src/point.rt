@@ -1,72 +1,101 @@
 ghost use Rattle.std.specs.Prelude.{◌≡◌, ◌≤◌, ◌+◌, List, ℕ, length, take, drop, IfOk};
-ghost use Rattle.std.specs.Rc.{rc_slice_items};
+ghost use Rattle.std.specs.Arc.{arc_slice_items};
 
 use crate::Memory;
+use smallvec::SmallVec;
 use std::alloc::Global;
 use std::marker::Model;
-use std::rc::RcSlice;
+use std::sync::ArcSlice;
 
-/// One list of coordinates. Points that are read from one page are parts of one list that they share, so none of them takes memory
-/// of its own.
+// A part of a list of numbers that several points share.
 #[derive(Drop)]
-pub struct Point {
-    shared: RcSlice<u32>,
+struct Part {
+    numbers: ArcSlice<u32>,
     start: usize,
     len: usize,
-    ghost within: { start + len ≤ length (rc_slice_items shared) },
+    ghost within: { start + len ≤ length (arc_slice_items numbers) },
+}
+
+// Where the coordinates of a point stand.
+#[derive(Drop)]
+enum Place {
+    // In the value itself, up to 16 of them, or else in memory of the point's own.
+    Own(SmallVec<u32, 16>),
+    // In numbers that other points share.
+    Shared(Part),
+}
+
+/// One list of coordinates. Up to 16 of them stand in the value itself. Longer points that are read from one page are parts of one list
+/// of numbers, which they share, so none of them takes memory of its own.
+#[derive(Drop)]
+pub struct Point {
+    place: Place,
 }
 
 impl Model for Point {
-    ghost use Rattle.std.specs.Prelude.{ℕ, List, take, drop};
-    ghost use Rattle.std.specs.Rc.{rc_slice_items};
+    ghost use Rattle.std.specs.Prelude.{List, ℕ};
+    ghost use Rattle.metric_laws.specs.Points.{coordinates_in};
 
     ghost Value = { List ℕ };
 
-    ghost view = { λ p. take p.len (drop p.start (rc_slice_items p.shared)) };
+    ghost view = { λ p. coordinates_in p.place };
 }
 
 impl Point {
     /// Makes a point of a copy of `coordinates`.
+    // A call would pass the coordinates through memory twice.
+    #[inline(always)]
     pub fn new(alloc: Global, coordinates: &[u32]) -> Result<Self, Memory>
         ensures { IfOk result (λ p. p ≡ coordinates.now) }
     {
-        let coordinates = Vec::from_slice(alloc, coordinates)?;
-        Point::from_vec(coordinates)
-    }
-
-    /// Makes a point of `coordinates`, with no copy.
-    pub fn from_vec(coordinates: Vec<u32>) -> Result<Self, Memory>
-        ensures { IfOk result (λ p. p ≡ coordinates.items) }
-    {
-        let shared = RcSlice::from_vec(coordinates)?;
-        let len = shared.len();
+        let coordinates = SmallVec::from_slice(alloc, coordinates)?;
         Ok(Point {
-            shared,
-            start: 0,
-            len,
+            place: Place::Own(coordinates),
         })
     }
 
-    /// Makes a point of the `len` numbers from `start` on, which it shares with `numbers`.
-    pub fn part_of(numbers: &RcSlice<u32>, start: usize, len: usize) -> Result<Self, Memory>
-        requires { start + len ≤ length (rc_slice_items numbers.now) }
-        ensures { IfOk result (λ p. p ≡ take len (drop start (rc_slice_items numbers.now))) }
+    /// Makes a point of the first `len` of `coordinates`, in the value itself.
+    pub fn short(alloc: Global, coordinates: [u32; 16], len: usize) -> Self
+        requires { len ≤ 16 }
+        ensures { result ≡ take len coordinates }
     {
-        let shared = numbers.clone()?;
-        Ok(Point { shared, start, len })
+        Point {
+            place: Place::Own(SmallVec::from_buf_and_len(alloc, coordinates, len)),
+        }
     }
 
-    /// Makes the same point once more. The two share their coordinates.
-    pub fn share(&self) -> Result<Self, Memory>
+    /// Makes a point of the `len` numbers from `start` on, which it shares with `numbers`.
+    pub fn part_of(numbers: &ArcSlice<u32>, start: usize, len: usize) -> Result<Self, Memory>
+        requires { start + len ≤ length (arc_slice_items numbers.now) }
+        ensures { IfOk result (λ p. p ≡ take len (drop start (arc_slice_items numbers.now))) }
+    {
+        let numbers = numbers.clone()?;
+        Ok(Point {
+            place: Place::Shared(Part {
+                numbers,
+                start,
+                len,
+            }),
+        })
+    }
+
+    /// Makes the same point once more. It shares what this one shares.
+    pub fn share(&self, alloc: Global) -> Result<Self, Memory>
         ensures { IfOk result (λ p. p ≡ self.now) }
     {
-        Point::part_of(&self.shared, self.start, self.len)
+        match &self.place {
+            Place::Own(coordinates) => Point::new(alloc, coordinates.as_slice()),
+            Place::Shared(part) => Point::part_of(&part.numbers, part.start, part.len),
+        }
     }
 
     /// Returns the coordinates.
     pub fn as_slice(&self) -> &[u32]
         ensures { result.now ≡ self.now }
     {
-        &self.shared.as_slice()[self.start..self.start + self.len]
+        match &self.place {
+            Place::Own(coordinates) => coordinates.as_slice(),
+            Place::Shared(part) => &part.numbers.as_slice()[part.start..part.start + part.len],
+        }
     }
 }

@@ -12,6 +12,13 @@ use std::os::unix::fs::{FileExt, MetadataExt};
 /// The letters that an index begins with.
 const INDEX_LETTERS: &[u8; 8] = b"MTREEIDX";
 
+/// The system's number for a write through a handle that was opened to read (EBADF). An index is opened so where it must not be
+/// written.
+const BAD_HANDLE: i32 = 9;
+
+/// The system's number for a missing permission (EACCES).
+const NO_PERMISSION: i32 = 13;
+
 /// The real files. No contract can say what a file holds, that a name belongs to one file, or what another process does. So nothing
 /// is told about what is opened. Of two names that the program accepts as two files it is told that they are not equal.
 ///
@@ -170,6 +177,7 @@ impl Folder for HostFolder<'_> {
 
     fn last_fault(index: &FileDisk) -> Option<io::Error> {
         match index.last_fault() {
+            Some(BAD_HANDLE) => Some(io::Error::from_raw_os_error(NO_PERMISSION)),
             Some(code) => Some(io::Error::from_raw_os_error(code)),
             None => None,
         }

@@ -111,25 +111,28 @@ fn see_node<R: Ruler>(
         (dists_of (search_at (R.M.space (R.metric ruler.old)) probe.entry.q.now probe.entry.rho) above node.now)) }
     ensures seen { IfOk result (IsSeenOf (R.M.space (R.metric ruler.old)) probe.entry.q.now probe.entry.rho above node.now) }
 {
-    let mut seen = Vec::new(alloc);
     match node {
         Node::Leaf(entries) => {
+            let entries = entries.as_slice();
+            let mut seen = Vec::with_capacity(alloc, entries.len())?;
             note_leaf(
                 ruler,
                 probe,
                 above,
-                entries.as_slice(),
+                entries,
                 &mut machine.best,
                 &mut seen,
             )?;
             Ok(Seen::Objects(seen))
         }
         Node::Inner { entries, .. } => {
+            let entries = entries.as_slice();
+            let mut seen = Vec::with_capacity(alloc, entries.len())?;
             queue_inner(
                 ruler,
                 probe,
                 above,
-                entries.as_slice(),
+                entries,
                 &mut machine.frontier,
                 &mut seen,
             )?;

@@ -1,11 +1,27 @@
 -- The numbers at the front of a page, and the points that are parts of them.
-use Rattle.std.proofs.Common.{◌≡◌, ℕ, ◌+◌, ◌*◌, ◌-◌, ◌<◌, ◌≤◌, List, length, take, drop, get_or, sym, ◌∙◌, ap, arith, length-drop}
+use Rattle.std.proofs.Common.{◌≡◌, ℕ, ◌+◌, ◌*◌, ◌-◌, ◌<◌, ◌≤◌, Bool, List, length, take, drop, get_or, sym, ◌∙◌, ap, arith, length-drop, mul-le-mul_left}
 use Rattle.std.proofs.lemmas.List.{get_or-drop, drop-take, take_all}
 use Rattle.byteorder.specs.Endian.{IsRead, big_number}
 use Rattle.node_page.specs.Bytes.{number_at}
-use Rattle.node_page.specs.Nodes.{IsFront, point_at}
+use Rattle.node_page.specs.declared.node.Front.{Front}
+use Rattle.node_page.specs.declared.node.Front.TheVariants.{Unread, Read}
+use Rattle.node_page.specs.declared.node.Version.{Version}
+use Rattle.node_page.specs.Nodes.{IsFrontBelow, parent_place, place_in, IsFront, point_at}
 use Rattle.node_page.proofs.Listing.{firsts_by, place-firsts}
 use Rattle.node_page.proofs.Numbers.{number_got}
+
+-- what reaches to a place reaches to each place before it
+pub front_shorter : (page : List ℕ) (small end dim : ℕ) (front : Front) → small ≤ end → IsFrontBelow page end dim front → IsFrontBelow page small dim front
+front_shorter page small end dim Unread le is = is
+front_shorter page small end dim (Read numbers) le is = (is.0, omega (arith, is.1))
+
+-- an entry ends where the next one begins, and that is no later than the end of all
+pub entry_before : (version : Version) (leaf : Bool) (dim i count : ℕ) → i < count →
+    place_in version leaf dim i + (parent_place version leaf + 8) + 4 * dim ≤ place_in version leaf dim count
+entry_before version leaf dim i count below =
+    let next : (parent_place version leaf + 8 + 4 * dim) * (i + 1) ≤ (parent_place version leaf + 8 + 4 * dim) * count =
+    mul-le-mul_left (parent_place version leaf + 8 + 4 * dim) (omega arith) in
+    omega (arith, next)
 
 -- what is read of the front of a page is its front
 pub front_read : (count : ℕ) (page numbers : List ℕ) → 4 * count ≤ 4096 → 4096 ≤ length page → length numbers ≡ count →

@@ -8,6 +8,9 @@ use Rattle.tree_shape.specs.declared.entry.InnerEntry.{InnerEntry}
 use Rattle.tree_shape.specs.declared.entry.Node.{Node}
 use Rattle.tree_shape.specs.declared.entry.Node.TheVariants.{Leaf, Inner}
 use Rattle.node_page.specs.Bytes.{number_at, AreZero, are_zero}
+use Rattle.std.specs.Arc.{arc_slice_items}
+use Rattle.node_page.specs.declared.node.Front.{Front}
+use Rattle.node_page.specs.declared.node.Front.TheVariants.{Unread, Read}
 use Rattle.node_page.specs.declared.node.Version.{Version}
 use Rattle.node_page.specs.declared.node.Version.TheVariants.{First, Second}
 use Rattle.node_page.specs.declared.node.NodeFault.{NodeFault}
@@ -26,6 +29,11 @@ all_of f (suc n) = all_of f n && f n
 -- each of `numbers` is the number of four bytes at its place of the page
 abbrev pub IsFront : List ℕ → List ℕ → Type 0
 IsFront page numbers = numbers ≡ firsts (λ j. number_at (4 * j) 4 page) (length numbers)
+
+-- what is read of the front of a page reaches to the place `end`; it is not read for points of at most 16 coordinates
+abbrev pub IsFrontBelow : List ℕ → ℕ → ℕ → Front → Type 0
+IsFrontBelow page end dim Unread = dim ≤ 16
+IsFrontBelow page end dim (Read numbers) = IsFront page (arc_slice_items numbers) × (end ≤ 4 * length (arc_slice_items numbers))
 
 -- the coordinates from a place on
 abbrev pub point_at : ℕ → List ℕ → ℕ → List ℕ

@@ -1,13 +1,12 @@
-ghost use Rattle.std.specs.Prelude.{◌≡◌, ◌≢◌, ◌⊎◌, ◌+◌, ◌*◌, ◌/◌, ◌≤◌, ◌<◌, ◌==◌, length, true, IfOk, IfErr, Ok, Err, Some, None, slice_index};
-ghost use Rattle.std.specs.Rc.{rc_slice_items};
+ghost use Rattle.std.specs.Prelude.{◌≡◌, ◌≢◌, ◌⊎◌, ◌+◌, ◌*◌, ◌/◌, ◌≤◌, ◌<◌, ◌==◌, length, take, true, IfOk, IfErr, Ok, Err, Some, None, slice_index};
 ghost use Rattle.tree_shape.specs.Fill.{most_for};
-ghost use Rattle.node_page.specs.Nodes.{IsFront, SpellsIn, SpellsNode, SpellsOldNode, IsLawfulNode, firsts, point_at, parent_place, tag_at, leaf_in, inner_at, place_of, place_in, count_of, near_at, are_near, is_count, is_rest_zero, fault_in, node_in, node_fault, node_of, old_node_fault, old_node_of};
+ghost use Rattle.node_page.specs.Nodes.{IsFront, IsFrontBelow, SpellsIn, SpellsNode, SpellsOldNode, IsLawfulNode, firsts, point_at, parent_place, tag_at, leaf_in, inner_at, place_of, place_in, count_of, near_at, are_near, is_count, is_rest_zero, fault_in, node_in, node_fault, node_of, old_node_fault, old_node_of};
 
 use crate::bytes::{are_zero, get_u16, get_u32, get_u64};
 use byteorder::{BigEndian, ByteOrder};
 use metric_laws::{BOUND, Listed, Point};
 use std::alloc::{AllocError, Global};
-use std::rc::RcSlice;
+use std::sync::ArcSlice;
 use thiserror::Error;
 use tree_shape::{InnerEntry, LeafEntry, Node, fill};
 
@@ -40,11 +39,23 @@ pub enum Version {
     Second,
 }
 
+// The numbers of four bytes at the front of a page. Long points are parts of them.
+#[derive(Drop)]
+enum Front {
+    // The points are short, and stand in the values themselves.
+    Unread,
+    // The numbers.
+    Read(ArcSlice<u32>),
+}
+
 /// The bytes before the first entry.
 const ENTRIES: usize = 16;
 
 /// The bytes of a distance.
 const DISTANCE: usize = 8;
+
+/// The most coordinates of a point that stands in the value itself.
+const SHORT: u8 = 16;
 
 // Returns the number of bytes of an entry before its parent distance. The coordinates follow that.
 fn parent_place(version: Version, leaf: bool) -> usize
@@ -153,6 +164,19 @@ fn fault_of(page: &[u8; 4096], dim: u8, version: Version) -> Option<NodeFault>
     None
 }
 
+// Reads the coordinates from the place `at` on.
+fn coordinates_at(page: &[u8; 4096], at: usize, dim: usize) -> [u32; 16]
+    requires few { dim ≤ 16 }
+    requires within { at + 4 * dim ≤ 4096 }
+    ensures { take dim result ≡ point_at dim page.now at }
+{
+    let mut coordinates = [0u32; 16];
+    for place in 0..dim {
+        coordinates[place] = get_u32(page, at + 4 * place);
+    }
+    coordinates
+}
+
 // Reads the numbers of four bytes at the front of `page`.
 fn read_front(page: &[u8; 4096], numbers: &mut [u32])
     requires { 4 * length numbers.old ≤ 4096 }
@@ -163,30 +187,38 @@ fn read_front(page: &[u8; 4096], numbers: &mut [u32])
     BigEndian::read_u32_into(&page[..4 * numbers.len()], numbers);
 }
 
-// Reads the numbers of four bytes in `page` below the place `end`.
-fn numbers_below(alloc: Global, page: &[u8; 4096], end: usize) -> Result<RcSlice<u32>, AllocError>
-    requires { end ≤ 4096 }
-    ensures front { IfOk result (λ numbers. IsFront page.now (rc_slice_items numbers)) }
-    ensures len { IfOk result (λ numbers. length (rc_slice_items numbers) ≡ end / 4) }
+// Reads the numbers of four bytes in `page` below the place `end`, for points of more coordinates than stand in a value itself.
+fn numbers_below(alloc: Global, page: &[u8; 4096], end: usize, dim: u8) -> Result<Front, AllocError>
+    requires within { end ≤ 4096 }
+    requires aligned { 4 * (end / 4) ≡ end }
+    ensures { IfOk result (IsFrontBelow page.now end dim) }
 {
+    if dim <= SHORT {
+        return Ok(Front::Unread);
+    }
     let mut numbers = Vec::from_elem(alloc, 0u32, end / 4)?;
     read_front(page, numbers.as_mut_slice());
-    RcSlice::from_vec(numbers)
+    Ok(Front::Read(ArcSlice::from_vec(numbers)?))
 }
 
-// Returns the point from the place `at` on, which is a part of the `numbers` at the front of its page.
+// Reads the point from the place `at` on. A long one is a part of the `numbers` at the front of its page.
 fn point_at(
+    alloc: Global,
     page: &[u8; 4096],
-    numbers: &RcSlice<u32>,
+    numbers: &Front,
     at: usize,
     dim: u8,
 ) -> Result<Point, AllocError>
-    requires front { IsFront page.now (rc_slice_items numbers.now) }
     requires aligned { 4 * (at / 4) ≡ at }
-    requires within { at + 4 * dim ≤ 4 * length (rc_slice_items numbers.now) }
+    requires within { at + 4 * dim ≤ 4096 }
+    requires numbers { IsFrontBelow page.now (at + 4 * dim) dim numbers.now }
     ensures { IfOk result (λ p. p ≡ point_at dim page.now at) }
 {
-    Point::part_of(numbers, at / 4, usize::from(dim))
+    let dim = usize::from(dim);
+    match numbers {
+        Front::Unread => Ok(Point::short(alloc, coordinates_at(page, at, dim), dim)),
+        Front::Read(numbers) => Point::part_of(numbers, at / 4, dim),
+    }
 }
 
 // Reads the tag of the leaf entry from the place `at` on.
@@ -203,16 +235,16 @@ fn tag_at(page: &[u8; 4096], at: usize, version: Version) -> u64
 // Reads the leaf entry from the place `at` on.
 #[tactic(auto, unfolding(crate::specs::Nodes::leaf_in))]
 fn leaf_in(
+    alloc: Global,
     page: &[u8; 4096],
-    numbers: &RcSlice<u32>,
+    numbers: &Front,
     at: usize,
     dim: u8,
     version: Version,
 ) -> Result<LeafEntry, AllocError>
-    requires front { IsFront page.now (rc_slice_items numbers.now) }
     requires aligned { 4 * ((at + (parent_place version true + 8)) / 4) ≡ at + (parent_place version true + 8) }
-    requires within { at + (parent_place version true + 8) + 4 * dim ≤ 4 * length (rc_slice_items numbers.now) }
-    requires page { 4 * length (rc_slice_items numbers.now) ≤ 4096 }
+    requires within { at + (parent_place version true + 8) + 4 * dim ≤ 4096 }
+    requires numbers { IsFrontBelow page.now (at + (parent_place version true + 8) + 4 * dim) dim numbers.now }
     ensures { IfOk result (λ e. e ≡ leaf_in version dim page.now at) }
 {
     let parent = at + parent_place(version, true);
@@ -220,29 +252,29 @@ fn leaf_in(
         id: get_u32(page, at),
         tag: tag_at(page, at, version),
         parent: get_u64(page, parent),
-        point: point_at(page, numbers, parent + DISTANCE, dim)?,
+        point: point_at(alloc, page, numbers, parent + DISTANCE, dim)?,
     })
 }
 
 // Reads the inner entry from the place `at` on.
 #[tactic(auto, unfolding(crate::specs::Nodes::inner_at))]
 fn inner_at(
+    alloc: Global,
     page: &[u8; 4096],
-    numbers: &RcSlice<u32>,
+    numbers: &Front,
     at: usize,
     dim: u8,
 ) -> Result<InnerEntry, AllocError>
-    requires front { IsFront page.now (rc_slice_items numbers.now) }
     requires aligned { 4 * ((at + 20) / 4) ≡ at + 20 }
-    requires within { at + 20 + 4 * dim ≤ 4 * length (rc_slice_items numbers.now) }
-    requires page { 4 * length (rc_slice_items numbers.now) ≤ 4096 }
+    requires within { at + 20 + 4 * dim ≤ 4096 }
+    requires numbers { IsFrontBelow page.now (at + 20 + 4 * dim) dim numbers.now }
     ensures { IfOk result (λ e. e ≡ inner_at dim page.now at) }
 {
     Ok(InnerEntry {
         child: get_u32(page, at),
         radius: get_u64(page, at + 4),
         parent: get_u64(page, at + 12),
-        point: point_at(page, numbers, at + 20, dim)?,
+        point: point_at(alloc, page, numbers, at + 20, dim)?,
     })
 }
 
@@ -250,19 +282,20 @@ fn inner_at(
 fn leaf_entries(
     alloc: Global,
     page: &[u8; 4096],
+    numbers: &Front,
     dim: u8,
     version: Version,
     count: usize,
 ) -> Result<Listed<LeafEntry>, AllocError>
     requires few { dim ≤ 64 }
     requires most { count ≤ most_for dim }
+    requires numbers { IsFrontBelow page.now (place_in version true dim count) dim numbers.now }
     ensures { IfOk result (λ es. es ≡ firsts (λ i. leaf_in version dim page.now (place_in version true dim i)) count) }
 {
-    let numbers = numbers_below(alloc, page, place_in(version, true, dim, count))?;
     let mut entries = Vec::with_capacity(alloc, count)?;
     for index in 0..count {
         let at = place_in(version, true, dim, index);
-        entries.push(leaf_in(page, &numbers, at, dim, version)?)?;
+        entries.push(leaf_in(alloc, page, numbers, at, dim, version)?)?;
     }
     Ok(Listed::new(entries))
 }
@@ -271,17 +304,18 @@ fn leaf_entries(
 fn inner_entries(
     alloc: Global,
     page: &[u8; 4096],
+    numbers: &Front,
     dim: u8,
     count: usize,
 ) -> Result<Listed<InnerEntry>, AllocError>
     requires few { dim ≤ 64 }
     requires most { count ≤ most_for dim }
+    requires numbers { IsFrontBelow page.now (place_of dim count) dim numbers.now }
     ensures { IfOk result (λ es. es ≡ firsts (λ i. inner_at dim page.now (place_of dim i)) count) }
 {
-    let numbers = numbers_below(alloc, page, place_of(dim, count))?;
     let mut entries = Vec::with_capacity(alloc, count)?;
     for index in 0..count {
-        entries.push(inner_at(page, &numbers, place_of(dim, index), dim)?)?;
+        entries.push(inner_at(alloc, page, numbers, place_of(dim, index), dim)?)?;
     }
     Ok(Listed::new(entries))
 }
@@ -296,12 +330,13 @@ fn node_in(alloc: Global, page: &[u8; 4096], dim: u8, version: Version) -> Resul
     let count = count_of(page);
     let level = page[0];
     if level == 0 {
-        return Ok(Node::Leaf(leaf_entries(alloc, page, dim, version, count)?));
+        let numbers = numbers_below(alloc, page, place_in(version, true, dim, count), dim)?;
+        let entries = leaf_entries(alloc, page, &numbers, dim, version, count)?;
+        return Ok(Node::Leaf(entries));
     }
-    Ok(Node::Inner {
-        level,
-        entries: inner_entries(alloc, page, dim, count)?,
-    })
+    let numbers = numbers_below(alloc, page, place_of(dim, count), dim)?;
+    let entries = inner_entries(alloc, page, &numbers, dim, count)?;
+    Ok(Node::Inner { level, entries })
 }
 
 // Reads a node of a version, or names the first fault.

@@ -13,23 +13,23 @@ pub trait TryClone: Drop {
 }
 
 impl TryClone for LeafEntry {
-    fn try_clone(&self, _alloc: Global) -> Result<Self, Memory> {
+    fn try_clone(&self, alloc: Global) -> Result<Self, Memory> {
         Ok(LeafEntry {
             id: self.id,
             tag: self.tag,
             parent: self.parent,
-            point: self.point.share()?,
+            point: self.point.share(alloc)?,
         })
     }
 }
 
 impl TryClone for InnerEntry {
-    fn try_clone(&self, _alloc: Global) -> Result<Self, Memory> {
+    fn try_clone(&self, alloc: Global) -> Result<Self, Memory> {
         Ok(InnerEntry {
             child: self.child,
             radius: self.radius,
             parent: self.parent,
-            point: self.point.share()?,
+            point: self.point.share(alloc)?,
         })
     }
 }

@@ -34,5 +34,5 @@ pub fn point_from(alloc: Global, row: &ByteRecord, start: usize) -> Result<Optio
     let Some(found) = coordinates_from(alloc, row, start)? else {
         return Ok(None);
     };
-    Ok(Some(Point::from_vec(found)?))
+    Ok(Some(Point::new(alloc, found.as_slice())?))
 }

@@ -14,13 +14,16 @@ use crate::gathering::all_done;
 use crate::jobs::piles::{Pile, Prepared};
 use image_answers::cached_pages;
 use metric_laws::Metric;
-use page_cache::{Cached, KEPT_NODES};
+use page_cache::Cached;
 use page_store::{Image, ImagePages};
 use par_work::share;
 use rows_text::Command;
 use std::alloc::{AllocError, Global};
 use std::thread::Threads;
 use tree_shape::Live;
+
+/// How many nodes a worker of a batch keeps: some 64 MiB. Each page of a file of no more pages is decoded once.
+const WORKER_NODES: usize = 16_384;
 
 // Adds what is to be put for one more command.
 fn add_for<M: Metric>(
@@ -60,7 +63,7 @@ fn pile_of<M: Metric>(
     ensures { IfOk result (IsPileIn (M.space metric) live.now (bytes_in image.entry) show commands.now
         (record { rounds = deal.now.rounds; workers = deal.now.workers }) deal.now.rounds worker) }
 {
-    let mut pages = cached_pages(alloc, image, metric, live, KEPT_NODES)?;
+    let mut pages = cached_pages(alloc, image, metric, live, WORKER_NODES)?;
     let mut pile = Pile::new(alloc)?;
     for round in 0..deal.rounds {
         let place = deal.place(worker * deal.rounds + round);
