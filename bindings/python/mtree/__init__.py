@@ -1,20 +1,20 @@
-"""Search by likeness in an index file of mtree, over the shared library libmtree.so.
+"""Searches an index file of mtree by likeness, over the shared library libmtree.so.
 
-An `Index` maps its file; no call copies it. Answers are those of the proved library: on a sound file those of a plain scan of its
-objects. Every method may be called from several threads at once, and a call holds up no other thread.
+An `Index` maps its file, and no call copies it. The answers are those of the proved library: on a sound file those of a plain scan of
+its objects. Several threads may call every method at once. A call holds up no other thread.
 
     with Index("colours.mt") as index:
         for hit in index.nearest([252, 9, 6], 2):
             print(hit.id, hit.distance)
 
-An index is made and filled by `Index.from_array(path, rows, metric="l1")`, `Index.create`, `load` and `insert`, which call the program
-`mtree` as a child process.
+`Index.from_array(path, rows, metric="l1")`, `Index.create`, `load` and `insert` make and fill an index. They call the program `mtree`
+as a child process.
 
-A point is an iterable of whole numbers below 2^32, or an array of numpy of any integer type. An array of uint32 that is contiguous is
-taken without a copy. The library is `libmtree.so` beside this file, or the file that the variable MTREE_LIBRARY names.
+A point is an iterable of whole numbers below 2^32, or a numpy array of any integer type. A contiguous array of uint32 is read without a
+copy. The library is `libmtree.so` beside this file, or the file that the variable MTREE_LIBRARY names.
 
-A call holds the system's shared lock on the file while it runs, so no process writes the file under it. Where one writes it, the call
-raises `InUse`. What another process added between two calls is seen by the second.
+A call holds the system's shared lock on the file while it runs, so no program of mtree writes the file meanwhile. Where one is writing
+it, the call raises `InUse`. A call sees what other processes added before it.
 """
 
 from __future__ import annotations
@@ -36,18 +36,18 @@ __version__ = "0.2.0"
 
 
 class Hit(NamedTuple):
-    """An object that a query is answered with."""
+    """An object in an answer."""
 
     id: int
     """Its place in the order of acceptance, from 0."""
     distance: int
     """Its distance from the query's point, in the metric of the file."""
     tag: int
-    """Its tag."""
+    """The number that the caller gave it, or its id where none was given."""
 
 
 class Report(NamedTuple):
-    """What an audit, or the judging of logs, says."""
+    """What an audit or a judge of logs says."""
 
     accepted: bool
     """Whether nothing was rejected."""
@@ -56,7 +56,7 @@ class Report(NamedTuple):
 
 
 class Error(Exception):
-    """A call that has no answer. Its words are the program's."""
+    """A call has no answer. The words are the program's."""
 
 
 class InUse(Error):
@@ -72,15 +72,15 @@ class NoQuery(Error, ValueError):
 
 
 class Damaged(Error):
-    """The search came to a damaged page of a file that is not sound. The words are those of the file's audit."""
+    """The search came to a damaged page of a file that is not sound. The words are those of an audit of the file."""
 
 
 class TooLong(Error):
-    """There are more than 2^30 bytes of logs."""
+    """There are more than 2^30 bytes of logs, or the file has more than 262144 pages, which `len` does not count."""
 
 
 class Refused(Error, ValueError):
-    """A row was refused. `row` is its number in what was handed in, and `ids` are those of the rows that were added."""
+    """A row was refused. `row` is its place among the given rows, from 0. `ids` are the ids of the rows that were added."""
 
     def __init__(self, words: str, row: int, ids: "List[int]") -> None:
         super().__init__(words)
@@ -126,7 +126,7 @@ _library = _load()
 
 
 def _coordinate(given: Any) -> int:
-    """A coordinate, as a whole number below 2^32. A float that is whole is taken."""
+    """Returns a coordinate as a whole number below 2^32. Accepts a float that is whole."""
     try:
         whole = operator.index(given)
     except TypeError:
@@ -143,7 +143,7 @@ def _coordinate(given: Any) -> int:
 
 
 def _point(point: Any) -> Tuple[Any, int, Any]:
-    """The place and the number of a point's coordinates, and what has to live while they are read."""
+    """Returns the address and the number of a point's coordinates, and the object that has to live while they are read."""
     about = getattr(point, "__array_interface__", None)
     if about is not None:
         if len(about["shape"]) != 1:
@@ -160,7 +160,7 @@ def _point(point: Any) -> Tuple[Any, int, Any]:
 
 
 class _Rooms(threading.local):
-    """The buffers of one thread, which grow to what was needed."""
+    """The buffers of one thread. They grow to the greatest size that was needed."""
 
     def __init__(self) -> None:
         self.hits = (_Hit * 64)()
@@ -168,7 +168,7 @@ class _Rooms(threading.local):
 
 
 class Index:
-    """An index file, mapped. It is opened at once, and read only within the calls."""
+    """An index file, mapped. Opens the file at once, and reads it only within the calls."""
 
     def __init__(self, path: "os.PathLike[str] | str") -> None:
         self._path = os.fspath(path)
@@ -189,7 +189,7 @@ class Index:
     @classmethod
     def create(cls, path: "os.PathLike[str] | str", *, metric: str, dim: int, max_objects: Optional[int] = None, promote: Optional[str] = None,
                split: Optional[str] = None) -> "Index":
-        """Makes an empty index in a file that is not there or is empty. `promote` is "mrad" or "mmrad", `split` "hyperplane" or "balanced"."""
+        """Makes an empty index in a file that does not exist or is empty. `promote` is "mrad" or "mmrad", `split` "hyperplane" or "balanced"."""
         given = {"metric": metric, "dim": dim, "max": max_objects, "promote": promote, "split": split}
         words = [word for name, value in given.items() if value is not None for word in (f"--{name}", str(value))]
         _said(_program.run(["create", os.fspath(path), *words]))
@@ -197,7 +197,7 @@ class Index:
 
     @classmethod
     def from_array(cls, path: "os.PathLike[str] | str", rows: Any, *, metric: str, tags: Any = None, workers: int = 1) -> "Index":
-        """Makes an index of all rows at once: an array of two dimensions, or a list of points. Row i gets the id i."""
+        """Makes an index of all `rows` at once, an array of two dimensions or a list of points. Row i gets the id i."""
         lines = _rows(rows)
         if not lines:
             raise ValueError("an index of no rows has no dimension: use create")
@@ -206,12 +206,12 @@ class Index:
         return index
 
     def load(self, rows: Any, tags: Any = None, *, workers: int = 1) -> int:
-        """Fills an index that holds nothing, and answers how many rows it got. It takes all rows or none."""
+        """Fills an empty index with all `rows` or none. Returns their number."""
         return self._load(_rows(rows), tags, workers)
 
     def insert(self, rows: Any, tags: Any = None) -> List[int]:
-        """Adds rows one after the other, and answers their ids. Each is durable once it is answered. Where rows are refused, the others are
-        added all the same, and `Refused` names the first refused row and holds the ids of the added ones."""
+        """Adds `rows` one after another and returns their ids. Each is durable then. Where rows are refused, adds the others all the same, and
+        raises `Refused` with the first refused row and the ids of the added ones."""
         lines = _rows(rows)
         labels = None if tags is None else _tags(tags, len(lines))
         ids: List[int] = []
@@ -240,8 +240,8 @@ class Index:
         return int(text.split()[1])
 
     def kneighbors(self, points: Any, n_neighbors: int = 5, return_distance: bool = True, return_tags: bool = False, n_jobs: int = 1) -> Any:
-        """The `n_neighbors` nearest objects of each point, as scikit-learn orders them: arrays `(distances, ids)` of one row a point, of
-        int64, or the ids alone; with `return_tags` the tags besides. Needs numpy. Raises ValueError where the index has fewer objects."""
+        """Finds the `n_neighbors` nearest objects of each point. Returns arrays `(distances, ids)` of int64 with one row a point, as
+        scikit-learn does, or the ids alone; with `return_tags` the tags too. Needs numpy. Raises ValueError where the index has fewer objects."""
         answers = self.nearest_of_each(points, n_neighbors, n_jobs)
         if any(len(hits) < n_neighbors for hits in answers):
             raise ValueError(f"{n_neighbors} neighbours are asked for, and the index has {len(answers[0])} objects")
@@ -254,8 +254,8 @@ class Index:
         return _chosen(arrays, return_distance, return_tags)
 
     def radius_neighbors(self, points: Any, radius: float, return_distance: bool = True, return_tags: bool = False, n_jobs: int = 1) -> Any:
-        """All objects within `radius` of each point, by distance, then by id: for each point one array of distances and one of ids, as
-        scikit-learn hands them over, or the ids alone; with `return_tags` the tags besides. Needs numpy."""
+        """Finds all objects within `radius` of each point, by distance, then by id. Returns for each point one array of distances and one of
+        ids, as scikit-learn does, or the ids alone; with `return_tags` the tags too. Needs numpy."""
         answers = self.range_of_each(points, radius, n_jobs)
         import numpy
 
@@ -269,26 +269,26 @@ class Index:
 
     @property
     def path(self) -> str:
-        """The file's path."""
+        """The path of the file."""
         return self._path
 
     @property
     def metric(self) -> str:
-        """The metric's name."""
+        """The name of the metric."""
         return _METRICS[self._head()[10] - 1]
 
     @property
     def dim(self) -> int:
-        """How many numbers a point has."""
+        """The number of coordinates of a point."""
         return self._head()[_DIMENSION_AT]
 
     @property
     def max_objects(self) -> int:
-        """How many objects the index may hold."""
+        """The most objects that the index may hold."""
         return int.from_bytes(self._head()[16:20], "big")
 
     def __len__(self) -> int:
-        """How many objects the index holds."""
+        """The number of objects in the index. The program `mtree` counts them."""
         status, text, told = _program.run(["batch", self._path], b"count\n")
         return int(_said((status, text, told)).split()[1])
 
@@ -300,7 +300,7 @@ class Index:
         return head
 
     def close(self) -> None:
-        """Lets go of the file. No call may be running. A call that follows raises ValueError."""
+        """Closes the file. No call may be running. A later call raises ValueError."""
         with self._turn:
             self._unmap()
             if self._handle is not None:
@@ -314,7 +314,7 @@ class Index:
             self._map = None
 
     def _map_anew(self, handle: Any) -> None:
-        """Maps the file where it is not mapped, or was changed since."""
+        """Maps the file, where it is not mapped or was changed since."""
         now = os.fstat(handle.fileno())
         seen = (now.st_size, now.st_mtime_ns)
         if seen == self._seen:
@@ -328,7 +328,7 @@ class Index:
 
     @contextlib.contextmanager
     def _reading(self) -> Iterator[Tuple[Any, int]]:
-        """The place and the size of the file's bytes. The file is held by a shared lock meanwhile, which all threads' calls share."""
+        """Yields the address and the size of the file's bytes. Holds the file by a shared lock meanwhile, one for the calls of all threads."""
         with self._turn:
             if self._handle is None:
                 raise ValueError(f"the index {self._path} is closed")
@@ -354,27 +354,27 @@ class Index:
                     fcntl.flock(self._handle, fcntl.LOCK_UN)
 
     def range(self, point: Iterable[int], radius: float) -> List[Hit]:
-        """Every object within `radius` of a point, by distance, then by id. Distances are whole numbers; math.inf is every object."""
+        """Returns every object within `radius` of `point`, by distance, then by id. A radius of math.inf finds every object."""
         return self._ask(_library.mtree_range, point, _radius(radius), False)[0]
 
     def nearest(self, point: Iterable[int], count: int) -> List[Hit]:
-        """The `count` objects nearest to a point, by distance, then by id."""
+        """Returns the `count` objects nearest to `point`, by distance, then by id."""
         return self._ask(_library.mtree_nearest, point, _count(count), False)[0]
 
     def range_with_log(self, point: Iterable[int], radius: float) -> Tuple[List[Hit], bytes]:
-        """The answer of `range`, and the frame of the log that shows it."""
+        """Returns the answer of `range`, and the frame of the log that shows it."""
         return self._ask(_library.mtree_range, point, _radius(radius), True)
 
     def nearest_with_log(self, point: Iterable[int], count: int) -> Tuple[List[Hit], bytes]:
-        """The answer of `nearest`, and the frame of the log that shows it."""
+        """Returns the answer of `nearest`, and the frame of the log that shows it."""
         return self._ask(_library.mtree_nearest, point, _count(count), True)
 
     def range_of_each(self, points: Iterable[Iterable[int]], radius: float, threads: int = 1) -> List[List[Hit]]:
-        """The answer of `range` for each point, in their order, by `threads` threads."""
+        """Returns the answer of `range` for each of `points`, in their order. Works by `threads` threads."""
         return self._each(lambda point: self.range(point, radius), points, threads)
 
     def nearest_of_each(self, points: Iterable[Iterable[int]], count: int, threads: int = 1) -> List[List[Hit]]:
-        """The answer of `nearest` for each point, in their order, by `threads` threads."""
+        """Returns the answer of `nearest` for each of `points`, in their order. Works by `threads` threads."""
         return self._each(lambda point: self.nearest(point, count), points, threads)
 
     def audit(self) -> Report:
@@ -382,11 +382,11 @@ class Index:
         return self._say(_library.mtree_audit)
 
     def verify(self, logs: Any) -> Report:
-        """Judges logs, which stand in frames, by the file, which is not audited."""
+        """Judges the frames of `logs` by the file. Does not audit the file."""
         return self._say(_library.mtree_verify, logs)
 
     def check(self, logs: Any) -> Report:
-        """Audits the file, and where it is sound judges the logs by it and says their answers."""
+        """Audits the file. Where it is sound, judges the frames of `logs` by it and tells the answer of each accepted one."""
         return self._say(_library.mtree_check, logs)
 
     @staticmethod
@@ -431,19 +431,19 @@ _METRICS = ("hamming", "l1", "max", "kendall", "hausdorff", "mixsum", "mixmax", 
 
 
 def _chosen(arrays: List[Any], with_distance: bool, with_tags: bool) -> Any:
-    """Of distances, ids and tags those that are wanted."""
+    """Returns those of distances, ids and tags that are wanted."""
     wanted = [array for array, is_wanted in zip(arrays, (with_distance, True, with_tags)) if is_wanted]
     return wanted[0] if len(wanted) == 1 else tuple(wanted)
 
 
 def _rows(rows: Any) -> List[str]:
-    """Rows as lines of a script. Each coordinate is judged."""
+    """Returns `rows` as lines of a script. Checks each coordinate."""
     rows = rows.tolist() if hasattr(rows, "tolist") else rows
     return [",".join(str(_coordinate(c)) for c in row) for row in rows]
 
 
 def _tags(tags: Any, count: int) -> List[str]:
-    """Tags as words of a script, one for each row."""
+    """Returns `tags` as words of a script, one for each of `count` rows."""
     given = [operator.index(tag) for tag in (tags.tolist() if hasattr(tags, "tolist") else tags)]
     if len(given) != count:
         raise ValueError(f"there are {len(given)} tags for {count} rows")
@@ -453,7 +453,7 @@ def _tags(tags: Any, count: int) -> List[str]:
 
 
 def _said(ran: Tuple[int, str, str]) -> str:
-    """What the program wrote, where its status is 0. Else the exception that the status stands for."""
+    """Returns what the program wrote, where its status is 0. Else raises the exception that the status stands for."""
     status, text, told = ran
     if status == 0:
         return text
@@ -468,19 +468,19 @@ def _said(ran: Tuple[int, str, str]) -> str:
 
 
 def _no_query(coordinates: int, dimension: int) -> str:
-    """What is wrong with a point of these coordinates, on an index of this dimension."""
+    """Says what is wrong with a point of `coordinates` numbers, on an index of `dimension`."""
     if coordinates != dimension:
         return f"the point has {coordinates} numbers, the index {dimension}"
     return "the point is not of the index's space: kendall takes rankings, and hausdorff sets of numbers"
 
 
 def _bytes(given: Any) -> bytes:
-    """Any bytes-like object as bytes. All else raises TypeError."""
+    """Returns a bytes-like object as bytes. Raises TypeError for anything else."""
     return given if isinstance(given, bytes) else bytes(memoryview(given))
 
 
 def prove(logs: Any, root: Any) -> Report:
-    """Judges carried logs, which stand in frames, by the root digest of 32 bytes of an index file, without the file."""
+    """Judges the frames of carried logs in `logs` by `root`, the 32 bytes of an index's root digest, without the file."""
     carried, digest = _bytes(logs), _bytes(root)
     if len(digest) != 32:
         raise ValueError(f"a root digest has 32 bytes, and this one {len(digest)}")
@@ -488,7 +488,7 @@ def prove(logs: Any, root: Any) -> Report:
 
 
 def _text(call: Any, *given: Any) -> Tuple[int, str]:
-    """The status of a call and its text."""
+    """Returns the status of `call` and its text."""
     size = ctypes.c_size_t()
     room = 4096
     while True:
@@ -514,7 +514,7 @@ def _error(status: int, words: str) -> Exception:
 
 
 def _radius(radius: float) -> int:
-    """A radius, as the library takes it. Distances are whole numbers below 2^39, so a fraction is cut off and a greater radius is all."""
+    """Returns a radius as the library takes it. Distances are whole numbers below 2^39: cuts a fraction off, and a greater radius is all."""
     try:
         if not radius >= 0:
             raise NoQuery(f"a radius is a number from 0 on, and {radius!r} is none")
@@ -524,7 +524,7 @@ def _radius(radius: float) -> int:
 
 
 def _count(count: int) -> int:
-    """How many of the nearest are asked for, as the library takes it: at least 1."""
+    """Returns the number of the nearest, at least 1, as the library takes it."""
     try:
         whole = operator.index(count)
     except TypeError:

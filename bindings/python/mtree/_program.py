@@ -1,4 +1,4 @@
-"""The program `mtree` as a child process, which is what writes an index."""
+"""Runs the program `mtree` as a child process. It alone writes an index."""
 
 from __future__ import annotations
 
@@ -12,8 +12,8 @@ _SCRIPT_BYTES = 64 << 20
 
 
 def find() -> str:
-    """The path of the program: the variable MTREE_PROGRAM, the file `mtree_cli` beside this module, the one that a clone of the repository
-    has built, or `mtree` where the shell finds it."""
+    """Returns the path of the program. Looks at the variable MTREE_PROGRAM, at the file `mtree_cli` beside this module, at the one that a
+    clone of the repository has built, and for `mtree` where the shell finds it."""
     here = os.path.dirname(os.path.abspath(__file__))
     top = os.path.dirname(os.path.dirname(os.path.dirname(here)))
     named = os.environ.get("MTREE_PROGRAM")
@@ -27,13 +27,13 @@ def find() -> str:
 
 
 def run(words: Sequence[str], script: bytes = b"") -> Tuple[int, str, str]:
-    """The status of the program, what it writes, and what it tells on standard error."""
+    """Runs the program. Returns its status, what it writes, and what it tells on standard error."""
     done = subprocess.run([find(), *words], input=script, stdout=subprocess.PIPE, stderr=subprocess.PIPE)
     return done.returncode, done.stdout.decode(), done.stderr.decode(errors="replace").strip()
 
 
 def insert_scripts(rows: Iterable[str], tags: Optional[Iterable[str]]) -> Iterator[bytes]:
-    """Scripts of one insert for each row, each within the program's limit."""
+    """Yields scripts with an insert for each of `rows`, each script within the program's limit."""
     script: List[str] = []
     size = 0
     lines = (f"insert,{row}\n" for row in rows) if tags is None else (f"tinsert,{tag},{row}\n" for tag, row in zip(tags, rows))
@@ -48,7 +48,7 @@ def insert_scripts(rows: Iterable[str], tags: Optional[Iterable[str]]) -> Iterat
 
 
 def load_script(rows: Sequence[str], tags: Optional[Sequence[str]]) -> bytes:
-    """A script of one load of all rows. Where it has too many bytes, ValueError."""
+    """Returns a script of one load of all `rows`. Raises ValueError where it has too many bytes."""
     lines = rows if tags is None else [f"{tag},{row}" for tag, row in zip(tags, rows)]
     script = (f"load,{len(rows)}\n" if tags is None else f"tload,{len(rows)}\n") + "".join(f"{line}\n" for line in lines)
     if len(script) > _SCRIPT_BYTES:
