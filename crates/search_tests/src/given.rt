@@ -8,7 +8,7 @@ pub(crate) fn holds(rt: &impl Abort, is_so: bool) {
     assert!(rt; is_so);
 }
 
-// Gives the bytes of the numbers 0 to 32 in two leaves, the second of which the root names as the page `second`.
+// Gives the bytes of the numbers 0 to 32 in two leaves. The root names the second leaf as the page `second`.
 pub(crate) fn leaves(rt: &(impl AllocGlobal + Abort), second: u32) -> Vec<u8> {
     two_leaves(rt.alloc(), Vec::new(rt.alloc()), second).expect(rt, "memory")
 }

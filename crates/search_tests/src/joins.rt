@@ -235,7 +235,7 @@ fn a_tree_joined_with_itself(rt: HostRuntime) {
     );
 }
 
-// Checks that two leaves, one of which is empty, have no pairs within 9. The log has `records` records.
+// Checks that two leaves have no pairs within 9 where one is empty. The log has `records` records.
 fn check_no_pairs(rt: &(impl AllocGlobal + Abort), left: &[u8], right: &[u8], records: usize) {
     let tree = live(1, 3, 0, 4);
     let one = Side {

@@ -4,7 +4,7 @@ use std::process::Abort;
 use tree_outline::{Shape, ShapeLine, shape_of};
 use tree_shape::Live;
 
-// Describes the live tree of a file of four pages, the last of which is its root.
+// Describes the live tree of a file of four pages, whose last page is its root.
 const ROOT: Live = Live {
     side: 0,
     generation: 1,

@@ -182,7 +182,7 @@ const CSV: [(&[u8], &str); 13] = [
         b"\xEF\xBB\xBFinsert,\" 3 \",4\r\nload,2\r\n1,2\r\n3\r\ninsert,1\r\nrange,x,0,0\r\nhello\r\nload,3\r\n1,2\r\n3,4\r\n",
         "insert [3, 4]|Row(1)|Dimension|Number|Command|Short|",
     ),
-    // Have two marks, one of which is dropped.
+    // Have two marks, and drop one of them.
     (b"\xEF\xBB\xBF\xEF\xBB\xBFcount\ncount\n", "Command|count|"),
     // Have empty lines, which are no records. Have a line of blanks and an empty field in quotes, which are records.
     (b"\n\r\n\ncount\n\n", "count|"),

@@ -336,7 +336,7 @@ const IN_RANGE: [(&str, Job<&str>); 11] = [
     ("scan --metric l1 --dim 2 --tags hide", SCAN),
 ];
 
-// Lists lines of which a value is not in its range.
+// Lists lines in which a value is not in its range.
 const OUT_OF_RANGE: [&str; 28] = [
     "scan --metric l2 --dim 2",
     "scan --metric L1 --dim 2",
@@ -437,7 +437,7 @@ const NO_ORDER: [&str; 12] = [
     "session -a",
     "session a.mt --log -x",
     "session a.mt --log -- x",
-    // Ask for an abbreviation, help or a version, of which there is none.
+    // Ask for an abbreviation, help or a version, where there is none.
     "session a.mt --work 2",
     "session a.mt --unknown 2",
     "--help",
