@@ -1,4 +1,4 @@
-// What tests of writing calls share: disks that stop, indexes on them, and what a crash leaves of them.
+// Shares what tests of writing calls need: disks that stop, indexes on them, and what a crash leaves of them.
 ghost use Rattle.std.specs.Prelude.{◌≡◌, ◌≤◌, ◌^◌, IfOk, OnOk};
 ghost use Rattle.node_page.specs.Heads.{IsLawfulHead};
 ghost use Rattle.index_core.specs.Index.{MayGoOn};

@@ -1,4 +1,4 @@
-ghost use Rattle.std.specs.Prelude.{◌≡◌, ◌^◌, ◌≤◌};
+ghost use Rattle.std.specs.Prelude.{◌^◌, ◌≤◌};
 
 use crate::given::holds;
 use metric_laws::{Meter, Point};

@@ -1,4 +1,4 @@
-// What the tests of searches share: the bytes of small trees, and their live slots.
+// Shares what the tests of searches need: the bytes of small trees, and their live slots.
 use small_trees::{six_entries, two_leaves};
 use std::process::Abort;
 use tree_shape::Live;
