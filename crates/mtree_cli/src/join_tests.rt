@@ -1,5 +1,5 @@
-use crate::log_tests::{HEAD, blank, disk, done, place};
-use crate::runs::{check_both, with_logs};
+use crate::log_tests::{HEAD, blank, place};
+use crate::runs::{check_both, disk, with_logs};
 use std::process::Abort;
 use std::thread::Threads;
 
@@ -79,7 +79,7 @@ fn logs_of<R: AllocGlobal + Abort + Threads + Sync>(
     let mut index = disk(rt, files.index, None);
     let mut other = disk(rt, files.other, None);
     let given = with_logs(command, logs);
-    done(rt, check_both(rt, &given, &mut index, &mut other, ended))
+    check_both(rt, &given, &mut index, &mut other, ended)
 }
 
 // Runs a command on two files and on logs, and checks how it ends.

@@ -1,32 +1,8 @@
-use crate::runs::{Given, check_run, disk_of, with_input, with_logs};
+use crate::runs::{Given, check_run, disk, with_input, with_logs};
 use disk_model::{MemoryDisk, SharedDisk};
 use std::alloc::{AllocError, Global};
 use std::process::Abort;
-use std::test::Fail;
 use std::thread::Threads;
-
-// Gives what a run gave, and ends the test where it failed.
-pub fn done<T>(rt: &impl Abort, ran: Result<T, Fail>) -> T {
-    match ran {
-        Ok(value) => value,
-        Err(_fail) => panic!(rt; "a run failed"),
-    }
-}
-
-// Makes a disk that holds `bytes`, and from the call `stop` on fails.
-pub fn disk(rt: &(impl AllocGlobal + Abort), bytes: &[u8], stop: Option<u64>) -> MemoryDisk {
-    disk_of(rt.alloc(), bytes, stop).expect(rt, "memory")
-}
-
-// Runs words on one index, checks how they end, and gives what is put to the log's output.
-pub fn logs_of_run<R: AllocGlobal + Abort + Threads + Sync, D: SharedDisk>(
-    rt: &R,
-    given: &Given<'_>,
-    index: &mut D,
-    ended: (u8, &str),
-) -> Vec<u8> {
-    done(rt, check_run(rt, given, index, ended))
-}
 
 // Runs words on one index, and checks how they end.
 pub fn check_given<R: AllocGlobal + Abort + Threads + Sync, D: SharedDisk>(
@@ -35,7 +11,7 @@ pub fn check_given<R: AllocGlobal + Abort + Threads + Sync, D: SharedDisk>(
     index: &mut D,
     ended: (u8, &str),
 ) {
-    let _logs = logs_of_run(rt, given, index, ended);
+    let _logs = check_run(rt, given, index, ended);
 }
 
 // Runs words that are given an input.

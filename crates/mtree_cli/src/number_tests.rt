@@ -1,5 +1,5 @@
-use crate::log_tests::{HEAD, blank, check_given, disk, place};
-use crate::runs::with_logs;
+use crate::log_tests::{HEAD, blank, check_given, place};
+use crate::runs::{disk, with_logs};
 use std::alloc::{AllocError, Global};
 use std::process::Abort;
 use std::thread::Threads;

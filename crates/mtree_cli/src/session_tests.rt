@@ -1,7 +1,5 @@
-use crate::log_tests::{
-    HEAD, blank, check_given, check_words, disk, done, logs_of_run, place, small_index,
-};
-use crate::runs::{Given, Ran, run_on, with_input, with_logs};
+use crate::log_tests::{HEAD, blank, check_given, check_words, place, small_index};
+use crate::runs::{Given, Ran, check_run, disk, run_on, with_input, with_logs};
 use disk_model::{MemoryDisk, SharedDisk};
 use outside_io::Status;
 use std::alloc::{AllocError, Global};
@@ -82,7 +80,7 @@ fn check_log<R: AllocGlobal + Abort + Threads + Sync, D: SharedDisk>(rt: &R, ind
     check_words(rt, CREATE, "", index, (0, "created\n"));
     let script = "insert,4\ninsert,9\nrange,3,6\n";
     let replies = "id 0\nid 1\nhits 2\n0 2\n1 3\n";
-    let logs = logs_of_run(rt, &with_input(LOGGED, script), index, (0, replies));
+    let logs = check_run(rt, &with_input(LOGGED, script), index, (0, replies));
     let checked = "file sound\nframe 0 complete\nrange,3,6\nhits 2\n0 2\n1 3\nlog complete\n";
     check_given(rt, &with_logs(CHECK, &logs), index, (0, checked));
     let counted = (0, "id 2\ncount 3\n");
@@ -160,7 +158,7 @@ fn check_range<R: AllocGlobal + Abort + Threads + Sync, D: SharedDisk>(
 ) -> Vec<u8> {
     let three = "hits 3\n0 0\n1 1\n2 2\n";
     let checked = "file sound\nframe 0 complete\nrange,2,0\nhits 3\n0 0\n1 1\n2 2\nlog complete\n";
-    let logs = logs_of_run(rt, &with_input(LOGGED, "range,2,0\n"), index, (0, three));
+    let logs = check_run(rt, &with_input(LOGGED, "range,2,0\n"), index, (0, three));
     check_given(rt, &with_logs(CHECK, &logs), index, (0, checked));
     logs
 }
@@ -393,7 +391,7 @@ fn run_session<R: AllocGlobal + Abort + Threads + Sync, D: SharedDisk>(
 ) -> Ran {
     let mut other = disk(rt, &[], None);
     let given = with_input("session a.mt", script);
-    done(rt, run_on(rt, rt.alloc(), &given, 100, index, &mut other))
+    run_on(rt, &given, 100, index, &mut other)
 }
 
 // Counts the inserts of 31 and 32 that a session acknowledged.

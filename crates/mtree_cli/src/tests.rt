@@ -1,6 +1,6 @@
 use crate::files::run_on_files;
-use crate::log_tests::{check_given, check_words, disk, done};
-use crate::runs::{Given, Ran, run_on, with_input, words};
+use crate::log_tests::{check_given, check_words};
+use crate::runs::{Given, Ran, disk, run_on, with_input, words};
 use disk_model::SharedDisk;
 use named_files::HostFolder;
 use outside_io::{MemorySink, MemorySource, Status};
@@ -21,10 +21,7 @@ fn run_scan<R: AllocGlobal + Abort + Threads + Sync>(
 ) -> Ran {
     let mut index = disk(rt, &[], None);
     let mut other = disk(rt, &[], None);
-    done(
-        rt,
-        run_on(rt, rt.alloc(), given, piece.max(1), &mut index, &mut other),
-    )
+    run_on(rt, given, piece.max(1), &mut index, &mut other)
 }
 
 // Checks a scan, whose input is given by pieces of `piece` bytes.
@@ -221,7 +218,7 @@ fn run_command<R: AllocGlobal + Abort + Threads + Sync>(
     folder: HostFolder<'_>,
     line: &str,
 ) -> (Status, bool) {
-    let words = words(rt.alloc(), line).expect(rt, "memory");
+    let words = words(rt, line);
     let mut input = MemorySource::new(Vec::new(rt.alloc()), 1, Vec::new(rt.alloc()));
     let mut out = MemorySink::new(rt.alloc(), 1000, Vec::new(rt.alloc())).expect(rt, "memory");
     let ended = run_on_files(rt, rt.alloc(), &words, folder, &mut input, &mut out);
