@@ -164,7 +164,9 @@ fn add_one<D: Disk>(alloc: Global, disk: &mut D) -> Result<Result<(), Failed>, A
 
 // Makes a new file, and commits one object to it. Says whether that is done.
 fn adds_one<D: Disk>(rt: &(impl AllocGlobal + Abort), disk: &mut D) -> bool {
-    make(disk).expect(rt, "made");
+    let Ok(_live) = make(disk) else {
+        panic!(rt; "no file was made");
+    };
     add_one(rt.alloc(), disk).expect(rt, "memory").is_ok()
 }
 

@@ -1,3 +1,5 @@
+ghost use Rattle.std.specs.Prelude.{◌≤◌, length};
+
 use crate::given::{holds, leaves, six};
 use disk_model::{Disk, MemoryDisk};
 use log_model::{Joined, Mark};
@@ -23,7 +25,9 @@ const fn at(id: u32, point: u32) -> Entry {
 }
 
 // Gives the bytes of a leaf of these objects.
-fn leaf(rt: &(impl AllocGlobal + Abort), objects: &[Entry]) -> Vec<u8> {
+fn leaf(rt: &(impl AllocGlobal + Abort), objects: &[Entry]) -> Vec<u8>
+    requires { length objects.now ≤ 32 }
+{
     one_leaf(Vec::new(rt.alloc()), objects).expect(rt, "memory")
 }
 
