@@ -84,8 +84,10 @@ class File:
         _files.add(self)
 
     def close(self) -> None:
-        """Lets go of the file. No call may be running."""
+        """Lets go of the file, once no call is running."""
         with self._turn:
+            while self._readers or self._is_written:
+                self._turn.wait()
             self._unmap()
             if self._handle is not None:
                 self._handle.close()

@@ -317,7 +317,7 @@ class Index:
         return f"mtree.Index({self._file.path!r})"
 
     def close(self) -> None:
-        """Lets go of the file. No call may be running. A call that follows raises ValueError."""
+        """Lets go of the file, once no call of another thread is running. A call that follows raises ValueError."""
         self._file.close()
 
     def _told(self, words: List[str]) -> str:

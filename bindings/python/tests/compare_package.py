@@ -286,10 +286,10 @@ def compare_threads():
     """Four threads that ask, beside one that adds, through one index."""
     rows = points_of("l1", 100, 11)
     with mtree.Index.from_array("threads.mt", rows, metric="l1") as index:
-        wrong, stop = [], threading.Event()
+        wrong, ended = [], []
 
         def ask():
-            while not stop.is_set():
+            while True:
                 try:
                     seen = len(index)
                     ids = [hit.id for hit in index.range([0] * 6, float("inf"))]
@@ -298,17 +298,22 @@ def compare_threads():
                     found = index.kneighbors(rows[:3], 100, n_jobs=2, return_distance=False)
                     if any(len(set(row)) != 100 for row in plain(found)):
                         wrong.append(found)
+                except ValueError as error:
+                    ended.append(str(error))
+                    return
                 except Exception as error:
                     wrong.append(error)
+                    return
 
         threads = [threading.Thread(target=ask) for _ in range(4)]
         for thread in threads:
             thread.start()
         ids = [index.insert(points_of("l1", 5, round)) for round in range(8)]
-        stop.set()
+        index.close()
         for thread in threads:
             thread.join()
-        same((wrong[:3], sum(ids, [])), ([], list(range(100, 140))), "threads beside an insert")
+        same((wrong, sum(ids, [])), ([], list(range(100, 140))), "threads beside an insert")
+        same(ended, ["the index threads.mt is closed"] * 4, "threads after the end")
 
 
 def compare_processes():
