@@ -107,6 +107,9 @@ def write_wheel(folder, files):
     told = f"{name}-{version}.dist-info"
     files = [*files, (f"{told}/METADATA", metadata(about), 0o644),
              (f"{told}/WHEEL", f"Wheel-Version: 1.0\nGenerator: packing.py\nRoot-Is-Purelib: false\nTag: {tag}\n".encode(), 0o644)]
+    license_path = os.path.join(HERE, "..", "..", "LICENSE")
+    if os.path.exists(license_path):
+        files.append((f"{told}/LICENSE", read(license_path), 0o644))
     record = "".join(f"{path},sha256={digest(held)},{len(held)}\n" for path, held, _ in files) + f"{told}/RECORD,,\n"
     wheel = f"{name}-{version}-{tag}.whl"
     with zipfile.ZipFile(os.path.join(folder, wheel), "w", zipfile.ZIP_DEFLATED) as archive:

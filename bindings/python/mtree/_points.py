@@ -118,9 +118,9 @@ def table(given: Any) -> Any:
     if held.ndim != 2:
         raise NoQuery(f"points are an array of two dimensions, and this one has {held.ndim}")
     if held.dtype.kind == "f":
-        if held.dtype.itemsize < 8:
-            held = held.astype(numpy.float64)
-        fits = numpy.isfinite(held) & (held == numpy.floor(held)) & (held >= 0) & (held < 1 << 32)
+        if held.dtype.itemsize == 2:
+            held = held.astype(numpy.float64)  # since 2^32 is none of its numbers
+        fits = (held == numpy.floor(held)) & (held >= 0) & (held < 1 << 32)
     elif held.dtype.kind in "biu":
         fits = (held >= 0) & (held < 1 << 32) if held.dtype.itemsize > 4 else held >= 0
     else:

@@ -158,11 +158,17 @@ def compare_points():
                 same(plain(index.radius_neighbors([], 5)), [[], []], "no points within a radius")
                 same(len(index.nearest([1] * 6, 1 << 70)), 40, "more than there are")
                 same([index.nearest([1] * 6, 40)[:5]], [list(itertools.islice(index.iter_nearest([1] * 6), 5))], "the first ones")
+        kept, _program._SCRIPT_BYTES = _program._SCRIPT_BYTES, 100
+        same(index.insert(rows, range(40)), list(range(40, 80)), "scripts above the limit")
+        with without_library():
+            same(plain(index.kneighbors(rows, 2, return_tags=True)), [[[0, 0]] * 40, [[i, i + 40] for i in range(40)], [[i, i] for i in range(40)]], "queries above it")
+        raises(ValueError, lambda: index.load(rows), "a load above the limit", "insert the others after it")
+        _program._SCRIPT_BYTES = kept
         same(index.insert([]), [], "an insert of nothing")
         raises(mtree.NoQuery, lambda: index.insert([[1] * 6, [1, 2, 3, 4, 5, -6]]), "a negative number", "row 1: a coordinate")
         raises(ValueError, lambda: index.insert([[1] * 6], [-1]), "a negative tag", "-1")
         raises(ValueError, lambda: index.insert([[1] * 6], [0.5]), "half a tag", "0.5")
-        same(len(index), 40, "what was added of all this")
+        same(len(index), 80, "what was added of all this")
         same((bool(index), repr(index)), (True, "mtree.Index('points.mt')"), "words of an index")
         same(pickle.loads(pickle.dumps(index)).nearest([1] * 6, 3), index.nearest([1] * 6, 3), "an index that was pickled")
     for call in (lambda: len(index), lambda: index.insert([[1] * 6]), lambda: index.join(index, 1), lambda: index.seal(), lambda: index.shape(),
@@ -314,6 +320,14 @@ def compare_threads():
             thread.join()
         same((wrong, sum(ids, [])), ([], list(range(100, 140))), "threads beside an insert")
         same(ended, ["the index threads.mt is closed"] * 4, "threads after the end")
+    index = mtree.Index("threads.mt")
+    with index._file.reading():
+        closing = threading.Thread(target=index.close)
+        closing.start()
+        closing.join(0.1)
+        same(closing.is_alive(), True, "a close beside a call")
+    closing.join()
+    raises(ValueError, lambda: len(index), "what was closed beside a call", "is closed")
 
 
 def compare_processes():
@@ -327,14 +341,19 @@ def compare_processes():
         same([hit.id for hit in index.iter_nearest([0])], [3, 0, 2, 1, 4], "all, once more")
         same((len(index), index.generation), (5, 5), "what is told after it")
 
-        # A process that was forked ends its call. The lock of this one stays.
+        # A process that was forked ends its call while one of this process runs, whose lock stays.
+        go_on, start = os.pipe()
+        child_id = os.fork()
+        if child_id == 0:
+            os.read(go_on, 1)
+            os._exit(0 if index.nearest([0], 1)[0].id == 3 and len(copy.copy(index)) == 5 else 1)
         with index._file.reading():
-            child_id = os.fork()
-            if child_id == 0:
-                os._exit(0 if index.nearest([0], 1)[0].id == 3 and len(copy.copy(index)) == 5 else 1)
+            os.write(start, b"!")
             same(os.waitpid(child_id, 0)[1], 0, "a process that was forked")
             with open("shared.mt", "rb") as other:
                 raises(BlockingIOError, lambda: fcntl.flock(other, fcntl.LOCK_EX | fcntl.LOCK_NB), "the lock, after a process that was forked")
+        os.close(go_on)
+        os.close(start)
 
     # The program has its whole script before it starts, so the end of Python cuts no row.
     with other_program("touch started; sleep 0.2; wc -c >size.part; mv size.part size\n"):
