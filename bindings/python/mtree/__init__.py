@@ -30,6 +30,6 @@ __all__ = ["Index", "MTreeNeighbors", "prove", "Hit", "Pair", "Node", "Shape", "
            "Damaged", "TooLong", "Rejected", "Refused", "Stopped", "NotFitted"]
 __version__ = "0.2.0"
 
-if not _library.is_here() and ("MTREE_LIBRARY" in _os.environ or not _program.is_here()):
+if not _library.is_here() and (_os.environ.get("MTREE_LIBRARY") or not _program.is_here()):
     raise ImportError(f"mtree needs its library or its program. The library is not there: {_library.reason}. Run bindings/build, or name it in "
                       "MTREE_LIBRARY. For the program run ./mtree, or name it in MTREE_PROGRAM.")

@@ -21,9 +21,10 @@ T = TypeVar("T")
 class Index:
     """An index file that is open, and mapped. It is opened at once, and read only within the calls.
 
-    Each method may be called from several threads at once. A call that reads holds the system's shared lock on the file meanwhile, so no
-    process writes the file under it. Each call raises `InUse` where another process writes the file, and ValueError where the index is
-    closed. Each call but `create`, `from_array`, `load` and `insert` sees what other processes added before it.
+    Each method may be called from several threads at once: `load` and `insert` wait for the calls that read, and those for them. A call that
+    reads holds the system's shared lock on the file, so no process writes the file under it. It sees all that was added before it. A call
+    raises `InUse` where another process, or another `Index` of this one, writes the file, and `load` and `insert` also where one reads it. It
+    raises ValueError where the index is closed.
 
     A point is an iterable of `dim` whole numbers from 0 to 4294967295, or an array of numpy of one dimension. Points and rows are an iterable
     of points, or an array of two dimensions, of any type of numbers and in any order of memory. Floats that are whole are taken."""
