@@ -1,5 +1,5 @@
-/* example INDEX: maps an index file, and answers the queries on standard input, each a line `range,R,C1,..,CD` or
-   `nearest,K,C1,..,CD`, as the program's `batch` does. It holds the file meanwhile, so no process writes it. */
+/* example INDEX: maps an index file and answers the queries on standard input, as the program's `batch` does. A query is a line
+   `range,R,C1,..,CD` or `nearest,K,C1,..,CD`. Holds the file by the shared lock meanwhile, so no program of mtree writes it. */
 #include "mtree.h"
 #include <fcntl.h>
 #include <stdio.h>

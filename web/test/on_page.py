@@ -304,7 +304,7 @@ def main():
             compare_requests(page)
         finally:
             page.close()
-        print(f"page: {compared} comparisons of the page with the program in Chromium {page.version}, {failed} failed; {len(requests)} requests, none of which left it")
+        print(f"page: {compared} comparisons of the page with the program in Chromium {page.version}, {failed} failed; {len(requests)} requests, and none left it")
         return 1 if failed else 0
 
 

@@ -95,7 +95,7 @@ class File:
 
     @contextlib.contextmanager
     def reading(self) -> Iterator[Tuple[Any, int]]:
-        """Gives the place and the size of the file's bytes. The file is held by a shared lock meanwhile, which all threads' calls share.
+        """Returns the place and the size of the file's bytes. The file is held by a shared lock meanwhile, which all threads' calls share.
         Raises `InUse`, and ValueError where the file is closed."""
         with self._turn:
             while self._is_written:

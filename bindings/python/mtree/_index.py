@@ -75,7 +75,7 @@ class Index:
         return index
 
     def load(self, rows: Any, tags: Any = None, *, workers: int = 1) -> int:
-        """Fills an index that holds nothing with `rows` of the shape (count, dim), and answers how many it got. It takes all rows or none.
+        """Fills an empty index with all `rows`, of the shape (count, dim), or with none. Returns their number.
 
         `tags` are `count` whole numbers below 2^64, and the ids where they are not given. `workers` is how many threads build the tree.
 
@@ -94,10 +94,10 @@ class Index:
         return int(text.split()[1])
 
     def insert(self, rows: Any, tags: Any = None) -> List[int]:
-        """Adds `rows` of the shape (count, dim) one after the other, and answers their ids. Each is durable once this is answered.
+        """Adds `rows`, of the shape (count, dim), one after another. Returns their ids. Each row is durable then.
 
-        `tags` are `count` whole numbers below 2^64, and the ids where they are not given. Each call starts a process, so many rows a call
-        are faster than many calls.
+        `tags` are `count` whole numbers below 2^64, and the ids where they are not given. Each call starts a process, which takes
+        some milliseconds: hand in many rows at once.
 
         Raises `NoQuery` where a row holds no whole numbers; then nothing is added. Raises `Refused` where the index refuses rows; the others
         are added all the same. Raises `Stopped` where the program ended after some rows were added."""
@@ -128,7 +128,7 @@ class Index:
                    n_jobs: Optional[int] = 1) -> Any:
         """Finds the `n_neighbors` nearest objects of each of `points`, which have the shape (count, dim).
 
-        Answers `(distances, ids)`, arrays of int64 of the shape (count, n_neighbors), each row by distance, then by id. Where
+        Returns `(distances, ids)`, arrays of int64 of the shape (count, n_neighbors), each row by distance, then by id. Where
         `return_distance` is false, there are no distances. Where `return_tags` is true, an array of the tags, of uint64, comes last. An array
         that is alone comes without a tuple. Without numpy they are lists of lists.
 
@@ -153,7 +153,7 @@ class Index:
                          n_jobs: Optional[int] = 1) -> Any:
         """Finds all objects within `radius` of each of `points`, which have the shape (count, dim).
 
-        Answers `(distances, ids)`, each an array of `count` arrays of int64, by distance, then by id. `return_distance`, `return_tags` and
+        Returns `(distances, ids)`, each an array of `count` arrays of int64, by distance, then by id. `return_distance`, `return_tags` and
         `n_jobs` are as in `kneighbors`. Without numpy they are lists of lists.
 
         Raises `NoQuery`, which names the row, where a point is none of the space, and where `radius` is negative or no number."""
@@ -167,39 +167,39 @@ class Index:
         return _chosen(columns, return_distance, return_tags)
 
     def nearest(self, point: Iterable[int], count: int) -> List[Hit]:
-        """Finds the `count` objects nearest to `point`, by distance, then by id. There are fewer where the index holds fewer.
+        """Returns the `count` objects nearest to `point`, by distance, then by id. There are fewer where the index holds fewer.
 
         Raises `NoQuery` where `point` is none of the space or `count` is below 1, and `Damaged` where the search comes to a damaged page."""
         return self._ask("nearest", point, _points.count(count))
 
     def range(self, point: Iterable[int], radius: float) -> List[Hit]:
-        """Finds every object within `radius` of `point`, by distance, then by id. A `radius` of math.inf is every object.
+        """Returns every object within `radius` of `point`, by distance, then by id. A `radius` of math.inf finds every object.
 
         Raises `NoQuery` where `point` is none of the space or `radius` is negative, and `Damaged` where the search comes to a damaged page."""
         return self._ask("range", point, _points.radius(radius))
 
     def nearest_with_log(self, point: Iterable[int], count: int) -> Tuple[List[Hit], bytes]:
-        """Finds what `nearest` finds, and the frame of the log that shows it. Raises `NoLibrary` besides."""
+        """Returns the answer of `nearest`, and the frame of the log that shows it. Raises `NoLibrary` too."""
         return self._ask_library("nearest", point, _points.count(count), True)
 
     def range_with_log(self, point: Iterable[int], radius: float) -> Tuple[List[Hit], bytes]:
-        """Finds what `range` finds, and the frame of the log that shows it. Raises `NoLibrary` besides."""
+        """Returns the answer of `range`, and the frame of the log that shows it. Raises `NoLibrary` too."""
         return self._ask_library("range", point, _points.radius(radius), True)
 
     def nearest_of_each(self, points: Iterable[Iterable[int]], count: int, threads: int = 1) -> List[List[Hit]]:
-        """Finds what `nearest` finds for each of `points`, in their order, by `threads` threads."""
+        """Returns the answer of `nearest` for each of `points`, in their order. Works by `threads` threads."""
         asked, wanted = Points(points), _points.count(count)
         with self._file.reading() as held:
             return self._each(held, asked, "nearest", wanted, max(1, threads), _as_hits())
 
     def range_of_each(self, points: Iterable[Iterable[int]], radius: float, threads: int = 1) -> List[List[Hit]]:
-        """Finds what `range` finds for each of `points`, in their order, by `threads` threads."""
+        """Returns the answer of `range` for each of `points`, in their order. Works by `threads` threads."""
         asked, bound = Points(points), _points.radius(radius)
         with self._file.reading() as held:
             return self._each(held, asked, "range", bound, max(1, threads), _as_hits())
 
     def iter_nearest(self, point: Iterable[int]) -> Iterator[Hit]:
-        """Gives all objects one after the other, by distance from `point`, then by id. It searches only as far as it is asked.
+        """Yields all objects one after another, by distance from `point`, then by id. Searches only as far as it is asked.
 
         No lock is held between two hits. What is added meanwhile comes if it stands behind the last hit that was given. Each search takes
         twice as many hits as the one before, so the first n cost at most what `nearest` takes for some 4 n.
@@ -221,7 +221,7 @@ class Index:
             hits = self.nearest(point, count)
 
     def join(self, other: "Union[Index, Path]", radius: float) -> List[Pair]:
-        """Finds each pair of an object of this index and one of `other` that are at most `radius` apart, by the left id, then by the right.
+        """Returns each pair of an object of this index and one of `other` that are at most `radius` apart, by the left id, then by the right id.
 
         `other` is an index, or the path of one. It may be this one. Raises `Rejected` where the two have other metrics or dimensions."""
         bound = _points.radius(radius)
@@ -230,20 +230,20 @@ class Index:
         return [Pair(*map(int, line.split())) for line in text.splitlines()[1:]]
 
     def shape(self) -> Shape:
-        """Tells the height of the tree, its objects and its nodes. Raises `Damaged` where the walk comes to a damaged page."""
+        """Returns the height of the tree, its objects and its nodes. Raises `Damaged` where the walk comes to a damaged page."""
         lines = [line.split() for line in self._told(["shape", self._file.whole_path]).splitlines()]
         nodes = [Node(int(level), int(entries), None if centre == "-" else tuple(map(int, centre.split(","))), None if reach == "-" else int(reach))
                  for level, entries, centre, reach in lines[3:]]
         return Shape(int(lines[0][1]), int(lines[1][1]), nodes)
 
     def seal(self) -> bytes:
-        """Audits the file, and tells its root digest of 32 bytes, by which `mtree.prove` judges. Raises `Rejected` where it is not sound."""
+        """Audits the file. Returns its root digest of 32 bytes, by which `mtree.prove` judges. Raises `Rejected` where it is not sound."""
         return bytes.fromhex(self._told(["seal", self._file.whole_path]).split()[-1])
 
     def carry(self, logs: Any) -> bytes:
-        """Gives carried logs: each of `logs` with the pages that it names and their paths to the root digest, as `mtree.prove` takes them.
+        """Returns carried logs: each of `logs` with the pages that it names and their paths to the root digest, as `mtree.prove` takes them.
 
-        `logs` are frames, one behind the other, as any bytes-like object. Raises `Rejected` where one of them is not accepted."""
+        `logs` are frames, one behind another, as any bytes-like object. Raises `Rejected` where a log is not accepted."""
         held = _bytes(logs)
         with tempfile.TemporaryDirectory(prefix="mtree-") as room:
             log, carried = os.path.join(room, "log"), os.path.join(room, "carried")
@@ -259,7 +259,7 @@ class Index:
             return _library.report("mtree_audit", file, size)
 
     def verify(self, logs: Any) -> Report:
-        """Judges `logs` by the file, which is not audited. `logs` are frames, one behind the other, as any bytes-like object.
+        """Judges the frames of `logs`, any bytes-like object, by the file. Does not audit the file.
 
         Raises `NoIndex`, `TooLong` and `NoLibrary`, and TypeError where `logs` are no bytes."""
         held = _bytes(logs)
@@ -267,42 +267,43 @@ class Index:
             return _library.report("mtree_verify", file, size, held, len(held))
 
     def check(self, logs: Any) -> Report:
-        """Audits the file, and where it is sound judges `logs` by it and says their answers. All else is as in `verify`."""
+        """Audits the file. Where it is sound, judges the frames of `logs` by it and tells the answer of each accepted one. Raises what `verify`
+        raises."""
         held = _bytes(logs)
         with self._file.reading() as (file, size):
             return _library.report("mtree_check", file, size, held, len(held))
 
     @property
     def path(self) -> str:
-        """Tells the file's path, as it was given."""
+        """Returns the file's path, as it was given."""
         return self._file.path
 
     @property
     def metric(self) -> str:
-        """Tells the metric's name. Raises `NoIndex`, as each of these properties."""
+        """Returns the name of the metric. Raises `NoIndex` where the file is no index, as each of these properties."""
         return self._file.state().metric
 
     @property
     def dim(self) -> int:
-        """Tells how many numbers a point has."""
+        """Returns the number of coordinates of a point."""
         return self._file.state().dim
 
     @property
     def max_objects(self) -> int:
-        """Tells how many objects the index may hold."""
+        """Returns the most objects that the index may hold."""
         return self._file.state().max_objects
 
     @property
     def generation(self) -> int:
-        """Tells how often the file was committed: 1 when it is made, and one more with each load and each insert."""
+        """Returns the generation of the file: 1 when it is made, and one more with each load and each inserted row."""
         return self._file.state().generation
 
     def __len__(self) -> int:
-        """Tells how many objects the index holds."""
+        """Returns the number of objects in the index."""
         return self._file.state().objects
 
     def __bool__(self) -> bool:
-        """Is always true. An index that holds nothing is an index."""
+        """Returns True: an index that holds nothing is an index."""
         return True
 
     def __enter__(self) -> "Index":
@@ -318,11 +319,11 @@ class Index:
         return f"mtree.Index({self._file.path!r})"
 
     def close(self) -> None:
-        """Lets go of the file, once no call of another thread is running. A call that follows raises ValueError."""
+        """Closes the file, once no call of another thread is running. A later call raises ValueError."""
         self._file.close()
 
     def _told(self, words: List[str]) -> str:
-        """What the program writes of the file, which no other thread changes meanwhile."""
+        """Returns what the program writes of the file. No other thread changes it meanwhile."""
         with self._file.reading():
             return _program.said(_program.run(words))
 
@@ -354,7 +355,7 @@ class Index:
 
     def _each(self, held: Tuple[Any, int], points: Points, word: str, bound: int, n_jobs: Optional[int], kind: "_Kind[T]",
               is_one: bool = False) -> List[T]:
-        """The answers for points, each turned into what is wanted. The file is held meanwhile."""
+        """Returns the answers for `points`, each turned into what `kind` makes. The caller holds the file, whose bytes are `held`."""
         threads = _points.jobs(n_jobs)
         if not len(points):
             return []
@@ -404,10 +405,10 @@ class Index:
 
 
 def prove(logs: Any, root: Any) -> Report:
-    """Judges carried logs by the root digest of an index file, without the file.
+    """Judges the frames of carried logs in `logs` by `root`, the 32 bytes of an index's root digest, without the file.
 
-    `logs` are frames of carried logs, as `Index.carry` gives them. `root` is the digest of 32 bytes, as `Index.seal` gives it. Both are any
-    bytes-like objects. Raises ValueError where `root` has another length, `TooLong` and `NoLibrary`."""
+    `Index.carry` makes the carried logs, and `Index.seal` the digest. Both are any bytes-like objects. Raises ValueError where `root` has
+    another length, `TooLong` and `NoLibrary`."""
     carried, digest = _bytes(logs), _bytes(root)
     if len(digest) != 32:
         raise ValueError(f"a root digest has 32 bytes, and this one {len(digest)}")
@@ -439,7 +440,7 @@ def _as_hits() -> "_Kind[List[Hit]]":
 
 
 def _columns(numpy: Any) -> "_Kind[Tuple[Any, Any, Any]]":
-    """Distances, ids and tags of an answer: arrays, or lists where there is no numpy."""
+    """Makes distances, ids and tags of an answer: arrays, or lists where there is no numpy."""
 
     def of_hits(hits: List[Hit]) -> Tuple[Any, Any, Any]:
         distances, ids, tags = [hit[1] for hit in hits], [hit[0] for hit in hits], [hit[2] for hit in hits]
@@ -468,25 +469,25 @@ def _array_of_arrays(numpy: Any, column: List[Any]) -> Any:
 
 
 def _chosen(columns: List[Any], with_distance: bool, with_tags: bool) -> Any:
-    """Of distances, ids and tags those that are wanted."""
+    """Returns those of distances, ids and tags that are wanted."""
     wanted = [column for column, is_wanted in zip(columns, (with_distance, True, with_tags)) if is_wanted]
     return wanted[0] if len(wanted) == 1 else tuple(wanted)
 
 
 def _no_answer(held: Tuple[Any, int], status: int, coordinates: int, lead: str = "") -> Exception:
-    """The exception for a query that the library did not answer."""
+    """Returns the exception for a query that the library did not answer."""
     if status == 2:
         return NoQuery(lead + _no_query(coordinates, read_state(*held).dim))
     return _library.error(status, "" if status == 8 else _library.text("mtree_audit", *held)[1])
 
 
 def _no_query(coordinates: int, dim: int) -> str:
-    """What is wrong with a point of these coordinates, on an index of this dimension."""
+    """Says what is wrong with a point of `coordinates` numbers, on an index of `dim`."""
     if coordinates != dim:
         return f"the point has {coordinates} numbers, the index {dim}"
     return "the point is not of the index's space: kendall takes rankings, and hausdorff sets of numbers"
 
 
 def _bytes(given: Any) -> bytes:
-    """Any bytes-like object as bytes. All else raises TypeError."""
+    """Returns a bytes-like object as bytes. Raises TypeError for anything else."""
     return given if isinstance(given, bytes) else bytes(memoryview(given))

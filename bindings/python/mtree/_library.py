@@ -54,19 +54,19 @@ library, reason = _load()
 
 
 def is_here() -> bool:
-    """Tells whether the library was loaded."""
+    """Returns whether the library was loaded."""
     return library is not None
 
 
 def call(name: str) -> Any:
-    """Gives the library's call of this name. Raises `NoLibrary` where the library is not there."""
+    """Returns the library's call of this name. Raises `NoLibrary` where the library is not there."""
     if library is None:
         raise NoLibrary(f"this call needs the library of mtree: {reason}. Run bindings/build, or name the library in MTREE_LIBRARY.")
     return getattr(library, name)
 
 
 def text(name: str, *given: Any) -> Tuple[int, str]:
-    """Gives the status of a call and its text."""
+    """Returns the status of a call and its text."""
     asked = call(name)
     size = ctypes.c_size_t()
     room = 4096
@@ -79,7 +79,7 @@ def text(name: str, *given: Any) -> Tuple[int, str]:
 
 
 def report(name: str, *given: Any) -> Report:
-    """Gives what a call that judges says. Raises what its status stands for."""
+    """Returns what a call that judges says. Raises what its status stands for."""
     status, words = text(name, *given)
     if status > 1:
         raise error(status, words)
@@ -87,7 +87,7 @@ def report(name: str, *given: Any) -> Report:
 
 
 def error(status: int, words: str) -> Exception:
-    """Gives the exception that a status of the library stands for."""
+    """Returns the exception that a status of the library stands for."""
     if status == 8:
         return MemoryError("fault memory")
     return {6: NoIndex, 7: TooLong, 9: Damaged}.get(status, Error)(words.strip())

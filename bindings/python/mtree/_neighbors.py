@@ -40,7 +40,7 @@ class MTreeNeighbors:
         self.n_jobs = n_jobs
 
     def get_params(self, deep: bool = True) -> Dict[str, Any]:
-        """Tells the parameters. `deep` changes nothing."""
+        """Returns the parameters. `deep` changes nothing."""
         return {"n_neighbors": self.n_neighbors, "radius": self.radius, "metric": self.metric, "n_jobs": self.n_jobs}
 
     def set_params(self, **params: Any) -> "MTreeNeighbors":
@@ -76,7 +76,7 @@ class MTreeNeighbors:
     def kneighbors(self, X: Any = None, n_neighbors: Optional[int] = None, return_distance: bool = True) -> Any:
         """Finds the `n_neighbors` nearest rows of each row of `X`, which has the shape (n_queries, n_features).
 
-        Answers `(distances, ids)` of the shape (n_queries, n_neighbors), or the ids where `return_distance` is false. Where `X` is None, the
+        Returns `(distances, ids)` of the shape (n_queries, n_neighbors), or the ids where `return_distance` is false. Where `X` is None, the
         fitted rows are asked for, and none of them is its own neighbour.
 
         Raises `NotFitted`, and ValueError where there are fewer rows than are asked for."""
@@ -99,7 +99,7 @@ class MTreeNeighbors:
     def radius_neighbors(self, X: Any = None, radius: Optional[float] = None, return_distance: bool = True, sort_results: bool = True) -> Any:
         """Finds all rows within `radius` of each row of `X`, which has the shape (n_queries, n_features).
 
-        Answers `(distances, ids)`, each an array of n_queries arrays, or the ids where `return_distance` is false. Where `X` is None, the
+        Returns `(distances, ids)`, each an array of n_queries arrays, or the ids where `return_distance` is false. Where `X` is None, the
         fitted rows are asked for, and none of them is its own neighbour. They are sorted, whatever `sort_results` is.
 
         Raises `NotFitted`, and ValueError where `radius` is negative."""
@@ -114,7 +114,7 @@ class MTreeNeighbors:
         return (distances, ids) if return_distance else ids
 
     def kneighbors_graph(self, X: Any = None, n_neighbors: Optional[int] = None, mode: str = "connectivity") -> Any:
-        """Gives the graph of `kneighbors` as a `scipy.sparse.csr_matrix` of the shape (n_queries, n_samples).
+        """Returns the graph of `kneighbors` as a `scipy.sparse.csr_matrix` of the shape (n_queries, n_samples).
 
         An edge has the number 1 where `mode` is "connectivity", and the distance where it is "distance". Raises ImportError without scipy, and
         all that `kneighbors` raises."""
@@ -124,7 +124,7 @@ class MTreeNeighbors:
         return self._graph(mode, distances.ravel(), ids.ravel(), ends)
 
     def radius_neighbors_graph(self, X: Any = None, radius: Optional[float] = None, mode: str = "connectivity", sort_results: bool = True) -> Any:
-        """Gives the graph of `radius_neighbors`, as `kneighbors_graph` gives that of `kneighbors`."""
+        """Returns the graph of `radius_neighbors`, as `kneighbors_graph` gives that of `kneighbors`."""
         distances, ids = self.radius_neighbors(X, radius)
         numpy = _numpy()
         ends = numpy.concatenate([[0], numpy.cumsum([len(row) for row in ids], dtype="i8")])

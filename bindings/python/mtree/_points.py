@@ -15,7 +15,7 @@ _MOST = (1 << 64) - 1
 
 
 def numpy_or_none() -> Any:
-    """Gives the module numpy, or None where it is not installed."""
+    """Returns the module numpy, or None where it is not installed."""
     try:
         return importlib.import_module("numpy")
     except ImportError:
@@ -23,7 +23,7 @@ def numpy_or_none() -> Any:
 
 
 def coordinate(given: Any) -> int:
-    """Gives a coordinate as a whole number below 2^32. A float that is whole is taken. Raises `NoQuery` for all else."""
+    """Returns a coordinate as a whole number below 2^32. A float that is whole is taken. Raises `NoQuery` for all else."""
     try:
         whole = operator.index(given)
     except TypeError:
@@ -40,7 +40,7 @@ def coordinate(given: Any) -> int:
 
 
 def point(given: Any) -> Tuple[int, int, Any]:
-    """Gives the place of a point's coordinates, their number, and what has to live while they are read."""
+    """Returns the place of a point's coordinates, their number, and what has to live while they are read."""
     about = getattr(given, "__array_interface__", None)
     if about is not None:
         if len(about["shape"]) != 1:
@@ -57,7 +57,7 @@ def point(given: Any) -> Tuple[int, int, Any]:
 
 
 def numbers(given: Any) -> List[int]:
-    """Gives a point's coordinates as a list."""
+    """Returns a point's coordinates as a list."""
     place, count, kept = point(given)
     held = list((ctypes.c_uint32 * count).from_address(place)) if count else []
     del kept
@@ -95,7 +95,7 @@ class Points:
         return self._rows[0][1] if self._rows else None
 
     def places(self) -> List[Tuple[int, int]]:
-        """Gives the place and the number of each point's coordinates. They live as long as this."""
+        """Returns the place and the number of each point's coordinates. They live as long as this."""
         if self._table is None:
             return [(place, count) for place, count, _ in self._rows]
         rows, count = self._table.shape
@@ -103,14 +103,14 @@ class Points:
         return [(first + number * count * 4, count) for number in range(rows)]
 
     def lines(self) -> List[str]:
-        """Gives each point as the fields of a script's record."""
+        """Returns each point as the fields of a script's record."""
         if self._table is None:
             return [",".join(map(str, (ctypes.c_uint32 * count).from_address(place))) for place, count, _ in self._rows]
         return [",".join(map(str, row)) for row in self._table.tolist()]
 
 
 def table(given: Any) -> Any:
-    """Gives an array of two dimensions as uint32, row after row. Raises `NoQuery`, which names the row."""
+    """Returns an array of two dimensions as uint32, row after row. Raises `NoQuery`, which names the row."""
     numpy = numpy_or_none()
     if numpy is None:
         raise NoQuery("an array needs numpy, which is not installed: hand in a list of points")
@@ -133,7 +133,7 @@ def table(given: Any) -> Any:
 
 
 def _row(number: int, row: List[Any]) -> List[int]:
-    """Gives a row's coordinates. Raises `NoQuery`, which names the row."""
+    """Returns a row's coordinates. Raises `NoQuery`, which names the row."""
     try:
         return [coordinate(given) for given in row]
     except NoQuery as error:
@@ -141,7 +141,7 @@ def _row(number: int, row: List[Any]) -> List[int]:
 
 
 def tags(given: Any, count: int) -> List[str]:
-    """Gives tags as words of a script, one for each of `count` rows. Raises ValueError."""
+    """Returns tags as words of a script, one for each of `count` rows. Raises ValueError."""
     words = []
     for tag in given.tolist() if hasattr(given, "tolist") else given:
         try:
@@ -157,7 +157,7 @@ def tags(given: Any, count: int) -> List[str]:
 
 
 def radius(given: Any) -> int:
-    """Gives a radius as the library takes it. Distances are whole numbers below 2^39, so a fraction is cut off and a greater radius is all."""
+    """Returns a radius as the library takes it. Distances are whole numbers below 2^39, so a fraction is cut off and a greater radius is all."""
     try:
         if not given >= 0:
             raise NoQuery(f"a radius is a number from 0 on, and {given!r} is none")
@@ -167,7 +167,7 @@ def radius(given: Any) -> int:
 
 
 def count(given: Any) -> int:
-    """Gives how many of the nearest are asked for, as the library takes it: at least 1."""
+    """Returns how many of the nearest are asked for, as the library takes it: at least 1."""
     try:
         whole = operator.index(given)
     except TypeError:
@@ -178,7 +178,7 @@ def count(given: Any) -> int:
 
 
 def jobs(given: Optional[int]) -> int:
-    """Gives how many threads are meant: 1 for None, all processors for -1, all but one for -2, and at most 64."""
+    """Returns how many threads are meant: 1 for None, all processors for -1, all but one for -2, and at most 64."""
     if given is None:
         return 1
     whole = operator.index(given)

@@ -19,7 +19,7 @@ Ran = Tuple[int, str, str]
 
 
 def find() -> str:
-    """Gives the path of the program: the variable MTREE_PROGRAM, the file `mtree_cli` beside this module, the one that a clone of the
+    """Returns the path of the program: the variable MTREE_PROGRAM, the file `mtree_cli` beside this module, the one that a clone of the
     repository has built, or `mtree` where the shell finds it. Raises FileNotFoundError."""
     here = os.path.dirname(os.path.abspath(__file__))
     top = os.path.dirname(os.path.dirname(os.path.dirname(here)))
@@ -34,7 +34,7 @@ def find() -> str:
 
 
 def is_here() -> bool:
-    """Tells whether there is a program."""
+    """Returns whether there is a program."""
     try:
         return bool(find())
     except FileNotFoundError:
@@ -54,23 +54,25 @@ def run(words: Sequence[str], script: bytes = b"") -> Ran:
 
 
 def _room() -> Any:
-    """Gives a file without a name."""
+    """Returns a file without a name."""
     if hasattr(os, "memfd_create"):
         return os.fdopen(os.memfd_create("mtree script"), "w+b")
     return tempfile.TemporaryFile()
 
 
 def said(ran: Ran) -> str:
-    """Gives what the program wrote, where its status is 0. Raises what the status stands for."""
+    """Returns what the program wrote, where its status is 0. Raises what the status stands for."""
     if ran[0] != 0:
         raise error(ran)
     return ran[1]
 
 
 def error(ran: Ran) -> Exception:
-    """Gives the exception that a status other than 0 stands for."""
+    """Returns the exception that a status other than 0 stands for."""
     status, text, told = ran
-    words = told.replace("mtree: ", "") or text.strip() or f"the program ended with the status {status}"
+    # The reason stands on standard error for a use, a device or a file, and for all else on the last line of standard output.
+    lines = [told.replace("mtree: ", ""), text.strip()]
+    words = next((line.rsplit("\n", 1)[-1] for line in (lines if status in (2, 5, 10) else lines[::-1]) if line), f"the program ended with the status {status}")
     if status < 0:
         return Error(f"the program was ended by the signal {-status}")
     if status == 1:
@@ -85,13 +87,13 @@ def error(ran: Ran) -> Exception:
 
 
 def insert_scripts(rows: Iterable[str], tags: Optional[Iterable[str]]) -> Iterator[bytes]:
-    """Gives scripts of one insert for each row, each within the program's limit."""
+    """Returns scripts of one insert for each row, each within the program's limit."""
     lines = (f"insert,{row}\n" for row in rows) if tags is None else (f"tinsert,{tag},{row}\n" for tag, row in zip(tags, rows))
     return _scripts(lines)
 
 
 def query_scripts(word: str, bound: int, points: Iterable[str]) -> Iterator[bytes]:
-    """Gives scripts of one query for each point, each within the program's limit."""
+    """Returns scripts of one query for each point, each within the program's limit."""
     return _scripts(f"{word},{bound},{point}\n" for point in points)
 
 
@@ -109,7 +111,7 @@ def _scripts(lines: Iterable[str]) -> Iterator[bytes]:
 
 
 def load_script(rows: Sequence[str], tags: Optional[Sequence[str]]) -> bytes:
-    """Gives a script of one load of all rows. Raises ValueError where it has too many bytes."""
+    """Returns a script of one load of all rows. Raises ValueError where it has too many bytes."""
     lines = rows if tags is None else [f"{tag},{row}" for tag, row in zip(tags, rows)]
     script = (f"load,{len(rows)}\n" if tags is None else f"tload,{len(rows)}\n") + "".join(f"{line}\n" for line in lines)
     if len(script) > _SCRIPT_BYTES:
@@ -118,7 +120,7 @@ def load_script(rows: Sequence[str], tags: Optional[Sequence[str]]) -> bytes:
 
 
 def answers(text: str) -> Iterator[Optional[List[Hit]]]:
-    """Gives the answers of a run of queries, which shows tags. A query that was refused has None."""
+    """Returns the answers of a run of queries, which shows tags. A query that was refused has None."""
     lines = iter(text.splitlines())
     for line in lines:
         word, count = line.split(" ", 1)

@@ -21,7 +21,7 @@ def reply(hits):
 
 
 def queries(dim, most, count):
-    """`count` queries of points below `most`, as lines and as calls."""
+    """Yields `count` queries at points below `most`, as lines and as calls."""
     seed = 12345
     for number in range(count):
         point = []
@@ -43,7 +43,7 @@ def lines(asked):
 
 
 def compare_file(name, dim, most):
-    """Every call on a sound file."""
+    """Compares every call on a sound file."""
     asked = list(queries(dim, most, 60))
     status, text = run("batch", name, "--tags", "show", "--log", "program.log", given=lines(asked))
     same(status, 0, f"batch {name}")
@@ -86,7 +86,7 @@ def compare_file(name, dim, most):
 
 
 def compare_arguments(name, dim):
-    """What a caller may hand in, and what is refused in words."""
+    """Compares what a caller may hand in, and what is refused in words."""
     with mtree.Index(name) as index:
         point = list(range(dim))
         wanted = index.nearest(point, 3)
@@ -111,7 +111,7 @@ def compare_arguments(name, dim):
 
 
 def compare_changes(name):
-    """An index that another process writes between the calls, and while they run."""
+    """Compares an index that another process writes, between the calls and while they run."""
     run("create", name, "--metric", "l1", "--dim", "1")
     with mtree.Index(name) as index:
         same(index.range([0], 1 << 40), [], "an empty index")
@@ -136,7 +136,7 @@ def compare_changes(name):
 
 
 def compare_writing():
-    """An index that is made and filled from Python is the file that the program makes of the same rows."""
+    """Compares an index that is made and filled from Python with the file that the program makes of the same rows."""
     rows = [[(7 * i) % 256, (i * i) % 256, 255 - i % 256] for i in range(300)]
     tags = [1000 + i for i in range(300)]
     run("create", "script.mt", "--metric", "l1", "--dim", "3")
@@ -175,7 +175,7 @@ def compare_writing():
 
 
 def compare_arrays(name, dim):
-    """Answers as arrays, where numpy is there: each integer type and order, and what has no answer."""
+    """Compares answers as arrays, where numpy is there: each integer type and order, and what has no answer."""
     try:
         import numpy
     except ImportError:
@@ -200,7 +200,7 @@ def compare_arrays(name, dim):
 
 
 def compare_scan(name, dim, count):
-    """A thousand queries beside a plain scan of the generated rows, under L1."""
+    """Compares a thousand queries with a plain scan of the generated rows, under L1."""
     rows = [[((i + 1) * (2 * j + 3) * 40503) % 65536 for j in range(dim)] for i in range(count)]
     with mtree.Index(name) as index:
         for kind, bound, point in queries(dim, 65536, 1000):
@@ -210,7 +210,7 @@ def compare_scan(name, dim, count):
 
 
 def compare_rooms(name, dim):
-    """Buffers of every size around the needed one: what is told, and that nothing else is written."""
+    """Tries buffers of every size around the needed one: what is told, and that nothing else is written."""
     file = open(name, "rb").read()
     point = (ctypes.c_uint32 * dim)(*[7] * dim)
     library = _library.library
@@ -241,7 +241,7 @@ def compare_rooms(name, dim):
 
 
 def compare_damage(name, dim):
-    """A file that is cut short at each page, an empty one, and one with a page that holds no node."""
+    """Compares a file that is cut short at each page, an empty one, and one with a page that holds no node."""
     file = open(name, "rb").read()
     cases = [file[:size] for size in range(0, len(file), 4096)]
     cases += [file[:page] + b"\x0f" + file[page + 1:] for page in range(3 * 4096, len(file), 4096)]

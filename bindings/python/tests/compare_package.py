@@ -395,6 +395,8 @@ def compare_processes():
         with other_program("kill -9 $$\n"):
             raises(mtree.Error, lambda: index.insert([[1, 1]]), "a program that was killed", "signal 9")
             raises(mtree.Error, index.shape, "a program that was killed before it told a shape", "signal 9")
+        with other_program("printf 'refused number\\nfault damaged bad 3 kind\\n'; echo 'mtree: 1 of 2 commands were refused' >&2; exit 9\n"):
+            raises(mtree.Damaged, lambda: index.insert([[1, 1]]), "a damaged page beside a refusal", "fault damaged bad 3 kind")
         with other_program("exit 8\n"):
             raises(MemoryError, lambda: index.insert([[1, 1]]), "a program without memory", "status 8")
         same(len(index), before, "objects after all this")

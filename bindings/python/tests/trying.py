@@ -16,7 +16,7 @@ def same(found, wanted, about):
 
 
 def raises(kind, call, about, words=""):
-    """The call raises this kind of exception, whose words hold these."""
+    """Checks that `call` raises an exception of `kind`, with `words` in its text."""
     try:
         same(call(), kind.__name__, about)
     except kind as error:
@@ -24,7 +24,7 @@ def raises(kind, call, about, words=""):
 
 
 def run(*words, given=""):
-    """The status of the program, and what it writes."""
+    """Runs the program. Returns its status and what it writes."""
     done = subprocess.run([PROGRAM, *words], input=given.encode(), stdout=subprocess.PIPE, stderr=subprocess.DEVNULL)
     return done.returncode, done.stdout.decode()
 
@@ -34,6 +34,6 @@ def told(report):
 
 
 def ended(what):
-    """Says how many comparisons there were, and answers the status to end with."""
+    """Says how many comparisons there were. Returns the status to end with."""
     print(f"bindings: {what}: {compared} comparisons, {failed} failed")
     return 1 if failed else 0

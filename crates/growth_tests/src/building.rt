@@ -5,18 +5,19 @@ ghost use Rattle.node_page.specs.Opening.{IsLawfulLive};
 ghost use Rattle.page_store.specs.Numbers.{AreNumbers};
 
 use crate::groups::line;
+use crate::work::holds;
 use bulk_load::{BuildFault, build};
 use meeting::{Meeting, Seen};
 use metric_laws::{Memory, Rows};
 use node_page::Head;
-use page_store::Placed;
+use page_store::{Placed, Staged};
 use std::alloc::Global;
 use std::process::Abort;
 use std::thread::Threads;
 use tree_shape::{InnerEntry, LAST_GENERATION, LeafEntry, Live, MOST_PAGES, Node};
 use vector_kinds::L1;
 
-// A head of one dimension under L1.
+// Gives a head of one dimension under L1 and of at most `limit` objects.
 #[tactic(auto, unfolding(node_page::specs::Heads::is_version, node_page::specs::Heads::is_space, node_page::specs::Heads::is_policy, node_page::specs::Heads::is_limit))]
 fn head_of(limit: u32) -> Head
     requires some { 1 ≤ limit }
@@ -35,7 +36,7 @@ fn head_of(limit: u32) -> Head
     }
 }
 
-// A tag for each of so many rows: 100 and its place.
+// Gives a tag for each of `count` rows: 100 and its place.
 fn tags_of(alloc: Global, count: u32) -> Result<Vec<u64>, Memory>
     ensures { IfOk result (λ tags. length tags.items ≡ count) }
 {
@@ -46,18 +47,16 @@ fn tags_of(alloc: Global, count: u32) -> Result<Vec<u64>, Memory>
     Ok(tags)
 }
 
-// The numbers 0 to 32, each as a point.
-fn numbers(alloc: Global) -> Result<Rows, BuildFault>
-    ensures points { IfOk result (λ rows. length rows.points ≡ 33) }
-    ensures fit { IfOk result (λ rows. All (λ p. IsTrue ((vector_space 2 1).fits p)) rows.points) }
+// Gives the numbers 0 to 32, each as a point.
+fn numbers(rt: &(impl AllocGlobal + Abort)) -> Rows
+    ensures points { length result.points ≡ 33 }
+    ensures fit { All (λ p. IsTrue ((vector_space 2 1).fits p)) result.points }
 {
-    match line(alloc, 33, 1) {
-        Ok((rows, _)) => Ok(rows),
-        Err(_) => Err(BuildFault::Memory),
-    }
+    let (rows, _) = line(rt.alloc(), 33, 1).expect(rt, "memory");
+    rows
 }
 
-// So many points out of order: row i is (i + 1) * 121509 modulo 65536.
+// Gives `count` points out of order: row i is (i + 1) * 121509 modulo 65536.
 fn scattered(alloc: Global, count: u32) -> Result<Rows, BuildFault>
     ensures points { IfOk result (λ rows. length rows.points ≡ count) }
     ensures fit { IfOk result (λ rows. All (λ p. IsTrue ((vector_space 2 1).fits p)) rows.points) }
@@ -72,7 +71,7 @@ fn scattered(alloc: Global, count: u32) -> Result<Rows, BuildFault>
     Ok(rows)
 }
 
-// The live tree of an index with no objects, whose root is page 3.
+// Describes the live tree of an index with no objects, whose root is page 3.
 fn empty(generation: u64, pages: u32) -> Live
     ensures { result ≡ record { side = 0; generation = generation; root = 3; height = 0; count = 0; pages = pages } }
 {
@@ -87,9 +86,8 @@ fn empty(generation: u64, pages: u32) -> Live
 }
 
 // Loads rows of one coordinate, with their tags.
-fn load<R: Threads + Sync>(
+fn load<R: AllocGlobal + Abort + Threads + Sync>(
     rt: &R,
-    alloc: Global,
     workers: usize,
     live: &Live,
     numbers: &[u32],
@@ -104,13 +102,11 @@ fn load<R: Threads + Sync>(
     requires numbers { AreNumbers live.now.pages numbers.now }
 {
     let count = rows.len() as u32;
-    let Ok(tags) = tags_of(alloc, count) else {
-        return Err(BuildFault::Memory);
-    };
+    let tags = tags_of(rt.alloc(), count).expect(rt, "memory");
     let head = head_of(count);
     build(
         rt,
-        alloc,
+        rt.alloc(),
         L1::new(1),
         workers,
         &head,
@@ -121,66 +117,81 @@ fn load<R: Threads + Sync>(
     )
 }
 
-// Looks at a leaf that holds the numbers from one to another, and whose seed is a third.
-fn check_leaf(rt: &impl Abort, node: &Node, seed: u32, from: u32, to: u32)
+// Says whether an entry is the number `number`, below the seed `seed`.
+fn is_number(entry: &LeafEntry, number: u32, seed: u32) -> bool {
+    entry.id == number
+        && entry.tag == 100 + u64::from(number)
+        && entry.parent == u64::from(number.abs_diff(seed))
+        && entry.point.as_slice() == [number].as_slice()
+}
+
+// Says whether entries are the numbers from `from` up to `to`, below the seed `seed`.
+fn are_numbers(entries: &[LeafEntry], seed: u32, from: u32, to: u32) -> bool
     requires { from ≤ to }
 {
-    let Node::Leaf(entries) = node else {
-        panic!(rt; "no leaf");
-    };
-    let entries = entries.as_slice();
-    assert!(rt; entries.len() == (to - from) as usize);
+    let mut is_so = entries.len() == (to - from) as usize;
     for (entry, number) in entries.iter().zip(from..to) {
-        assert!(rt; entry.id == number);
-        assert!(rt; entry.tag == 100 + u64::from(number));
-        assert!(rt; entry.parent == u64::from(number.abs_diff(seed)));
-        assert!(rt; entry.point.as_slice() == [number].as_slice());
+        is_so = is_so && is_number(entry, number, seed);
+    }
+    is_so
+}
+
+// Says whether a node is a leaf of these numbers.
+fn is_leaf(node: &Node, seed: u32, from: u32, to: u32) -> bool
+    requires { from ≤ to }
+{
+    match node {
+        Node::Leaf(entries) => are_numbers(entries.as_slice(), seed, from, to),
+        Node::Inner { .. } => false,
     }
 }
 
-// Looks at a root over leaves: their pages, radii and seeds.
-fn check_root(rt: &impl Abort, node: &Node, wanted: &[(u32, u64, u32)]) {
-    let Node::Inner { level, entries } = node else {
-        panic!(rt; "no inner node");
-    };
-    let entries = entries.as_slice();
-    assert!(rt; *level == 1);
-    assert!(rt; entries.len() == wanted.len());
+// Says whether an entry has this page, this radius and this seed.
+fn is_above(entry: &InnerEntry, page: u32, radius: u64, seed: u32) -> bool {
+    (entry.child, entry.radius, entry.parent) == (page, radius, 0)
+        && entry.point.as_slice() == [seed].as_slice()
+}
+
+// Says whether entries have these pages, radii and seeds.
+fn are_above(entries: &[InnerEntry], wanted: &[(u32, u64, u32)]) -> bool {
+    let mut is_so = entries.len() == wanted.len();
     for (entry, (page, radius, seed)) in entries.iter().zip(wanted) {
-        assert!(rt; entry.child == *page);
-        assert!(rt; entry.radius == *radius);
-        assert!(rt; entry.parent == 0);
-        assert!(rt; entry.point.as_slice() == [*seed].as_slice());
+        is_so = is_so && is_above(entry, *page, *radius, *seed);
+    }
+    is_so
+}
+
+// Says whether a node is a root over leaves with these pages, radii and seeds.
+fn is_root(node: &Node, wanted: &[(u32, u64, u32)]) -> bool {
+    match node {
+        Node::Inner { level, entries } => *level == 1 && are_above(entries.as_slice(), wanted),
+        Node::Leaf(_) => false,
     }
 }
 
-// Whether two leaves have the same entries.
+// Says whether two leaves have the same entries.
 fn are_leaves_same(left: &[LeafEntry], right: &[LeafEntry]) -> bool {
+    let mut is_so = left.len() == right.len();
     for (a, b) in left.iter().zip(right) {
-        if a.id != b.id || a.tag != b.tag || a.parent != b.parent {
-            return false;
-        }
-        if a.point.as_slice() != b.point.as_slice() {
-            return false;
-        }
+        is_so = is_so
+            && (a.id, a.tag, a.parent) == (b.id, b.tag, b.parent)
+            && a.point.as_slice() == b.point.as_slice();
     }
-    left.len() == right.len()
+    is_so
 }
 
-// Whether two inner nodes have the same entries.
+// Says whether two inner nodes have the same entries.
 fn are_inner_same(left: &[InnerEntry], right: &[InnerEntry]) -> bool {
+    let mut is_so = left.len() == right.len();
     for (a, b) in left.iter().zip(right) {
-        if a.child != b.child || a.radius != b.radius || a.parent != b.parent {
-            return false;
-        }
-        if a.point.as_slice() != b.point.as_slice() {
-            return false;
-        }
+        is_so = is_so
+            && (a.child, a.radius, a.parent) == (b.child, b.radius, b.parent)
+            && a.point.as_slice() == b.point.as_slice();
     }
-    left.len() == right.len()
+    is_so
 }
 
-// Whether two nodes are the same.
+// Says whether two nodes are the same.
 fn are_same(left: &Node, right: &Node) -> bool {
     match (left, right) {
         (Node::Leaf(left), Node::Leaf(right)) => {
@@ -197,9 +208,28 @@ fn are_same(left: &Node, right: &Node) -> bool {
     }
 }
 
+// Says whether the node at `place` is staged for `page`, and is a leaf of these numbers.
+fn has_leaf(staged: &Staged, place: usize, page: u32, numbers: (u32, u32), seed: u32) -> bool {
+    let (from, to) = numbers;
+    place < staged.len()
+        && from <= to
+        && staged.page_at(place) == page
+        && is_leaf(staged.node_at(place), seed, from, to)
+}
+
+// Says whether the node at `place` is staged for `page`, and is a root with these entries.
+fn has_root(staged: &Staged, place: usize, page: u32, wanted: &[(u32, u64, u32)]) -> bool {
+    place < staged.len() && staged.page_at(place) == page && is_root(staged.node_at(place), wanted)
+}
+
+// Loads the numbers 0 to 32 into an empty index of four pages.
+fn placed_numbers<R: AllocGlobal + Abort + Threads + Sync>(rt: &R) -> Placed {
+    let rows = numbers(rt);
+    load(rt, 2, &empty(1, 4), &[], &rows).expect(rt, "placed")
+}
+
 #[test]
-fn children_are_numbered_before_their_parent(rt: HostRuntime) -> Result<(), BuildFault> {
-    let leaves = [(0u32, 0u32, 6u32), (8, 6, 13), (16, 13, 21), (24, 21, 33)];
+fn children_are_numbered_before_their_parent(rt: HostRuntime) {
     let next = Live {
         side: 1,
         generation: 2,
@@ -208,85 +238,108 @@ fn children_are_numbered_before_their_parent(rt: HostRuntime) -> Result<(), Buil
         count: 33,
         pages: 9,
     };
-    let rows = numbers(rt.alloc())?;
-    let placed = load(&rt, rt.alloc(), 2, &empty(1, 4), &[], &rows)?;
-    assert!(&rt; placed.next == next);
-    assert!(&rt; placed.left.as_slice() == [3].as_slice());
-    assert!(&rt; placed.staged.len() == 5);
-    for place in 0..4 {
-        let (seed, from, to) = leaves[place];
-        assert!(&rt; placed.staged.page_at(place) == 4 + place as u32);
-        check_leaf(&rt, placed.staged.node_at(place), seed, from, to);
-    }
-    assert!(&rt; placed.staged.page_at(4) == 8);
+    let placed = placed_numbers(&rt);
+    holds(&rt, placed.next == next);
+    holds(&rt, placed.left.as_slice() == [3].as_slice());
+    holds(&rt, placed.staged.len() == 5);
+    holds(&rt, has_leaf(&placed.staged, 0, 4, (0, 6), 0));
+    holds(&rt, has_leaf(&placed.staged, 1, 5, (6, 13), 8));
+    holds(&rt, has_leaf(&placed.staged, 2, 6, (13, 21), 16));
+    holds(&rt, has_leaf(&placed.staged, 3, 7, (21, 33), 24));
     let entries = [(4, 5, 0), (5, 4, 8), (6, 4, 16), (7, 8, 24)];
-    check_root(&rt, placed.staged.node_at(4), &entries);
-    Ok(())
+    holds(&rt, has_root(&placed.staged, 4, 8, &entries));
+}
+
+// Says whether the same nodes are staged for the same pages.
+fn are_staged_same(left: &Staged, right: &Staged) -> bool {
+    let mut is_so = left.len() == right.len();
+    for place in 0..left.len().min(right.len()) {
+        is_so = is_so
+            && left.page_at(place) == right.page_at(place)
+            && are_same(left.node_at(place), right.node_at(place));
+    }
+    is_so
+}
+
+// Loads 65536 points out of order by `workers` workers.
+fn placed_by<R: AllocGlobal + Abort + Threads + Sync>(rt: &R, workers: usize) -> Placed
+    requires some { 1 ≤ workers }
+    requires few { workers ≤ 64 }
+{
+    let rows = scattered(rt.alloc(), 65_536).expect(rt, "memory");
+    load(rt, workers, &empty(1, 4), &[], &rows).expect(rt, "placed")
 }
 
 #[test]
-fn any_number_of_workers_gives_the_same_nodes(rt: HostRuntime) -> Result<(), BuildFault> {
-    let rows = scattered(rt.alloc(), 65_536)?;
-    let live = empty(1, 4);
-    let by_one = load(&rt, rt.alloc(), 1, &live, &[], &rows)?;
-    assert!(&rt; by_one.next.height == 3);
+fn any_number_of_workers_gives_the_same_nodes(rt: HostRuntime) {
+    let by_one = placed_by(&rt, 1);
+    holds(&rt, by_one.next.height == 3);
     for workers in [2usize, 64] {
-        let placed = load(&rt, rt.alloc(), workers, &live, &[], &rows)?;
-        assert!(&rt; placed.next == by_one.next);
-        assert!(&rt; placed.staged.len() == by_one.staged.len());
-        for place in 0..placed.staged.len().min(by_one.staged.len()) {
-            let page = placed.staged.page_at(place);
-            assert!(&rt; page == by_one.staged.page_at(place));
-            let node = placed.staged.node_at(place);
-            assert!(&rt; are_same(node, by_one.staged.node_at(place)));
-        }
+        let placed = placed_by(&rt, workers);
+        holds(&rt, placed.next == by_one.next);
+        holds(&rt, are_staged_same(&placed.staged, &by_one.staged));
     }
-    Ok(())
 }
 
-#[test]
-fn two_workers_of_a_load_meet(rt: HostRuntime) -> Result<(), BuildFault> {
-    let alloc = rt.alloc();
-    let rows = numbers(alloc)?;
-    let Ok(tags) = tags_of(alloc, 33) else {
-        return Err(BuildFault::Memory);
+// Says whether two workers of a load met.
+fn has_met<R: AllocGlobal + Abort + Threads + Sync>(rt: &R, workers: usize) -> bool
+    requires some { 1 ≤ workers }
+    requires few { workers ≤ 64 }
+{
+    let rows = numbers(rt);
+    let tags = tags_of(rt.alloc(), 33).expect(rt, "memory");
+    let seen = Seen::new();
+    let metric = Meeting {
+        plain: L1::new(1),
+        first: &[1],
+        second: &[32],
+        seen: &seen,
     };
-    let head = head_of(33);
-    for workers in [2usize, 1] {
-        let seen = Seen::new();
-        let metric = Meeting {
-            plain: L1::new(1),
-            first: &[1],
-            second: &[32],
-            seen: &seen,
-        };
-        let live = empty(1, 4);
-        build(&rt, alloc, metric, workers, &head, &live, &[], &rows, &tags)?;
-        assert!(&rt; seen.met() == (workers == 2));
-    }
-    Ok(())
+    let placed = build(
+        rt,
+        rt.alloc(),
+        metric,
+        workers,
+        &head_of(33),
+        &empty(1, 4),
+        &[],
+        &rows,
+        &tags,
+    );
+    holds(rt, placed.is_ok());
+    seen.met()
 }
 
 #[test]
-fn a_full_file_has_room_for_what_numbers_are_handed_in(rt: HostRuntime) -> Result<(), BuildFault> {
-    let rows = numbers(rt.alloc())?;
-    let full = empty(1, MOST_PAGES);
-    let placed = load(&rt, rt.alloc(), 1, &full, &[4, 6, 7, 8, 10], &rows)?;
-    assert!(&rt; placed.next.root == 10);
-    assert!(&rt; placed.next.pages == MOST_PAGES);
-    let refused = [
-        (load(&rt, rt.alloc(), 1, &full, &[], &rows), 5),
-        (load(&rt, rt.alloc(), 1, &full, &[4, 6], &rows), 3),
-    ];
-    for (result, needed) in refused {
-        let no_room = BuildFault::NoRoom {
-            pages: MOST_PAGES,
-            needed,
-        };
-        assert!(&rt; result.is_err_and(|fault| fault == no_room));
+fn two_workers_of_a_load_meet(rt: HostRuntime) {
+    holds(&rt, has_met(&rt, 2));
+    holds(&rt, !has_met(&rt, 1));
+}
+
+// Checks that a load is refused.
+fn check_fault(rt: &impl Abort, placed: Result<Placed, BuildFault>, wanted: BuildFault) {
+    holds(rt, placed.err() == Some(wanted));
+}
+
+// Says that a full file needs `needed` pages more.
+fn no_room(needed: u32) -> BuildFault {
+    BuildFault::NoRoom {
+        pages: MOST_PAGES,
+        needed,
     }
+}
+
+#[test]
+fn a_full_file_has_room_for_what_numbers_are_handed_in(rt: HostRuntime) {
+    let rows = numbers(&rt);
+    let full = empty(1, MOST_PAGES);
+    let placed = load(&rt, 1, &full, &[4, 6, 7, 8, 10], &rows).expect(&rt, "placed");
+    holds(
+        &rt,
+        (placed.next.root, placed.next.pages) == (10, MOST_PAGES),
+    );
+    check_fault(&rt, load(&rt, 1, &full, &[], &rows), no_room(5));
+    check_fault(&rt, load(&rt, 1, &full, &[4, 6], &rows), no_room(3));
     let last = empty(LAST_GENERATION, 4);
-    let worn = load(&rt, rt.alloc(), 1, &last, &[], &rows);
-    assert!(&rt; worn.is_err_and(|fault| fault == BuildFault::Worn));
-    Ok(())
+    check_fault(&rt, load(&rt, 1, &last, &[], &rows), BuildFault::Worn);
 }

@@ -1,4 +1,4 @@
-ghost use Rattle.std.specs.Prelude.{◌≡◌, ◌*◌, ◌^◌, ◌≤◌, IfOk, OnOk};
+ghost use Rattle.std.specs.Prelude.{◌≡◌, ◌*◌, ◌^◌, ◌≤◌, IfOk};
 ghost use Rattle.std.specs.List.{AllByRecursion};
 ghost use Rattle.node_page.specs.Heads.{IsLawfulHead};
 ghost use Rattle.node_page.specs.Nodes.{IsLawfulNode};
@@ -7,23 +7,23 @@ ghost use Rattle.page_store.specs.Reading.{IsWithin, nodes_of, reading};
 ghost use Rattle.page_store.specs.Numbers.{AreNumbers};
 ghost use Rattle.page_store.specs.Placing.{AreOutside};
 
+use crate::work::holds;
 use insert_path::{PlaceFault, place};
 use metric_laws::{Meter, Ruler};
 use node_page::{Head, encode_node};
 use page_store::{ImagePages, PageFault, Placed, Staged, own_node};
-use std::alloc::Global;
 use std::process::Abort;
 use tree_shape::{InnerEntry, Live, Node};
 use vector_kinds::L1;
 
-// An index file in memory, without its head and slots.
+// Is an index file in memory, without its head and slots.
 #[derive(Drop)]
 struct File {
     bytes: Vec<u8>,
     live: Live,
 }
 
-// A head of one dimension under L1, with the promotion mM_RAD and the hyperplane.
+// Gives a head of one dimension under L1 and of at most `limit` objects, with the promotion mM_RAD and the hyperplane.
 #[tactic(auto, unfolding(node_page::specs::Heads::is_version, node_page::specs::Heads::is_space, node_page::specs::Heads::is_policy, node_page::specs::Heads::is_limit))]
 fn head_of(limit: u32) -> Head
     requires some { 1 ≤ limit }
@@ -70,8 +70,7 @@ fn write_staged(rt: &impl Abort, bytes: &mut [u8], dim: u8, next: &Live, staged:
 
 // Places an object at `x` over the file.
 fn place_at(
-    rt: &impl Abort,
-    alloc: Global,
+    rt: &(impl AllocGlobal + Abort),
     file: &File,
     head: &Head,
     numbers: &[u32],
@@ -90,62 +89,54 @@ fn place_at(
     assert!(rt; ruler.fits(&point));
     let mut pages = ImagePages::new(&file.bytes, head.dim, file.live.pages);
     let placed = place(
-        alloc, &mut pages, &mut ruler, head, &file.live, numbers, &point, 100,
-    )?;
-    assert!(rt; pages.asked <= u64::from(file.live.height) + 1);
-    Ok(placed)
+        rt.alloc(),
+        &mut pages,
+        &mut ruler,
+        head,
+        &file.live,
+        numbers,
+        &point,
+        100,
+    );
+    let most = u64::from(file.live.height) + 1;
+    holds(rt, placed.is_err() || pages.asked <= most);
+    placed
 }
 
 // Inserts an object at `x` into the file.
-fn insert(
-    rt: &impl Abort,
-    alloc: Global,
-    file: &mut File,
-    head: &Head,
-    numbers: &[u32],
-    x: u32,
-) -> Result<(), PlaceFault>
+fn insert(rt: &(impl AllocGlobal + Abort), file: &mut File, head: &Head, numbers: &[u32], x: u32)
     requires head { IsLawfulHead head.now }
     requires dim { head.now.dim ≡ 1 }
     requires live { IsLawfulLive head.now.limit (file.old.live.pages * 4096) file.old.live }
     requires numbers { AreNumbers file.old.live.pages numbers.now }
     requires outside { AreOutside (nodes_of (reading head.now.dim file.old.live.pages file.old.bytes.items)) file.old.live numbers.now }
-    ensures { OnOk result (IsLawfulLive head.now.limit (file.new.live.pages * 4096) file.new.live) }
+    ensures { IsLawfulLive head.now.limit (file.new.live.pages * 4096) file.new.live }
 {
-    let placed = place_at(rt, alloc, file, head, numbers, x)?;
+    let placed = place_at(rt, file, head, numbers, x).expect(rt, "placed");
     write_staged(rt, &mut file.bytes, head.dim, &placed.next, &placed.staged);
     file.live = placed.next;
-    Ok(())
 }
 
 // Inserts an object at `x` into a tree of one leaf on page 3 or 4, and gives the new node the other one.
-fn insert_low(
-    rt: &impl Abort,
-    alloc: Global,
-    file: &mut File,
-    head: &Head,
-    x: u32,
-) -> Result<(), PlaceFault>
+fn insert_low(rt: &(impl AllocGlobal + Abort), file: &mut File, head: &Head, x: u32)
     requires head { IsLawfulHead head.now }
     requires dim { head.now.dim ≡ 1 }
     requires live { IsLawfulLive head.now.limit (file.old.live.pages * 4096) file.old.live }
-    ensures { OnOk result (IsLawfulLive head.now.limit (file.new.live.pages * 4096) file.new.live) }
+    ensures { IsLawfulLive head.now.limit (file.new.live.pages * 4096) file.new.live }
 {
     assert!(rt; file.live.height == 0);
     if file.live.pages == 4 {
-        return insert(rt, alloc, file, head, &[], x);
+        return insert(rt, file, head, &[], x);
     }
     let free = if file.live.root == 3 { 4 } else { 3 };
-    insert(rt, alloc, file, head, &[free], x)
+    insert(rt, file, head, &[free], x);
 }
 
-// A new file: an empty leaf on page 3, and room for more.
-fn new_file(alloc: Global) -> Result<File, PlaceFault>
-    ensures live { IfOk result (λ file. file.live ≡ record { side = 0; generation = 1; root = 3; height = 0; count = 0; pages = 4 }) }
+// Gives a new file: an empty leaf on page 3, and room for more.
+fn new_file(rt: &(impl AllocGlobal + Abort)) -> File
+    ensures live { result.live ≡ record { side = 0; generation = 1; root = 3; height = 0; count = 0; pages = 4 } }
 {
-    let Ok(bytes) = vec![in alloc; 0u8; 327_680] else {
-        return Err(PlaceFault::Memory);
-    };
+    let bytes = vec![in rt.alloc(); 0u8; 327_680].expect(rt, "memory");
     let live = Live {
         side: 0,
         generation: 1,
@@ -154,18 +145,18 @@ fn new_file(alloc: Global) -> Result<File, PlaceFault>
         count: 0,
         pages: 4,
     };
-    Ok(File { bytes, live })
+    File { bytes, live }
 }
 
-// The node of a page.
-fn node_of(alloc: Global, file: &File, page: u32) -> Result<Node, PageFault>
+// Gives the node of a page.
+fn node_of(rt: &(impl AllocGlobal + Abort), file: &File, page: u32) -> Node
     requires { file.now.live.pages ≤ 2 ^ 24 }
 {
     let mut pages = ImagePages::new(&file.bytes, 1, file.live.pages);
-    own_node(alloc, &mut pages, page)
+    own_node(rt.alloc(), &mut pages, page).expect(rt, "a node")
 }
 
-// What an entry of a root should say of its leaf.
+// Says what an entry of a root should say of its leaf.
 #[derive(Clone, Copy)]
 struct Wanted {
     child: u32,
@@ -174,58 +165,63 @@ struct Wanted {
     count: usize,
 }
 
-// Looks at an entry of the root, and at the number of objects in its leaf.
-fn check_entry(
-    rt: &impl Abort,
-    alloc: Global,
-    file: &File,
-    entry: &InnerEntry,
-    wanted: Wanted,
-) -> Result<(), PageFault>
-    requires { file.now.live.pages ≤ 2 ^ 24 }
-{
-    assert!(rt; entry.child == wanted.child);
-    assert!(rt; entry.radius == wanted.radius);
-    assert!(rt; entry.parent == 0);
-    assert!(rt; entry.point.as_slice() == [wanted.point].as_slice());
-    let Node::Leaf(entries) = node_of(alloc, file, wanted.child)? else {
-        panic!(rt; "the child is no leaf");
-    };
-    assert!(rt; entries.as_slice().len() == wanted.count);
-    Ok(())
+// Says whether an entry of a root is this one.
+fn is_entry(entry: &InnerEntry, wanted: &Wanted) -> bool {
+    (entry.child, entry.radius, entry.parent) == (wanted.child, wanted.radius, 0)
+        && entry.point.as_slice() == [wanted.point].as_slice()
 }
 
-// Looks at a root above leaves.
-fn check_root(
-    rt: &impl Abort,
-    alloc: Global,
-    file: &File,
-    wanted: &[Wanted],
-) -> Result<(), PageFault>
-    requires { file.now.live.pages ≤ 2 ^ 24 }
-{
-    let Node::Inner { level, entries } = node_of(alloc, file, file.live.root)? else {
-        panic!(rt; "the root is a leaf");
-    };
-    assert!(rt; level == 1);
-    let entries = entries.as_slice();
-    assert!(rt; entries.len() == wanted.len());
-    for i in 0..wanted.len() {
-        check_entry(rt, alloc, file, &entries[i], wanted[i])?;
+// Says whether a node is a root above leaves, with these entries.
+fn is_root(node: &Node, wanted: &[Wanted]) -> bool {
+    match node {
+        Node::Inner { level, entries } => *level == 1 && are_entries(entries.as_slice(), wanted),
+        Node::Leaf(_) => false,
     }
-    Ok(())
 }
 
-// Looks at a refusal.
+// Says whether a root's entries are these.
+fn are_entries(entries: &[InnerEntry], wanted: &[Wanted]) -> bool {
+    let mut is_so = entries.len() == wanted.len();
+    for (entry, one) in entries.iter().zip(wanted) {
+        is_so = is_so && is_entry(entry, one);
+    }
+    is_so
+}
+
+// Counts the objects of a leaf.
+fn objects_of(node: &Node) -> Option<usize> {
+    match node {
+        Node::Leaf(entries) => Some(entries.as_slice().len()),
+        Node::Inner { .. } => None,
+    }
+}
+
+// Checks the number of objects in a leaf.
+fn check_leaf(rt: &(impl AllocGlobal + Abort), file: &File, wanted: &Wanted)
+    requires { file.now.live.pages ≤ 2 ^ 24 }
+{
+    let node = node_of(rt, file, wanted.child);
+    holds(rt, objects_of(&node) == Some(wanted.count));
+}
+
+// Checks a root above leaves, and the numbers of objects in them.
+fn check_root(rt: &(impl AllocGlobal + Abort), file: &File, wanted: &[Wanted])
+    requires { file.now.live.pages ≤ 2 ^ 24 }
+{
+    let root = node_of(rt, file, file.live.root);
+    holds(rt, is_root(&root, wanted));
+    for one in wanted {
+        check_leaf(rt, file, one);
+    }
+}
+
+// Checks a refusal.
 fn check_fault(rt: &impl Abort, placed: Result<Placed, PlaceFault>, wanted: PlaceFault) {
-    match placed {
-        Ok(_) => panic!(rt; "placed"),
-        Err(fault) => assert!(rt; fault == wanted),
-    }
+    holds(rt, placed.err() == Some(wanted));
 }
 
-// An entry that should stand in a root.
-fn leaf(child: u32, radius: u64, point: u32, count: usize) -> Wanted {
+// Makes an entry that should stand in a root.
+const fn leaf(child: u32, radius: u64, point: u32, count: usize) -> Wanted {
     Wanted {
         child,
         radius,
@@ -235,16 +231,14 @@ fn leaf(child: u32, radius: u64, point: u32, count: usize) -> Wanted {
 }
 
 #[test]
-fn the_33rd_number_splits_the_leaf(rt: HostRuntime) -> Result<(), PlaceFault> {
-    let alloc = rt.alloc();
+fn the_33rd_number_splits_the_leaf(rt: HostRuntime) {
     let head = head_of(64);
-    let mut file = new_file(alloc)?;
+    let mut file = new_file(&rt);
     for x in 0..32 {
-        insert_low(&rt, alloc, &mut file, &head, x)?;
+        insert_low(&rt, &mut file, &head, x);
     }
-    assert!(rt; file.live.root == 3);
-    assert!(rt; file.live.pages == 5);
-    insert_low(&rt, alloc, &mut file, &head, 32)?;
+    holds(&rt, (file.live.root, file.live.pages) == (3, 5));
+    insert_low(&rt, &mut file, &head, 32);
     let live = Live {
         side: 1,
         generation: 34,
@@ -253,54 +247,46 @@ fn the_33rd_number_splits_the_leaf(rt: HostRuntime) -> Result<(), PlaceFault> {
         count: 33,
         pages: 7,
     };
-    assert!(rt; file.live == live);
+    holds(&rt, file.live == live);
     let leaves = [leaf(4, 8, 7, 16), leaf(5, 8, 24, 17)];
-    check_root(&rt, alloc, &file, &leaves).map_err(PlaceFault::Page)
+    check_root(&rt, &file, &leaves);
 }
 
 #[test]
-fn forty_equal_points_fill_three_leaves(rt: HostRuntime) -> Result<(), PlaceFault> {
-    let alloc = rt.alloc();
+fn forty_equal_points_fill_three_leaves(rt: HostRuntime) {
     let head = head_of(64);
-    let mut file = new_file(alloc)?;
+    let mut file = new_file(&rt);
     for _x in 0..40 {
-        insert(&rt, alloc, &mut file, &head, &[], 5)?;
+        insert(&rt, &mut file, &head, &[], 5);
     }
-    assert!(rt; file.live.height == 1);
-    assert!(rt; file.live.root == 53);
+    holds(&rt, (file.live.height, file.live.root) == (1, 53));
     let leaves = [leaf(52, 0, 5, 28), leaf(37, 0, 5, 6), leaf(50, 0, 5, 6)];
-    check_root(&rt, alloc, &file, &leaves).map_err(PlaceFault::Page)
+    check_root(&rt, &file, &leaves);
 }
 
 #[test]
-fn each_refusal_has_its_cause(rt: HostRuntime) -> Result<(), PlaceFault> {
-    let alloc = rt.alloc();
+fn each_refusal_has_its_cause(rt: HostRuntime) {
     let head = head_of(3);
-    let mut file = new_file(alloc)?;
+    let mut file = new_file(&rt);
     file.live.pages = 16_777_216;
     let fault = PlaceFault::NoRoom {
         pages: 16_777_216,
         needed: 1,
     };
-    check_fault(&rt, place_at(&rt, alloc, &file, &head, &[], 1), fault);
-    let placed = place_at(&rt, alloc, &file, &head, &[4], 1)?;
-    assert!(rt; placed.next.root == 4);
-    assert!(rt; placed.next.pages == 16_777_216);
+    check_fault(&rt, place_at(&rt, &file, &head, &[], 1), fault);
+    let placed = place_at(&rt, &file, &head, &[4], 1).expect(&rt, "placed");
+    holds(
+        &rt,
+        (placed.next.root, placed.next.pages) == (4, 16_777_216),
+    );
     file.live.pages = 4;
     file.live.height = 1;
     let fault = PlaceFault::Page(PageFault::Level(3));
-    check_fault(&rt, place_at(&rt, alloc, &file, &head, &[], 1), fault);
+    check_fault(&rt, place_at(&rt, &file, &head, &[], 1), fault);
     file.live.generation = 281_474_976_710_655;
-    check_fault(
-        &rt,
-        place_at(&rt, alloc, &file, &head, &[], 1),
-        PlaceFault::Worn,
-    );
+    let worn = PlaceFault::Worn;
+    check_fault(&rt, place_at(&rt, &file, &head, &[], 1), worn);
     file.live.count = 3;
-    check_fault(
-        &rt,
-        place_at(&rt, alloc, &file, &head, &[], 1),
-        PlaceFault::Full,
-    );
-    Ok(())
+    let full = PlaceFault::Full;
+    check_fault(&rt, place_at(&rt, &file, &head, &[], 1), full);
 }

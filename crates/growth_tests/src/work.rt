@@ -1,15 +1,22 @@
-ghost use Rattle.std.specs.Prelude.{◌≡◌, ◌*◌, ◌^◌, length, IfOk};
+ghost use Rattle.std.specs.Prelude.{◌≡◌, ◌≤◌, ◌*◌, ◌^◌, length, IfOk};
 
 use meeting::{Meeting, Seen};
 use metric_laws::{Memory, Rows};
 use par_work::{Job, fork, rows, share};
 use std::alloc::Global;
+use std::process::Abort;
+use std::thread::Threads;
 use vector_kinds::L1;
 
-/// Numbers of workers: one, some, and more than there are places.
+// Ends a test in which `is_so` is false.
+pub(crate) fn holds(rt: &impl Abort, is_so: bool) {
+    assert!(rt; is_so);
+}
+
+// Lists numbers of workers: one, some, and more than there are places.
 const WORKERS: [usize; 4] = [1, 2, 3, 64];
 
-// The points 0, 1 and so on.
+// Gives the numbers below `count` as points.
 fn line(alloc: Global, count: u32) -> Result<Rows, Memory>
     ensures { IfOk result (λ points. length points.points ≡ count) }
 {
@@ -20,26 +27,39 @@ fn line(alloc: Global, count: u32) -> Result<Rows, Memory>
     Ok(points)
 }
 
-#[test]
-fn rows_are_the_double_loop_for_any_workers(rt: HostRuntime) -> Result<(), Memory> {
-    let alloc = rt.alloc();
-    let points = line(alloc, 33)?;
-    let mut wanted = Vec::new(alloc);
-    for x in 0..33u64 {
-        wanted.push(x)?;
-        wanted.push(32 - x)?;
+// Says whether `found` are the distances of the numbers 0 to 32 from 0 and from 32, in turn.
+fn are_rows(found: &[u64]) -> bool {
+    let mut is_so = found.len() == 66;
+    for (i, dist) in found.iter().enumerate() {
+        let x = i as u64 / 2;
+        let other = 32u64.saturating_sub(x);
+        is_so = is_so && *dist == if i % 2 == 0 { x } else { other };
     }
-    let none = Rows::new(alloc, 1);
-    for workers in WORKERS {
-        let found = rows(&rt, alloc, L1::new(1), &points, &[0, 32], workers)?;
-        assert!(rt; found.as_slice() == wanted.as_slice());
-        let found = rows(&rt, alloc, L1::new(1), &none, &[], workers)?;
-        assert!(rt; found.len() == 0);
-    }
-    Ok(())
+    is_so
 }
 
-/// Twice the place.
+// Checks the distances of the numbers 0 to 32 from 0 and from 32, and those of no point from none.
+fn check_rows<R: AllocGlobal + Abort + Threads + Sync>(rt: &R, workers: usize)
+    requires some { 1 ≤ workers }
+    requires few { workers ≤ 64 }
+{
+    let alloc = rt.alloc();
+    let points = line(alloc, 33).expect(rt, "memory");
+    let found = rows(rt, alloc, L1::new(1), &points, &[0, 32], workers).expect(rt, "memory");
+    holds(rt, are_rows(found.as_slice()));
+    let none = Rows::new(alloc, 1);
+    let found = rows(rt, alloc, L1::new(1), &none, &[], workers).expect(rt, "memory");
+    holds(rt, found.len() == 0);
+}
+
+#[test]
+fn rows_are_the_double_loop_for_any_workers(rt: HostRuntime) {
+    for workers in WORKERS {
+        check_rows(&rt, workers);
+    }
+}
+
+// Answers twice the place.
 #[derive(Drop)]
 struct Twice;
 
@@ -55,30 +75,42 @@ impl Job for Twice {
     }
 }
 
-#[test]
-fn places_are_answered_in_order_for_any_workers(rt: HostRuntime) -> Result<(), Memory> {
-    let alloc = rt.alloc();
-    for workers in WORKERS {
-        for count in [0usize, 1, 33] {
-            let found = fork(&rt, alloc, &Twice, count, workers)?;
-            assert!(rt; found.len() == count);
-            for (i, x) in found.iter().enumerate() {
-                assert!(rt; *x == i * 2);
-            }
-            let places = share(&rt, alloc, count, workers, &|i| i)?;
-            assert!(rt; places.len() == count);
-            for (i, x) in places.iter().enumerate() {
-                assert!(rt; *x == i);
-            }
-        }
+// Says whether `found` are the `count` first multiples of a step.
+fn are_multiples(found: &[usize], count: usize, step: usize) -> bool {
+    let mut is_so = found.len() == count;
+    for (i, x) in found.iter().enumerate() {
+        is_so = is_so && *x == i.saturating_mul(step);
     }
-    Ok(())
+    is_so
+}
+
+// Checks the answers of `count` places by `workers` workers.
+fn check_places<R: AllocGlobal + Abort + Threads + Sync>(rt: &R, count: usize, workers: usize)
+    requires places { count ≤ 33 }
+    requires some { 1 ≤ workers }
+    requires few { workers ≤ 64 }
+{
+    let found = fork(rt, rt.alloc(), &Twice, count, workers).expect(rt, "memory");
+    holds(rt, are_multiples(found.as_slice(), count, 2));
+    let places = share(rt, rt.alloc(), count, workers, &|i| i).expect(rt, "memory");
+    holds(rt, are_multiples(places.as_slice(), count, 1));
 }
 
 #[test]
-fn two_workers_of_rows_meet(rt: HostRuntime) -> Result<(), Memory> {
-    let alloc = rt.alloc();
-    let points = line(alloc, 33)?;
+fn places_are_answered_in_order_for_any_workers(rt: HostRuntime) {
+    for workers in WORKERS {
+        check_places(&rt, 0, workers);
+        check_places(&rt, 1, workers);
+        check_places(&rt, 33, workers);
+    }
+}
+
+// Says whether two workers met over the numbers 0 to 32.
+fn has_met<R: AllocGlobal + Abort + Threads + Sync>(rt: &R, workers: usize) -> bool
+    requires some { 1 ≤ workers }
+    requires few { workers ≤ 64 }
+{
+    let points = line(rt.alloc(), 33).expect(rt, "memory");
     let seen = Seen::new();
     let metric = Meeting {
         plain: L1::new(1),
@@ -86,21 +118,17 @@ fn two_workers_of_rows_meet(rt: HostRuntime) -> Result<(), Memory> {
         second: &[32],
         seen: &seen,
     };
-    rows(&rt, alloc, metric, &points, &[0], 2)?;
-    assert!(rt; seen.met());
-    let alone = Seen::new();
-    let metric = Meeting {
-        plain: L1::new(1),
-        first: &[1],
-        second: &[32],
-        seen: &alone,
-    };
-    rows(&rt, alloc, metric, &points, &[0], 1)?;
-    assert!(rt; !alone.met());
-    Ok(())
+    let _found = rows(rt, rt.alloc(), metric, &points, &[0], workers).expect(rt, "memory");
+    seen.met()
 }
 
-/// Two places that wait for one another.
+#[test]
+fn two_workers_of_rows_meet(rt: HostRuntime) {
+    holds(&rt, has_met(&rt, 2));
+    holds(&rt, !has_met(&rt, 1));
+}
+
+// Has two places that wait for one another.
 #[derive(Drop)]
 struct Pair<'a> {
     seen: &'a Seen,
@@ -120,10 +148,9 @@ impl Job for Pair<'_> {
 }
 
 #[test]
-fn two_workers_of_fork_meet(rt: HostRuntime) -> Result<(), Memory> {
+fn two_workers_of_fork_meet(rt: HostRuntime) {
     let seen = Seen::new();
-    let found = fork(&rt, rt.alloc(), &Pair { seen: &seen }, 2, 2)?;
-    assert!(rt; found.as_slice() == [0, 1].as_slice());
-    assert!(rt; seen.met());
-    Ok(())
+    let found = fork(&rt, rt.alloc(), &Pair { seen: &seen }, 2, 2).expect(&rt, "memory");
+    holds(&rt, found.as_slice() == [0, 1].as_slice());
+    holds(&rt, seen.met());
 }

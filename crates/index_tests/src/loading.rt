@@ -1,10 +1,10 @@
-ghost use Rattle.std.specs.Prelude.{◌≡◌, ◌≤◌, All, IfOk, IsTrue, length};
+ghost use Rattle.std.specs.Prelude.{◌≡◌, ◌≤◌, All, IsTrue, length};
 ghost use Rattle.index_core.specs.Index.{MayGoOn};
 ghost use Rattle.index_core.specs.Pinning.{IsPinned};
 
 use crate::trial::{
-    Watched, check_images, check_stopped, count_on, empty_file, insert, insert_all, open_on,
-    worn_file,
+    Watched, check_images, check_stopped, copied, count_on, disk_of, empty_disk, holds, insert,
+    insert_all, keeps_middle, opened, stopping, worn_disk,
 };
 use disk_model::{Disk, MemoryDisk};
 use index_core::{Index, IndexFault};
@@ -12,22 +12,21 @@ use meeting::{Meeting, Seen};
 use metric_laws::{Metric, Rows};
 use std::alloc::Global;
 use std::process::Abort;
-use std::test::Fail;
 use std::thread::Threads;
 use tree_shape::Live;
 use vector_kinds::L1;
 
-// The numbers below this one, each as a point.
-fn numbers<M: Metric>(rt: &(impl AllocGlobal + Abort), metric: &M, count: u32) -> Result<Rows, Fail>
-    ensures points { IfOk result (λ rows. length rows.points ≡ count) }
-    ensures fit { IfOk result (λ rows. All (λ p. IsTrue ((M.space metric.now).fits p)) rows.points) }
+// Gives the numbers below `count`, each as a point.
+fn numbers<M: Metric>(rt: &(impl AllocGlobal + Abort), metric: &M, count: u32) -> Rows
+    ensures points { length result.points ≡ count }
+    ensures fit { All (λ p. IsTrue ((M.space metric.now).fits p)) result.points }
 {
     let mut rows = Rows::new(rt.alloc(), 1);
     for x in 0..count {
         assert!(rt; metric.fits(&[x]));
-        rows.push(&[x])?;
+        rows.push(&[x]).expect(rt, "memory");
     }
-    Ok(rows)
+    rows
 }
 
 // Loads the numbers 0 to 32.
@@ -35,209 +34,196 @@ fn load<R: AllocGlobal + Abort + Threads + Sync, D: Disk, M: Metric>(
     rt: &R,
     index: &mut Index<M>,
     disk: &mut D,
-) -> Result<Result<u32, IndexFault>, Fail>
+) -> Result<u32, IndexFault>
     requires { MayGoOn index.old (D.state disk.old) }
     ensures { MayGoOn index.new (D.state disk.new) }
 {
-    let rows = numbers(rt, &index.metric(), 33)?;
-    Ok(index.load(rt, rt.alloc(), disk, &rows))
+    let rows = numbers(rt, &index.metric(), 33);
+    index.load(rt, rt.alloc(), disk, &rows)
 }
 
-// The numbers 0 to 32, loaded into an empty index.
+// Describes the live tree after that load into an empty index.
+const LOADED: Live = Live {
+    side: 1,
+    generation: 2,
+    root: 8,
+    height: 1,
+    count: 33,
+    pages: 9,
+};
+
+// Loads the numbers 0 to 32 into an empty index, by `workers` threads.
 fn check_load<R: AllocGlobal + Abort + Threads + Sync, D: Disk>(
     rt: &R,
     disk: &mut D,
     workers: usize,
-) -> Result<(), Fail>
+)
     requires some { 1 ≤ workers }
     requires few { workers ≤ 64 }
 {
-    let mut index = open_on(disk)?;
+    let mut index = opened(rt, disk);
     index.set_workers(workers);
-    assert!(rt; index.workers() == workers);
-    assert!(rt; load(rt, &mut index, disk)? == Ok(33));
-    let live = Live {
-        side: 1,
-        generation: 2,
-        root: 8,
-        height: 1,
-        count: 33,
-        pages: 9,
-    };
-    assert!(rt; index.live() == live);
-    Ok(())
+    holds(rt, index.workers() == workers);
+    holds(rt, load(rt, &mut index, disk) == Ok(33));
+    holds(rt, index.live() == LOADED);
 }
 
-// The bytes of an index into which the numbers 0 to 32 were loaded.
-fn loaded<R: AllocGlobal + Abort + Threads + Sync, D: Disk + Watched + Drop>(
-    rt: &R,
-) -> Result<Vec<u8>, Fail> {
-    let alloc = rt.alloc();
-    let mut disk = D::of(alloc, empty_file(alloc, 1_000)?, &[], None)?;
-    check_load(rt, &mut disk, 1)?;
-    Ok(disk.file().to_vec(alloc)?)
+// Makes the disk of an index into which the numbers 0 to 32 were loaded.
+fn loaded<R: AllocGlobal + Abort + Threads + Sync, D: Disk + Watched + Drop>(rt: &R) -> D {
+    let mut disk: D = empty_disk(rt, 1_000, None);
+    check_load(rt, &mut disk, 1);
+    disk_of(rt, copied(rt, &disk), None)
 }
 
-// The same bytes by one thread and by many.
-fn check_workers<R: AllocGlobal + Abort + Threads + Sync, D: Disk + Watched + Drop>(
-    rt: &R,
-) -> Result<(), Fail> {
-    let alloc = rt.alloc();
-    let mut first = D::of(alloc, empty_file(alloc, 33)?, &[], None)?;
-    check_load(rt, &mut first, 1)?;
-    assert!(rt; count_on(rt, &mut first)? == 33);
-    let mut second = D::of(alloc, empty_file(alloc, 33)?, &[], None)?;
-    check_load(rt, &mut second, 64)?;
-    assert!(rt; first.file() == second.file());
-    Ok(())
+// Checks that one thread and many make the same bytes.
+fn check_workers<R: AllocGlobal + Abort + Threads + Sync, D: Disk + Watched + Drop>(rt: &R) {
+    let mut first: D = empty_disk(rt, 33, None);
+    check_load(rt, &mut first, 1);
+    holds(rt, count_on(rt, &mut first) == 33);
+    let mut second: D = empty_disk(rt, 33, None);
+    check_load(rt, &mut second, 64);
+    holds(rt, first.file() == second.file());
 }
 
 #[test]
-fn a_load_makes_one_tree(rt: HostRuntime) -> Result<(), Fail> {
-    check_workers::<HostRuntime, MemoryDisk>(&rt)
+fn a_load_makes_one_tree(rt: HostRuntime) {
+    check_workers::<HostRuntime, MemoryDisk>(&rt);
 }
 
-// A load that is refused makes no call of the disk.
+// Checks that a load is refused, and that it makes no call of the disk.
 fn check_refused<R: AllocGlobal + Abort + Threads + Sync, D: Disk + Watched>(
     rt: &R,
     disk: &mut D,
     expected: IndexFault,
-) -> Result<(), Fail> {
-    let mut index = open_on(disk)?;
+) {
+    let mut index = opened(rt, disk);
     let calls = disk.calls();
-    assert!(rt; load(rt, &mut index, disk)? == Err(expected));
-    assert!(rt; disk.calls() == calls);
-    Ok(())
+    holds(rt, load(rt, &mut index, disk) == Err(expected));
+    holds(rt, disk.calls() == calls);
 }
 
-// Too many rows, an index that has objects, and one without a further generation.
-fn check_refusals<R: AllocGlobal + Abort + Threads + Sync, D: Disk + Watched + Drop>(
-    rt: &R,
-) -> Result<(), Fail> {
-    let alloc = rt.alloc();
-    let mut small = D::of(alloc, empty_file(alloc, 32)?, &[], None)?;
-    check_refused(rt, &mut small, IndexFault::Full)?;
-    let mut used = D::of(alloc, loaded::<R, D>(rt)?, &[], None)?;
-    check_refused(rt, &mut used, IndexFault::NotEmpty)?;
-    let mut worn = D::of(alloc, worn_file(alloc)?, &[], None)?;
-    check_refused(rt, &mut worn, IndexFault::Worn)
+// Loads more rows than an index may have, into one that has objects, and into one without a further generation.
+fn check_refusals<R: AllocGlobal + Abort + Threads + Sync, D: Disk + Watched + Drop>(rt: &R) {
+    let mut small: D = empty_disk(rt, 32, None);
+    check_refused(rt, &mut small, IndexFault::Full);
+    let mut used: D = loaded(rt);
+    check_refused(rt, &mut used, IndexFault::NotEmpty);
+    let mut worn: D = worn_disk(rt);
+    check_refused(rt, &mut worn, IndexFault::Worn);
 }
 
 #[test]
-fn loads_that_are_refused(rt: HostRuntime) -> Result<(), Fail> {
-    check_refusals::<HostRuntime, MemoryDisk>(&rt)
+fn loads_that_are_refused(rt: HostRuntime) {
+    check_refusals::<HostRuntime, MemoryDisk>(&rt);
 }
 
-// Loads into an empty index, with a disk that may stop: a crash at any moment leaves all of the rows or none.
-fn check_stopped_load<R: AllocGlobal + Abort + Threads + Sync, D: Disk + Watched>(
-    rt: &R,
-    disk: &mut D,
-) -> Result<bool, Fail> {
-    let mut index = open_on(disk)?;
-    let began = disk.calls();
-    let answer = load(rt, &mut index, disk)?;
-    check_images(rt, disk, began, (0, 33), answer.is_ok())?;
+// Says whether a load of 33 rows may answer so on a disk that stops.
+fn may_answer(answer: &Result<u32, IndexFault>) -> bool {
     match answer {
-        Ok(count) => assert!(rt; count == 33),
-        Err(IndexFault::Commit) => check_stopped(rt, &mut index, disk)?,
-        Err(fault) => assert!(rt; fault == IndexFault::Disk),
+        Ok(count) => *count == 33,
+        Err(fault) => *fault == IndexFault::Commit || *fault == IndexFault::Disk,
     }
-    Ok(answer.is_ok())
 }
 
-// A stop at each call of a load.
-fn check_stops<R: AllocGlobal + Abort + Threads + Sync, D: Disk + Watched + Drop>(
+// Loads into an empty index on a disk that stops at the call `stop`. A crash at any moment leaves all of the rows or
+// none. Says whether the load is done.
+fn check_stop<R: AllocGlobal + Abort + Threads + Sync, D: Disk + Watched + Drop>(
     rt: &R,
-) -> Result<(), Fail> {
-    let alloc = rt.alloc();
+    stop: u64,
+) -> bool {
+    let mut disk: D = empty_disk(rt, 1_000, Some(stop));
+    let mut index = opened(rt, &mut disk);
+    let began = disk.calls();
+    let answer = load(rt, &mut index, &mut disk);
+    check_images(rt, &disk, began, (0, 33), answer.is_ok());
+    holds(rt, may_answer(&answer));
+    if answer == Err(IndexFault::Commit) {
+        check_stopped(rt, &mut index, &mut disk);
+    }
+    answer.is_ok()
+}
+
+#[test]
+fn a_load_is_stopped_at_each_call(rt: HostRuntime) {
     let mut done = false;
     for stop in 5..24 {
-        let mut disk = D::of(alloc, empty_file(alloc, 1_000)?, &[], Some(stop))?;
-        done = check_stopped_load(rt, &mut disk)?;
+        done = check_stop::<HostRuntime, MemoryDisk>(&rt, stop);
     }
-    assert!(rt; done);
-    Ok(())
+    holds(&rt, done);
 }
 
-#[test]
-fn a_load_is_stopped_at_each_call(rt: HostRuntime) -> Result<(), Fail> {
-    check_stops::<HostRuntime, MemoryDisk>(&rt)
+// Says whether a pin may answer so on a disk that stops, over the tree `live`.
+fn may_pin(answer: &Result<Live, IndexFault>, live: &Live) -> bool {
+    match answer {
+        Ok(pinned) => pinned == live,
+        Err(fault) => *fault == IndexFault::Disk,
+    }
 }
 
-// Pins the live tree, whose generation and pages these are.
+// Pins the live tree on a disk that may stop, and says whether it is pinned.
 fn pin<D: Disk, M: Metric>(
     rt: &(impl AllocGlobal + Abort),
     index: &mut Index<M>,
     disk: &mut D,
-) -> Result<Result<Live, IndexFault>, Fail>
+) -> bool
     requires { MayGoOn index.old (D.state disk.old) }
     ensures { MayGoOn index.new (D.state disk.new) }
 {
     let live = index.live();
     let answer = index.pin(rt.alloc(), disk);
-    assert!(rt; answer.is_err() || answer == Ok(live));
-    Ok(answer)
+    holds(rt, may_pin(&answer, &live));
+    answer.is_ok()
 }
 
-// The pages from the fourth to the eighth.
-fn middle(bytes: &[u8]) -> Option<&[u8]> {
-    bytes.get(4 * 4096..9 * 4096)
-}
-
-// At each moment from one on a crash leaves the pages of the tree as they are.
-fn check_kept<D: Watched>(
-    rt: &(impl AllocGlobal + Abort),
-    disk: &D,
-    began: u64,
-    before: &[u8],
-) -> Result<(), Fail> {
+// Checks that at each moment from `began` on a crash leaves the pages of the tree as they are in `before`.
+fn check_kept<D: Watched>(rt: &(impl AllocGlobal + Abort), disk: &D, began: u64, before: &[u8]) {
     for moment in began..=disk.calls() {
         for pick in [1, 170] {
-            let image = disk.left(rt.alloc(), moment, pick)?;
-            assert!(rt; middle(image.as_slice()) == middle(before));
+            holds(rt, keeps_middle(rt, disk, moment, pick, before));
         }
     }
-    Ok(())
 }
 
-// Inserts an object while the tree is pinned that was loaded, with a disk that may stop.
+// Inserts an object into the pinned tree `before`, and says whether it is inserted.
 fn check_pinned<D: Disk + Watched>(
     rt: &(impl AllocGlobal + Abort),
+    index: &mut Index<L1>,
     disk: &mut D,
     before: &[u8],
-) -> Result<bool, Fail> {
-    let mut index = open_on(disk)?;
+) -> bool
+    requires { MayGoOn index.old (D.state disk.old) }
+{
     let began = disk.calls();
-    if let Err(fault) = pin(rt, &mut index, disk)? {
-        assert!(rt; fault == IndexFault::Disk);
-        return Ok(false);
+    if !pin(rt, index, disk) {
+        return false;
     }
-    let answer = insert(rt, &mut index, disk, 33)?;
-    check_kept(rt, disk, began, before)?;
-    Ok(answer.is_ok())
+    let done = insert(rt, index, disk, 33).is_ok();
+    check_kept(rt, disk, began, before);
+    done
 }
 
-// A stop at each call of a pin and an insert.
-fn check_pins<R: AllocGlobal + Abort + Threads + Sync, D: Disk + Watched + Drop>(
-    rt: &R,
-) -> Result<(), Fail> {
-    let alloc = rt.alloc();
-    let before = loaded::<R, D>(rt)?;
-    let mut done = false;
-    for stop in 5..22 {
-        let mut disk = D::of(alloc, before.as_slice().to_vec(alloc)?, &[], Some(stop))?;
-        done = check_pinned(rt, &mut disk, before.as_slice())?;
-    }
-    assert!(rt; done);
-    Ok(())
+// Does so on a disk that stops at the call `stop`.
+fn check_pin<D: Disk + Watched + Drop>(
+    rt: &(impl AllocGlobal + Abort),
+    before: &[u8],
+    stop: u64,
+) -> bool {
+    let mut disk: D = stopping(rt, before, Some(stop));
+    let mut index = opened(rt, &mut disk);
+    check_pinned(rt, &mut index, &mut disk, before)
 }
 
 #[test]
-fn a_pinned_tree_stays_at_each_stop(rt: HostRuntime) -> Result<(), Fail> {
-    check_pins::<HostRuntime, MemoryDisk>(&rt)
+fn a_pinned_tree_stays_at_each_stop(rt: HostRuntime) {
+    let disk: MemoryDisk = loaded(&rt);
+    let mut done = false;
+    for stop in 5..22 {
+        done = check_pin::<MemoryDisk>(&rt, disk.file(), stop);
+    }
+    holds(&rt, done);
 }
 
-// Takes a pin back.
+// Takes back the pin of `generation`.
 fn release<D: Disk, M: Metric>(index: &mut Index<M>, disk: &D, generation: u64)
     requires goes_on { MayGoOn index.old (D.state disk.now) }
     requires pinned { IsPinned generation index.old }
@@ -264,72 +250,91 @@ fn pin_shortly<D: Disk, M: Metric>(
     Ok(())
 }
 
-// The slot after two inserts into what was loaded, whose tree is pinned all the while or only before.
-fn slot_after<D: Disk>(
+// Gives the live tree after two inserts into what was loaded, below a pin.
+fn live_pinned<D: Disk>(rt: &(impl AllocGlobal + Abort), disk: &mut D) -> Live {
+    let mut index = opened(rt, disk);
+    holds(rt, pin(rt, &mut index, disk));
+    holds(rt, pin_shortly(rt.alloc(), &mut index, disk) == Ok(()));
+    insert_all(rt, &mut index, disk, 33, 35);
+    index.live()
+}
+
+// Gives the live tree after two inserts into what was loaded, after a pin that was taken back.
+fn live_after<D: Disk>(rt: &(impl AllocGlobal + Abort), disk: &mut D) -> Live {
+    let mut index = opened(rt, disk);
+    holds(rt, pin_shortly(rt.alloc(), &mut index, disk) == Ok(()));
+    insert_all(rt, &mut index, disk, 33, 35);
+    index.live()
+}
+
+// Checks the pages after two inserts, after a pin and below one.
+fn check_released<R: AllocGlobal + Abort + Threads + Sync, D: Disk + Watched + Drop>(rt: &R) {
+    let mut disk: D = loaded(rt);
+    let live = live_after(rt, &mut disk);
+    holds(rt, (live.root, live.pages) == (8, 10));
+    let mut disk: D = loaded(rt);
+    let live = live_pinned(rt, &mut disk);
+    holds(rt, (live.root, live.pages) == (11, 12));
+}
+
+#[test]
+fn the_pages_of_a_pin_that_is_taken_back_are_used_again(rt: HostRuntime) {
+    check_released::<HostRuntime, MemoryDisk>(&rt);
+}
+
+// Inserts 34 with the tag 700 into what was loaded.
+fn insert_tagged<D: Disk>(
     rt: &(impl AllocGlobal + Abort),
+    index: &mut Index<L1>,
     disk: &mut D,
-    is_pinned: bool,
-) -> Result<Live, Fail> {
-    let mut index = open_on(disk)?;
-    if is_pinned {
-        index.pin(rt.alloc(), disk)?;
-    }
-    pin_shortly(rt.alloc(), &mut index, disk)?;
-    insert_all(rt, &mut index, disk, 33, 35)?;
-    Ok(index.live())
-}
-
-// Two inserts below a pin, and two after it.
-fn check_released<R: AllocGlobal + Abort + Threads + Sync, D: Disk + Watched + Drop>(
-    rt: &R,
-) -> Result<(), Fail> {
-    let alloc = rt.alloc();
-    for (is_pinned, root, pages) in [(false, 8, 10), (true, 11, 12)] {
-        let mut disk = D::of(alloc, loaded::<R, D>(rt)?, &[], None)?;
-        let live = slot_after(rt, &mut disk, is_pinned)?;
-        assert!(rt; (live.root, live.pages) == (root, pages));
-    }
-    Ok(())
-}
-
-#[test]
-fn the_pages_of_a_pin_that_is_taken_back_are_used_again(rt: HostRuntime) -> Result<(), Fail> {
-    check_released::<HostRuntime, MemoryDisk>(&rt)
-}
-
-// The tags of what a range query finds.
-fn check_tags<D: Disk>(rt: &(impl AllocGlobal + Abort), disk: &mut D) -> Result<(), Fail> {
-    let alloc = rt.alloc();
-    let mut index = open_on(disk)?;
+) -> Result<u32, IndexFault>
+    requires { MayGoOn index.old (D.state disk.old) }
+    ensures { MayGoOn index.new (D.state disk.new) }
+{
     assert!(rt; index.metric().fits(&[34]));
-    assert!(rt; index.insert_tagged(alloc, disk, &[34], 700) == Ok(33));
-    assert!(rt; index.metric().fits(&[32]));
-    let found = index.range(alloc, disk, &[32], 2)?;
-    let tags = index.tags(alloc, disk, &found)?;
-    assert!(rt; tags.as_slice() == [32u64, 31, 30, 700].as_slice());
-    Ok(())
+    index.insert_tagged(rt.alloc(), disk, &[34], 700)
 }
 
-// A tag that was given, and those of a load.
-fn check_tagged<R: AllocGlobal + Abort + Threads + Sync, D: Disk + Watched + Drop>(
-    rt: &R,
-) -> Result<(), Fail> {
-    let alloc = rt.alloc();
-    let mut disk = D::of(alloc, loaded::<R, D>(rt)?, &[], None)?;
-    check_tags(rt, &mut disk)
+// Gives the tags of what lies within 2 of 32.
+fn tags_near<D: Disk>(
+    rt: &(impl AllocGlobal + Abort),
+    index: &mut Index<L1>,
+    disk: &mut D,
+) -> Vec<u64>
+    requires { MayGoOn index.old (D.state disk.old) }
+{
+    assert!(rt; index.metric().fits(&[32]));
+    let found = index.range(rt.alloc(), disk, &[32], 2).expect(rt, "found");
+    index.tags(rt.alloc(), disk, &found).expect(rt, "tags")
+}
+
+// Checks a tag that was given, and those of a load.
+fn check_tagged<R: AllocGlobal + Abort + Threads + Sync, D: Disk + Watched + Drop>(rt: &R) {
+    let mut disk: D = loaded(rt);
+    let mut index = opened(rt, &mut disk);
+    holds(rt, insert_tagged(rt, &mut index, &mut disk) == Ok(33));
+    let tags = tags_near(rt, &mut index, &mut disk);
+    holds(rt, tags.as_slice() == [32u64, 31, 30, 700].as_slice());
 }
 
 #[test]
-fn hits_have_their_tags(rt: HostRuntime) -> Result<(), Fail> {
-    check_tagged::<HostRuntime, MemoryDisk>(&rt)
+fn hits_have_their_tags(rt: HostRuntime) {
+    check_tagged::<HostRuntime, MemoryDisk>(&rt);
 }
 
-// Whether the two halves of a load with so many workers met.
+// Opens a disk for writing with this metric.
+fn opened_by<D: Disk, M: Metric>(rt: &impl Abort, disk: &mut D, metric: M) -> Index<M>
+    ensures { MayGoOn result (D.state disk.new) }
+{
+    Index::open_write(disk, metric).expect(rt, "opened")
+}
+
+// Says whether the two halves of a load by `workers` threads met.
 fn has_met<R: AllocGlobal + Abort + Threads + Sync, D: Disk>(
     rt: &R,
     disk: &mut D,
     workers: usize,
-) -> Result<bool, Fail>
+) -> bool
     requires some { 1 ≤ workers }
     requires few { workers ≤ 64 }
 {
@@ -340,25 +345,26 @@ fn has_met<R: AllocGlobal + Abort + Threads + Sync, D: Disk>(
         second: &[32],
         seen: &seen,
     };
-    let mut index = Index::open_write(disk, metric)?;
+    let mut index = opened_by(rt, disk, metric);
     index.set_workers(workers);
-    assert!(rt; load(rt, &mut index, disk)? == Ok(33));
-    Ok(seen.met())
+    holds(rt, load(rt, &mut index, disk) == Ok(33));
+    seen.met()
 }
 
-// One thread waits in vain, and two meet.
-fn check_meetings<R: AllocGlobal + Abort + Threads + Sync, D: Disk + Watched + Drop>(
+// Loads into an empty index by `workers` threads, and says whether two of them met.
+fn meets<R: AllocGlobal + Abort + Threads + Sync, D: Disk + Watched + Drop>(
     rt: &R,
-) -> Result<(), Fail> {
-    let alloc = rt.alloc();
-    for workers in [2usize, 1] {
-        let mut disk = D::of(alloc, empty_file(alloc, 1_000)?, &[], None)?;
-        assert!(rt; has_met(rt, &mut disk, workers)? == (workers == 2));
-    }
-    Ok(())
+    workers: usize,
+) -> bool
+    requires some { 1 ≤ workers }
+    requires few { workers ≤ 64 }
+{
+    let mut disk: D = empty_disk(rt, 1_000, None);
+    has_met(rt, &mut disk, workers)
 }
 
 #[test]
-fn two_workers_of_a_load_meet(rt: HostRuntime) -> Result<(), Fail> {
-    check_meetings::<HostRuntime, MemoryDisk>(&rt)
+fn two_workers_of_a_load_meet(rt: HostRuntime) {
+    holds(&rt, meets::<HostRuntime, MemoryDisk>(&rt, 2));
+    holds(&rt, !meets::<HostRuntime, MemoryDisk>(&rt, 1));
 }

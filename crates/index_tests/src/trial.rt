@@ -1,35 +1,39 @@
-// What tests of writing calls share: disks that stop, indexes on them, and what a crash leaves of them.
+// Shares what tests of writing calls need: disks that stop, indexes on them, and what a crash leaves of them.
 ghost use Rattle.std.specs.Prelude.{◌≡◌, ◌≤◌, ◌^◌, IfOk, OnOk};
 ghost use Rattle.node_page.specs.Heads.{IsLawfulHead};
 ghost use Rattle.index_core.specs.Index.{MayGoOn};
 
-use crate::index::file_of;
+use crate::index::{file_of, has_first};
 use disk_model::{Disk, MemoryDisk};
 use index_core::{Index, IndexFault};
+use log_model::Found;
 use metric_laws::{Memory, Metric};
 use node_page::Head;
-use scan_model::Hit;
 use shadow_root::{OpenFault, create};
 use small_trees::pad;
 use std::alloc::Global;
 use std::process::Abort;
-use std::test::Fail;
 use tree_shape::{LAST_GENERATION, Live};
 use vector_kinds::L1;
 
-// A disk that tests make, and whose calls, bytes and images they see. They are generic over it, so that no proof of
+// Ends a test in which `is_so` is false.
+pub(crate) fn holds(rt: &impl Abort, is_so: bool) {
+    assert!(rt; is_so);
+}
+
+// Is a disk that tests make, and whose calls, bytes and images they see. Tests are generic over it, so that no proof of
 // theirs looks into its state.
 pub(crate) trait Watched: Sized {
-    // A disk that holds these bytes and has room for sixteen pages. These calls fail, and all from one on.
+    // Makes a disk of `bytes` with room for sixteen pages. The calls numbered in `fails` fail, and all from `stop` on.
     fn of(alloc: Global, bytes: Vec<u8>, fails: &[u64], stop: Option<u64>) -> Result<Self, Memory>;
 
-    // The number of calls made.
+    // Counts the calls made.
     fn calls(&self) -> u64;
 
-    // What a read gives.
+    // Gives what a read gives.
     fn file(&self) -> &[u8];
 
-    // A file that a crash within this call, or after the last one, may leave.
+    // Gives a file that a crash within the call `moment`, or after the last one, may leave.
     fn left(&self, alloc: Global, moment: u64, pick: u64) -> Result<Vec<u8>, Memory>;
 }
 
@@ -52,7 +56,61 @@ impl Watched for MemoryDisk {
     }
 }
 
-// A head of points of one coordinate under L1.
+// Makes a disk of `bytes` that all calls from `stop` on fail.
+pub(crate) fn disk_of<D: Watched>(
+    rt: &(impl AllocGlobal + Abort),
+    bytes: Vec<u8>,
+    stop: Option<u64>,
+) -> D {
+    D::of(rt.alloc(), bytes, &[], stop).expect(rt, "memory")
+}
+
+// Copies the bytes of a disk.
+pub(crate) fn copied<D: Watched>(rt: &(impl AllocGlobal + Abort), disk: &D) -> Vec<u8> {
+    disk.file().to_vec(rt.alloc()).expect(rt, "memory")
+}
+
+// Makes a disk of a copy of `bytes` that all calls from `stop` on fail.
+pub(crate) fn stopping<D: Watched>(
+    rt: &(impl AllocGlobal + Abort),
+    bytes: &[u8],
+    stop: Option<u64>,
+) -> D {
+    disk_of(rt, bytes.to_vec(rt.alloc()).expect(rt, "memory"), stop)
+}
+
+// Gives a file that a crash within the call `moment` may leave.
+fn left_at<D: Watched>(
+    rt: &(impl AllocGlobal + Abort),
+    disk: &D,
+    moment: u64,
+    pick: u64,
+) -> Vec<u8> {
+    disk.left(rt.alloc(), moment, pick).expect(rt, "memory")
+}
+
+// Makes a disk of what a crash after the last call leaves.
+pub(crate) fn crashed<D: Watched>(rt: &(impl AllocGlobal + Abort), disk: &D, pick: u64) -> D {
+    disk_of(rt, left_at(rt, disk, disk.calls(), pick), None)
+}
+
+// Says whether a crash within the call `moment` leaves the pages from the fourth to the eighth as they are in `before`.
+pub(crate) fn keeps_middle<D: Watched>(
+    rt: &(impl AllocGlobal + Abort),
+    disk: &D,
+    moment: u64,
+    pick: u64,
+    before: &[u8],
+) -> bool {
+    middle(left_at(rt, disk, moment, pick).as_slice()) == middle(before)
+}
+
+// Gives the pages from the fourth to the eighth.
+fn middle(bytes: &[u8]) -> Option<&[u8]> {
+    bytes.get(4 * 4096..9 * 4096)
+}
+
+// Gives a head of points of one coordinate under L1 and of at most `limit` objects.
 #[tactic(auto, unfolding(node_page::specs::Heads::is_version, node_page::specs::Heads::is_space, node_page::specs::Heads::is_policy, node_page::specs::Heads::is_limit))]
 pub(crate) fn head_of(limit: u32) -> Head
     requires some { 1 ≤ limit }
@@ -70,18 +128,30 @@ pub(crate) fn head_of(limit: u32) -> Head
     }
 }
 
-// The bytes of an index that has no objects and may have so many.
-pub(crate) fn empty_file(alloc: Global, limit: u32) -> Result<Vec<u8>, Fail>
+// Makes an index that has no objects and may have `limit` objects.
+fn make_on<D: Disk>(rt: &impl Abort, disk: &mut D, limit: u32)
     requires some { 1 ≤ limit }
     requires most { limit ≤ 2 ^ 24 }
 {
-    let mut disk = MemoryDisk::of(alloc, Vec::new(alloc), &[], None)?;
-    create(&mut disk, &head_of(limit))?;
-    Ok(disk.file().to_vec(alloc)?)
+    create(disk, &head_of(limit)).expect(rt, "made");
 }
 
-// The bytes of an index that has no objects and no further generation.
-pub(crate) fn worn_file(alloc: Global) -> Result<Vec<u8>, Memory> {
+// Makes a disk of an index that has no objects and may have `limit` objects. All calls from `stop` on fail.
+pub(crate) fn empty_disk<D: Disk + Watched + Drop>(
+    rt: &(impl AllocGlobal + Abort),
+    limit: u32,
+    stop: Option<u64>,
+) -> D
+    requires some { 1 ≤ limit }
+    requires most { limit ≤ 2 ^ 24 }
+{
+    let mut disk: D = disk_of(rt, Vec::new(rt.alloc()), None);
+    make_on(rt, &mut disk, limit);
+    disk_of(rt, copied(rt, &disk), stop)
+}
+
+// Gives the bytes of an index that has no objects and no further generation.
+fn worn_file(alloc: Global) -> Result<Vec<u8>, Memory> {
     let last = Live {
         side: 0,
         generation: LAST_GENERATION,
@@ -95,124 +165,189 @@ pub(crate) fn worn_file(alloc: Global) -> Result<Vec<u8>, Memory> {
     Ok(bytes)
 }
 
+// Makes a disk of that index.
+pub(crate) fn worn_disk<D: Watched>(rt: &(impl AllocGlobal + Abort)) -> D {
+    disk_of(rt, worn_file(rt.alloc()).expect(rt, "memory"), None)
+}
+
 // Opens a file of points of one coordinate for writing.
-pub(crate) fn open_on<D: Disk>(disk: &mut D) -> Result<Index<L1>, OpenFault>
+fn open_on<D: Disk>(disk: &mut D) -> Result<Index<L1>, OpenFault>
     ensures { IfOk result (λ index. MayGoOn index (D.state disk.new)) }
 {
     Index::open_write(disk, L1::new(1))
 }
 
-// Inserts a number.
+// Does the same, and ends the test where the file is refused.
+pub(crate) fn opened<D: Disk>(rt: &impl Abort, disk: &mut D) -> Index<L1>
+    ensures { MayGoOn result (D.state disk.new) }
+{
+    open_on(disk).expect(rt, "opened")
+}
+
+// Inserts the number `x`.
 pub(crate) fn insert<D: Disk, M: Metric>(
     rt: &(impl AllocGlobal + Abort),
     index: &mut Index<M>,
     disk: &mut D,
     x: u32,
-) -> Result<Result<u32, IndexFault>, Fail>
+) -> Result<u32, IndexFault>
     requires { MayGoOn index.old (D.state disk.old) }
     ensures { MayGoOn index.new (D.state disk.new) }
 {
     assert!(rt; index.metric().fits(&[x]));
-    Ok(index.insert(rt.alloc(), disk, &[x]))
+    index.insert(rt.alloc(), disk, &[x])
 }
 
-// Inserts the numbers from one up to another, which are their ids.
+// Inserts the numbers from `from` up to `to`, which are their ids.
 pub(crate) fn insert_all<D: Disk, M: Metric>(
     rt: &(impl AllocGlobal + Abort),
     index: &mut Index<M>,
     disk: &mut D,
     from: u32,
     to: u32,
-) -> Result<(), Fail>
+)
     requires { MayGoOn index.old (D.state disk.old) }
     ensures { MayGoOn index.new (D.state disk.new) }
 {
     for x in from..to {
-        assert!(rt; insert(rt, index, disk, x)? == Ok(x));
+        holds(rt, insert(rt, index, disk, x) == Ok(x));
     }
-    Ok(())
 }
 
-// Finds all objects, which are the numbers below their count.
-pub(crate) fn check_found<D: Disk, M: Metric>(
+// Asks an index for what lies within 2 of 0.
+pub(crate) fn index_range<D: Disk, M: Metric>(
     rt: &(impl AllocGlobal + Abort),
     index: &mut Index<M>,
     disk: &mut D,
-) -> Result<(), Fail>
+) -> Result<Found, IndexFault>
     requires { MayGoOn index.old (D.state disk.old) }
     ensures { MayGoOn index.new (D.state disk.new) }
 {
     assert!(rt; index.metric().fits(&[0]));
-    let found = index.nearest(rt.alloc(), disk, &[0], 200)?;
-    let hits = found.hits.as_slice();
-    assert!(rt; hits.len() == index.count() as usize);
-    for i in 0..hits.len() {
-        let (id, dist) = (i as u32, i as u64);
-        assert!(rt; hits[i] == Hit { id, dist });
-    }
-    Ok(())
+    index.range(rt.alloc(), disk, &[0], 2)
 }
 
-// The same of a disk that is opened anew, and how many objects there are.
-pub(crate) fn count_on<D: Disk>(
+// Asks an index for the `k` objects nearest to 0.
+pub(crate) fn index_nearest<D: Disk, M: Metric>(
     rt: &(impl AllocGlobal + Abort),
+    index: &mut Index<M>,
     disk: &mut D,
-) -> Result<u32, Fail> {
-    let mut index = open_on(disk)?;
-    check_found(rt, &mut index, disk)?;
-    Ok(index.count())
+    k: u64,
+) -> Result<Found, IndexFault>
+    requires goes_on { MayGoOn index.old (D.state disk.old) }
+    requires some { 1 ≤ k }
+    ensures { MayGoOn index.new (D.state disk.new) }
+{
+    assert!(rt; index.metric().fits(&[0]));
+    index.nearest(rt.alloc(), disk, &[0], k)
 }
 
-// How many objects a file of these bytes holds.
-fn count_in(rt: &(impl AllocGlobal + Abort), bytes: Vec<u8>) -> Result<u32, Fail> {
-    let alloc = rt.alloc();
-    let room = bytes.len() as u64;
-    let mut disk = MemoryDisk::new(alloc, bytes, room, 100, Vec::new(alloc), None)?;
-    count_on(rt, &mut disk)
+// Checks that all objects are found, which are the numbers below their count.
+pub(crate) fn check_found<D: Disk, M: Metric>(
+    rt: &(impl AllocGlobal + Abort),
+    index: &mut Index<M>,
+    disk: &mut D,
+)
+    requires { MayGoOn index.old (D.state disk.old) }
+    ensures { MayGoOn index.new (D.state disk.new) }
+{
+    let count = index.count() as usize;
+    let found = index_nearest(rt, index, disk, 200);
+    holds(rt, has_first(&found, &Ok(count)));
 }
 
-// At each moment from one on a crash leaves the objects from before or those after, and where the call is done those
-// after.
-pub(crate) fn check_images<D: Watched>(
+// Opens a disk anew, checks that all objects are found, and counts them.
+pub(crate) fn count_on<D: Disk>(rt: &(impl AllocGlobal + Abort), disk: &mut D) -> u32 {
+    let mut index = opened(rt, disk);
+    check_found(rt, &mut index, disk);
+    index.count()
+}
+
+// Counts the objects that a crash within the call `moment` leaves.
+fn count_at<D: Disk + Watched + Drop>(
+    rt: &(impl AllocGlobal + Abort),
+    disk: &D,
+    moment: u64,
+    pick: u64,
+) -> u32 {
+    let mut image: D = disk_of(rt, left_at(rt, disk, moment, pick), None);
+    count_on(rt, &mut image)
+}
+
+// Says whether a crash may leave `count` objects: those after a call, and those before it where it is not done.
+fn may_leave(count: u32, counts: (u32, u32), done: bool) -> bool {
+    let (before, after) = counts;
+    count == after || (count == before && !done)
+}
+
+// Checks that at each moment from `began` on a crash leaves one of the two `counts`. Where the call is `done`, the last
+// moment leaves the second.
+pub(crate) fn check_images<D: Disk + Watched + Drop>(
     rt: &(impl AllocGlobal + Abort),
     disk: &D,
     began: u64,
     counts: (u32, u32),
     done: bool,
-) -> Result<(), Fail> {
-    let (before, after) = counts;
+) {
     let ended = disk.calls();
     for moment in began..=ended {
         for pick in [0, 1, 165, 255] {
-            let count = count_in(rt, disk.left(rt.alloc(), moment, pick)?)?;
-            assert!(rt; count == before || count == after);
-            assert!(rt; count == after || moment < ended || !done);
+            let count = count_at(rt, disk, moment, pick);
+            holds(rt, may_leave(count, counts, done && moment == ended));
         }
     }
-    Ok(())
 }
 
-// After a commit that failed nothing goes on, and the disk is left alone.
+// Says why an index refuses a range query.
+fn range_fault<D: Disk, M: Metric>(
+    rt: &(impl AllocGlobal + Abort),
+    index: &mut Index<M>,
+    disk: &mut D,
+) -> Option<IndexFault>
+    requires { MayGoOn index.old (D.state disk.old) }
+    ensures { MayGoOn index.new (D.state disk.new) }
+{
+    index_range(rt, index, disk).err()
+}
+
+// Says why an index refuses a query for the nearest.
+fn nearest_fault<D: Disk, M: Metric>(
+    rt: &(impl AllocGlobal + Abort),
+    index: &mut Index<M>,
+    disk: &mut D,
+) -> Option<IndexFault>
+    requires { MayGoOn index.old (D.state disk.old) }
+    ensures { MayGoOn index.new (D.state disk.new) }
+{
+    index_nearest(rt, index, disk, 2).err()
+}
+
+// Says why an index does not give its shape.
+fn shape_fault<D: Disk, M: Metric>(
+    alloc: Global,
+    index: &mut Index<M>,
+    disk: &mut D,
+) -> Option<IndexFault>
+    requires { MayGoOn index.old (D.state disk.old) }
+    ensures { MayGoOn index.new (D.state disk.new) }
+{
+    index.shape(alloc, disk).err()
+}
+
+// Checks that after a commit that failed nothing goes on, and that the disk is left alone.
 pub(crate) fn check_stopped<D: Disk + Watched, M: Metric>(
     rt: &(impl AllocGlobal + Abort),
     index: &mut Index<M>,
     disk: &mut D,
-) -> Result<(), Fail>
+)
     requires { MayGoOn index.old (D.state disk.old) }
 {
-    let alloc = rt.alloc();
+    let stopped = IndexFault::Stopped;
     let calls = disk.calls();
-    assert!(rt; insert(rt, index, disk, 7)? == Err(IndexFault::Stopped));
-    assert!(rt; index.metric().fits(&[0]));
-    assert!(rt; matches!(index.range(alloc, disk, &[0], 2), Err(IndexFault::Stopped)));
-    assert!(rt;
-        matches!(
-            index.nearest(alloc, disk, &[0], 2),
-            Err(IndexFault::Stopped)
-        )
-    );
-    assert!(rt; matches!(index.shape(alloc, disk), Err(IndexFault::Stopped)));
-    assert!(rt; matches!(index.pin(alloc, disk), Err(IndexFault::Stopped)));
-    assert!(rt; disk.calls() == calls);
-    Ok(())
+    holds(rt, insert(rt, index, disk, 7) == Err(stopped));
+    holds(rt, range_fault(rt, index, disk) == Some(stopped));
+    holds(rt, nearest_fault(rt, index, disk) == Some(stopped));
+    holds(rt, shape_fault(rt.alloc(), index, disk) == Some(stopped));
+    holds(rt, index.pin(rt.alloc(), disk) == Err(stopped));
+    holds(rt, disk.calls() == calls);
 }

@@ -4,9 +4,8 @@ use node_page::Head;
 use outside_io::{MemorySink, Sink, Status};
 use std::alloc::{AllocError, Global};
 use std::process::Abort;
-use std::test::Fail;
 
-// The head of a small index of points of two coordinates under L1.
+// Is the head of a small index of points of two coordinates under L1.
 const HEAD: Head = Head {
     version: 2,
     kind: 2,
@@ -16,19 +15,39 @@ const HEAD: Head = Head {
     limit: 16_777_216,
 };
 
-// A disk that holds these bytes and fails from a call on.
-fn disk_of(alloc: Global, bytes: Vec<u8>, stop: Option<u64>) -> Result<MemoryDisk, AllocError> {
+// Ends a test in which `is_so` is false.
+pub(crate) fn holds(rt: &impl Abort, is_so: bool) {
+    assert!(rt; is_so);
+}
+
+// Makes a disk of `bytes` that all calls from `stop` on fail.
+fn try_disk(alloc: Global, bytes: &[u8], stop: Option<u64>) -> Result<MemoryDisk, AllocError> {
+    let bytes = bytes.to_vec(alloc)?;
     let room = (bytes.len() as u64).max(65536);
     MemoryDisk::new(alloc, bytes, room, 1_000_000, Vec::new(alloc), stop)
 }
 
-// A sink whose calls fail: none or one.
-fn sink_of(alloc: Global, fails: Option<u64>) -> Result<MemorySink, AllocError> {
-    let mut calls = Vec::new(alloc);
-    if let Some(call) = fails {
-        calls.push(call)?;
+// Does the same, and ends the test where memory is lacking.
+pub(crate) fn disk_of(
+    rt: &(impl AllocGlobal + Abort),
+    bytes: &[u8],
+    stop: Option<u64>,
+) -> MemoryDisk {
+    try_disk(rt.alloc(), bytes, stop).expect(rt, "memory")
+}
+
+// Lists no call, or one.
+pub(crate) fn calls(rt: &(impl AllocGlobal + Abort), call: Option<u64>) -> Vec<u64> {
+    let mut calls = Vec::new(rt.alloc());
+    if let Some(call) = call {
+        calls.push(call).expect(rt, "memory");
     }
-    MemorySink::new(alloc, 1000, calls)
+    calls
+}
+
+// Makes a sink whose call `fails` fails, if any.
+pub(crate) fn sink_of(rt: &(impl AllocGlobal + Abort), fails: Option<u64>) -> MemorySink {
+    MemorySink::new(rt.alloc(), 1000, calls(rt, fails)).expect(rt, "memory")
 }
 
 // Makes an index of the small head.
@@ -36,160 +55,175 @@ fn make<D: Disk, K: Sink>(disk: &mut D, out: &mut K) -> Status {
     create_index(disk, &HEAD, out)
 }
 
-// Runs both jobs on the same bytes, with a disk that fails from a call on and a sink one of whose calls fails.
-fn check_both<R: AllocGlobal + Abort>(
-    rt: &R,
-    bytes: &[u8],
-    stop: Option<u64>,
-    fails: Option<u64>,
-    status: u8,
-    lines: (&str, &str),
-) -> Result<(), Fail> {
-    let alloc = rt.alloc();
-    let mut disk = disk_of(alloc, bytes.to_vec(alloc)?, stop)?;
-    let mut out = sink_of(alloc, fails)?;
-    assert!(rt; make(&mut disk, &mut out) == Status(status));
-    assert!(rt; out.written() == lines.0.as_bytes());
-    let mut disk = disk_of(alloc, bytes.to_vec(alloc)?, stop)?;
-    let mut out = sink_of(alloc, fails)?;
-    assert!(rt; audit_index(alloc, &mut disk, &mut out) == Status(status));
-    assert!(rt; out.written() == lines.1.as_bytes());
-    Ok(())
+// Audits an index.
+fn audit<D: Disk, K: Sink>(alloc: Global, disk: &mut D, out: &mut K) -> Status {
+    audit_index(alloc, disk, out)
 }
 
-// Audits a new index in which a byte is changed, with a sink one of whose calls fails.
-fn check_changed<R: AllocGlobal + Abort>(
-    rt: &R,
+// Tells the shape of an index.
+fn shape<D: Disk, K: Sink>(alloc: Global, disk: &mut D, out: &mut K) -> Status {
+    shape_index(alloc, disk, out)
+}
+
+// Says which call of the disk is the first to fail, and which of the sink fails.
+type Fails = (Option<u64>, Option<u64>);
+
+const NONE: Fails = (None, None);
+
+// Makes an index on a disk of `bytes`, and checks the status and the line.
+fn check_make(rt: &(impl AllocGlobal + Abort), bytes: &[u8], fails: Fails, ended: (u8, &str)) {
+    let mut disk = disk_of(rt, bytes, fails.0);
+    let mut out = sink_of(rt, fails.1);
+    holds(rt, make(&mut disk, &mut out) == Status(ended.0));
+    holds(rt, out.written() == ended.1.as_bytes());
+}
+
+// Audits a file of `bytes`, and checks the status and the lines.
+fn check_audit(rt: &(impl AllocGlobal + Abort), bytes: &[u8], fails: Fails, ended: (u8, &str)) {
+    let mut disk = disk_of(rt, bytes, fails.0);
+    let mut out = sink_of(rt, fails.1);
+    let status = audit(rt.alloc(), &mut disk, &mut out);
+    holds(rt, status == Status(ended.0));
+    holds(rt, out.written() == ended.1.as_bytes());
+}
+
+// Tells the shape of a file of `bytes`, and checks the status and the lines.
+fn check_shape_of(rt: &(impl AllocGlobal + Abort), bytes: &[u8], fails: Fails, ended: (u8, &str)) {
+    let mut disk = disk_of(rt, bytes, fails.0);
+    let mut out = sink_of(rt, fails.1);
+    let status = shape(rt.alloc(), &mut disk, &mut out);
+    holds(rt, status == Status(ended.0));
+    holds(rt, out.written() == ended.1.as_bytes());
+}
+
+// Gives the bytes of a new index.
+fn made(rt: &(impl AllocGlobal + Abort)) -> Vec<u8> {
+    let mut disk = disk_of(rt, &[], None);
+    let mut out = sink_of(rt, None);
+    holds(rt, make(&mut disk, &mut out) == Status(0));
+    disk.bytes().to_vec(rt.alloc()).expect(rt, "memory")
+}
+
+// Audits a new index in which the byte at `at` is `byte`, with a sink whose call `fails` fails.
+fn check_changed(
+    rt: &(impl AllocGlobal + Abort),
     at: usize,
     byte: u8,
     fails: Option<u64>,
-    status: u8,
-    lines: &str,
-) -> Result<(), Fail> {
-    let alloc = rt.alloc();
-    let mut disk = disk_of(alloc, Vec::new(alloc), None)?;
-    let mut out = sink_of(alloc, None)?;
-    assert!(rt; make(&mut disk, &mut out) == Status(0));
-    let mut bytes = disk.bytes().to_vec(alloc)?;
-    if at < bytes.len() {
-        bytes[at] = byte;
-    }
-    let mut changed = disk_of(alloc, bytes, None)?;
-    let mut out = sink_of(alloc, fails)?;
-    assert!(rt; audit_index(alloc, &mut changed, &mut out) == Status(status));
-    assert!(rt; out.written() == lines.as_bytes());
-    Ok(())
+    ended: (u8, &str),
+) {
+    let mut bytes = made(rt);
+    place(&mut bytes, at, &[byte]);
+    check_audit(rt, &bytes, (None, fails), ended);
 }
 
-#[test]
-fn a_new_index_is_sound(rt: HostRuntime) -> Result<(), Fail> {
-    let alloc = rt.alloc();
-    let mut disk = disk_of(alloc, Vec::new(alloc), None)?;
-    let mut out = sink_of(alloc, None)?;
-    assert!(rt; make(&mut disk, &mut out) == Status(0));
-    assert!(rt; out.written() == b"created\n".as_slice());
-    let mut out = sink_of(alloc, None)?;
-    assert!(rt; audit_index(alloc, &mut disk, &mut out) == Status(0));
-    assert!(rt; out.written() == b"sound\nobjects 0\nnodes 1\n".as_slice());
-    Ok(())
-}
-
-#[test]
-fn files_of_no_index(rt: HostRuntime) -> Result<(), Fail> {
-    check_both(
-        &rt,
-        b"x",
-        None,
-        None,
-        6,
-        ("fault notindex notempty\n", "fault notindex short\n"),
-    )?;
-    check_both(&rt, b"", Some(0), None, 5, ("fault disk\n", "fault disk\n"))?;
-    check_both(&rt, b"x", None, Some(0), 6, ("", ""))
-}
-
-#[test]
-fn a_new_index_with_a_changed_byte(rt: HostRuntime) -> Result<(), Fail> {
-    check_changed(&rt, 0, 0, None, 6, "fault notindex magic\n")?;
-    check_changed(&rt, 9, 1, None, 6, "fault notindex version\n")?;
-    check_changed(&rt, 4096, 0, None, 6, "fault notindex unfinished\n")?;
-    check_changed(&rt, 4096 + 40, 1, None, 6, "fault notindex slot\n")?;
-    check_changed(&rt, 4096 + 27, 1, None, 1, "rejected count 1 0\n")?;
-    check_changed(&rt, 4096 + 27, 1, Some(0), 4, "")?;
-    check_changed(&rt, 8192 + 27, 1, None, 0, "sound\nobjects 0\nnodes 1\n")?;
-    check_changed(&rt, 8192 + 27, 1, Some(0), 4, "")?;
-    check_changed(&rt, 12288, 15, None, 1, "rejected page bad 3 kind\n")
-}
-
-#[test]
-fn a_sink_that_fails(rt: HostRuntime) -> Result<(), Fail> {
-    let alloc = rt.alloc();
-    let mut disk = disk_of(alloc, Vec::new(alloc), None)?;
-    let mut out = sink_of(alloc, Some(0))?;
-    assert!(rt; make(&mut disk, &mut out) == Status(4));
-    assert!(rt; out.written() == b"".as_slice());
-    Ok(())
-}
-
-// The shape of a new index of a page more in which these bytes stand at these places, with a sink one of whose calls fails.
-fn check_shape<R: AllocGlobal + Abort>(
-    rt: &R,
-    changes: &[(usize, &[u8])],
-    fails: Option<u64>,
-    status: u8,
-    lines: &str,
-) -> Result<(), Fail> {
-    let alloc = rt.alloc();
-    let mut disk = disk_of(alloc, Vec::new(alloc), None)?;
-    let mut out = sink_of(alloc, None)?;
-    assert!(rt; make(&mut disk, &mut out) == Status(0));
-    let mut bytes = disk.bytes().to_vec(alloc)?;
-    bytes.extend_from_slice(&[0; 4096])?;
-    for (at, change) in changes {
-        for (byte, new) in bytes.iter_mut().skip(*at).zip(change.iter()) {
-            *byte = *new;
+// Puts `change` into a file from `at` on.
+pub(crate) fn place(file: &mut [u8], at: usize, change: &[u8]) {
+    for i in 0..change.len() {
+        let here = at.saturating_add(i);
+        if here < file.len() {
+            file[here] = change[i];
         }
     }
-    let mut changed = disk_of(alloc, bytes, None)?;
-    let mut out = sink_of(alloc, fails)?;
-    assert!(rt; shape_index(alloc, &mut changed, &mut out) == Status(status));
-    assert!(rt; out.written() == lines.as_bytes());
-    Ok(())
 }
 
-// The live slot's root on page 4, height 1, two objects and five pages.
-const HIGHER: (usize, &[u8]) = (4096 + 16, &[0, 0, 0, 4, 0, 0, 0, 1, 0, 0, 0, 2, 0, 0, 0, 5]);
+#[test]
+fn a_new_index_is_sound(rt: HostRuntime) {
+    check_make(&rt, b"", NONE, (0, "created\n"));
+    let bytes = made(&rt);
+    check_audit(&rt, &bytes, NONE, (0, "sound\nobjects 0\nnodes 1\n"));
+}
 
-// A leaf of two entries on page 3.
-const LEAF: (usize, &[u8]) = (12288, &[0, 0, 0, 2]);
+#[test]
+fn files_of_no_index(rt: HostRuntime) {
+    check_make(&rt, b"x", NONE, (6, "fault notindex notempty\n"));
+    check_audit(&rt, b"x", NONE, (6, "fault notindex short\n"));
+    check_make(&rt, b"", (Some(0), None), (5, "fault disk\n"));
+    check_audit(&rt, b"", (Some(0), None), (5, "fault disk\n"));
+    check_make(&rt, b"x", (None, Some(0)), (6, ""));
+    check_audit(&rt, b"x", (None, Some(0)), (6, ""));
+}
 
-// An inner node of one entry on page 4: its child on page 3, the radius 7 and the point (3, 4).
-const ROOT: (usize, &[u8]) = (16384, &[1, 0, 0, 1]);
+#[test]
+fn a_new_index_with_a_changed_byte(rt: HostRuntime) {
+    let sound = (0, "sound\nobjects 0\nnodes 1\n");
+    check_changed(&rt, 0, 0, None, (6, "fault notindex magic\n"));
+    check_changed(&rt, 9, 1, None, (6, "fault notindex version\n"));
+    check_changed(&rt, 4096, 0, None, (6, "fault notindex unfinished\n"));
+    check_changed(&rt, 4096 + 40, 1, None, (6, "fault notindex slot\n"));
+    check_changed(&rt, 4096 + 27, 1, None, (1, "rejected count 1 0\n"));
+    check_changed(&rt, 4096 + 27, 1, Some(0), (4, ""));
+    check_changed(&rt, 8192 + 27, 1, None, sound);
+    check_changed(&rt, 8192 + 27, 1, Some(0), (4, ""));
+    check_changed(&rt, 12288, 15, None, (1, "rejected page bad 3 kind\n"));
+}
 
-const ENTRY: (usize, &[u8]) = (
+#[test]
+fn a_sink_that_fails(rt: HostRuntime) {
+    check_make(&rt, b"", (None, Some(0)), (4, ""));
+}
+
+// Describes bytes, and the place where they are put.
+type Change = (usize, &'static [u8]);
+
+// Gives a new index of a page more into which bytes are put.
+fn made_with(rt: &(impl AllocGlobal + Abort), changes: &[Change]) -> Vec<u8> {
+    let mut bytes = made(rt);
+    bytes.extend_from_slice(&[0; 4096]).expect(rt, "memory");
+    for (at, change) in changes {
+        place(&mut bytes, *at, change);
+    }
+    bytes
+}
+
+// Checks the shape of such an index, with a sink whose call `fails` fails.
+fn check_shape(
+    rt: &(impl AllocGlobal + Abort),
+    changes: &[Change],
+    fails: Option<u64>,
+    ended: (u8, &str),
+) {
+    let bytes = made_with(rt, changes);
+    check_shape_of(rt, &bytes, (None, fails), ended);
+}
+
+// Says in the live slot: the root on page 4, height 1, two objects and five pages.
+const HIGHER: Change = (4096 + 16, &[0, 0, 0, 4, 0, 0, 0, 1, 0, 0, 0, 2, 0, 0, 0, 5]);
+
+// Makes page 3 a leaf of two entries.
+const LEAF: Change = (12288, &[0, 0, 0, 2]);
+
+// Make page 4 an inner node of one entry: its child on page 3, the radius 7 and the point (3, 4).
+const ROOT: Change = (16384, &[1, 0, 0, 1]);
+
+const ENTRY: Change = (
     16384 + 16,
     &[
         0, 0, 0, 3, 0, 0, 0, 0, 0, 0, 0, 7, 0, 0, 0, 0, 0, 0, 0, 0, 0, 0, 0, 3, 0, 0, 0, 4,
     ],
 );
 
+const OUTSIDE: Change = (16403, &[5]);
+
+const REPEATS: Change = (16403, &[4]);
+
 #[test]
-fn the_shape_of_a_tree(rt: HostRuntime) -> Result<(), Fail> {
-    let new = "height 0\nobjects 0\nnodes 1\n0 0 - -\n";
-    check_shape(&rt, &[], None, 0, new)?;
-    let higher = "height 1\nobjects 2\nnodes 2\n1 1 - -\n0 2 3,4 7\n";
-    check_shape(&rt, &[HIGHER, LEAF, ROOT, ENTRY], None, 0, higher)?;
-    check_shape(&rt, &[HIGHER, LEAF, ROOT, ENTRY], Some(0), 4, "")?;
-    check_shape(&rt, &[(0, b"x")], None, 6, "fault notindex magic\n")
+fn the_shape_of_a_tree(rt: HostRuntime) {
+    let new = (0, "height 0\nobjects 0\nnodes 1\n0 0 - -\n");
+    check_shape(&rt, &[], None, new);
+    let higher = (0, "height 1\nobjects 2\nnodes 2\n1 1 - -\n0 2 3,4 7\n");
+    check_shape(&rt, &[HIGHER, LEAF, ROOT, ENTRY], None, higher);
+    check_shape(&rt, &[HIGHER, LEAF, ROOT, ENTRY], Some(0), (4, ""));
+    check_shape(&rt, &[(0, b"x")], None, (6, "fault notindex magic\n"));
 }
 
 #[test]
-fn the_shape_of_a_damaged_tree(rt: HostRuntime) -> Result<(), Fail> {
-    let bad = "fault damaged bad 3 kind\n";
-    check_shape(&rt, &[HIGHER, ROOT, ENTRY, (12288, &[15])], None, 9, bad)?;
-    let outside = "fault damaged outside 5\n";
-    check_shape(&rt, &[HIGHER, ROOT, ENTRY, (16403, &[5])], None, 9, outside)?;
-    let repeats = "fault damaged repeats 4\n";
-    check_shape(&rt, &[HIGHER, ROOT, ENTRY, (16403, &[4])], None, 9, repeats)?;
-    check_shape(&rt, &[HIGHER, ROOT, ENTRY, (16403, &[4])], Some(0), 9, "")
+fn the_shape_of_a_damaged_tree(rt: HostRuntime) {
+    let bad = (9, "fault damaged bad 3 kind\n");
+    check_shape(&rt, &[HIGHER, ROOT, ENTRY, (12288, &[15])], None, bad);
+    let outside = (9, "fault damaged outside 5\n");
+    check_shape(&rt, &[HIGHER, ROOT, ENTRY, OUTSIDE], None, outside);
+    let repeats = (9, "fault damaged repeats 4\n");
+    check_shape(&rt, &[HIGHER, ROOT, ENTRY, REPEATS], None, repeats);
+    check_shape(&rt, &[HIGHER, ROOT, ENTRY, REPEATS], Some(0), (9, ""));
 }

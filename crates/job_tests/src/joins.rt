@@ -1,11 +1,11 @@
+use crate::files::{calls, disk_of, holds, place, sink_of};
 use disk_model::{Disk, MemoryDisk};
 use join_jobs::{check_join_logs, join_indexes, verify_join_logs};
-use outside_io::{MemorySink, MemorySource, Sink, Source, Status};
-use std::alloc::{AllocError, Global};
+use outside_io::{MemorySource, Sink, Source, Status};
+use std::alloc::Global;
 use std::process::Abort;
-use std::test::Fail;
 
-// The head of an index of points of one coordinate under L1, and its live slot, but for the number of objects.
+// Are the head of an index of points of one coordinate under L1, and its live slot but for the number of objects.
 const HEAD: [u8; 20] = *b"MTREEIDX\0\x02\x02\x01\x02\x01\0\0\x01\0\0\0";
 
 const SLOT: [u8; 32] = [
@@ -13,7 +13,7 @@ const SLOT: [u8; 32] = [
     4,
 ];
 
-// The frame of the least log of the join of {0, 5, 9} and {4, 9} within 1.
+// Is the frame of the least log of the join of {0, 5, 9} and {4, 9} within 1.
 const FRAME: [u8; 127] = [
     0, 0, 0, 0, 0, 0, 0, 119, b'M', b'T', b'L', b'G', 1, 3, // the kind
     0, 0, 0, 0, 0, 0, 0, 1, 0, 0, 0, 3, // the left tree
@@ -29,18 +29,9 @@ const FRAME: [u8; 127] = [
     1, 0, 0, 0, 3, 2, 1, 2,
 ];
 
-// Puts bytes into a file.
-fn place(file: &mut [u8], at: usize, bytes: &[u8]) {
-    for i in 0..bytes.len() {
-        if let Some(byte) = file.get_mut(at.saturating_add(i)) {
-            *byte = bytes[i];
-        }
-    }
-}
-
-// An index with these objects in one leaf.
-fn index_of(alloc: Global, points: &[u8]) -> Result<Vec<u8>, AllocError> {
-    let mut file = vec![in alloc; 0u8; 16384]?;
+// Gives an index with these objects in one leaf.
+fn index_of(rt: &(impl AllocGlobal + Abort), points: &[u8]) -> Vec<u8> {
+    let mut file = vec![in rt.alloc(); 0u8; 16384].expect(rt, "memory");
     let count = points.len().min(32);
     place(&mut file, 0, &HEAD);
     place(&mut file, 4096, &SLOT);
@@ -51,10 +42,10 @@ fn index_of(alloc: Global, points: &[u8]) -> Result<Vec<u8>, AllocError> {
         place(&mut file, at.saturating_add(3), &[i as u8]);
         place(&mut file, at.saturating_add(23), &[points[i]]);
     }
-    Ok(file)
+    file
 }
 
-// The job that is run.
+// Is the job that is run.
 #[derive(Clone, Copy)]
 enum Job {
     Join,
@@ -62,9 +53,9 @@ enum Job {
     Check,
 }
 
-// A run: the bytes that are changed in the index, in the other index and in the log, by their places; the calls from which
-// the disks fail; the calls of the logs, of out and of the log's output that fail; the status, what is written, and how many
-// bytes of the frame.
+// Describes a run. A byte is changed in the index, in the other index or in the log, at its place. Each disk fails from one
+// call on, and one call of the logs, of out and of the log's output fails. The run ends with a status, and writes `output`
+// and the first `framed` bytes of the frame.
 #[derive(Clone, Copy)]
 struct Case<'a> {
     job: Job,
@@ -109,28 +100,32 @@ const CHECK: Case<'static> = Case {
     ..VERIFY
 };
 
-// No call, or one.
-fn calls(alloc: Global, call: Option<u64>) -> Result<Vec<u64>, AllocError> {
-    let mut calls = Vec::new(alloc);
-    if let Some(call) = call {
-        calls.push(call)?;
-    }
-    Ok(calls)
-}
-
-// A disk that holds an index of these objects in which a byte is changed, and that fails from a call on.
-fn disk_of(
-    alloc: Global,
+// Makes a disk that holds an index of these objects in which a byte is changed. All calls from `stop` on fail.
+fn changed(
+    rt: &(impl AllocGlobal + Abort),
     points: &[u8],
     change: Option<(usize, u8)>,
     stop: Option<u64>,
-) -> Result<MemoryDisk, AllocError> {
-    let mut file = index_of(alloc, points)?;
+) -> MemoryDisk {
+    let mut file = index_of(rt, points);
     if let Some((at, byte)) = change {
         place(&mut file, at, &[byte]);
     }
-    let room = (file.len() as u64).max(65536);
-    MemoryDisk::new(alloc, file, room, 1_000_000, Vec::new(alloc), stop)
+    disk_of(rt, &file, stop)
+}
+
+// Makes the source of the log of a case.
+fn log_of(rt: &(impl AllocGlobal + Abort), case: &Case<'_>) -> MemorySource {
+    let mut log = FRAME.to_vec(rt.alloc()).expect(rt, "memory");
+    if let Some((at, byte)) = case.log_change {
+        place(&mut log, at.saturating_add(8), &[byte]);
+    }
+    MemorySource::new(log, 50, calls(rt, case.log_in_fails))
+}
+
+// Gives the first `count` bytes of the frame.
+fn frame_to(count: usize) -> &'static [u8] {
+    FRAME.get(..count).unwrap_or(&FRAME)
 }
 
 // Runs a job.
@@ -150,19 +145,14 @@ fn run<D: Disk, E: Disk, S: Source, K: Sink, T: Sink>(
 }
 
 // Runs a case.
-fn check<R: AllocGlobal + Abort>(rt: &R, case: &Case<'_>) -> Result<(), Fail> {
-    let alloc = rt.alloc();
-    let mut index = disk_of(alloc, &[0, 5, 9], case.index_change, case.index_stop)?;
-    let mut other = disk_of(alloc, &[4, 9], case.other_change, case.other_stop)?;
-    let mut log = FRAME.to_vec(alloc)?;
-    if let Some((at, byte)) = case.log_change {
-        place(&mut log, at.saturating_add(8), &[byte]);
-    }
-    let mut log_in = MemorySource::new(log, 50, calls(alloc, case.log_in_fails)?);
-    let mut out = MemorySink::new(alloc, 1000, calls(alloc, case.out_fails)?)?;
-    let mut log_out = MemorySink::new(alloc, 1000, calls(alloc, case.log_out_fails)?)?;
+fn check(rt: &(impl AllocGlobal + Abort), case: &Case<'_>) {
+    let mut index = changed(rt, &[0, 5, 9], case.index_change, case.index_stop);
+    let mut other = changed(rt, &[4, 9], case.other_change, case.other_stop);
+    let mut log_in = log_of(rt, case);
+    let mut out = sink_of(rt, case.out_fails);
+    let mut log_out = sink_of(rt, case.log_out_fails);
     let status = run(
-        alloc,
+        rt.alloc(),
         case.job,
         (&mut index, &mut other),
         &mut log_in,
@@ -170,229 +160,212 @@ fn check<R: AllocGlobal + Abort>(rt: &R, case: &Case<'_>) -> Result<(), Fail> {
         &mut log_out,
     );
     assert!(rt; out.written() == case.output.as_bytes(), "{}", case.output);
-    assert!(rt; status == Status(case.status), "{}", case.output);
-    let framed = FRAME.get(..case.framed).unwrap_or(&FRAME);
-    assert!(rt; log_out.written() == framed, "{}", case.output);
-    Ok(())
+    holds(rt, status == Status(case.status));
+    holds(rt, log_out.written() == frame_to(case.framed));
 }
 
 #[test]
-fn a_join_and_its_log(rt: HostRuntime) -> Result<(), Fail> {
-    check(&rt, &JOIN)?;
-    check(&rt, &VERIFY)?;
-    check(&rt, &CHECK)
+fn a_join_and_its_log(rt: HostRuntime) {
+    check(&rt, &JOIN);
+    check(&rt, &VERIFY);
+    check(&rt, &CHECK);
+}
+
+// Changes a case: the other index has points of two coordinates.
+fn check_spaces(rt: &(impl AllocGlobal + Abort), case: &Case<'_>) {
+    let spaces = Case {
+        other_change: Some((11, 2)),
+        status: 1,
+        output: "rejected spaces\n",
+        framed: 0,
+        ..*case
+    };
+    check(rt, &spaces);
 }
 
 #[test]
-fn files_of_different_spaces(rt: HostRuntime) -> Result<(), Fail> {
-    for case in [JOIN, VERIFY, CHECK] {
-        check(
-            &rt,
-            &Case {
-                other_change: Some((11, 2)),
-                status: 1,
-                output: "rejected spaces\n",
-                framed: 0,
-                ..case
-            },
-        )?;
-    }
-    Ok(())
+fn files_of_different_spaces(rt: HostRuntime) {
+    check_spaces(&rt, &JOIN);
+    check_spaces(&rt, &VERIFY);
+    check_spaces(&rt, &CHECK);
+}
+
+// Changes a case: one or both of the files are no index.
+fn check_no_index(rt: &(impl AllocGlobal + Abort), case: &Case<'_>) {
+    let other = Case {
+        other_change: Some((9, 1)),
+        status: 6,
+        output: "fault notindex version\n",
+        framed: 0,
+        ..*case
+    };
+    check(rt, &other);
+    let both = Case {
+        index_change: Some((0, 0)),
+        output: "fault notindex magic\n",
+        ..other
+    };
+    check(rt, &both);
 }
 
 #[test]
-fn files_of_no_index(rt: HostRuntime) -> Result<(), Fail> {
-    for case in [JOIN, VERIFY, CHECK] {
-        check(
-            &rt,
-            &Case {
-                index_change: Some((0, 0)),
-                other_change: Some((9, 1)),
-                status: 6,
-                output: "fault notindex magic\n",
-                framed: 0,
-                ..case
-            },
-        )?;
-        check(
-            &rt,
-            &Case {
-                other_change: Some((9, 1)),
-                status: 6,
-                output: "fault notindex version\n",
-                framed: 0,
-                ..case
-            },
-        )?;
-    }
-    Ok(())
+fn files_of_no_index(rt: HostRuntime) {
+    check_no_index(&rt, &JOIN);
+    check_no_index(&rt, &VERIFY);
+    check_no_index(&rt, &CHECK);
 }
 
 // Changes a byte of the log.
-fn check_log<R: AllocGlobal + Abort>(
-    rt: &R,
-    change: (usize, u8),
-    output: &str,
-) -> Result<(), Fail> {
-    check(
-        rt,
-        &Case {
-            log_change: Some(change),
-            status: 1,
-            output,
-            ..VERIFY
-        },
-    )
+fn check_log(rt: &(impl AllocGlobal + Abort), change: (usize, u8), output: &str) {
+    let case = Case {
+        log_change: Some(change),
+        status: 1,
+        output,
+        ..VERIFY
+    };
+    check(rt, &case);
 }
 
 #[test]
-fn logs_that_are_rejected(rt: HostRuntime) -> Result<(), Fail> {
-    check_log(&rt, (0, 0), "log rejected magic\n")?;
-    check_log(&rt, (5, 1), "log rejected kind\n")?;
-    check_log(
-        &rt,
-        (13, 2),
-        "frame 0 rejected otherstate left 2 3 1 3\nlog rejected\n",
-    )?;
-    check_log(
-        &rt,
-        (29, 4),
-        "frame 0 rejected otherstate right 1 4 1 3\nlog rejected\n",
-    )?;
-    check_log(
-        &rt,
-        (61, 0),
-        "frame 0 rejected wronganswer 0\nlog rejected\n",
-    )?;
-    check_log(&rt, (95, 0), "frame 0 rejected wrongpage 1\nlog rejected\n")?;
-    check_log(
-        &rt,
-        (109, 1),
-        "frame 0 rejected wrongmark 2 0\nlog rejected\n",
-    )
+fn logs_that_are_rejected(rt: HostRuntime) {
+    let left = "frame 0 rejected otherstate left 2 3 1 3\nlog rejected\n";
+    let right = "frame 0 rejected otherstate right 1 4 1 3\nlog rejected\n";
+    let answer = "frame 0 rejected wronganswer 0\nlog rejected\n";
+    let page = "frame 0 rejected wrongpage 1\nlog rejected\n";
+    let mark = "frame 0 rejected wrongmark 2 0\nlog rejected\n";
+    check_log(&rt, (0, 0), "log rejected magic\n");
+    check_log(&rt, (5, 1), "log rejected kind\n");
+    check_log(&rt, (13, 2), left);
+    check_log(&rt, (29, 4), right);
+    check_log(&rt, (61, 0), answer);
+    check_log(&rt, (95, 0), page);
+    check_log(&rt, (109, 1), mark);
 }
 
-#[test]
-fn a_page_that_holds_no_node(rt: HostRuntime) -> Result<(), Fail> {
-    let left = Some((3 * 4096, 15));
-    let cases = [
-        Case {
-            index_change: left,
-            status: 9,
-            output: "fault damaged bad 3 kind\n",
-            framed: 0,
-            ..JOIN
-        },
-        Case {
-            other_change: left,
-            status: 9,
-            output: "fault damaged bad 3 kind\n",
-            framed: 0,
-            ..JOIN
-        },
-        Case {
-            other_change: left,
-            status: 1,
-            output: "frame 0 rejected page right bad 3 kind\nlog rejected\n",
-            ..VERIFY
-        },
-        Case {
-            index_change: left,
-            status: 1,
-            output: "file rejected page bad 3 kind\n",
-            ..CHECK
-        },
-        Case {
-            other_change: left,
-            status: 1,
-            output: "file sound\nother rejected page bad 3 kind\n",
-            ..CHECK
-        },
-    ];
-    for case in &cases {
-        check(&rt, case)?;
+// Makes page 3 no node.
+const BAD: Option<(usize, u8)> = Some((3 * 4096, 15));
+
+const DAMAGED: [Case<'static>; 5] = [
+    Case {
+        index_change: BAD,
+        status: 9,
+        output: "fault damaged bad 3 kind\n",
+        framed: 0,
+        ..JOIN
+    },
+    Case {
+        other_change: BAD,
+        status: 9,
+        output: "fault damaged bad 3 kind\n",
+        framed: 0,
+        ..JOIN
+    },
+    Case {
+        other_change: BAD,
+        status: 1,
+        output: "frame 0 rejected page right bad 3 kind\nlog rejected\n",
+        ..VERIFY
+    },
+    Case {
+        index_change: BAD,
+        status: 1,
+        output: "file rejected page bad 3 kind\n",
+        ..CHECK
+    },
+    Case {
+        other_change: BAD,
+        status: 1,
+        output: "file sound\nother rejected page bad 3 kind\n",
+        ..CHECK
+    },
+];
+
+// Runs each case.
+fn check_all(rt: &(impl AllocGlobal + Abort), cases: &[Case<'_>]) {
+    for case in cases {
+        check(rt, case);
     }
-    Ok(())
 }
 
 #[test]
-fn disks_that_fail(rt: HostRuntime) -> Result<(), Fail> {
-    for case in [JOIN, VERIFY, CHECK] {
-        // Opening takes four calls.
-        for stop in [0, 4] {
-            // That the index is sound is told before the other file is audited.
-            let output = match (case.job, stop) {
-                (Job::Check, 4) => "file sound\nfault disk\n",
-                _ => "fault disk\n",
-            };
-            check(
-                &rt,
-                &Case {
-                    index_stop: Some(stop),
-                    status: 5,
-                    output: "fault disk\n",
-                    framed: 0,
-                    ..case
-                },
-            )?;
-            check(
-                &rt,
-                &Case {
-                    other_stop: Some(stop),
-                    status: 5,
-                    output,
-                    framed: 0,
-                    ..case
-                },
-            )?;
-        }
-    }
-    Ok(())
+fn a_page_that_holds_no_node(rt: HostRuntime) {
+    check_all(&rt, &DAMAGED);
 }
 
+// Changes a case: one of the disks fails from the call `stop` on. Writes `output` where that is the other index's.
+fn check_stop(rt: &(impl AllocGlobal + Abort), case: &Case<'_>, stop: u64, output: &str) {
+    let index = Case {
+        index_stop: Some(stop),
+        status: 5,
+        output: "fault disk\n",
+        framed: 0,
+        ..*case
+    };
+    check(rt, &index);
+    let other = Case {
+        other_stop: Some(stop),
+        status: 5,
+        output,
+        framed: 0,
+        ..*case
+    };
+    check(rt, &other);
+}
+
+// Takes four calls to open a file.
 #[test]
-fn sinks_and_a_source_that_fail(rt: HostRuntime) -> Result<(), Fail> {
-    let cases = [
-        Case {
-            out_fails: Some(0),
-            status: 4,
-            output: "",
-            ..JOIN
-        },
-        Case {
-            log_out_fails: Some(0),
-            status: 4,
-            output: "",
-            framed: 0,
-            ..JOIN
-        },
-        Case {
-            out_fails: Some(0),
-            status: 4,
-            output: "",
-            ..VERIFY
-        },
-        Case {
-            out_fails: Some(1),
-            status: 4,
-            output: "frame 0 accepted\n",
-            ..VERIFY
-        },
-        Case {
-            out_fails: Some(2),
-            status: 4,
-            output: "file sound\nother sound\n",
-            ..CHECK
-        },
-        Case {
-            log_in_fails: Some(1),
-            status: 3,
-            output: "fault input\n",
-            ..CHECK
-        },
-    ];
-    for case in &cases {
-        check(&rt, case)?;
-    }
-    Ok(())
+fn disks_that_fail(rt: HostRuntime) {
+    let fault = "fault disk\n";
+    check_stop(&rt, &JOIN, 0, fault);
+    check_stop(&rt, &JOIN, 4, fault);
+    check_stop(&rt, &VERIFY, 0, fault);
+    check_stop(&rt, &VERIFY, 4, fault);
+    check_stop(&rt, &CHECK, 0, fault);
+    // Tells that the index is sound before the other file is audited.
+    check_stop(&rt, &CHECK, 4, "file sound\nfault disk\n");
+}
+
+const FAILING: [Case<'static>; 6] = [
+    Case {
+        out_fails: Some(0),
+        status: 4,
+        output: "",
+        ..JOIN
+    },
+    Case {
+        log_out_fails: Some(0),
+        status: 4,
+        output: "",
+        framed: 0,
+        ..JOIN
+    },
+    Case {
+        out_fails: Some(0),
+        status: 4,
+        output: "",
+        ..VERIFY
+    },
+    Case {
+        out_fails: Some(1),
+        status: 4,
+        output: "frame 0 accepted\n",
+        ..VERIFY
+    },
+    Case {
+        out_fails: Some(2),
+        status: 4,
+        output: "file sound\nother sound\n",
+        ..CHECK
+    },
+    Case {
+        log_in_fails: Some(1),
+        status: 3,
+        output: "fault input\n",
+        ..CHECK
+    },
+];
+
+#[test]
+fn sinks_and_a_source_that_fail(rt: HostRuntime) {
+    check_all(&rt, &FAILING);
 }

@@ -1,24 +1,32 @@
-use disk_model::MemoryDisk;
+use crate::files::{disk_of, holds, sink_of};
+use disk_model::Disk;
 use making_jobs::{Generation, Memory, generate_index, generated_rows, migrate_index};
 use node_page::Head;
-use outside_io::{MemorySink, Status};
+use outside_io::{Sink, Status};
 use std::alloc::Global;
 use std::process::Abort;
-use std::test::Fail;
 use std::thread::Threads;
 
-#[test]
-fn rows_of_the_generator(rt: HostRuntime) -> Result<(), Fail> {
-    let rows = generated_rows(rt.alloc(), 0, 1, 4)?;
+// Gives four generated coordinates, row after row.
+fn cells(rt: &(impl AllocGlobal + Abort)) -> Vec<u32> {
+    let rows = generated_rows(rt.alloc(), 0, 1, 4).expect(rt, "memory");
     let mut cells = Vec::new(rt.alloc());
     for i in 0..rows.len() {
-        cells.extend_from_slice(rows.point(i))?;
+        cells.extend_from_slice(rows.point(i)).expect(rt, "memory");
     }
-    assert!(rt; cells.as_slice() == [55_973, 46_410, 36_847, 27_284].as_slice());
-    Ok(())
+    cells
 }
 
-// Four rows of one coordinate under L1.
+#[test]
+fn rows_of_the_generator(rt: HostRuntime) {
+    let cells = cells(&rt);
+    holds(
+        &rt,
+        cells.as_slice() == [55_973, 46_410, 36_847, 27_284].as_slice(),
+    );
+}
+
+// Asks for four rows of one coordinate under L1.
 const FOUR: Generation = Generation {
     head: Head {
         version: 2,
@@ -33,102 +41,59 @@ const FOUR: Generation = Generation {
     workers: 2,
 };
 
-// A run of `gen`: the file before it, the call at which the disk stops and that at which the output fails, and what comes of it.
-#[derive(Drop)]
-struct Case<'a> {
-    file: &'a [u8],
-    stop: Option<u64>,
-    fails: Option<u64>,
-    status: u8,
-    text: &'a str,
+// Describes a run of `gen`: the file before it, the call from which the disk fails, the call of the output that fails, and
+// what comes of it.
+type Case = (&'static [u8], Option<u64>, Option<u64>, u8, &'static str);
+
+const SUMMARY: &str = "objects 4\nnodes 1\nheight 0\nqueries 8\nhits 20\naccepted 8\n";
+
+const GENERATED: [Case; 7] = [
+    (b"", None, None, 0, SUMMARY),
+    (b"", None, Some(0), 4, ""),
+    (b"x", None, None, 6, "fault notindex notempty\n"),
+    (b"", Some(0), None, 5, "fault disk\n"),
+    (b"", Some(20), None, 5, "fault disk\n"),
+    // Judges each of the eight logs by the file, which takes a read for its one record. The last call is such a read.
+    (b"", Some(37), None, 5, "fault disk\n"),
+    (b"", Some(38), None, 0, SUMMARY),
+];
+
+// Makes an index of the four rows.
+fn generate<R: Threads + Sync, D: Disk, K: Sink>(
+    rt: &R,
+    alloc: Global,
+    disk: &mut D,
+    out: &mut K,
+) -> Status {
+    generate_index(rt, alloc, disk, &FOUR, out)
 }
 
-fn check<R: AllocGlobal + Threads + Sync + Abort>(rt: &R, case: &Case) -> Result<(), Fail> {
-    let alloc = rt.alloc();
-    let file = case.file.to_vec(alloc)?;
-    let room = (file.len() as u64).max(65_536);
-    let mut disk = MemoryDisk::new(alloc, file, room, 1_000_000, Vec::new(alloc), case.stop)?;
-    let mut fails = Vec::new(alloc);
-    if let Some(call) = case.fails {
-        fails.push(call)?;
-    }
-    let mut out = MemorySink::new(alloc, 1000, fails)?;
-    let status = generate_index(rt, alloc, &mut disk, &FOUR, &mut out);
-    assert!(rt; status == Status(case.status));
-    assert!(rt; out.written() == case.text.as_bytes());
-    Ok(())
+// Checks a run of `gen`.
+fn check<R: AllocGlobal + Threads + Sync + Abort>(rt: &R, case: &Case) {
+    let (file, stop, fails, status, text) = *case;
+    let mut disk = disk_of(rt, file, stop);
+    let mut out = sink_of(rt, fails);
+    let ended = generate(rt, rt.alloc(), &mut disk, &mut out);
+    holds(rt, ended == Status(status));
+    holds(rt, out.written() == text.as_bytes());
 }
 
 #[test]
-fn generated_indexes(rt: HostRuntime) -> Result<(), Fail> {
-    let summary = "objects 4\nnodes 1\nheight 0\nqueries 8\nhits 20\naccepted 8\n";
-    let cases = [
-        Case {
-            file: b"",
-            stop: None,
-            fails: None,
-            status: 0,
-            text: summary,
-        },
-        Case {
-            file: b"",
-            stop: None,
-            fails: Some(0),
-            status: 4,
-            text: "",
-        },
-        Case {
-            file: b"x",
-            stop: None,
-            fails: None,
-            status: 6,
-            text: "fault notindex notempty\n",
-        },
-        Case {
-            file: b"",
-            stop: Some(0),
-            fails: None,
-            status: 5,
-            text: "fault disk\n",
-        },
-        Case {
-            file: b"",
-            stop: Some(20),
-            fails: None,
-            status: 5,
-            text: "fault disk\n",
-        },
-        // Each of the eight logs is judged by the file, which takes a read for its one record: the last call is such a read.
-        Case {
-            file: b"",
-            stop: Some(37),
-            fails: None,
-            status: 5,
-            text: "fault disk\n",
-        },
-        Case {
-            file: b"",
-            stop: Some(38),
-            fails: None,
-            status: 0,
-            text: summary,
-        },
-    ];
-    for case in &cases {
-        check(&rt, case)?;
+fn generated_indexes(rt: HostRuntime) {
+    for case in &GENERATED {
+        check(&rt, case);
     }
-    Ok(())
 }
 
-// The first words of a page, of 4 bytes each; the others are 0.
+// Is the first words of a page, of 4 bytes each. The others are 0.
 type Page = &'static [u32];
 
-// The heads of a file of version 1 and of one of version 2: two coordinates under L1, and a limit of 7.
+// Are the heads of a file of version 1 and of one of version 2, of two coordinates under L1 and a limit of 7.
 const OLD_HEAD: Page = &[0x4d54_5245, 0x4549_4458, 0x0001_0202, 0x0201_0000, 7];
 
 const NEW_HEAD: Page = &[0x4d54_5245, 0x4549_4458, 0x0002_0202, 0x0201_0000, 7];
 
-// The slot of a new file, and slots of generation 2 with one object and with two on page 4.
+// Are the slot of a new file, and slots of generation 2 with one object and with two on page 4.
 const FIRST: Page = &[0xa500_0000, 0, 0, 1, 3, 0, 0, 4];
 
 const ONE: Page = &[0xa500_0000, 0, 0, 2, 4, 0, 1, 5];
@@ -137,20 +102,20 @@ const TWO: Page = &[0xa500_0000, 0, 0, 2, 4, 0, 2, 5];
 
 const ZEROS: Page = &[];
 
-// Leaves of version 1: (3, 4) with id 0; the same with id 1; (5, 6) with id 1 before (3, 4) with id 0.
+// Are leaves of version 1: (3, 4) with id 0, the same with id 1, and (5, 6) with id 1 before (3, 4) with id 0.
 const OLD_LEAF: Page = &[1, 0, 0, 0, 0, 0, 0, 3, 4];
 
 const OTHER_ID: Page = &[1, 0, 0, 0, 1, 0, 0, 3, 4];
 
 const OLD_PAIR: Page = &[2, 0, 0, 0, 1, 0, 0, 5, 6, 0, 0, 0, 3, 4];
 
-// Leaves of version 2: (3, 4) with id and tag 0; the same before (5, 6) with id and tag 1.
+// Are leaves of version 2: (3, 4) with id and tag 0, and the same before (5, 6) with id and tag 1.
 const NEW_LEAF: Page = &[1, 0, 0, 0, 0, 0, 0, 0, 0, 3, 4];
 
 const NEW_PAIR: Page = &[2, 0, 0, 0, 0, 0, 0, 0, 0, 3, 4, 1, 0, 1, 0, 0, 5, 6];
 
-// A run of `migrate`: the new file and the old one's pages before it, the call at which the old file's disk stops and that at which the
-// output fails, and what comes of it. Without pages of its own the new file is as it was.
+// Describes a run of `migrate`: the new file and the old one's pages before it, the call from which the old file's disk
+// fails, the call of the output that fails, and what comes of it. Without pages of its own the new file is as it was.
 #[derive(Clone, Copy)]
 struct Migration<'a> {
     index: &'a [u8],
@@ -162,8 +127,8 @@ struct Migration<'a> {
     made: Option<&'a [Page]>,
 }
 
-// The file of these pages.
-fn file_of(alloc: Global, pages: &[Page]) -> Result<Vec<u8>, Memory> {
+// Gives the file of these pages.
+fn try_file(alloc: Global, pages: &[Page]) -> Result<Vec<u8>, Memory> {
     let mut bytes = Vec::new(alloc);
     for page in pages {
         for word in page.iter() {
@@ -176,34 +141,41 @@ fn file_of(alloc: Global, pages: &[Page]) -> Result<Vec<u8>, Memory> {
     Ok(bytes)
 }
 
-fn disk_of(alloc: Global, bytes: Vec<u8>, stop: Option<u64>) -> Result<MemoryDisk, Memory> {
-    let room = (bytes.len() as u64).max(65_536);
-    MemoryDisk::new(alloc, bytes, room, 1_000_000, Vec::new(alloc), stop)
+// Does the same, and ends the test where memory is lacking.
+fn file_of(rt: &(impl AllocGlobal + Abort), pages: &[Page]) -> Vec<u8> {
+    try_file(rt.alloc(), pages).expect(rt, "memory")
 }
 
-fn check_migration<R: AllocGlobal + Threads + Sync + Abort>(
+// Migrates an old file to a new one.
+fn migrate<R: Threads + Sync, D: Disk, E: Disk, K: Sink>(
     rt: &R,
-    case: &Migration,
-) -> Result<(), Fail> {
-    let alloc = rt.alloc();
-    let old = file_of(alloc, case.old)?;
-    let mut index = disk_of(alloc, case.index.to_vec(alloc)?, None)?;
-    let mut other = disk_of(alloc, old.clone()?, case.stop)?;
-    let mut fails = Vec::new(alloc);
-    if let Some(call) = case.fails {
-        fails.push(call)?;
+    alloc: Global,
+    index: &mut D,
+    other: &mut E,
+    out: &mut K,
+) -> Status {
+    migrate_index(rt, alloc, index, other, out)
+}
+
+// Says whether the new file has become what a case says.
+fn is_made(rt: &(impl AllocGlobal + Abort), bytes: &[u8], case: &Migration<'_>) -> bool {
+    match case.made {
+        Some(pages) => bytes == file_of(rt, pages).as_slice(),
+        None => bytes == case.index,
     }
-    let mut out = MemorySink::new(alloc, 1000, fails)?;
-    let status = migrate_index(rt, alloc, &mut index, &mut other, &mut out);
-    assert!(rt; status == Status(case.status));
-    assert!(rt; out.written() == case.text.as_bytes());
-    assert!(rt; other.bytes() == old.as_slice());
-    let made = match case.made {
-        Some(pages) => file_of(alloc, pages)?,
-        None => case.index.to_vec(alloc)?,
-    };
-    assert!(rt; index.bytes() == made.as_slice());
-    Ok(())
+}
+
+// Checks a run of `migrate`.
+fn check_migration<R: AllocGlobal + Threads + Sync + Abort>(rt: &R, case: &Migration<'_>) {
+    let old = file_of(rt, case.old);
+    let mut index = disk_of(rt, case.index, None);
+    let mut other = disk_of(rt, &old, case.stop);
+    let mut out = sink_of(rt, case.fails);
+    let status = migrate(rt, rt.alloc(), &mut index, &mut other, &mut out);
+    holds(rt, status == Status(case.status));
+    holds(rt, out.written() == case.text.as_bytes());
+    holds(rt, other.bytes() == old.as_slice());
+    holds(rt, is_made(rt, index.bytes(), case));
 }
 
 const OLD_ONE: &[Page] = &[OLD_HEAD, FIRST, ONE, ZEROS, OLD_LEAF];
@@ -220,7 +192,7 @@ const NEW_NONE: &[Page] = &[NEW_HEAD, FIRST, ZEROS, ZEROS];
 
 const WRONG: &[Page] = &[OLD_HEAD, FIRST, ONE, ZEROS, OTHER_ID];
 
-// The old file of one object, and no fault.
+// Migrates the old file of one object, without a fault.
 const PLAIN: Migration<'static> = Migration {
     index: b"",
     old: OLD_ONE,
@@ -307,17 +279,15 @@ const REFUSED: [Migration<'static>; 7] = [
 ];
 
 #[test]
-fn migrated_files(rt: HostRuntime) -> Result<(), Fail> {
+fn migrated_files(rt: HostRuntime) {
     for case in &MIGRATED {
-        check_migration(&rt, case)?;
+        check_migration(&rt, case);
     }
-    Ok(())
 }
 
 #[test]
-fn refused_migrations(rt: HostRuntime) -> Result<(), Fail> {
+fn refused_migrations(rt: HostRuntime) {
     for case in &REFUSED {
-        check_migration(&rt, case)?;
+        check_migration(&rt, case);
     }
-    Ok(())
 }

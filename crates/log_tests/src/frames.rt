@@ -1,105 +1,144 @@
+use crate::models::holds;
 use prune_log::{
     LogFault, decode_frames, decode_join_frames, decode_join_log, decode_log, encode_join_log,
     encode_log, frame,
 };
-use std::test::Fail;
+use std::process::Abort;
 
-// The log of the range query of radius 7 about (0, 0) on a small index, whose one object is 7 away: generation 2, root 4,
-// one answer and one record with the mark Near.
+// Is the log of the range query of radius 7 about (0, 0) on a small index, whose one object is 7 away. It has generation 2,
+// root 4, one answer and one record with the mark Near.
 const LOG: [u8; 61] = [
     0x4d, 0x54, 0x4c, 0x47, 1, 1, 0, 0, 0, 0, 0, 0, 0, 2, 0, 0, 0, 4, 0, 0, 0, 0, 0, 0, 0, 7, 2, 0,
     0, 0, 0, 0, 0, 0, 0, 0, 0, 0, 1, 0, 0, 0, 0, 0, 0, 0, 0, 0, 0, 0, 7, 0, 0, 0, 1, 0, 0, 0, 4, 1,
     2,
 ];
 
-#[test]
-fn the_log_of_a_small_index_is_read_and_written(rt: HostRuntime) -> Result<(), Fail> {
-    let log = decode_log(rt.alloc(), &LOG).ok().ok_or("a log")?;
-    assert!(rt; log.generation == 2);
-    assert!(rt; log.root == 4);
-    assert!(rt; log.answers.as_slice().len() == 1);
-    let bytes = encode_log(rt.alloc(), &log)?;
-    assert!(rt; bytes.as_slice() == LOG.as_slice());
-    Ok(())
+// Reads the small log, checks its fields, and writes it again.
+fn written_again(rt: &(impl AllocGlobal + Abort)) -> Vec<u8> {
+    let log = decode_log(rt.alloc(), &LOG).expect(rt, "a log");
+    let answers = log.answers.as_slice().len();
+    holds(rt, (log.generation, log.root, answers) == (2, 4, 1));
+    encode_log(rt.alloc(), &log).expect(rt, "memory")
 }
 
 #[test]
-fn a_log_that_is_cut_or_too_long(rt: HostRuntime) -> Result<(), Fail> {
+fn the_log_of_a_small_index_is_read_and_written(rt: HostRuntime) {
+    let bytes = written_again(&rt);
+    holds(&rt, bytes.as_slice() == LOG.as_slice());
+}
+
+// Says why bytes are no log.
+fn fault_of(rt: &impl AllocGlobal, bytes: &[u8]) -> Option<LogFault> {
+    decode_log(rt.alloc(), bytes).err()
+}
+
+// Gives the small log with a byte more.
+fn too_long(rt: &(impl AllocGlobal + Abort)) -> Vec<u8> {
+    let mut bytes = LOG.to_vec(rt.alloc()).expect(rt, "memory");
+    bytes.push(0).expect(rt, "memory");
+    bytes
+}
+
+#[test]
+fn a_log_that_is_cut_or_too_long(rt: HostRuntime) {
     for size in 0..LOG.len() {
         assert!(rt;
-            decode_log(rt.alloc(), &LOG[..size]).err() == Some(LogFault::Cut),
+            fault_of(&rt, &LOG[..size]) == Some(LogFault::Cut),
             "{size}"
         );
     }
-    let mut bytes = LOG.to_vec(rt.alloc())?;
-    bytes.push(0)?;
-    assert!(rt; decode_log(rt.alloc(), bytes.as_slice()).err() == Some(LogFault::Tail));
-    Ok(())
+    let long = too_long(&rt);
+    holds(&rt, fault_of(&rt, &long) == Some(LogFault::Tail));
 }
 
-// Logs that are changed in one byte. A count of answers of more than 2^31 asks for no room.
-#[test]
-fn a_log_is_refused_for_its_first_fault(rt: HostRuntime) {
-    let faults = [
-        (0, b'm', LogFault::Magic),
-        (4, 2, LogFault::Version),
-        (5, 3, LogFault::Kind),
-        (26, 0, LogFault::Kind),
-        (35, 255, LogFault::Cut),
-        (59, 33, LogFault::Mark),
-        (60, 3, LogFault::Mark),
-        (59, 0, LogFault::Tail),
-    ];
-    for (at, byte, fault) in &faults {
-        let mut bytes = LOG;
-        bytes[*at] = *byte;
-        assert!(rt;
-            decode_log(rt.alloc(), &bytes).err() == Some(*fault),
-            "{at}"
-        );
+// Sets the byte at `at` of bytes.
+fn put(bytes: &mut [u8], at: usize, byte: u8) {
+    if at < bytes.len() {
+        bytes[at] = byte;
     }
 }
 
-#[test]
-fn a_frame_is_a_length_and_a_log(rt: HostRuntime) -> Result<(), Fail> {
-    let mut bytes = Vec::new(rt.alloc());
-    assert!(rt;
-        decode_frames(rt.alloc(), bytes.as_slice())
-            .ok()
-            .ok_or("no frames")?
-            .len()
-            == 0
-    );
-    frame(&LOG, &mut bytes)?;
-    assert!(rt; bytes.len() == 69);
-    assert!(rt; &bytes.as_slice()[..8] == [0u8, 0, 0, 0, 0, 0, 0, 61].as_slice());
-    let logs = decode_frames(rt.alloc(), bytes.as_slice())
-        .ok()
-        .ok_or("a frame")?;
-    assert!(rt; logs.len() == 1);
-    assert!(rt; decode_frames(rt.alloc(), &bytes.as_slice()[..68]).err() == Some(LogFault::Cut));
-    assert!(rt; decode_join_frames(rt.alloc(), bytes.as_slice()).err() == Some(LogFault::Kind));
-    Ok(())
+// Checks the first fault of the small log in which the byte at `at` is `byte`.
+fn check_fault(rt: &(impl AllocGlobal + Abort), at: usize, byte: u8, fault: LogFault) {
+    let mut bytes = LOG;
+    put(&mut bytes, at, byte);
+    assert!(rt; fault_of(rt, &bytes) == Some(fault), "{at}");
 }
 
-// The log of a join with the answers (1, 0, 1) and (2, 1, 0), and with no record.
+// Changes logs in one byte. A count of answers of more than 2^31 asks for no room.
+#[test]
+fn a_log_is_refused_for_its_first_fault(rt: HostRuntime) {
+    check_fault(&rt, 0, b'm', LogFault::Magic);
+    check_fault(&rt, 4, 2, LogFault::Version);
+    check_fault(&rt, 5, 3, LogFault::Kind);
+    check_fault(&rt, 26, 0, LogFault::Kind);
+    check_fault(&rt, 35, 255, LogFault::Cut);
+    check_fault(&rt, 59, 33, LogFault::Mark);
+    check_fault(&rt, 60, 3, LogFault::Mark);
+    check_fault(&rt, 59, 0, LogFault::Tail);
+}
+
+// Gives the frame of the small log.
+fn framed(rt: &(impl AllocGlobal + Abort)) -> Vec<u8> {
+    let mut bytes = Vec::new(rt.alloc());
+    frame(&LOG, &mut bytes).expect(rt, "memory");
+    bytes
+}
+
+// Counts the logs of frames.
+fn count_of(rt: &(impl AllocGlobal + Abort), bytes: &[u8]) -> usize {
+    decode_frames(rt.alloc(), bytes).expect(rt, "frames").len()
+}
+
+// Says why bytes are no frames of logs.
+fn frames_fault(rt: &impl AllocGlobal, bytes: &[u8]) -> Option<LogFault> {
+    decode_frames(rt.alloc(), bytes).err()
+}
+
+// Says why bytes are no frames of logs of joins.
+fn join_frames_fault(rt: &impl AllocGlobal, bytes: &[u8]) -> Option<LogFault> {
+    decode_join_frames(rt.alloc(), bytes).err()
+}
+
+#[test]
+fn a_frame_is_a_length_and_a_log(rt: HostRuntime) {
+    holds(&rt, count_of(&rt, &[]) == 0);
+    let frame = framed(&rt);
+    let bytes = frame.as_slice();
+    assert!(rt; bytes.len() == 69);
+    holds(&rt, &bytes[..8] == [0u8, 0, 0, 0, 0, 0, 0, 61].as_slice());
+    holds(&rt, count_of(&rt, bytes) == 1);
+    holds(&rt, frames_fault(&rt, &bytes[..68]) == Some(LogFault::Cut));
+    holds(&rt, join_frames_fault(&rt, bytes) == Some(LogFault::Kind));
+}
+
+// Is the log of a join with the answers (1, 0, 1) and (2, 1, 0), and with no record.
 const JOIN: [u8; 86] = [
     0x4d, 0x54, 0x4c, 0x47, 1, 3, 0, 0, 0, 0, 0, 0, 0, 2, 0, 0, 0, 4, 0, 0, 0, 0, 0, 0, 0, 3, 0, 0,
     0, 5, 0, 0, 0, 0, 0, 0, 0, 1, 0, 0, 0, 0, 0, 0, 0, 2, 0, 0, 0, 1, 0, 0, 0, 0, 0, 0, 0, 0, 0, 0,
     0, 1, 0, 0, 0, 2, 0, 0, 0, 1, 0, 0, 0, 0, 0, 0, 0, 0, 0, 0, 0, 0, 0, 0, 0, 0,
 ];
 
+// Reads the log of a join, checks its right tree, and writes it again.
+fn join_written_again(rt: &(impl AllocGlobal + Abort)) -> Vec<u8> {
+    let log = decode_join_log(rt.alloc(), &JOIN).expect(rt, "a log");
+    holds(rt, log.right == (3, 5));
+    encode_join_log(rt.alloc(), &log).expect(rt, "memory")
+}
+
+// Says why bytes are no log of a join.
+fn join_fault(rt: &impl AllocGlobal, bytes: &[u8]) -> Option<LogFault> {
+    decode_join_log(rt.alloc(), bytes).err()
+}
+
 #[test]
-fn the_log_of_a_join_is_read_and_written(rt: HostRuntime) -> Result<(), Fail> {
-    let log = decode_join_log(rt.alloc(), &JOIN).ok().ok_or("a log")?;
-    assert!(rt; log.right == (3, 5));
-    let bytes = encode_join_log(rt.alloc(), &log)?;
-    assert!(rt; bytes.as_slice() == JOIN.as_slice());
+fn the_log_of_a_join_is_read_and_written(rt: HostRuntime) {
+    let bytes = join_written_again(&rt);
+    holds(&rt, bytes.as_slice() == JOIN.as_slice());
     let mut order = JOIN;
-    order[65] = 1;
-    order[69] = 0;
-    order[77] = 1;
-    assert!(rt; decode_join_log(rt.alloc(), &order).err() == Some(LogFault::Order));
-    assert!(rt; decode_join_log(rt.alloc(), &LOG).err() == Some(LogFault::Kind));
-    Ok(())
+    put(&mut order, 65, 1);
+    put(&mut order, 69, 0);
+    put(&mut order, 77, 1);
+    holds(&rt, join_fault(&rt, &order) == Some(LogFault::Order));
+    holds(&rt, join_fault(&rt, &LOG) == Some(LogFault::Kind));
 }

@@ -4,7 +4,12 @@ use log_model::{
 };
 use metric_laws::{BOUND, Listed, Point};
 use scan_model::{Hit, Pair, Query};
-use std::test::Fail;
+use std::process::Abort;
+
+// Ends a test in which `is_so` is false.
+pub(crate) fn holds(rt: &impl Abort, is_so: bool) {
+    assert!(rt; is_so);
+}
 
 #[test]
 fn the_laws_hold(rt: HostRuntime) {
@@ -17,7 +22,7 @@ fn the_laws_hold(rt: HostRuntime) {
     assert!(rt; true);
 }
 
-// Four hits out of order, one of them twice.
+// Lists four hits out of order, one of them twice.
 const NAMED: [Hit; 4] = [
     Hit { id: 3, dist: 1 },
     Hit { id: 2, dist: 1 },
@@ -25,60 +30,74 @@ const NAMED: [Hit; 4] = [
     Hit { id: 1, dist: 0 },
 ];
 
-#[test]
-fn answers_are_in_order_and_each_once(rt: HostRuntime) -> Result<(), Fail> {
-    let mut hits = NAMED.iter().copied().collect::<Vec<Hit>>(rt.alloc())?;
-    put_hits_in_order(&mut hits);
-    assert!(rt; hits.as_slice() == [NAMED[3], NAMED[1], NAMED[0]].as_slice());
-    let nearest = Query::Nearest {
-        q: Point::new(rt.alloc(), &[5])?,
+// Makes the query for the 2 nearest to 5.
+fn nearest(rt: &(impl AllocGlobal + Abort)) -> Query {
+    Query::Nearest {
+        q: Point::new(rt.alloc(), &[5]).expect(rt, "memory"),
         k: 2,
-    };
-    select(&nearest, &mut hits);
-    assert!(rt; hits.as_slice() == [NAMED[3], NAMED[1]].as_slice());
-    assert!(rt; radius_of(&nearest, &hits) == 1);
-    assert!(rt; radius_of(&nearest, &hits[..1]) == BOUND);
-    let range = Query::Range {
-        q: Point::new(rt.alloc(), &[5])?,
+    }
+}
+
+// Makes the query for what lies within 9 of 5.
+fn range(rt: &(impl AllocGlobal + Abort)) -> Query {
+    Query::Range {
+        q: Point::new(rt.alloc(), &[5]).expect(rt, "memory"),
         r: 9,
-    };
-    assert!(rt; radius_of(&range, &hits) == 9);
-    Ok(())
+    }
 }
 
 #[test]
-fn pairs_are_in_order_and_each_once(rt: HostRuntime) -> Result<(), Fail> {
-    let first = Pair {
-        left: 0,
-        right: 7,
-        dist: 9,
-    };
-    let second = Pair {
-        left: 1,
-        right: 2,
-        dist: 3,
-    };
-    let mut pairs = vec![in rt.alloc(); second, first, second]?;
+fn answers_are_in_order_and_each_once(rt: HostRuntime) {
+    let mut hits = NAMED.to_vec(rt.alloc()).expect(&rt, "memory");
+    put_hits_in_order(&mut hits);
+    holds(
+        &rt,
+        hits.as_slice() == [NAMED[3], NAMED[1], NAMED[0]].as_slice(),
+    );
+    let nearest = nearest(&rt);
+    select(&nearest, &mut hits);
+    let selected = [NAMED[3], NAMED[1]];
+    holds(&rt, hits.as_slice() == selected.as_slice());
+    holds(&rt, radius_of(&nearest, &selected) == 1);
+    holds(&rt, radius_of(&nearest, &selected[..1]) == BOUND);
+    holds(&rt, radius_of(&range(&rt), &selected) == 9);
+}
+
+const FIRST: Pair = Pair {
+    left: 0,
+    right: 7,
+    dist: 9,
+};
+
+const SECOND: Pair = Pair {
+    left: 1,
+    right: 2,
+    dist: 3,
+};
+
+#[test]
+fn pairs_are_in_order_and_each_once(rt: HostRuntime) {
+    let named = [SECOND, FIRST, SECOND];
+    let mut pairs = named.to_vec(rt.alloc()).expect(&rt, "memory");
     put_pairs_in_order(&mut pairs);
-    assert!(rt; pairs.as_slice() == [first, second].as_slice());
-    Ok(())
+    holds(&rt, pairs.as_slice() == [FIRST, SECOND].as_slice());
 }
 
 #[test]
-fn the_item_of_greater_rank_is_opened(rt: HostRuntime) -> Result<(), Fail> {
+fn the_item_of_greater_rank_is_opened(rt: HostRuntime) {
     let object = Item::Object {
         id: 7,
-        point: Listed::new(vec![in rt.alloc(); 5]?),
+        point: Listed::new(vec![in rt.alloc(); 5].expect(&rt, "memory")),
     };
     let subtree = Item::Subtree {
         page: 3,
         rank: 2,
-        centre: Some(Listed::new(vec![in rt.alloc(); 1]?)),
+        centre: Some(Listed::new(vec![in rt.alloc(); 1].expect(&rt, "memory"))),
         radius: 9,
     };
     let pair = JoinNeed {
-        left: SharedItem::new(rt.alloc(), object)?,
-        right: SharedItem::new(rt.alloc(), subtree)?,
+        left: SharedItem::new(rt.alloc(), object).expect(&rt, "memory"),
+        right: SharedItem::new(rt.alloc(), subtree).expect(&rt, "memory"),
         apart: Some(4),
     };
     assert!(rt; pair.opens_right());
@@ -91,7 +110,8 @@ fn the_item_of_greater_rank_is_opened(rt: HostRuntime) -> Result<(), Fail> {
         centre: None,
         radius: 0,
     };
-    let next = pair.with(SharedItem::new(rt.alloc(), root)?, None)?;
+    let root = SharedItem::new(rt.alloc(), root).expect(&rt, "memory");
+    let next = pair.with(root, None).expect(&rt, "memory");
     assert!(rt; next.opens_right());
     assert!(rt; next.opened().page() == 8);
     assert!(rt; next.other().id() == 7);
@@ -102,7 +122,6 @@ fn the_item_of_greater_rank_is_opened(rt: HostRuntime) -> Result<(), Fail> {
     };
     assert!(rt; !tie.opens_right());
     assert!(rt; tie.opened().page() == 3);
-    Ok(())
 }
 
 #[test]

@@ -9,7 +9,10 @@ use Rattle.outside_io.specs.Sinks.{SinkState, Tells}
 use Rattle.disk_model.specs.Disk.{DiskState, IsUnchanged}
 use Rattle.slice_disk.specs.Held.{held}
 use Rattle.file_jobs.specs.Jobs.{Audits, IsAuditStatus, IsAudited, IsNoIndex, IsSoundWith}
-use Rattle.file_jobs.specs.Lines.{not_index_text, rejected_text, sound_text}
+use Rattle.file_jobs.specs.Lines.{damaged_text, not_index_text, rejected_text, shape_text, sound_text}
+use Rattle.file_jobs.specs.Shapes.{IsDamaged, IsShapeOf, IsShapeStatus, IsSound, Shapes}
+use Rattle.page_store.specs.Files.{IsLarge}
+use Rattle.seal_jobs.specs.Seals.{IsSealed, IsSealStatus, Seals, sealed_text}
 use Rattle.file_jobs.specs.declared.logs.report.Report.{Report}
 use Rattle.file_jobs.specs.Logs.Jobs.{IsLogStatus}
 use Rattle.file_jobs.specs.Logs.Sayings.{Saying}
@@ -17,7 +20,7 @@ use Rattle.log_jobs.specs.Jobs.{JudgesLogs, Says}
 use Rattle.mtree_c.specs.Rooms.{HandsText, StandAtFront}
 use Rattle.prune_log.specs.Spelling.{frame_bytes}
 use Rattle.seal_jobs.specs.Proofs.{IsProofStatus, ProvesLogs, Shown}
-use Rattle.mtree_c.specs.Texts.{IsAuditText, IsLogText, IsProofText, IsUnopenedText}
+use Rattle.mtree_c.specs.Texts.{IsAuditText, IsLogText, IsProofText, IsSealText, IsShapeText, IsUnopenedText}
 
 pub unmoved : Rose 0 0 → ⊥
 unmoved rose = omega (arith, rose)
@@ -79,6 +82,57 @@ module _ (d0 d1 : DiskState) (o0 o1 : SinkState) (file text : List ℕ) (tells :
     rejected = λ is. let r = audits.rejected is in (r.0, subst (λ (x : List ℕ). IsAudited x (Some r.0)) bytes_are (r.2 tells), appended o0.written o1.written text (rejected_text r.0) empty holds r.1);
     no_index = λ is. let n = audits.not_index is in unopened n.0 n.1 n.2;
     statuses = audit_ends status statuses not_short not_disk not_memory;
+  }
+
+  -- ---- shapes
+
+  shape_ends : (status : ℕ) → IsShapeStatus status → status ≢ 4 → status ≢ 5 → status ≢ 8 → (status ≡ 0) ⊎ ((status ≡ 6) ⊎ (status ≡ 9))
+  shape_ends status (inl is) a n b = inl is
+  shape_ends status (inr (inl is)) a n b = absurd (a is)
+  shape_ends status (inr (inr (inl is))) a n b = absurd (n is)
+  shape_ends status (inr (inr (inr (inl is)))) a n b = inr (inl is)
+  shape_ends status (inr (inr (inr (inr (inl is))))) a n b = absurd (b is)
+  shape_ends status (inr (inr (inr (inr (inr is))))) a n b = inr (inr is)
+
+  shaped_sound : (status : ℕ) → (status ≡ 0) ⊎ ((status ≡ 6) ⊎ (status ≡ 9)) → (status ≢ 6) × (status ≢ 9) → status ≡ 0
+  shaped_sound status (inl is) other = is
+  shaped_sound status (inr (inl is)) other = absurd (other.0 is)
+  shaped_sound status (inr (inr is)) other = absurd (other.1 is)
+
+  pub drawn_text : (status : ℕ) → Shapes d0 d1 o0 o1 status → IsShapeStatus status → status ≢ 4 → status ≢ 5 → status ≢ 8 → IsShapeText file text status
+  drawn_text status shapes statuses not_short not_disk not_memory =
+      let ends = shape_ends status statuses not_short not_disk not_memory in
+      record {
+        drawn = λ is.
+            let d = shapes.done is in
+            (d.0, d.1, d.2, subst (λ (x : List ℕ). IsShapeOf x d.0 d.1 d.2) bytes_are (d.4 tells), appended o0.written o1.written text (shape_text d.0 d.1 d.2) empty holds d.3);
+        no_index = λ is. let n = shapes.not_index is in unopened n.0 n.1 n.2;
+        damaged = λ is.
+            let d = shapes.damaged is in
+            (d.0, subst (λ (x : List ℕ). IsDamaged x d.0) bytes_are (d.2 tells), told o0 o1 text (damaged_text d.0) empty holds none never d.1);
+        sound = λ head live is. shaped_sound status ends (shapes.sound tells head live (subst (λ (x : List ℕ). IsSound head live x) (sym bytes_are) is));
+        statuses = ends;
+      }
+
+  -- ---- seals
+
+  seal_ends : (status : ℕ) → IsSealStatus status → status ≢ 4 → status ≢ 5 → status ≢ 8 → (status ≡ 0) ⊎ ((status ≡ 1) ⊎ ((status ≡ 6) ⊎ (status ≡ 7)))
+  seal_ends status (inl is) a n b = inl is
+  seal_ends status (inr (inl is)) a n b = inr (inl is)
+  seal_ends status (inr (inr (inl is))) a n b = absurd (a is)
+  seal_ends status (inr (inr (inr (inl is)))) a n b = absurd (n is)
+  seal_ends status (inr (inr (inr (inr (inl is))))) a n b = inr (inr (inl is))
+  seal_ends status (inr (inr (inr (inr (inr (inl is)))))) a n b = inr (inr (inr is))
+  seal_ends status (inr (inr (inr (inr (inr (inr is)))))) a n b = absurd (b is)
+
+  pub seal_text : (status : ℕ) → Seals d0 d1 o0 o1 status → IsSealStatus status → status ≢ 4 → status ≢ 5 → status ≢ 8 → IsSealText file text status
+  seal_text status seals statuses not_short not_disk not_memory = record {
+    sealed = λ is. let s = seals.sealed is in (s.0, subst (λ (x : List ℕ). IsSealed x s.0) bytes_are (s.2 tells), appended o0.written o1.written text (sealed_text s.0) empty holds s.1);
+    rejected = λ is. let r = seals.rejected is in (r.0, subst (λ (x : List ℕ). IsAudited x (Some r.0)) bytes_are (r.2 tells), appended o0.written o1.written text (rejected_text r.0) empty holds r.1);
+    no_index = λ is. let n = seals.not_index is in unopened n.0 n.1 n.2;
+    long = λ is. let l = seals.long is in (subst IsLarge bytes_are (l.1 tells), told o0 o1 text (codes "fault long\n") empty holds none never l.0);
+    large = λ is large. seals.large (⊎_elim (λ a. inl a) (λ b. inr (inl b)) is) tells (subst IsLarge (sym bytes_are) large);
+    statuses = seal_ends status statuses not_short not_disk not_memory;
   }
 
   -- ---- logs

@@ -18,6 +18,7 @@ use Rattle.image_answers.specs.declared.outcome.Outcome.TheVariants as outcome
 use Rattle.image_answers.specs.Outcomes.{IsOutcomeOf}
 use Rattle.mtree_c.specs.declared.answering.TaggedHit.{TaggedHit}
 use Rattle.mtree_c.specs.declared.answering.Sizes.{Sizes}
+use Rattle.mtree_c.specs.declared.describing.Description.{Description}
 use Rattle.mtree_c.specs.Rooms.{StandAtFront}
 use Rattle.file_jobs.specs.Spaces.{space_of}
 
@@ -26,6 +27,27 @@ abbrev pub tagged : List Hit → List ℕ → List TaggedHit
 tagged [] tags = []
 tagged (h ∷ hits) [] = []
 tagged (h ∷ hits) (tag ∷ tags) = record { id = h.id; distance = h.dist; tag = tag } ∷ tagged hits tags
+
+-- what a head and a live slot say
+abbrev pub description_of : Head → Live → Description
+description_of head live = record {
+  kind = head.kind;
+  dim = head.dim;
+  promote = head.promote;
+  split = head.split;
+  limit = head.limit;
+  generation = live.generation;
+  root = live.root;
+  height = live.height;
+  count = live.count;
+  pages = live.pages;
+}
+
+-- The bytes are a file of version 2 and this is what its head and its live slot say; or they are none, and nothing was written.
+pub record Describes (file : List ℕ) (old new : Description) (status : ℕ) : Type 0 where
+  pub done : status ≡ 0 → (head : Head) × (live : Live) × OpensTo file head live × (head.version ≡ 2) × (new ≡ description_of head live)
+  pub no_index : status ≡ 6 → ((name : List ℕ) × IsNoIndex file name) × (new ≡ old)
+  pub statuses : (status ≡ 0) ⊎ (status ≡ 6)
 
 -- ---- on the bytes of a file
 

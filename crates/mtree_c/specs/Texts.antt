@@ -3,7 +3,14 @@ use Rattle.std.specs.Prelude.{◌≡◌, ◌⊎◌, ◌<◌, ◌^◌, ℕ, List,
 use Rattle.std.specs.List.{concat, flat_map}
 use Rattle.tree_audit.specs.declared.faults.AuditFault.{AuditFault}
 use Rattle.file_jobs.specs.Jobs.{IsAudited, IsNoIndex, IsSoundWith}
-use Rattle.file_jobs.specs.Lines.{not_index_text, rejected_text, sound_text}
+use Rattle.file_jobs.specs.Lines.{damaged_text, not_index_text, rejected_text, shape_text, sound_text}
+use Rattle.file_jobs.specs.Shapes.{IsDamaged, IsShapeOf, IsSound}
+use Rattle.node_page.specs.declared.head.Head.{Head}
+use Rattle.page_store.specs.declared.pages.PageFault.{PageFault}
+use Rattle.page_store.specs.Files.{IsLarge}
+use Rattle.seal_jobs.specs.Seals.{IsSealed, sealed_text}
+use Rattle.tree_outline.specs.declared.outline.ShapeLine.{ShapeLine}
+use Rattle.tree_shape.specs.declared.live.Live.{Live}
 use Rattle.file_jobs.specs.declared.logs.report.Report.{Report}
 use Rattle.log_jobs.specs.Jobs.{Says}
 use Rattle.file_jobs.specs.Logs.Sayings.{Saying}
@@ -20,6 +27,25 @@ pub record IsAuditText (file text : List ℕ) (status : ℕ) : Type 0 where
   pub rejected : status ≡ 1 → (fault : AuditFault) × IsAudited file (Some fault) × (text ≡ rejected_text fault)
   pub no_index : status ≡ 6 → IsUnopenedText file text
   pub statuses : (status ≡ 0) ⊎ ((status ≡ 1) ⊎ (status ≡ 6))
+
+-- The text of a shape. Status 0: the lines of all nodes; 6: it is no file of version 2; 9: a page that the walk of the tree names gives no
+-- node. Of a sound file the status is 0.
+pub record IsShapeText (file text : List ℕ) (status : ℕ) : Type 0 where
+  pub drawn : status ≡ 0 → (height : ℕ) × (objects : ℕ) × (lines : List ShapeLine) × IsShapeOf file height objects lines × (text ≡ shape_text height objects lines)
+  pub no_index : status ≡ 6 → IsUnopenedText file text
+  pub damaged : status ≡ 9 → (fault : PageFault) × IsDamaged file fault × (text ≡ damaged_text fault)
+  pub sound : (head : Head) (live : Live) → IsSound head live file → status ≡ 0
+  pub statuses : (status ≡ 0) ⊎ ((status ≡ 6) ⊎ (status ≡ 9))
+
+-- The text of a seal. Status 0: the file is sound, and this is its root digest; 1: it has a fault; 6: it is no file of version 2; 7: it has
+-- more pages than are sealed.
+pub record IsSealText (file text : List ℕ) (status : ℕ) : Type 0 where
+  pub sealed : status ≡ 0 → (root : List ℕ) × IsSealed file root × (text ≡ sealed_text root)
+  pub rejected : status ≡ 1 → (fault : AuditFault) × IsAudited file (Some fault) × (text ≡ rejected_text fault)
+  pub no_index : status ≡ 6 → IsUnopenedText file text
+  pub long : status ≡ 7 → IsLarge file × (text ≡ codes "fault long\n")
+  pub large : (status ≡ 0) ⊎ (status ≡ 1) → IsLarge file → ⊥
+  pub statuses : (status ≡ 0) ⊎ ((status ≡ 1) ⊎ ((status ≡ 6) ⊎ (status ≡ 7)))
 
 -- The text on logs. Status 0 and 1: what is to be said of the file and the logs; 6: it is no file of version 2; 7: there are more than
 -- 2^30 bytes of logs.

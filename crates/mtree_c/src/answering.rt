@@ -60,8 +60,8 @@ struct Answer {
     log: Log,
 }
 
-// Reads the head and the live slot of a file of version 2, or returns the status where it is none.
-fn open_file(alloc: Global, file: &[u8]) -> Result<(Head, Live), u8>
+/// Reads the head and the live slot of a file of version 2, or returns the status where it is none.
+pub fn open_file(alloc: Global, file: &[u8]) -> Result<(Head, Live), u8>
     ensures opens { IfOk result (λ opened. OpensTo file.now opened.0 opened.1) }
     ensures version { IfOk result (λ opened. opened.0.version ≡ 2) }
     ensures head { IfOk result (λ opened. IsLawfulHead opened.0) }

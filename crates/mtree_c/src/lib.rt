@@ -5,6 +5,7 @@
 #![tactic(auto)]
 
 mod answering;
+mod describing;
 mod ends;
 mod judging;
 mod rooms;

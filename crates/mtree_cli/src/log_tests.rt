@@ -1,11 +1,31 @@
-use crate::runs::{Given, check_run, disk_of, with_logs};
-use disk_model::MemoryDisk;
+use crate::runs::{Given, check_run, disk, with_input, with_logs};
+use disk_model::{MemoryDisk, SharedDisk};
 use std::alloc::{AllocError, Global};
 use std::process::Abort;
-use std::test::Fail;
 use std::thread::Threads;
 
-// The fields on the pages of a small index: (3, 4) inserted into an empty index under L1.
+// Runs words on one index, and checks how they end.
+pub fn check_given<R: AllocGlobal + Abort + Threads + Sync, D: SharedDisk>(
+    rt: &R,
+    given: &Given<'_>,
+    index: &mut D,
+    ended: (u8, &str),
+) {
+    let _logs = check_run(rt, given, index, ended);
+}
+
+// Runs words that are given an input.
+pub fn check_words<R: AllocGlobal + Abort + Threads + Sync, D: SharedDisk>(
+    rt: &R,
+    words: &str,
+    input: &str,
+    index: &mut D,
+    ended: (u8, &str),
+) {
+    check_given(rt, &with_input(words, input), index, ended);
+}
+
+// Are the fields of the pages of a small index: an insert of (3, 4) into an empty one under L1.
 pub const HEAD: [u8; 20] = *b"MTREEIDX\0\x02\x02\x02\x02\x01\0\0\x01\0\0\0";
 
 const FIRST: [u8; 32] = [
@@ -23,14 +43,14 @@ const LEAF: [u8; 44] = [
     0, 0, 0, 0, 0, 0, 0, 3, 0, 0, 0, 4,
 ];
 
-// The frame of the log of `range,7,0,0` on this index.
+// Is the frame of the log of `range,7,0,0` on it.
 const FRAME: [u8; 69] = [
     0, 0, 0, 0, 0, 0, 0, 61, 0x4d, 0x54, 0x4c, 0x47, 1, 1, 0, 0, 0, 0, 0, 0, 0, 2, 0, 0, 0, 4, 0,
     0, 0, 0, 0, 0, 0, 7, 2, 0, 0, 0, 0, 0, 0, 0, 0, 0, 0, 0, 1, 0, 0, 0, 0, 0, 0, 0, 0, 0, 0, 0, 7,
     0, 0, 0, 1, 0, 0, 0, 4, 1, 2,
 ];
 
-// Writes bytes into a file.
+// Puts `bytes` into a file.
 pub fn place(file: &mut [u8], at: usize, bytes: &[u8]) {
     for i in 0..bytes.len() {
         if let Some(byte) = file.get_mut(at.saturating_add(i)) {
@@ -39,19 +59,24 @@ pub fn place(file: &mut [u8], at: usize, bytes: &[u8]) {
     }
 }
 
-// Returns the small index.
-pub fn small_index(alloc: Global) -> Result<Vec<u8>, AllocError> {
-    let mut file = vec![in alloc; 0u8; 20480]?;
+// Gives `pages` pages of zeros, at most 7.
+pub fn blank(rt: &(impl AllocGlobal + Abort), pages: usize) -> Vec<u8> {
+    vec![in rt.alloc(); 0u8; pages.min(7) * 4096].expect(rt, "memory")
+}
+
+// Gives the small index.
+pub fn small_index(rt: &(impl AllocGlobal + Abort)) -> Vec<u8> {
+    let mut file = blank(rt, 5);
     place(&mut file, 0, &HEAD);
     place(&mut file, 4096, &FIRST);
     place(&mut file, 8192, &SECOND);
     place(&mut file, 16384, &LEAF);
-    Ok(file)
+    file
 }
 
-// A run on the small index and on frames of its log. It has the command; the number of frames, and their length; the bytes that are
-// changed in the index and in the last log, by their places; the call of the disk, of the logs and of out from which each fails; and
-// the status and what is written.
+// Describes a run on the small index and on `frames` frames of its log. The last frame has `size` bytes. Bytes of the index
+// and of the last log are changed at their places. The disk fails from one call on, and one call of the logs and of out
+// fails. The run ends with a status, and writes `output`.
 #[derive(Clone, Copy)]
 struct Case<'a> {
     command: &'a str,
@@ -66,7 +91,7 @@ struct Case<'a> {
     output: &'a str,
 }
 
-// A log that is accepted.
+// Accepts a log.
 const VERIFY: Case<'static> = Case {
     command: "verify a.mt --log a.log",
     frames: 1,
@@ -80,280 +105,286 @@ const VERIFY: Case<'static> = Case {
     output: "frame 0 accepted\nlog accepted, file not audited\n",
 };
 
-// A log that is complete.
+// Finds a log complete.
 const CHECK: Case<'static> = Case {
     command: "check a.mt --log a.log",
     output: "file sound\nframe 0 complete\nrange,7,0,0\nhits 1\n0 7\nlog complete\n",
     ..VERIFY
 };
 
-// The shape of the index; `shape` takes no logs.
+// Tells the shape of the index, which takes no logs.
 const SHAPE: Case<'static> = Case {
     command: "shape a.mt",
     output: "height 0\nobjects 1\nnodes 1\n0 1 - -\n",
     ..VERIFY
 };
 
-// Returns the index of the case.
-fn index_of(alloc: Global, case: &Case<'_>) -> Result<MemoryDisk, AllocError> {
-    let mut file = small_index(alloc)?;
+// Makes the index of a case.
+fn index_of(rt: &(impl AllocGlobal + Abort), case: &Case<'_>) -> MemoryDisk {
+    let mut file = small_index(rt);
     if let Some((at, byte)) = case.file_change {
         place(&mut file, at, &[byte]);
     }
-    disk_of(alloc, &file, case.disk_stop)
+    disk(rt, &file, case.disk_stop)
 }
 
-// Returns the logs of the case.
-fn logs_of(alloc: Global, case: &Case<'_>) -> Result<Vec<u8>, AllocError> {
+// Changes bytes of the last log, which begins at `last`.
+fn change(logs: &mut [u8], last: usize, changes: &[(usize, u8)]) {
+    for (at, byte) in changes {
+        if *at < 61 {
+            place(logs, last.saturating_add(8 + *at), &[*byte]);
+        }
+    }
+}
+
+// Gives the logs of a case.
+fn try_logs(alloc: Global, case: &Case<'_>) -> Result<Vec<u8>, AllocError> {
     let mut logs = Vec::new(alloc);
     let mut last = 0;
     for _ in 0..case.frames {
         last = logs.len();
         logs.extend_from_slice(&FRAME)?;
     }
-    for (at, byte) in case.log_change {
-        if *at < 61 {
-            place(&mut logs, last.saturating_add(8 + *at), &[*byte]);
-        }
-    }
+    change(&mut logs, last, case.log_change);
     logs.truncate(last.saturating_add(case.size));
     Ok(logs)
 }
 
 // Runs a case.
-fn check<R: AllocGlobal + Abort + Threads + Sync>(rt: &R, case: &Case<'_>) -> Result<(), Fail> {
-    let alloc = rt.alloc();
-    let logs = logs_of(alloc, case)?;
+fn check<R: AllocGlobal + Abort + Threads + Sync>(rt: &R, case: &Case<'_>) {
+    let logs = try_logs(rt.alloc(), case).expect(rt, "memory");
     let given = Given {
         logs_fail: case.log_fails,
         out_fails: case.out_fails,
         ..with_logs(case.command, &logs)
     };
-    let mut index = index_of(alloc, case)?;
-    check_run(rt, &given, &mut index, (case.status, case.output))?;
-    Ok(())
+    let mut index = index_of(rt, case);
+    check_given(rt, &given, &mut index, (case.status, case.output));
 }
 
-#[test]
-fn the_shape_of_an_index(rt: HostRuntime) -> Result<(), Fail> {
-    check(&rt, &SHAPE)?;
-    let damaged = Case {
-        file_change: Some((16384, 15)),
-        status: 9,
-        output: "fault damaged bad 4 kind\n",
-        ..SHAPE
-    };
-    check(&rt, &damaged)?;
-    let no_disk = Case {
-        disk_stop: Some(0),
-        status: 5,
-        output: "fault disk\n",
-        ..SHAPE
-    };
-    check(&rt, &no_disk)?;
-    let no_out = Case {
-        out_fails: Some(0),
-        status: 4,
-        output: "",
-        ..SHAPE
-    };
-    check(&rt, &no_out)
-}
+const DAMAGED_SHAPE: Case<'static> = Case {
+    file_change: Some((16384, 15)),
+    status: 9,
+    output: "fault damaged bad 4 kind\n",
+    ..SHAPE
+};
+
+const NO_DISK: Case<'static> = Case {
+    disk_stop: Some(0),
+    status: 5,
+    output: "fault disk\n",
+    ..SHAPE
+};
+
+const NO_OUT: Case<'static> = Case {
+    out_fails: Some(0),
+    status: 4,
+    output: "",
+    ..SHAPE
+};
 
 #[test]
-fn logs_that_are_accepted(rt: HostRuntime) -> Result<(), Fail> {
-    check(&rt, &VERIFY)?;
-    check(&rt, &CHECK)?;
-    let no_frames = Case {
-        frames: 0,
-        size: 0,
+fn the_shape_of_an_index(rt: HostRuntime) {
+    check(&rt, &SHAPE);
+    check(&rt, &DAMAGED_SHAPE);
+    check(&rt, &NO_DISK);
+    check(&rt, &NO_OUT);
+}
+
+const NO_FRAMES: Case<'static> = Case {
+    frames: 0,
+    size: 0,
+    output: "log accepted, file not audited\n",
+    ..VERIFY
+};
+
+const NO_FRAMES_CHECKED: Case<'static> = Case {
+    frames: 0,
+    size: 0,
+    output: "file sound\nlog complete\n",
+    ..CHECK
+};
+
+// Checks the log of `nearest,1,0,0`.
+const NEAREST: Case<'static> = Case {
+    log_change: &[(5, 2), (25, 1)],
+    output: "file sound\nframe 0 complete\nnearest,1,0,0\nhits 1\n0 7\nlog complete\n",
+    ..CHECK
+};
+
+#[test]
+fn logs_that_are_accepted(rt: HostRuntime) {
+    check(&rt, &VERIFY);
+    check(&rt, &CHECK);
+    check(&rt, &NO_FRAMES);
+    check(&rt, &NO_FRAMES_CHECKED);
+    check(&rt, &NEAREST);
+}
+
+// Describes a byte of the log that is changed, and the lines of `verify` and of `check`.
+type Rejected = (usize, u8, &'static str, &'static str);
+
+const REJECTED: [Rejected; 7] = [
+    (
+        35,
+        255,
+        "log rejected cut\n",
+        "file sound\nlog rejected cut\n",
+    ),
+    (
+        60,
+        3,
+        "log rejected mark\n",
+        "file sound\nlog rejected mark\n",
+    ),
+    (
+        59,
+        0,
+        "log rejected tail\n",
+        "file sound\nlog rejected tail\n",
+    ),
+    (
+        60,
+        1,
+        "frame 0 rejected wrongmark 0 0\nlog rejected\n",
+        "file sound\nframe 0 rejected wrongmark 0 0\nlog rejected\n",
+    ),
+    (
+        50,
+        8,
+        "frame 0 rejected wronganswer 0\nlog rejected\n",
+        "file sound\nframe 0 rejected wronganswer 0\nlog rejected\n",
+    ),
+    (
+        17,
+        3,
+        "frame 0 rejected otherstate 2 3 2 4\nlog rejected\n",
+        "file sound\nframe 0 rejected otherstate 2 3 2 4\nlog rejected\n",
+    ),
+    (
+        58,
+        3,
+        "frame 0 rejected wrongpage 0\nlog rejected\n",
+        "file sound\nframe 0 rejected wrongpage 0\nlog rejected\n",
+    ),
+];
+
+// Checks that a log is rejected in which a byte is changed.
+fn check_rejected<R: AllocGlobal + Abort + Threads + Sync>(rt: &R, rejected: &Rejected) {
+    let (at, byte, verified, checked) = *rejected;
+    let log_change = [(at, byte)];
+    let verify = Case {
+        log_change: &log_change,
+        status: 1,
+        output: verified,
         ..VERIFY
     };
-    check(
-        &rt,
-        &Case {
-            output: "log accepted, file not audited\n",
-            ..no_frames
-        },
-    )?;
-    check(
-        &rt,
-        &Case {
-            command: CHECK.command,
-            output: "file sound\nlog complete\n",
-            ..no_frames
-        },
-    )?;
-    // The log of `nearest,1,0,0`.
-    check(
-        &rt,
-        &Case {
-            log_change: &[(5, 2), (25, 1)],
-            output: "file sound\nframe 0 complete\nnearest,1,0,0\nhits 1\n0 7\nlog complete\n",
-            ..CHECK
-        },
-    )
+    check(rt, &verify);
+    let checking = Case {
+        log_change: &log_change,
+        status: 1,
+        output: checked,
+        ..CHECK
+    };
+    check(rt, &checking);
 }
 
-// Checks that changed logs are rejected: a byte of the log, and the lines of `verify`. The lines of `check` follow `file sound`.
 #[test]
-fn logs_that_are_rejected(rt: HostRuntime) -> Result<(), Fail> {
-    let rejected: [(usize, u8, &str, &str); 7] = [
-        (
-            35,
-            255,
-            "log rejected cut\n",
-            "file sound\nlog rejected cut\n",
-        ),
-        (
-            60,
-            3,
-            "log rejected mark\n",
-            "file sound\nlog rejected mark\n",
-        ),
-        (
-            59,
-            0,
-            "log rejected tail\n",
-            "file sound\nlog rejected tail\n",
-        ),
-        (
-            60,
-            1,
-            "frame 0 rejected wrongmark 0 0\nlog rejected\n",
-            "file sound\nframe 0 rejected wrongmark 0 0\nlog rejected\n",
-        ),
-        (
-            50,
-            8,
-            "frame 0 rejected wronganswer 0\nlog rejected\n",
-            "file sound\nframe 0 rejected wronganswer 0\nlog rejected\n",
-        ),
-        (
-            17,
-            3,
-            "frame 0 rejected otherstate 2 3 2 4\nlog rejected\n",
-            "file sound\nframe 0 rejected otherstate 2 3 2 4\nlog rejected\n",
-        ),
-        (
-            58,
-            3,
-            "frame 0 rejected wrongpage 0\nlog rejected\n",
-            "file sound\nframe 0 rejected wrongpage 0\nlog rejected\n",
-        ),
-    ];
-    for (at, byte, verified, checked) in &rejected {
-        let log_change = [(*at, *byte)];
-        let case = Case {
-            log_change: &log_change,
-            status: 1,
-            output: *verified,
-            ..VERIFY
-        };
-        check(&rt, &case)?;
-        check(
-            &rt,
-            &Case {
-                command: CHECK.command,
-                output: *checked,
-                ..case
-            },
-        )?;
+fn logs_that_are_rejected(rt: HostRuntime) {
+    for rejected in &REJECTED {
+        check_rejected(&rt, rejected);
     }
-    Ok(())
+}
+
+const CUT: Case<'static> = Case {
+    size: 68,
+    status: 1,
+    output: "log rejected cut\n",
+    ..VERIFY
+};
+
+const SECOND_FRAME: Case<'static> = Case {
+    frames: 2,
+    log_change: &[(60, 1)],
+    status: 1,
+    output: "frame 0 accepted\nframe 1 rejected wrongmark 0 0\nlog rejected\n",
+    ..VERIFY
+};
+
+#[test]
+fn a_cut_file_of_logs_and_a_second_frame(rt: HostRuntime) {
+    check(&rt, &CUT);
+    check(&rt, &SECOND_FRAME);
+}
+
+// Checks what `verify` and `check` say of the index in which the byte at `at` is `byte`.
+fn check_file<R: AllocGlobal + Abort + Threads + Sync>(
+    rt: &R,
+    at: usize,
+    byte: u8,
+    verified: (u8, &str),
+    checked: (u8, &str),
+) {
+    let verify = Case {
+        file_change: Some((at, byte)),
+        status: verified.0,
+        output: verified.1,
+        ..VERIFY
+    };
+    check(rt, &verify);
+    let checking = Case {
+        file_change: Some((at, byte)),
+        status: checked.0,
+        output: checked.1,
+        ..CHECK
+    };
+    check(rt, &checking);
+}
+
+// Rejects an index that is not sound, one that lost its root's page, and one of version 1.
+#[test]
+fn files_that_are_rejected(rt: HostRuntime) {
+    let unsound = (1, "file rejected count 2 1\n");
+    check_file(&rt, 8219, 2, (0, VERIFY.output), unsound);
+    let lost = (1, "frame 0 rejected page bad 4 kind\nlog rejected\n");
+    let page = (1, "file rejected page bad 4 kind\n");
+    check_file(&rt, 16384, 15, lost, page);
+    let version = (6, "fault notindex version\n");
+    check_file(&rt, 9, 1, version, version);
+}
+
+// Describes the call from which the disk fails, the calls of the logs and of out that fail, the status, and what is
+// written.
+type Failing = (Option<u64>, Option<u64>, Option<u64>, u8, &'static str);
+
+const FAILING: [Failing; 8] = [
+    (None, Some(0), None, 3, "fault input\n"),
+    (None, Some(1), None, 3, "fault input\n"),
+    (Some(0), Some(2), None, 3, "fault input\n"),
+    (None, None, Some(0), 4, ""),
+    (None, None, Some(1), 4, "file sound\n"),
+    (Some(0), None, None, 5, "fault disk\n"),
+    (Some(4), None, None, 5, "fault disk\n"),
+    (Some(5), None, None, 5, "file sound\nfault disk\n"),
+];
+
+// Checks a log on devices that fail.
+fn check_failing<R: AllocGlobal + Abort + Threads + Sync>(rt: &R, failing: &Failing) {
+    let (disk_stop, log_fails, out_fails, status, output) = *failing;
+    let case = Case {
+        disk_stop,
+        log_fails,
+        out_fails,
+        status,
+        output,
+        ..CHECK
+    };
+    check(rt, &case);
 }
 
 #[test]
-fn a_cut_file_of_logs_and_a_second_frame(rt: HostRuntime) -> Result<(), Fail> {
-    check(
-        &rt,
-        &Case {
-            size: 68,
-            status: 1,
-            output: "log rejected cut\n",
-            ..VERIFY
-        },
-    )?;
-    check(
-        &rt,
-        &Case {
-            frames: 2,
-            log_change: &[(60, 1)],
-            status: 1,
-            output: "frame 0 accepted\nframe 1 rejected wrongmark 0 0\nlog rejected\n",
-            ..VERIFY
-        },
-    )
-}
-
-// Checks that bad files are rejected: one that is not sound, one without its root's page, and one of version 1.
-#[test]
-fn files_that_are_rejected(rt: HostRuntime) -> Result<(), Fail> {
-    let cases: [(usize, u8, u8, &str, u8, &str); 3] = [
-        (8219, 2, 0, VERIFY.output, 1, "file rejected count 2 1\n"),
-        (
-            16384,
-            15,
-            1,
-            "frame 0 rejected page bad 4 kind\nlog rejected\n",
-            1,
-            "file rejected page bad 4 kind\n",
-        ),
-        (
-            9,
-            1,
-            6,
-            "fault notindex version\n",
-            6,
-            "fault notindex version\n",
-        ),
-    ];
-    for (at, byte, verify_status, verified, check_status, checked) in &cases {
-        let case = Case {
-            file_change: Some((*at, *byte)),
-            status: *verify_status,
-            output: *verified,
-            ..VERIFY
-        };
-        check(&rt, &case)?;
-        check(
-            &rt,
-            &Case {
-                command: CHECK.command,
-                status: *check_status,
-                output: *checked,
-                ..case
-            },
-        )?;
+fn devices_that_fail(rt: HostRuntime) {
+    for failing in &FAILING {
+        check_failing(&rt, failing);
     }
-    Ok(())
-}
-
-// Checks failing devices: the call of the disk, of the logs and of out from which each fails; the status; and what is written.
-#[test]
-fn devices_that_fail(rt: HostRuntime) -> Result<(), Fail> {
-    let cases: [(Option<u64>, Option<u64>, Option<u64>, u8, &str); 8] = [
-        (None, Some(0), None, 3, "fault input\n"),
-        (None, Some(1), None, 3, "fault input\n"),
-        (Some(0), Some(2), None, 3, "fault input\n"),
-        (None, None, Some(0), 4, ""),
-        (None, None, Some(1), 4, "file sound\n"),
-        (Some(0), None, None, 5, "fault disk\n"),
-        (Some(4), None, None, 5, "fault disk\n"),
-        (Some(5), None, None, 5, "file sound\nfault disk\n"),
-    ];
-    for (disk_stop, log_fails, out_fails, status, output) in &cases {
-        check(
-            &rt,
-            &Case {
-                disk_stop: *disk_stop,
-                log_fails: *log_fails,
-                out_fails: *out_fails,
-                status: *status,
-                output: *output,
-                ..CHECK
-            },
-        )?;
-    }
-    Ok(())
 }

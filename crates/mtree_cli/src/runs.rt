@@ -7,7 +7,6 @@ use disk_model::{MemoryDisk, SharedDisk};
 use outside_io::{MemorySink, MemorySource, Status};
 use std::alloc::{AllocError, Global};
 use std::process::Abort;
-use std::test::Fail;
 use std::thread::Threads;
 
 // The input of a run besides its indexes, and the call of its input, of its logs and of its output that fails.
@@ -49,15 +48,21 @@ pub fn with_logs<'a>(words: &'a str, logs: &'a [u8]) -> Given<'a> {
     }
 }
 
-// Returns a disk that holds `bytes` and fails from the call `stop` on.
-pub fn disk_of(alloc: Global, bytes: &[u8], stop: Option<u64>) -> Result<MemoryDisk, AllocError> {
-    let bytes = bytes.to_vec(alloc)?;
+// Makes a disk that holds `bytes`, and from the call `stop` on fails.
+pub fn disk(rt: &(impl AllocGlobal + Abort), bytes: &[u8], stop: Option<u64>) -> MemoryDisk {
     let room = (bytes.len() as u64).max(65536);
-    MemoryDisk::new(alloc, bytes, room, 1_000_000, Vec::new(alloc), stop)
+    let bytes = copied(rt, bytes);
+    let fails = Vec::new(rt.alloc());
+    MemoryDisk::new(rt.alloc(), bytes, room, 1_000_000, fails, stop).expect(rt, "memory")
+}
+
+// Copies bytes.
+fn copied(rt: &(impl AllocGlobal + Abort), bytes: &[u8]) -> Vec<u8> {
+    bytes.to_vec(rt.alloc()).expect(rt, "memory")
 }
 
 // Splits a line into words at its spaces.
-pub fn words(alloc: Global, line: &str) -> Result<Vec<String>, AllocError> {
+fn split(alloc: Global, line: &str) -> Result<Vec<String>, AllocError> {
     let mut words = Vec::new(alloc);
     for word in line.split(' ') {
         words.push(String::from_str(alloc, word)?)?;
@@ -65,36 +70,55 @@ pub fn words(alloc: Global, line: &str) -> Result<Vec<String>, AllocError> {
     Ok(words)
 }
 
-// Returns the list of the calls that fail: none or one.
-fn fails(alloc: Global, call: Option<u64>) -> Result<Vec<u64>, AllocError> {
-    let mut fails = Vec::new(alloc);
+// Splits a line into words at its spaces.
+pub fn words(rt: &(impl AllocGlobal + Abort), line: &str) -> Vec<String> {
+    split(rt.alloc(), line).expect(rt, "memory")
+}
+
+// Lists the calls that fail: none or one.
+fn fails(rt: &(impl AllocGlobal + Abort), call: Option<u64>) -> Vec<u64> {
+    let mut fails = Vec::new(rt.alloc());
     if let Some(call) = call {
-        fails.push(call)?;
+        fails.push(call).expect(rt, "memory");
     }
-    Ok(fails)
+    fails
+}
+
+// Makes a source that gives at most `piece` bytes at once, and of which the call `fail` fails.
+fn source(
+    rt: &(impl AllocGlobal + Abort),
+    bytes: &[u8],
+    piece: usize,
+    fail: Option<u64>,
+) -> MemorySource
+    requires { 1 ≤ piece }
+{
+    MemorySource::new(copied(rt, bytes), piece, fails(rt, fail))
+}
+
+// Makes a sink with room for `room` bytes, and of which the put `fail` fails.
+fn sink(rt: &(impl AllocGlobal + Abort), room: usize, fail: Option<u64>) -> MemorySink {
+    MemorySink::new(rt.alloc(), room, fails(rt, fail)).expect(rt, "memory")
 }
 
 // Runs words on two indexes, with sources that give at most `piece` bytes at once.
-pub fn run_on<R: Threads + Sync, D: SharedDisk>(
+pub fn run_on<R: AllocGlobal + Abort + Threads + Sync, D: SharedDisk>(
     rt: &R,
-    alloc: Global,
     given: &Given<'_>,
     piece: usize,
     index: &mut D,
     other: &mut MemoryDisk,
-) -> Result<Ran, Fail>
+) -> Ran
     requires { 1 ≤ piece }
 {
-    let words = words(alloc, given.words)?;
-    let input = given.input.to_vec(alloc)?;
-    let mut input = MemorySource::new(input, piece, fails(alloc, given.input_fails)?);
-    let logs = given.logs.to_vec(alloc)?;
-    let mut log_in = MemorySource::new(logs, piece, fails(alloc, given.logs_fail)?);
-    let mut out = MemorySink::new(alloc, 1000, fails(alloc, given.out_fails)?)?;
-    let mut log_out = MemorySink::new(alloc, 10000, Vec::new(alloc))?;
+    let words = words(rt, given.words);
+    let mut input = source(rt, given.input, piece, given.input_fails);
+    let mut log_in = source(rt, given.logs, piece, given.logs_fail);
+    let mut out = sink(rt, 1000, given.out_fails);
+    let mut log_out = sink(rt, 10000, None);
     let status = run(
         rt,
-        alloc,
+        rt.alloc(),
         &words,
         index,
         other,
@@ -103,46 +127,34 @@ pub fn run_on<R: Threads + Sync, D: SharedDisk>(
         &mut out,
         &mut log_out,
     );
-    Ok(Ran {
+    Ran {
         status,
-        out: out.written().to_vec(alloc)?,
-        log: log_out.written().to_vec(alloc)?,
-    })
+        out: copied(rt, out.written()),
+        log: copied(rt, log_out.written()),
+    }
 }
 
-// Runs words on two indexes, checks the status and what is written, and returns what is put to the log's output.
+// Runs words on two indexes, checks the status and what is written, and gives what is put to the log's output.
 pub fn check_both<R: AllocGlobal + Abort + Threads + Sync, D: SharedDisk>(
     rt: &R,
     given: &Given<'_>,
     index: &mut D,
     other: &mut MemoryDisk,
     (status, output): (u8, &str),
-) -> Result<Vec<u8>, Fail> {
-    let ran = run_on(rt, rt.alloc(), given, 50, index, other)?;
+) -> Vec<u8> {
+    let ran = run_on(rt, given, 50, index, other);
     assert!(rt; ran.out.as_slice() == output.as_bytes(), "{}", output);
     assert!(rt; ran.status == Status(status), "{}", output);
-    Ok(ran.log)
+    ran.log
 }
 
-// Runs words on one index, checks the status and what is written, and returns what is put to the log's output.
+// Runs words on one index, checks the status and what is written, and gives what is put to the log's output.
 pub fn check_run<R: AllocGlobal + Abort + Threads + Sync, D: SharedDisk>(
     rt: &R,
     given: &Given<'_>,
     index: &mut D,
     ended: (u8, &str),
-) -> Result<Vec<u8>, Fail> {
-    let mut other = disk_of(rt.alloc(), &[], None)?;
+) -> Vec<u8> {
+    let mut other = disk(rt, &[], None);
     check_both(rt, given, index, &mut other, ended)
-}
-
-// Runs several commands on one index, one after another, with their words, their inputs and their expected ends.
-pub fn check_runs<R: AllocGlobal + Abort + Threads + Sync, D: SharedDisk>(
-    rt: &R,
-    index: &mut D,
-    runs: &[(&str, &str, (u8, &str))],
-) -> Result<(), Fail> {
-    for (words, input, ended) in runs {
-        check_run(rt, &with_input(words, input), index, *ended)?;
-    }
-    Ok(())
 }

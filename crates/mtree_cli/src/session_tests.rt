@@ -1,215 +1,255 @@
-use crate::log_tests::{HEAD, place, small_index};
-use crate::runs::{Given, Ran, check_run, check_runs, disk_of, run_on, with_input, with_logs};
-use disk_model::SharedDisk;
+use crate::log_tests::{HEAD, blank, check_given, check_words, place, small_index};
+use crate::runs::{Given, Ran, check_run, disk, run_on, with_input, with_logs};
+use disk_model::{MemoryDisk, SharedDisk};
 use outside_io::Status;
 use std::alloc::{AllocError, Global};
 use std::process::Abort;
-use std::test::Fail;
 use std::thread::Threads;
 
-// Words that make an index of numbers.
+// Make an index of numbers.
 const CREATE: &str = "create a.mt --metric l1 --dim 1";
 
-// Sessions on new indexes: the words that make the index, the session's words, its script and its replies.
+const PLANE: &str = "create a.mt --metric l1 --dim 2";
+
+const SESSION: &str = "session a.mt --workers 2";
+
+const LOGGED: &str = "session a.mt --log a.log";
+
+const CHECK: &str = "check a.mt --log a.log";
+
+// Describes a session on a new index: the words that make it, those of the session, its script and its replies.
+type Session = (&'static str, &'static str, &'static str, &'static str);
+
+const SESSIONS: [Session; 7] = [
+    (CREATE, SESSION, "nearest,1,5\n", "hits 0\n"),
+    (
+        PLANE,
+        SESSION,
+        "insert,1,0\ninsert,0,1\nnearest,1,0,0\nnearest,0,0,0\ncount\n",
+        "id 0\nid 1\nhits 1\n0 1\nrefused count\ncount 2\n",
+    ),
+    (
+        "create a.mt --metric l1 --dim 1 --max 3",
+        SESSION,
+        "insert,1\ninsert,1\ninsert,1\ninsert,1\nload,1\n4\n",
+        "id 0\nid 1\nid 2\nrefused full\nrefused notempty\n",
+    ),
+    (
+        "create a.mt --metric l1 --dim 3",
+        SESSION,
+        "load,4\n255,0,0\n250,10,5\n0,0,255\n128,128,128\nnearest,2,252,9,6\nrange,400,252,9,6\n",
+        "loaded 4\nhits 2\n1 4\n0 18\nhits 3\n1 4\n0 18\n3 365\n",
+    ),
+    (
+        CREATE,
+        "session a.mt --tags show",
+        "tinsert,900,5\ninsert,7\nrange,10,5\ntload,2\n7,1\nx,2\n",
+        "id 0\nid 1\nhits 2\n0 900 0\n1 1 2\nrefused row 1\n",
+    ),
+    (
+        CREATE,
+        SESSION,
+        "insert,0\ninsert,10\ncursor,0\nnext,0,1\ninsert,1\nnext,0,5\nnext,0,1\nclose,0\nclose,0\n",
+        "id 0\nid 1\ncursor 0\nnext 1\n0 0\nid 2\nnext 1\n1 10\nnext 0\nclosed 0\nrefused nocursor\n",
+    ),
+    (
+        "create a.mt --metric kendall --dim 3",
+        SESSION,
+        "insert,0,1,2\ninsert,2,1,0\ninsert,0,0,1\nrange,1,1,0,2\n",
+        "id 0\nid 1\nrefused unfit\nhits 1\n0 1\n",
+    ),
+];
+
+// Checks a session on a new index.
+fn check_session<R: AllocGlobal + Abort + Threads + Sync>(rt: &R, session: &Session) {
+    let (create, words, script, replies) = *session;
+    let mut index = disk(rt, &[], None);
+    check_words(rt, create, "", &mut index, (0, "created\n"));
+    check_words(rt, words, script, &mut index, (0, replies));
+}
+
 #[test]
-fn sessions(rt: HostRuntime) -> Result<(), Fail> {
-    let plane = "create a.mt --metric l1 --dim 2";
-    let session = "session a.mt --workers 2";
-    let cases = [
-        (CREATE, session, "nearest,1,5\n", "hits 0\n"),
-        (
-            plane,
-            session,
-            "insert,1,0\ninsert,0,1\nnearest,1,0,0\nnearest,0,0,0\ncount\n",
-            "id 0\nid 1\nhits 1\n0 1\nrefused count\ncount 2\n",
-        ),
-        (
-            "create a.mt --metric l1 --dim 1 --max 3",
-            session,
-            "insert,1\ninsert,1\ninsert,1\ninsert,1\nload,1\n4\n",
-            "id 0\nid 1\nid 2\nrefused full\nrefused notempty\n",
-        ),
-        (
-            "create a.mt --metric l1 --dim 3",
-            session,
-            "load,4\n255,0,0\n250,10,5\n0,0,255\n128,128,128\nnearest,2,252,9,6\nrange,400,252,9,6\n",
-            "loaded 4\nhits 2\n1 4\n0 18\nhits 3\n1 4\n0 18\n3 365\n",
-        ),
-        (
-            CREATE,
-            "session a.mt --tags show",
-            "tinsert,900,5\ninsert,7\nrange,10,5\ntload,2\n7,1\nx,2\n",
-            "id 0\nid 1\nhits 2\n0 900 0\n1 1 2\nrefused row 1\n",
-        ),
-        (
-            CREATE,
-            session,
-            "insert,0\ninsert,10\ncursor,0\nnext,0,1\ninsert,1\nnext,0,5\nnext,0,1\nclose,0\nclose,0\n",
-            "id 0\nid 1\ncursor 0\nnext 1\n0 0\nid 2\nnext 1\n1 10\nnext 0\nclosed 0\nrefused nocursor\n",
-        ),
-        (
-            "create a.mt --metric kendall --dim 3",
-            session,
-            "insert,0,1,2\ninsert,2,1,0\ninsert,0,0,1\nrange,1,1,0,2\n",
-            "id 0\nid 1\nrefused unfit\nhits 1\n0 1\n",
-        ),
-    ];
-    for (create, session, script, replies) in cases {
-        let runs = [
-            (create, "", (0, "created\n")),
-            (session, script, (0, replies)),
-        ];
-        check_runs(&rt, &mut disk_of(rt.alloc(), &[], None)?, &runs)?;
+fn sessions(rt: HostRuntime) {
+    for session in &SESSIONS {
+        check_session(&rt, session);
+    }
+}
+
+// Checks that a session's log shows its answers, and that the index goes on in a second session.
+fn check_log<R: AllocGlobal + Abort + Threads + Sync, D: SharedDisk>(rt: &R, index: &mut D) {
+    check_words(rt, CREATE, "", index, (0, "created\n"));
+    let script = "insert,4\ninsert,9\nrange,3,6\n";
+    let replies = "id 0\nid 1\nhits 2\n0 2\n1 3\n";
+    let logs = check_run(rt, &with_input(LOGGED, script), index, (0, replies));
+    let checked = "file sound\nframe 0 complete\nrange,3,6\nhits 2\n0 2\n1 3\nlog complete\n";
+    check_given(rt, &with_logs(CHECK, &logs), index, (0, checked));
+    let counted = (0, "id 2\ncount 3\n");
+    check_words(rt, LOGGED, "insert,5\ncount\n", index, counted);
+    let shape = (0, "height 0\nobjects 3\nnodes 1\n0 3 - -\n");
+    check_words(rt, "shape a.mt", "", index, shape);
+}
+
+#[test]
+fn a_log_of_a_session(rt: HostRuntime) {
+    check_log(&rt, &mut disk(&rt, &[], None));
+}
+
+// Adds a line for each number below `count`, which stands between two texts.
+fn push_lines(
+    alloc: Global,
+    text: &mut String,
+    before: &str,
+    count: u32,
+    after: &str,
+) -> Result<(), AllocError> {
+    for i in 0..count {
+        let line = format!(in alloc; "{before}{i}{after}\n")?;
+        text.push_str(line.as_str())?;
     }
     Ok(())
 }
 
-// Checks that a session's log shows its answers, and that the index goes on in a second session.
-#[test]
-fn a_log_of_a_session(rt: HostRuntime) -> Result<(), Fail> {
-    let mut index = disk_of(rt.alloc(), &[], None)?;
-    check_run(&rt, &with_input(CREATE, ""), &mut index, (0, "created\n"))?;
-    let script = "insert,4\ninsert,9\nrange,3,6\n";
-    let replies = "id 0\nid 1\nhits 2\n0 2\n1 3\n";
-    let session = with_input("session a.mt --log a.log", script);
-    let logs = check_run(&rt, &session, &mut index, (0, replies))?;
-    let checked = "file sound\nframe 0 complete\nrange,3,6\nhits 2\n0 2\n1 3\nlog complete\n";
-    let check = with_logs("check a.mt --log a.log", &logs);
-    check_run(&rt, &check, &mut index, (0, checked))?;
-    let runs = [
-        (
-            "session a.mt --log a.log",
-            "insert,5\ncount\n",
-            (0, "id 2\ncount 3\n"),
-        ),
-        (
-            "shape a.mt",
-            "",
-            (0, "height 0\nobjects 3\nnodes 1\n0 3 - -\n"),
-        ),
-    ];
-    check_runs(&rt, &mut index, &runs)
+// Gives the text `first`, and below it a line for each number below `count`, which stands between two texts.
+fn lines(
+    rt: &(impl AllocGlobal + Abort),
+    first: &str,
+    before: &str,
+    count: u32,
+    after: &str,
+) -> String {
+    let mut text = String::from_str(rt.alloc(), first).expect(rt, "memory");
+    push_lines(rt.alloc(), &mut text, before, count, after).expect(rt, "memory");
+    text
 }
 
-// Returns inserts of the first `count` numbers from 0 on, and their replies.
-fn inserts(alloc: Global, count: u32) -> Result<(String, String), Fail> {
-    let mut script = String::new(alloc);
-    let mut replies = String::new(alloc);
+// Gives the hits of the numbers below `count` from the point 0, and behind them `last`.
+fn hits(rt: &(impl AllocGlobal + Abort), count: u32, last: &str) -> String {
+    let mut text = format!(in rt.alloc(); "hits {count}\n").expect(rt, "memory");
     for i in 0..count {
-        script.push_str(format!(in alloc; "insert,{i}\n")?.as_str())?;
-        replies.push_str(format!(in alloc; "id {i}\n")?.as_str())?;
+        let line = format!(in rt.alloc(); "{i} {i}\n").expect(rt, "memory");
+        text.push_str(line.as_str()).expect(rt, "memory");
     }
-    Ok((script, replies))
+    text.push_str(last).expect(rt, "memory");
+    text
 }
 
-// Returns the hits of the first `count` numbers from 0 on, from the point 0.
-fn hits(alloc: Global, count: u32) -> Result<String, Fail> {
-    let mut lines = format!(in alloc; "hits {count}\n")?;
-    for i in 0..count {
-        lines.push_str(format!(in alloc; "{i} {i}\n")?.as_str())?;
-    }
-    Ok(lines)
-}
-
-// Inserts the numbers from 0 on into a new index.
+// Inserts the numbers below `count` into a new index.
 fn insert_all<R: AllocGlobal + Abort + Threads + Sync, D: SharedDisk>(
     rt: &R,
     index: &mut D,
     count: u32,
-) -> Result<(), Fail> {
-    let (script, replies) = inserts(rt.alloc(), count)?;
-    let runs = [
-        (CREATE, "", (0, "created\n")),
-        ("session a.mt", script.as_str(), (0, replies.as_str())),
-    ];
-    check_runs(rt, index, &runs)
+) {
+    let script = lines(rt, "", "insert,", count, "");
+    let replies = lines(rt, "", "id ", count, "");
+    check_words(rt, CREATE, "", index, (0, "created\n"));
+    check_words(
+        rt,
+        "session a.mt",
+        script.as_str(),
+        index,
+        (0, replies.as_str()),
+    );
 }
 
-// Checks a query for the first three numbers of the index, and the log that shows them.
+// Asks for the first three of the index of numbers, and gives the log that shows them.
 fn check_range<R: AllocGlobal + Abort + Threads + Sync, D: SharedDisk>(
     rt: &R,
     index: &mut D,
-) -> Result<Vec<u8>, Fail> {
-    let alloc = rt.alloc();
-    let three = hits(alloc, 3)?;
-    let checked = format!(in alloc;
-        "file sound\nframe 0 complete\nrange,2,0\n{three}log complete\n"
-    )?;
-    let session = with_input("session a.mt --log a.log", "range,2,0\n");
-    let logs = check_run(rt, &session, index, (0, three.as_str()))?;
-    let check = with_logs("check a.mt --log a.log", &logs);
-    check_run(rt, &check, index, (0, checked.as_str()))?;
-    Ok(logs)
+) -> Vec<u8> {
+    let three = "hits 3\n0 0\n1 1\n2 2\n";
+    let checked = "file sound\nframe 0 complete\nrange,2,0\nhits 3\n0 0\n1 1\n2 2\nlog complete\n";
+    let logs = check_run(rt, &with_input(LOGGED, "range,2,0\n"), index, (0, three));
+    check_given(rt, &with_logs(CHECK, &logs), index, (0, checked));
+    logs
 }
 
-// Checks that the 33rd insert splits the leaf. The tree is searched, and a log is refused after a later insert, which uses free
-// pages again.
-#[test]
-fn a_leaf_is_split(rt: HostRuntime) -> Result<(), Fail> {
-    let alloc = rt.alloc();
-    let mut index = disk_of(alloc, &[], None)?;
-    insert_all(&rt, &mut index, 33)?;
-    let all = hits(alloc, 33)?;
-    let replies = format!(in alloc; "{all}refused count\n")?;
+// Asks for all of the index of 33 numbers, and for none.
+fn check_nearest<R: AllocGlobal + Abort + Threads + Sync, D: SharedDisk>(rt: &R, index: &mut D) {
+    let replies = hits(rt, 33, "refused count\n");
+    check_words(
+        rt,
+        "session a.mt",
+        "nearest,50,0\nnearest,0,0\n",
+        index,
+        (0, replies.as_str()),
+    );
+}
+
+// Splits a leaf by the 33rd insert, and searches its tree. After a later insert, which uses free pages again, a log is
+// refused.
+fn check_split<R: AllocGlobal + Abort + Threads + Sync, D: SharedDisk>(rt: &R, index: &mut D) {
+    insert_all(rt, index, 33);
     let shape = "height 1\nobjects 33\nnodes 3\n1 2 - -\n0 16 7 8\n0 17 24 8\n";
-    let nearest = "nearest,50,0\nnearest,0,0\n";
-    let runs = [
-        ("shape a.mt", "", (0, shape)),
-        ("audit a.mt", "", (0, "sound\nobjects 33\nnodes 3\n")),
-        ("session a.mt", nearest, (0, replies.as_str())),
-    ];
-    check_runs(&rt, &mut index, &runs)?;
-    let logs = check_range(&rt, &mut index)?;
-    let more = with_input("session a.mt", "insert,33\n");
-    check_run(&rt, &more, &mut index, (0, "id 33\n"))?;
-    let verify = with_logs("verify a.mt --log a.log", &logs);
+    check_words(rt, "shape a.mt", "", index, (0, shape));
+    let sound = (0, "sound\nobjects 33\nnodes 3\n");
+    check_words(rt, "audit a.mt", "", index, sound);
+    check_nearest(rt, index);
+    let logs = check_range(rt, index);
+    check_words(rt, "session a.mt", "insert,33\n", index, (0, "id 33\n"));
     let refused = "frame 0 rejected otherstate 34 6 35 7\nlog rejected\n";
-    check_run(&rt, &verify, &mut index, (1, refused))?;
-    Ok(())
+    let verify = with_logs("verify a.mt --log a.log", &logs);
+    check_given(rt, &verify, index, (1, refused));
 }
 
-// Checks loading all objects at once, and equal objects.
 #[test]
-fn a_load_and_equal_points(rt: HostRuntime) -> Result<(), Fail> {
-    let alloc = rt.alloc();
-    let mut rows = String::from_str(alloc, "load,33\n")?;
-    for i in 0..33u32 {
-        rows.push_str(format!(in alloc; "{i}\n")?.as_str())?;
-    }
-    let mut same = String::new(alloc);
-    let mut ids = String::new(alloc);
-    let mut found = String::from_str(alloc, "hits 40\n")?;
-    for i in 0..40u32 {
-        same.push_str("insert,5\n")?;
-        ids.push_str(format!(in alloc; "id {i}\n")?.as_str())?;
-        found.push_str(format!(in alloc; "{i} 0\n")?.as_str())?;
-    }
-    same.push_str("nearest,40,5\n")?;
-    ids.push_str(found.as_str())?;
-    let cases = [
-        (
-            rows.as_str(),
-            "loaded 33\n",
-            "height 1\nobjects 33\nnodes 5\n1 4 - -\n0 6 0 5\n0 7 8 4\n0 8 16 4\n0 12 24 8\n",
-        ),
-        (
-            same.as_str(),
-            ids.as_str(),
-            "height 1\nobjects 40\nnodes 4\n1 3 - -\n0 28 5 0\n0 6 5 0\n0 6 5 0\n",
-        ),
-    ];
-    for (script, replies, shape) in cases {
-        let runs = [
-            (CREATE, "", (0, "created\n")),
-            ("session a.mt", script, (0, replies)),
-            ("shape a.mt", "", (0, shape)),
-        ];
-        check_runs(&rt, &mut disk_of(alloc, &[], None)?, &runs)?;
-    }
-    Ok(())
+fn a_leaf_is_split(rt: HostRuntime) {
+    check_split(&rt, &mut disk(&rt, &[], None));
 }
 
-// A file with a changed byte: its place and the byte; the script of the session on it, its status and what is written.
+// Checks the replies to a script on a new index of numbers, and the shape of the index then.
+fn check_shape<R: AllocGlobal + Abort + Threads + Sync>(
+    rt: &R,
+    script: &str,
+    replies: &str,
+    shape: &str,
+) {
+    let mut index = disk(rt, &[], None);
+    check_words(rt, CREATE, "", &mut index, (0, "created\n"));
+    check_words(rt, "session a.mt", script, &mut index, (0, replies));
+    check_words(rt, "shape a.mt", "", &mut index, (0, shape));
+}
+
+// Loads 33 objects at once.
+fn check_load<R: AllocGlobal + Abort + Threads + Sync>(rt: &R) {
+    let rows = lines(rt, "load,33\n", "", 33, "");
+    let shape = "height 1\nobjects 33\nnodes 5\n1 4 - -\n0 6 0 5\n0 7 8 4\n0 8 16 4\n0 12 24 8\n";
+    check_shape(rt, rows.as_str(), "loaded 33\n", shape);
+}
+
+// Gives 40 inserts of the number 5, and a query for all of them.
+fn equal_inserts(rt: &(impl AllocGlobal + Abort)) -> String {
+    let mut text = String::new(rt.alloc());
+    for _ in 0..40 {
+        text.push_str("insert,5\n").expect(rt, "memory");
+    }
+    text.push_str("nearest,40,5\n").expect(rt, "memory");
+    text
+}
+
+// Gives the replies to them.
+fn equal_replies(rt: &(impl AllocGlobal + Abort)) -> String {
+    let mut text = lines(rt, "", "id ", 40, "");
+    let found = lines(rt, "hits 40\n", "", 40, " 0");
+    text.push_str(found.as_str()).expect(rt, "memory");
+    text
+}
+
+// Inserts 40 objects that are all the same.
+fn check_equal<R: AllocGlobal + Abort + Threads + Sync>(rt: &R) {
+    let script = equal_inserts(rt);
+    let replies = equal_replies(rt);
+    let shape = "height 1\nobjects 40\nnodes 4\n1 3 - -\n0 28 5 0\n0 6 5 0\n0 6 5 0\n";
+    check_shape(rt, script.as_str(), replies.as_str(), shape);
+}
+
+#[test]
+fn a_load_and_equal_points(rt: HostRuntime) {
+    check_load(&rt);
+    check_equal(&rt);
+}
+
+// Describes a file in which a byte is changed: the place and the byte, and a session's script, its status and what it
+// writes.
 type Hostile = (usize, u8, &'static str, u8, &'static str);
 
 const HOSTILE: [Hostile; 11] = [
@@ -238,29 +278,40 @@ const HOSTILE: [Hostile; 11] = [
     (9, 3, "range,7,0,0\n", 6, "fault notindex version\n"),
 ];
 
-// Runs sessions on files that are not sound.
-#[test]
-fn hostile_files(rt: HostRuntime) -> Result<(), Fail> {
-    let alloc = rt.alloc();
-    for (at, byte, script, status, output) in HOSTILE {
-        let mut file = small_index(alloc)?;
-        place(&mut file, at, &[byte]);
-        let mut index = disk_of(alloc, &file, None)?;
-        let session = with_input("session a.mt", script);
-        check_run(&rt, &session, &mut index, (status, output))?;
-    }
-    let mut cut = small_index(alloc)?;
-    cut.truncate(16384);
-    let mut index = disk_of(alloc, &cut, None)?;
-    let session = with_input("session a.mt", "range,7,0,0\n");
-    check_run(&rt, &session, &mut index, (6, "fault notindex slot\n"))?;
-    Ok(())
+// Makes the small index in which the byte at `at` is `byte`.
+fn changed(rt: &(impl AllocGlobal + Abort), at: usize, byte: u8) -> MemoryDisk {
+    let mut file = small_index(rt);
+    place(&mut file, at, &[byte]);
+    disk(rt, &file, None)
 }
 
-// Returns an index of numbers. Its root on page 3 has six entries, each at 0 and with the child `child`. Page 4 is a leaf of six
-// zeros.
-fn repeating(alloc: Global, child: u8) -> Result<Vec<u8>, AllocError> {
-    let mut file = vec![in alloc; 0u8; 20480]?;
+// Makes the small index without its last page.
+fn cut(rt: &(impl AllocGlobal + Abort)) -> MemoryDisk {
+    let mut file = small_index(rt);
+    file.truncate(16384);
+    disk(rt, &file, None)
+}
+
+// Checks a session on a file that is not sound.
+fn check_hostile<R: AllocGlobal + Abort + Threads + Sync>(rt: &R, hostile: &Hostile) {
+    let (at, byte, script, status, output) = *hostile;
+    let mut index = changed(rt, at, byte);
+    check_words(rt, "session a.mt", script, &mut index, (status, output));
+}
+
+#[test]
+fn hostile_files(rt: HostRuntime) {
+    for hostile in &HOSTILE {
+        check_hostile(&rt, hostile);
+    }
+    let slot = (6, "fault notindex slot\n");
+    check_words(&rt, "session a.mt", "range,7,0,0\n", &mut cut(&rt), slot);
+}
+
+// Gives an index of numbers whose root on page 3 has six entries, each at 0 and with the child `child`. Page 4 is a leaf
+// of six zeros.
+fn repeating(rt: &(impl AllocGlobal + Abort), child: u8) -> Vec<u8> {
+    let mut file = blank(rt, 5);
     place(&mut file, 0, &HEAD);
     place(&mut file, 11, &[1]);
     place(&mut file, 8192, &[0xa5]);
@@ -276,122 +327,141 @@ fn repeating(alloc: Global, child: u8) -> Result<Vec<u8>, AllocError> {
         place(&mut file, 12288 + 19 + entry, &[child]);
         place(&mut file, 16384 + 19 + entry, &[i]);
     }
-    Ok(file)
+    file
 }
 
-// Checks a page that is reached more than once.
+// Checks a session that reaches a page more than once.
+fn check_repeats<R: AllocGlobal + Abort + Threads + Sync>(
+    rt: &R,
+    child: u8,
+    script: &str,
+    output: &str,
+) {
+    let file = repeating(rt, child);
+    let mut index = disk(rt, &file, None);
+    check_words(rt, "session a.mt", script, &mut index, (9, output));
+}
+
 #[test]
-fn pages_that_repeat(rt: HostRuntime) -> Result<(), Fail> {
-    let alloc = rt.alloc();
-    let cases: [(u8, &str, &str); 3] = [
-        (4, "range,0,0\n", "fault damaged repeats 4\n"),
-        (
-            4,
-            "count\ninsert,0\n",
-            "count 36\nfault damaged repeats 4\n",
-        ),
-        (3, "range,0,0\n", "fault damaged repeats 3\n"),
-    ];
-    for (child, script, output) in cases {
-        let mut index = disk_of(alloc, &repeating(alloc, child)?, None)?;
-        let session = with_input("session a.mt", script);
-        check_run(&rt, &session, &mut index, (9, output))?;
-    }
-    Ok(())
+fn pages_that_repeat(rt: HostRuntime) {
+    let four = "fault damaged repeats 4\n";
+    check_repeats(&rt, 4, "range,0,0\n", four);
+    let counted = "count 36\nfault damaged repeats 4\n";
+    check_repeats(&rt, 4, "count\ninsert,0\n", counted);
+    check_repeats(&rt, 3, "range,0,0\n", "fault damaged repeats 3\n");
 }
 
-// Checks input and out that fail: no object is there, or only the object whose reply could not be put.
+// Checks a session whose input or output fails, and the count of objects after it.
+fn check_devices<R: AllocGlobal + Abort + Threads + Sync>(
+    rt: &R,
+    fails: (Option<u64>, Option<u64>),
+    ended: (u8, &str),
+    count: &str,
+) {
+    let mut index = disk(rt, &[], None);
+    check_words(rt, CREATE, "", &mut index, (0, "created\n"));
+    let failing = Given {
+        input_fails: fails.0,
+        out_fails: fails.1,
+        ..with_input("session a.mt", "insert,7\n")
+    };
+    check_given(rt, &failing, &mut index, ended);
+    check_words(rt, "session a.mt", "count\n", &mut index, (0, count));
+}
+
+// Finds no object where the input failed, and where the output failed the object whose reply could not be put.
 #[test]
-fn devices_of_a_session_fail(rt: HostRuntime) -> Result<(), Fail> {
-    let cases: [(Option<u64>, Option<u64>, u8, &str, &str); 2] = [
-        (Some(0), None, 3, "fault input\n", "count 0\n"),
-        (None, Some(0), 4, "", "count 1\n"),
-    ];
-    for (input_fails, out_fails, status, output, count) in cases {
-        let mut index = disk_of(rt.alloc(), &[], None)?;
-        check_run(&rt, &with_input(CREATE, ""), &mut index, (0, "created\n"))?;
-        let failing = Given {
-            input_fails,
-            out_fails,
-            ..with_input("session a.mt", "insert,7\n")
-        };
-        check_run(&rt, &failing, &mut index, (status, output))?;
-        let counted = with_input("session a.mt", "count\n");
-        check_run(&rt, &counted, &mut index, (0, count))?;
-    }
-    Ok(())
+fn devices_of_a_session_fail(rt: HostRuntime) {
+    check_devices(&rt, (Some(0), None), (3, "fault input\n"), "count 0\n");
+    check_devices(&rt, (None, Some(0)), (4, ""), "count 1\n");
 }
 
-// Returns the file of the first `count` numbers from 0 on.
-fn numbers(rt: &(impl AllocGlobal + Abort + Threads + Sync), count: u32) -> Result<Vec<u8>, Fail> {
-    let alloc = rt.alloc();
-    let mut index = disk_of(alloc, &[], None)?;
-    insert_all(rt, &mut index, count)?;
-    Ok(index.bytes().to_vec(alloc)?)
+// Makes the file of the numbers 0 to 30.
+fn numbers<R: AllocGlobal + Abort + Threads + Sync>(rt: &R) -> MemoryDisk {
+    let mut index = disk(rt, &[], None);
+    insert_all(rt, &mut index, 31);
+    index
 }
 
-// Runs a session, and returns its status and what it wrote.
+// Runs a session, and gives its status and what it wrote.
 fn run_session<R: AllocGlobal + Abort + Threads + Sync, D: SharedDisk>(
     rt: &R,
     index: &mut D,
     script: &str,
-) -> Result<Ran, Fail> {
-    let mut other = disk_of(rt.alloc(), &[], None)?;
+) -> Ran {
+    let mut other = disk(rt, &[], None);
     let given = with_input("session a.mt", script);
-    run_on(rt, rt.alloc(), &given, 100, index, &mut other)
+    run_on(rt, &given, 100, index, &mut other)
 }
 
-// Makes two more inserts on a disk that stops, and returns how many are acknowledged. The second insert splits the leaf.
+// Counts the inserts of 31 and 32 that a session acknowledged.
+fn acknowledged(ran: &Ran) -> Option<u32> {
+    let written = ran.out.as_slice();
+    if ran.status == Status(0) && written == b"id 31\nid 32\n".as_slice() {
+        Some(2)
+    } else if ran.status == Status(5) && written == b"fault disk\n".as_slice() {
+        Some(0)
+    } else if ran.status == Status(5) && written == b"id 31\nfault disk\n".as_slice() {
+        Some(1)
+    } else {
+        None
+    }
+}
+
+// Inserts 31 and 32 on a disk that stops, and counts the inserts that are acknowledged. The second splits the leaf.
 fn insert_two<R: AllocGlobal + Abort + Threads + Sync, D: SharedDisk>(
     rt: &R,
     index: &mut D,
-) -> Result<u32, Fail> {
-    let ran = run_session(rt, index, "insert,31\ninsert,32\n")?;
-    let written = ran.out.as_slice();
-    if ran.status == Status(0) {
-        assert!(rt; written == b"id 31\nid 32\n".as_slice());
-        return Ok(2);
-    }
-    assert!(rt; ran.status == Status(5));
-    if written == b"fault disk\n".as_slice() {
-        return Ok(0);
-    }
-    assert!(rt; written == b"id 31\nfault disk\n".as_slice());
-    Ok(1)
+) -> u32 {
+    let ran = run_session(rt, index, "insert,31\ninsert,32\n");
+    acknowledged(&ran).expect(rt, "an end")
 }
 
-// Checks that a file is sound and has `count` objects, or one more.
-fn check_left<R: AllocGlobal + Abort + Threads + Sync, D: SharedDisk>(
-    rt: &R,
-    index: &mut D,
-    count: u32,
-) -> Result<(), Fail> {
-    let alloc = rt.alloc();
-    let ran = run_session(rt, index, "count\n")?;
-    let more = count.saturating_add(1);
-    let here = format!(in alloc; "count {count}\n")?;
-    let next = format!(in alloc; "count {more}\n")?;
+// Lists what counts of 31 to 34 objects write.
+const COUNTS: [&str; 4] = ["count 31\n", "count 32\n", "count 33\n", "count 34\n"];
+
+// Says whether a session counted 31 objects and `more` more, or one more than that.
+fn has_counted(ran: &Ran, more: usize) -> bool {
     let written = ran.out.as_slice();
-    assert!(rt; ran.status == Status(0));
-    assert!(rt; written == here.as_bytes() || written == next.as_bytes());
-    Ok(())
+    let mut is_so = false;
+    for (i, count) in COUNTS.iter().enumerate() {
+        is_so = is_so || (more <= i && i <= more.saturating_add(1) && written == count.as_bytes());
+    }
+    is_so && ran.status == Status(0)
 }
 
-// Checks that a disk that stops at any of its calls leaves the objects that were acknowledged, or one more.
+// Checks that a file is sound and has 31 objects and `more` more, or one more than that.
+fn check_left<R: AllocGlobal + Abort + Threads + Sync>(rt: &R, file: &[u8], more: usize) {
+    let mut index = disk(rt, file, None);
+    let ran = run_session(rt, &mut index, "count\n");
+    assert!(rt; has_counted(&ran, more));
+}
+
+// Gives a file that a crash after the last call leaves.
+fn left_by(rt: &(impl AllocGlobal + Abort), index: &MemoryDisk, pick: u64) -> Vec<u8> {
+    index
+        .image(rt.alloc(), index.moments(), pick)
+        .expect(rt, "memory")
+}
+
+// Checks what a disk that stops at the call `stop` leaves: the objects that were acknowledged, or one more. Counts those
+// that were.
+fn check_stop<R: AllocGlobal + Abort + Threads + Sync>(rt: &R, file: &[u8], stop: u64) -> u32 {
+    let mut index = disk(rt, file, Some(stop));
+    let count = insert_two(rt, &mut index);
+    for pick in [0, 1, 165, 255] {
+        let image = left_by(rt, &index, pick);
+        check_left(rt, &image, count as usize);
+    }
+    count
+}
+
 #[test]
-fn a_session_is_stopped(rt: HostRuntime) -> Result<(), Fail> {
-    let alloc = rt.alloc();
-    let file = numbers(&rt, 31)?;
-    let mut acknowledged = 0;
+fn a_session_is_stopped(rt: HostRuntime) {
+    let numbers = numbers(&rt);
+    let mut count = 0;
     for stop in 0..40 {
-        let mut index = disk_of(alloc, &file, Some(stop))?;
-        acknowledged = insert_two(&rt, &mut index)?;
-        let count = acknowledged.saturating_add(31);
-        for pick in [0, 1, 165, 255] {
-            let image = index.image(alloc, index.moments(), pick)?;
-            check_left(&rt, &mut disk_of(alloc, &image, None)?, count)?;
-        }
+        count = check_stop(&rt, numbers.bytes(), stop);
     }
-    assert!(&rt; acknowledged == 2);
-    Ok(())
+    assert!(rt; count == 2);
 }

@@ -115,14 +115,7 @@ fn see_node<R: Ruler>(
         Node::Leaf(entries) => {
             let entries = entries.as_slice();
             let mut seen = Vec::with_capacity(alloc, entries.len())?;
-            note_leaf(
-                ruler,
-                probe,
-                above,
-                entries,
-                &mut machine.best,
-                &mut seen,
-            )?;
+            note_leaf(ruler, probe, above, entries, &mut machine.best, &mut seen)?;
             Ok(Seen::Objects(seen))
         }
         Node::Inner { entries, .. } => {

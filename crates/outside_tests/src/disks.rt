@@ -1,3 +1,5 @@
+ghost use Rattle.std.specs.Prelude.{◌≤◌, length};
+
 use disk_model::{
     Disk, Failed, FileDisk, FileProperty, Memory, MemoryDisk, SharedDisk, images_mix, looks_join,
     opening_then_stretch, read_may_be_left, stretch_goes_on, stretches_join, written_is_torn,
@@ -5,8 +7,8 @@ use disk_model::{
 use std::alloc::Global;
 use std::fs::{self, File, OpenOptions};
 use std::process::Abort;
-use std::test::Fail;
 
+// Is a call of a disk.
 enum Call {
     Size,
     Read,
@@ -16,19 +18,19 @@ enum Call {
 
 use Call::{Read, Size, Sync, Write};
 
-/// A run of a disk in memory that holds 1, 2, 3, has room for 8 bytes and a record of 20 units.
+// Is a run of a disk in memory that holds 1, 2, 3, has room for 8 bytes and a record of 20 units.
 struct Run {
     fails: &'static [u64],
     stop: Option<u64>,
     calls: &'static [Call],
     answers: &'static [bool],
     bytes: &'static [u8],
-    /// A moment, a pick and the image.
+    // Has a moment, a pick and the image.
     images: &'static [(u64, u64, &'static [u8])],
 }
 
 const RUNS: [Run; 9] = [
-    // Each pick.
+    // Shows each pick.
     Run {
         fails: &[],
         stop: None,
@@ -47,7 +49,7 @@ const RUNS: [Run; 9] = [
             (3, 5, &[1, 9, 8, 7]),
         ],
     },
-    // The range of a failed write is open, and what a read gives is as it was.
+    // Leaves the range of a failed write open, and what a read gives as it was.
     Run {
         fails: &[0],
         stop: None,
@@ -56,7 +58,7 @@ const RUNS: [Run; 9] = [
         bytes: &[1, 2, 3],
         images: &[(2, 0, &[1, 2, 3]), (2, 1, &[1, 9, 3]), (2, 5, &[1, 5, 3])],
     },
-    // A write past the room fails, and its end counts among the sizes.
+    // Fails a write past the room, whose end counts among the sizes.
     Run {
         fails: &[],
         stop: None,
@@ -68,7 +70,7 @@ const RUNS: [Run; 9] = [
             (2, 1, &[1, 2, 3, 0, 0, 0, 0, 4, 9]),
         ],
     },
-    // A gap is filled with 0.
+    // Fills a gap with 0.
     Run {
         fails: &[],
         stop: None,
@@ -81,7 +83,7 @@ const RUNS: [Run; 9] = [
             (1, 4, &[1, 2, 3, 4, 4, 4]),
         ],
     },
-    // A sync that failed closes nothing.
+    // Closes nothing by a sync that failed.
     Run {
         fails: &[1],
         stop: None,
@@ -90,7 +92,7 @@ const RUNS: [Run; 9] = [
         bytes: &[9, 2, 3],
         images: &[(2, 0, &[1, 2, 3]), (2, 1, &[9, 2, 3]), (2, 5, &[5, 2, 3])],
     },
-    // A call that has too few units left is not recorded, and a shorter one still is.
+    // Records no call that has too few units left, and still a shorter one.
     Run {
         fails: &[],
         stop: None,
@@ -110,7 +112,7 @@ const RUNS: [Run; 9] = [
             (6, 0, &[7, 7, 7, 7, 7, 7, 7, 7]),
         ],
     },
-    // A stop at each call.
+    // Stops at each call.
     Run {
         fails: &[],
         stop: Some(0),
@@ -137,7 +139,12 @@ const RUNS: [Run; 9] = [
     },
 ];
 
-/// Makes a call, and tells whether it answered `Ok`.
+// Ends a test in which `is_so` is false.
+pub(crate) fn holds(rt: &impl Abort, is_so: bool) {
+    assert!(rt; is_so);
+}
+
+// Makes a call, and says whether it answered `Ok`.
 fn make<D: Disk>(rt: &impl Abort, disk: &mut D, call: &Call) -> bool {
     match call {
         Size => disk.size().is_ok(),
@@ -150,60 +157,102 @@ fn make<D: Disk>(rt: &impl Abort, disk: &mut D, call: &Call) -> bool {
     }
 }
 
-/// Makes the calls of a run, and compares their answers.
+// Makes the calls of a run, and compares their answers.
 fn play<D: Disk>(rt: &impl Abort, disk: &mut D, run: &Run) {
     for (call, want) in run.calls.iter().zip(run.answers) {
-        assert!(rt; make(rt, disk, call) == *want);
+        holds(rt, make(rt, disk, call) == *want);
     }
 }
 
-/// Compares the images of a run.
-fn compare(rt: &impl Abort, alloc: Global, disk: &MemoryDisk, run: &Run) -> Result<(), Memory> {
-    for (moment, pick, want) in run.images {
-        assert!(rt; *moment <= disk.moments());
-        let image = disk.image(alloc, *moment, *pick)?;
-        assert!(rt; image.as_slice() == *want, "at {moment}, pick {pick}");
-    }
-    Ok(())
+// Compares an image of a disk.
+fn check_image(
+    rt: &(impl AllocGlobal + Abort),
+    disk: &MemoryDisk,
+    moment: u64,
+    pick: u64,
+    want: &[u8],
+) {
+    assert!(rt; moment <= disk.moments());
+    let image = disk.image(rt.alloc(), moment, pick).expect(rt, "memory");
+    assert!(rt; image.as_slice() == want, "at {moment}, pick {pick}");
 }
 
-fn check(rt: &impl Abort, alloc: Global, run: &Run) -> Result<(), Memory> {
+// Makes a disk that holds 1, 2, 3. The calls numbered in `fails` fail, and all from `stop` on.
+fn try_disk(alloc: Global, fails: &[u64], stop: Option<u64>) -> Result<MemoryDisk, Memory> {
     let first = [1, 2, 3].to_vec(alloc)?;
-    let mut disk = MemoryDisk::new(alloc, first, 8, 20, run.fails.to_vec(alloc)?, run.stop)?;
+    MemoryDisk::new(alloc, first, 8, 20, fails.to_vec(alloc)?, stop)
+}
+
+// Does the same, and ends the test where memory is lacking.
+fn disk_of(rt: &(impl AllocGlobal + Abort), fails: &[u64], stop: Option<u64>) -> MemoryDisk {
+    try_disk(rt.alloc(), fails, stop).expect(rt, "memory")
+}
+
+// Checks a run.
+fn check(rt: &(impl AllocGlobal + Abort), run: &Run) {
+    let mut disk = disk_of(rt, run.fails, run.stop);
     play(rt, &mut disk, run);
-    assert!(rt; disk.moments() == run.calls.len() as u64);
-    assert!(rt; disk.bytes() == run.bytes);
-    compare(rt, alloc, &disk, run)
-}
-
-#[test]
-fn a_disk_in_memory_shows_what_a_crash_may_leave(rt: HostRuntime) -> Result<(), Fail> {
-    for run in &RUNS {
-        check(&rt, rt.alloc(), run)?;
+    holds(rt, disk.moments() == run.calls.len() as u64);
+    holds(rt, disk.bytes() == run.bytes);
+    for (moment, pick, want) in run.images {
+        check_image(rt, &disk, *moment, *pick, want);
     }
-    Ok(())
 }
 
 #[test]
-fn a_read_past_the_end_gives_0(rt: HostRuntime) -> Result<(), Fail> {
-    let alloc = rt.alloc();
-    let mut disk = MemoryDisk::new(
-        alloc,
-        [1, 2, 3].to_vec(alloc)?,
-        8,
-        20,
-        Vec::new(alloc),
-        None,
-    )?;
+fn a_disk_in_memory_shows_what_a_crash_may_leave(rt: HostRuntime) {
+    for run in &RUNS {
+        check(&rt, run);
+    }
+}
+
+// Reads four bytes from `at` on.
+fn four_at<D: Disk>(rt: &impl Abort, disk: &mut D, at: u64) -> [u8; 4]
+    requires { at ≤ 100 }
+{
     let mut buf = [9; 4];
-    disk.read_at(2, &mut buf)?;
-    assert!(rt; buf == [3, 0, 0, 0]);
-    assert!(rt; disk.size()? == 3);
-    Ok(())
+    disk.read_at(at, &mut buf).expect(rt, "read");
+    buf
+}
+
+// Reads three bytes from 1 on.
+fn three_from_one<D: Disk>(rt: &impl Abort, disk: &mut D) -> [u8; 3] {
+    let mut buf = [9; 3];
+    disk.read_at(1, &mut buf).expect(rt, "read");
+    buf
+}
+
+// Writes bytes from `at` on, and says whether they are written.
+fn is_written<D: Disk>(disk: &mut D, at: u64, bytes: &[u8]) -> bool
+    requires at { at ≤ 100 }
+    requires few { length bytes.now ≤ 100 }
+{
+    disk.write_at(at, bytes).is_ok()
 }
 
 #[test]
-fn a_real_file_is_read_written_and_opened_again(rt: HostRuntime) -> Result<(), Fail> {
+fn a_read_past_the_end_gives_0(rt: HostRuntime) {
+    let mut disk = disk_of(&rt, &[], None);
+    holds(&rt, four_at(&rt, &mut disk, 2) == [3, 0, 0, 0]);
+    holds(&rt, disk.size() == Ok(3));
+}
+
+// Reads, writes and syncs a disk that is empty.
+fn check_empty<D: Disk>(rt: &impl Abort, disk: &mut D) {
+    holds(rt, four_at(rt, disk, 2) == [0, 0, 0, 0]);
+    holds(rt, is_written(disk, 3, &[7, 8]));
+    holds(rt, disk.sync() == Ok(()));
+    holds(rt, disk.size() == Ok(5));
+}
+
+// Reads that disk again where it may not be written.
+fn check_again<D: Disk>(rt: &impl Abort, disk: &mut D) {
+    holds(rt, four_at(rt, disk, 2) == [0, 7, 8, 0]);
+    holds(rt, !is_written(disk, 0, &[1]));
+}
+
+#[test]
+fn a_real_file_is_read_written_and_opened_again(rt: HostRuntime) {
     let path = "disk_of_a_test";
     let mut options = OpenOptions::new();
     let file = options
@@ -211,67 +260,51 @@ fn a_real_file_is_read_written_and_opened_again(rt: HostRuntime) -> Result<(), F
         .write(true)
         .create(true)
         .truncate(true)
-        .open(&rt, path)?;
-    let mut disk = FileDisk::new(file);
-    let mut buf = [9; 4];
-    disk.read_at(2, &mut buf)?;
-    assert!(rt; buf == [0, 0, 0, 0]);
-    disk.write_at(3, &[7, 8])?;
-    disk.sync()?;
-    assert!(rt; disk.size()? == 5);
-
-    let mut again = FileDisk::new(File::open(&rt, path)?);
-    again.read_at(2, &mut buf)?;
-    assert!(rt; buf == [0, 7, 8, 0]);
-    assert!(rt;
-        again.write_at(0, &[1]).is_err(),
-        "a file opened for reading alone"
-    );
-    fs::remove_file(&rt, path)?;
-    Ok(())
+        .open(&rt, path)
+        .expect(&rt, "made");
+    check_empty(&rt, &mut FileDisk::new(file));
+    let again = File::open(&rt, path).expect(&rt, "opened");
+    check_again(&rt, &mut FileDisk::new(again));
+    fs::remove_file(&rt, path).expect(&rt, "removed");
 }
 
-// A reader of a disk in memory reads what was written, and fails by the disk's own list of calls.
+// Reads by a reader on a disk that fails at its call 2, and then by the disk itself.
+fn check_reader<D: Disk, E: Disk>(rt: &impl Abort, disk: &mut D, reader: &mut E) {
+    holds(rt, three_from_one(rt, reader) == [2, 7, 0]);
+    holds(rt, reader.size() == Ok(3));
+    holds(rt, reader.size().is_err());
+    holds(rt, disk.size() == Ok(3));
+    holds(rt, disk.size().is_err());
+}
+
+// Reads what was written by a reader of a disk in memory, which fails by the disk's own list of calls.
 #[test]
-fn a_reader_reads_the_memory_as_it_is(rt: HostRuntime) -> Result<(), Fail> {
-    let alloc = rt.alloc();
-    let bytes = [1, 2, 3].to_vec(alloc)?;
-    let mut disk = MemoryDisk::new(alloc, bytes, 8, 20, [2].to_vec(alloc)?, None)?;
-    disk.write_at(2, &[7])?;
-    let mut reader = disk.reader(alloc).ok_or(Failed)?;
-    let mut found = [9; 3];
-    reader.read_at(1, &mut found)?;
-    assert!(rt; found == [2, 7, 0]);
-    assert!(rt; reader.size()? == 3);
-    assert!(rt; reader.size().is_err(), "it fails where the disk does");
-    assert!(rt; disk.size()? == 3);
-    assert!(rt; disk.size().is_err());
-    Ok(())
+fn a_reader_reads_the_memory_as_it_is(rt: HostRuntime) {
+    let mut disk = disk_of(&rt, &[2], None);
+    holds(&rt, is_written(&mut disk, 2, &[7]));
+    let mut reader = disk.reader(rt.alloc()).expect(&rt, "a reader");
+    check_reader(&rt, &mut disk, &mut reader);
 }
 
 #[test]
-fn a_reader_reads_the_file_as_it_is(rt: HostRuntime) -> Result<(), Fail> {
+fn a_reader_reads_the_file_as_it_is(rt: HostRuntime) {
     let path = "disk_of_a_reader";
-    fs::write(&rt, path, &[4, 5, 6])?;
-    let file = FileDisk::new(File::open(&rt, path)?);
-    let mut reader = file.reader(rt.alloc()).ok_or(Failed)?;
-    let mut found = [9; 3];
-    reader.read_at(1, &mut found)?;
-    assert!(rt; found == [5, 6, 0]);
-    fs::remove_file(&rt, path)?;
-    Ok(())
+    fs::write(&rt, path, &[4, 5, 6]).expect(&rt, "written");
+    let file = FileDisk::new(File::open(&rt, path).expect(&rt, "opened"));
+    let mut reader = file.reader(rt.alloc()).expect(&rt, "a reader");
+    holds(&rt, three_from_one(&rt, &mut reader) == [5, 6, 0]);
+    fs::remove_file(&rt, path).expect(&rt, "removed");
 }
 
-// The system refuses to sync the null device, so a disk over it fails: a sync of a real file asks the system.
+// Fails to sync a disk over the null device, which the system refuses. So a sync of a real file asks the system.
 #[test]
-fn a_sync_of_a_file_asks_the_system(rt: HostRuntime) -> Result<(), Fail> {
-    let mut disk = FileDisk::new(File::open(&rt, "/dev/null")?);
-    assert!(rt; disk.size()? == 0);
-    assert!(rt; disk.sync() == Err(Failed));
-    Ok(())
+fn a_sync_of_a_file_asks_the_system(rt: HostRuntime) {
+    let mut disk = FileDisk::new(File::open(&rt, "/dev/null").expect(&rt, "opened"));
+    holds(&rt, disk.size() == Ok(0));
+    holds(&rt, disk.sync() == Err(Failed));
 }
 
-/// What every file has.
+// Is what every file has.
 struct Any;
 
 impl FileProperty for Any {
@@ -279,9 +312,8 @@ impl FileProperty for Any {
 }
 
 #[test]
-fn the_laws_speak_of_a_disk_in_memory(rt: HostRuntime) -> Result<(), Fail> {
-    let alloc = rt.alloc();
-    let disk = MemoryDisk::new(alloc, Vec::new(alloc), 8, 20, Vec::new(alloc), None)?;
+fn the_laws_speak_of_a_disk_in_memory(rt: HostRuntime) {
+    let disk = disk_of(&rt, &[], None);
     images_mix(&disk);
     read_may_be_left(&disk);
     written_is_torn();
@@ -289,5 +321,4 @@ fn the_laws_speak_of_a_disk_in_memory(rt: HostRuntime) -> Result<(), Fail> {
     stretches_join::<MemoryDisk, Any>(&disk, &disk, &disk);
     stretch_goes_on::<MemoryDisk, Any>(&disk, &disk, &disk);
     opening_then_stretch::<MemoryDisk, Any>(&disk, &disk, &disk);
-    Ok(())
 }

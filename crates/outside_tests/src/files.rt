@@ -1,12 +1,13 @@
+use crate::disks::holds;
 use disk_model::Disk;
 use job_words::{FileNames, Makes};
-use named_files::{Folder, HostFolder, Named, open_files};
+use named_files::{Folder, HostFolder, open_files};
 use outside_io::{Sink, Source};
 use std::fs;
 use std::os::unix::fs::symlink;
-use std::test::Fail;
+use std::process::Abort;
 
-// The names of an index that is read and of a log that is written.
+// Names an index that is read and a log that is written.
 fn with_log<'a>(index: &'a str, log: &'a str) -> FileNames<&'a str> {
     FileNames {
         index: Some(index),
@@ -17,117 +18,151 @@ fn with_log<'a>(index: &'a str, log: &'a str) -> FileNames<&'a str> {
     }
 }
 
-// Whether the folder tells that the second name is one of the file `one`.
-fn is_one<F: Folder>(folder: &F, other: &str) -> bool {
-    folder.is_one_file("one", other)
-}
-
-#[test]
-fn no_file_is_read_and_written(rt: HostRuntime) -> Result<(), Fail> {
-    fs::write(&rt, "one", b"some")?;
-    fs::write(&rt, "two", b"more")?;
-    fs::hard_link(&rt, "one", "second")?;
-    symlink(&rt, "one", "linked")?;
-    let folder = HostFolder::new(&rt);
-    let names = [
-        ("one", true),
-        ("./one", true),
-        ("second", true),
-        ("linked", true),
-        ("two", false),
-        ("three", false),
-    ];
-    for (other, one) in &names {
-        assert!(rt; is_one(&folder, other) == *one, "{}", other);
-        let opened = open_files(HostFolder::new(&rt), &with_log("one", other));
-        assert!(rt; opened.is_ok() == !*one, "{}", other);
-    }
-    assert!(rt; fs::metadata(&rt, "one")?.len() == 4);
-    // A log is made anew.
-    assert!(rt; fs::metadata(&rt, "two")?.len() == 0);
-    assert!(rt; open_files(folder, &with_log("missing", "two")).is_err());
-    for name in ["one", "two", "three", "second", "linked"] {
-        fs::remove_file(&rt, name)?;
-    }
-    Ok(())
-}
-
-#[test]
-fn where_no_file_is_named(rt: HostRuntime) -> Result<(), Fail> {
-    let none = FileNames {
-        index: None,
-        writes: false,
-        other: None,
-        log_in: None,
-        makes: Makes::Nothing,
-    };
-    let mut files = open_files(HostFolder::new(&rt), &none).ok().ok_or("open")?;
-    let mut buf = [9; 2];
-    files.index.read_at(5, &mut buf)?;
-    assert!(rt; buf == [0, 0]);
-    assert!(rt; files.index.size()? == 0);
-    assert!(rt; files.log_in.take(&mut buf)? == 0);
-    files.log_out.put(b"gone")?;
-    Ok(())
-}
-
-// The index that a job reads or writes.
-fn index_alone(writes: bool) -> FileNames<&'static str> {
-    FileNames {
-        index: Some("held"),
-        writes,
-        other: None,
-        log_in: None,
-        makes: Makes::Nothing,
-    }
-}
-
-// Whether the index of these names can be opened.
+// Says whether the files of these names can be opened.
 fn opens(rt: &HostRuntime, names: &FileNames<&str>) -> bool {
     open_files(HostFolder::new(rt), names).is_ok()
 }
 
+// Says whether the folder tells that `other` is a name of the file `one`.
+fn is_one(rt: &HostRuntime, other: &str) -> bool {
+    HostFolder::new(rt).is_one_file("one", other)
+}
+
+// Writes a file, and says whether it is written.
+fn puts(rt: &HostRuntime, name: &str, bytes: &[u8]) -> bool {
+    fs::write(rt, name, bytes).is_ok()
+}
+
+// Removes a file, and says whether it is removed.
+fn removes(rt: &HostRuntime, name: &str) -> bool {
+    fs::remove_file(rt, name).is_ok()
+}
+
+// Gives the size of a file that is there.
+fn size_of(rt: &HostRuntime, name: &str) -> Option<u64> {
+    match fs::metadata(rt, name) {
+        Ok(known) => Some(known.len()),
+        Err(_) => None,
+    }
+}
+
+// Lists names, and whether each is one of the file `one`.
+const NAMES: [(&str, bool); 6] = [
+    ("one", true),
+    ("./one", true),
+    ("second", true),
+    ("linked", true),
+    ("two", false),
+    ("three", false),
+];
+
 #[test]
-fn an_index_is_written_alone_and_read_beside_readers(rt: HostRuntime) -> Result<(), Fail> {
-    fs::write(&rt, "held", b"some")?;
-    let read = index_alone(false);
-    let written = index_alone(true);
-    let made = FileNames {
-        makes: Makes::Index,
-        ..read
-    };
-    {
-        let _reader = open_files(HostFolder::new(&rt), &read).ok().ok_or("read")?;
-        assert!(rt; opens(&rt, &read));
-        assert!(rt; !opens(&rt, &written));
-        assert!(rt; !opens(&rt, &made));
+fn no_file_is_read_and_written(rt: HostRuntime) {
+    holds(&rt, puts(&rt, "one", b"some"));
+    holds(&rt, puts(&rt, "two", b"more"));
+    fs::hard_link(&rt, "one", "second").expect(&rt, "linked");
+    symlink(&rt, "one", "linked").expect(&rt, "linked");
+    for (other, one) in &NAMES {
+        assert!(rt; is_one(&rt, other) == *one, "{}", other);
+        assert!(rt; opens(&rt, &with_log("one", other)) != *one, "{}", other);
     }
-    {
-        let _writer = open_files(HostFolder::new(&rt), &written)
-            .ok()
-            .ok_or("write")?;
-        assert!(rt; !opens(&rt, &read));
-        assert!(rt; !opens(&rt, &written));
+    holds(&rt, size_of(&rt, "one") == Some(4));
+    // Makes the log anew.
+    holds(&rt, size_of(&rt, "two") == Some(0));
+    holds(&rt, !opens(&rt, &with_log("missing", "two")));
+    for name in ["one", "two", "three", "second", "linked"] {
+        holds(&rt, removes(&rt, name));
     }
-    assert!(rt; opens(&rt, &made));
-    fs::remove_file(&rt, "held")?;
-    Ok(())
+}
+
+// Names no file.
+const NONE: FileNames<&str> = FileNames {
+    index: None,
+    writes: false,
+    other: None,
+    log_in: None,
+    makes: Makes::Nothing,
+};
+
+// Reads zeros from an index that is not named.
+fn check_index<D: Disk>(rt: &impl Abort, index: &mut D) {
+    let mut buf = [9; 2];
+    holds(rt, index.read_at(5, &mut buf) == Ok(()));
+    holds(rt, buf == [0, 0]);
+    holds(rt, index.size() == Ok(0));
+}
+
+// Takes nothing from a log that is not named.
+fn check_log<S: Source>(rt: &impl Abort, log: &mut S) {
+    let mut buf = [9; 2];
+    holds(rt, log.take(&mut buf) == Ok(0));
+}
+
+// Puts bytes to a log that is not named.
+fn check_put<K: Sink>(rt: &impl Abort, log: &mut K) {
+    holds(rt, log.put(b"gone") == Ok(()));
 }
 
 #[test]
-fn an_index_is_not_emptied_for_a_log(rt: HostRuntime) -> Result<(), Fail> {
-    fs::write(&rt, "held", b"some")?;
-    fs::write(&rt, "begins", b"MTREEIDX and more")?;
-    fs::write(&rt, "short", b"MTREEID")?;
-    let cases = [("begins", false), ("short", true)];
-    for (log, is_made) in &cases {
-        let opened = open_files(HostFolder::new(&rt), &with_log("held", log));
-        assert!(rt; opened.is_ok() == *is_made, "{}", log);
+fn where_no_file_is_named(rt: HostRuntime) {
+    let opened = open_files(HostFolder::new(&rt), &NONE);
+    let mut files = opened.ok().expect(&rt, "opened");
+    check_index(&rt, &mut files.index);
+    check_log(&rt, &mut files.log_in);
+    check_put(&rt, &mut files.log_out);
+}
+
+// Names the index that a job reads.
+const READ: FileNames<&str> = FileNames {
+    index: Some("held"),
+    writes: false,
+    other: None,
+    log_in: None,
+    makes: Makes::Nothing,
+};
+
+// Names the index that a job writes.
+const WRITTEN: FileNames<&str> = FileNames {
+    writes: true,
+    ..READ
+};
+
+// Names the index that a job makes.
+const MADE: FileNames<&str> = FileNames {
+    makes: Makes::Index,
+    ..READ
+};
+
+// Says whether the files of `names` open while those of `held` are open.
+fn opens_beside(rt: &HostRuntime, held: &FileNames<&str>, names: &FileNames<&str>) -> Option<bool> {
+    match open_files(HostFolder::new(rt), held) {
+        Ok(_files) => Some(opens(rt, names)),
+        Err(_) => None,
     }
-    assert!(rt; fs::metadata(&rt, "begins")?.len() == 17);
-    assert!(rt; fs::metadata(&rt, "short")?.len() == 0);
+}
+
+#[test]
+fn an_index_is_written_alone_and_read_beside_readers(rt: HostRuntime) {
+    holds(&rt, puts(&rt, "held", b"some"));
+    holds(&rt, opens_beside(&rt, &READ, &READ) == Some(true));
+    holds(&rt, opens_beside(&rt, &READ, &WRITTEN) == Some(false));
+    holds(&rt, opens_beside(&rt, &READ, &MADE) == Some(false));
+    holds(&rt, opens_beside(&rt, &WRITTEN, &READ) == Some(false));
+    holds(&rt, opens_beside(&rt, &WRITTEN, &WRITTEN) == Some(false));
+    holds(&rt, opens(&rt, &MADE));
+    holds(&rt, removes(&rt, "held"));
+}
+
+#[test]
+fn an_index_is_not_emptied_for_a_log(rt: HostRuntime) {
+    holds(&rt, puts(&rt, "held", b"some"));
+    holds(&rt, puts(&rt, "begins", b"MTREEIDX and more"));
+    holds(&rt, puts(&rt, "short", b"MTREEID"));
+    holds(&rt, !opens(&rt, &with_log("held", "begins")));
+    holds(&rt, opens(&rt, &with_log("held", "short")));
+    holds(&rt, size_of(&rt, "begins") == Some(17));
+    holds(&rt, size_of(&rt, "short") == Some(0));
     for name in ["held", "begins", "short"] {
-        fs::remove_file(&rt, name)?;
+        holds(&rt, removes(&rt, name));
     }
-    Ok(())
 }

@@ -1,37 +1,43 @@
+ghost use Rattle.std.specs.Prelude.{◌≤◌, ◌^◌};
+
+use crate::disks::holds;
 use disk_model::{Disk, Failed};
 use slice_disk::SliceDisk;
-use std::test::Fail;
+use std::process::Abort;
 
-// Places, and what a read of three bytes there gives.
-#[test]
-fn reads_give_the_bytes_and_zeros_behind_them(rt: HostRuntime) -> Result<(), Fail> {
-    let file = [1u8, 2, 3, 4];
-    let cases = [
-        (0u64, [1u8, 2, 3]),
-        (1, [2, 3, 4]),
-        (2, [3, 4, 0]),
-        (3, [4, 0, 0]),
-        (4, [0, 0, 0]),
-        (1 << 36, [0, 0, 0]),
-    ];
-    let mut disk = SliceDisk::new(&file);
-    for (at, wanted) in &cases {
-        let mut found = [9u8; 3];
-        assert!(rt; disk.read_at(*at, found.as_mut_slice()) == Ok(()));
-        assert!(rt; found == *wanted);
-    }
-    assert!(rt; disk.size() == Ok(4));
-    Ok(())
+const FILE: [u8; 4] = [1, 2, 3, 4];
+
+// Checks what a read of three bytes from `at` on gives.
+fn check_read<D: Disk>(rt: &impl Abort, disk: &mut D, at: u64, wanted: [u8; 3])
+    requires { at ≤ 2 ^ 36 }
+{
+    let mut found = [9u8; 3];
+    holds(rt, disk.read_at(at, found.as_mut_slice()) == Ok(()));
+    holds(rt, found == wanted);
 }
 
 #[test]
-fn nothing_is_written(rt: HostRuntime) -> Result<(), Fail> {
-    let file = [1u8, 2, 3, 4];
-    let mut disk = SliceDisk::new(&file);
-    assert!(rt; disk.write_at(0, &[7]) == Err(Failed));
-    assert!(rt; disk.sync() == Err(Failed));
+fn reads_give_the_bytes_and_zeros_behind_them(rt: HostRuntime) {
+    let mut disk = SliceDisk::new(&FILE);
+    check_read(&rt, &mut disk, 0, [1, 2, 3]);
+    check_read(&rt, &mut disk, 1, [2, 3, 4]);
+    check_read(&rt, &mut disk, 2, [3, 4, 0]);
+    check_read(&rt, &mut disk, 3, [4, 0, 0]);
+    check_read(&rt, &mut disk, 4, [0, 0, 0]);
+    check_read(&rt, &mut disk, 1 << 36, [0, 0, 0]);
+    holds(&rt, disk.size() == Ok(4));
+}
+
+// Checks that a disk of four bytes is not written.
+fn check_unwritten<D: Disk>(rt: &impl Abort, disk: &mut D) {
+    holds(rt, disk.write_at(0, &[7]) == Err(Failed));
+    holds(rt, disk.sync() == Err(Failed));
     let mut found = [9u8; 4];
-    assert!(rt; disk.read_at(0, found.as_mut_slice()) == Ok(()));
-    assert!(rt; found == file);
-    Ok(())
+    holds(rt, disk.read_at(0, found.as_mut_slice()) == Ok(()));
+    holds(rt, found == FILE);
+}
+
+#[test]
+fn nothing_is_written(rt: HostRuntime) {
+    check_unwritten(&rt, &mut SliceDisk::new(&FILE));
 }

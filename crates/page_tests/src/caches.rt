@@ -14,18 +14,28 @@ use std::process::Abort;
 use std::test::Fail;
 use tree_shape::Node;
 
-// A disk that holds these bytes, of which these calls fail.
+// Ends a test in which `is_so` is false.
+pub(crate) fn holds(rt: &impl Abort, is_so: bool) {
+    assert!(rt; is_so);
+}
+
+// Makes a disk of `bytes` whose calls numbered in `fails` fail.
 fn disk_with(alloc: Global, bytes: Vec<u8>, fails: &[u64]) -> Result<MemoryDisk, Memory> {
     let room = bytes.len() as u64;
     MemoryDisk::new(alloc, bytes, room, 100, fails.to_vec(alloc)?, None)
 }
 
-// A disk that holds the two leaves and their root, of which these calls fail.
+// Makes a disk of the two leaves and their root whose calls numbered in `fails` fail.
 fn disk_of(alloc: Global, fails: &[u64]) -> Result<MemoryDisk, Memory> {
     disk_with(alloc, two_leaves(alloc, Vec::new(alloc), 4)?, fails)
 }
 
-// What a node shows of itself: its level, and the sum of its ids or of its children's pages.
+// Does the same, and ends the test where memory is lacking.
+fn disk(rt: &(impl AllocGlobal + Abort), fails: &[u64]) -> MemoryDisk {
+    disk_of(rt.alloc(), fails).expect(rt, "memory")
+}
+
+// Is what a node shows of itself: its level, and the sum of its ids or of its children's pages.
 type Shown = (u8, u32);
 
 const LEFT: Shown = (0, 120);
@@ -34,9 +44,10 @@ const RIGHT: Shown = (0, 408);
 
 const ROOT: Shown = (1, 7);
 
-// A page of zeros.
+// Is what a page of zeros shows.
 const EMPTY: Shown = (0, 0);
 
+// Gives what a node shows.
 fn shown(node: &Node) -> Shown {
     let mut sum = 0u32;
     match node {
@@ -55,7 +66,7 @@ fn shown(node: &Node) -> Shown {
     }
 }
 
-// What the node of one of some pages shows.
+// Gives what the node of `page` shows.
 fn ask<P: Pages>(alloc: Global, pages: &mut P, page: u32) -> Result<Shown, PageFault>
     ensures same { HoldsSame (P.shelf pages.old) (P.shelf pages.new) }
     ensures keeps { P.keeps pages.old pages.new }
@@ -64,7 +75,7 @@ fn ask<P: Pages>(alloc: Global, pages: &mut P, page: u32) -> Result<Shown, PageF
     Ok(shown(node.as_ref()))
 }
 
-// What that page is to answer, where its disk doesn't fail.
+// Gives what `page` is to answer, where its disk doesn't fail.
 fn expected(page: u32) -> Result<Shown, PageFault> {
     match page {
         3 => Ok(LEFT),
@@ -74,83 +85,108 @@ fn expected(page: u32) -> Result<Shown, PageFault> {
     }
 }
 
-// A cache of at most so many nodes answers these pages in turn, and makes so many calls of the disk.
-fn check_calls(
-    rt: &(impl AllocGlobal + Abort),
-    most: usize,
-    wanted: &[u32],
-    calls: u64,
-) -> Result<(), Fail>
+// Asks for the pages in `wanted` in turn, and checks their answers.
+fn check_pages<P: Pages>(rt: &(impl AllocGlobal + Abort), pages: &mut P, wanted: &[u32]) {
+    for page in wanted {
+        holds(rt, ask(rt.alloc(), pages, *page) == expected(*page));
+    }
+}
+
+// Asks a cache of at most `most` nodes for the pages in `wanted` in turn.
+fn check_cached<D: Disk>(rt: &(impl AllocGlobal + Abort), disk: &mut D, most: usize, wanted: &[u32])
     requires { 1 ≤ most }
 {
-    let alloc = rt.alloc();
-    let mut disk = disk_of(alloc, &[])?;
-    let mut pages = Cached::new(alloc, DiskPages::new(&mut disk, 1, 6), most)?;
-    for page in wanted {
-        assert!(rt; ask(alloc, &mut pages, *page) == expected(*page));
-    }
-    let (inner, _) = pages.into_parts();
-    assert!(rt; inner.disk.moments() == calls);
-    Ok(())
+    let pages = DiskPages::new(disk, 1, 6);
+    let mut pages = Cached::new(rt.alloc(), pages, most).expect(rt, "memory");
+    check_pages(rt, &mut pages, wanted);
+}
+
+// Checks that such a cache makes `calls` calls of the disk.
+fn check_calls(rt: &(impl AllocGlobal + Abort), most: usize, wanted: &[u32], calls: u64)
+    requires { 1 ≤ most }
+{
+    let mut disk = disk(rt, &[]);
+    check_cached(rt, &mut disk, most, wanted);
+    holds(rt, disk.moments() == calls);
 }
 
 #[test]
-fn a_kept_page_is_not_read_again(rt: HostRuntime) -> Result<(), Fail> {
-    check_calls(&rt, 256, &[5, 3, 5, 3], 2)?;
-    check_calls(&rt, 256, &[5, 2, 6, 3, 5, 2, 6, 3], 2)?;
-    check_calls(&rt, 1, &[5, 5, 3, 3, 5], 3)?;
-    // The page that was used last stays, and not the one that came last.
-    check_calls(&rt, 2, &[3, 4, 3, 5, 3, 4], 4)
+fn a_kept_page_is_not_read_again(rt: HostRuntime) {
+    check_calls(&rt, 256, &[5, 3, 5, 3], 2);
+    check_calls(&rt, 256, &[5, 2, 6, 3, 5, 2, 6, 3], 2);
+    check_calls(&rt, 1, &[5, 5, 3, 3, 5], 3);
+    // Keeps the page that was used last, and not the one that came last.
+    check_calls(&rt, 2, &[3, 4, 3, 5, 3, 4], 4);
 }
 
-#[test]
-fn all_pages_are_kept_where_there_is_room(rt: HostRuntime) -> Result<(), Fail> {
-    let alloc = rt.alloc();
+// Makes a disk of eight pages.
+fn eight_pages(alloc: Global) -> Result<MemoryDisk, Memory> {
     let mut bytes = two_leaves(alloc, Vec::new(alloc), 4)?;
     pad(&mut bytes, 8 * 4096)?;
-    let mut disk = disk_with(alloc, bytes, &[])?;
-    let mut pages = Cached::new(alloc, DiskPages::new(&mut disk, 1, 8), 5)?;
-    let wanted = [(3, LEFT), (4, RIGHT), (5, ROOT), (6, EMPTY), (7, EMPTY)];
-    for _ in 0..2 {
-        for (page, node) in &wanted {
-            assert!(rt; ask(alloc, &mut pages, *page) == Ok(*node));
-        }
+    disk_with(alloc, bytes, &[])
+}
+
+// Lists the last pages of that disk, and what they show.
+const EIGHT: [(u32, Shown); 5] = [(3, LEFT), (4, RIGHT), (5, ROOT), (6, EMPTY), (7, EMPTY)];
+
+// Asks for pages, and checks what they show.
+fn check_shown<P: Pages>(rt: &(impl AllocGlobal + Abort), pages: &mut P, cases: &[(u32, Shown)]) {
+    for (page, node) in cases {
+        holds(rt, ask(rt.alloc(), pages, *page) == Ok(*node));
     }
-    let (inner, kept) = pages.into_parts();
-    assert!(rt; (inner.disk.moments(), kept.len()) == (5, 5));
-    Ok(())
+}
+
+// Asks a cache twice for the last pages of that disk, and counts what it keeps.
+fn keep_eight<D: Disk>(rt: &(impl AllocGlobal + Abort), disk: &mut D) -> usize {
+    let pages = DiskPages::new(disk, 1, 8);
+    let mut pages = Cached::new(rt.alloc(), pages, 5).expect(rt, "memory");
+    check_shown(rt, &mut pages, &EIGHT);
+    check_shown(rt, &mut pages, &EIGHT);
+    let (_, kept) = pages.into_parts();
+    kept.len()
 }
 
 #[test]
-fn a_page_that_is_forgotten_is_read_again(rt: HostRuntime) -> Result<(), Fail> {
-    let alloc = rt.alloc();
-    let mut disk = disk_of(alloc, &[])?;
-    let mut pages = Cached::new(alloc, DiskPages::new(&mut disk, 1, 6), 9)?;
-    for page in [5, 3, 4] {
-        assert!(rt; ask(alloc, &mut pages, page) == expected(page));
-    }
+fn all_pages_are_kept_where_there_is_room(rt: HostRuntime) {
+    let mut disk = eight_pages(rt.alloc()).expect(&rt, "memory");
+    let kept = keep_eight(&rt, &mut disk);
+    holds(&rt, (disk.moments(), kept) == (5, 5));
+}
+
+// Forgets a page of a cache, asks for it again, and counts what is kept.
+fn forget_one<D: Disk>(rt: &(impl AllocGlobal + Abort), disk: &mut D) -> usize {
+    let pages = DiskPages::new(disk, 1, 6);
+    let mut pages = Cached::new(rt.alloc(), pages, 9).expect(rt, "memory");
+    check_pages(rt, &mut pages, &[5, 3, 4]);
     pages.forget(3);
     pages.forget(3);
-    for page in [5, 3, 4] {
-        assert!(rt; ask(alloc, &mut pages, page) == expected(page));
-    }
-    let (inner, kept) = pages.into_parts();
-    assert!(rt; (inner.disk.moments(), kept.len()) == (4, 3));
-    Ok(())
+    check_pages(rt, &mut pages, &[5, 3, 4]);
+    let (_, kept) = pages.into_parts();
+    kept.len()
 }
 
 #[test]
-fn a_refusal_keeps_what_is_kept(rt: HostRuntime) -> Result<(), Fail> {
+fn a_page_that_is_forgotten_is_read_again(rt: HostRuntime) {
+    let mut disk = disk(&rt, &[]);
+    let kept = forget_one(&rt, &mut disk);
+    holds(&rt, (disk.moments(), kept) == (4, 3));
+}
+
+// Asks a cache of one node on a disk whose second call fails.
+fn check_refusal<D: Disk>(rt: &(impl AllocGlobal + Abort), disk: &mut D) {
     let alloc = rt.alloc();
-    let mut disk = disk_of(alloc, &[1])?;
-    let mut pages = Cached::new(alloc, DiskPages::new(&mut disk, 1, 6), 1)?;
-    assert!(rt; ask(alloc, &mut pages, 3) == Ok(LEFT));
-    assert!(rt; ask(alloc, &mut pages, 4) == Err(PageFault::Disk));
-    assert!(rt; ask(alloc, &mut pages, 3) == Ok(LEFT));
-    assert!(rt; ask(alloc, &mut pages, 4) == Ok(RIGHT));
-    let (inner, _) = pages.into_parts();
-    assert!(rt; inner.disk.moments() == 3);
-    Ok(())
+    let mut pages = Cached::new(alloc, DiskPages::new(disk, 1, 6), 1).expect(rt, "memory");
+    holds(rt, ask(alloc, &mut pages, 3) == Ok(LEFT));
+    holds(rt, ask(alloc, &mut pages, 4) == Err(PageFault::Disk));
+    holds(rt, ask(alloc, &mut pages, 3) == Ok(LEFT));
+    holds(rt, ask(alloc, &mut pages, 4) == Ok(RIGHT));
+}
+
+#[test]
+fn a_refusal_keeps_what_is_kept(rt: HostRuntime) {
+    let mut disk = disk(&rt, &[1]);
+    check_refusal(&rt, &mut disk);
+    holds(&rt, disk.moments() == 3);
 }
 
 // Lends a cache to the pages of a disk for one ask.
@@ -172,7 +208,8 @@ fn look<D: Disk>(
     (answer, kept)
 }
 
-// Forgets pages that are written anew next: what is left agrees with the pages then, where the others hold what they held.
+// Forgets the pages in `written`, which are written anew next. What is left agrees with the pages then, where the others
+// hold what they held.
 fn forget_each(kept: &mut Kept, written: &[u32])
     ensures { (old new : Shelf) → GrowsTo old new → Agrees kept.old old
         → (IsTrue new.tells → (page : ℕ) → ¬ Contains written.now page → new.read page ≡ old.read page) → Agrees kept.new new }

@@ -1,11 +1,12 @@
+use crate::caches::holds;
 use node_page::{
     Head, HeadFault, NodeFault, Slot, decode_head, decode_node, decode_old_node, decode_slot,
     encode_head, encode_node, encode_slot,
 };
-use std::test::Fail;
+use std::process::Abort;
 use tree_shape::Node;
 
-// The head of a small index of points of two coordinates under L1.
+// Is the head of a small index of points of two coordinates under L1.
 const HEAD: Head = Head {
     version: 2,
     kind: 2,
@@ -19,149 +20,178 @@ const HEAD_BYTES: [u8; 20] = [
     0x4d, 0x54, 0x52, 0x45, 0x45, 0x49, 0x44, 0x58, 0, 2, 2, 2, 2, 1, 0, 0, 1, 0, 0, 0,
 ];
 
-// The page of that head.
+// Gives the page of that head.
 fn head_page() -> [u8; 4096] {
     let mut page = [0xffu8; 4096];
     encode_head(&HEAD, &mut page);
     page
 }
 
-// The page of a slot.
+// Gives the page of a slot.
 fn slot_page(slot: &Slot) -> [u8; 4096] {
     let mut page = [0xffu8; 4096];
     encode_slot(slot, &mut page);
     page
 }
 
-// The first bytes of a page.
+// Gives the first `count` bytes of a page.
 fn front(page: &[u8; 4096], count: usize) -> &[u8] {
     &page[..count.min(4096)]
 }
 
-// Whether the bytes from a place on are 0.
+// Says whether the bytes from `from` on are 0.
 fn is_zero_from(page: &[u8; 4096], from: usize) -> bool {
-    page.iter().skip(from).all(|byte| *byte == 0)
-}
-
-#[test]
-fn the_head_of_a_small_index(rt: HostRuntime) -> Result<(), Fail> {
-    let mut page = head_page();
-    assert!(rt; front(&page, 20) == HEAD_BYTES.as_slice());
-    assert!(rt; is_zero_from(&page, 20) == true);
-    assert!(rt; decode_head(&page) == Ok(HEAD));
-    page[9] = 1;
-    assert!(rt; decode_head(&page) == Ok(Head { version: 1, ..HEAD }));
-    Ok(())
-}
-
-// Heads with faults, each made of a sound one by bytes that are changed from the first fault to the last.
-#[test]
-fn a_head_is_refused_for_its_first_fault(rt: HostRuntime) -> Result<(), Fail> {
-    let faults = [
-        (4095, 1, HeadFault::Tail),
-        (14, 1, HeadFault::Tail),
-        (19, 1, HeadFault::Limit),
-        (13, 3, HeadFault::Policy),
-        (10, 9, HeadFault::Space),
-        (9, 3, HeadFault::Version),
-        (0, b'm', HeadFault::Magic),
-    ];
-    let mut page = head_page();
-    for (at, byte, fault) in &faults {
-        page[*at] = *byte;
-        assert!(rt; decode_head(&page) == Err(*fault));
+    let mut is_so = true;
+    for byte in &page[from.min(4096)..] {
+        is_so = is_so && *byte == 0;
     }
-    Ok(())
+    is_so
 }
 
-// The two slots of the small index after one commit.
-#[test]
-fn the_slots_of_a_small_index(rt: HostRuntime) -> Result<(), Fail> {
-    let slot = Slot {
-        gate: true,
-        generation: 2,
-        root: 4,
-        height: 0,
-        count: 1,
-        pages: 5,
-    };
-    let bytes = [
-        0xa5, 0, 0, 0, 0, 0, 0, 0, 0, 0, 0, 0, 0, 0, 0, 2, 0, 0, 0, 4, 0, 0, 0, 0, 0, 0, 0, 1, 0,
-        0, 0, 5,
-    ];
-    let mut page = slot_page(&slot);
-    assert!(rt; front(&page, 32) == bytes.as_slice());
-    assert!(rt; decode_slot(&page) == Some(slot));
-    // Each other byte is a closed gate.
-    page[0] = 0xa4;
-    assert!(rt;
-        decode_slot(&page)
-            == Some(Slot {
-                gate: false,
-                ..slot
-            })
-    );
-    page[4095] = 1;
-    assert!(rt; decode_slot(&page) == None);
-    Ok(())
-}
-
-// The root of the small index: one object with id 0, tag 0 and the point (3, 4); and pages with faults, each made by
-// bytes that are changed from the first fault to the last.
-#[test]
-fn a_leaf_is_read_or_refused_for_its_first_fault(rt: HostRuntime) -> Result<(), Fail> {
-    let mut page = [0u8; 4096];
-    page[3] = 1;
-    page[39] = 3;
-    page[43] = 4;
-    let node = decode_node(rt.alloc(), &page, 2).ok().ok_or("a leaf")?;
-    let Node::Leaf(entries) = node else {
-        return Err("an inner node".into());
-    };
-    assert!(rt; entries.as_slice().len() == 1);
-    assert!(rt; entries.as_slice()[0].id == 0);
-    assert!(rt; entries.as_slice()[0].point.as_slice() == [3u32, 4].as_slice());
-    let faults = [
-        (44, 1, NodeFault::Tail),
-        (30, 0x41, NodeFault::Distance),
-        (3, 33, NodeFault::Count),
-        (0, 15, NodeFault::Kind),
-    ];
-    for (at, byte, fault) in &faults {
-        page[*at] = *byte;
-        assert!(rt; decode_node(rt.alloc(), &page, 2).err() == Some(*fault));
+// Sets the byte at `at` of a page.
+fn put(page: &mut [u8; 4096], at: usize, byte: u8) {
+    if at < 4096 {
+        page[at] = byte;
     }
-    Ok(())
 }
 
 #[test]
-fn a_leaf_that_was_read_is_written_again(rt: HostRuntime) -> Result<(), Fail> {
+fn the_head_of_a_small_index(rt: HostRuntime) {
+    let mut page = head_page();
+    holds(&rt, front(&page, 20) == HEAD_BYTES.as_slice());
+    holds(&rt, is_zero_from(&page, 20));
+    holds(&rt, decode_head(&page) == Ok(HEAD));
+    put(&mut page, 9, 1);
+    holds(&rt, decode_head(&page) == Ok(Head { version: 1, ..HEAD }));
+}
+
+// Sets the byte at `at` of the page of a head, and checks the first fault then.
+fn check_head(rt: &impl Abort, page: &mut [u8; 4096], at: usize, byte: u8, fault: HeadFault) {
+    put(page, at, byte);
+    holds(rt, decode_head(page) == Err(fault));
+}
+
+// Makes heads with faults of a sound one, by bytes that are changed from the last fault to the first.
+#[test]
+fn a_head_is_refused_for_its_first_fault(rt: HostRuntime) {
+    let mut page = head_page();
+    check_head(&rt, &mut page, 4095, 1, HeadFault::Tail);
+    check_head(&rt, &mut page, 14, 1, HeadFault::Tail);
+    check_head(&rt, &mut page, 19, 1, HeadFault::Limit);
+    check_head(&rt, &mut page, 13, 3, HeadFault::Policy);
+    check_head(&rt, &mut page, 10, 9, HeadFault::Space);
+    check_head(&rt, &mut page, 9, 3, HeadFault::Version);
+    check_head(&rt, &mut page, 0, b'm', HeadFault::Magic);
+}
+
+// Is a slot of the small index after one commit.
+const SLOT: Slot = Slot {
+    gate: true,
+    generation: 2,
+    root: 4,
+    height: 0,
+    count: 1,
+    pages: 5,
+};
+
+const SLOT_BYTES: [u8; 32] = [
+    0xa5, 0, 0, 0, 0, 0, 0, 0, 0, 0, 0, 0, 0, 0, 0, 2, 0, 0, 0, 4, 0, 0, 0, 0, 0, 0, 0, 1, 0, 0, 0,
+    5,
+];
+
+#[test]
+fn the_slots_of_a_small_index(rt: HostRuntime) {
+    let mut page = slot_page(&SLOT);
+    holds(&rt, front(&page, 32) == SLOT_BYTES.as_slice());
+    holds(&rt, decode_slot(&page) == Some(SLOT));
+    // Closes the gate by another byte.
+    put(&mut page, 0, 0xa4);
+    let closed = Slot {
+        gate: false,
+        ..SLOT
+    };
+    holds(&rt, decode_slot(&page) == Some(closed));
+    put(&mut page, 4095, 1);
+    holds(&rt, decode_slot(&page) == None);
+}
+
+// Gives the page of a leaf of one object at (3, 4), whose second coordinate ends at `last`.
+fn leaf_page(last: usize) -> [u8; 4096] {
     let mut page = [0u8; 4096];
-    page[3] = 1;
-    page[39] = 3;
-    page[43] = 4;
-    let node = decode_node(rt.alloc(), &page, 2).ok().ok_or("a leaf")?;
+    put(&mut page, 3, 1);
+    put(&mut page, last.saturating_sub(4), 3);
+    put(&mut page, last, 4);
+    page
+}
+
+// Says whether a node is a leaf of one object with id 0 and tag 0 at (3, 4).
+fn is_leaf(node: &Node) -> bool {
+    match node {
+        Node::Leaf(entries) => match entries.as_slice() {
+            [entry] => {
+                (entry.id, entry.tag) == (0, 0) && entry.point.as_slice() == [3u32, 4].as_slice()
+            }
+            _ => false,
+        },
+        Node::Inner { .. } => false,
+    }
+}
+
+// Checks the node of a page.
+fn check_leaf(rt: &(impl AllocGlobal + Abort), page: &[u8; 4096]) {
+    let node = decode_node(rt.alloc(), page, 2).expect(rt, "a leaf");
+    holds(rt, is_leaf(&node));
+}
+
+// Sets the byte at `at` of the page of a leaf, and checks the first fault then.
+fn check_fault(
+    rt: &(impl AllocGlobal + Abort),
+    page: &mut [u8; 4096],
+    at: usize,
+    byte: u8,
+    fault: NodeFault,
+) {
+    put(page, at, byte);
+    holds(rt, decode_node(rt.alloc(), page, 2).err() == Some(fault));
+}
+
+// Reads the root of the small index, and pages with faults, made by bytes that are changed from the last fault to the first.
+#[test]
+fn a_leaf_is_read_or_refused_for_its_first_fault(rt: HostRuntime) {
+    let mut page = leaf_page(43);
+    check_leaf(&rt, &page);
+    check_fault(&rt, &mut page, 44, 1, NodeFault::Tail);
+    check_fault(&rt, &mut page, 30, 0x41, NodeFault::Distance);
+    check_fault(&rt, &mut page, 3, 33, NodeFault::Count);
+    check_fault(&rt, &mut page, 0, 15, NodeFault::Kind);
+}
+
+// Reads the node of a page, and writes it to another page.
+fn written_again(rt: &(impl AllocGlobal + Abort), page: &[u8; 4096]) -> [u8; 4096] {
+    let node = decode_node(rt.alloc(), page, 2).expect(rt, "a leaf");
     let mut written = [0xffu8; 4096];
     encode_node(&node, 2, &mut written);
-    assert!(rt; written == page);
-    Ok(())
+    written
 }
 
-// The root of the small index as the first version of the format has it: no tag, which is the id.
 #[test]
-fn a_leaf_of_the_first_version(rt: HostRuntime) -> Result<(), Fail> {
-    let mut page = [0u8; 4096];
-    page[3] = 1;
-    page[31] = 3;
-    page[35] = 4;
-    let node = decode_old_node(rt.alloc(), &page, 2).ok().ok_or("a leaf")?;
-    let Node::Leaf(entries) = node else {
-        return Err("an inner node".into());
-    };
-    assert!(rt; entries.as_slice().len() == 1);
-    assert!(rt; entries.as_slice()[0].tag == 0);
-    assert!(rt; entries.as_slice()[0].point.as_slice() == [3u32, 4].as_slice());
-    page[36] = 1;
-    assert!(rt; decode_old_node(rt.alloc(), &page, 2).err() == Some(NodeFault::Tail));
-    Ok(())
+fn a_leaf_that_was_read_is_written_again(rt: HostRuntime) {
+    let page = leaf_page(43);
+    holds(&rt, written_again(&rt, &page) == page);
+}
+
+// Checks the node of a page of the first version of the format.
+fn check_old_leaf(rt: &(impl AllocGlobal + Abort), page: &[u8; 4096]) {
+    let node = decode_old_node(rt.alloc(), page, 2).expect(rt, "a leaf");
+    holds(rt, is_leaf(&node));
+}
+
+// Reads the root of the small index as the first version of the format has it: with no tag, which is the id.
+#[test]
+fn a_leaf_of_the_first_version(rt: HostRuntime) {
+    let mut page = leaf_page(35);
+    check_old_leaf(&rt, &page);
+    put(&mut page, 36, 1);
+    let fault = decode_old_node(rt.alloc(), &page, 2).err();
+    holds(&rt, fault == Some(NodeFault::Tail));
 }

@@ -1,84 +1,126 @@
-ghost use Rattle.std.specs.Prelude.{◌≡◌, length, IfOk};
-
-use disk_model::MemoryDisk;
-use metric_laws::Listed;
+use crate::caches::holds;
+use disk_model::{Disk, MemoryDisk};
+use metric_laws::{Listed, Memory};
 use node_page::NodeFault;
 use page_store::{DiskPages, ImagePages, PageFault, Pages, Staged, laws};
-use std::alloc::{AllocError, Global};
+use std::alloc::Global;
 use std::process::Abort;
-use std::test::Fail;
 use tree_shape::Node;
 
-// A file of five pages, the last with one object of two coordinates as version 2 has it, and the one before with level 15.
-fn file(alloc: Global) -> Result<Vec<u8>, AllocError>
-    ensures { IfOk result (λ bytes. length bytes.items ≡ 20480) }
-{
-    let mut bytes = vec![in alloc; 0u8; 20480]?;
-    bytes[12288] = 15;
-    bytes[16387] = 1;
-    bytes[16423] = 3;
-    bytes[16427] = 4;
-    Ok(bytes)
-}
-
-// How many objects the leaf on a page has, and the coordinates of the first.
-fn check_pages<R: AllocGlobal + Abort, P: Pages>(rt: &R, pages: &mut P) -> Result<(), Fail> {
-    let alloc = rt.alloc();
-    assert!(rt; matches!(pages.node(alloc, 2), Err(PageFault::Outside(2))) == true);
-    assert!(rt; matches!(pages.node(alloc, 5), Err(PageFault::Outside(5))) == true);
-    assert!(rt;
-        matches!(
-            pages.node(alloc, 3),
-            Err(PageFault::Bad(3, NodeFault::Kind))
-        ) == true
-    );
-    let node = pages.node(alloc, 4)?;
-    match node.as_ref() {
-        Node::Leaf(entries) => {
-            assert!(rt; entries.as_slice().len() == 1);
-            let first = &entries.as_slice()[0];
-            assert!(rt; first.point.as_slice() == [3, 4].as_slice());
-        }
-        Node::Inner { .. } => assert!(rt; true == false),
+// Sets the byte at `at` of a file.
+fn put(bytes: &mut [u8], at: usize, byte: u8) {
+    if at < bytes.len() {
+        bytes[at] = byte;
     }
-    Ok(())
 }
 
-#[test]
-fn pages_of_a_file(rt: HostRuntime) -> Result<(), Fail> {
-    let alloc = rt.alloc();
-    let bytes = file(alloc)?;
+// Gives a file of five pages. The last has one object of two coordinates as version 2 has it, and the one before level 15.
+fn file(rt: &(impl AllocGlobal + Abort)) -> Vec<u8> {
+    let mut bytes = vec![in rt.alloc(); 0u8; 20480].expect(rt, "memory");
+    put(&mut bytes, 12288, 15);
+    put(&mut bytes, 16387, 1);
+    put(&mut bytes, 16423, 3);
+    put(&mut bytes, 16427, 4);
+    bytes
+}
+
+// Makes a disk of `bytes` that all calls from `stop` on fail.
+fn disk_of(alloc: Global, bytes: Vec<u8>, stop: Option<u64>) -> Result<MemoryDisk, Memory> {
+    let room = bytes.len() as u64;
+    MemoryDisk::new(alloc, bytes, room, 100, Vec::new(alloc), stop)
+}
+
+// Says why a page gives no node.
+fn fault_at<P: Pages>(alloc: Global, pages: &mut P, page: u32) -> Option<PageFault> {
+    pages.node(alloc, page).err()
+}
+
+// Says whether a node is a leaf of one object at (3, 4).
+fn is_leaf(node: &Node) -> bool {
+    match node {
+        Node::Leaf(entries) => match entries.as_slice() {
+            [entry] => entry.point.as_slice() == [3, 4].as_slice(),
+            _ => false,
+        },
+        Node::Inner { .. } => false,
+    }
+}
+
+// Says whether a page gives such a leaf.
+fn gives_leaf<P: Pages>(rt: &(impl AllocGlobal + Abort), pages: &mut P, page: u32) -> bool {
+    let node = pages.node(rt.alloc(), page).expect(rt, "a node");
+    is_leaf(node.as_ref())
+}
+
+// Checks what the pages of the file give.
+fn check_pages<P: Pages>(rt: &(impl AllocGlobal + Abort), pages: &mut P) {
+    let bad = PageFault::Bad(3, NodeFault::Kind);
+    holds(
+        rt,
+        fault_at(rt.alloc(), pages, 2) == Some(PageFault::Outside(2)),
+    );
+    holds(
+        rt,
+        fault_at(rt.alloc(), pages, 5) == Some(PageFault::Outside(5)),
+    );
+    holds(rt, fault_at(rt.alloc(), pages, 3) == Some(bad));
+    holds(rt, gives_leaf(rt, pages, 4));
+}
+
+// Checks the pages of the file in memory, and counts those that are asked for.
+fn asked_in_memory(rt: &(impl AllocGlobal + Abort)) -> u64 {
+    let bytes = file(rt);
     let mut pages = ImagePages::new(&bytes, 2, 5);
-    check_pages(&rt, &mut pages)?;
-    assert!(rt; pages.asked == 4);
-    let mut disk = MemoryDisk::new(alloc, file(alloc)?, 20480, 100, Vec::new(alloc), None)?;
-    let mut pages = DiskPages::new(&mut disk, 2, 5);
-    check_pages(&rt, &mut pages)?;
-    assert!(rt; pages.asked == 4);
-    Ok(())
+    check_pages(rt, &mut pages);
+    pages.asked
+}
+
+// Checks the pages of the file on a disk, and counts those that are asked for.
+fn asked_on<D: Disk>(rt: &(impl AllocGlobal + Abort), disk: &mut D) -> u64 {
+    let mut pages = DiskPages::new(disk, 2, 5);
+    check_pages(rt, &mut pages);
+    pages.asked
 }
 
 #[test]
-fn a_read_that_fails(rt: HostRuntime) -> Result<(), Fail> {
-    let alloc = rt.alloc();
-    let mut disk = MemoryDisk::new(alloc, file(alloc)?, 20480, 100, Vec::new(alloc), Some(0))?;
-    let mut pages = DiskPages::old(&mut disk, 2, 5);
-    assert!(rt; matches!(pages.node(alloc, 4), Err(PageFault::Disk)) == true);
-    Ok(())
+fn pages_of_a_file(rt: HostRuntime) {
+    holds(&rt, asked_in_memory(&rt) == 4);
+    let mut disk = disk_of(rt.alloc(), file(&rt), None).expect(&rt, "memory");
+    holds(&rt, asked_on(&rt, &mut disk) == 4);
+}
+
+// Says why page 4 of a disk with a file of version 1 gives no node.
+fn old_fault<D: Disk>(alloc: Global, disk: &mut D) -> Option<PageFault> {
+    let mut pages = DiskPages::old(disk, 2, 5);
+    fault_at(alloc, &mut pages, 4)
 }
 
 #[test]
-fn nodes_are_staged(rt: HostRuntime) -> Result<(), Fail> {
-    let alloc = rt.alloc();
-    let mut staged = Staged::new(alloc);
-    assert!(rt; staged.is_empty() == true);
-    staged.stage(7, Node::Leaf(Listed::new(Vec::new(alloc))))?;
+fn a_read_that_fails(rt: HostRuntime) {
+    let mut disk = disk_of(rt.alloc(), file(&rt), Some(0)).expect(&rt, "memory");
+    holds(
+        &rt,
+        old_fault(rt.alloc(), &mut disk) == Some(PageFault::Disk),
+    );
+}
+
+// Says whether a node is a leaf.
+fn is_any_leaf(node: &Node) -> bool {
+    matches!(node, Node::Leaf(_))
+}
+
+#[test]
+fn nodes_are_staged(rt: HostRuntime) {
+    let mut staged = Staged::new(rt.alloc());
+    holds(&rt, staged.is_empty());
+    let leaf = Node::Leaf(Listed::new(Vec::new(rt.alloc())));
+    staged.stage(7, leaf).expect(&rt, "memory");
     assert!(rt; staged.len() == 1);
-    assert!(rt; staged.page_at(0) == 7);
-    assert!(rt; staged.at(0).page == 7);
-    assert!(rt; matches!(staged.node_at(0), Node::Leaf(_)) == true);
-    assert!(rt; staged.get(7).is_some() == true);
-    assert!(rt; staged.get(8).is_none() == true);
+    holds(&rt, staged.page_at(0) == 7);
+    holds(&rt, staged.at(0).page == 7);
+    holds(&rt, is_any_leaf(staged.node_at(0)));
+    holds(&rt, staged.get(7).is_some());
+    holds(&rt, staged.get(8).is_none());
     staged.are_apart();
     laws::sound_trees_are_whole();
     laws::trees_stand_on_pages();
@@ -86,5 +128,4 @@ fn nodes_are_staged(rt: HostRuntime) -> Result<(), Fail> {
     laws::tour_has_one_course();
     laws::trees_go_on();
     laws::new_trees_stand();
-    Ok(())
 }

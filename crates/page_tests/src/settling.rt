@@ -1,12 +1,13 @@
 ghost use Rattle.std.specs.Prelude.{◌≡◌, ◌≤◌, ◌^◌, length, IfOk};
 
+use crate::caches::holds;
 use metric_laws::{Listed, Memory};
-use page_store::{NewTree, Numbering, Placed, RoomFault, settle};
+use page_store::{NewTree, Numbering, Placed, RoomFault, Staged, settle};
 use std::alloc::Global;
 use std::process::Abort;
 use tree_shape::{Live, Node};
 
-// Three empty leaves, the last of which is the root.
+// Makes three empty leaves. The last is the root.
 fn three_leaves(alloc: Global, root: u32) -> Result<NewTree, Memory>
     ensures { IfOk result (λ tree. (length tree.nodes.items ≡ 3) × (tree.root ≡ root) × (tree.height ≡ 0) × (tree.added ≡ 5)) }
 {
@@ -23,6 +24,7 @@ fn three_leaves(alloc: Global, root: u32) -> Result<NewTree, Memory>
     })
 }
 
+// Describes a live tree of two objects in a file of `pages` pages.
 fn live_of(pages: u32) -> Live
     ensures { (result.pages ≡ pages) × (result.count ≡ 2) × (result.generation ≡ 7) }
 {
@@ -36,7 +38,7 @@ fn live_of(pages: u32) -> Live
     }
 }
 
-// Three leaves on the pages 4, 7 and then the file's end.
+// Settles three leaves on the pages 4, 7 and then at the file's end.
 fn settled(alloc: Global, pages: u32) -> Result<Placed, RoomFault>
     requires low { 9 ≤ pages }
     requires high { pages ≤ 2 ^ 24 }
@@ -52,14 +54,19 @@ fn settled(alloc: Global, pages: u32) -> Result<Placed, RoomFault>
     settle(alloc, &numbering, &live_of(pages), tree)
 }
 
-#[test]
-fn new_nodes_get_the_numbers_and_then_pages_from_the_end(rt: HostRuntime) -> Result<(), RoomFault> {
-    let placed = settled(rt.alloc(), 9)?;
-    let pages = [4, 7, 9];
-    for place in 0..3 {
-        assert!(rt; place < placed.staged.len());
-        assert!(rt; placed.staged.page_at(place) == pages[place]);
+// Says whether the nodes are staged for `pages` in turn.
+fn are_staged(staged: &Staged, pages: &[u32]) -> bool {
+    let mut is_so = staged.len() == pages.len();
+    for place in 0..staged.len().min(pages.len()) {
+        is_so = is_so && staged.page_at(place) == pages[place];
     }
+    is_so
+}
+
+// Settles the leaves in a file of nine pages.
+fn check_settled(rt: &(impl AllocGlobal + Abort)) {
+    let placed = settled(rt.alloc(), 9).expect(rt, "settled");
+    holds(rt, are_staged(&placed.staged, &[4, 7, 9]));
     let next = Live {
         side: 0,
         generation: 8,
@@ -68,16 +75,22 @@ fn new_nodes_get_the_numbers_and_then_pages_from_the_end(rt: HostRuntime) -> Res
         count: 7,
         pages: 10,
     };
-    assert!(rt; placed.next == next);
+    holds(rt, placed.next == next);
+}
+
+// Settles the leaves in a file that has room for one page more, and gives its pages then.
+fn last_pages(rt: &(impl AllocGlobal + Abort)) -> u32 {
+    let placed = settled(rt.alloc(), 16_777_215).expect(rt, "settled");
+    placed.next.pages
+}
+
+#[test]
+fn new_nodes_get_the_numbers_and_then_pages_from_the_end(rt: HostRuntime) {
+    check_settled(&rt);
     let full = RoomFault::NoRoom {
         pages: 16_777_216,
         needed: 1,
     };
-    match settled(rt.alloc(), 16_777_216) {
-        Ok(_) => assert!(rt; false),
-        Err(fault) => assert!(rt; fault == full),
-    }
-    let last = settled(rt.alloc(), 16_777_215)?;
-    assert!(rt; last.next.pages == 16_777_216);
-    Ok(())
+    holds(&rt, settled(rt.alloc(), 16_777_216).err() == Some(full));
+    holds(&rt, last_pages(&rt) == 16_777_216);
 }

@@ -1,14 +1,15 @@
+use crate::given::{holds, leaves, torn_leaves};
 use metric_laws::{Memory, Meter, Point, Ruler};
 use node_page::NodeFault;
 use page_store::{ImagePages, PageFault};
 use pin_cursor::{Cursor, Stepped};
 use scan_model::Hit;
-use small_trees::two_leaves;
 use std::alloc::Global;
 use std::process::Abort;
 use tree_shape::Live;
 use vector_kinds::L1;
 
+// Describes the live tree of the numbers 0 to 32.
 const LIVE: Live = Live {
     side: 0,
     generation: 1,
@@ -18,15 +19,19 @@ const LIVE: Live = Live {
     pages: 6,
 };
 
-// A cursor at this number.
-fn cursor_at(alloc: Global, q: u32) -> Result<Cursor, Memory> {
+// Opens a cursor at the number `q`.
+fn try_cursor(alloc: Global, q: u32) -> Result<Cursor, Memory> {
     Cursor::open(alloc, LIVE, Point::new(alloc, &[q])?)
 }
 
-// The next n hits.
+// Does the same, and ends the test where memory is lacking.
+fn cursor_at(rt: &(impl AllocGlobal + Abort), q: u32) -> Cursor {
+    try_cursor(rt.alloc(), q).expect(rt, "memory")
+}
+
+// Takes the next `n` hits, and counts the pages asked for.
 fn take(
-    rt: &impl Abort,
-    alloc: Global,
+    rt: &(impl AllocGlobal + Abort),
     bytes: &[u8],
     cursor: &mut Cursor,
     n: u64,
@@ -35,120 +40,142 @@ fn take(
     let mut ruler = Meter::new(L1::new(1));
     assert!(rt; ruler.fits(cursor.point()));
     assert!(rt; n >= 1);
-    let stepped = cursor.step(alloc, &mut pages, &mut ruler, n);
+    let stepped = cursor.step(rt.alloc(), &mut pages, &mut ruler, n);
     (stepped, pages.asked)
 }
 
-// The same, where no step is refused.
-fn given(rt: &impl Abort, alloc: Global, bytes: &[u8], cursor: &mut Cursor, n: u64) -> Stepped {
-    let (Ok(stepped), _) = take(rt, alloc, bytes, cursor, n) else {
-        panic!(rt; "a step is refused");
-    };
-    stepped
+// Takes the next `n` hits, where no step is refused.
+fn given(rt: &(impl AllocGlobal + Abort), bytes: &[u8], cursor: &mut Cursor, n: u64) -> Stepped {
+    let (stepped, _) = take(rt, bytes, cursor, n);
+    stepped.expect(rt, "a step")
 }
 
-// The objects by their distance from 16, then by id.
-fn from_sixteen(alloc: Global) -> Result<Vec<Hit>, Memory> {
-    let mut hits = Vec::new(alloc);
-    hits.push(Hit { id: 16, dist: 0 })?;
-    for dist in 1u32..17 {
-        for id in [16 - dist, 16 + dist] {
-            hits.push(Hit {
-                id,
-                dist: u64::from(dist),
-            })?;
-        }
+// Lists the numbers 0 to 32 by their distance from 16, then by number.
+const FROM_SIXTEEN: [u32; 33] = [
+    16, 15, 17, 14, 18, 13, 19, 12, 20, 11, 21, 10, 22, 9, 23, 8, 24, 7, 25, 6, 26, 5, 27, 4, 28,
+    3, 29, 2, 30, 1, 31, 0, 32,
+];
+
+// Says whether `hits` have these ids and lie at their distances from 16.
+fn are_from_sixteen(hits: &[Hit], ids: &[u32]) -> bool {
+    let mut is_so = hits.len() == ids.len();
+    for (hit, id) in hits.iter().zip(ids) {
+        is_so = is_so && hit.id == *id && hit.dist == u64::from(id.abs_diff(16));
     }
-    Ok(hits)
+    is_so
 }
 
-#[test]
-fn all_objects_come_in_order_in_steps_of_any_length(rt: HostRuntime) -> Result<(), Memory> {
-    let bytes = two_leaves(rt.alloc(), Vec::new(rt.alloc()), 4)?;
-    let all = from_sixteen(rt.alloc())?;
-    for n in [1, 2, 5, 33, 100] {
-        let mut cursor = cursor_at(rt.alloc(), 16)?;
-        let mut hits: Vec<Hit> = Vec::new(rt.alloc());
-        for _ in 0..35 {
-            let stepped = given(&rt, rt.alloc(), &bytes, &mut cursor, n);
-            hits.extend_from_slice(stepped.hits.as_slice())?;
-        }
-        assert!(rt; hits.as_slice() == all.as_slice());
-        assert!(rt; cursor.given() == 33);
-    }
-    Ok(())
-}
-
-#[test]
-fn each_hit_has_its_tag(rt: HostRuntime) -> Result<(), Memory> {
-    let bytes = two_leaves(rt.alloc(), Vec::new(rt.alloc()), 4)?;
-    let mut cursor = cursor_at(rt.alloc(), 0)?;
-    let stepped = given(&rt, rt.alloc(), &bytes, &mut cursor, 4);
-    assert!(rt; stepped.tags.as_slice() == [100, 101, 102, 103].as_slice());
-    assert!(rt; cursor.live() == LIVE);
-    Ok(())
-}
-
-// Of the first step at a number: how many hits it gives, and how many pages are asked for.
-#[test]
-fn a_leaf_is_read_when_it_may_hold_the_next(rt: HostRuntime) -> Result<(), Memory> {
-    let bytes = two_leaves(rt.alloc(), Vec::new(rt.alloc()), 4)?;
-    for (q, n, asked) in [(3, 4, 2), (16, 1, 2), (16, 2, 3), (30, 3, 2), (0, 33, 3)] {
-        let mut cursor = cursor_at(rt.alloc(), q)?;
-        let (stepped, count) = take(&rt, rt.alloc(), &bytes, &mut cursor, n);
-        assert!(rt; stepped.is_ok());
-        assert!(rt; (cursor.given(), count) == (n, asked));
-    }
-    Ok(())
-}
-
-// The ids of the next n hits of a cursor at 0.
-fn ids_from(
-    rt: &impl Abort,
-    alloc: Global,
+// Takes all hits of a cursor at 16, in 35 steps of `n` hits.
+fn all_in_steps(
+    rt: &(impl AllocGlobal + Abort),
     bytes: &[u8],
     cursor: &mut Cursor,
     n: u64,
-) -> Result<Vec<u32>, Memory> {
-    let stepped = given(rt, alloc, bytes, cursor, n);
-    let mut ids = Vec::new(alloc);
-    for hit in stepped.hits.as_slice() {
-        ids.push(hit.id)?;
+) -> Vec<Hit> {
+    let mut hits: Vec<Hit> = Vec::new(rt.alloc());
+    for _ in 0..35 {
+        let stepped = given(rt, bytes, cursor, n);
+        hits.extend_from_slice(stepped.hits.as_slice())
+            .expect(rt, "memory");
     }
-    Ok(ids)
+    hits
 }
 
-// The leaf of page 4 is damaged at the second step, and whole at the third.
-#[test]
-fn a_step_that_is_refused_leaves_the_cursor(rt: HostRuntime) -> Result<(), Memory> {
-    let good = two_leaves(rt.alloc(), Vec::new(rt.alloc()), 4)?;
-    let mut torn = two_leaves(rt.alloc(), Vec::new(rt.alloc()), 4)?;
-    if let Some(level) = torn.get_mut(4 * 4096) {
-        *level = 99;
-    }
-    let mut cursor = cursor_at(rt.alloc(), 0)?;
-    let first = ids_from(&rt, rt.alloc(), &torn, &mut cursor, 3)?;
-    assert!(rt; first.as_slice() == [0, 1, 2].as_slice());
-    let (refused, _) = take(&rt, rt.alloc(), &torn, &mut cursor, 20);
-    assert!(rt; refused.err() == Some(PageFault::Bad(4, NodeFault::Kind)));
-    assert!(rt; cursor.given() == 3);
-    let next = ids_from(&rt, rt.alloc(), &good, &mut cursor, 2)?;
-    assert!(rt; next.as_slice() == [3, 4].as_slice());
-    Ok(())
-}
-
-// Why a step is refused, where a root's second child is this page.
-fn refusal(rt: &impl Abort, alloc: Global, second: u32) -> Result<Option<PageFault>, Memory> {
-    let bytes = two_leaves(alloc, Vec::new(alloc), second)?;
-    let mut cursor = cursor_at(alloc, 0)?;
-    let (stepped, _) = take(rt, alloc, &bytes, &mut cursor, 200);
-    Ok(stepped.err())
+// Checks that steps of `n` hits give all objects in order.
+fn check_steps(rt: &(impl AllocGlobal + Abort), bytes: &[u8], n: u64) {
+    let mut cursor = cursor_at(rt, 16);
+    let hits = all_in_steps(rt, bytes, &mut cursor, n);
+    holds(rt, are_from_sixteen(hits.as_slice(), &FROM_SIXTEEN));
+    holds(rt, cursor.given() == 33);
 }
 
 #[test]
-fn a_step_is_refused_where_it_meets_a_fault(rt: HostRuntime) -> Result<(), Memory> {
-    assert!(rt; refusal(&rt, rt.alloc(), 4)? == None);
-    assert!(rt; refusal(&rt, rt.alloc(), 9)? == Some(PageFault::Outside(9)));
-    assert!(rt; refusal(&rt, rt.alloc(), 5)? == Some(PageFault::Repeats(5)));
-    Ok(())
+fn all_objects_come_in_order_in_steps_of_any_length(rt: HostRuntime) {
+    let bytes = leaves(&rt, 4);
+    for n in [1, 2, 5, 33, 100] {
+        check_steps(&rt, &bytes, n);
+    }
+}
+
+#[test]
+fn each_hit_has_its_tag(rt: HostRuntime) {
+    let bytes = leaves(&rt, 4);
+    let mut cursor = cursor_at(&rt, 0);
+    let stepped = given(&rt, &bytes, &mut cursor, 4);
+    holds(
+        &rt,
+        stepped.tags.as_slice() == [100, 101, 102, 103].as_slice(),
+    );
+    holds(&rt, cursor.live() == LIVE);
+}
+
+// Checks how many hits the first step at `q` gives, and how many pages it asks for.
+fn check_first(rt: &(impl AllocGlobal + Abort), bytes: &[u8], q: u32, n: u64, asked: u64) {
+    let mut cursor = cursor_at(rt, q);
+    let (stepped, count) = take(rt, bytes, &mut cursor, n);
+    holds(rt, stepped.is_ok());
+    holds(rt, (cursor.given(), count) == (n, asked));
+}
+
+#[test]
+fn a_leaf_is_read_when_it_may_hold_the_next(rt: HostRuntime) {
+    let bytes = leaves(&rt, 4);
+    check_first(&rt, &bytes, 3, 4, 2);
+    check_first(&rt, &bytes, 16, 1, 2);
+    check_first(&rt, &bytes, 16, 2, 3);
+    check_first(&rt, &bytes, 30, 3, 2);
+    check_first(&rt, &bytes, 0, 33, 3);
+}
+
+// Says whether `hits` have these ids.
+fn have_ids(hits: &[Hit], ids: &[u32]) -> bool {
+    let mut is_so = hits.len() == ids.len();
+    for (hit, id) in hits.iter().zip(ids) {
+        is_so = is_so && hit.id == *id;
+    }
+    is_so
+}
+
+// Checks that the next hits of a cursor have these ids.
+fn check_ids(rt: &(impl AllocGlobal + Abort), bytes: &[u8], cursor: &mut Cursor, ids: &[u32]) {
+    let stepped = given(rt, bytes, cursor, ids.len() as u64);
+    holds(rt, have_ids(stepped.hits.as_slice(), ids));
+}
+
+// Says why a step of `n` hits is refused.
+fn step_fault(
+    rt: &(impl AllocGlobal + Abort),
+    bytes: &[u8],
+    cursor: &mut Cursor,
+    n: u64,
+) -> Option<PageFault> {
+    let (stepped, _) = take(rt, bytes, cursor, n);
+    stepped.err()
+}
+
+// Damages the leaf of page 4 before the second step, which the third step finds whole.
+#[test]
+fn a_step_that_is_refused_leaves_the_cursor(rt: HostRuntime) {
+    let good = leaves(&rt, 4);
+    let torn = torn_leaves(&rt, 4 * 4096, 99);
+    let mut cursor = cursor_at(&rt, 0);
+    check_ids(&rt, &torn, &mut cursor, &[0, 1, 2]);
+    let refused = step_fault(&rt, &torn, &mut cursor, 20);
+    holds(&rt, refused == Some(PageFault::Bad(4, NodeFault::Kind)));
+    holds(&rt, cursor.given() == 3);
+    check_ids(&rt, &good, &mut cursor, &[3, 4]);
+}
+
+// Says why a step is refused where a root's second child is the page `second`.
+fn refusal(rt: &(impl AllocGlobal + Abort), second: u32) -> Option<PageFault> {
+    let bytes = leaves(rt, second);
+    let mut cursor = cursor_at(rt, 0);
+    step_fault(rt, &bytes, &mut cursor, 200)
+}
+
+#[test]
+fn a_step_is_refused_where_it_meets_a_fault(rt: HostRuntime) {
+    holds(&rt, refusal(&rt, 4) == None);
+    holds(&rt, refusal(&rt, 9) == Some(PageFault::Outside(9)));
+    holds(&rt, refusal(&rt, 5) == Some(PageFault::Repeats(5)));
 }

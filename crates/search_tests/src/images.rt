@@ -1,14 +1,14 @@
-use image_answers::{Memory, Outcome, nearest_outcome, range_outcome};
+use crate::given::holds;
+use image_answers::{Memory, Outcome, range_outcome};
 use metric_laws::Point;
-use node_page::NodeFault;
-use page_store::{Image, PageFault};
-use rows_text::{Refusal, Reply, reply_text};
+use page_store::Image;
+use rows_text::{Reply, reply_text};
 use std::alloc::Global;
-use std::test::Fail;
+use std::process::Abort;
 use tree_shape::Live;
 use vector_kinds::L1;
 
-// The live slot of an index of two objects, whose root is page 3.
+// Describes the live tree of an index of two objects, whose root is page 3.
 const PAIR: Live = Live {
     side: 0,
     generation: 1,
@@ -18,7 +18,7 @@ const PAIR: Live = Live {
     pages: 4,
 };
 
-// That index over points of one coordinate: the points 4 and 9, with the tags 7 and 8.
+// Gives that index over points of one coordinate: the points 4 and 9, with the tags 7 and 8.
 fn pair(alloc: Global) -> Result<Vec<u8>, Memory> {
     let mut image = vec![in alloc; 0u8; 16384]?;
     let bytes = [
@@ -37,40 +37,50 @@ fn pair(alloc: Global) -> Result<Vec<u8>, Memory> {
     Ok(image)
 }
 
-// What an outcome is in a line: the reply's text with tags, and whether there is a log.
-fn text_of(alloc: Global, outcome: &Outcome) -> Result<Vec<u8>, Memory> {
-    let mut text = Vec::new(alloc);
+// Writes a reply that has hits, with their tags.
+fn write_reply(reply: &Reply, text: &mut Vec<u8>) -> Result<(), Memory> {
+    if let Reply::Hits { hits, tags } = reply {
+        if hits.as_slice().len() == tags.as_slice().len() {
+            return reply_text(reply, true, text);
+        }
+    }
+    Ok(())
+}
+
+// Writes an outcome: the reply with its tags, and a word where there is a log.
+fn write_outcome(outcome: &Outcome, text: &mut Vec<u8>) -> Result<(), Memory> {
     match outcome {
         Outcome::Done { reply, log } => {
-            if let Reply::Hits { hits, tags } = reply {
-                if hits.as_slice().len() == tags.as_slice().len() {
-                    reply_text(reply, true, &mut text)?;
-                }
-            }
+            write_reply(reply, text)?;
             if log.is_some() {
                 text.extend_from_slice(b"log")?;
             }
         }
         Outcome::Damaged(_) => text.extend_from_slice(b"damaged")?,
     }
-    Ok(text)
+    Ok(())
+}
+
+// Asks that index for what lies within `radius` of `q`.
+fn ask(rt: &(impl AllocGlobal + Abort), q: u32, radius: u64) -> Outcome {
+    let image = pair(rt.alloc()).expect(rt, "memory");
+    let q = Point::new(rt.alloc(), &[q]).expect(rt, "memory");
+    let image = Image::Whole(&image);
+    range_outcome(rt.alloc(), image, L1::new(1), &PAIR, &q, radius).expect(rt, "memory")
+}
+
+// Checks the outcome of a range query, as it is written.
+fn check_range(rt: &(impl AllocGlobal + Abort), q: u32, radius: u64, wanted: &str) {
+    let outcome = ask(rt, q, radius);
+    let mut text = Vec::new(rt.alloc());
+    write_outcome(&outcome, &mut text).expect(rt, "memory");
+    holds(rt, text.as_slice() == wanted.as_bytes());
 }
 
 #[test]
-fn ranges(rt: HostRuntime) -> Result<(), Fail> {
-    let alloc = rt.alloc();
-    let image = pair(alloc)?;
-    let metric = L1::new(1);
-    let cases: [(u32, u64, &str); 4] = [
-        (5, 0, "hits 0\nlog"),
-        (5, 1, "hits 1\n0 7 1\nlog"),
-        (8, 4, "hits 2\n1 8 1\n0 7 4\nlog"),
-        (0, 1 << 63, "hits 2\n0 7 4\n1 8 9\nlog"),
-    ];
-    for (c, radius, wanted) in &cases {
-        let q = Point::new(alloc, &[*c])?;
-        let found = range_outcome(alloc, Image::Whole(&image), metric, &PAIR, &q, *radius)?;
-        assert!(rt; text_of(alloc, &found)?.as_slice() == wanted.as_bytes());
-    }
-    Ok(())
+fn ranges(rt: HostRuntime) {
+    check_range(&rt, 5, 0, "hits 0\nlog");
+    check_range(&rt, 5, 1, "hits 1\n0 7 1\nlog");
+    check_range(&rt, 8, 4, "hits 2\n1 8 1\n0 7 4\nlog");
+    check_range(&rt, 0, 1 << 63, "hits 2\n0 7 4\n1 8 9\nlog");
 }

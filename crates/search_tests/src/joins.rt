@@ -1,19 +1,19 @@
-use disk_model::MemoryDisk;
-use log_model::{JoinRecord, Joined, Mark};
+use crate::given::{holds, leaves, six};
+use disk_model::{Disk, MemoryDisk};
+use log_model::{Joined, Mark};
 use metric_join::{JoinFault, join};
 use metric_laws::{Memory, Meter};
 use node_page::NodeFault;
 use page_store::{DiskPages, ImagePages, PageFault};
 use scan_model::Pair;
-use small_trees::{Entry, one_leaf, pad, six_entries, two_leaves};
+use small_trees::{Entry, one_leaf, pad};
 use std::alloc::Global;
 use std::process::Abort;
-use std::test::Fail;
 use tree_shape::Live;
 use vector_kinds::L1;
 
-// An object.
-fn at(id: u32, point: u32) -> Entry {
+// Makes the object `id` at the number `point`.
+const fn at(id: u32, point: u32) -> Entry {
     Entry {
         id,
         tag: 0,
@@ -22,17 +22,22 @@ fn at(id: u32, point: u32) -> Entry {
     }
 }
 
-// The numbers 0, 5 and 9.
-fn three(alloc: Global) -> Result<Vec<u8>, Memory> {
-    one_leaf(Vec::new(alloc), &[at(0, 0), at(1, 5), at(2, 9)])
+// Gives the bytes of a leaf of these objects.
+fn leaf(rt: &(impl AllocGlobal + Abort), objects: &[Entry]) -> Vec<u8> {
+    one_leaf(Vec::new(rt.alloc()), objects).expect(rt, "memory")
 }
 
-// The numbers 4 and 9.
-fn two(alloc: Global) -> Result<Vec<u8>, Memory> {
-    one_leaf(Vec::new(alloc), &[at(0, 4), at(1, 9)])
+// Gives the numbers 0, 5 and 9.
+fn three(rt: &(impl AllocGlobal + Abort)) -> Vec<u8> {
+    leaf(rt, &[at(0, 0), at(1, 5), at(2, 9)])
 }
 
-// The live tree with this root and height below so many pages.
+// Gives the numbers 4 and 9.
+fn two(rt: &(impl AllocGlobal + Abort)) -> Vec<u8> {
+    leaf(rt, &[at(0, 4), at(1, 9)])
+}
+
+// Describes the live tree with this root and this height below `pages` pages.
 fn live(generation: u64, root: u32, height: u32, pages: u32) -> Live {
     Live {
         side: 0,
@@ -44,15 +49,15 @@ fn live(generation: u64, root: u32, height: u32, pages: u32) -> Live {
     }
 }
 
-// One side of a join: the file's bytes and the live slot.
+// Is one side of a join: the file's bytes and the live slot.
 #[derive(Clone, Copy)]
 struct Side<'a> {
     bytes: &'a [u8],
     live: &'a Live,
 }
 
-// What a join answers over points of one coordinate, how often each side was asked for a page, and how many distances were
-// computed.
+// Joins two sides of points of one coordinate within `r`. Counts the pages that each side was asked for, and the
+// distances computed.
 fn ask(
     alloc: Global,
     left: Side,
@@ -68,27 +73,54 @@ fn ask(
     (joined, (one.asked, other.asked), ruler.used())
 }
 
-// Compares a record.
-fn check_record(rt: &impl Abort, record: &JoinRecord, right: bool, page: u32, marks: &[Mark]) {
-    assert!(rt; (record.right, record.page) == (right, page));
-    assert!(rt; record.marks.as_slice() == marks);
+// Does so where nothing is refused.
+fn joined_of(
+    rt: &(impl AllocGlobal + Abort),
+    left: Side,
+    right: Side,
+    r: u64,
+) -> (Joined, (u64, u64), u64) {
+    let (joined, asked, used) = ask(rt.alloc(), left, right, r);
+    (joined.expect(rt, "joined"), asked, used)
 }
 
-// How many marks of one kind all records have.
+// Says why a join within 0 is refused.
+fn fault_of(alloc: Global, left: Side, right: Side) -> Option<JoinFault> {
+    let (joined, _, _) = ask(alloc, left, right, 0);
+    joined.err()
+}
+
+// Says whether the record at `i` is of page 3 on this side, and has these marks.
+fn has_record(joined: &Joined, i: usize, right: bool, marks: &[Mark]) -> bool {
+    match joined.log.records.as_slice().get(i) {
+        Some(record) => {
+            (record.right, record.page) == (right, 3) && record.marks.as_slice() == marks
+        }
+        None => false,
+    }
+}
+
+// Counts the marks of one kind.
+fn count_in(marks: &[Mark], mark: Mark) -> usize {
+    let mut count = 0usize;
+    for one in marks {
+        if *one == mark {
+            count = count.saturating_add(1);
+        }
+    }
+    count
+}
+
+// Counts the marks of one kind in all records.
 fn count(joined: &Joined, mark: Mark) -> usize {
     let mut all = 0usize;
     for record in joined.log.records.as_slice() {
-        let here = record
-            .marks
-            .as_slice()
-            .iter()
-            .filter(|m| **m == mark)
-            .count();
-        all = all.saturating_add(here);
+        all = all.saturating_add(count_in(record.marks.as_slice(), mark));
     }
     all
 }
 
+// Lists the pairs of three numbers and two within 1.
 const CLOSE: [Pair; 2] = [
     Pair {
         left: 1,
@@ -102,10 +134,10 @@ const CLOSE: [Pair; 2] = [
     },
 ];
 
-#[test]
-fn three_numbers_and_two(rt: HostRuntime) -> Result<(), Memory> {
-    let left = three(rt.alloc())?;
-    let right = two(rt.alloc())?;
+// Joins three numbers and two within 1.
+fn three_and_two(rt: &(impl AllocGlobal + Abort)) -> (Joined, (u64, u64), u64) {
+    let left = three(rt);
+    let right = two(rt);
     let one = Side {
         bytes: &left,
         live: &live(2, 3, 0, 4),
@@ -114,30 +146,33 @@ fn three_numbers_and_two(rt: HostRuntime) -> Result<(), Memory> {
         bytes: &right,
         live: &live(5, 3, 0, 4),
     };
-    let (joined, asked, used) = ask(rt.alloc(), one, other, 1);
-    let Ok(joined) = joined else {
-        panic!(rt; "the join is refused");
-    };
-    assert!(rt; joined.pairs.as_slice() == CLOSE.as_slice());
-    assert!(rt; joined.log.answers.as_slice() == CLOSE.as_slice());
-    assert!(rt; (joined.log.left, joined.log.right, joined.log.r) == ((2, 3), (5, 3), 1));
-    assert!(rt; (asked, used) == ((2, 4), 6));
-    let records = joined.log.records.as_slice();
-    assert!(rt; records.len() == 4);
-    if let [first, second, third, fourth] = records {
-        check_record(&rt, first, false, 3, &[Mark::Near, Mark::Near, Mark::Near]);
-        check_record(&rt, second, true, 3, &[Mark::Far, Mark::Far]);
-        check_record(&rt, third, true, 3, &[Mark::Near, Mark::Far]);
-        check_record(&rt, fourth, true, 3, &[Mark::Far, Mark::Near]);
-    }
-    Ok(())
+    joined_of(rt, one, other, 1)
 }
 
-// The left root has rank 2, its leaves and the right root have rank 1.
 #[test]
-fn trees_of_heights_one_and_nought(rt: HostRuntime) -> Result<(), Memory> {
-    let left = two_leaves(rt.alloc(), Vec::new(rt.alloc()), 4)?;
-    let right = one_leaf(Vec::new(rt.alloc()), &[at(0, 40)])?;
+fn three_numbers_and_two(rt: HostRuntime) {
+    let (joined, asked, used) = three_and_two(&rt);
+    holds(&rt, joined.pairs.as_slice() == CLOSE.as_slice());
+    holds(&rt, joined.log.answers.as_slice() == CLOSE.as_slice());
+    holds(
+        &rt,
+        (joined.log.left, joined.log.right, joined.log.r) == ((2, 3), (5, 3), 1),
+    );
+    holds(&rt, (asked, used) == ((2, 4), 6));
+    holds(&rt, joined.log.records.as_slice().len() == 4);
+    holds(
+        &rt,
+        has_record(&joined, 0, false, &[Mark::Near, Mark::Near, Mark::Near]),
+    );
+    holds(&rt, has_record(&joined, 1, true, &[Mark::Far, Mark::Far]));
+    holds(&rt, has_record(&joined, 2, true, &[Mark::Near, Mark::Far]));
+    holds(&rt, has_record(&joined, 3, true, &[Mark::Far, Mark::Near]));
+}
+
+// Joins the numbers 0 to 32 with the number 40 within 8.
+fn leaves_and_forty(rt: &(impl AllocGlobal + Abort)) -> (Joined, (u64, u64), u64) {
+    let left = leaves(rt, 4);
+    let right = leaf(rt, &[at(0, 40)]);
     let one = Side {
         bytes: &left,
         live: &live(34, 5, 1, 6),
@@ -146,163 +181,189 @@ fn trees_of_heights_one_and_nought(rt: HostRuntime) -> Result<(), Memory> {
         bytes: &right,
         live: &live(2, 3, 0, 4),
     };
-    let (joined, asked, used) = ask(rt.alloc(), one, other, 8);
-    let Ok(joined) = joined else {
-        panic!(rt; "the join is refused");
-    };
-    let pair = Pair {
-        left: 32,
-        right: 0,
-        dist: 8,
-    };
-    assert!(rt; joined.pairs.as_slice() == [pair].as_slice());
-    assert!(rt; joined.log.records.as_slice().len() == 36);
-    assert!(rt; (asked, used) == ((6, 34), 33));
-    Ok(())
+    joined_of(rt, one, other, 8)
 }
 
-// Of each leaf's objects those are skipped that are not as far from the routing point as the other object.
+// Is the pair of 32 and 40.
+const EIGHT_APART: Pair = Pair {
+    left: 32,
+    right: 0,
+    dist: 8,
+};
+
+// Joins a left root of rank 2, whose leaves have rank 1, with a right root of rank 1.
 #[test]
-fn a_tree_joined_with_itself(rt: HostRuntime) -> Result<(), Memory> {
-    let bytes = two_leaves(rt.alloc(), Vec::new(rt.alloc()), 4)?;
+fn trees_of_heights_one_and_nought(rt: HostRuntime) {
+    let (joined, asked, used) = leaves_and_forty(&rt);
+    holds(&rt, joined.pairs.as_slice() == [EIGHT_APART].as_slice());
+    holds(&rt, joined.log.records.as_slice().len() == 36);
+    holds(&rt, (asked, used) == ((6, 34), 33));
+}
+
+// Says whether each of `pairs` is of an object with itself.
+fn are_same(pairs: &[Pair]) -> bool {
+    let mut is_so = true;
+    for pair in pairs {
+        is_so = is_so && (pair.left, pair.dist) == (pair.right, 0);
+    }
+    is_so
+}
+
+// Joins the numbers 0 to 32 with themselves within 0.
+fn with_itself(rt: &(impl AllocGlobal + Abort)) -> (Joined, u64) {
+    let bytes = leaves(rt, 4);
     let side = Side {
         bytes: &bytes,
         live: &live(34, 5, 1, 6),
     };
-    let (joined, _, used) = ask(rt.alloc(), side, side, 0);
-    let Ok(joined) = joined else {
-        panic!(rt; "the join is refused");
-    };
-    assert!(rt; joined.pairs.as_slice().len() == 33);
-    for pair in joined.pairs.as_slice() {
-        assert!(rt; (pair.left, pair.dist) == (pair.right, 0));
-    }
-    assert!(rt; joined.log.records.as_slice().len() == 38);
-    assert!(rt; used == 100);
-    assert!(rt; count(&joined, Mark::Far) == 2 + 14 + 16);
-    assert!(rt; count(&joined, Mark::Skip) == 16 * 16 + 17 * 17 - 30 - 33);
-    Ok(())
+    let (joined, _, used) = joined_of(rt, side, side, 0);
+    (joined, used)
 }
 
+// Skips those of each leaf's objects that are not as far from the routing point as the other object.
 #[test]
-fn a_tree_without_objects(rt: HostRuntime) -> Result<(), Memory> {
-    let some = three(rt.alloc())?;
-    let none = one_leaf(Vec::new(rt.alloc()), &[])?;
+fn a_tree_joined_with_itself(rt: HostRuntime) {
+    let (joined, used) = with_itself(&rt);
+    holds(&rt, joined.pairs.as_slice().len() == 33);
+    holds(&rt, are_same(joined.pairs.as_slice()));
+    holds(&rt, joined.log.records.as_slice().len() == 38);
+    holds(&rt, used == 100);
+    holds(&rt, count(&joined, Mark::Far) == 2 + 14 + 16);
+    holds(
+        &rt,
+        count(&joined, Mark::Skip) == 16 * 16 + 17 * 17 - 30 - 33,
+    );
+}
+
+// Checks that two leaves have no pairs within 9 where one is empty. The log has `records` records.
+fn check_no_pairs(rt: &(impl AllocGlobal + Abort), left: &[u8], right: &[u8], records: usize) {
     let tree = live(1, 3, 0, 4);
-    let sides = [(&some, &none, 4), (&none, &some, 1), (&none, &none, 1)];
-    for (left, right, records) in &sides {
-        let one = Side {
-            bytes: left,
-            live: &tree,
-        };
-        let other = Side {
-            bytes: right,
-            live: &tree,
-        };
-        let (joined, _, used) = ask(rt.alloc(), one, other, 9);
-        let Ok(joined) = joined else {
-            panic!(rt; "the join is refused");
-        };
-        assert!(rt; joined.pairs.as_slice().len() == 0);
-        assert!(rt; joined.log.records.as_slice().len() == *records);
-        assert!(rt; used == 0);
-    }
-    Ok(())
-}
-
-// Page 4 is reached six times, or the entries name a page that the file has not or one that holds no node.
-#[test]
-fn a_first_walk_is_refused_where_it_meets_a_fault(rt: HostRuntime) -> Result<(), Memory> {
-    let good = three(rt.alloc())?;
-    let sound = live(1, 3, 0, 4);
-    let faults = [
-        (4u32, 5u32, PageFault::Repeats(4)),
-        (9, 5, PageFault::Outside(9)),
-        (5, 6, PageFault::Bad(5, NodeFault::Kind)),
-    ];
-    for (child, pages, fault) in &faults {
-        let mut bytes = six_entries(rt.alloc(), Vec::new(rt.alloc()), *child)?;
-        bytes.push(77)?;
-        pad(&mut bytes, 6 * 4096)?;
-        let tree = live(1, 3, 1, *pages);
-        let bad = Side {
-            bytes: &bytes,
-            live: &tree,
-        };
-        let fine = Side {
-            bytes: &good,
-            live: &sound,
-        };
-        let (left, _, _) = ask(rt.alloc(), bad, fine, 0);
-        assert!(rt; left.err() == Some(JoinFault::Left(*fault)));
-        let (right, _, _) = ask(rt.alloc(), fine, bad, 0);
-        assert!(rt; right.err() == Some(JoinFault::Right(*fault)));
-        let (both, _, _) = ask(rt.alloc(), bad, bad, 0);
-        assert!(rt; both.err() == Some(JoinFault::Left(*fault)));
-    }
-    Ok(())
+    let one = Side {
+        bytes: left,
+        live: &tree,
+    };
+    let other = Side {
+        bytes: right,
+        live: &tree,
+    };
+    let (joined, _, used) = joined_of(rt, one, other, 9);
+    holds(rt, joined.pairs.as_slice().len() == 0);
+    holds(rt, joined.log.records.as_slice().len() == records);
+    holds(rt, used == 0);
 }
 
 #[test]
-fn faults_as_words(rt: HostRuntime) -> Result<(), Fail> {
-    let faults = [
-        (
-            JoinFault::Left(PageFault::Repeats(7)),
-            "left: page 7 is reached twice",
-        ),
-        (
-            JoinFault::Right(PageFault::Disk),
-            "right: a page could not be read",
-        ),
-        (JoinFault::Memory, "out of memory"),
-    ];
-    for (fault, words) in &faults {
-        let text = format!(in rt.alloc(); "{}", fault)?;
-        assert!(rt; text.as_str() == *words);
-    }
-    Ok(())
+fn a_tree_without_objects(rt: HostRuntime) {
+    let some = three(&rt);
+    let none = leaf(&rt, &[]);
+    check_no_pairs(&rt, &some, &none, 4);
+    check_no_pairs(&rt, &none, &some, 1);
+    check_no_pairs(&rt, &none, &none, 1);
 }
 
-// A disk that holds these bytes and fails from a call on.
-fn disk_of(alloc: Global, bytes: Vec<u8>, stop: Option<u64>) -> Result<MemoryDisk, Memory> {
+// Gives a tree whose root names the page `child` six times, and whose page 5 holds no node.
+fn faulty(rt: &(impl AllocGlobal + Abort), child: u32) -> Vec<u8> {
+    let mut bytes = six(rt, child);
+    bytes.push(77).expect(rt, "memory");
+    pad(&mut bytes, 6 * 4096).expect(rt, "memory");
+    bytes
+}
+
+// Checks that such a tree of `pages` pages is refused on each side, and on the left first.
+fn check_first_walk(
+    rt: &(impl AllocGlobal + Abort),
+    good: &[u8],
+    child: u32,
+    pages: u32,
+    fault: PageFault,
+) {
+    let bytes = faulty(rt, child);
+    let bad = Side {
+        bytes: &bytes,
+        live: &live(1, 3, 1, pages),
+    };
+    let fine = Side {
+        bytes: good,
+        live: &live(1, 3, 0, 4),
+    };
+    let left = Some(JoinFault::Left(fault));
+    let right = Some(JoinFault::Right(fault));
+    holds(rt, fault_of(rt.alloc(), bad, fine) == left);
+    holds(rt, fault_of(rt.alloc(), fine, bad) == right);
+    holds(rt, fault_of(rt.alloc(), bad, bad) == left);
+}
+
+// Reaches page 4 six times, or names a page that the file has not or one that holds no node.
+#[test]
+fn a_first_walk_is_refused_where_it_meets_a_fault(rt: HostRuntime) {
+    let good = three(&rt);
+    check_first_walk(&rt, &good, 4, 5, PageFault::Repeats(4));
+    check_first_walk(&rt, &good, 9, 5, PageFault::Outside(9));
+    check_first_walk(&rt, &good, 5, 6, PageFault::Bad(5, NodeFault::Kind));
+}
+
+// Checks the words of a fault.
+fn check_words(rt: &(impl AllocGlobal + Abort), fault: JoinFault, words: &str) {
+    let text = format!(in rt.alloc(); "{}", fault).expect(rt, "memory");
+    holds(rt, text.as_str() == words);
+}
+
+#[test]
+fn faults_as_words(rt: HostRuntime) {
+    check_words(
+        &rt,
+        JoinFault::Left(PageFault::Repeats(7)),
+        "left: page 7 is reached twice",
+    );
+    check_words(
+        &rt,
+        JoinFault::Right(PageFault::Disk),
+        "right: a page could not be read",
+    );
+    check_words(&rt, JoinFault::Memory, "out of memory");
+}
+
+// Makes a disk of `bytes` that all calls from `stop` on fail.
+fn try_disk(alloc: Global, bytes: Vec<u8>, stop: Option<u64>) -> Result<MemoryDisk, Memory> {
     let room = (bytes.len() as u64).max(65536);
     MemoryDisk::new(alloc, bytes, room, 100, Vec::new(alloc), stop)
 }
 
-// Why a join of three numbers and two on disks is refused, each of which fails from a call on.
-fn refusal(
-    alloc: Global,
-    left_stop: Option<u64>,
-    right_stop: Option<u64>,
-) -> Result<Option<JoinFault>, Memory> {
-    let tree = live(1, 3, 0, 4);
-    let left_bytes = three(alloc)?;
-    let right_bytes = two(alloc)?;
-    let mut left = disk_of(alloc, left_bytes, left_stop)?;
-    let mut right = disk_of(alloc, right_bytes, right_stop)?;
-    let mut one = DiskPages::new(&mut left, 1, 4);
-    let mut other = DiskPages::new(&mut right, 1, 4);
-    let mut ruler = Meter::new(L1::new(1));
-    let joined = join(alloc, &mut one, &mut other, &mut ruler, &tree, &tree, 1);
-    Ok(joined.err())
+// Does the same, and ends the test where memory is lacking.
+fn disk_of(rt: &(impl AllocGlobal + Abort), bytes: Vec<u8>, stop: Option<u64>) -> MemoryDisk {
+    try_disk(rt.alloc(), bytes, stop).expect(rt, "memory")
 }
 
-// The first walk reads one page of each side. Then the walk of pairs reads one left page, and the right one for each object.
+// Says why a join of two leaves on disks is refused.
+fn fault_on<D: Disk, E: Disk>(alloc: Global, left: &mut D, right: &mut E) -> Option<JoinFault> {
+    let tree = live(1, 3, 0, 4);
+    let mut one = DiskPages::new(left, 1, 4);
+    let mut other = DiskPages::new(right, 1, 4);
+    let mut ruler = Meter::new(L1::new(1));
+    join(alloc, &mut one, &mut other, &mut ruler, &tree, &tree, 1).err()
+}
+
+// Says why a join of three numbers and two is refused, where each disk fails from a call on.
+fn refusal(
+    rt: &(impl AllocGlobal + Abort),
+    left_stop: Option<u64>,
+    right_stop: Option<u64>,
+) -> Option<JoinFault> {
+    let mut left = disk_of(rt, three(rt), left_stop);
+    let mut right = disk_of(rt, two(rt), right_stop);
+    fault_on(rt.alloc(), &mut left, &mut right)
+}
+
+// Reads one page of each side in the first walk. Then the walk of pairs reads one left page, and the right one for each
+// object.
 #[test]
-fn a_disk_that_fails(rt: HostRuntime) -> Result<(), Memory> {
+fn a_disk_that_fails(rt: HostRuntime) {
     let left = Some(JoinFault::Left(PageFault::Disk));
     let right = Some(JoinFault::Right(PageFault::Disk));
-    let stops = [
-        (Some(0u64), None, left),
-        (None, Some(0u64), right),
-        (Some(1), None, left),
-        (None, Some(1), right),
-        (None, Some(3), right),
-        (Some(2), Some(4), None),
-    ];
-    for (left_stop, right_stop, fault) in &stops {
-        let found = refusal(rt.alloc(), *left_stop, *right_stop)?;
-        assert!(rt; found == *fault);
-    }
-    Ok(())
+    holds(&rt, refusal(&rt, Some(0), None) == left);
+    holds(&rt, refusal(&rt, None, Some(0)) == right);
+    holds(&rt, refusal(&rt, Some(1), None) == left);
+    holds(&rt, refusal(&rt, None, Some(1)) == right);
+    holds(&rt, refusal(&rt, None, Some(3)) == right);
+    holds(&rt, refusal(&rt, Some(2), Some(4)) == None);
 }

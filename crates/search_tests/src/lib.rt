@@ -6,6 +6,8 @@ mod audits;
 #[cfg(test)]
 mod cursors;
 #[cfg(test)]
+mod given;
+#[cfg(test)]
 mod images;
 #[cfg(test)]
 mod joins;

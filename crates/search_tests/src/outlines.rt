@@ -1,9 +1,10 @@
+use crate::given::holds;
 use page_store::{ImagePages, PageFault};
-use std::test::Fail;
-use tree_outline::shape_of;
+use std::process::Abort;
+use tree_outline::{Shape, ShapeLine, shape_of};
 use tree_shape::Live;
 
-// The live tree of a file of four pages, the last of which is its root.
+// Describes the live tree of a file of four pages, whose last page is its root.
 const ROOT: Live = Live {
     side: 0,
     generation: 1,
@@ -13,18 +14,31 @@ const ROOT: Live = Live {
     pages: 4,
 };
 
-#[test]
-fn an_empty_root_has_one_line(rt: HostRuntime) -> Result<(), Fail> {
-    let alloc = rt.alloc();
-    let bytes = vec![in alloc; 0u8; 16384]?;
+// Walks the tree with this root in a file of zeros, and counts the pages asked for.
+fn shape_at(rt: &(impl AllocGlobal + Abort), root: u32) -> (Result<Shape, PageFault>, u64) {
+    let bytes = vec![in rt.alloc(); 0u8; 16384].expect(rt, "memory");
     let mut pages = ImagePages::new(&bytes, 2, 4);
-    let shape = shape_of(alloc, &mut pages, &ROOT)?;
-    assert!(rt; (shape.height, shape.objects, shape.nodes) == (0, 0, 1));
-    assert!(rt; pages.asked == 1);
-    let line = &shape.lines.as_slice()[0];
-    assert!(rt; (line.level, line.entries) == (0, 0));
-    assert!(rt; line.centre.is_none() && line.radius.is_none());
-    let outside = shape_of(alloc, &mut pages, &Live { root: 4, ..ROOT });
-    assert!(rt; matches!(outside, Err(PageFault::Outside(4))));
-    Ok(())
+    let shape = shape_of(rt.alloc(), &mut pages, &Live { root, ..ROOT });
+    (shape, pages.asked)
+}
+
+// Says whether `lines` are that of an empty leaf which is the root.
+fn are_of_empty(lines: &[ShapeLine]) -> bool {
+    match lines {
+        [line] => {
+            (line.level, line.entries) == (0, 0) && line.centre.is_none() && line.radius.is_none()
+        }
+        _ => false,
+    }
+}
+
+#[test]
+fn an_empty_root_has_one_line(rt: HostRuntime) {
+    let (shape, asked) = shape_at(&rt, 3);
+    let shape = shape.expect(&rt, "a shape");
+    holds(&rt, (shape.height, shape.objects, shape.nodes) == (0, 0, 1));
+    holds(&rt, asked == 1);
+    holds(&rt, are_of_empty(shape.lines.as_slice()));
+    let (outside, _) = shape_at(&rt, 4);
+    holds(&rt, outside.err() == Some(PageFault::Outside(4)));
 }

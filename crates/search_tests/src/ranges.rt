@@ -1,30 +1,16 @@
+use crate::given::{holds, leaves, live, six};
 use log_model::{Found, Mark};
-use metric_laws::{Memory, Meter};
+use metric_laws::Meter;
 use page_store::{ImagePages, PageFault};
 use range_search::{laws, range};
 use scan_model::Hit;
-use small_trees::{six_entries, two_leaves};
-use std::alloc::Global;
 use std::process::Abort;
 use tree_shape::Live;
 use vector_kinds::L1;
 
-// The live tree with this root below so many pages.
-fn live(root: u32, pages: u32) -> Live {
-    Live {
-        side: 0,
-        generation: 1,
-        root,
-        height: 1,
-        count: 33,
-        pages,
-    }
-}
-
-// What a range query answers; its point has one coordinate.
+// Asks for what lies within `r` of the number `q`, and counts the pages asked for and the distances computed.
 fn ask(
-    rt: &impl Abort,
-    alloc: Global,
+    rt: &(impl AllocGlobal + Abort),
     bytes: &[u8],
     live: &Live,
     q: u32,
@@ -34,23 +20,37 @@ fn ask(
     let mut ruler = Meter::new(L1::new(1));
     assert!(rt; metric_laws::Ruler::fits(&ruler, &[q]));
     assert!(rt; live.pages <= 100);
-    let found = range(alloc, &mut pages, &mut ruler, live, &[q], r);
+    let found = range(rt.alloc(), &mut pages, &mut ruler, live, &[q], r);
     (found, pages.asked, ruler.used())
 }
 
-// How many of a record's marks are of one kind.
+// Does so among the numbers 0 to 32, where nothing is refused.
+fn find(rt: &(impl AllocGlobal + Abort), q: u32, r: u64) -> (Found, u64, u64) {
+    let bytes = leaves(rt, 4);
+    let (found, asked, used) = ask(rt, &bytes, &live(5, 6), q, r);
+    (found.expect(rt, "found"), asked, used)
+}
+
+// Counts the marks of one kind.
+fn count_in(marks: &[Mark], mark: Mark) -> usize {
+    let mut count = 0usize;
+    for one in marks {
+        if *one == mark {
+            count = count.saturating_add(1);
+        }
+    }
+    count
+}
+
+// Counts the marks of one kind in the record at `record`.
 fn count(found: &Found, record: usize, mark: Mark) -> usize {
     match found.log.records.as_slice().get(record) {
-        Some(record) => record
-            .marks
-            .as_slice()
-            .iter()
-            .filter(|m| **m == mark)
-            .count(),
+        Some(record) => count_in(record.marks.as_slice(), mark),
         None => 0,
     }
 }
 
+// Lists what lies within 2 of 0.
 const NEAR: [Hit; 3] = [
     Hit { id: 0, dist: 0 },
     Hit { id: 1, dist: 1 },
@@ -58,20 +58,18 @@ const NEAR: [Hit; 3] = [
 ];
 
 #[test]
-fn the_numbers_within_two_of_nought(rt: HostRuntime) -> Result<(), Memory> {
-    let bytes = two_leaves(rt.alloc(), Vec::new(rt.alloc()), 4)?;
-    let (found, asked, used) = ask(&rt, rt.alloc(), &bytes, &live(5, 6), 0, 2);
-    assert!(rt; (asked, used) == (2, 9));
-    let Ok(found) = found else {
-        panic!(rt; "the search is refused");
-    };
-    assert!(rt; found.hits.as_slice() == NEAR.as_slice());
-    assert!(rt; (count(&found, 0, Mark::Near), count(&found, 0, Mark::Far)) == (1, 1));
-    assert!(rt; count(&found, 1, Mark::Near) == 3);
-    assert!(rt; (count(&found, 1, Mark::Skip), count(&found, 1, Mark::Far)) == (9, 4));
-    Ok(())
+fn the_numbers_within_two_of_nought(rt: HostRuntime) {
+    let (found, asked, used) = find(&rt, 0, 2);
+    holds(&rt, (asked, used) == (2, 9));
+    holds(&rt, found.hits.as_slice() == NEAR.as_slice());
+    holds(&rt, count(&found, 0, Mark::Near) == 1);
+    holds(&rt, count(&found, 0, Mark::Far) == 1);
+    holds(&rt, count(&found, 1, Mark::Near) == 3);
+    holds(&rt, count(&found, 1, Mark::Skip) == 9);
+    holds(&rt, count(&found, 1, Mark::Far) == 4);
 }
 
+// Lists what lies within 2 of 17.
 const AROUND: [Hit; 5] = [
     Hit { id: 17, dist: 0 },
     Hit { id: 16, dist: 1 },
@@ -81,28 +79,22 @@ const AROUND: [Hit; 5] = [
 ];
 
 #[test]
-fn a_sphere_that_is_just_reached_is_opened(rt: HostRuntime) -> Result<(), Memory> {
-    let bytes = two_leaves(rt.alloc(), Vec::new(rt.alloc()), 4)?;
-    let (found, asked, _) = ask(&rt, rt.alloc(), &bytes, &live(5, 6), 17, 2);
-    let Ok(found) = found else {
-        panic!(rt; "the search is refused");
-    };
-    assert!(rt; found.hits.as_slice() == AROUND.as_slice());
-    assert!(rt; asked == 3);
-    Ok(())
+fn a_sphere_that_is_just_reached_is_opened(rt: HostRuntime) {
+    let (found, asked, _) = find(&rt, 17, 2);
+    holds(&rt, found.hits.as_slice() == AROUND.as_slice());
+    holds(&rt, asked == 3);
 }
 
-// Why a query at nought is refused.
-fn refusal(rt: &impl Abort, alloc: Global, child: u32) -> Result<Option<PageFault>, Memory> {
-    let bytes = six_entries(alloc, Vec::new(alloc), child)?;
-    let (found, _, _) = ask(rt, alloc, &bytes, &live(3, 5), 0, 0);
-    Ok(found.err())
+// Says why a query at 0 is refused where the root names the page `child` six times.
+fn refusal(rt: &(impl AllocGlobal + Abort), child: u32) -> Option<PageFault> {
+    let bytes = six(rt, child);
+    let (found, _, _) = ask(rt, &bytes, &live(3, 5), 0, 0);
+    found.err()
 }
 
 #[test]
-fn a_walk_is_refused_where_it_meets_a_fault(rt: HostRuntime) -> Result<(), Memory> {
+fn a_walk_is_refused_where_it_meets_a_fault(rt: HostRuntime) {
     laws::walk_has_one_course();
-    assert!(rt; refusal(&rt, rt.alloc(), 4)? == Some(PageFault::Repeats(4)));
-    assert!(rt; refusal(&rt, rt.alloc(), 9)? == Some(PageFault::Outside(9)));
-    Ok(())
+    holds(&rt, refusal(&rt, 4) == Some(PageFault::Repeats(4)));
+    holds(&rt, refusal(&rt, 9) == Some(PageFault::Outside(9)));
 }

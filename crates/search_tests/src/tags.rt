@@ -1,18 +1,18 @@
-use disk_model::{FileDisk, MemoryDisk};
+use crate::given::{holds, leaves, torn_leaves};
+use disk_model::{Disk, FileDisk, MemoryDisk};
 use hit_tags::{Memory, marked_tags, tags_of};
 use log_model::{Found, Log, Mark, Record};
 use metric_laws::{Listed, Point};
 use node_page::NodeFault;
 use page_store::{DiskPages, ImagePages, PageFault, Pages};
 use scan_model::{Hit, Query};
-use small_trees::{Entry, one_leaf, two_leaves};
+use small_trees::{Entry, one_leaf};
 use std::alloc::Global;
 use std::fs::{self, File};
 use std::process::Abort;
-use std::test::Fail;
 use tree_shape::Live;
 
-// The live tree of the numbers 0 to 32.
+// Describes the live tree of the numbers 0 to 32.
 const NUMBERS: Live = Live {
     side: 0,
     generation: 34,
@@ -22,11 +22,11 @@ const NUMBERS: Live = Live {
     pages: 6,
 };
 
-// A record of a page with so many marks, of which those from one place up to another are Near.
+// Describes a record: its page, the number of its marks, and the places from which and up to which they are Near.
 type Marked = (u32, u8, u8, u8);
 
-fn record_of(alloc: Global, marked: &Marked) -> Result<Record, Memory> {
-    let (page, count, from, to) = *marked;
+// Makes `count` marks, Near from place `from` up to place `to`.
+fn marks_of(alloc: Global, count: u8, from: u8, to: u8) -> Result<Vec<Mark>, Memory> {
     let mut marks = Vec::new(alloc);
     for i in 0..count {
         marks.push(if from <= i && i < to {
@@ -35,176 +35,248 @@ fn record_of(alloc: Global, marked: &Marked) -> Result<Record, Memory> {
             Mark::Far
         })?;
     }
-    Ok(Record {
-        page,
-        marks: Listed::new(marks),
-    })
+    Ok(marks)
 }
 
-// Hits with these ids, and a log with these records.
-fn found_of(alloc: Global, ids: &[u32], marked: &[Marked]) -> Result<Found, Memory> {
+// Makes the records that are described.
+fn records_of(rt: &(impl AllocGlobal + Abort), marked: &[Marked]) -> Vec<Record> {
+    let mut records = Vec::new(rt.alloc());
+    for (page, count, from, to) in marked {
+        let marks = marks_of(rt.alloc(), *count, *from, *to).expect(rt, "memory");
+        let record = Record {
+            page: *page,
+            marks: Listed::new(marks),
+        };
+        records.push(record).expect(rt, "memory");
+    }
+    records
+}
+
+// Makes hits with these ids.
+fn hits_of(alloc: Global, ids: &[u32]) -> Result<Vec<Hit>, Memory> {
     let mut hits = Vec::new(alloc);
     for id in ids {
         hits.push(Hit { id: *id, dist: 0 })?;
     }
-    let mut records = Vec::new(alloc);
-    for one in marked {
-        records.push(record_of(alloc, one)?)?;
-    }
-    Ok(Found {
-        hits: Listed::new(hits),
+    Ok(hits)
+}
+
+// Makes hits with these ids, and a log with the records that are described.
+fn found_of(rt: &(impl AllocGlobal + Abort), ids: &[u32], marked: &[Marked]) -> Found {
+    let q = Point::new(rt.alloc(), &[0]).expect(rt, "memory");
+    Found {
+        hits: Listed::new(hits_of(rt.alloc(), ids).expect(rt, "memory")),
         log: Log {
             generation: 34,
             root: 5,
-            query: Query::Range {
-                q: Point::new(alloc, &[0])?,
-                r: 40,
-            },
-            answers: Listed::new(Vec::new(alloc)),
-            records: Listed::new(records),
+            query: Query::Range { q, r: 40 },
+            answers: Listed::new(Vec::new(rt.alloc())),
+            records: Listed::new(records_of(rt, marked)),
         },
-    })
+    }
 }
 
-// The tags of these ids by these records are these.
-fn check_tags<R: AllocGlobal + Abort, P: Pages>(
-    rt: &R,
+// Asks for the tags of hits with these ids, by the records that are described.
+fn ask_tags<P: Pages>(
+    rt: &(impl AllocGlobal + Abort),
     pages: &mut P,
     live: &Live,
     ids: &[u32],
     marked: &[Marked],
-    wanted: Result<&[u64], PageFault>,
-) -> Result<(), Fail> {
-    let found = found_of(rt.alloc(), ids, marked)?;
-    let tags = tags_of(rt.alloc(), pages, live, &found);
-    match (tags, wanted) {
-        (Ok(tags), Ok(wanted)) => assert!(rt; tags.as_slice() == wanted),
-        (Err(fault), Err(wanted)) => assert!(rt; fault == wanted),
-        _ => assert!(rt; false),
-    }
-    Ok(())
+) -> Result<Vec<u64>, PageFault> {
+    let found = found_of(rt, ids, marked);
+    tags_of(rt.alloc(), pages, live, &found)
 }
 
-// The root with both of its children, and each leaf with some of its numbers.
+// Says whether a call gave the tags, or the fault, of `wanted`.
+fn are_tags(tags: &Result<Vec<u64>, PageFault>, wanted: &Result<&[u64], PageFault>) -> bool {
+    match (tags, wanted) {
+        (Ok(tags), Ok(wanted)) => tags.as_slice() == *wanted,
+        (Err(fault), Err(wanted)) => fault == wanted,
+        _ => false,
+    }
+}
+
+// Checks the tags of hits with these ids.
+fn check_tags<P: Pages>(
+    rt: &(impl AllocGlobal + Abort),
+    pages: &mut P,
+    live: &Live,
+    ids: &[u32],
+    marked: &[Marked],
+    wanted: &Result<&[u64], PageFault>,
+) {
+    let tags = ask_tags(rt, pages, live, ids, marked);
+    holds(rt, are_tags(&tags, wanted));
+}
+
+// Describes the root with both of its children, and each leaf with some of its numbers.
 const ROOT: Marked = (5, 2, 0, 2);
 
 const LOW: Marked = (3, 16, 2, 5);
 
 const HIGH: Marked = (4, 17, 0, 2);
 
+// Checks the tags of 3, 17, 40 and 2 among the numbers 0 to 32, and that `asked` pages are asked for.
+fn check_four(
+    rt: &(impl AllocGlobal + Abort),
+    bytes: &[u8],
+    marked: &[Marked],
+    wanted: &[u64],
+    asked: u64,
+) {
+    let mut pages = ImagePages::new(bytes, 1, 6);
+    let ids = [3, 17, 40, 2];
+    check_tags(rt, &mut pages, &NUMBERS, &ids, marked, &Ok(wanted));
+    holds(rt, pages.asked == asked);
+}
+
 #[test]
-fn a_hit_has_the_tag_of_its_object_where_the_walk_meets_it(rt: HostRuntime) -> Result<(), Fail> {
-    let bytes = two_leaves(rt.alloc(), Vec::new(rt.alloc()), 4)?;
+fn a_hit_has_the_tag_of_its_object_where_the_walk_meets_it(rt: HostRuntime) {
+    let bytes = leaves(&rt, 4);
     let cases: &[(&[Marked], [u64; 4], u64)] = &[
         (&[ROOT, LOW, HIGH], [103, 117, 0, 102], 3),
-        // A record more than the walk needs.
+        // Has a record more than the walk needs.
         (&[ROOT, LOW, HIGH, LOW], [103, 117, 0, 102], 3),
-        // A log that is cut short.
+        // Is a log that is cut short.
         (&[ROOT, LOW], [103, 0, 0, 102], 2),
         (&[ROOT], [0, 0, 0, 0], 1),
         (&[], [0, 0, 0, 0], 0),
-        // Another page than the one that is needed, and then that one.
+        // Has another page than the one that is needed, and then that one.
         (&[ROOT, HIGH, LOW], [0, 0, 0, 0], 1),
         (&[ROOT, LOW, ROOT, HIGH], [103, 0, 0, 102], 2),
-        // One mark too few, and one too many.
+        // Has one mark too few, and one too many.
         (&[ROOT, (3, 15, 2, 5), HIGH], [0, 0, 0, 0], 2),
         (&[ROOT, LOW, (4, 18, 0, 2)], [103, 0, 0, 102], 3),
-        // Nothing is Near in the first leaf; only the second leaf is Near in the root.
+        // Has nothing that is Near in the first leaf, or only the second leaf in the root.
         (&[ROOT, (3, 16, 0, 0), HIGH], [0, 117, 0, 0], 3),
         (&[(5, 2, 1, 2), HIGH], [0, 117, 0, 0], 2),
     ];
     for (marked, wanted, asked) in cases {
-        let mut pages = ImagePages::new(&bytes, 1, 6);
-        let ids = [3, 17, 40, 2];
-        check_tags(&rt, &mut pages, &NUMBERS, &ids, marked, Ok(wanted))?;
-        assert!(rt; pages.asked == *asked);
+        check_four(&rt, &bytes, marked, wanted, *asked);
     }
-    Ok(())
 }
 
-#[test]
-fn the_first_object_with_an_id_counts(rt: HostRuntime) -> Result<(), Fail> {
-    let object = |id: u32, tag: u64| -> Entry {
-        Entry {
-            id,
-            tag,
-            parent: 0,
-            point: 0,
-        }
-    };
+// Makes the object `id` with this tag at 0.
+fn object(id: u32, tag: u64) -> Entry {
+    Entry {
+        id,
+        tag,
+        parent: 0,
+        point: 0,
+    }
+}
+
+// Gives a leaf in which two objects have the id 7, and two the id 8.
+fn twins(rt: &(impl AllocGlobal + Abort)) -> Vec<u8> {
     let objects = [object(7, 1), object(7, 2), object(8, 0), object(8, 3)];
-    let bytes = one_leaf(Vec::new(rt.alloc()), &objects)?;
-    let live = Live {
-        root: 3,
-        height: 0,
-        count: 4,
-        pages: 4,
-        ..NUMBERS
-    };
-    let cases: &[(Marked, [u64; 3])] = &[((3, 4, 0, 4), [1, 0, 1]), ((3, 4, 1, 4), [2, 0, 2])];
-    for (marked, wanted) in cases {
-        let mut pages = ImagePages::new(&bytes, 1, 4);
-        check_tags(&rt, &mut pages, &live, &[7, 8, 7], &[*marked], Ok(wanted))?;
-    }
-    Ok(())
+    one_leaf(Vec::new(rt.alloc()), &objects).expect(rt, "memory")
 }
 
-#[test]
-fn a_page_that_gives_no_node_is_named(rt: HostRuntime) -> Result<(), Fail> {
-    let mut bytes = two_leaves(rt.alloc(), Vec::new(rt.alloc()), 4)?;
+// Describes the live tree of that leaf.
+const TWINS: Live = Live {
+    side: 0,
+    generation: 34,
+    root: 3,
+    height: 0,
+    count: 4,
+    pages: 4,
+};
+
+// Checks the tags of 7, 8 and 7 in that leaf, by one record.
+fn check_twins(rt: &(impl AllocGlobal + Abort), marked: Marked, wanted: &[u64]) {
+    let bytes = twins(rt);
     let mut pages = ImagePages::new(&bytes, 1, 4);
-    let outside = PageFault::Outside(5);
-    check_tags(&rt, &mut pages, &NUMBERS, &[3], &[ROOT], Err(outside))?;
-    if let Some(level) = bytes.get_mut(3 * 4096) {
-        *level = 15;
-    }
-    let mut pages = ImagePages::new(&bytes, 1, 6);
-    let bad = PageFault::Bad(3, NodeFault::Kind);
-    check_tags(&rt, &mut pages, &NUMBERS, &[3], &[ROOT, LOW], Err(bad))?;
-    check_tags(&rt, &mut pages, &NUMBERS, &[3], &[ROOT], Ok(&[0]))
+    check_tags(rt, &mut pages, &TWINS, &[7, 8, 7], &[marked], &Ok(wanted));
 }
 
 #[test]
-fn a_read_that_fails(rt: HostRuntime) -> Result<(), Fail> {
-    let alloc = rt.alloc();
-    let bytes = two_leaves(alloc, Vec::new(alloc), 4)?;
+fn the_first_object_with_an_id_counts(rt: HostRuntime) {
+    check_twins(&rt, (3, 4, 0, 4), &[1, 0, 1]);
+    check_twins(&rt, (3, 4, 1, 4), &[2, 0, 2]);
+}
+
+// Checks the tag of 3 in an image of `count` pages.
+fn check_three(
+    rt: &(impl AllocGlobal + Abort),
+    bytes: &[u8],
+    count: u32,
+    marked: &[Marked],
+    wanted: &Result<&[u64], PageFault>,
+) {
+    let mut pages = ImagePages::new(bytes, 1, count.min(6));
+    check_tags(rt, &mut pages, &NUMBERS, &[3], marked, wanted);
+}
+
+#[test]
+fn a_page_that_gives_no_node_is_named(rt: HostRuntime) {
+    let whole = leaves(&rt, 4);
+    let outside = PageFault::Outside(5);
+    check_three(&rt, &whole, 4, &[ROOT], &Err(outside));
+    let torn = torn_leaves(&rt, 3 * 4096, 15);
+    let bad = PageFault::Bad(3, NodeFault::Kind);
+    check_three(&rt, &torn, 6, &[ROOT, LOW], &Err(bad));
+    check_three(&rt, &torn, 6, &[ROOT], &Ok(&[0]));
+}
+
+// Makes a disk of the numbers 0 to 32 whose call 1 fails.
+fn failing(rt: &(impl AllocGlobal + Abort)) -> MemoryDisk {
+    let bytes = leaves(rt, 4);
     let room = bytes.len() as u64;
-    let mut disk = MemoryDisk::new(alloc, bytes, room, 100, vec![in alloc; 1]?, None)?;
-    let mut pages = DiskPages::new(&mut disk, 1, 6);
+    let fails = vec![in rt.alloc(); 1].expect(rt, "memory");
+    MemoryDisk::new(rt.alloc(), bytes, room, 100, fails, None).expect(rt, "memory")
+}
+
+// Checks that the tags of 3 and 17 are asked for in vain, and given when they are asked for again.
+fn check_again<D: Disk>(rt: &(impl AllocGlobal + Abort), disk: &mut D) {
+    let mut pages = DiskPages::new(disk, 1, 6);
     let marked = [ROOT, LOW, HIGH];
     let failed = Err(PageFault::Disk);
-    check_tags(&rt, &mut pages, &NUMBERS, &[3, 17], &marked, failed)?;
-    check_tags(
-        &rt,
-        &mut pages,
-        &NUMBERS,
-        &[3, 17],
-        &marked,
-        Ok(&[103, 117]),
-    )
+    check_tags(rt, &mut pages, &NUMBERS, &[3, 17], &marked, &failed);
+    let given = Ok([103, 117].as_slice());
+    check_tags(rt, &mut pages, &NUMBERS, &[3, 17], &marked, &given);
 }
 
-// A real file tells nothing of its bytes, so that any log can be handed in.
 #[test]
-fn a_page_of_which_nothing_is_near_is_not_opened(rt: HostRuntime) -> Result<(), Fail> {
+fn a_read_that_fails(rt: HostRuntime) {
+    let mut disk = failing(&rt);
+    check_again(&rt, &mut disk);
+}
+
+// Asks a real file for the tags of 3 and 17, and counts the pages asked for.
+fn tags_on(
+    rt: &(impl AllocGlobal + Abort),
+    disk: &mut FileDisk,
+    marked: &[Marked],
+) -> (Result<Vec<u64>, PageFault>, u64) {
+    let found = found_of(rt, &[3, 17], marked);
+    let mut pages = DiskPages::new(disk, 1, 6);
+    let tags = marked_tags(rt.alloc(), &mut pages, &NUMBERS, &found);
+    (tags, pages.asked)
+}
+
+// Checks the tags of 3 and 17 on a real file, and that `asked` pages are asked for.
+fn check_marked(
+    rt: &(impl AllocGlobal + Abort),
+    disk: &mut FileDisk,
+    marked: &[Marked],
+    wanted: &[u64],
+    asked: u64,
+) {
+    let (tags, count) = tags_on(rt, disk, marked);
+    holds(rt, are_tags(&tags, &Ok(wanted)));
+    holds(rt, count == asked);
+}
+
+// Reads a real file, which tells nothing of its bytes, so that any log can be handed in.
+#[test]
+fn a_page_of_which_nothing_is_near_is_not_opened(rt: HostRuntime) {
     let path = "numbers_of_a_test";
-    fs::write(&rt, path, &two_leaves(rt.alloc(), Vec::new(rt.alloc()), 4)?)?;
-    let mut disk = FileDisk::new(File::open(&rt, path)?);
-    let cases: &[(&[Marked], [u64; 2], u64)] = &[
-        (&[ROOT, LOW, HIGH], [103, 117], 3),
-        (&[ROOT, (3, 16, 0, 0), HIGH], [0, 117], 2),
-        (&[ROOT, LOW, (4, 17, 0, 0)], [103, 0], 2),
-        (&[(5, 2, 0, 0)], [0, 0], 0),
-    ];
-    for (marked, wanted, asked) in cases {
-        let mut pages = DiskPages::new(&mut disk, 1, 6);
-        let found = found_of(rt.alloc(), &[3, 17], marked)?;
-        match marked_tags(rt.alloc(), &mut pages, &NUMBERS, &found) {
-            Ok(tags) => assert!(rt; tags.as_slice() == wanted.as_slice()),
-            Err(_) => assert!(rt; false),
-        }
-        assert!(rt; pages.asked == *asked);
-    }
-    fs::remove_file(&rt, path)?;
-    Ok(())
+    fs::write(&rt, path, &leaves(&rt, 4)).expect(&rt, "written");
+    let mut disk = FileDisk::new(File::open(&rt, path).expect(&rt, "opened"));
+    check_marked(&rt, &mut disk, &[ROOT, LOW, HIGH], &[103, 117], 3);
+    check_marked(&rt, &mut disk, &[ROOT, (3, 16, 0, 0), HIGH], &[0, 117], 2);
+    check_marked(&rt, &mut disk, &[ROOT, LOW, (4, 17, 0, 0)], &[103, 0], 2);
+    check_marked(&rt, &mut disk, &[(5, 2, 0, 0)], &[0, 0], 0);
+    fs::remove_file(&rt, path).expect(&rt, "removed");
 }

@@ -15,16 +15,20 @@ use session_run::{Ended, Stop, session};
 use shadow_root::{OpenFault, create};
 use std::alloc::Global;
 use std::process::Abort;
-use std::test::Fail;
 use std::thread::Threads;
 use vector_kinds::L1;
 
-// A disk whose bytes and images a test sees.
+// Ends a test in which `is_so` is false.
+fn holds(rt: &impl Abort, is_so: bool) {
+    assert!(rt; is_so);
+}
+
+// Is a disk whose bytes and images a test sees.
 trait Watched {
-    // What a read gives.
+    // Gives what a read gives.
     fn file(&self) -> &[u8];
 
-    // A file that a crash after the last call may leave.
+    // Gives a file that a crash after the last call may leave.
     fn left(&self, alloc: Global, pick: u64) -> Result<Vec<u8>, Memory>;
 }
 
@@ -38,7 +42,7 @@ impl Watched for MemoryDisk {
     }
 }
 
-// A head of at most a thousand points of one coordinate under L1.
+// Gives a head of at most a thousand points of one coordinate under L1.
 #[tactic(auto, unfolding(node_page::specs::Heads::is_version, node_page::specs::Heads::is_space, node_page::specs::Heads::is_policy, node_page::specs::Heads::is_limit))]
 fn head() -> Head
     ensures lawful { IsLawfulHead result }
@@ -54,27 +58,42 @@ fn head() -> Head
     }
 }
 
-// A disk that holds these bytes and has room for sixteen pages. All calls from one on fail.
-fn disk_of(alloc: Global, bytes: Vec<u8>, stop: Option<u64>) -> Result<MemoryDisk, Memory> {
+// Makes a disk of `bytes` with room for sixteen pages. All calls from `stop` on fail.
+fn try_disk(alloc: Global, bytes: Vec<u8>, stop: Option<u64>) -> Result<MemoryDisk, Memory> {
     let room = (bytes.len() as u64).max(1 << 16);
     MemoryDisk::new(alloc, bytes, room, 1 << 22, Vec::new(alloc), stop)
 }
 
-// The bytes of an index that has no objects.
-fn empty_file(alloc: Global) -> Result<Vec<u8>, Fail> {
-    let mut disk = disk_of(alloc, Vec::new(alloc), None)?;
-    create(&mut disk, &head())?;
-    Ok(disk.file().to_vec(alloc)?)
+// Does the same, and ends the test where memory is lacking.
+fn disk_of(rt: &(impl AllocGlobal + Abort), bytes: Vec<u8>, stop: Option<u64>) -> MemoryDisk {
+    try_disk(rt.alloc(), bytes, stop).expect(rt, "memory")
 }
 
-// The disk of an index that has no objects.
-fn empty_disk(alloc: Global, stop: Option<u64>) -> Result<MemoryDisk, Fail> {
-    Ok(disk_of(alloc, empty_file(alloc)?, stop)?)
+// Copies the bytes of a disk.
+fn copied<D: Watched>(rt: &(impl AllocGlobal + Abort), disk: &D) -> Vec<u8> {
+    disk.file().to_vec(rt.alloc()).expect(rt, "memory")
 }
 
-// A sink of which these puts fail.
-fn sink_of(alloc: Global, fails: &[u64]) -> Result<MemorySink, Memory> {
+// Makes an index that has no objects.
+fn make_on<D: Disk>(rt: &impl Abort, disk: &mut D) {
+    create(disk, &head()).expect(rt, "made");
+}
+
+// Makes the disk of an index that has no objects. All calls from `stop` on fail.
+fn empty_disk(rt: &(impl AllocGlobal + Abort), stop: Option<u64>) -> MemoryDisk {
+    let mut disk = disk_of(rt, Vec::new(rt.alloc()), None);
+    make_on(rt, &mut disk);
+    disk_of(rt, copied(rt, &disk), stop)
+}
+
+// Makes a sink whose puts numbered in `fails` fail.
+fn try_sink(alloc: Global, fails: &[u64]) -> Result<MemorySink, Memory> {
     MemorySink::new(alloc, 1 << 12, fails.to_vec(alloc)?)
+}
+
+// Does the same, and ends the test where memory is lacking.
+fn sink_of(rt: &(impl AllocGlobal + Abort), fails: &[u64]) -> MemorySink {
+    try_sink(rt.alloc(), fails).expect(rt, "memory")
 }
 
 // Opens a file of points of one coordinate for writing.
@@ -83,6 +102,20 @@ fn open_on<D: Disk>(disk: &mut D) -> Result<Index<L1>, OpenFault>
     ensures going { IfOk result (λ index. index.stopped ≡ false) }
 {
     Index::open_write(disk, L1::new(1))
+}
+
+// Does the same, and ends the test where the file is refused.
+fn opened<D: Disk>(rt: &impl Abort, disk: &mut D) -> Index<L1>
+    ensures stands { MayGoOn result (D.state disk.new) }
+    ensures going { result.stopped ≡ false }
+{
+    open_on(disk).expect(rt, "opened")
+}
+
+// Counts the objects of the index on a disk.
+fn count_on<D: Disk>(rt: &impl Abort, disk: &mut D) -> u32 {
+    let index = opened(rt, disk);
+    index.count()
 }
 
 // Does the commands of a script on an index.
@@ -94,17 +127,17 @@ fn run_on<R: AllocGlobal + Abort + Threads + Sync, M: Metric, D: Disk, K: Sink, 
     show: bool,
     out: &mut K,
     log_out: &mut T,
-) -> Result<Ended, Fail>
+) -> Ended
     requires going { index.old.stopped ≡ false }
     requires stands { MayGoOn index.old (D.state disk.old) }
     ensures stands { MayGoOn index.new (D.state disk.new) }
-    ensures going { IfOk result (λ ended. ended.stopped ≡ None → index.new.stopped ≡ false) }
+    ensures going { result.stopped ≡ None → index.new.stopped ≡ false }
 {
     let alloc = rt.alloc();
     let words = index.metric().words();
     assert!(rt; words == 1 && script.len() < 1_000);
-    let commands = read_script(alloc, script, words)?;
-    Ok(session(rt, alloc, index, disk, &commands, show, out, log_out))
+    let commands = read_script(alloc, script, words).expect(rt, "memory");
+    session(rt, alloc, index, disk, &commands, show, out, log_out)
 }
 
 // Opens the index on a disk, and does the commands of a script on it.
@@ -115,17 +148,18 @@ fn run<R: AllocGlobal + Abort + Threads + Sync, D: Disk, K: Sink, T: Sink>(
     show: bool,
     out: &mut K,
     log_out: &mut T,
-) -> Result<Ended, Fail> {
-    let mut index = open_on(disk)?;
+) -> Ended {
+    let mut index = opened(rt, disk);
     run_on(rt, &mut index, disk, script, show, out, log_out)
 }
 
-// How many logs these frames hold.
-fn count_logs(alloc: Global, frames: &[u8]) -> Result<usize, Fail> {
-    Ok(decode_frames(alloc, frames)?.len())
+// Counts the logs in these frames.
+fn count_logs(rt: &(impl AllocGlobal + Abort), frames: &[u8]) -> usize {
+    let logs = decode_frames(rt.alloc(), frames).expect(rt, "frames");
+    logs.len()
 }
 
-// A script that is done whole: whether its replies show tags, the replies, and how many commands and logs there are.
+// Describes a script that is done whole: whether its replies show tags, the replies, and its numbers of commands and logs.
 #[derive(Clone, Copy)]
 struct Whole<'a> {
     script: &'a [u8],
@@ -135,23 +169,24 @@ struct Whole<'a> {
     logs: usize,
 }
 
-// All commands of a script are done, with these replies and so many logs.
+// Checks that all commands of a script are done, with the replies and the logs of a case.
 fn check_whole<R: AllocGlobal + Abort + Threads + Sync, D: Disk>(
     rt: &R,
     disk: &mut D,
     case: &Whole<'_>,
-) -> Result<(), Fail> {
-    let alloc = rt.alloc();
-    let mut out = sink_of(alloc, &[])?;
-    let mut log_out = sink_of(alloc, &[])?;
-    let ended = run(rt, disk, case.script, case.show, &mut out, &mut log_out)?;
-    assert!(rt; (ended.acknowledged, ended.stopped) == (case.commands, None));
-    assert!(rt; out.written() == case.replies.as_bytes());
-    assert!(rt; count_logs(alloc, log_out.written())? == case.logs);
-    Ok(())
+) {
+    let mut out = sink_of(rt, &[]);
+    let mut log_out = sink_of(rt, &[]);
+    let ended = run(rt, disk, case.script, case.show, &mut out, &mut log_out);
+    holds(
+        rt,
+        (ended.acknowledged, ended.stopped) == (case.commands, None),
+    );
+    holds(rt, out.written() == case.replies.as_bytes());
+    holds(rt, count_logs(rt, log_out.written()) == case.logs);
 }
 
-// A cursor gives the objects that were there at its opening. Of cursors sixteen may be open, and no number is used again.
+// Gives the objects that were there when a cursor was opened. Opens sixteen cursors at most, and uses no number again.
 const WHOLE: [Whole<'static>; 7] = [
     Whole {
         script: b"insert,0\ninsert,10\ncursor,0\nnext,0,1\ninsert,1\nnext,0,5\nnext,0,1\nclose,0\nclose,0\n",
@@ -205,21 +240,19 @@ const WHOLE: [Whole<'static>; 7] = [
 ];
 
 #[test]
-fn sessions_are_answered(rt: HostRuntime) -> Result<(), Fail> {
+fn sessions_are_answered(rt: HostRuntime) {
     turns_are_their_meaning();
-    let alloc = rt.alloc();
-    for case in WHOLE {
-        let mut disk = empty_disk(alloc, None)?;
-        check_whole(&rt, &mut disk, &case)?;
+    for case in &WHOLE {
+        let mut disk = empty_disk(&rt, None);
+        check_whole(&rt, &mut disk, case);
     }
-    Ok(())
 }
 
-// Each command reads or writes, and each second one has a log.
+// Reads or writes by each command, and makes a log by each second one.
 const MIXED: &[u8] = b"insert,7\nrange,2,6\ninsert,9\nnearest,1,0\n";
 
-// Which puts of the replies and of the logs fail in a session of the mixed commands, how many of these are acknowledged,
-// what is replied, how many logs are written, and how many objects there are then.
+// Describes a session of the mixed commands in which puts of the replies and of the logs fail. Says how many commands are
+// acknowledged, what is replied, how many logs are written, and how many objects there are then.
 #[derive(Clone, Copy)]
 struct Broken {
     fails: &'static [u64],
@@ -281,37 +314,36 @@ const BROKEN: [Broken; 6] = [
     },
 ];
 
-// A session of the mixed commands ends where a put fails.
+// Checks that a session of the mixed commands ends where a put fails.
 fn check_broken<R: AllocGlobal + Abort + Threads + Sync, D: Disk>(
     rt: &R,
     disk: &mut D,
-    case: Broken,
-) -> Result<(), Fail> {
-    let alloc = rt.alloc();
-    let mut out = sink_of(alloc, case.fails)?;
-    let mut log_out = sink_of(alloc, case.log_fails)?;
-    let ended = run(rt, disk, MIXED, false, &mut out, &mut log_out)?;
-    assert!(rt; (ended.acknowledged, ended.stopped) == (case.acknowledged, Some(Stop::Sink)));
-    assert!(rt; out.written() == case.replies.as_bytes());
-    assert!(rt; count_logs(alloc, log_out.written())? == case.logs);
-    assert!(rt; open_on(disk)?.count() == case.count);
-    Ok(())
+    case: &Broken,
+) {
+    let mut out = sink_of(rt, case.fails);
+    let mut log_out = sink_of(rt, case.log_fails);
+    let ended = run(rt, disk, MIXED, false, &mut out, &mut log_out);
+    holds(
+        rt,
+        (ended.acknowledged, ended.stopped) == (case.acknowledged, Some(Stop::Sink)),
+    );
+    holds(rt, out.written() == case.replies.as_bytes());
+    holds(rt, count_logs(rt, log_out.written()) == case.logs);
+    holds(rt, count_on(rt, disk) == case.count);
 }
 
 #[test]
-fn a_session_ends_at_a_put_that_fails(rt: HostRuntime) -> Result<(), Fail> {
-    let alloc = rt.alloc();
-    for case in BROKEN {
-        let mut disk = empty_disk(alloc, None)?;
-        check_broken(&rt, &mut disk, case)?;
+fn a_session_ends_at_a_put_that_fails(rt: HostRuntime) {
+    for case in &BROKEN {
+        let mut disk = empty_disk(&rt, None);
+        check_broken(&rt, &mut disk, case);
     }
-    Ok(())
 }
 
-// A script with a cursor that stays open while objects are inserted.
+// Opens a cursor that stays open while objects are inserted.
 const STOPPED: &[u8] = b"insert,7\ninsert,3\ncursor,0\ninsert,12\nnext,0,9\ninsert,1\n";
 
-// What is written once so many of its commands are acknowledged, and how many objects there are then.
+// Lists what is written by the number of commands that are acknowledged, and how many objects there are then.
 const WRITTEN: [(&str, u64); 7] = [
     ("", 0),
     ("id 0\n", 1),
@@ -322,39 +354,38 @@ const WRITTEN: [(&str, u64); 7] = [
     ("id 0\nid 1\ncursor 0\nid 2\nnext 2\n1 3\n0 7\nid 3\n", 4),
 ];
 
-// The script on a disk that stops: how many objects are acknowledged.
-fn run_stopped<R: AllocGlobal + Abort + Threads + Sync, D: Disk>(
-    rt: &R,
-    disk: &mut D,
-) -> Result<u64, Fail> {
-    let alloc = rt.alloc();
-    let mut out = sink_of(alloc, &[])?;
-    let mut log_out = sink_of(alloc, &[])?;
-    let ended = run(rt, disk, STOPPED, false, &mut out, &mut log_out)?;
-    let done = if ended.acknowledged == 6 {
+// Gives what is written once `commands` commands are acknowledged, and the number of objects then.
+fn written_after(commands: u64) -> (&'static str, u64) {
+    match WRITTEN.get(commands as usize) {
+        Some(written) => *written,
+        None => ("more replies than commands", 0),
+    }
+}
+
+// Says where the script ends once `commands` commands are acknowledged.
+fn stop_after(commands: u64) -> Option<Stop> {
+    if commands == 6 {
         None
     } else {
         Some(Stop::Disk)
-    };
-    assert!(rt; ended.stopped == done);
-    let (replies, objects) = WRITTEN
-        .get(ended.acknowledged as usize)
-        .copied()
-        .ok_or("more replies than commands")?;
-    assert!(rt; out.written() == replies.as_bytes());
-    Ok(objects)
+    }
 }
 
-// What a crash left is opened, has the acknowledged objects or one more, and goes on.
-fn goes_on<R: AllocGlobal + Abort + Threads + Sync, D: Disk>(
-    rt: &R,
-    disk: &mut D,
-    objects: u64,
-) -> Result<(), Fail> {
-    let count = u64::from(open_on(disk)?.count());
-    assert!(rt; count == objects || count == objects.saturating_add(1));
+// Runs the script on a disk that stops, and counts the objects that are acknowledged.
+fn run_stopped<R: AllocGlobal + Abort + Threads + Sync, D: Disk>(rt: &R, disk: &mut D) -> u64 {
+    let mut out = sink_of(rt, &[]);
+    let mut log_out = sink_of(rt, &[]);
+    let ended = run(rt, disk, STOPPED, false, &mut out, &mut log_out);
+    holds(rt, ended.stopped == stop_after(ended.acknowledged));
+    let (replies, objects) = written_after(ended.acknowledged);
+    holds(rt, out.written() == replies.as_bytes());
+    objects
+}
+
+// Inserts one object more into an index of `count` objects.
+fn check_more<R: AllocGlobal + Abort + Threads + Sync, D: Disk>(rt: &R, disk: &mut D, count: u64) {
     let more = count.saturating_add(1);
-    let replies = format!(in rt.alloc(); "id {count}\ncount {more}\n")?;
+    let replies = format!(in rt.alloc(); "id {count}\ncount {more}\n").expect(rt, "memory");
     let case = Whole {
         script: b"insert,5\ncount\n",
         show: false,
@@ -362,28 +393,57 @@ fn goes_on<R: AllocGlobal + Abort + Threads + Sync, D: Disk>(
         commands: 2,
         logs: 0,
     };
-    check_whole(rt, disk, &case)
+    check_whole(rt, disk, &case);
+}
+
+// Checks that what a crash left is opened, has `objects` objects or one more, and goes on.
+fn check_goes_on<R: AllocGlobal + Abort + Threads + Sync, D: Disk>(
+    rt: &R,
+    disk: &mut D,
+    objects: u64,
+) {
+    let count = u64::from(count_on(rt, disk));
+    holds(rt, count == objects || count == objects.saturating_add(1));
+    check_more(rt, disk, count);
+}
+
+// Checks what a crash after the last call of a disk leaves.
+fn check_left<R: AllocGlobal + Abort + Threads + Sync, D: Watched>(
+    rt: &R,
+    disk: &D,
+    pick: u64,
+    objects: u64,
+) {
+    let image = disk.left(rt.alloc(), pick).expect(rt, "memory");
+    let mut again = disk_of(rt, image, None);
+    check_goes_on(rt, &mut again, objects);
+}
+
+// Runs the script on a disk that stops at the call `stop`, checks what that leaves, and counts the objects that are
+// acknowledged.
+fn check_stop<R: AllocGlobal + Abort + Threads + Sync>(rt: &R, stop: u64) -> u64 {
+    let mut disk = empty_disk(rt, Some(stop));
+    let objects = run_stopped(rt, &mut disk);
+    for pick in [0, 1, 165] {
+        check_left(rt, &disk, pick, objects);
+    }
+    objects
 }
 
 #[test]
-fn a_session_is_stopped_at_each_call_of_its_disk(rt: HostRuntime) -> Result<(), Fail> {
-    let alloc = rt.alloc();
+fn a_session_is_stopped_at_each_call_of_its_disk(rt: HostRuntime) {
     let mut objects = 0;
     for stop in 5..60 {
-        let mut disk = empty_disk(alloc, Some(stop))?;
-        objects = run_stopped(&rt, &mut disk)?;
-        for pick in [0, 1, 165] {
-            let mut again = disk_of(alloc, disk.left(alloc, pick)?, None)?;
-            goes_on(&rt, &mut again, objects)?;
-        }
+        objects = check_stop(&rt, stop);
     }
-    assert!(&rt; objects == 4);
-    Ok(())
+    holds(&rt, objects == 4);
 }
 
-// The scripts of two sessions on an index, and where the root stands after them: the pages of a cursor's tree are held until it
-// is closed, or its session is done.
-const ROOTS: [(&[u8], &[u8], u32); 6] = [
+// Describes the scripts of two sessions on an index, and where the root stands after them.
+type Rooted = (&'static [u8], &'static [u8], u32);
+
+// Holds the pages of a cursor's tree until the cursor is closed, or its session is done.
+const ROOTS: [Rooted; 6] = [
     (b"insert,0\n", b"", 4),
     (b"insert,0\ninsert,10\n", b"", 3),
     (b"insert,0\ninsert,10\ncursor,0\ninsert,1\n", b"", 4),
@@ -404,32 +464,35 @@ const ROOTS: [(&[u8], &[u8], u32); 6] = [
     ),
 ];
 
-// Where the root stands after two scripts.
+// Gives the page of the root after two scripts.
 fn root_after<R: AllocGlobal + Abort + Threads + Sync, D: Disk>(
     rt: &R,
     disk: &mut D,
     script: &[u8],
     more: &[u8],
-) -> Result<u32, Fail> {
-    let alloc = rt.alloc();
-    let mut out = sink_of(alloc, &[])?;
-    let mut log_out = sink_of(alloc, &[])?;
-    let mut index = open_on(disk)?;
-    let ended = run_on(rt, &mut index, disk, script, false, &mut out, &mut log_out)?;
+) -> u32 {
+    let mut out = sink_of(rt, &[]);
+    let mut log_out = sink_of(rt, &[]);
+    let mut index = opened(rt, disk);
+    let ended = run_on(rt, &mut index, disk, script, false, &mut out, &mut log_out);
     if ended.stopped.is_none() {
-        run_on(rt, &mut index, disk, more, false, &mut out, &mut log_out)?;
+        run_on(rt, &mut index, disk, more, false, &mut out, &mut log_out);
     }
-    Ok(index.live().root)
+    index.live().root
+}
+
+// Checks the page of the root after two scripts.
+fn check_root<R: AllocGlobal + Abort + Threads + Sync>(rt: &R, case: &Rooted) {
+    let (script, more, root) = *case;
+    let mut disk = empty_disk(rt, None);
+    holds(rt, root_after(rt, &mut disk, script, more) == root);
 }
 
 #[test]
-fn a_cursor_holds_the_pages_of_its_tree(rt: HostRuntime) -> Result<(), Fail> {
-    let alloc = rt.alloc();
-    for (script, more, root) in ROOTS {
-        let mut disk = empty_disk(alloc, None)?;
-        assert!(rt; root_after(&rt, &mut disk, script, more)? == root);
+fn a_cursor_holds_the_pages_of_its_tree(rt: HostRuntime) {
+    for case in &ROOTS {
+        check_root(&rt, case);
     }
-    Ok(())
 }
 
 const ONE: Whole<'static> = Whole {
@@ -440,38 +503,40 @@ const ONE: Whole<'static> = Whole {
     logs: 0,
 };
 
-// The bytes of an index of one object, of whose root's page one byte is changed.
-fn damaged_file<R: AllocGlobal + Abort + Threads + Sync>(rt: &R) -> Result<Vec<u8>, Fail> {
-    let alloc = rt.alloc();
-    let mut disk = empty_disk(alloc, None)?;
-    check_whole(rt, &mut disk, &ONE)?;
-    let mut bytes = disk.file().to_vec(alloc)?;
-    if let Some(byte) = bytes.get_mut(4 * 4096 + 1) {
-        *byte = 1;
+// Gives the bytes of an index of one object in which one byte of its root's page is changed.
+fn damaged_file<R: AllocGlobal + Abort + Threads + Sync>(rt: &R) -> Vec<u8> {
+    let mut disk = empty_disk(rt, None);
+    check_whole(rt, &mut disk, &ONE);
+    let mut bytes = copied(rt, &disk);
+    let at = 4 * 4096 + 1;
+    if at < bytes.len() {
+        bytes[at] = 1;
     }
-    Ok(bytes)
+    bytes
 }
 
-// A session ends at the first command that comes to the page.
-fn check_damaged<R: AllocGlobal + Abort + Threads + Sync, D: Disk>(
-    rt: &R,
-    disk: &mut D,
-) -> Result<(), Fail> {
-    let alloc = rt.alloc();
-    let mut out = sink_of(alloc, &[])?;
-    let mut log_out = sink_of(alloc, &[])?;
+// Says whether a session stopped since page 4 holds no node.
+fn is_bad(stopped: &Option<Stop>) -> bool {
+    matches!(stopped, Some(Stop::Damaged(PageFault::Bad(4, _))))
+}
+
+// Checks that a session ends at the first command that comes to the page.
+fn check_damaged<R: AllocGlobal + Abort + Threads + Sync, D: Disk>(rt: &R, disk: &mut D) {
+    let mut out = sink_of(rt, &[]);
+    let mut log_out = sink_of(rt, &[]);
     let script = b"count\nhello\nrange,0,7\ncount\n";
-    let ended = run(rt, disk, script, false, &mut out, &mut log_out)?;
-    assert!(rt; matches!(ended.stopped, Some(Stop::Damaged(PageFault::Bad(4, _)))));
-    assert!(rt; ended.acknowledged == 2);
-    assert!(rt; out.written() == b"count 1\nrefused command\n".as_slice());
-    assert!(rt; log_out.written().is_empty());
-    Ok(())
+    let ended = run(rt, disk, script, false, &mut out, &mut log_out);
+    holds(rt, is_bad(&ended.stopped));
+    holds(rt, ended.acknowledged == 2);
+    holds(
+        rt,
+        out.written() == b"count 1\nrefused command\n".as_slice(),
+    );
+    holds(rt, log_out.written().is_empty());
 }
 
 #[test]
-fn a_session_ends_at_a_damaged_page(rt: HostRuntime) -> Result<(), Fail> {
-    let alloc = rt.alloc();
-    let mut disk = disk_of(alloc, damaged_file(&rt)?, None)?;
-    check_damaged(&rt, &mut disk)
+fn a_session_ends_at_a_damaged_page(rt: HostRuntime) {
+    let mut disk = disk_of(&rt, damaged_file(&rt), None);
+    check_damaged(&rt, &mut disk);
 }

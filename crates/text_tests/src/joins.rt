@@ -1,14 +1,14 @@
 ghost use Rattle.std.specs.Prelude.{◌≡◌, All, length, IsTrue, IfOk};
 ghost use Rattle.vector_kinds.specs.Vectors.{vector_space};
 
+use crate::words::holds;
 use metric_laws::{Memory, Rows};
 use scan_model::{Pair, scan_join};
 use std::alloc::Global;
 use std::process::Abort;
-use std::test::Fail;
 use vector_kinds::L1;
 
-// Three numbers, as points of one coordinate.
+// Makes three numbers into points of one coordinate.
 fn rows_of(alloc: Global, numbers: [u32; 3]) -> Result<Rows, Memory>
     ensures points { IfOk result (λ rows. length rows.points ≡ 3) }
     ensures fit { IfOk result (λ rows. All (λ p. IsTrue ((vector_space 2 1).fits p)) rows.points) }
@@ -21,29 +21,34 @@ fn rows_of(alloc: Global, numbers: [u32; 3]) -> Result<Rows, Memory>
     Ok(rows)
 }
 
+// Joins 0, 5 and 9 with 9, 4 and 6 within 1.
+fn pairs_of(rt: &(impl AllocGlobal + Abort)) -> Vec<Pair> {
+    let left = rows_of(rt.alloc(), [0, 5, 9]).expect(rt, "memory");
+    let right = rows_of(rt.alloc(), [9, 4, 6]).expect(rt, "memory");
+    scan_join(rt.alloc(), &L1::new(1), &left, &right, 1).expect(rt, "memory")
+}
+
+// Lists the pairs within 1, by the left number and then by the right one.
+const WITHIN: [Pair; 3] = [
+    Pair {
+        left: 1,
+        right: 1,
+        dist: 1,
+    },
+    Pair {
+        left: 1,
+        right: 2,
+        dist: 1,
+    },
+    Pair {
+        left: 2,
+        right: 0,
+        dist: 0,
+    },
+];
+
 #[test]
-fn the_pairs_of_a_double_loop(rt: HostRuntime) -> Result<(), Fail> {
-    let alloc = rt.alloc();
-    let left = rows_of(alloc, [0, 5, 9])?;
-    let right = rows_of(alloc, [9, 4, 6])?;
-    let pairs = scan_join(alloc, &L1::new(1), &left, &right, 1)?;
-    let within = [
-        Pair {
-            left: 1,
-            right: 1,
-            dist: 1,
-        },
-        Pair {
-            left: 1,
-            right: 2,
-            dist: 1,
-        },
-        Pair {
-            left: 2,
-            right: 0,
-            dist: 0,
-        },
-    ];
-    assert!(rt; pairs.as_slice() == within.as_slice());
-    Ok(())
+fn the_pairs_of_a_double_loop(rt: HostRuntime) {
+    let pairs = pairs_of(&rt);
+    holds(&rt, pairs.as_slice() == WITHIN.as_slice());
 }

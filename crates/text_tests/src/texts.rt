@@ -1,138 +1,157 @@
+use crate::words::holds;
 use metric_laws::{Listed, Point};
 use rows_text::{Refusal, Reply, query_text, reply_text};
 use scan_model::{Hit, Pair, Query};
-use std::alloc::{AllocError, Global};
-use std::test::Fail;
+use std::process::Abort;
 
-fn hits(alloc: Global) -> Result<Listed<Hit>, AllocError> {
-    let mut hits = Vec::new(alloc);
-    hits.push(Hit { id: 3, dist: 0 })?;
-    hits.push(Hit {
+// Lists the hits that a reply tells of.
+const HITS: [Hit; 2] = [
+    Hit { id: 3, dist: 0 },
+    Hit {
         id: 4294967295,
         dist: 274877906944,
-    })?;
-    Ok(Listed::new(hits))
+    },
+];
+
+// Lists their tags.
+const TAGS: [u64; 2] = [18446744073709551615, 0];
+
+// Lists the pair that a reply tells of.
+const PAIRS: [Pair; 1] = [Pair {
+    left: 1,
+    right: 0,
+    dist: 1,
+}];
+
+// Gives the hits as they stand in a reply.
+fn hits(rt: &(impl AllocGlobal + Abort)) -> Listed<Hit> {
+    Listed::new(HITS.to_vec(rt.alloc()).expect(rt, "memory"))
 }
 
-fn tags(alloc: Global) -> Result<Listed<u64>, AllocError> {
-    let mut tags = Vec::new(alloc);
-    tags.push(18446744073709551615)?;
-    tags.push(0)?;
-    Ok(Listed::new(tags))
+// Gives the tags as they stand in a reply.
+fn tags(rt: &(impl AllocGlobal + Abort)) -> Listed<u64> {
+    Listed::new(TAGS.to_vec(rt.alloc()).expect(rt, "memory"))
 }
 
-fn pairs(alloc: Global) -> Result<Listed<Pair>, AllocError> {
-    let mut pairs = Vec::new(alloc);
-    pairs.push(Pair {
-        left: 1,
-        right: 0,
-        dist: 1,
-    })?;
-    Ok(Listed::new(pairs))
-}
-
-// Each reply and its text, where tags are hidden.
-#[test]
-fn replies_are_written(rt: HostRuntime) -> Result<(), Fail> {
-    let alloc = rt.alloc();
-    let cases: [(Reply, &str); 9] = [
-        (Reply::Id(7), "id 7\n"),
-        (Reply::Loaded(4), "loaded 4\n"),
-        (
-            Reply::Hits {
-                hits: hits(alloc)?,
-                tags: tags(alloc)?,
-            },
-            "hits 2\n3 0\n4294967295 274877906944\n",
-        ),
-        (
-            Reply::Next {
-                hits: hits(alloc)?,
-                tags: tags(alloc)?,
-            },
-            "next 2\n3 0\n4294967295 274877906944\n",
-        ),
-        (Reply::Pairs(pairs(alloc)?), "pairs 1\n1 0 1\n"),
-        (Reply::Count(0), "count 0\n"),
-        (Reply::Cursor(2), "cursor 2\n"),
-        (Reply::Closed(2), "closed 2\n"),
-        (Reply::Refused(Refusal::Row(12)), "refused row 12\n"),
-    ];
-    for (reply, text) in &cases {
-        let mut out = Vec::new(alloc);
-        reply_text(reply, false, &mut out)?;
-        assert!(rt; out.as_slice() == text.as_bytes());
+// Makes a reply of hits.
+fn hits_reply(rt: &(impl AllocGlobal + Abort)) -> Reply {
+    Reply::Hits {
+        hits: hits(rt),
+        tags: tags(rt),
     }
-    Ok(())
+}
+
+// Makes a reply of the next hits.
+fn next_reply(rt: &(impl AllocGlobal + Abort)) -> Reply {
+    Reply::Next {
+        hits: hits(rt),
+        tags: tags(rt),
+    }
+}
+
+// Makes a reply of pairs.
+fn pairs_reply(rt: &(impl AllocGlobal + Abort)) -> Reply {
+    Reply::Pairs(Listed::new(PAIRS.to_vec(rt.alloc()).expect(rt, "memory")))
+}
+
+// Checks the text of a reply, where tags are hidden.
+fn check_reply(rt: &(impl AllocGlobal + Abort), reply: &Reply, text: &str) {
+    let mut out = Vec::new(rt.alloc());
+    reply_text(reply, false, &mut out).expect(rt, "memory");
+    assert!(rt; out.as_slice() == text.as_bytes(), "{text}");
 }
 
 #[test]
-fn tags_are_shown(rt: HostRuntime) -> Result<(), Fail> {
-    let alloc = rt.alloc();
-    let hits = hits(alloc)?;
-    let tags = tags(alloc)?;
-    if tags.as_slice().len() != hits.as_slice().len() {
-        return Err("a tag for each hit".into());
-    }
-    let mut out = Vec::new(alloc);
-    reply_text(&Reply::Hits { hits, tags }, true, &mut out)?;
-    assert!(rt;
-        out.as_slice()
-            == b"hits 2\n3 18446744073709551615 0\n4294967295 0 274877906944\n".as_slice()
+fn replies_are_written(rt: HostRuntime) {
+    check_reply(&rt, &Reply::Id(7), "id 7\n");
+    check_reply(&rt, &Reply::Loaded(4), "loaded 4\n");
+    check_reply(
+        &rt,
+        &hits_reply(&rt),
+        "hits 2\n3 0\n4294967295 274877906944\n",
     );
-    Ok(())
+    check_reply(
+        &rt,
+        &next_reply(&rt),
+        "next 2\n3 0\n4294967295 274877906944\n",
+    );
+    check_reply(&rt, &pairs_reply(&rt), "pairs 1\n1 0 1\n");
+    check_reply(&rt, &Reply::Count(0), "count 0\n");
+    check_reply(&rt, &Reply::Cursor(2), "cursor 2\n");
+    check_reply(&rt, &Reply::Closed(2), "closed 2\n");
+    check_reply(&rt, &Reply::Refused(Refusal::Row(12)), "refused row 12\n");
+}
+
+// Gives the text of hits with their tags.
+fn text_with_tags(rt: &(impl AllocGlobal + Abort)) -> Vec<u8> {
+    let hits = hits(rt);
+    let tags = tags(rt);
+    assert!(rt; tags.as_slice().len() == hits.as_slice().len());
+    let mut out = Vec::new(rt.alloc());
+    reply_text(&Reply::Hits { hits, tags }, true, &mut out).expect(rt, "memory");
+    out
 }
 
 #[test]
-fn each_refusal_has_its_word(rt: HostRuntime) -> Result<(), Fail> {
-    let alloc = rt.alloc();
-    let cases = [
-        (Refusal::Command, "command"),
-        (Refusal::Dimension, "dimension"),
-        (Refusal::Number, "number"),
-        (Refusal::Count, "count"),
-        (Refusal::Short, "short"),
-        (Refusal::NotEmpty, "notempty"),
-        (Refusal::Full, "full"),
-        (Refusal::Worn, "worn"),
-        (Refusal::NoRoom, "noroom"),
-        (Refusal::ReadOnly, "readonly"),
-        (Refusal::NoCursor, "nocursor"),
-        (Refusal::Cursors, "cursors"),
-        (Refusal::Unfit, "unfit"),
-    ];
-    for (why, word) in &cases {
-        let mut out = Vec::new(alloc);
-        reply_text(&Reply::Refused(*why), false, &mut out)?;
-        let expected = format!(in alloc; "refused {word}\n")?;
-        assert!(rt; out.as_slice() == expected.as_bytes());
+fn tags_are_shown(rt: HostRuntime) {
+    let expected = "hits 2\n3 18446744073709551615 0\n4294967295 0 274877906944\n";
+    let out = text_with_tags(&rt);
+    holds(&rt, out.as_slice() == expected.as_bytes());
+}
+
+// Lists the refusals and their texts.
+const REFUSALS: [(Refusal, &str); 13] = [
+    (Refusal::Command, "refused command\n"),
+    (Refusal::Dimension, "refused dimension\n"),
+    (Refusal::Number, "refused number\n"),
+    (Refusal::Count, "refused count\n"),
+    (Refusal::Short, "refused short\n"),
+    (Refusal::NotEmpty, "refused notempty\n"),
+    (Refusal::Full, "refused full\n"),
+    (Refusal::Worn, "refused worn\n"),
+    (Refusal::NoRoom, "refused noroom\n"),
+    (Refusal::ReadOnly, "refused readonly\n"),
+    (Refusal::NoCursor, "refused nocursor\n"),
+    (Refusal::Cursors, "refused cursors\n"),
+    (Refusal::Unfit, "refused unfit\n"),
+];
+
+#[test]
+fn each_refusal_has_its_word(rt: HostRuntime) {
+    for (why, text) in &REFUSALS {
+        check_reply(&rt, &Reply::Refused(*why), text);
     }
-    Ok(())
+}
+
+// Checks the text of a query.
+fn check_query(rt: &(impl AllocGlobal + Abort), query: &Query, text: &str) {
+    let mut out = Vec::new(rt.alloc());
+    query_text(query, &mut out).expect(rt, "memory");
+    holds(rt, out.as_slice() == text.as_bytes());
+}
+
+// Makes a range query of two coordinates.
+fn range_of(rt: &(impl AllocGlobal + Abort)) -> Query {
+    Query::Range {
+        q: Point::new(rt.alloc(), &[0, 4294967295]).expect(rt, "memory"),
+        r: 18446744073709551615,
+    }
+}
+
+// Makes a query for the two nearest to a point of one coordinate.
+fn nearest_of(rt: &(impl AllocGlobal + Abort)) -> Query {
+    Query::Nearest {
+        q: Point::new(rt.alloc(), &[5]).expect(rt, "memory"),
+        k: 2,
+    }
 }
 
 #[test]
-fn queries_are_written_as_a_script_has_them(rt: HostRuntime) -> Result<(), Fail> {
-    let alloc = rt.alloc();
-    let cases = [
-        (
-            Query::Range {
-                q: Point::new(alloc, &[0, 4294967295])?,
-                r: 18446744073709551615,
-            },
-            "range,18446744073709551615,0,4294967295\n",
-        ),
-        (
-            Query::Nearest {
-                q: Point::new(alloc, &[5])?,
-                k: 2,
-            },
-            "nearest,2,5\n",
-        ),
-    ];
-    for (query, text) in &cases {
-        let mut out = Vec::new(alloc);
-        query_text(query, &mut out)?;
-        assert!(rt; out.as_slice() == text.as_bytes());
-    }
-    Ok(())
+fn queries_are_written_as_a_script_has_them(rt: HostRuntime) {
+    check_query(
+        &rt,
+        &range_of(&rt),
+        "range,18446744073709551615,0,4294967295\n",
+    );
+    check_query(&rt, &nearest_of(&rt), "nearest,2,5\n");
 }

@@ -17,7 +17,7 @@ loop-page-preserved c =
       gone = below_more _ _ (λ k low. All-filter (λ pair. not (nat_eq page pair.0)) (λ pair. get_or c.args.written.now k 0 ≢ pair.0) kept.entries (c.loop-page.invariant.gone k low)) law.1;
     })
 
--- a page that is not among the first so many is not among them all
+-- a page that is not among the first `count` is not among them all
 not_written : (written : List ℕ) (count page : ℕ) → length written ≤ count → ((k : ℕ) → k < count → get_or written k 0 ≢ page) → Contains written page → ⊥
 not_written written count page whole others (k, low, at) = others k (omega arith) (sym (get_or_default_zero written k page low) ∙ at)
 

@@ -1,7 +1,0 @@
-use Rattle.std.proofs.Common.{refl}
-use Rattle.node_page.specs.Heads.{is_version, is_space, is_policy, is_limit}
-use Rattle.job_tests.proofs.making.check.Goals as goal
-
-pub generate_index-status-requires-clause-lawful : goal.generate_index-status-requires-clause-lawful
-unfolding is_version is_space is_policy is_limit
-generate_index-status-requires-clause-lawful g c = λ κs within. record { version = refl; space = refl; policy = refl; limit = refl }
