@@ -45,9 +45,9 @@ def point(given: Any) -> Tuple[int, int, Any]:
     if about is not None:
         if len(about["shape"]) != 1:
             raise NoQuery(f"a point is an array of one dimension, and this one has {len(about['shape'])}")
-        if about["typestr"] == "<u4" and about.get("strides") is None:
-            return about["data"][0], about["shape"][0], given
-        given = given.tolist()
+        if about["typestr"] == "<u4" and about.get("strides") is None and isinstance(about.get("data"), tuple):
+            return about["data"][0], about["shape"][0], (given, about)
+        given = given.tolist() if hasattr(given, "tolist") else given
     try:
         numbers = list(given)
     except TypeError:

@@ -138,6 +138,10 @@ def compare_metrics():
                 raises(mtree.NoQuery, lambda: index.nearest([1, 1, 2, 3, 4, 5], 2), "no ranking, alone", "the point is not of")
 
 
+class Held(list):
+    """A list that can have attributes."""
+
+
 def compare_points():
     """What is no point, and what there is too little of."""
     rows = points_of("l1", 40, 3)
@@ -157,6 +161,9 @@ def compare_points():
                 same(plain(index.kneighbors([], 5)), [[], []], "no points")
                 same(plain(index.radius_neighbors([], 5)), [[], []], "no points within a radius")
                 same(len(index.nearest([1] * 6, 1 << 70)), 40, "more than there are")
+                held = Held([1] * 6)
+                held.__array_interface__ = {"shape": (6,), "typestr": "<u4", "version": 3, "data": array.array("I", held).tobytes()}
+                same(index.nearest(held, 3), index.nearest([1] * 6, 3), "an array whose data is no address")
                 same([index.nearest([1] * 6, 40)[:5]], [list(itertools.islice(index.iter_nearest([1] * 6), 5))], "the first ones")
         kept, _program._SCRIPT_BYTES = _program._SCRIPT_BYTES, 100
         same(index.insert(rows, range(40)), list(range(40, 80)), "scripts above the limit")
