@@ -6,6 +6,7 @@ pub mod Written
 pub mod Settled
 pub mod Listed
 pub mod Outcome
+pub mod Answered
 pub mod Tagged
 pub mod Loaded
 pub mod Pinned
