@@ -10,31 +10,14 @@ import subprocess
 import sys
 
 import mtree
+from mtree import _library
+from trying import PROGRAM, ended, raises, run, same, told
 
-PROGRAM, EXAMPLE = sys.argv[1], sys.argv[2]
-compared = failed = 0
-
-
-def same(found, wanted, about):
-    global compared, failed
-    compared += 1
-    if found != wanted:
-        failed += 1
-        print(f"{about}: {found!r}, and not {wanted!r}")
-
-
-def run(*words, given=""):
-    """Runs the program. Returns its status and what it writes."""
-    done = subprocess.run([PROGRAM, *words], input=given.encode(), stdout=subprocess.PIPE, stderr=subprocess.DEVNULL)
-    return done.returncode, done.stdout.decode()
+EXAMPLE = sys.argv[2]
 
 
 def reply(hits):
     return f"hits {len(hits)}\n" + "".join(f"{hit.id} {hit.tag} {hit.distance}\n" for hit in hits)
-
-
-def told(report):
-    return (0 if report.accepted else 1), report.text
 
 
 def queries(dim, most, count):
@@ -100,14 +83,6 @@ def compare_file(name, dim, most):
     hidden = run("batch", name, given=lines(asked))[1]
     found = subprocess.run([EXAMPLE, name], input=lines(asked).encode(), stdout=subprocess.PIPE)
     same((found.returncode, found.stdout.decode()), (0, hidden), f"the example in C on {name}")
-
-
-def raises(kind, call, about, words=""):
-    """Checks that `call` raises an exception of `kind`, with `words` in its text."""
-    try:
-        same(call(), kind.__name__, about)
-    except kind as error:
-        same(words in str(error), True, f"{about}: {error}")
 
 
 def compare_arguments(name, dim):
@@ -238,23 +213,23 @@ def compare_rooms(name, dim):
     """Tries buffers of every size around the needed one: what is told, and that nothing else is written."""
     file = open(name, "rb").read()
     point = (ctypes.c_uint32 * dim)(*[7] * dim)
-    library = mtree._library
+    library = _library.library
     for log_wanted in (0, 1):
-        needed = mtree._Sizes()
+        needed = _library.CSizes()
         status = library.mtree_nearest(file, len(file), point, dim, 3, None, 0, bytes(log_wanted), log_wanted, ctypes.byref(needed))
         same((status, needed.hits), (4, 3), f"no room at all, on {name}")
         for hits_room in range(needed.hits + 2):
             for log_room in {0, 1, needed.log - 1, needed.log, needed.log + 1} if log_wanted else {0}:
                 if log_wanted and log_room <= 0:
                     continue
-                hits, log, sizes = (mtree._Hit * (hits_room + 1))(), (ctypes.c_uint8 * (log_room + 1))(), mtree._Sizes()
+                hits, log, sizes = (_library.CHit * (hits_room + 1))(), (ctypes.c_uint8 * (log_room + 1))(), _library.CSizes()
                 ctypes.memset(hits, 0x55, ctypes.sizeof(hits))
                 ctypes.memset(log, 0x55, ctypes.sizeof(log))
                 status = library.mtree_nearest(file, len(file), point, dim, 3, hits, hits_room, log, log_room, ctypes.byref(sizes))
                 fits = hits_room >= needed.hits and log_room >= needed.log
                 same((status, sizes.hits, sizes.log), (0 if fits else 4, needed.hits, needed.log), f"rooms {hits_room} {log_room}")
                 first = needed.hits if fits else 0
-                same(set(bytes(hits)[first * ctypes.sizeof(mtree._Hit):]), {0x55}, f"behind the hits {hits_room} {log_room}")
+                same(set(bytes(hits)[first * ctypes.sizeof(_library.CHit):]), {0x55}, f"behind the hits {hits_room} {log_room}")
                 same(set(bytes(log)[needed.log if fits else 0:]), {0x55}, f"behind the log {hits_room} {log_room}")
     wanted = run("audit", name)[1].encode()
     for room in range(len(wanted) + 3):
@@ -305,8 +280,7 @@ def main():
     compare_arrays("words.mt", 8)
     compare_writing()
     compare_damage("tags.mt", 2)
-    print(f"bindings: {compared} comparisons, {failed} failed")
-    return 1 if failed else 0
+    return ended("the library")
 
 
 if __name__ == "__main__":

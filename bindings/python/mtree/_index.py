@@ -1,0 +1,493 @@
+"""The class `Index`."""
+
+from __future__ import annotations
+
+import ctypes
+import os
+import tempfile
+import threading
+from typing import Any, Callable, Generic, Iterable, Iterator, List, Optional, Tuple, TypeVar, Union
+
+from . import _library, _points, _program
+from ._answers import Hit, Node, Pair, Report, Shape
+from ._errors import NoQuery, Refused, Stopped
+from ._file import File, read_state
+from ._points import Points
+
+Path = Union[str, "os.PathLike[str]"]
+T = TypeVar("T")
+
+
+class Index:
+    """An index file that is open, and mapped. It is opened at once, and read only within the calls.
+
+    Each method may be called from several threads at once: `load` and `insert` wait for the calls that read, and those for them. A call that
+    reads holds the system's shared lock on the file, so no process writes the file under it. It sees all that was added before it. A call
+    raises `InUse` where another process, or another `Index` of this one, writes the file, and `load` and `insert` also where one reads it. It
+    raises ValueError where the index is closed.
+
+    A point is an iterable of `dim` whole numbers from 0 to 4294967295, or an array of numpy of one dimension. Points and rows are an iterable
+    of points, or an array of two dimensions, of any type of numbers and in any order of memory. Floats that are whole are taken."""
+
+    def __init__(self, path: Path) -> None:
+        """Opens the index file `path`. Raises OSError where it can't be read."""
+        self._file = File(os.fsdecode(path))
+        self._rooms = _Rooms()
+
+    @classmethod
+    def create(cls, path: Path, *, metric: str, dim: int, max_objects: Optional[int] = None, promote: Optional[str] = None,
+               split: Optional[str] = None) -> "Index":
+        """Makes an empty index in the file `path`, which is not there or is empty, and opens it.
+
+        `metric` is hamming, l1, max, kendall, hausdorff, mixsum, mixmax or l1cap. `dim` is 1 to 64, and even for mixsum and mixmax.
+        `max_objects` is how many objects the index may hold, 16777216 where it is not given. `promote` ("mrad" or "mmrad") and `split`
+        ("hyperplane" or "balanced") say how full nodes are split.
+
+        Raises ValueError where one of these is not what it may be, `NoIndex` where the file holds something, and OSError where it can't be
+        made."""
+        given = {"metric": metric, "dim": dim, "max": max_objects, "promote": promote, "split": split}
+        words = [word for name, value in given.items() if value is not None for word in (f"--{name}", str(value))]
+        _program.said(_program.run(["create", os.path.abspath(os.fsdecode(path)), *words]))
+        return cls(path)
+
+    @classmethod
+    def from_array(cls, path: Path, rows: Any, *, metric: str, tags: Any = None, workers: int = 1, max_objects: Optional[int] = None,
+                   promote: Optional[str] = None, split: Optional[str] = None) -> "Index":
+        """Makes an index of all `rows` at once, and opens it. Row i gets the id i.
+
+        `rows` has the shape (count, dim), and count is at least 1. `tags` are `count` whole numbers below 2^64, and the ids where they are not
+        given. `workers` is how many threads build the tree. The other parameters are those of `create`.
+
+        Raises what `create` and `load` raise. The file is removed where a row is refused."""
+        judged = Points(rows)
+        labels = None if tags is None else _points.tags(tags, len(judged))
+        if not len(judged):
+            raise ValueError("an index of no rows has no dimension: use create")
+        was_there = os.path.exists(path)
+        index = cls.create(path, metric=metric, dim=judged.dim or 0, max_objects=max_objects, promote=promote, split=split)
+        try:
+            index._load(judged, labels, workers)
+        except BaseException:
+            index.close()
+            if not was_there:
+                os.remove(path)
+            raise
+        return index
+
+    def load(self, rows: Any, tags: Any = None, *, workers: int = 1) -> int:
+        """Fills an empty index with all `rows`, of the shape (count, dim), or with none. Returns their number.
+
+        `tags` are `count` whole numbers below 2^64, and the ids where they are not given. `workers` is how many threads build the tree.
+
+        Raises `NoQuery` where a row holds no whole numbers, `Refused` where the index refuses one or holds objects, and ValueError where the
+        rows take more than 64 MiB as a script."""
+        judged = Points(rows)
+        return self._load(judged, None if tags is None else _points.tags(tags, len(judged)), workers)
+
+    def _load(self, rows: Points, tags: Optional[List[str]], workers: int) -> int:
+        script = _program.load_script(rows.lines(), tags)
+        with self._file.writing():
+            text = _program.said(_program.run(["session", self._file.whole_path, "--workers", str(workers)], script))
+        if not text.startswith("loaded "):
+            words = text.split("\n", 1)[0]
+            raise Refused(f"the load is {words}", int(words.rsplit(" ", 1)[1]) if words.startswith("refused row ") else 0, [])
+        return int(text.split()[1])
+
+    def insert(self, rows: Any, tags: Any = None) -> List[int]:
+        """Adds `rows`, of the shape (count, dim), one after another. Returns their ids. Each row is durable then.
+
+        `tags` are `count` whole numbers below 2^64, and the ids where they are not given. Each call starts a process, which takes
+        some milliseconds: hand in many rows at once.
+
+        Raises `NoQuery` where a row holds no whole numbers; then nothing is added. Raises `Refused` where the index refuses rows; the others
+        are added all the same. Raises `Stopped` where the program ended after some rows were added."""
+        judged = Points(rows)
+        labels = None if tags is None else _points.tags(tags, len(judged))
+        ids: List[int] = []
+        refused: List[Tuple[int, str]] = []
+        for script in _program.insert_scripts(judged.lines(), labels):
+            with self._file.writing():
+                ran = _program.run(["session", self._file.whole_path], script)
+            # A reply that was cut by the program's end is none.
+            for line in ran[1].split("\n")[:-1]:
+                if line.startswith("id "):
+                    ids.append(int(line[3:]))
+                elif line.startswith("refused "):
+                    refused.append((len(ids) + len(refused), line))
+            if ran[0] != 0:
+                cause = _program.error(ran)
+                if not ids:
+                    raise cause
+                raise Stopped(f"{cause}; {len(ids)} of {len(judged)} rows were added", len(ids) + len(refused), ids) from cause
+        if refused:
+            row, line = refused[0]
+            raise Refused(f"row {row} is {line}; {len(ids)} of {len(judged)} rows were added", row, ids)
+        return ids
+
+    def kneighbors(self, points: Any, n_neighbors: int = 5, return_distance: bool = True, return_tags: bool = False,
+                   n_jobs: Optional[int] = 1) -> Any:
+        """Finds the `n_neighbors` nearest objects of each of `points`, which have the shape (count, dim).
+
+        Returns `(distances, ids)`, arrays of int64 of the shape (count, n_neighbors), each row by distance, then by id. Where
+        `return_distance` is false, there are no distances. Where `return_tags` is true, an array of the tags, of uint64, comes last. An array
+        that is alone comes without a tuple. Without numpy they are lists of lists.
+
+        `n_jobs` is how many threads search. None is 1, and -1 is one on each processor.
+
+        Raises `NoQuery`, which names the row, where a point is none of the space, and where the index has fewer than `n_neighbors` objects."""
+        asked, wanted = Points(points), _points.count(n_neighbors)
+        numpy = _points.numpy_or_none()
+        with self._file.reading() as held:
+            objects = read_state(*held).objects
+            if wanted > objects:
+                raise NoQuery(f"n_neighbors is {n_neighbors}, and the index holds {objects} objects")
+            answers = self._each(held, asked, "nearest", wanted, n_jobs, _columns(numpy))
+        distances, ids, tags = ([answer[i] for answer in answers] for i in (0, 1, 2))
+        if numpy is not None:
+            shape = (len(asked), wanted)
+            arrays = [numpy.array(column, kind).reshape(shape) for column, kind in ((distances, "i8"), (ids, "i8"), (tags, "u8"))]
+            return _chosen(arrays, return_distance, return_tags)
+        return _chosen([distances, ids, tags], return_distance, return_tags)
+
+    def radius_neighbors(self, points: Any, radius: float, return_distance: bool = True, return_tags: bool = False,
+                         n_jobs: Optional[int] = 1) -> Any:
+        """Finds all objects within `radius` of each of `points`, which have the shape (count, dim).
+
+        Returns `(distances, ids)`, each an array of `count` arrays of int64, by distance, then by id. `return_distance`, `return_tags` and
+        `n_jobs` are as in `kneighbors`. Without numpy they are lists of lists.
+
+        Raises `NoQuery`, which names the row, where a point is none of the space, and where `radius` is negative or no number."""
+        asked, bound = Points(points), _points.radius(radius)
+        numpy = _points.numpy_or_none()
+        with self._file.reading() as held:
+            answers = self._each(held, asked, "range", bound, n_jobs, _columns(numpy))
+        columns: List[Any] = [[answer[i] for answer in answers] for i in (0, 1, 2)]
+        if numpy is not None:
+            columns = [_array_of_arrays(numpy, column) for column in columns]
+        return _chosen(columns, return_distance, return_tags)
+
+    def nearest(self, point: Iterable[int], count: int) -> List[Hit]:
+        """Returns the `count` objects nearest to `point`, by distance, then by id. There are fewer where the index holds fewer.
+
+        Raises `NoQuery` where `point` is none of the space or `count` is below 1, and `Damaged` where the search comes to a damaged page."""
+        return self._ask("nearest", point, _points.count(count))
+
+    def range(self, point: Iterable[int], radius: float) -> List[Hit]:
+        """Returns every object within `radius` of `point`, by distance, then by id. A `radius` of math.inf finds every object.
+
+        Raises `NoQuery` where `point` is none of the space or `radius` is negative, and `Damaged` where the search comes to a damaged page."""
+        return self._ask("range", point, _points.radius(radius))
+
+    def nearest_with_log(self, point: Iterable[int], count: int) -> Tuple[List[Hit], bytes]:
+        """Returns the answer of `nearest`, and the frame of the log that shows it. Raises `NoLibrary` too."""
+        return self._ask_library("nearest", point, _points.count(count), True)
+
+    def range_with_log(self, point: Iterable[int], radius: float) -> Tuple[List[Hit], bytes]:
+        """Returns the answer of `range`, and the frame of the log that shows it. Raises `NoLibrary` too."""
+        return self._ask_library("range", point, _points.radius(radius), True)
+
+    def nearest_of_each(self, points: Iterable[Iterable[int]], count: int, threads: int = 1) -> List[List[Hit]]:
+        """Returns the answer of `nearest` for each of `points`, in their order. Works by `threads` threads."""
+        asked, wanted = Points(points), _points.count(count)
+        with self._file.reading() as held:
+            return self._each(held, asked, "nearest", wanted, max(1, threads), _as_hits())
+
+    def range_of_each(self, points: Iterable[Iterable[int]], radius: float, threads: int = 1) -> List[List[Hit]]:
+        """Returns the answer of `range` for each of `points`, in their order. Works by `threads` threads."""
+        asked, bound = Points(points), _points.radius(radius)
+        with self._file.reading() as held:
+            return self._each(held, asked, "range", bound, max(1, threads), _as_hits())
+
+    def iter_nearest(self, point: Iterable[int]) -> Iterator[Hit]:
+        """Yields all objects one after another, by distance from `point`, then by id. Searches only as far as it is asked.
+
+        No lock is held between two hits. What is added meanwhile comes if it stands behind the last hit that was given. Each search takes
+        twice as many hits as the one before, so the first n cost at most what `nearest` takes for some 4 n.
+
+        Raises `NoQuery` at once where `point` is none of the space."""
+        numbers = _points.numbers(point)
+        return self._going_on(numbers, self.nearest(numbers, 16))
+
+    def _going_on(self, point: List[int], hits: List[Hit]) -> Iterator[Hit]:
+        count, last = 16, (-1, -1)
+        while True:
+            for hit in hits:
+                if (hit.distance, hit.id) > last:
+                    last = (hit.distance, hit.id)
+                    yield hit
+            if len(hits) < count:
+                return
+            count *= 2
+            hits = self.nearest(point, count)
+
+    def join(self, other: "Union[Index, Path]", radius: float) -> List[Pair]:
+        """Returns each pair of an object of this index and one of `other` that are at most `radius` apart, by the left id, then by the right id.
+
+        `other` is an index, or the path of one. It may be this one. Raises `Rejected` where the two have other metrics or dimensions."""
+        bound = _points.radius(radius)
+        path = other._file.whole_path if isinstance(other, Index) else os.path.abspath(os.fsdecode(other))
+        text = self._told(["join", self._file.whole_path, "--other", path, "--radius", str(bound)])
+        return [Pair(*map(int, line.split())) for line in text.splitlines()[1:]]
+
+    def shape(self) -> Shape:
+        """Returns the height of the tree, its objects and its nodes. Raises `Damaged` where the walk comes to a damaged page."""
+        lines = [line.split() for line in self._told(["shape", self._file.whole_path]).splitlines()]
+        nodes = [Node(int(level), int(entries), None if centre == "-" else tuple(map(int, centre.split(","))), None if reach == "-" else int(reach))
+                 for level, entries, centre, reach in lines[3:]]
+        return Shape(int(lines[0][1]), int(lines[1][1]), nodes)
+
+    def seal(self) -> bytes:
+        """Audits the file. Returns its root digest of 32 bytes, by which `mtree.prove` judges. Raises `Rejected` where it is not sound."""
+        return bytes.fromhex(self._told(["seal", self._file.whole_path]).split()[-1])
+
+    def carry(self, logs: Any) -> bytes:
+        """Returns carried logs: each of `logs` with the pages that it names and their paths to the root digest, as `mtree.prove` takes them.
+
+        `logs` are frames, one behind another, as any bytes-like object. Raises `Rejected` where a log is not accepted."""
+        held = _bytes(logs)
+        with tempfile.TemporaryDirectory(prefix="mtree-") as room:
+            log, carried = os.path.join(room, "log"), os.path.join(room, "carried")
+            with open(log, "wb") as file:
+                file.write(held)
+            self._told(["proof", self._file.whole_path, "--log", log, "--proof", carried])
+            with open(carried, "rb") as file:
+                return file.read()
+
+    def audit(self) -> Report:
+        """Audits the file. Raises `NoIndex` where it is no index, and `NoLibrary`."""
+        with self._file.reading() as (file, size):
+            return _library.report("mtree_audit", file, size)
+
+    def verify(self, logs: Any) -> Report:
+        """Judges the frames of `logs`, any bytes-like object, by the file. Does not audit the file.
+
+        Raises `NoIndex`, `TooLong` and `NoLibrary`, and TypeError where `logs` are no bytes."""
+        held = _bytes(logs)
+        with self._file.reading() as (file, size):
+            return _library.report("mtree_verify", file, size, held, len(held))
+
+    def check(self, logs: Any) -> Report:
+        """Audits the file. Where it is sound, judges the frames of `logs` by it and tells the answer of each accepted one. Raises what `verify`
+        raises."""
+        held = _bytes(logs)
+        with self._file.reading() as (file, size):
+            return _library.report("mtree_check", file, size, held, len(held))
+
+    @property
+    def path(self) -> str:
+        """Returns the file's path, as it was given."""
+        return self._file.path
+
+    @property
+    def metric(self) -> str:
+        """Returns the name of the metric. Raises `NoIndex` where the file is no index, as each of these properties."""
+        return self._file.state().metric
+
+    @property
+    def dim(self) -> int:
+        """Returns the number of coordinates of a point."""
+        return self._file.state().dim
+
+    @property
+    def max_objects(self) -> int:
+        """Returns the most objects that the index may hold."""
+        return self._file.state().max_objects
+
+    @property
+    def generation(self) -> int:
+        """Returns the generation of the file: 1 when it is made, and one more with each load and each inserted row."""
+        return self._file.state().generation
+
+    def __len__(self) -> int:
+        """Returns the number of objects in the index."""
+        return self._file.state().objects
+
+    def __bool__(self) -> bool:
+        """Returns True: an index that holds nothing is an index."""
+        return True
+
+    def __enter__(self) -> "Index":
+        return self
+
+    def __exit__(self, *_: Any) -> None:
+        self.close()
+
+    def __reduce__(self) -> Tuple[Any, ...]:
+        return Index, (self._file.whole_path,)
+
+    def __repr__(self) -> str:
+        return f"mtree.Index({self._file.path!r})"
+
+    def close(self) -> None:
+        """Closes the file, once no call of another thread is running. A later call raises ValueError."""
+        self._file.close()
+
+    def _told(self, words: List[str]) -> str:
+        """Returns what the program writes of the file. No other thread changes it meanwhile."""
+        with self._file.reading():
+            return _program.said(_program.run(words))
+
+    def _ask(self, word: str, point: Any, bound: int) -> List[Hit]:
+        if _library.is_here():
+            return self._ask_library(word, point, bound, False)[0]
+        asked = Points([point])
+        with self._file.reading() as held:
+            return self._each(held, asked, word, bound, 1, _as_hits(), is_one=True)[0]
+
+    def _ask_library(self, word: str, point: Any, bound: int, with_log: bool) -> Tuple[List[Hit], bytes]:
+        call = _library.call(f"mtree_{word}")
+        place, coordinates, kept = _points.point(point)
+        rooms, sizes = self._rooms, _library.CSizes()
+        with self._file.reading() as held:
+            while True:
+                log_room = len(rooms.log) if with_log else 0
+                status = call(*held, place, coordinates, bound, rooms.hits, len(rooms.hits), rooms.log, log_room, ctypes.byref(sizes))
+                if status != _library.SHORT:
+                    break
+                if sizes.hits > len(rooms.hits):
+                    rooms.hits = (_library.CHit * sizes.hits)()
+                if sizes.log > len(rooms.log):
+                    rooms.log = (ctypes.c_uint8 * sizes.log)()
+            if status != 0:
+                raise _no_answer(held, status, coordinates)
+        del kept
+        return _hits(rooms.hits, sizes.hits), bytes(memoryview(rooms.log)[: sizes.log])
+
+    def _each(self, held: Tuple[Any, int], points: Points, word: str, bound: int, n_jobs: Optional[int], kind: "_Kind[T]",
+              is_one: bool = False) -> List[T]:
+        """Returns the answers for `points`, each turned into what `kind` makes. The caller holds the file, whose bytes are `held`."""
+        threads = _points.jobs(n_jobs)
+        if not len(points):
+            return []
+        if not _library.is_here():
+            return [kind.of_hits(hits) for hits in self._each_by_program(held, points, word, bound, threads, is_one)]
+        call, places = _library.call(f"mtree_{word}"), points.places()
+        # A hit more than there are objects is never needed.
+        room = min(bound, max(1, read_state(*held).objects)) if word == "nearest" else 64
+
+        def work(first: int, end: int) -> List[T]:
+            hits, sizes, answers = (_library.CHit * room)(), _library.CSizes(), []
+            about = ctypes.byref(sizes)
+            for number in range(first, end):
+                place, coordinates = places[number]
+                status = call(*held, place, coordinates, bound, hits, len(hits), None, 0, about)
+                if status == _library.SHORT:
+                    hits = (_library.CHit * sizes.hits)()
+                    status = call(*held, place, coordinates, bound, hits, len(hits), None, 0, about)
+                if status != 0:
+                    raise _no_answer(held, status, coordinates, f"row {number}: ")
+                answers.append(kind.of_room(hits, sizes.hits))
+            return answers
+
+        threads = min(threads, len(places))
+        if threads == 1:
+            return work(0, len(places))
+        from concurrent.futures import ThreadPoolExecutor  # here, since it takes longer to load than many queries take
+
+        with ThreadPoolExecutor(threads) as workers:
+            cuts = [len(places) * i // threads for i in range(threads + 1)]
+            return [answer for part in workers.map(work, cuts[:-1], cuts[1:]) for answer in part]
+
+    def _each_by_program(self, held: Tuple[Any, int], points: Points, word: str, bound: int, threads: int, is_one: bool) -> List[List[Hit]]:
+        dim = read_state(*held).dim
+        lead = "" if is_one else "row {}: "
+        for number, (_, coordinates) in enumerate(points.places()):
+            if coordinates != dim:
+                raise NoQuery(lead.format(number) + _no_query(coordinates, dim))
+        answers: List[List[Hit]] = []
+        for script in _program.query_scripts(word, bound, points.lines()):
+            words = ["batch", self._file.whole_path, "--tags", "show", "--workers", str(threads)]
+            for hits in _program.answers(_program.said(_program.run(words, script))):
+                if hits is None:
+                    raise NoQuery(lead.format(len(answers)) + _no_query(dim, dim))
+                answers.append(hits)
+        return answers
+
+
+def prove(logs: Any, root: Any) -> Report:
+    """Judges the frames of carried logs in `logs` by `root`, the 32 bytes of an index's root digest, without the file.
+
+    `Index.carry` makes the carried logs, and `Index.seal` the digest. Both are any bytes-like objects. Raises ValueError where `root` has
+    another length, `TooLong` and `NoLibrary`."""
+    carried, digest = _bytes(logs), _bytes(root)
+    if len(digest) != 32:
+        raise ValueError(f"a root digest has 32 bytes, and this one {len(digest)}")
+    return _library.report("mtree_proof", carried, len(carried), digest)
+
+
+class _Rooms(threading.local):
+    """The buffers of one thread, which grow to what was needed."""
+
+    def __init__(self) -> None:
+        self.hits = (_library.CHit * 64)()
+        self.log = (ctypes.c_uint8 * 4096)()
+
+
+class _Kind(Generic[T]):
+    """How hits become what is wanted."""
+
+    def __init__(self, of_room: Callable[[Any, int], T], of_hits: Callable[[List[Hit]], T]) -> None:
+        self.of_room = of_room
+        self.of_hits = of_hits
+
+
+def _hits(room: Any, count: int) -> List[Hit]:
+    return [Hit(hit.id, hit.distance, hit.tag) for hit in room[:count]]
+
+
+def _as_hits() -> "_Kind[List[Hit]]":
+    return _Kind(_hits, lambda hits: hits)
+
+
+def _columns(numpy: Any) -> "_Kind[Tuple[Any, Any, Any]]":
+    """Makes distances, ids and tags of an answer: arrays, or lists where there is no numpy."""
+
+    def of_hits(hits: List[Hit]) -> Tuple[Any, Any, Any]:
+        distances, ids, tags = [hit[1] for hit in hits], [hit[0] for hit in hits], [hit[2] for hit in hits]
+        if numpy is None:
+            return distances, ids, tags
+        return numpy.array(distances, "i8"), numpy.array(ids, "i8"), numpy.array(tags, "u8")
+
+    if numpy is None:
+        return _Kind(lambda room, count: of_hits(_hits(room, count)), of_hits)
+    fields = numpy.dtype({"names": ["id", "distance", "tag"], "formats": ["u4", "u8", "u8"],
+                          "offsets": [getattr(_library.CHit, name).offset for name in ("id", "distance", "tag")],
+                          "itemsize": ctypes.sizeof(_library.CHit)})
+
+    def of_room(room: Any, count: int) -> Tuple[Any, Any, Any]:
+        held = numpy.frombuffer(room, fields, count)
+        return held["distance"].astype("i8"), held["id"].astype("i8"), held["tag"].copy()
+
+    return _Kind(of_room, of_hits)
+
+
+def _array_of_arrays(numpy: Any, column: List[Any]) -> Any:
+    held = numpy.empty(len(column), object)
+    for number, array in enumerate(column):
+        held[number] = array
+    return held
+
+
+def _chosen(columns: List[Any], with_distance: bool, with_tags: bool) -> Any:
+    """Returns those of distances, ids and tags that are wanted."""
+    wanted = [column for column, is_wanted in zip(columns, (with_distance, True, with_tags)) if is_wanted]
+    return wanted[0] if len(wanted) == 1 else tuple(wanted)
+
+
+def _no_answer(held: Tuple[Any, int], status: int, coordinates: int, lead: str = "") -> Exception:
+    """Returns the exception for a query that the library did not answer."""
+    if status == 2:
+        return NoQuery(lead + _no_query(coordinates, read_state(*held).dim))
+    return _library.error(status, "" if status == 8 else _library.text("mtree_audit", *held)[1])
+
+
+def _no_query(coordinates: int, dim: int) -> str:
+    """Says what is wrong with a point of `coordinates` numbers, on an index of `dim`."""
+    if coordinates != dim:
+        return f"the point has {coordinates} numbers, the index {dim}"
+    return "the point is not of the index's space: kendall takes rankings, and hausdorff sets of numbers"
+
+
+def _bytes(given: Any) -> bytes:
+    """Returns a bytes-like object as bytes. Raises TypeError for anything else."""
+    return given if isinstance(given, bytes) else bytes(memoryview(given))
