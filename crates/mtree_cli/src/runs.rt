@@ -84,7 +84,7 @@ fn fails(rt: &(impl AllocGlobal + Abort), call: Option<u64>) -> Vec<u64> {
     fails
 }
 
-// Makes a source that gives at most `piece` bytes at once, and of which the call `fail` fails.
+// Makes a source that gives at most `piece` bytes at once. Its call `fail` fails.
 fn source(
     rt: &(impl AllocGlobal + Abort),
     bytes: &[u8],
@@ -96,7 +96,7 @@ fn source(
     MemorySource::new(copied(rt, bytes), piece, fails(rt, fail))
 }
 
-// Makes a sink with room for `room` bytes, and of which the put `fail` fails.
+// Makes a sink with room for `room` bytes. Its put `fail` fails.
 fn sink(rt: &(impl AllocGlobal + Abort), room: usize, fail: Option<u64>) -> MemorySink {
     MemorySink::new(rt.alloc(), room, fails(rt, fail)).expect(rt, "memory")
 }
