@@ -57,7 +57,9 @@ fn log(rt: &(impl AllocGlobal + Abort), generation: u64, page: u32, mark: Mark, 
 }
 
 // Verifies a log on a file, and counts the pages asked for and the distances computed.
-fn verdict_on(alloc: Global, bytes: &[u8], log: &Log) -> (Result<Accepted, Verdict>, u64, u64) {
+fn verdict_on(alloc: Global, bytes: &[u8], log: &Log) -> (Result<Accepted, Verdict>, u64, u64)
+    requires { IsLawfulLog log.now }
+{
     let mut pages = ImagePages::new(bytes, 2, 5);
     let mut ruler = Meter::new(L1::new(2));
     let verdict = verify(alloc, &mut pages, &mut ruler, &LIVE, log);
@@ -141,7 +143,9 @@ fn join_log(rt: &(impl AllocGlobal + Abort), right: (u64, u32), mark: Mark) -> J
 }
 
 // Verifies the log of a join of a file with itself.
-fn join_verdict(alloc: Global, bytes: &[u8], log: &JoinLog) -> Result<Accepted, JoinVerdict> {
+fn join_verdict(alloc: Global, bytes: &[u8], log: &JoinLog) -> Result<Accepted, JoinVerdict>
+    requires { IsLawfulJoinLog log.now }
+{
     let mut left = ImagePages::new(bytes, 2, 5);
     let mut right = ImagePages::new(bytes, 2, 5);
     let mut ruler = Meter::new(L1::new(2));
