@@ -1,5 +1,5 @@
 -- The answers to one point more, and why points have no answers.
-use Rattle.std.proofs.Common.{◌≡◌, ◌≢◌, ◌⊎◌, inl, inr, ℕ, ◌+◌, ◌*◌, ◌^◌, ◌<◌, ◌≤◌, List, [], ◌∷◌, ◌++◌, length, take, drop, Result, Ok, Err, Some, IfOk, IfErr, refl, sym, subst, ap, ◌∙◌, arith}
+use Rattle.std.proofs.Common.{◌≡◌, ◌≢◌, inl, inr, ℕ, ◌+◌, ◌*◌, ◌^◌, ◌<◌, ◌≤◌, List, [], ◌∷◌, ◌++◌, length, take, drop, Result, Ok, Err, Some, IfOk, refl, sym, subst, ap, ◌∙◌, arith}
 use Rattle.std.specs.List.{AllZip}
 use Rattle.std.proofs.lemmas.List.{flat_map_more, length-map, map-append, take_all}
 use Rattle.std.proofs.lemmas.Slice.Zip.{AllZip-long}
@@ -18,11 +18,9 @@ use Rattle.page_cache.specs.Cache.{Cache}
 use Rattle.log_model.specs.declared.logs.Log.{Log}
 use Rattle.rows_text.specs.declared.command.Command.{Command}
 use Rattle.rows_text.specs.declared.reply.Reply.TheVariants as reply
-use Rattle.scan_model.specs.declared.query.Query.{Query}
 use Rattle.scan_model.specs.declared.query.Query.TheVariants as query
 use Rattle.file_jobs.specs.Jobs.{IsNoIndex}
 use Rattle.file_jobs.specs.Spaces.{space_of}
-use Rattle.answer_texts.specs.Asked.{query_of}
 use Rattle.image_answers.specs.declared.outcome.Outcome.{Outcome}
 use Rattle.image_answers.specs.declared.outcome.Outcome.TheVariants as outcome
 use Rattle.image_answers.specs.Outcomes.{ArePagesOf, IsOutcomeOf}
@@ -31,7 +29,7 @@ use Rattle.mtree_c.specs.declared.answering.TaggedHit.{TaggedHit}
 use Rattle.mtree_c.specs.declared.each.Ask.{Ask}
 use Rattle.mtree_c.specs.declared.each.Ask.TheVariants as asked
 use Rattle.mtree_c.specs.Answers.{ComesTo, HasNoAnswer, IsUnanswered, status_of, tagged}
-use Rattle.mtree_c.specs.Each.{AnswersRows, AnswersTo, AreHitsOf, HasNoAnswers, IsMislong, IsOpened, IsRow, command_of, counts_of, joined}
+use Rattle.mtree_c.specs.Each.{AnswersRows, AnswersTo, AreHitsOf, HasNoAnswers, IsOpened, IsRow, command_of}
 use Rattle.mtree_c.proofs.Coming.{unanswered}
 use Rattle.mtree_c.proofs.Putting.{length-tagged}
 use Rattle.mtree_c.proofs.Standing.{length-rows_of, one_row_more, row_stands}
