@@ -18,13 +18,14 @@
 
    Every call returns a status:
      0  done
-     1  the file or a log is rejected; the text names the fault (audit, verify, check, proof)
-     2  no query: the point is not of the file's space, or `count` is 0 (range, nearest)
+     1  the file or a log is rejected; the text names the fault (audit, seal, verify, check, proof)
+     2  no query: a point is not of the file's space, the points have another size, or `count` is 0 (range, nearest, range_each,
+        nearest_each)
      4  a buffer is too small; the sizes tell what is needed, and the buffers are as they were
      6  the bytes are no index of version 2
-     7  there are more than 2^30 bytes of logs (verify, check, proof)
+     7  there are more than 2^30 bytes of logs (verify, check, proof), or the file has more than 262144 pages (seal)
      8  out of memory
-     9  the search came to a damaged page; audit names the file's fault (range, nearest)
+     9  the search came to a damaged page; audit names the file's fault (range, nearest, range_each, nearest_each, shape)
    No call returns 5, the status of a device that failed: the bytes can always be read. */
 #ifndef MTREE_H
 #define MTREE_H
@@ -59,11 +60,46 @@ uint8_t mtree_range(const uint8_t *file, size_t file_size, const uint32_t *point
 uint8_t mtree_nearest(const uint8_t *file, size_t file_size, const uint32_t *point, size_t coordinates, uint64_t count,
                       struct mtree_hit *hits, size_t hits_room, uint8_t *log, size_t log_room, struct mtree_sizes *sizes);
 
+/* Finds every object within `radius` of each of `rows` points. The points stand one after another in `points`, which has `numbers`
+   numbers in all. The library keeps up to 16384 nodes that the searches read until the call ends. Puts the number of
+   hits of each point to `counts`, which has room for `rows` numbers. Puts the hits of all points to the front of `hits`, one point's
+   after another's, each point's by distance, then by id. Puts the number of all hits to `size`. Where the status is not 0, `hits` and
+   `counts` are as they were. Where it is neither 0 nor 4, `size` is 0. */
+uint8_t mtree_range_each(const uint8_t *file, size_t file_size, const uint32_t *points, size_t numbers, uint64_t radius,
+                         struct mtree_hit *hits, size_t hits_room, size_t *counts, size_t rows, size_t *size);
+
+/* Finds the `count` objects nearest to each of `rows` points. All else is as in mtree_range_each. */
+uint8_t mtree_nearest_each(const uint8_t *file, size_t file_size, const uint32_t *points, size_t numbers, uint64_t count,
+                           struct mtree_hit *hits, size_t hits_room, size_t *counts, size_t rows, size_t *size);
+
+/* What the head and the live slot of a file say. */
+struct mtree_description {
+    uint8_t kind;        /* the metric: 1 hamming, 2 l1, 3 max, 4 kendall, 5 hausdorff, 6 mixsum, 7 mixmax, 8 l1cap */
+    uint8_t dim;         /* the number of coordinates of a point, 1 to 64 */
+    uint8_t promote;     /* the promotion: 1 m_RAD, 2 mM_RAD */
+    uint8_t split;       /* the partition: 1 generalized hyperplane, 2 balanced */
+    uint32_t limit;      /* the greatest number of objects */
+    uint64_t generation; /* the number of commits that made the tree, from 1 */
+    uint32_t root;       /* the root's page */
+    uint32_t height;     /* the root's level */
+    uint32_t count;      /* the number of objects */
+    uint32_t pages;      /* the number of pages of the file that count */
+};
+
+/* Says what the file is. Where the status is 6, `description` is as it was. */
+uint8_t mtree_describe(const uint8_t *file, size_t file_size, struct mtree_description *description);
+
 /* Each of these calls puts to the front of `text` what the program `mtree` writes for the command of that name, and its size to
    `text_size`. It does so at every status but 4 and 8. The text is lines that end with a line feed. No NUL follows it. */
 
 /* Audits the file. */
 uint8_t mtree_audit(const uint8_t *file, size_t file_size, uint8_t *text, size_t text_room, size_t *text_size);
+
+/* Walks the tree of the file, and tells its nodes. */
+uint8_t mtree_shape(const uint8_t *file, size_t file_size, uint8_t *text, size_t text_room, size_t *text_size);
+
+/* Audits the file, and tells its root digest. */
+uint8_t mtree_seal(const uint8_t *file, size_t file_size, uint8_t *text, size_t text_room, size_t *text_size);
 
 /* Judges the frames of `logs` by the file. Does not audit the file. */
 uint8_t mtree_verify(const uint8_t *file, size_t file_size, const uint8_t *logs, size_t logs_size, uint8_t *text, size_t text_room,

@@ -1,3 +1,4 @@
 pub mod Rooms
 pub mod Answers
+pub mod Each
 pub mod Texts

@@ -54,10 +54,10 @@ const NOTHING: Sizes = Sizes { hits: 0, log: 0 };
 
 // The answer to a query: the hits by distance, then by id, their tags, and the log that shows them.
 #[derive(Drop)]
-struct Answer {
-    hits: Listed<Hit>,
-    tags: Listed<u64>,
-    log: Log,
+pub struct Answer {
+    pub hits: Listed<Hit>,
+    pub tags: Listed<u64>,
+    pub log: Log,
 }
 
 /// Reads the head and the live slot of a file of version 2, or returns the status where it is none.
@@ -77,7 +77,7 @@ pub fn open_file(alloc: Global, file: &[u8]) -> Result<(Head, Live), u8>
 }
 
 // Returns the answer in the outcome of a query, or the status where there is none.
-fn answer_of(came: Result<Outcome, Memory>) -> Result<Answer, u8>
+pub fn answer_of(came: Result<Outcome, Memory>) -> Result<Answer, u8>
     requires { IfOk came IsLawful }
     ensures each { IfOk result (λ a. length a.tags ≡ length a.hits) }
     ensures log { IfOk result (λ a. IsLawfulLog a.log) }

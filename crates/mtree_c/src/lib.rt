@@ -6,11 +6,14 @@
 
 mod answering;
 mod describing;
+mod each;
 mod ends;
 mod judging;
 mod rooms;
 
 pub use answering::{Sizes, TaggedHit, mtree_nearest, mtree_range};
+pub use describing::{Description, mtree_describe, mtree_seal, mtree_shape};
+pub use each::{mtree_nearest_each, mtree_range_each};
 pub use judging::{RootDigest, mtree_audit, mtree_check, mtree_proof, mtree_verify};
 
 /// The query can't be answered: its point is not in the file's space, or it asks for none of the nearest.

@@ -1,6 +1,7 @@
 use crate::{
-    RootDigest, Sizes, TaggedHit, mtree_audit, mtree_check, mtree_nearest, mtree_proof,
-    mtree_range, mtree_verify,
+    Description, RootDigest, Sizes, TaggedHit, mtree_audit, mtree_check, mtree_describe,
+    mtree_nearest, mtree_nearest_each, mtree_proof, mtree_range, mtree_range_each, mtree_seal,
+    mtree_shape, mtree_verify,
 };
 use std::alloc::{AllocError, Global};
 use std::test::Fail;
@@ -44,6 +45,12 @@ const NINE: TaggedHit = TaggedHit {
     tag: 8,
 };
 
+const NINE_ITSELF: TaggedHit = TaggedHit {
+    id: 1,
+    distance: 0,
+    tag: 8,
+};
+
 const NOTHING: Sizes = Sizes { hits: 0, log: 0 };
 
 // Ranges: the point, the radius, the room for hits, and the expected status, hits and number of hits.
@@ -82,6 +89,121 @@ fn ranges(rt: HostRuntime) -> Result<(), Fail> {
                 }
         );
     }
+    Ok(())
+}
+
+// Queries about two points: the points, the number of nearest, the room for hits, and the expected status, hits, counts and size.
+#[test]
+fn nearest_to_each(rt: HostRuntime) -> Result<(), Fail> {
+    let alloc = rt.alloc();
+    let file = file(alloc)?;
+    let cases: [(&[u32], u64, usize, u8, [TaggedHit; 2], [usize; 2], usize); 4] = [
+        (&[5, 9], 1, 2, 0, [FOUR, NINE_ITSELF], [1, 1], 2),
+        (&[5, 9], 1, 1, 4, [NO_HIT, NO_HIT], [7, 7], 2),
+        (&[5, 9, 9], 1, 2, 2, [NO_HIT, NO_HIT], [7, 7], 0),
+        (&[5, 9], 0, 2, 2, [NO_HIT, NO_HIT], [7, 7], 0),
+    ];
+    for (points, count, room, status, wanted, each, all) in &cases {
+        let mut hits = [NO_HIT; 2];
+        let mut counts = [7usize; 2];
+        let mut size = 9;
+        let room = (*room).min(2);
+        let found = mtree_nearest_each(
+            alloc,
+            &file,
+            points,
+            *count,
+            &mut hits[..room],
+            counts.as_mut_slice(),
+            &mut size,
+        );
+        assert!(rt; found == *status);
+        assert!(rt; hits == *wanted);
+        assert!(rt; (counts, size) == (*each, *all));
+    }
+    Ok(())
+}
+
+// Ranges about two points, where the second has more hits; and a file with a damaged page.
+#[test]
+fn ranges_about_each(rt: HostRuntime) -> Result<(), Fail> {
+    let alloc = rt.alloc();
+    let mut file = file(alloc)?;
+    let mut hits = [NO_HIT; 4];
+    let mut counts = [7usize; 2];
+    let mut size = 9;
+    let found = mtree_range_each(
+        alloc,
+        &file,
+        &[9, 5],
+        4,
+        hits.as_mut_slice(),
+        counts.as_mut_slice(),
+        &mut size,
+    );
+    assert!(rt; (found, counts, size) == (0, [1, 2], 3));
+    assert!(rt; hits == [NINE_ITSELF, FOUR, NINE, NO_HIT]);
+    let none = mtree_range_each(alloc, &file, &[], 4, &mut [], &mut [], &mut size);
+    assert!(rt; (none, size) == (0, 0));
+    if file.len() > 12288 {
+        file[12288] = 15;
+    }
+    let damaged = mtree_range_each(
+        alloc,
+        &file,
+        &[9, 5],
+        4,
+        hits.as_mut_slice(),
+        counts.as_mut_slice(),
+        &mut size,
+    );
+    assert!(rt; (damaged, counts, size) == (9, [1, 2], 0));
+    Ok(())
+}
+
+const UNSAID: Description = Description {
+    kind: 0,
+    dim: 0,
+    promote: 0,
+    split: 0,
+    limit: 0,
+    generation: 0,
+    root: 0,
+    height: 0,
+    count: 0,
+    pages: 0,
+};
+
+#[test]
+fn descriptions(rt: HostRuntime) -> Result<(), Fail> {
+    let alloc = rt.alloc();
+    let file = file(alloc)?;
+    let mut said = UNSAID;
+    let none = mtree_describe(alloc, &[], &mut said);
+    assert!(rt; (none, said) == (6, UNSAID));
+    let status = mtree_describe(alloc, &file, &mut said);
+    let wanted = Description {
+        kind: 2,
+        dim: 1,
+        promote: 2,
+        split: 1,
+        limit: 7,
+        generation: 1,
+        root: 3,
+        height: 0,
+        count: 2,
+        pages: 4,
+    };
+    assert!(rt; (status, said) == (0, wanted));
+    let shape = b"height 0\nobjects 2\nnodes 1\n0 2 - -\n";
+    let mut text = [0u8; 80];
+    let mut size = 0;
+    let status = mtree_shape(alloc, &file, text.as_mut_slice(), &mut size);
+    assert!(rt; status == 0);
+    assert!(rt; &text[..size.min(80)] == shape.as_slice());
+    let status = mtree_seal(alloc, &file, text.as_mut_slice(), &mut size);
+    assert!(rt; (status, size) == (0, 72));
+    assert!(rt; &text[..7] == b"sealed ".as_slice());
     Ok(())
 }
 

@@ -9,7 +9,7 @@ pub returns : goal.returns
 returns c =
     let job = c.seal_index-status in
     let before = c.new-disk.result in
-    let after = job.new.disk in
+    let after = job.new.index in
     let out = job.new.out in
     hands_text (IsSealText c.args.file.now) c.args.text.now c.hand_text.new.text out.bytes.items out.faults c.hand_text.new.size c.hand_text.result job.result.0
     c.hand_text.ensures.done c.hand_text.ensures.short c.hand_text.ensures.memory
