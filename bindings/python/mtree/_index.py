@@ -17,6 +17,9 @@ from ._points import Points
 Path = Union[str, "os.PathLike[str]"]
 T = TypeVar("T")
 
+_BLOCK = 1024
+"""How many points one call of the library answers. Their hits are in memory together."""
+
 
 class Index:
     """An index file that is open, and mapped. It is opened at once, and read only within the calls.
@@ -231,14 +234,14 @@ class Index:
 
     def shape(self) -> Shape:
         """Returns the height of the tree, its objects and its nodes. Raises `Damaged` where the walk comes to a damaged page."""
-        lines = [line.split() for line in self._told(["shape", self._file.whole_path]).splitlines()]
+        lines = [line.split() for line in self._said("shape").splitlines()]
         nodes = [Node(int(level), int(entries), None if centre == "-" else tuple(map(int, centre.split(","))), None if reach == "-" else int(reach))
                  for level, entries, centre, reach in lines[3:]]
         return Shape(int(lines[0][1]), int(lines[1][1]), nodes)
 
     def seal(self) -> bytes:
         """Audits the file. Returns its root digest of 32 bytes, by which `mtree.prove` judges. Raises `Rejected` where it is not sound."""
-        return bytes.fromhex(self._told(["seal", self._file.whole_path]).split()[-1])
+        return bytes.fromhex(self._said("seal").split()[-1])
 
     def carry(self, logs: Any) -> bytes:
         """Returns carried logs: each of `logs` with the pages that it names and their paths to the root digest, as `mtree.prove` takes them.
@@ -322,6 +325,16 @@ class Index:
         """Closes the file, once no call of another thread is running. A later call raises ValueError."""
         self._file.close()
 
+    def _said(self, command: str) -> str:
+        """Returns what a command says of the file alone: by the library, or else by the program."""
+        if not _library.is_here():
+            return self._told([command, self._file.whole_path])
+        with self._file.reading() as held:
+            status, text = _library.text(f"mtree_{command}", *held)
+            if status != 0:
+                raise _library.error(status, text)
+            return text
+
     def _told(self, words: List[str]) -> str:
         """Returns what the program writes of the file. No other thread changes it meanwhile."""
         with self._file.reading():
@@ -351,7 +364,7 @@ class Index:
             if status != 0:
                 raise _no_answer(held, status, coordinates)
         del kept
-        return _hits(rooms.hits, sizes.hits), bytes(memoryview(rooms.log)[: sizes.log])
+        return _hits(rooms.hits, 0, sizes.hits), bytes(memoryview(rooms.log)[: sizes.log])
 
     def _each(self, held: Tuple[Any, int], points: Points, word: str, bound: int, n_jobs: Optional[int], kind: "_Kind[T]",
               is_one: bool = False) -> List[T]:
@@ -366,6 +379,16 @@ class Index:
         room = min(bound, max(1, read_state(*held).objects)) if word == "nearest" else 64
 
         def work(first: int, end: int) -> List[T]:
+            answers: List[T] = []
+            if points.are_in_one:
+                for start in range(first, end, _BLOCK):
+                    block = self._block(held, places[start:min(start + _BLOCK, end)], word, bound, room, kind)
+                    # Where a row has no answer, each is asked for alone, so that the exception names the row.
+                    answers += one_by_one(start, min(start + _BLOCK, end)) if block is None else block
+                return answers
+            return one_by_one(first, end)
+
+        def one_by_one(first: int, end: int) -> List[T]:
             hits, sizes, answers = (_library.CHit * room)(), _library.CSizes(), []
             about = ctypes.byref(sizes)
             for number in range(first, end):
@@ -376,7 +399,7 @@ class Index:
                     status = call(*held, place, coordinates, bound, hits, len(hits), None, 0, about)
                 if status != 0:
                     raise _no_answer(held, status, coordinates, f"row {number}: ")
-                answers.append(kind.of_room(hits, sizes.hits))
+                answers.append(kind.of_room(hits, 0, sizes.hits))
             return answers
 
         threads = min(threads, len(places))
@@ -387,6 +410,23 @@ class Index:
         with ThreadPoolExecutor(threads) as workers:
             cuts = [len(places) * i // threads for i in range(threads + 1)]
             return [answer for part in workers.map(work, cuts[:-1], cuts[1:]) for answer in part]
+
+    def _block(self, held: Tuple[Any, int], places: List[Tuple[int, int]], word: str, bound: int, room: int, kind: "_Kind[T]") -> Optional[List[T]]:
+        """Returns the answers for points that stand one after another, by one call. Returns None where one of them has no answer."""
+        (place, coordinates), rows = places[0], len(places)
+        call = _library.call(f"mtree_{word}_each")
+        counts, size, hits = (ctypes.c_size_t * rows)(), ctypes.c_size_t(), (_library.CHit * (room * rows))()
+        status = call(*held, place, coordinates * rows, bound, hits, len(hits), counts, rows, ctypes.byref(size))
+        if status == _library.SHORT:
+            hits = (_library.CHit * size.value)()
+            status = call(*held, place, coordinates * rows, bound, hits, len(hits), counts, rows, ctypes.byref(size))
+        if status != 0:
+            return None
+        answers, start = [], 0
+        for count in counts:
+            answers.append(kind.of_room(hits, start, count))
+            start += count
+        return answers
 
     def _each_by_program(self, held: Tuple[Any, int], points: Points, word: str, bound: int, threads: int, is_one: bool) -> List[List[Hit]]:
         dim = read_state(*held).dim
@@ -426,13 +466,13 @@ class _Rooms(threading.local):
 class _Kind(Generic[T]):
     """How hits become what is wanted."""
 
-    def __init__(self, of_room: Callable[[Any, int], T], of_hits: Callable[[List[Hit]], T]) -> None:
+    def __init__(self, of_room: Callable[[Any, int, int], T], of_hits: Callable[[List[Hit]], T]) -> None:
         self.of_room = of_room
         self.of_hits = of_hits
 
 
-def _hits(room: Any, count: int) -> List[Hit]:
-    return [Hit(hit.id, hit.distance, hit.tag) for hit in room[:count]]
+def _hits(room: Any, start: int, count: int) -> List[Hit]:
+    return [Hit(hit.id, hit.distance, hit.tag) for hit in room[start : start + count]]
 
 
 def _as_hits() -> "_Kind[List[Hit]]":
@@ -449,13 +489,13 @@ def _columns(numpy: Any) -> "_Kind[Tuple[Any, Any, Any]]":
         return numpy.array(distances, "i8"), numpy.array(ids, "i8"), numpy.array(tags, "u8")
 
     if numpy is None:
-        return _Kind(lambda room, count: of_hits(_hits(room, count)), of_hits)
+        return _Kind(lambda room, start, count: of_hits(_hits(room, start, count)), of_hits)
     fields = numpy.dtype({"names": ["id", "distance", "tag"], "formats": ["u4", "u8", "u8"],
                           "offsets": [getattr(_library.CHit, name).offset for name in ("id", "distance", "tag")],
                           "itemsize": ctypes.sizeof(_library.CHit)})
 
-    def of_room(room: Any, count: int) -> Tuple[Any, Any, Any]:
-        held = numpy.frombuffer(room, fields, count)
+    def of_room(room: Any, start: int, count: int) -> Tuple[Any, Any, Any]:
+        held = numpy.frombuffer(room, fields, count, start * fields.itemsize)
         return held["distance"].astype("i8"), held["id"].astype("i8"), held["tag"].copy()
 
     return _Kind(of_room, of_hits)

@@ -7,7 +7,7 @@ import os
 from typing import Any, Optional, Tuple
 
 from ._answers import Report
-from ._errors import Damaged, Error, NoIndex, NoLibrary, TooLong
+from ._errors import Damaged, Error, NoIndex, NoLibrary, Rejected, TooLong
 
 SHORT = 4
 """The status of a call whose buffers are too small."""
@@ -37,6 +37,10 @@ def _load() -> Tuple[Optional[ctypes.CDLL], str]:
     calls = {
         "mtree_range": query,
         "mtree_nearest": query,
+        "mtree_range_each": query,
+        "mtree_nearest_each": query,
+        "mtree_shape": [place, size, place, size, place],
+        "mtree_seal": [place, size, place, size, place],
         "mtree_audit": [place, size, place, size, place],
         "mtree_verify": [place, size, place, size, place, size, place],
         "mtree_check": [place, size, place, size, place, size, place],
@@ -90,4 +94,4 @@ def error(status: int, words: str) -> Exception:
     """Returns the exception that a status of the library stands for."""
     if status == 8:
         return MemoryError("fault memory")
-    return {6: NoIndex, 7: TooLong, 9: Damaged}.get(status, Error)(words.strip())
+    return {1: Rejected, 6: NoIndex, 7: TooLong, 9: Damaged}.get(status, Error)(words.strip())

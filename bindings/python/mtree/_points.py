@@ -94,6 +94,11 @@ class Points:
             return int(self._table.shape[1])
         return self._rows[0][1] if self._rows else None
 
+    @property
+    def are_in_one(self) -> bool:
+        """Whether all points stand one after another in memory."""
+        return self._table is not None
+
     def places(self) -> List[Tuple[int, int]]:
         """Returns the place and the number of each point's coordinates. They live as long as this."""
         if self._table is None:
