@@ -401,7 +401,7 @@ def compare_processes():
                 same((stopped.row, stopped.ids, type(stopped.__cause__), "the disk is full; 2 of 5" in str(stopped)), (2, [7, 8], OSError, True), "what was acknowledged")
         with other_program("kill -9 $$\n"):
             raises(mtree.Error, lambda: index.insert([[1, 1]]), "a program that was killed", "signal 9")
-            raises(mtree.Error, index.shape, "a program that was killed before it told a shape", "signal 9")
+            raises(mtree.Error, lambda: index.join(index, 1), "a program that was killed before it told a join", "signal 9")
         with other_program("printf 'refused number\\nfault damaged bad 3 kind\\n'; echo 'mtree: 1 of 2 commands were refused' >&2; exit 9\n"):
             raises(mtree.Damaged, lambda: index.insert([[1, 1]]), "a damaged page beside a refusal", "fault damaged bad 3 kind")
         with other_program("exit 8\n"):
