@@ -18,12 +18,12 @@
 
    Every call returns a status:
      0  done
-     1  the file or a log is rejected; the text names the fault (audit, seal, verify, check, proof)
+     1  the file or a log is rejected; the text names the fault (audit, seal, verify, check, carry, proof)
      2  no query: a point is not of the file's space, the points have another size, or `count` is 0 (range, nearest, range_each,
         nearest_each)
      4  a buffer is too small; the sizes tell what is needed, and the buffers are as they were
      6  the bytes are no index of version 2
-     7  there are more than 2^30 bytes of logs (verify, check, proof), or the file has more than 262144 pages (seal)
+     7  there are more than 2^30 bytes of logs (verify, check, carry, proof), or the file has more than 262144 pages (seal, carry)
      8  out of memory
      9  the search came to a damaged page; audit names the file's fault (range, nearest, range_each, nearest_each, shape)
    No call returns 5, the status of a device that failed: the bytes can always be read. */
@@ -111,6 +111,18 @@ uint8_t mtree_check(const uint8_t *file, size_t file_size, const uint8_t *logs, 
 
 /* Judges the frames of carried logs in `logs` by `root`, the 32 bytes of an index's root digest, without the file. */
 uint8_t mtree_proof(const uint8_t *logs, size_t logs_size, const uint8_t *root, uint8_t *text, size_t text_room, size_t *text_size);
+
+/* The sizes of carried logs: the bytes of their frames, and the bytes of the text on them. Both are 0 at status 8. */
+struct mtree_carried_sizes {
+    size_t carried;
+    size_t text;
+};
+
+/* Judges the frames of `logs` by the file, and carries each log without a fault, so that mtree_proof needs the root digest alone. Puts the
+   frames of the carried logs to the front of `carried`, the lines of the program's `proof` to the front of `text`, and the sizes of both to
+   `sizes`. At status 4 and 8 both buffers are as they were. */
+uint8_t mtree_carry(const uint8_t *file, size_t file_size, const uint8_t *logs, size_t logs_size, uint8_t *carried, size_t carried_room,
+                    uint8_t *text, size_t text_room, struct mtree_carried_sizes *sizes);
 
 #ifdef __cplusplus
 }

@@ -1,6 +1,7 @@
 -- What a job says of a disk, a source and a sink is said of their bytes.
-use Rattle.std.proofs.Common.{◌≡◌, ◌≢◌, ◌⊎◌, inl, inr, ⊎_elim, ℕ, ◌<◌, List, [], ◌∷◌, ◌++◌, length, length-append, append_assoc, Option, Some, None, sym, subst, ◌∙◌, ap, arith}
+use Rattle.std.proofs.Common.{◌≡◌, ◌≢◌, ◌⊎◌, inl, inr, ⊎_elim, ℕ, ◌^◌, ◌<◌, List, [], ◌∷◌, ◌++◌, length, length-append, append_assoc, Option, Some, None, sym, subst, ◌∙◌, ap, arith}
 use Rattle.std.specs.Prelude.{codes, IsTrue, ◌≤◌}
+use Rattle.std.proofs.lemmas.Bool.{cases_lt}
 use Rattle.std.proofs.lemmas.List.{append-nil}
 use Rattle.std.specs.List.{concat, flat_map}
 use Rattle.std.specs.Io.KnownBytes.{Appends, Consumes, IsAtEnd}
@@ -20,6 +21,9 @@ use Rattle.log_jobs.specs.Jobs.{JudgesLogs, Says}
 use Rattle.mtree_c.specs.Rooms.{HandsText, StandAtFront}
 use Rattle.prune_log.specs.Spelling.{frame_bytes}
 use Rattle.seal_jobs.specs.Proofs.{IsProofStatus, ProvesLogs, Shown}
+use Rattle.seal_jobs.specs.Carries.{CarriesLogs, CarriesOn, IsCarriedLogsStatus, IsDone, IsRefusal}
+use Rattle.mtree_c.specs.declared.carrying.CarriedSizes.{CarriedSizes}
+use Rattle.mtree_c.specs.Carrying.{HandsCarried, IsCarriedText, carried_sizes}
 use Rattle.mtree_c.specs.Texts.{IsAuditText, IsLogText, IsProofText, IsSealText, IsShapeText, IsUnopenedText}
 
 pub unmoved : Rose 0 0 → ⊥
@@ -226,3 +230,64 @@ proof_text root logs left text l0 l1 o0 o1 status had has empty holds none never
     ends (inr (inr (inr (inl is)))) = absurd (not_short is)
     ends (inr (inr (inr (inr (inl is))))) = inr (inr is)
     ends (inr (inr (inr (inr (inr is))))) = absurd (not_memory is)
+
+-- ---- logs that are carried
+
+-- the frames and the lines are handed over, where the memory for them sufficed
+pub hands_carried : (Is : List ℕ → List ℕ → ℕ → Type 0) (carried0 carried1 text0 text1 frames text : List ℕ) (f0 f1 : ℕ) (sizes : CarriedSizes) (status of : ℕ)
+    → (status ≢ 4 → status ≢ 8 → (status ≡ of) × (f0 ≡ 0) × (f1 ≡ 0) × StandAtFront frames carried0 carried1 × StandAtFront text text0 text1 × (sizes ≡ carried_sizes frames text))
+    → (status ≡ 4 → (of ≢ 4) × (of ≢ 8) × (f0 ≡ 0) × (f1 ≡ 0) × (sizes ≡ carried_sizes frames text) × ((length carried0 < length frames) ⊎ (length text0 < length text)))
+    → (status ≡ 8 → (sizes.carried ≡ 0) × (sizes.text ≡ 0)) → ((status ≡ 4) ⊎ (status ≡ 8) → (carried1 ≡ carried0) × (text1 ≡ text0))
+    → (f0 ≡ 0 → f1 ≡ 0 → of ≢ 4 → of ≢ 8 → Is frames text of) → HandsCarried Is carried0 carried1 text0 text1 sizes status
+hands_carried Is carried0 carried1 text0 text1 frames text f0 f1 sizes status of done short memory same says = record {
+  done = λ a b. let d = done a b in (frames, text, subst (Is frames text) (sym d.0) (says d.1 d.2 (λ e. a (d.0 ∙ e)) (λ e. b (d.0 ∙ e))), d.3, d.4, d.5);
+  short = λ e. let s = short e in (frames, text, of, says s.2 s.3 s.0 s.1, s.4, s.5);
+  memory = memory;
+  same = same;
+}
+
+module _ (d0 d1 : DiskState) (o0 o1 : SinkState) (file text : List ℕ) (tells : IsTrue d0.tells) (bytes_are : d0.bytes ≡ file)
+    (empty : o0.written ≡ Some []) (holds : o1.written ≡ Some text) (none : o0.faults ≡ 0) (never : o1.faults ≡ 0)
+    (s0 s1 l0 l1 : Option (List ℕ)) (logs left frames : List ℕ) (had : s0 ≡ Some logs) (has : s1 ≡ Some left) (first : l0 ≡ Some []) (last : l1 ≡ Some frames) (status : ℕ)
+    (carries : CarriesLogs d0 d1 s0 s1 l0 l1 o0 o1 status) (not_input : status ≢ 3) (not_short : status ≢ 4) (not_disk : status ≢ 5) (not_memory : status ≢ 8) where
+  all_read : status ≢ 7 → carries.bytes ≡ logs
+  all_read other =
+      let few : length carries.bytes ≤ 2 ^ 30 = ⊎_elim (λ more. absurd (other (carries.too_many more))) (λ less. omega (arith, less)) (cases_lt (2 ^ 30) (length carries.bytes)) in
+      taken_all s0 s1 logs left carries.bytes had has carries.taken (carries.all not_input not_memory few)
+
+  carried_on : IsDone status → status ≢ 7 → CarriesOn file logs (Some []) (Some frames) (Some []) (Some text) status
+  carried_on is other =
+      subst (λ (x : List ℕ). CarriesOn x logs (Some []) (Some frames) (Some []) (Some text) status) bytes_are
+      (subst (λ (x : List ℕ). CarriesOn d0.bytes x (Some []) (Some frames) (Some []) (Some text) status) (all_read other)
+      (subst (λ (x : Option (List ℕ)). CarriesOn d0.bytes carries.bytes x (Some frames) (Some []) (Some text) status) first
+      (subst (λ (x : Option (List ℕ)). CarriesOn d0.bytes carries.bytes l0 x (Some []) (Some text) status) last
+      (subst (λ (x : Option (List ℕ)). CarriesOn d0.bytes carries.bytes l0 l1 x (Some text) status) empty
+      (subst (λ (x : Option (List ℕ)). CarriesOn d0.bytes carries.bytes l0 l1 o0.written x status) holds (carries.done is tells))))))
+
+  no_frames : IsRefusal status → frames ≡ []
+  no_frames is = let same : l1 ≡ l0 = carries.no_frame is in cc (same, first, last)
+
+  carry_ends : IsCarriedLogsStatus status → (status ≡ 0) ⊎ ((status ≡ 1) ⊎ ((status ≡ 6) ⊎ (status ≡ 7)))
+  carry_ends (inl is) = absurd (not_input is)
+  carry_ends (inr (inl is)) = inl is
+  carry_ends (inr (inr (inl is))) = inr (inl is)
+  carry_ends (inr (inr (inr (inl is)))) = absurd (not_short is)
+  carry_ends (inr (inr (inr (inr (inl is))))) = absurd (not_disk is)
+  carry_ends (inr (inr (inr (inr (inr (inl is)))))) = inr (inr (inl is))
+  carry_ends (inr (inr (inr (inr (inr (inr (inl is))))))) = inr (inr (inr is))
+  carry_ends (inr (inr (inr (inr (inr (inr (inr is))))))) = absurd (not_memory is)
+
+  pub carried_text : IsCarriedLogsStatus status → IsCarriedText file logs frames text status
+  carried_text statuses = record {
+    carried = λ is. carried_on is (⊎_elim (λ z. λ s. absurd (omega (arith, z, s))) (λ one. λ s. absurd (omega (arith, one, s))) is);
+    no_index = λ is.
+        let n = carries.not_index is in
+        ((n.0, subst (λ (x : List ℕ). IsNoIndex x n.0) bytes_are (n.2 tells), told o0 o1 text (not_index_text n.0) empty holds none never n.1), no_frames (inr (inl is)));
+    long = λ is.
+        let l = carries.long is in (
+          told o0 o1 text (codes "fault long\n") empty holds none never l.0,
+          no_frames (inr (inr is)),
+          ⊎_elim (λ big. inl (omega (arith, big, taken_front s0 s1 logs left carries.bytes had has carries.taken))) (λ large. inr (subst IsLarge bytes_are (large tells))) l.1,
+        );
+    statuses = carry_ends statuses;
+  }

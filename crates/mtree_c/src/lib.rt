@@ -5,6 +5,7 @@
 #![tactic(auto)]
 
 mod answering;
+mod carrying;
 mod describing;
 mod each;
 mod ends;
@@ -12,11 +13,12 @@ mod judging;
 mod rooms;
 
 pub use answering::{Sizes, TaggedHit, mtree_nearest, mtree_range};
+pub use carrying::{CarriedSizes, mtree_carry};
 pub use describing::{Description, mtree_describe, mtree_seal, mtree_shape};
 pub use each::{mtree_nearest_each, mtree_range_each};
 pub use judging::{RootDigest, mtree_audit, mtree_check, mtree_proof, mtree_verify};
 
-/// The query can't be answered: its point is not in the file's space, or it asks for none of the nearest.
+/// The query can't be answered: a point is not in the file's space, the points have another size, or none of the nearest are asked for.
 pub(crate) const NO_QUERY: u8 = 2;
 
 /// A buffer is too small.

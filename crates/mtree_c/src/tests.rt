@@ -1,7 +1,7 @@
 use crate::{
-    Description, RootDigest, Sizes, TaggedHit, mtree_audit, mtree_check, mtree_describe,
-    mtree_nearest, mtree_nearest_each, mtree_proof, mtree_range, mtree_range_each, mtree_seal,
-    mtree_shape, mtree_verify,
+    CarriedSizes, Description, RootDigest, Sizes, TaggedHit, mtree_audit, mtree_carry, mtree_check,
+    mtree_describe, mtree_nearest, mtree_nearest_each, mtree_proof, mtree_range, mtree_range_each,
+    mtree_seal, mtree_shape, mtree_verify,
 };
 use std::alloc::{AllocError, Global};
 use std::test::Fail;
@@ -286,6 +286,46 @@ fn texts(rt: HostRuntime) -> Result<(), Fail> {
     let mut sizes = NOTHING;
     let status = mtree_range(alloc, &file, &[5], 4, &mut [], &mut [], &mut sizes);
     assert!(rt; (status, sizes) == (9, NOTHING));
+    Ok(())
+}
+
+// A log of a file is carried. The sizes are told first, and then the frame and the lines are handed over.
+#[test]
+fn carries_a_log(rt: HostRuntime) -> Result<(), Fail> {
+    let alloc = rt.alloc();
+    let file = file(alloc)?;
+    let mut hits = [NO_HIT; 2];
+    let mut log = [0u8; 100];
+    let mut found = NOTHING;
+    let status = mtree_nearest(
+        alloc,
+        &file,
+        &[5],
+        2,
+        hits.as_mut_slice(),
+        log.as_mut_slice(),
+        &mut found,
+    );
+    assert!(rt; status == 0);
+    let frame = &log[..found.log.min(100)];
+    let mut sizes = CarriedSizes {
+        carried: 0,
+        text: 0,
+    };
+    let short = mtree_carry(alloc, &file, frame, &mut [], &mut [], &mut sizes);
+    assert!(rt; (short, sizes.text) == (4, 28));
+    let mut carried = vec![in alloc; 0u8; sizes.carried]?;
+    let mut text = [0u8; 28];
+    let status = mtree_carry(
+        alloc,
+        &file,
+        frame,
+        &mut carried,
+        text.as_mut_slice(),
+        &mut sizes,
+    );
+    assert!(rt; (status, sizes.carried) == (0, carried.len()));
+    assert!(rt; text.as_slice() == b"frame 0 carried\nlog carried\n".as_slice());
     Ok(())
 }
 
