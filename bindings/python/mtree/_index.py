@@ -248,6 +248,12 @@ class Index:
 
         `logs` are frames, one behind another, as any bytes-like object. Raises `Rejected` where a log is not accepted."""
         held = _bytes(logs)
+        if _library.is_here():
+            with self._file.reading() as file:
+                status, frames, text = _library.carried(*file, held, len(held))
+            if status != 0:
+                raise _library.error(status, text)
+            return frames
         with tempfile.TemporaryDirectory(prefix="mtree-") as room:
             log, carried = os.path.join(room, "log"), os.path.join(room, "carried")
             with open(log, "wb") as file:

@@ -25,6 +25,12 @@ class CSizes(ctypes.Structure):
     _fields_ = [("hits", ctypes.c_size_t), ("log", ctypes.c_size_t)]
 
 
+class CCarriedSizes(ctypes.Structure):
+    """`struct mtree_carried_sizes`."""
+
+    _fields_ = [("carried", ctypes.c_size_t), ("text", ctypes.c_size_t)]
+
+
 def _load() -> Tuple[Optional[ctypes.CDLL], str]:
     """Loads the library. Where it does not load, the second value says why."""
     name = os.environ.get("MTREE_LIBRARY") or os.path.join(os.path.dirname(os.path.abspath(__file__)), "libmtree.so")
@@ -41,6 +47,7 @@ def _load() -> Tuple[Optional[ctypes.CDLL], str]:
         "mtree_nearest_each": query,
         "mtree_shape": [place, size, place, size, place],
         "mtree_seal": [place, size, place, size, place],
+        "mtree_carry": [place, size, place, size, place, size, place, size, place],
         "mtree_audit": [place, size, place, size, place],
         "mtree_verify": [place, size, place, size, place, size, place],
         "mtree_check": [place, size, place, size, place, size, place],
@@ -80,6 +87,17 @@ def text(name: str, *given: Any) -> Tuple[int, str]:
         if status != SHORT:
             return status, bytes(memoryview(held)[: size.value]).decode("ascii")
         room = size.value
+
+
+def carried(*given: Any) -> Tuple[int, bytes, str]:
+    """Returns the status of `mtree_carry`, the frames of the carried logs, and the text."""
+    asked = call("mtree_carry")
+    sizes = CCarriedSizes(1 << 16, 4096)
+    while True:
+        frames, held = (ctypes.c_uint8 * max(1, sizes.carried))(), (ctypes.c_uint8 * max(1, sizes.text))()
+        status = asked(*given, frames, len(frames), held, len(held), ctypes.byref(sizes))
+        if status != SHORT:
+            return status, bytes(memoryview(frames)[: sizes.carried]), bytes(memoryview(held)[: sizes.text]).decode("ascii")
 
 
 def report(name: str, *given: Any) -> Report:
