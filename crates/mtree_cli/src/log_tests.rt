@@ -222,48 +222,41 @@ fn logs_that_are_accepted(rt: HostRuntime) {
 }
 
 // Describes a byte of the log that is changed, and the lines of `verify` and of `check`.
-type Rejected = (usize, u8, &'static str, &'static str);
+type Rejected = (&'static [(usize, u8)], &'static str, &'static str);
 
 const REJECTED: [Rejected; 7] = [
     (
-        35,
-        255,
+        &[(35, 255)],
         "log rejected cut\n",
         "file sound\nlog rejected cut\n",
     ),
     (
-        60,
-        3,
+        &[(60, 3)],
         "log rejected mark\n",
         "file sound\nlog rejected mark\n",
     ),
     (
-        59,
-        0,
+        &[(59, 0)],
         "log rejected tail\n",
         "file sound\nlog rejected tail\n",
     ),
     (
-        60,
-        1,
+        &[(60, 1)],
         "frame 0 rejected wrongmark 0 0\nlog rejected\n",
         "file sound\nframe 0 rejected wrongmark 0 0\nlog rejected\n",
     ),
     (
-        50,
-        8,
+        &[(50, 8)],
         "frame 0 rejected wronganswer 0\nlog rejected\n",
         "file sound\nframe 0 rejected wronganswer 0\nlog rejected\n",
     ),
     (
-        17,
-        3,
+        &[(17, 3)],
         "frame 0 rejected otherstate 2 3 2 4\nlog rejected\n",
         "file sound\nframe 0 rejected otherstate 2 3 2 4\nlog rejected\n",
     ),
     (
-        58,
-        3,
+        &[(58, 3)],
         "frame 0 rejected wrongpage 0\nlog rejected\n",
         "file sound\nframe 0 rejected wrongpage 0\nlog rejected\n",
     ),
@@ -271,17 +264,16 @@ const REJECTED: [Rejected; 7] = [
 
 // Checks that a log is rejected in which a byte is changed.
 fn check_rejected<R: AllocGlobal + Abort + Threads + Sync>(rt: &R, rejected: &Rejected) {
-    let (at, byte, verified, checked) = *rejected;
-    let log_change = [(at, byte)];
+    let (log_change, verified, checked) = *rejected;
     let verify = Case {
-        log_change: &log_change,
+        log_change,
         status: 1,
         output: verified,
         ..VERIFY
     };
     check(rt, &verify);
     let checking = Case {
-        log_change: &log_change,
+        log_change,
         status: 1,
         output: checked,
         ..CHECK

@@ -50,8 +50,8 @@ pub fn with_logs<'a>(words: &'a str, logs: &'a [u8]) -> Given<'a> {
 
 // Makes a disk that holds `bytes`, and from the call `stop` on fails.
 pub fn disk(rt: &(impl AllocGlobal + Abort), bytes: &[u8], stop: Option<u64>) -> MemoryDisk {
-    let room = (bytes.len() as u64).max(65536);
     let bytes = copied(rt, bytes);
+    let room = (bytes.len() as u64).max(65536);
     let fails = Vec::new(rt.alloc());
     MemoryDisk::new(rt.alloc(), bytes, room, 1_000_000, fails, stop).expect(rt, "memory")
 }
