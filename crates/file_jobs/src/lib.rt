@@ -18,4 +18,4 @@ pub use lines::{
     FAULT_DISK, FAULT_INPUT, FAULT_LONG, FAULT_MEMORY, FAULT_NOT_EMPTY, FAULT_VERSION,
     damaged_text, end_with, put_line, rejected_text, sound_text,
 };
-pub use shaping::{end_at_page, shape_index};
+pub use shaping::{end_at_page, shape_index, shape_opened};

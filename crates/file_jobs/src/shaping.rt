@@ -23,8 +23,8 @@ use std::alloc::Global;
 use tree_outline::{Shape, shape_of};
 use tree_shape::Live;
 
-// Returns the shape of an opened file of version 2.
-fn shape_opened<D: Disk>(
+/// Returns the shape of an opened file of version 2.
+pub fn shape_opened<D: Disk>(
     alloc: Global,
     disk: &mut D,
     head: &Head,

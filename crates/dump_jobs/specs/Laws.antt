@@ -1,0 +1,38 @@
+-- What the script of a file's objects makes.
+use Rattle.std.specs.Prelude.{◌≡◌, ℕ, ◌<◌, ◌≤◌, ◌^◌, List, [], ◌∷◌, length, map}
+use Rattle.std.specs.List.{AllByRecursion}
+use Rattle.tree_shape.specs.declared.live.Live.{Live}
+use Rattle.node_page.specs.declared.head.Head.{Head}
+use Rattle.page_store.specs.Files.{nodes_in, points_in, tags_in}
+use Rattle.rows_text.specs.Meaning.{Holdings, Setting, after, nothing_yet}
+use Rattle.rows_text.specs.Script.{load_tagged, script}
+use Rattle.file_jobs.specs.Shapes.{IsSound}
+use Rattle.file_jobs.specs.Spaces.{space_of}
+use Rattle.dump_jobs.specs.Rows.{HasRows}
+use Rattle.dump_jobs.specs.Scripts.{script_text}
+
+-- a tag and a point of `words` coordinates, as a file holds them
+pub record IsRow (words : ℕ) (row : ℕ × List ℕ) : Type 0 where
+  pub tag : row.0 < 2 ^ 64
+  pub long : length row.1 ≡ words
+  pub small : AllByRecursion (λ x. x < 2 ^ 32) row.1
+
+-- a script of objects is read as one load of them
+abbrev pub ScriptsReadBack : Type 0
+ScriptsReadBack =
+    (words : ℕ) (row : ℕ × List ℕ) (rows : List (ℕ × List ℕ)) → 1 ≤ words → length (row ∷ rows) < 2 ^ 64 → AllByRecursion (IsRow words) (row ∷ rows) →
+    script words (script_text (row ∷ rows)) ≡ load_tagged words (row ∷ rows) ∷ []
+
+-- the space and the limit of a head
+abbrev pub setting_of : Head → Setting
+setting_of head = record { space = space_of head; limit = head.limit }
+
+-- the objects of a file, in order of id
+abbrev pub objects_of : Head → Live → List ℕ → Holdings
+objects_of head live file = record { points = points_in head.dim live file; tags = tags_in head.dim live file }
+
+-- the script of a sound file's objects, run on an empty index of the same head, makes the file's list
+abbrev pub DumpsMakeAgain : Type 0
+DumpsMakeAgain =
+    (head : Head) (live : Live) (file : List ℕ) (rows : List (ℕ × List ℕ)) → IsSound head live file → HasRows (nodes_in head.dim live file) live rows →
+    (after (setting_of head) nothing_yet (script head.dim (script_text rows))).objects ≡ objects_of head live file

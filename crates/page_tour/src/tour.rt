@@ -1,0 +1,108 @@
+// A walk of a tree by the child numbers in its nodes.
+ghost use Rattle.std.specs.Prelude.{◌≡◌, ◌≤◌, ◌+◌, ◌++◌, [], ◌∷◌, map, reverse, IsTrue, IfOk, IfErr, IfSome, IfNone, OnOk};
+ghost use Rattle.metric_laws.specs.Space.{Space};
+ghost use Rattle.tree_shape.specs.Tree.{IsSoundTree};
+ghost use Rattle.page_store.specs.Reading.{nodes_of};
+ghost use Rattle.page_store.specs.Shelf.{HoldsSame, IsPassing};
+ghost use Rattle.page_store.specs.Tours.{HasTourCause};
+ghost use Rattle.page_tour.specs.Courses.{HasNodes, OpensNext, StopsNext};
+
+use page_store::{Memory, PageFault, Pages, SharedNode};
+use std::alloc::Global;
+use std::marker::Model;
+use tree_shape::{InnerEntry, Live, Node};
+
+/// A walk in pre-order, in progress. Contracts see the pages that it has still to open, the next one first, how many pages it has
+/// opened, and how many it may open.
+#[derive(Drop)]
+pub struct Tour {
+    // The pages that are still to come, the next one last.
+    stack: Vec<u32>,
+    opened: u32,
+    most: u32,
+}
+
+impl Model for Tour {
+    ghost use Rattle.std.specs.Prelude.{reverse};
+    ghost use Rattle.page_tour.specs.Courses.{Course};
+
+    ghost Value = { Course };
+
+    ghost view = { λ t. record { coming = reverse t.stack.items; opened = t.opened; most = t.most } };
+}
+
+// Pushes the children of `entries`, the first one topmost.
+fn put_on_top(stack: &mut Vec<u32>, entries: &[InnerEntry]) -> Result<(), Memory>
+    ensures { OnOk result (reverse stack.new.items ≡ map (λ e. e.child) entries.now ++ reverse stack.old.items) }
+{
+    for done in 0..entries.len() {
+        stack.push(entries[entries.len() - 1 - done].child)?;
+    }
+    Ok(())
+}
+
+impl Tour {
+    /// Begins a walk at the root of `live`. It may open as many pages as the file has.
+    pub fn begin(alloc: Global, live: &Live) -> Result<Self, Memory>
+        ensures { IfOk result (λ tour. tour ≡ record { coming = live.now.root ∷ []; opened = 0; most = live.now.pages }) }
+    {
+        Ok(Tour {
+            stack: vec![in alloc; live.root]?,
+            opened: 0,
+            most: live.pages,
+        })
+    }
+
+    /// Opens the next page and returns its number and its node. Returns `None` where no page is left. After as many pages as it may
+    /// open, one more is refused unasked, with [`PageFault::Repeats`].
+    pub fn next<P: Pages>(
+        &mut self,
+        alloc: Global,
+        pages: &mut P,
+    ) -> Result<Option<(u32, SharedNode)>, PageFault>
+        ensures same { HoldsSame (P.shelf pages.old) (P.shelf pages.new) }
+        ensures keeps { P.keeps pages.old pages.new }
+        ensures no_fault { OnOk result ((P.shelf pages.new).faults ≡ (P.shelf pages.old).faults) }
+        ensures reads { (P.shelf pages.new).reads ≤ (P.shelf pages.old).reads + 1 }
+        ensures ended { IfOk result (λ found. IfNone found ((self.old.coming ≡ []) × (self.new ≡ self.old))) }
+        ensures opened { IfOk result (λ found. IfSome found (λ one. OpensNext (P.shelf pages.old) self.old self.new one.0 one.1)) }
+        ensures stop { IfErr result (StopsNext (P.shelf pages.old) (P.shelf pages.new) self.old) }
+    {
+        let Some(page) = self.stack.pop() else {
+            return Ok(None);
+        };
+        if self.opened == self.most {
+            return Err(PageFault::Repeats(page));
+        }
+        let shared = pages.node(alloc, page)?;
+        if let Node::Inner { entries, .. } = shared.as_ref() {
+            if put_on_top(&mut self.stack, entries.as_slice()).is_err() {
+                return Err(PageFault::Memory);
+            }
+        }
+        self.opened += 1;
+        Ok(Some((page, shared)))
+    }
+}
+
+/// Returns the number of the tree's nodes, by a walk.
+pub fn count_nodes<P: Pages>(alloc: Global, pages: &mut P, live: &Live) -> Result<u32, PageFault>
+    ensures same { HoldsSame (P.shelf pages.old) (P.shelf pages.new) }
+    ensures keeps { P.keeps pages.old pages.new }
+    ensures no_fault { OnOk result ((P.shelf pages.new).faults ≡ (P.shelf pages.old).faults) }
+    ensures reads { (P.shelf pages.new).reads ≤ (P.shelf pages.old).reads + live.now.pages }
+    ensures counted { IfOk result (λ count. IsTrue (P.shelf pages.old).tells →
+        HasNodes (nodes_of (P.shelf pages.old).read) live.now count) }
+    ensures cause { IfErr result (HasTourCause live.now (P.shelf pages.old) (P.shelf pages.new)) }
+    ensures sound { IfErr result (λ fault. IsTrue (P.shelf pages.old).tells → (s : Space) →
+        IsSoundTree s (nodes_of (P.shelf pages.old).read) live.now → IsPassing fault) }
+{
+    let Ok(mut tour) = Tour::begin(alloc, live) else {
+        return Err(PageFault::Memory);
+    };
+    let mut count = 0;
+    while let Some(_) = tour.next(alloc, pages)? {
+        count += 1;
+    }
+    Ok(count)
+}

@@ -1,0 +1,28 @@
+// The job `show`, from its devices to its status.
+ghost use Rattle.std.specs.Prelude.{◌≡◌, ◌≤◌};
+ghost use Rattle.outside_io.specs.Causes.{Rose};
+ghost use Rattle.file_jobs.specs.Logs.Jobs.{IsLogStatus};
+ghost use Rattle.show_jobs.specs.Jobs.{ShowsLogs};
+
+/// Shows the logs of `log_in`, each as a walk of the index: whether it is accepted, or its first fault; its query and its answers; and
+/// then each opened node, in pre-order and indented by its depth, with a line for each entry: its place, the child's page or the
+/// object's id, and its mark with the numbers of its test (VLDB 1997, section 3.2). A log that is rejected is shown as far as its
+/// records lead. With [`Marks::Count`] it writes a line of numbers for each log instead. Status 1: a log is rejected, or the bytes are no
+/// logs; 3: they could not be read; 4: a line could not be written; 5: the disk failed; 6: the file is no index of version 2; 7: there
+/// are more than 2^30 bytes of logs; 8: memory ran out. Changes nothing.
+pub fn show_logs<D: Disk, S: Source, K: Sink>(
+    alloc: Global,
+    marks: Marks,
+    index: &mut D,
+    log_in: &mut S,
+    out: &mut K,
+) -> Status
+    ensures shows { ShowsLogs marks (D.state index.old) (D.state index.new) (S.left log_in.old) (S.left log_in.new)
+        (K.state out.old) (K.state out.new) result.0 }
+    ensures statuses { IsLogStatus result.0 }
+    ensures input { result.0 ≡ 3 → Rose (S.faults log_in.old) (S.faults log_in.new) }
+    ensures output { result.0 ≡ 4 → Rose (K.state out.old).faults (K.state out.new).faults }
+    ensures counts { (S.faults log_in.old ≤ S.faults log_in.new) × ((K.state out.old).faults ≤ (K.state out.new).faults) }
+{
+    todo!()
+}

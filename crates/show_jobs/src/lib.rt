@@ -1,0 +1,15 @@
+//! The job `show`: each log of a file as the walk that it tells of, in words.
+#![tactic(auto)]
+
+mod frames;
+mod jobs;
+pub mod laws;
+mod opened;
+mod reasons;
+mod report;
+mod shown;
+mod walking;
+
+pub use jobs::show_logs;
+pub use report::Marks;
+pub use shown::{Coming, Counts};
