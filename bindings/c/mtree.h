@@ -18,14 +18,15 @@
 
    Every call returns a status:
      0  done
-     1  the file or a log is rejected; the text names the fault (audit, seal, verify, check, carry, proof)
+     1  the file or a log is rejected; the text names the fault (audit, seal, verify, show, check, carry, proof)
      2  no query: a point is not of the file's space, the points have another size, or `count` is 0 (range, nearest, range_each,
         nearest_each)
      4  a buffer is too small; the sizes tell what is needed, and the buffers are as they were
      6  the bytes are no index of version 2
-     7  there are more than 2^30 bytes of logs (verify, check, carry, proof), or the file has more than 262144 pages (seal, carry)
+     7  there are more than 2^30 bytes of logs (verify, show, check, carry, proof), or the file has more than 262144 pages (seal, carry)
      8  out of memory
-     9  the search came to a damaged page; audit names the file's fault (range, nearest, range_each, nearest_each, shape)
+     9  a damaged page was met (range, nearest, range_each, nearest_each, shape, stats, dump), or an id is not there once (dump); audit
+        names the file's fault
    No call returns 5, the status of a device that failed: the bytes can always be read. */
 #ifndef MTREE_H
 #define MTREE_H
@@ -98,12 +99,22 @@ uint8_t mtree_audit(const uint8_t *file, size_t file_size, uint8_t *text, size_t
 /* Walks the tree of the file, and tells its nodes. */
 uint8_t mtree_shape(const uint8_t *file, size_t file_size, uint8_t *text, size_t text_room, size_t *text_size);
 
+/* Tells what is known of the file without its objects. */
+uint8_t mtree_stats(const uint8_t *file, size_t file_size, uint8_t *text, size_t text_room, size_t *text_size);
+
+/* Tells the objects of the file, as a script that makes them again. */
+uint8_t mtree_dump(const uint8_t *file, size_t file_size, uint8_t *text, size_t text_room, size_t *text_size);
+
 /* Audits the file, and tells its root digest. */
 uint8_t mtree_seal(const uint8_t *file, size_t file_size, uint8_t *text, size_t text_room, size_t *text_size);
 
 /* Judges the frames of `logs` by the file. Does not audit the file. */
 uint8_t mtree_verify(const uint8_t *file, size_t file_size, const uint8_t *logs, size_t logs_size, uint8_t *text, size_t text_room,
                      size_t *text_size);
+
+/* Judges the frames of `logs` by the file, and shows the walk that each of them tells of. Does not audit the file. */
+uint8_t mtree_show(const uint8_t *file, size_t file_size, const uint8_t *logs, size_t logs_size, uint8_t *text, size_t text_room,
+                   size_t *text_size);
 
 /* Audits the file. Where it is sound, judges the frames of `logs` by it, and tells the answer of each accepted one. */
 uint8_t mtree_check(const uint8_t *file, size_t file_size, const uint8_t *logs, size_t logs_size, uint8_t *text, size_t text_room,

@@ -10,7 +10,7 @@ use Rattle.job_words.specs.declared.files.PlacesFault.{PlacesFault}
 use Rattle.job_words.specs.declared.files.PlacesFault.TheVariants.{Usage, Memory}
 use Rattle.job_words.specs.Jobs.{texts_in}
 use Rattle.job_words.specs.declared.job.Job.{Job}
-use Rattle.job_words.specs.declared.job.Job.TheVariants.{Scan, Create, Session, Shape, Audit, Verify, Check, Join, Gen, Migrate, Batch, Seal, Carry, Prove}
+use Rattle.job_words.specs.declared.job.Job.TheVariants.{Scan, Create, Session, Shape, Stats, Dump, Show, Audit, Verify, Check, Join, Gen, Migrate, Batch, Seal, Carry, Prove}
 
 abbrev pub no_files : {Name : Type 0} → FileNames Name
 no_files = record { index = None; writes = false; other = None; log_in = None; makes = makes.Nothing }
@@ -24,13 +24,16 @@ abbrev pub made_log : {Name : Type 0} → Option Name → Makes Name
 made_log None = makes.Nothing
 made_log (Some log) = makes.Log log
 
--- The files of a job. `create`, `gen` and `migrate` make INDEX, and `session` writes an existing one. `verify`, `check` and `proof`
--- read the log, and the other jobs make it. `proof` with INDEX makes the file of its proofs.
+-- The files of a job. `create`, `gen` and `migrate` make INDEX, and `session` writes an existing one. `verify`, `check`, `show` and
+-- `proof` read the log, and the other jobs make it. `proof` with INDEX makes the file of its proofs.
 abbrev pub files_of : {Name : Type 0} → Job Name → FileNames Name
 files_of (Scan space limit show) = no_files
 files_of (Create index space policies limit) = record (on_index index) { makes = makes.Index }
 files_of (Session index log workers show) = record (on_index index) { writes = true; makes = made_log log }
 files_of (Shape index) = on_index index
+files_of (Stats index) = on_index index
+files_of (Dump index) = on_index index
+files_of (Show index log counts) = record (on_index index) { log_in = Some log }
 files_of (Audit index workers) = on_index index
 files_of (Verify index log other) = record (on_index index) { other = other; log_in = Some log }
 files_of (Check index log other) = record (on_index index) { other = other; log_in = Some log }
@@ -64,6 +67,9 @@ same_texts (Create index space policies limit) = refl
 same_texts (Session index None workers show) = refl
 same_texts (Session index (Some log) workers show) = refl
 same_texts (Shape index) = refl
+same_texts (Stats index) = refl
+same_texts (Dump index) = refl
+same_texts (Show index log counts) = refl
 same_texts (Audit index workers) = refl
 same_texts (Verify index log other) = refl
 same_texts (Check index log other) = refl

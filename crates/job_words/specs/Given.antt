@@ -72,6 +72,17 @@ show_or (Some text) =
 abbrev pub show_given : Given → Option Bool
 show_given given = show_or (given (codes "tags"))
 
+-- `--marks`: whether it is `count`
+abbrev pub counts_or : Option Text → Option Bool
+counts_or None = Some false
+counts_or (Some text) =
+    if bytes_eq text (codes "each") then Some false
+    else if bytes_eq text (codes "count") then Some true
+    else None
+
+abbrev pub counts_only_given : Given → Option Bool
+counts_only_given given = counts_or (given (codes "marks"))
+
 -- `--dim`: 1 to 64
 abbrev pub dim_given : Given → Option ℕ
 dim_given = number_given (codes "dim") 1 64 None

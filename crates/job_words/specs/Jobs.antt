@@ -6,9 +6,9 @@ use Rattle.std.specs.Str.{bytes_eq}
 use Rattle.clap.specs.Words.{Text}
 use Rattle.job_words.specs.Given.{Given}
 use Rattle.job_words.specs.Read.{nothing_read, read_words, value_in}
-use Rattle.job_words.specs.Rows.{audit_in, batch_in, carry_in, check_in, create_in, gen_in, join_in, migrate_in, prove_in, scan_in, seal_in, session_in, shape_in, verify_in}
+use Rattle.job_words.specs.Rows.{audit_in, batch_in, carry_in, check_in, create_in, dump_in, gen_in, join_in, migrate_in, prove_in, scan_in, seal_in, session_in, shape_in, show_in, stats_in, verify_in}
 use Rattle.job_words.specs.declared.job.Job.{Job}
-use Rattle.job_words.specs.declared.job.Job.TheVariants.{Scan, Create, Session, Shape, Audit, Verify, Check, Join, Gen, Migrate, Batch, Seal, Carry, Prove}
+use Rattle.job_words.specs.declared.job.Job.TheVariants.{Scan, Create, Session, Shape, Stats, Dump, Show, Audit, Verify, Check, Join, Gen, Migrate, Batch, Seal, Carry, Prove}
 use Rattle.job_words.specs.declared.job.JobFault.{JobFault}
 use Rattle.job_words.specs.declared.job.JobFault.TheVariants.{Usage, Memory}
 
@@ -23,6 +23,9 @@ job_named given command =
     else if bytes_eq command (codes "create") then create_in given
     else if bytes_eq command (codes "session") then session_in given
     else if bytes_eq command (codes "shape") then shape_in given
+    else if bytes_eq command (codes "stats") then stats_in given
+    else if bytes_eq command (codes "dump") then dump_in given
+    else if bytes_eq command (codes "show") then show_in given
     else if bytes_eq command (codes "audit") then audit_in given
     else if bytes_eq command (codes "verify") then verify_in given
     else if bytes_eq command (codes "check") then check_in given
@@ -47,6 +50,9 @@ texts_in (Scan space limit show) = Scan space limit show
 texts_in (Create index space policies limit) = Create index.now space policies limit
 texts_in (Session index log workers show) = Session index.now (option_map (λ s. s.now) log) workers show
 texts_in (Shape index) = Shape index.now
+texts_in (Stats index) = Stats index.now
+texts_in (Dump index) = Dump index.now
+texts_in (Show index log counts) = Show index.now log.now counts
 texts_in (Audit index workers) = Audit index.now workers
 texts_in (Verify index log other) = Verify index.now log.now (option_map (λ s. s.now) other)
 texts_in (Check index log other) = Check index.now log.now (option_map (λ s. s.now) other)

@@ -2,7 +2,7 @@
 use Rattle.std.specs.Prelude.{◌≡◌, ℕ, ◌≤◌, ◌%◌, true}
 use Rattle.job_words.specs.Names.{is_generated, is_halved}
 use Rattle.job_words.specs.declared.job.Job.{Job}
-use Rattle.job_words.specs.declared.job.Job.TheVariants.{Scan, Create, Session, Shape, Audit, Verify, Check, Join, Gen, Migrate, Batch, Seal, Carry, Prove}
+use Rattle.job_words.specs.declared.job.Job.TheVariants.{Scan, Create, Session, Shape, Stats, Dump, Show, Audit, Verify, Check, Join, Gen, Migrate, Batch, Seal, Carry, Prove}
 use Rattle.job_words.specs.declared.names.SpaceName.{SpaceName}
 
 -- a dimension is from 1 to 64, and even where the metric halves its points
@@ -29,6 +29,9 @@ IsLawful (Scan space limit show) = IsLawfulSpace space × IsLimit limit
 IsLawful (Create index space policies limit) = IsLawfulSpace space × IsLimit limit
 IsLawful (Session index log workers show) = AreWorkers workers
 IsLawful (Shape index) = Unit {0}
+IsLawful (Stats index) = Unit {0}
+IsLawful (Dump index) = Unit {0}
+IsLawful (Show index log counts) = Unit {0}
 IsLawful (Audit index workers) = AreWorkers workers
 IsLawful (Verify index log other) = Unit {0}
 IsLawful (Check index log other) = Unit {0}

@@ -1,7 +1,7 @@
 -- The rows of the table of commands: which options each command requires, and which it may have.
 use Rattle.std.specs.Prelude.{ℕ, Bool, List, [], ◌∷◌, codes, Option, Some, None, if◌then◌else◌}
 use Rattle.clap.specs.Words.{Text}
-use Rattle.job_words.specs.Given.{Given, has_other, count_given, generated_space_given, limit_given, policies_given, radius_given, root_given, seed_given, show_given, space_given, workers_given}
+use Rattle.job_words.specs.Given.{Given, has_other, count_given, generated_space_given, limit_given, policies_given, radius_given, root_given, seed_given, show_given, counts_only_given, space_given, workers_given}
 use Rattle.job_words.specs.declared.job.Job.{Job}
 use Rattle.job_words.specs.declared.job.Job.TheVariants as job
 use Rattle.job_words.specs.declared.names.SpaceName.{SpaceName}
@@ -48,6 +48,32 @@ shape_of None = None
 
 abbrev pub shape_in : Given → Option (Job Text)
 shape_in given = only (codes "INDEX" ∷ []) given (shape_of (given (codes "INDEX")))
+
+-- `stats INDEX`
+abbrev pub stats_of : Option Text → Option (Job Text)
+stats_of (Some index) = Some (job.Stats index)
+stats_of None = None
+
+abbrev pub stats_in : Given → Option (Job Text)
+stats_in given = only (codes "INDEX" ∷ []) given (stats_of (given (codes "INDEX")))
+
+-- `dump INDEX`
+abbrev pub dump_of : Option Text → Option (Job Text)
+dump_of (Some index) = Some (job.Dump index)
+dump_of None = None
+
+abbrev pub dump_in : Given → Option (Job Text)
+dump_in given = only (codes "INDEX" ∷ []) given (dump_of (given (codes "INDEX")))
+
+-- `show INDEX --log`, with `--marks` optional
+abbrev pub show_of : Option Text → Option Text → Option Bool → Option (Job Text)
+show_of (Some index) (Some log) (Some counts) = Some (job.Show index log counts)
+show_of _ _ _ = None
+
+abbrev pub show_in : Given → Option (Job Text)
+show_in given =
+    only (codes "INDEX" ∷ codes "log" ∷ codes "marks" ∷ []) given
+    (show_of (given (codes "INDEX")) (given (codes "log")) (counts_only_given given))
 
 -- `audit INDEX`, with `--workers` optional
 abbrev pub audit_of : Option Text → Option ℕ → Option (Job Text)

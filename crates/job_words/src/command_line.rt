@@ -31,9 +31,9 @@ fn with_options<'a>(
     Ok(command)
 }
 
-pub const OPTIONS: [&str; 14] = [
+pub const OPTIONS: [&str; 15] = [
     "metric", "dim", "max", "tags", "promote", "split", "log", "workers", "other", "radius",
-    "count", "seed", "proof", "root",
+    "count", "seed", "proof", "root", "marks",
 ];
 
 /// Returns the command line as `clap` reads it.

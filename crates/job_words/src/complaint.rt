@@ -4,8 +4,8 @@ use crate::command_line::{OPTIONS, command_line};
 use crate::names::{metric_named, promote_named, split_named};
 use crate::rows;
 use crate::values::{
-    count_in, dim_in, generated_space_in, limit_in, radius_in, root_in, seed_in, show_tags_in,
-    space_in, value, workers_in,
+    count_in, counts_only_in, dim_in, generated_space_in, limit_in, radius_in, root_in, seed_in,
+    show_tags_in, space_in, value, workers_in,
 };
 use clap::{ArgMatches, Error};
 use std::alloc::{AllocError, Global};
@@ -52,6 +52,9 @@ fn row_of(command: &str, has_index: bool) -> Option<Row> {
         "create" => (&rows::CREATE, 3),
         "session" => (&rows::SESSION, 1),
         "shape" => (&rows::SHAPE, 1),
+        "stats" => (&rows::STATS, 1),
+        "dump" => (&rows::DUMP, 1),
+        "show" => (&rows::SHOW, 2),
         "audit" => (&rows::AUDIT, 1),
         "verify" => (&rows::VERIFY, 2),
         "check" => (&rows::CHECK, 2),
@@ -113,6 +116,7 @@ fn allowed(matches: &ArgMatches<'_>, name: &str, given: &str) -> Option<&'static
             "a whole number from 0 to 18446744073709551615",
         ),
         "tags" => (show_tags_in(matches).is_some(), "show or hide"),
+        "marks" => (counts_only_in(matches).is_some(), "each or count"),
         "promote" => (promote_named(given).is_some(), "mrad or mmrad"),
         "split" => (split_named(given).is_some(), "hyperplane or balanced"),
         "root" => (root_in(matches).is_some(), "64 digits of 0 to 9 and a to f"),

@@ -97,7 +97,15 @@ pub fn files_of<Name: Copy>(job: Job<Name>) -> FileNames<Name>
             makes: made_log(log),
             ..on_index(index)
         },
-        Job::Shape { index } | Job::Audit { index, .. } | Job::Seal { index } => on_index(index),
+        Job::Shape { index }
+        | Job::Stats { index }
+        | Job::Dump { index }
+        | Job::Audit { index, .. }
+        | Job::Seal { index } => on_index(index),
+        Job::Show { index, log, .. } => FileNames {
+            log_in: Some(log),
+            ..on_index(index)
+        },
         Job::Verify { index, log, other } | Job::Check { index, log, other } => FileNames {
             other,
             log_in: Some(log),

@@ -29,6 +29,20 @@ pub enum Job<Name> {
     Shape {
         index: Name,
     },
+    /// `stats`: what is known of the index without its objects.
+    Stats {
+        index: Name,
+    },
+    /// `dump`: the objects of the index, as a script.
+    Dump {
+        index: Name,
+    },
+    /// `show`: the walk that each log tells of, or where `counts_only` is true how often each mark stands in it.
+    Show {
+        index: Name,
+        log: Name,
+        counts_only: bool,
+    },
     /// `audit`: whether the index is sound.
     Audit {
         index: Name,

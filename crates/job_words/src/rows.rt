@@ -3,12 +3,12 @@ ghost use Rattle.std.specs.Option.{option_map};
 ghost use Rattle.job_words.specs.Found.{given_in};
 ghost use Rattle.job_words.specs.Lawful.{IsLawful};
 ghost use Rattle.job_words.specs.Jobs.{proof_in, texts_in};
-ghost use Rattle.job_words.specs.Rows.{audit_in, batch_in, carry_in, check_in, create_in, gen_in, join_in, migrate_in, prove_in, scan_in, seal_in, session_in, shape_in, verify_in};
+ghost use Rattle.job_words.specs.Rows.{audit_in, batch_in, carry_in, check_in, create_in, dump_in, gen_in, join_in, migrate_in, prove_in, scan_in, seal_in, session_in, shape_in, show_in, stats_in, verify_in};
 
 use crate::job::Job;
 use crate::values::{
-    count_in, generated_space_in, has_other, limit_in, policies_in, radius_in, root_in, seed_in,
-    show_tags_in, space_in, value, workers_in,
+    count_in, counts_only_in, generated_space_in, has_other, limit_in, policies_in, radius_in,
+    root_in, seed_in, show_tags_in, space_in, value, workers_in,
 };
 use clap::ArgMatches;
 
@@ -21,6 +21,12 @@ pub const CREATE: [&str; 6] = ["INDEX", "metric", "dim", "promote", "split", "ma
 pub const SESSION: [&str; 4] = ["INDEX", "log", "workers", "tags"];
 
 pub const SHAPE: [&str; 1] = ["INDEX"];
+
+pub const STATS: [&str; 1] = ["INDEX"];
+
+pub const DUMP: [&str; 1] = ["INDEX"];
+
+pub const SHOW: [&str; 3] = ["INDEX", "log", "marks"];
 
 pub const AUDIT: [&str; 2] = ["INDEX", "workers"];
 
@@ -101,6 +107,47 @@ pub fn shape<'a>(matches: &ArgMatches<'a>) -> Option<Job<&'a str>>
     }
     Some(Job::Shape {
         index: value(matches, "INDEX")?,
+    })
+}
+
+/// Returns the job of `stats`, where its row accepts what is given.
+pub fn stats<'a>(matches: &ArgMatches<'a>) -> Option<Job<&'a str>>
+    ensures job { option_map texts_in result ≡ stats_in (given_in matches.now) }
+    ensures lawful { IfSome result IsLawful }
+{
+    if has_other(matches, &STATS) {
+        return None;
+    }
+    Some(Job::Stats {
+        index: value(matches, "INDEX")?,
+    })
+}
+
+/// Returns the job of `dump`, where its row accepts what is given.
+pub fn dump<'a>(matches: &ArgMatches<'a>) -> Option<Job<&'a str>>
+    ensures job { option_map texts_in result ≡ dump_in (given_in matches.now) }
+    ensures lawful { IfSome result IsLawful }
+{
+    if has_other(matches, &DUMP) {
+        return None;
+    }
+    Some(Job::Dump {
+        index: value(matches, "INDEX")?,
+    })
+}
+
+/// Returns the job of `show`, where its row accepts what is given.
+pub fn show<'a>(matches: &ArgMatches<'a>) -> Option<Job<&'a str>>
+    ensures job { option_map texts_in result ≡ show_in (given_in matches.now) }
+    ensures lawful { IfSome result IsLawful }
+{
+    if has_other(matches, &SHOW) {
+        return None;
+    }
+    Some(Job::Show {
+        index: value(matches, "INDEX")?,
+        log: value(matches, "log")?,
+        counts_only: counts_only_in(matches)?,
     })
 }
 

@@ -2,7 +2,7 @@ ghost use Rattle.std.specs.Prelude.{◌≡◌, ◌≤◌, map, option_map, IfSom
 ghost use Rattle.std.specs.List.{list_any};
 ghost use Rattle.std.specs.Str.{bytes_eq};
 ghost use Rattle.job_words.specs.Found.{given_in};
-ghost use Rattle.job_words.specs.Given.{is_other, has_other, number_given, dim_given, limit_given, workers_given, count_given, seed_given, radius_given, show_given, space_given, generated_space_given, policies_given, digest_of, root_given, promote_or, split_or, is_lower_digit};
+ghost use Rattle.job_words.specs.Given.{is_other, has_other, number_given, dim_given, limit_given, workers_given, count_given, seed_given, radius_given, show_given, counts_only_given, space_given, generated_space_given, policies_given, digest_of, root_given, promote_or, split_or, is_lower_digit};
 ghost use Rattle.job_words.specs.Lawful.{AreWorkers, IsCount, IsGeneratedSpace, IsLawfulSpace, IsLimit};
 ghost use Rattle.job_words.specs.Names.{is_halved, is_generated};
 
@@ -131,6 +131,18 @@ pub fn show_tags_in(matches: &ArgMatches<'_>) -> Option<bool>
         None => Some(false),
         Some("hide") => Some(false),
         Some("show") => Some(true),
+        Some(_) => None,
+    }
+}
+
+/// Returns whether `--marks` is `count`.
+pub fn counts_only_in(matches: &ArgMatches<'_>) -> Option<bool>
+    ensures { result ≡ counts_only_given (given_in matches.now) }
+{
+    match value(matches, "marks") {
+        None => Some(false),
+        Some("each") => Some(false),
+        Some("count") => Some(true),
         Some(_) => None,
     }
 }

@@ -14,17 +14,18 @@ use Rattle.file_jobs.specs.Lines.{damaged_text, not_index_text, rejected_text, s
 use Rattle.file_jobs.specs.Shapes.{IsDamaged, IsShapeOf, IsShapeStatus, IsSound, Shapes}
 use Rattle.page_store.specs.Files.{IsLarge}
 use Rattle.seal_jobs.specs.Seals.{IsSealed, IsSealStatus, Seals, sealed_text}
-use Rattle.file_jobs.specs.declared.logs.report.Report.{Report}
-use Rattle.file_jobs.specs.Logs.Jobs.{IsLogStatus}
 use Rattle.file_jobs.specs.Logs.Sayings.{Saying}
-use Rattle.log_jobs.specs.Jobs.{JudgesLogs, Says}
+use Rattle.file_jobs.specs.Logs.Jobs.{IsLogStatus, JudgesBytes, ReadsLogs, Writes}
 use Rattle.mtree_c.specs.Rooms.{HandsText, StandAtFront}
 use Rattle.prune_log.specs.Spelling.{frame_bytes}
 use Rattle.seal_jobs.specs.Proofs.{IsProofStatus, ProvesLogs, Shown}
 use Rattle.seal_jobs.specs.Carries.{CarriesLogs, CarriesOn, IsCarriedLogsStatus, IsDone, IsRefusal}
 use Rattle.mtree_c.specs.declared.carrying.CarriedSizes.{CarriedSizes}
 use Rattle.mtree_c.specs.Carrying.{HandsCarried, IsCarriedText, carried_sizes}
-use Rattle.mtree_c.specs.Texts.{IsAuditText, IsLogText, IsProofText, IsSealText, IsShapeText, IsUnopenedText}
+use Rattle.stats_jobs.specs.Jobs.{AreStatsOf, Stats, stats_text}
+use Rattle.dump_jobs.specs.Jobs.{Dumps, HoldsRows, IsDamaged as IsDumpDamaged, IsDumpStatus, fault_text}
+use Rattle.dump_jobs.specs.Scripts.{script_text}
+use Rattle.mtree_c.specs.Texts.{IsAuditText, IsDumpText, IsProofText, IsSealText, IsShapeText, IsStatsText, IsTextOnLogs, IsUnopenedText}
 
 pub unmoved : Rose 0 0 → ⊥
 unmoved rose = omega (arith, rose)
@@ -118,6 +119,46 @@ module _ (d0 d1 : DiskState) (o0 o1 : SinkState) (file text : List ℕ) (tells :
         statuses = ends;
       }
 
+  -- ---- stats
+
+  pub told_text : (status : ℕ) → Stats d0 d1 o0 o1 status → IsShapeStatus status → status ≢ 4 → status ≢ 5 → status ≢ 8 → IsStatsText file text status
+  told_text status stats statuses not_short not_disk not_memory =
+      let ends = shape_ends status statuses not_short not_disk not_memory in
+      record {
+        told = λ is.
+            let s = stats.done is in (
+              s.head,
+              s.live,
+              s.nodes,
+              s.levels,
+              subst (λ (x : List ℕ). AreStatsOf x s.head s.live s.nodes s.levels) bytes_are (s.are tells),
+              appended o0.written o1.written text (stats_text s.head s.live s.nodes s.levels) empty holds s.put,
+            );
+        no_index = λ is. let n = stats.not_index is in unopened n.0 n.1 n.2;
+        damaged = λ is.
+            let d = stats.damaged is in
+            (d.0, subst (λ (x : List ℕ). IsDamaged x d.0) bytes_are (d.2 tells), told o0 o1 text (damaged_text d.0) empty holds none never d.1);
+        sound = λ head live is. shaped_sound status ends (stats.sound tells head live (subst (λ (x : List ℕ). IsSound head live x) (sym bytes_are) is));
+        statuses = ends;
+      }
+
+  -- ---- dumps
+
+  pub dumped_text : (status : ℕ) → Dumps d0 d1 o0 o1 status → IsDumpStatus status → status ≢ 4 → status ≢ 5 → status ≢ 8 → IsDumpText file text status
+  dumped_text status dumps statuses not_short not_disk not_memory =
+      let ends = shape_ends status statuses not_short not_disk not_memory in
+      record {
+        dumped = λ is.
+            let d = dumps.done is in
+            (d.0, subst (λ (x : List ℕ). HoldsRows x d.0) bytes_are (d.2 tells), appended o0.written o1.written text (script_text d.0) empty holds d.1);
+        no_index = λ is. let n = dumps.not_index is in unopened n.0 n.1 n.2;
+        damaged = λ is.
+            let d = dumps.damaged is in
+            (d.0, subst (λ (x : List ℕ). IsDumpDamaged x d.0) bytes_are (d.2 tells), told o0 o1 text (fault_text d.0) empty holds none never d.1);
+        sound = λ head live is. shaped_sound status ends (dumps.sound tells head live (subst (λ (x : List ℕ). IsSound head live x) (sym bytes_are) is));
+        statuses = ends;
+      }
+
   -- ---- seals
 
   seal_ends : (status : ℕ) → IsSealStatus status → status ≢ 4 → status ≢ 5 → status ≢ 8 → (status ≡ 0) ⊎ ((status ≡ 1) ⊎ ((status ≡ 6) ⊎ (status ≡ 7)))
@@ -141,19 +182,26 @@ module _ (d0 d1 : DiskState) (o0 o1 : SinkState) (file text : List ℕ) (tells :
 
   -- ---- logs
 
-  module _ (what : Report) (l0 l1 : Option (List ℕ)) (logs left : List ℕ) (had : l0 ≡ Some logs) (has : l1 ≡ Some left) (status : ℕ) (judged : JudgesLogs what d0 d1 l0 l1 o0 o1 status)
+  -- what a job does that says of files and logs what `IsSaid` tells
+  abbrev pub SaysOn : (List ℕ → Type 0) → (List ℕ → List ℕ → Saying → Type 0) → Option (List ℕ) → Option (List ℕ) → ℕ → Type 0
+  SaysOn Same IsSaid l0 l1 status =
+      ReadsLogs (IsUnchanged d0 d1) (λ bytes. JudgesBytes (Same bytes) (IsTrue d0.tells → (said : Saying) × IsSaid d0.bytes bytes said × Writes status said o0 o1)
+      (Rose d0.faults d1.faults) (λ name. IsTrue d0.tells → IsNoIndex d0.bytes name) o0 o1 status) l0 l1 o0 o1 status
+
+  module _ (Same : List ℕ → Type 0) (IsSaid : List ℕ → List ℕ → Saying → Type 0) (l0 l1 : Option (List ℕ)) (logs left : List ℕ) (had : l0 ≡ Some logs) (has : l1 ≡ Some left) (status : ℕ)
+      (judged : SaysOn Same IsSaid l0 l1 status)
       (not_input : status ≢ 3) (not_short : status ≢ 4) (not_disk : status ≢ 5) (not_memory : status ≢ 8) where
     all_taken : status ≢ 7 → judged.bytes ≡ logs
     all_taken other = taken_all l0 l1 logs left judged.bytes had has judged.taken (judged.all not_input other not_memory)
 
     said : (status ≡ 0) ⊎ (status ≡ 1) → status ≢ 7 →
-        (s : Saying) × Says what file logs s × (text ≡ concat s.texts) × (status ≡ s.status)
+        (s : Saying) × IsSaid file logs s × (text ≡ concat s.texts) × (status ≡ s.status)
     said is other =
         let w = (judged.judges not_input other).done is tells in
         let e = w.2.ends.done is in
         let whole : w.0.texts ≡ w.2.put = w.2.whole ∙ ap (λ (x : List (List ℕ)). w.2.put ++ x) e.1 ∙ append-nil w.2.put in
         let put : text ≡ concat w.2.put = appended o0.written o1.written text (concat w.2.put) empty holds (subst (λ (m : Option (List ℕ)). Appends o0.written m (concat w.2.put)) (sym e.2) w.2.written) in
-        (w.0, subst (λ (x : List ℕ). Says what x logs w.0) bytes_are (subst (λ (x : List ℕ). Says what d0.bytes x w.0) (all_taken other) w.1), put ∙ ap concat (sym whole), e.0)
+        (w.0, subst (λ (x : List ℕ). IsSaid x logs w.0) bytes_are (subst (λ (x : List ℕ). IsSaid d0.bytes x w.0) (all_taken other) w.1), put ∙ ap concat (sym whole), e.0)
 
     log_ends : IsLogStatus status → (status ≡ 0) ⊎ ((status ≡ 1) ⊎ ((status ≡ 6) ⊎ (status ≡ 7)))
     log_ends (inl is) = absurd (not_input is)
@@ -165,7 +213,7 @@ module _ (d0 d1 : DiskState) (o0 o1 : SinkState) (file text : List ℕ) (tells :
     log_ends (inr (inr (inr (inr (inr (inr (inl is))))))) = inr (inr (inl is))
     log_ends (inr (inr (inr (inr (inr (inr (inr is))))))) = absurd (not_memory is)
 
-    pub log_text : IsLogStatus status → IsLogText what file logs text status
+    pub log_text : IsLogStatus status → IsTextOnLogs (IsSaid file logs) file logs text status
     log_text statuses = record {
       judged = λ is. said is (⊎_elim (λ z. λ s. absurd (omega (arith, z, s))) (λ one. λ s. absurd (omega (arith, one, s))) is);
       no_index = λ is. let n = (judged.judges not_input (λ s. omega (arith, is, s))).not_index is in unopened n.0 n.1 n.2;

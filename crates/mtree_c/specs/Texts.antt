@@ -16,6 +16,13 @@ use Rattle.log_jobs.specs.Jobs.{Says}
 use Rattle.file_jobs.specs.Logs.Sayings.{Saying}
 use Rattle.prune_log.specs.Spelling.{frame_bytes}
 use Rattle.seal_jobs.specs.Proofs.{AreShown, IsEnd, Shown, all_accepted}
+use Rattle.stats_jobs.specs.declared.numbers.LevelNumbers.{LevelNumbers}
+use Rattle.stats_jobs.specs.Jobs.{AreStatsOf, stats_text}
+use Rattle.dump_jobs.specs.declared.fault.DumpFault.{DumpFault}
+use Rattle.dump_jobs.specs.Jobs.{HoldsRows, IsDamaged as IsDumpDamaged, fault_text}
+use Rattle.dump_jobs.specs.Scripts.{script_text}
+use Rattle.show_jobs.specs.declared.report.Marks.TheVariants as marks
+use Rattle.show_jobs.specs.Jobs.{Shows}
 
 -- why the bytes are no file of version 2, in a line
 abbrev pub IsUnopenedText : List ℕ → List ℕ → Type 0
@@ -37,6 +44,24 @@ pub record IsShapeText (file text : List ℕ) (status : ℕ) : Type 0 where
   pub sound : (head : Head) (live : Live) → IsSound head live file → status ≡ 0
   pub statuses : (status ≡ 0) ⊎ ((status ≡ 6) ⊎ (status ≡ 9))
 
+-- The text of the numbers of an index. The statuses are those of a shape.
+pub record IsStatsText (file text : List ℕ) (status : ℕ) : Type 0 where
+  pub told : status ≡ 0 → (head : Head) × (live : Live) × (nodes : ℕ) × (levels : List LevelNumbers) × AreStatsOf file head live nodes levels
+      × (text ≡ stats_text head live nodes levels)
+  pub no_index : status ≡ 6 → IsUnopenedText file text
+  pub damaged : status ≡ 9 → (fault : PageFault) × IsDamaged file fault × (text ≡ damaged_text fault)
+  pub sound : (head : Head) (live : Live) → IsSound head live file → status ≡ 0
+  pub statuses : (status ≡ 0) ⊎ ((status ≡ 6) ⊎ (status ≡ 9))
+
+-- The text of a dump. Status 0: the script of the file's objects; 6: it is no file of version 2; 9: a page that the walk of the tree names
+-- gives no node, or an id is not there once. Of a sound file the status is 0.
+pub record IsDumpText (file text : List ℕ) (status : ℕ) : Type 0 where
+  pub dumped : status ≡ 0 → (rows : List (ℕ × List ℕ)) × HoldsRows file rows × (text ≡ script_text rows)
+  pub no_index : status ≡ 6 → IsUnopenedText file text
+  pub damaged : status ≡ 9 → (fault : DumpFault) × IsDumpDamaged file fault × (text ≡ fault_text fault)
+  pub sound : (head : Head) (live : Live) → IsSound head live file → status ≡ 0
+  pub statuses : (status ≡ 0) ⊎ ((status ≡ 6) ⊎ (status ≡ 9))
+
 -- The text of a seal. Status 0: the file is sound, and this is its root digest; 1: it has a fault; 6: it is no file of version 2; 7: it has
 -- more pages than are sealed.
 pub record IsSealText (file text : List ℕ) (status : ℕ) : Type 0 where
@@ -47,13 +72,21 @@ pub record IsSealText (file text : List ℕ) (status : ℕ) : Type 0 where
   pub large : (status ≡ 0) ⊎ (status ≡ 1) → IsLarge file → ⊥
   pub statuses : (status ≡ 0) ⊎ ((status ≡ 1) ⊎ ((status ≡ 6) ⊎ (status ≡ 7)))
 
--- The text on logs. Status 0 and 1: what is to be said of the file and the logs; 6: it is no file of version 2; 7: there are more than
--- 2^30 bytes of logs.
-pub record IsLogText (what : Report) (file logs text : List ℕ) (status : ℕ) : Type 0 where
-  pub judged : (status ≡ 0) ⊎ (status ≡ 1) → (said : Saying) × Says what file logs said × (text ≡ concat said.texts) × (status ≡ said.status)
+-- The text on logs. Status 0 and 1: what is to be said of the file and the logs, as `IsSaid` tells; 6: it is no file of version 2; 7: there
+-- are more than 2^30 bytes of logs.
+pub record IsTextOnLogs (IsSaid : Saying → Type 0) (file logs text : List ℕ) (status : ℕ) : Type 0 where
+  pub judged : (status ≡ 0) ⊎ (status ≡ 1) → (said : Saying) × IsSaid said × (text ≡ concat said.texts) × (status ≡ said.status)
   pub no_index : status ≡ 6 → IsUnopenedText file text
   pub long : status ≡ 7 → (2 ^ 30 < length logs) × (text ≡ codes "fault long\n")
   pub statuses : (status ≡ 0) ⊎ ((status ≡ 1) ⊎ ((status ≡ 6) ⊎ (status ≡ 7)))
+
+-- the text of the verdicts on logs, or of their answers
+abbrev pub IsLogText : Report → List ℕ → List ℕ → List ℕ → ℕ → Type 0
+IsLogText what file logs text status = IsTextOnLogs (Says what file logs) file logs text status
+
+-- the text of the walks that logs tell of
+abbrev pub IsShownText : List ℕ → List ℕ → List ℕ → ℕ → Type 0
+IsShownText file logs text status = IsTextOnLogs (Shows marks.Each file logs) file logs text status
 
 -- The text on carried logs. Status 0 and 1: the whole frames were shown in order, and then the last line. Status 7: there are more than
 -- 2^30 bytes; the first whole frames were shown in order, and then the line that says so.

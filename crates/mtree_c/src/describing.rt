@@ -2,14 +2,16 @@
 ghost use Rattle.std.specs.Prelude.{◌≡◌};
 ghost use Rattle.mtree_c.specs.Answers.{Describes};
 ghost use Rattle.mtree_c.specs.Rooms.{HandsText};
-ghost use Rattle.mtree_c.specs.Texts.{IsSealText, IsShapeText};
+ghost use Rattle.mtree_c.specs.Texts.{IsDumpText, IsSealText, IsShapeText, IsStatsText};
 
 use crate::answering::open_file;
 use crate::ends::Gathered;
 use crate::rooms::hand_text;
+use dump_jobs::dump_index;
 use file_jobs::shape_index;
 use seal_jobs::seal_index;
 use slice_disk::SliceDisk;
+use stats_jobs::stats_index;
 use std::alloc::Global;
 
 /// What the head and the live slot of an index file say.
@@ -73,6 +75,31 @@ pub extern "C" fn mtree_shape(alloc: Global, file: &[u8], text: &mut [u8], size:
     let mut out = Gathered::new(alloc);
     let mut disk = SliceDisk::new(file);
     let status = shape_index(alloc, &mut disk, &mut out);
+    hand_text(status, &out, text, size)
+}
+
+/// Tells what is known of an index file without its objects. The lines at the front of `text`, of `size` bytes, are those of the program's
+/// `stats`, and the statuses are those of [`mtree_shape`].
+#[unsafe(no_mangle)]
+pub extern "C" fn mtree_stats(alloc: Global, file: &[u8], text: &mut [u8], size: &mut usize) -> u8
+    ensures { HandsText (IsStatsText file.now) text.old text.new size.new result }
+{
+    let mut out = Gathered::new(alloc);
+    let mut disk = SliceDisk::new(file);
+    let status = stats_index(alloc, &mut disk, &mut out);
+    hand_text(status, &out, text, size)
+}
+
+/// Gives the objects of an index file as a script that makes them again. The lines at the front of `text`, of `size` bytes, are those of the
+/// program's `dump`, and so is the status: 0 done; 4, 6 and 8 as in [`mtree_shape`]; 9 a page gave no node, or an object's id is not there
+/// once.
+#[unsafe(no_mangle)]
+pub extern "C" fn mtree_dump(alloc: Global, file: &[u8], text: &mut [u8], size: &mut usize) -> u8
+    ensures { HandsText (IsDumpText file.now) text.old text.new size.new result }
+{
+    let mut out = Gathered::new(alloc);
+    let mut disk = SliceDisk::new(file);
+    let status = dump_index(alloc, &mut disk, &mut out);
     hand_text(status, &out, text, size)
 }
 

@@ -4,7 +4,7 @@ ghost use Rattle.log_jobs.specs.Laws.{FaultlessIsComplete};
 ghost use Rattle.file_jobs.specs.declared.logs.report.Report.TheVariants.{Answers, Verdicts};
 ghost use Rattle.mtree_c.specs.Rooms.{HandsText};
 ghost use Rattle.seal_jobs.specs.Laws.{AcceptedShow};
-ghost use Rattle.mtree_c.specs.Texts.{IsAuditText, IsLogText, IsProofText};
+ghost use Rattle.mtree_c.specs.Texts.{IsAuditText, IsLogText, IsProofText, IsShownText};
 
 use crate::ends::{Gathered, SliceSource};
 use crate::rooms::hand_text;
@@ -13,6 +13,7 @@ use log_jobs::laws::faultless_is_complete;
 use log_jobs::{check_logs, verify_logs};
 use seal_jobs::laws::accepted_show;
 use seal_jobs::prove_logs;
+use show_jobs::{Marks, show_logs};
 use slice_disk::SliceDisk;
 use std::alloc::Global;
 
@@ -76,6 +77,25 @@ pub extern "C" fn mtree_check(
     let mut disk = SliceDisk::new(file);
     let mut source = SliceSource::new(logs);
     let status = check_logs(alloc, &mut disk, &mut source, &mut out);
+    hand_text(status, &out, text, size)
+}
+
+/// Shows the walk that each log of `logs` tells of, by the bytes of an index file, which is not audited. The lines are those of the program's
+/// `show`, and the statuses are those of [`mtree_verify`].
+#[unsafe(no_mangle)]
+pub extern "C" fn mtree_show(
+    alloc: Global,
+    file: &[u8],
+    logs: &[u8],
+    text: &mut [u8],
+    size: &mut usize,
+) -> u8
+    ensures { HandsText (IsShownText file.now logs.now) text.old text.new size.new result }
+{
+    let mut out = Gathered::new(alloc);
+    let mut disk = SliceDisk::new(file);
+    let mut source = SliceSource::new(logs);
+    let status = show_logs(alloc, Marks::Each, &mut disk, &mut source, &mut out);
     hand_text(status, &out, text, size)
 }
 

@@ -1,5 +1,5 @@
 -- What a run does for its command line's words.
-use Rattle.std.specs.Prelude.{◌≡◌, ◌⊎◌, ◌<◌, ◌≤◌, ◌+◌, ◌^◌, ℕ, Bool, Option, Some, None, List, [], ◌++◌, length, codes, IfSome, IsTrue}
+use Rattle.std.specs.Prelude.{◌≡◌, ◌⊎◌, ◌<◌, ◌≤◌, ◌+◌, ◌^◌, ℕ, Bool, true, false, Option, Some, None, List, [], ◌++◌, length, codes, IfSome, IsTrue}
 use Rattle.std.specs.List.{concat}
 use Rattle.std.specs.Io.KnownBytes.{Appends, Consumes}
 use Rattle.outside_io.specs.Bytes.{AppendsPrefix}
@@ -13,6 +13,11 @@ use Rattle.disk_model.specs.Disk.{DiskState}
 use Rattle.node_page.specs.declared.head.Head.{Head}
 use Rattle.file_jobs.specs.Jobs.{Creates, Audits, IsAuditStatus}
 use Rattle.file_jobs.specs.Shapes.{Shapes, IsShapeStatus}
+use Rattle.stats_jobs.specs.Jobs.{Stats as TellsStats}
+use Rattle.dump_jobs.specs.Jobs.{Dumps as DumpsIndex, IsDumpStatus}
+use Rattle.show_jobs.specs.declared.report.Marks.{Marks}
+use Rattle.show_jobs.specs.declared.report.Marks.TheVariants as marks
+use Rattle.show_jobs.specs.Jobs.{ShowsLogs}
 use Rattle.file_jobs.specs.declared.logs.report.Report.{Report}
 use Rattle.file_jobs.specs.declared.logs.report.Report.TheVariants as report
 use Rattle.file_jobs.specs.Logs.Jobs.{IsLogStatus}
@@ -108,6 +113,9 @@ pub data Task : Type 0 where
   Scans : Asked → Task
   Makes : Head → Task
   Draws : Task
+  Measures : Task
+  Dumps : Task
+  Shows : Marks → Task
   Sessions : Bool → Task
   Generates : Generation → Task
   Migrates : Task
@@ -121,10 +129,18 @@ pub data Task : Type 0 where
   Proves : List ℕ → Task
   Nothing : Task
 
+-- what `--marks` asks for
+abbrev pub marks_of : Bool → Marks
+marks_of true = marks.Count
+marks_of false = marks.Each
+
 abbrev pub task_of : Option (Job (List ℕ)) → Task
 task_of (Some (job.Scan space limit show)) = Scans (record { space = space; limit = limit; show = show })
 task_of (Some (job.Create index space policies limit)) = Makes (new_head space policies limit)
 task_of (Some (job.Shape index)) = Draws
+task_of (Some (job.Stats index)) = Measures
+task_of (Some (job.Dump index)) = Dumps
+task_of (Some (job.Show index log counts)) = Shows (marks_of counts)
 task_of (Some (job.Session index log workers show)) = Sessions show
 task_of (Some (job.Gen index space count seed policies workers)) =
     Generates (record { head = new_head space policies most_objects; count = count; seed = seed; workers = workers })
@@ -159,6 +175,9 @@ Does (Generates asked) a b input status = GeneratesIndex asked a.index b.index a
 Does Migrates a b input status = MigratesIndex a.index b.index a.other b.other a.out b.out status × RefusesNothing a.index a.other status
 Does (Batches show) a b input status = RunsBatch show input a.index b.index a.out b.out a.log_out b.log_out status
 Does Draws a b input status = Shapes a.index b.index a.out b.out status
+Does Measures a b input status = TellsStats a.index b.index a.out b.out status
+Does Dumps a b input status = DumpsIndex a.index b.index a.out b.out status
+Does (Shows what) a b input status = ShowsLogs what a.index b.index a.left b.left a.out b.out status
 Does Judges a b input status = Audits a.index b.index a.out b.out status
 Does (Reports what) a b input status = JudgesLogs what a.index b.index a.left b.left a.out b.out status
 Does (JoinsWithin radius) a b input status = Joins radius a.index b.index a.other b.other a.out b.out a.log_out b.log_out status
@@ -177,6 +196,9 @@ TakesNoIndex (Generates asked) = ⊥
 TakesNoIndex Migrates = ⊥
 TakesNoIndex (Batches show) = ⊥
 TakesNoIndex Draws = ⊥
+TakesNoIndex Measures = ⊥
+TakesNoIndex Dumps = ⊥
+TakesNoIndex (Shows what) = ⊥
 TakesNoIndex Judges = ⊥
 TakesNoIndex (Reports what) = ⊥
 TakesNoIndex (JoinsWithin radius) = ⊥
@@ -195,6 +217,9 @@ TakesNoLog (Generates asked) = Unit {0}
 TakesNoLog Migrates = Unit {0}
 TakesNoLog (Batches show) = Unit {0}
 TakesNoLog Draws = Unit {0}
+TakesNoLog Measures = Unit {0}
+TakesNoLog Dumps = Unit {0}
+TakesNoLog (Shows what) = ⊥
 TakesNoLog Judges = Unit {0}
 TakesNoLog (Reports what) = ⊥
 TakesNoLog (JoinsWithin radius) = Unit {0}
@@ -213,6 +238,9 @@ TakesNoOther (Generates asked) = Unit {0}
 TakesNoOther Migrates = ⊥
 TakesNoOther (Batches show) = Unit {0}
 TakesNoOther Draws = Unit {0}
+TakesNoOther Measures = Unit {0}
+TakesNoOther Dumps = Unit {0}
+TakesNoOther (Shows what) = Unit {0}
 TakesNoOther Judges = Unit {0}
 TakesNoOther (Reports what) = Unit {0}
 TakesNoOther (JoinsWithin radius) = ⊥
@@ -231,6 +259,9 @@ PutsNoLog (Generates asked) = Unit {0}
 PutsNoLog Migrates = Unit {0}
 PutsNoLog (Batches show) = ⊥
 PutsNoLog Draws = Unit {0}
+PutsNoLog Measures = Unit {0}
+PutsNoLog Dumps = Unit {0}
+PutsNoLog (Shows what) = Unit {0}
 PutsNoLog Judges = Unit {0}
 PutsNoLog (Reports what) = Unit {0}
 PutsNoLog (JoinsWithin radius) = ⊥
@@ -293,6 +324,9 @@ IsStatusOf (Generates asked) n = IsFillStatus n
 IsStatusOf Migrates n = IsMigrateStatus n
 IsStatusOf (Batches show) n = IsBatchStatus n
 IsStatusOf Draws n = IsShapeStatus n
+IsStatusOf Measures n = IsShapeStatus n
+IsStatusOf Dumps n = IsDumpStatus n
+IsStatusOf (Shows what) n = IsLogStatus n
 IsStatusOf Judges n = IsAuditStatus n
 IsStatusOf (Reports what) n = IsLogStatus n
 IsStatusOf (JoinsWithin radius) n = IsJoinStatus n

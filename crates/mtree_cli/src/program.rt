@@ -14,12 +14,13 @@ ghost use Rattle.session_run.specs.Laws.{TurnsAreTheirMeaning};
 ghost use Rattle.seal_jobs.specs.Laws.{AcceptedShow};
 ghost use Rattle.seal_log.specs.Laws.{CarriedLogsAreAccepted};
 ghost use Rattle.mtree_cli.specs.Session.{IsComplete};
-ghost use Rattle.mtree_cli.specs.Run.{Asked, Does, HasTooManyPages, IsScan, IsSession, IsStatusOf, LeavesAtMemory, PutsLogLast, PutsNoLog, TakesNoIndex, TakesNoInput, TakesNoLog, TakesNoOther, TakesWithin, new_head, task_of};
+ghost use Rattle.mtree_cli.specs.Run.{Asked, Does, HasTooManyPages, IsScan, IsSession, IsStatusOf, LeavesAtMemory, PutsLogLast, PutsNoLog, TakesNoIndex, TakesNoInput, TakesNoLog, TakesNoOther, TakesWithin, marks_of, new_head, task_of};
 
 use crate::scan_job::run_scan;
 use crate::session_job::run_session;
 use batch_run::jobs::{audit_index_by, run_batch};
 use disk_model::{Disk, SharedDisk};
+use dump_jobs::dump_index;
 use file_jobs::{FAULT_MEMORY, create_index, end_with, put_line, shape_index};
 use job_words::{Job, JobFault, PolicyNames, SpaceName, read_job};
 use join_jobs::laws::faultless_is_complete as joins_are_complete;
@@ -34,6 +35,8 @@ use seal_jobs::laws::accepted_show;
 use seal_jobs::{carry_logs, prove_logs, seal_index};
 use seal_log::laws::carried_logs_are_accepted;
 use session_run::laws::turns_are_their_meaning;
+use show_jobs::{Marks, show_logs};
+use stats_jobs::stats_index;
 use std::alloc::Global;
 use std::thread::Threads;
 
@@ -60,12 +63,20 @@ fn new_head(space: SpaceName, policies: PolicyNames, limit: u32) -> Head
     }
 }
 
+// Returns what `--marks` asks for.
+fn marks_of(counts_only: bool) -> Marks
+    ensures { result ≡ marks_of counts_only }
+{
+    if counts_only { Marks::Count } else { Marks::Each }
+}
+
 /// Does the job of the words after the program's name, and returns the status.
 ///
 /// `scan` runs the script of `input` on a plain list. `create` makes `index` an empty index. `gen` makes it an index of generated
 /// rows. `migrate` makes it an index of the objects of `other`, a file of version 1. `session` runs the script of `input` on `index`
 /// and puts the log of each query to `log_out`. `batch` runs the script's queries by several threads. `shape` writes the shape of
-/// the tree. `audit` tells whether it is sound. `verify` judges the logs of `log_in` by it, and `check` does both. `join` joins
+/// the tree, `stats` what is known of it without its objects, and `dump` the objects as a script. `show` shows the walks of the logs of
+/// `log_in`. `audit` tells whether it is sound. `verify` judges the logs of `log_in` by it, and `check` does both. `join` joins
 /// `index` with `other` and puts its log to `log_out`. With `--other`, `verify` and `check` take join logs and both indexes. `seal`
 /// writes the root digest of the whole file of `index`. `proof` with an index puts each log of `log_in` to `log_out` with the pages
 /// that it names. `proof` with a digest judges such carried logs of `log_in` by the digest alone.
@@ -172,6 +183,15 @@ pub fn run<R: Threads + Sync, D: SharedDisk, E: Disk, S: Source, L: Source, K: S
             },
         ) => run_session(rt, alloc, index, workers, show_tags, input, out, log_out),
         Ok(Job::Shape { .. }) => shape_index(alloc, index, out),
+        Ok(Job::Stats { .. }) => stats_index(alloc, index, out),
+        Ok(Job::Dump { .. }) => dump_index(alloc, index, out),
+        Ok(Job::Show { counts_only, .. }) => show_logs(
+            alloc,
+            marks_of(counts_only),
+            index,
+            log_in,
+            out,
+        ),
         Ok(Job::Audit { workers, .. }) => audit_index_by(rt, alloc, index, workers, out),
         Ok(Job::Verify { other: None, .. }) => verify_logs(alloc, index, log_in, out),
         Ok(Job::Check { other: None, .. }) => check_logs(alloc, index, log_in, out),

@@ -2,6 +2,7 @@ use Rattle.std.proofs.Common.{refl, ap, arith, List, ℕ}
 use Rattle.std.specs.Prelude.{Some}
 use Rattle.slice_disk.specs.Held.{held}
 use Rattle.file_jobs.specs.declared.logs.report.Report.TheVariants.{Verdicts}
+use Rattle.log_jobs.specs.Jobs.{IsOnlyRead, Says}
 use Rattle.mtree_c.specs.Texts.{IsLogText}
 use Rattle.mtree_c.proofs.Told.{hands_text, log_text, unmoved, unwritten}
 use Rattle.mtree_c.proofs.judging.mtree_verify.Goals as goal
@@ -17,7 +18,7 @@ returns c =
     (λ no not_short not_memory. log_text (held before.bytes.now before.faults before.reads) (held after.bytes.now after.faults after.reads)
     (record { written = Some c.new-out.result.bytes.items; faults = c.new-out.result.faults }) (record { written = Some out.bytes.items; faults = out.faults })
     c.args.file.now out.bytes.items refl c.new-disk.ensures.bytes (ap (λ (x : List ℕ). Some x) c.new-out.ensures.bytes) refl c.new-out.ensures.faults no
-    Verdicts (Some c.new-source.result.left.now) (Some job.new.log_in.left.now) c.args.logs.now job.new.log_in.left.now (ap (λ (x : List ℕ). Some x) c.new-source.ensures) refl job.result.0 job.ensures.judges
+    (IsOnlyRead Verdicts (held before.bytes.now before.faults before.reads) (held after.bytes.now after.faults after.reads)) (Says Verdicts) (Some c.new-source.result.left.now) (Some job.new.log_in.left.now) c.args.logs.now job.new.log_in.left.now (ap (λ (x : List ℕ). Some x) c.new-source.ensures) refl job.result.0 job.ensures.judges
     (λ e. unmoved (job.ensures.input e)) not_short
     (λ e. unwritten before.bytes.now after.bytes.now before.faults after.faults before.reads after.reads c.new-disk.ensures.faults job.ensures.judges.unchanged
     ((job.ensures.judges.judges (λ s. omega (arith, e, s)) (λ s. omega (arith, e, s))).disk e).0) not_memory job.ensures.statuses)

@@ -4,7 +4,7 @@ use Rattle.job_words.specs.Jobs.{job_of}
 use Rattle.job_words.specs.declared.job.Job.TheVariants as job
 use Rattle.file_jobs.specs.declared.logs.report.Report.TheVariants.{Verdicts, Answers}
 use Rattle.mtree_cli.specs.Run.{Does, HasTooManyPages, LeavesAtMemory, PutsLogLast, Task, TakesNoInput, TakesWithin, task_of}
-use Rattle.mtree_cli.proofs.TaskLemmas.{scene, task_is, unchanged, memory_does, memory_status, nothing_taken, input_taken, batch_taken, seal_taken, carried_taken, proofs_taken, logs_taken, logs_rose, join_logs_taken, join_logs_rose, join_rose}
+use Rattle.mtree_cli.proofs.TaskLemmas.{scene, task_is, unchanged, memory_does, memory_status, nothing_taken, input_taken, batch_taken, seal_taken, carried_taken, proofs_taken, logs_taken, logs_rose, join_logs_taken, join_logs_rose, join_rose, shown_taken, shown_rose}
 use Rattle.mtree_cli.proofs.program.run.Goals as goal
 
 pub returns-in-Ok-Scan-clause-does : goal.returns-in-Ok-Scan-clause-does
@@ -28,6 +28,33 @@ returns-in-Ok-Shape-clause-memory g c = λ no is. c.shape_index.ensures.shapes.u
 
 pub returns-in-Ok-Shape-clause-long : goal.returns-in-Ok-Shape-clause-long
 returns-in-Ok-Shape-clause-long g c = nothing_taken _ (g.S.Source.left c.args.input.now) (g.L.Source.left c.args.log_in.now) c.shape_index.result.0 (grind (arith))
+
+pub returns-in-Ok-Stats-clause-memory : goal.returns-in-Ok-Stats-clause-memory
+returns-in-Ok-Stats-clause-memory g c = λ no is. c.stats_index.ensures.stats.unchanged
+
+pub returns-in-Ok-Stats-clause-long : goal.returns-in-Ok-Stats-clause-long
+returns-in-Ok-Stats-clause-long g c = nothing_taken _ (g.S.Source.left c.args.input.now) (g.L.Source.left c.args.log_in.now) c.stats_index.result.0 (grind (arith))
+
+pub returns-in-Ok-Stats-clause-other_same : goal.returns-in-Ok-Stats-clause-other_same
+returns-in-Ok-Stats-clause-other_same g c = unchanged (g.E.Disk.state c.args.other.now)
+
+pub returns-in-Ok-Dump-clause-memory : goal.returns-in-Ok-Dump-clause-memory
+returns-in-Ok-Dump-clause-memory g c = λ no is. c.dump_index.ensures.dumps.unchanged
+
+pub returns-in-Ok-Dump-clause-long : goal.returns-in-Ok-Dump-clause-long
+returns-in-Ok-Dump-clause-long g c = nothing_taken _ (g.S.Source.left c.args.input.now) (g.L.Source.left c.args.log_in.now) c.dump_index.result.0 (grind (arith))
+
+pub returns-in-Ok-Dump-clause-other_same : goal.returns-in-Ok-Dump-clause-other_same
+returns-in-Ok-Dump-clause-other_same g c = unchanged (g.E.Disk.state c.args.other.now)
+
+pub returns-in-Ok-Show-clause-long : goal.returns-in-Ok-Show-clause-long
+returns-in-Ok-Show-clause-long g c = shown_taken _ (g.S.Source.left c.args.input.now) _ _ _ _ _ _ _ c.show_logs.result.0 c.show_logs.ensures.shows
+
+pub returns-in-Ok-Show-clause-other_same : goal.returns-in-Ok-Show-clause-other_same
+returns-in-Ok-Show-clause-other_same g c = unchanged (g.E.Disk.state c.args.other.now)
+
+pub returns-in-Ok-Show-clause-either_disk : goal.returns-in-Ok-Show-clause-either_disk
+returns-in-Ok-Show-clause-either_disk g c = λ is. inl (shown_rose _ _ _ _ _ _ _ c.show_logs.result.0 c.show_logs.ensures.shows is)
 
 pub returns-in-Ok-Audit-clause-memory : goal.returns-in-Ok-Audit-clause-memory
 returns-in-Ok-Audit-clause-memory g c = λ no is. c.audit_index_by.ensures.audits.unchanged
