@@ -13,7 +13,7 @@ objects. The library is the file beside this module, or the one that the variabl
 index, as a child process. It is `mtree_cli` beside this module, the one that a clone has built, the one that the variable MTREE_PROGRAM
 names, or `mtree` where the shell finds it.
 
-Where only the program is there, queries start it too. Logs, `audit`, `verify`, `check` and `prove` need the library, and raise `NoLibrary`
+Where only the program is there, queries start it too. Logs, `audit`, `verify`, `check`, `show`, `explain` and `prove` need the library, and raise `NoLibrary`
 without it. Arrays need numpy. Without it lists work.
 
 All but the calls into the library and the program is tested, not proved."""
@@ -21,13 +21,13 @@ All but the calls into the library and the program is tested, not proved."""
 import os as _os
 
 from . import _library, _program
-from ._answers import Hit, Node, Pair, Report, Shape
+from ._answers import Hit, Level, Node, Pair, Report, Shape, Spread, Stats
 from ._errors import Damaged, Error, InUse, NoIndex, NoLibrary, NoQuery, NotFitted, Refused, Rejected, Stopped, TooLong
 from ._index import Index, prove
 from ._neighbors import MTreeNeighbors
 
-__all__ = ["Index", "MTreeNeighbors", "prove", "Hit", "Pair", "Node", "Shape", "Report", "Error", "NoLibrary", "InUse", "NoIndex", "NoQuery",
-           "Damaged", "TooLong", "Rejected", "Refused", "Stopped", "NotFitted"]
+__all__ = ["Index", "MTreeNeighbors", "prove", "Hit", "Pair", "Node", "Shape", "Level", "Spread", "Stats", "Report", "Error", "NoLibrary",
+           "InUse", "NoIndex", "NoQuery", "Damaged", "TooLong", "Rejected", "Refused", "Stopped", "NotFitted"]
 __version__ = "0.2.0"
 
 if not _library.is_here() and (_os.environ.get("MTREE_LIBRARY") or not _program.is_here()):

@@ -49,6 +49,50 @@ class Node(NamedTuple):
     """The radius of the entry that names it. The root has none."""
 
 
+class Spread(NamedTuple):
+    """The least, the middle and the greatest of some numbers. Of two in the middle it is the lower."""
+
+    least: int
+    middle: int
+    most: int
+
+
+class Level(NamedTuple):
+    """A level of the tree."""
+
+    level: int
+    """Its number. The leaves have 0."""
+    nodes: int
+    """How many nodes it has."""
+    entries: Optional[Spread]
+    """How many entries they have."""
+    radii: Optional[Spread]
+    """The radii of their regions. The root has none."""
+
+
+class Stats(NamedTuple):
+    """What is known of an index without its objects."""
+
+    metric: str
+    dim: int
+    promote: str
+    """How a full node chooses its two routing objects."""
+    split: str
+    """How it deals its entries to them."""
+    max_objects: int
+    generation: int
+    objects: int
+    height: int
+    """The level of the root."""
+    nodes: int
+    pages: int
+    """How many pages of 4096 bytes the file has."""
+    free_pages: int
+    """How many of them hold no node, but for the first three."""
+    levels: List[Level]
+    """The levels, from the root down."""
+
+
 class Shape(NamedTuple):
     """The tree of an index."""
 

@@ -9,7 +9,7 @@ import threading
 from typing import Any, Callable, Generic, Iterable, Iterator, List, Optional, Tuple, TypeVar, Union
 
 from . import _library, _points, _program
-from ._answers import Hit, Node, Pair, Report, Shape
+from ._answers import Hit, Level, Node, Pair, Report, Shape, Spread, Stats
 from ._errors import NoQuery, Refused, Stopped
 from ._file import File, read_state
 from ._points import Points
@@ -238,6 +238,43 @@ class Index:
         nodes = [Node(int(level), int(entries), None if centre == "-" else tuple(map(int, centre.split(","))), None if reach == "-" else int(reach))
                  for level, entries, centre, reach in lines[3:]]
         return Shape(int(lines[0][1]), int(lines[1][1]), nodes)
+
+    def stats(self) -> Stats:
+        """Returns what is known of the index without its objects. Raises `Damaged` where the walk of the tree comes to a damaged page."""
+        lines = self._said("stats").splitlines()
+        told = dict(line.split(" ", 1) for line in lines if not line.startswith("level "))
+        levels = [_level(line.split()) for line in lines if line.startswith("level ")]
+        numbers = [int(told[word]) for word in ("max", "generation", "objects", "height", "nodes", "pages", "free")]
+        return Stats(told["metric"], int(told["dim"]), told["promote"], told["split"], *numbers, levels)
+
+    def rows(self) -> Any:
+        """Returns `(tags, rows)`, in order of id: arrays of uint64 of the shapes (count,) and (count, dim). Without numpy they are lists.
+
+        Raises `Damaged` where the walk of the tree comes to a damaged page, or an id is not there once."""
+        lines = self._said("dump").splitlines()[1:]
+        numpy = _points.numpy_or_none()
+        if numpy is None:
+            held = [[int(number) for number in line.split(",")] for line in lines]
+            return [row[0] for row in held], [row[1:] for row in held]
+        numbers = numpy.array(",".join(lines).split(","), "u8") if lines else numpy.empty(0, "u8")
+        table = numbers.reshape(len(lines), self.dim + 1)
+        return table[:, 0].copy(), table[:, 1:].copy()
+
+    def show(self, logs: Any) -> str:
+        """Returns the frames of `logs`, any bytes-like object, in words: the verdict, the query, its answers, and the walk with the reason of
+        each mark, as the program's `show` writes them. Raises `NoIndex`, `TooLong` and `NoLibrary`, and TypeError where `logs` are no bytes."""
+        held = _bytes(logs)
+        with self._file.reading() as (file, size):
+            return _library.report("mtree_show", file, size, held, len(held)).text
+
+    def explain(self, point: Iterable[int], count: Optional[int] = None, *, radius: Optional[float] = None) -> str:
+        """Returns how the `count` objects nearest to `point`, or all within `radius`, were found: the text of `show` on the query's log.
+
+        Raises TypeError where not one of `count` and `radius` is given, `NoLibrary`, and what `nearest` and `range` raise."""
+        if (count is None) == (radius is None):
+            raise TypeError("explain takes a count or a radius")
+        log = self.range_with_log(point, radius)[1] if count is None and radius is not None else self.nearest_with_log(point, count or 0)[1]
+        return self.show(log)
 
     def seal(self) -> bytes:
         """Audits the file. Returns its root digest of 32 bytes, by which `mtree.prove` judges. Raises `Rejected` where it is not sound."""
@@ -532,6 +569,13 @@ def _no_query(coordinates: int, dim: int) -> str:
     if coordinates != dim:
         return f"the point has {coordinates} numbers, the index {dim}"
     return "the point is not of the index's space: kendall takes rankings, and hausdorff sets of numbers"
+
+
+def _level(words: List[str]) -> Level:
+    """Returns a level of the tree from its line: `level L nodes N entries A B C radius A B C`, with a dash for no numbers."""
+    at = words.index("radius")
+    entries, radii = (None if numbers == ["-"] else Spread(*map(int, numbers)) for numbers in (words[5:at], words[at + 1:]))
+    return Level(int(words[1]), int(words[3]), entries, radii)
 
 
 def _bytes(given: Any) -> bytes:

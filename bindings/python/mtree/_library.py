@@ -46,10 +46,13 @@ def _load() -> Tuple[Optional[ctypes.CDLL], str]:
         "mtree_range_each": query,
         "mtree_nearest_each": query,
         "mtree_shape": [place, size, place, size, place],
+        "mtree_stats": [place, size, place, size, place],
+        "mtree_dump": [place, size, place, size, place],
         "mtree_seal": [place, size, place, size, place],
         "mtree_carry": [place, size, place, size, place, size, place, size, place],
         "mtree_audit": [place, size, place, size, place],
         "mtree_verify": [place, size, place, size, place, size, place],
+        "mtree_show": [place, size, place, size, place, size, place],
         "mtree_check": [place, size, place, size, place, size, place],
         "mtree_proof": [place, size, place, place, size, place],
     }

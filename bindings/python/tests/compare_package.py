@@ -250,6 +250,10 @@ def compare_children():
         told = [f"{n.level} {n.entries} {'-' if n.centre is None else ','.join(map(str, n.centre))} {'-' if n.radius is None else n.radius}" for n in shape.nodes]
         same(f"height {shape.height}\nobjects {shape.objects}\nnodes {len(shape.nodes)}\n" + "".join(f"{line}\n" for line in told), text, "a shape")
         same(f"sealed {index.seal().hex()}\n", run("seal", name)[1], "a seal")
+        same(text_of(index.stats()), run("stats", name)[1], "stats")
+        tags, rows = index.rows()
+        lines = [",".join(map(str, (int(tag), *map(int, row)))) for tag, row in zip(tags, rows)]
+        same("".join(f"{line}\n" for line in [f"tload,{len(lines)}", *lines]), run("dump", name)[1], "rows")
         run("batch", name, "--log", "child.log", given="nearest,3,5,5\nrange,20000,7,7\n")
         log = open("child.log", "rb").read()
         run("proof", name, "--log", "child.log", "--proof", "child.proof")
@@ -262,7 +266,18 @@ def compare_children():
             same(mtree.prove(carried, index.seal()).text, run("proof", "--log", "child.proof", "--root", index.seal().hex())[1], "a proof")
             same(index.carry(index.nearest_with_log([5, 5], 3)[1] + index.range_with_log([7, 7], 20000)[1]), carried, "logs of the library, carried")
             raises(ValueError, lambda: mtree.prove(carried, b"short"), "a short digest", "32 bytes, and this one 5")
+            shown = run("show", name, "--log", "child.log")[1]
+            same(index.show(bytearray(log)), shown, "logs in words")
+            same(index.show(log[:-1]), "log rejected cut\n", "a log that is cut, in words")
+            first, second = shown.index("frame 1"), shown.index("log accepted")
+            same(index.explain([5, 5], 3), shown[:first] + shown[second:], "an explained nearest query")
+            same(index.explain([7, 7], radius=20000), "frame 0" + shown[first + 7:], "an explained range query")
+            raises(TypeError, lambda: index.explain([5, 5]), "nothing to explain", "a count or a radius")
+            raises(mtree.NoQuery, lambda: index.explain([5, 5], 0), "none of the nearest explained")
         other = mtree.Index.from_array("other.mt", [[1, 2, 3]], metric="l1")
+        same([list(map(list, one)) if number else list(one) for number, one in enumerate(other.rows())], [[0], [[1, 2, 3]]], "one row")
+        with mtree.Index.create("nothing.mt", metric="l1", dim=3) as nothing:
+            same([*map(len, nothing.rows()), *nothing.stats()[6:9]], [0, 0, 0, 0, 1], "no rows")
         raises(mtree.Rejected, lambda: index.join(other, 3), "a join of two spaces", "rejected spaces")
         same(index.join("child.mt", float("inf"))[-1][:2], (299, 299), "a join of all with all")
         raises(mtree.NoQuery, lambda: index.join(other, -1), "a join within a negative radius", "-1")
@@ -278,6 +293,8 @@ def compare_children():
         with mtree.Index("damaged.mt") as broken:
             raises(mtree.Rejected, broken.seal, "a seal of a damaged file", "rejected page bad")
             raises(mtree.Damaged, broken.shape, "the shape of a damaged file", "fault damaged bad")
+            raises(mtree.Damaged, broken.stats, "the stats of a damaged file", "fault damaged bad")
+            raises(mtree.Damaged, broken.rows, "the rows of a damaged file", "fault damaged bad")
             with without_library():
                 raises(mtree.Damaged, lambda: broken.kneighbors([[1, 1]], 1), "a query on a damaged file", "fault damaged bad")
     head = open("other.mt", "rb").read()
@@ -293,6 +310,18 @@ def compare_children():
                 same((0, f"count {len(index)}\n"), (status, text), f"a file with {held!r} at {place}")
             except mtree.NoIndex as error:
                 same((6, f"{error}\n"), (status, text), f"a file with {held!r} at {place}")
+
+
+def text_of(stats):
+    """The lines of the program's `stats`."""
+
+    def spread(numbers):
+        return "-" if numbers is None else " ".join(map(str, numbers))
+
+    words = ["metric", "dim", "promote", "split", "max", "generation", "objects", "height", "nodes", "pages", "free"]
+    lines = [f"{word} {value}" for word, value in zip(words, stats)] + [f"bytes {4096 * stats.pages}"]
+    lines += [f"level {one.level} nodes {one.nodes} entries {spread(one.entries)} radius {spread(one.radii)}" for one in stats.levels]
+    return "".join(f"{line}\n" for line in lines)
 
 
 def compare_threads():
