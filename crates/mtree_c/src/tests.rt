@@ -1,7 +1,7 @@
 use crate::{
     CarriedSizes, Description, RootDigest, Sizes, TaggedHit, mtree_audit, mtree_carry, mtree_check,
-    mtree_describe, mtree_nearest, mtree_nearest_each, mtree_proof, mtree_range, mtree_range_each,
-    mtree_seal, mtree_shape, mtree_verify,
+    mtree_describe, mtree_dump, mtree_nearest, mtree_nearest_each, mtree_proof, mtree_range,
+    mtree_range_each, mtree_seal, mtree_shape, mtree_show, mtree_stats, mtree_verify,
 };
 use std::alloc::{AllocError, Global};
 use std::test::Fail;
@@ -201,6 +201,11 @@ fn descriptions(rt: HostRuntime) -> Result<(), Fail> {
     let status = mtree_shape(alloc, &file, text.as_mut_slice(), &mut size);
     assert!(rt; status == 0);
     assert!(rt; &text[..size.min(80)] == shape.as_slice());
+    let status = mtree_dump(alloc, &file, text.as_mut_slice(), &mut size);
+    assert!(rt; status == 0);
+    assert!(rt; &text[..size.min(80)] == b"tload,2\n7,4\n8,9\n".as_slice());
+    let status = mtree_stats(alloc, &file, text.as_mut_slice(), &mut size);
+    assert!(rt; (status, size) == (4, 159));
     let status = mtree_seal(alloc, &file, text.as_mut_slice(), &mut size);
     assert!(rt; (status, size) == (0, 72));
     assert!(rt; &text[..7] == b"sealed ".as_slice());
@@ -243,6 +248,8 @@ fn logs(rt: HostRuntime) -> Result<(), Fail> {
     assert!(rt;
         &text[..size.min(100)] == b"frame 0 accepted\nlog accepted, file not audited\n".as_slice()
     );
+    let shown = mtree_show(alloc, &file, frame, text.as_mut_slice(), &mut size);
+    assert!(rt; (shown, size) == (4, 173));
     let checked = mtree_check(alloc, &file, frame, text.as_mut_slice(), &mut size);
     assert!(rt; checked == 0);
     assert!(rt;

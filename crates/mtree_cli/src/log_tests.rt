@@ -191,6 +191,76 @@ fn the_shape_of_an_index(rt: HostRuntime) {
     check(&rt, &NO_OUT);
 }
 
+// Tells the numbers of the index.
+const STATS: Case<'static> = Case {
+    command: "stats a.mt",
+    output: concat!(
+        "metric l1\ndim 2\npromote mmrad\nsplit hyperplane\nmax 16777216\ngeneration 2\nobjects 1\nheight 0\n",
+        "nodes 1\npages 5\nfree 1\nbytes 20480\nlevel 0 nodes 1 entries 1 1 1 radius -\n",
+    ),
+    ..VERIFY
+};
+
+// Gives the index as a script.
+const DUMP: Case<'static> = Case {
+    command: "dump a.mt",
+    output: "tload,1\n0,3,4\n",
+    ..VERIFY
+};
+
+// Has an object with an id that is not below the number of objects.
+const WRONG_ID: Case<'static> = Case {
+    file_change: Some((16384 + 19, 7)),
+    status: 9,
+    output: "fault damaged id 7\n",
+    ..DUMP
+};
+
+// Shows a log.
+const SHOW: Case<'static> = Case {
+    command: "show a.mt --log a.log",
+    output: concat!(
+        "frame 0 accepted\nrange,7,0,0\nhits 1\n0 7\nnode 4 level 0\n  0 object 0 near 7 <= 7\n",
+        "opened 1 of 1 nodes, 1 distances\nlog accepted, file not audited\n",
+    ),
+    ..VERIFY
+};
+
+// Shows the wrong mark of a log that is rejected.
+const SHOW_WRONG: Case<'static> = Case {
+    log_change: &[(60, 1)],
+    status: 1,
+    output: concat!(
+        "frame 0 rejected wrongmark 0 0\nrange,7,0,0\nhits 1\n0 7\nnode 4 level 0\n  0 object 0 far 7 <= 7\n",
+        "opened 1 of 1 nodes, 1 distances\nlog rejected\n",
+    ),
+    ..SHOW
+};
+
+// Counts the marks of a log.
+const COUNT: Case<'static> = Case {
+    command: "show a.mt --log a.log --marks count",
+    output: concat!(
+        "frame opened nodes skip far near distances verdict\n0 1 1 0 0 1 1 accepted\n",
+        "log accepted, file not audited\n",
+    ),
+    ..SHOW
+};
+
+#[test]
+fn the_contents_of_an_index(rt: HostRuntime) {
+    check(&rt, &STATS);
+    check(&rt, &DUMP);
+    check(&rt, &WRONG_ID);
+}
+
+#[test]
+fn the_walks_of_logs(rt: HostRuntime) {
+    check(&rt, &SHOW);
+    check(&rt, &SHOW_WRONG);
+    check(&rt, &COUNT);
+}
+
 const NO_FRAMES: Case<'static> = Case {
     frames: 0,
     size: 0,

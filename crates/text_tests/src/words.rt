@@ -75,7 +75,7 @@ fn check_no_jobs(rt: &(impl AllocGlobal + Abort), lines: &[&str]) {
 }
 
 // Lists a line of each command, and its job.
-const JOBS: [(&str, Job<&str>); 17] = [
+const JOBS: [(&str, Job<&str>); 21] = [
     ("scan --metric l1 --dim 2", SCAN),
     (
         "scan --metric l1 --dim 2 --max 7 --tags show",
@@ -125,6 +125,24 @@ const JOBS: [(&str, Job<&str>); 17] = [
         },
     ),
     ("shape a.mt", Job::Shape { index: "a.mt" }),
+    ("stats a.mt", Job::Stats { index: "a.mt" }),
+    ("dump a.mt", Job::Dump { index: "a.mt" }),
+    (
+        "show a.mt --log a.log --marks each",
+        Job::Show {
+            index: "a.mt",
+            log: "a.log",
+            counts_only: false,
+        },
+    ),
+    (
+        "show a.mt --log a.log --marks count",
+        Job::Show {
+            index: "a.mt",
+            log: "a.log",
+            counts_only: true,
+        },
+    ),
     (
         "audit a.mt --workers 4",
         Job::Audit {
@@ -208,7 +226,7 @@ fn each_command_has_a_job(rt: HostRuntime) {
 }
 
 // Lists lines that leave out what a row requires, or give what it does not name.
-const OUT_OF_ROW: [&str; 32] = [
+const OUT_OF_ROW: [&str; 39] = [
     "",
     "scans",
     "Shape a.mt",
@@ -220,6 +238,9 @@ const OUT_OF_ROW: [&str; 32] = [
     "create a.mt --dim 2",
     "session",
     "shape",
+    "stats",
+    "dump",
+    "show a.mt",
     "audit --workers 2",
     "verify a.mt",
     "check --log a.log",
@@ -236,6 +257,10 @@ const OUT_OF_ROW: [&str; 32] = [
     "scan a.mt --metric l1 --dim 2",
     "scan --metric l1 --dim 2 --log a.log",
     "shape a.mt --workers 1",
+    "stats a.mt --log a.log",
+    "dump a.mt --tags show",
+    "show a.mt --log a.log --other b.mt",
+    "show a.mt --log a.log --marks some",
     "audit a.mt --radius 1",
     "session a.mt --metric l1",
     "verify a.mt --log a.log --tags show",
@@ -478,7 +503,7 @@ const WRITTEN: FileNames<&str> = FileNames {
 };
 
 // Lists lines, and the files that their jobs name.
-const FILES: [(&str, FileNames<&str>); 15] = [
+const FILES: [(&str, FileNames<&str>); 16] = [
     ("scan --metric l1 --dim 2", NO_FILES),
     ("create a.mt --metric l1 --dim 2", MADE),
     ("session a.mt", WRITTEN),
@@ -490,6 +515,13 @@ const FILES: [(&str, FileNames<&str>); 15] = [
         },
     ),
     ("shape a.mt", INDEX),
+    (
+        "show a.mt --log a.log",
+        FileNames {
+            log_in: Some("a.log"),
+            ..INDEX
+        },
+    ),
     ("audit a.mt", INDEX),
     (
         "verify a.mt --log a.log",
