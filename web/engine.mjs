@@ -96,6 +96,20 @@ class Engine {
         return this.said(this.calls.mtree_check, file.place, BigInt(file.size), logs.place, BigInt(logs.size));
     }
 
+    stats(file) {
+        return this.said(this.calls.mtree_stats, file.place, BigInt(file.size));
+    }
+
+    // The objects of an index, as a script that makes them again.
+    dump(file) {
+        return this.said(this.calls.mtree_dump, file.place, BigInt(file.size));
+    }
+
+    // Logs in words: each opened node, and the reason of each mark.
+    show(file, logs) {
+        return this.said(this.calls.mtree_show, file.place, BigInt(file.size), logs.place, BigInt(logs.size));
+    }
+
     // Judges carried logs by a root digest of 32 bytes.
     prove(logs, root) {
         return this.during((take) => this.said(this.calls.mtree_proof, logs.place, BigInt(logs.size), take(this.put(root)).place));

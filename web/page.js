@@ -20,7 +20,15 @@ const sizeText = (bytes) => (bytes < 10000 ? `${grouped(bytes)} bytes` : bytes <
 
 let worker = null, number = 0;
 const waiting = new Map();
-const code = Uint8Array.from(atob($("module").textContent.trim()), (letter) => letter.charCodeAt(0));
+// The module, once it is unpacked.
+let code = null;
+
+async function unpack() {
+    if (globalThis.DecompressionStream === undefined) throw new Error("this browser can't unpack it; Chrome and Edge 80, Firefox 113, Safari 16.4 and later ones can");
+    const packed = Uint8Array.from(atob($("module").textContent.trim()), (letter) => letter.charCodeAt(0));
+    const unpacked = new Blob([packed]).stream().pipeThrough(new DecompressionStream("gzip"));
+    code = new Uint8Array(await new Response(unpacked).arrayBuffer());
+}
 
 function startWorker() {
     const place = URL.createObjectURL(new Blob([$("worker").textContent], { type: "text/javascript" }));
@@ -56,7 +64,7 @@ const chosen = { carried: null, index: null, logs: null };
 function enable() {
     const free = jobs === 0;
     for (const id of ["prove", "carried", "index", "logs"]) $(id).disabled = !free;
-    $("audit").disabled = $("range").disabled = $("nearest").disabled = !free || open === null;
+    $("audit").disabled = $("dump").disabled = $("range").disabled = $("nearest").disabled = !free || open === null;
     $("verify").disabled = $("check").disabled = $("show").disabled = !free || open === null;
     $("save").disabled = query === null;
 }
@@ -267,15 +275,38 @@ async function openIndex(file) {
         announce(`${file.name}: ${said.head.metric}, ${counted(said.head.objects, "object")}.`);
         place.replaceChildren(make("dl", {}, ...Object.entries(facts).map(([name, value]) => make("div", {}, make("dt", {}, name), make("dd", {}, String(value))))));
         if (said.tree === null) place.append(make("p", {}, "Its pages are no tree, so no picture is drawn. An audit names the fault."));
+        else place.append(levelTable(said.stats));
         $("point").value = (said.point ?? []).join(", ");
         $("radius").value = said.radius;
         picture.hold(said.tree);
         if (said.tree === null) return;
         $("drawing").hidden = false;
+        $("words").hidden = true;
         $("drawn").textContent = `The tree has ${counted(said.tree.page.length, "node")}. ${HOW_DRAWN}`;
         picture.paint({ ways: new Uint8Array(said.tree.page.length).fill(6), ticks: [] });
     });
 }
+
+// What `stats` says of each level, as a table.
+function levelTable(stats) {
+    const levels = stats.split("\n").map((line) => /^level (\d+) nodes (\d+) entries (.*) radius (.*)$/.exec(line)).filter((found) => found !== null);
+    const spread = (numbers) => (numbers === "-" ? ["", "", ""] : numbers.split(" ").map((number) => grouped(Number(number))));
+    return tableOf("Its levels, from the root down: how many entries its nodes have, and the radii of their regions", ["Level", "Nodes", "Least", "Middle", "Most", "Least radius", "Middle", "Most"],
+        levels.length, (i) => [levels[i][1], grouped(Number(levels[i][2])), ...spread(levels[i][3]), ...spread(levels[i][4])]);
+}
+
+function save(bytes, name) {
+    const link = make("a", { href: URL.createObjectURL(new Blob([bytes])), download: name });
+    link.click();
+    setTimeout(() => URL.revokeObjectURL(link.href), 1000);
+}
+
+$("dump").onclick = () => during("Writing", $("auditResult"), async () => {
+    const said = await job("dump"), place = $("auditResult");
+    if (said.status !== 0) return place.replaceChildren(verdict(false, "not saved", `${sentence(said.text.trim())} An audit names the fault.`));
+    save(said.text, `${chosen.index.name}.script`);
+    place.replaceChildren(make("p", {}, `Saved ${counted(open.head.objects, "object")} as a script that makes them again: mtree session NEW <${chosen.index.name}.script.`));
+});
 
 $("audit").onclick = () => during("Auditing", $("auditResult"), async () => showSaid($("auditResult"), "audit", await job("audit")));
 
@@ -298,7 +329,18 @@ function showQuery(asked, headings, row, more) {
     $("drawing").hidden = false;
     $("drawn").textContent = `${grouped(nodes)} of ${counted(open.tree.page.length, "node")} opened. Of their ${counted(all, "entry", "entries")} ${grouped(Skip)} were ruled out without a distance, ${grouped(Far)} by one distance. ${HOW_DRAWN}${more}`;
     picture.paint(asked.drawn);
+    const words = $("words");
+    words.hidden = false;
+    words.open = false;
+    words.replaceChildren(words.firstElementChild);
 }
+
+$("words").ontoggle = async () => {
+    const words = $("words"), asked = query;
+    if (!words.open || words.childElementCount > 1 || asked === null) return;
+    const said = await job("words", asked.frame).catch((error) => ({ text: error.message }));
+    if (asked === query && words.childElementCount === 1) words.append(make("pre", { className: "walk", tabIndex: 0 }, said.text));
+};
 
 function wordsOf(text, what, most) {
     const digits = text.trim().replaceAll(/[ ,_](?=\d{3}\b)/g, "");
@@ -338,11 +380,7 @@ $("show").onclick = () => {
     });
 };
 
-$("save").onclick = () => {
-    const link = make("a", { href: URL.createObjectURL(new Blob([query.frame])), download: `${query.name}.log` });
-    link.click();
-    setTimeout(() => URL.revokeObjectURL(link.href), 1000);
-};
+$("save").onclick = () => save(query.frame, `${query.name}.log`);
 
 // ---- the picture: a row for each level, and each node as wide as it has objects
 
@@ -534,6 +572,7 @@ addEventListener("drop", (event) => {
 
 async function begin() {
     try {
+        await unpack();
         await startWorker();
     } catch (error) {
         $("state").textContent = `The module could not be made: ${error.message}`;

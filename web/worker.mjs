@@ -113,7 +113,7 @@ const jobs = {
         const first = tree === null || tree.nodes[0].entries === 0 ? null : entryOf(bytes, head, tree.nodes[0].page, 0);
         const leaf = tree?.nodes.find((node) => node.level === 0 && node.parent !== null);
         return {
-            kind: "index", said, head, point: first?.point ?? null, radius: leaf ? entryOf(bytes, head, leaf.parent.page, leaf.place).radius : 0,
+            kind: "index", said, head, stats: tree === null ? null : engine.stats(span).text, point: first?.point ?? null, radius: leaf ? entryOf(bytes, head, leaf.parent.page, leaf.place).radius : 0,
             tree: tree && { objects: tree.objects, page: Uint32Array.from(tree.nodes, (it) => it.page), depth: Uint8Array.from(tree.nodes, (it) => it.depth), from: Uint32Array.from(tree.nodes, (it) => it.from), to: Uint32Array.from(tree.nodes, (it) => it.to) },
         };
     },
@@ -126,6 +126,13 @@ const jobs = {
     audit() {
         const { span } = opened(), began = performance.now(), said = engine.audit(span);
         return { ...said, took: performance.now() - began };
+    },
+
+    dump: () => engine.dump(opened().span),
+
+    // One frame of a log, in words.
+    words(frame) {
+        return engine.during((take) => engine.show(opened().span, take(engine.put(frame))));
     },
 
     verify: (file, tell) => judged(file, tell, (logs) => engine.verify(opened().span, logs)),

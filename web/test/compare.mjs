@@ -29,7 +29,7 @@ function fileOf(name) {
 }
 
 function answered(it) {
-    if (it.call === "audit") return engine.audit(fileOf(it.file));
+    if (it.call === "audit" || it.call === "stats" || it.call === "dump") return engine[it.call](fileOf(it.file));
     if (it.call === "range" || it.call === "nearest") {
         const answer = engine[it.call](fileOf(it.file), it.point, BigInt(it.bound));
         return { ...answer, status: 0, text: `hits ${answer.ids.length}\n${Array.from(answer.ids, (id, i) => `${id} ${answer.tags[i]} ${answer.distances[i]}\n`).join("")}`, log: sum(answer.frame) };

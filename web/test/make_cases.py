@@ -55,6 +55,13 @@ class Maker:
         self.add("check", about, self.run("check", file, "--log", logs), file=file, logs=logs)
         self.add("prove", about, self.run("proof", "--log", carried, "--root", root), logs=carried, root=root)
 
+    def tell(self, about, file, logs):
+        """What the program says of what a file holds and of what logs tell."""
+        file, logs = self.keep(file), self.keep(logs)
+        self.add("stats", about, self.run("stats", file), file=file)
+        self.add("dump", about, self.run("dump", file), file=file)
+        self.add("show", about, self.run("show", file, "--log", logs), file=file, logs=logs)
+
     def ask(self, about, file, kind, bound, point, is_whole):
         """What the program answers to a query, and its log. A refused one has the status 2 of the module."""
         file = self.keep(file)
@@ -103,6 +110,7 @@ def make(program, folder, count):
         whole.append({"name": name, "file": file, "metric": metric, "dim": dim, "most": most, "asked": asked, "answers": answers, "root": root})
         data, logs, carried = maker.read(file), maker.read(name + ".log"), maker.read(name + ".proof")
         maker.judge(name, data, logs, carried, root)
+        maker.tell(name, data, logs)
         for kind, bound in (("range", most * dim // 8), ("range", 1 << 63), ("nearest", 7), ("nearest", 1 << 40)):
             maker.ask(name, data, kind, bound, maker.point(dim, most, metric), True)
         maker.ask(f"a point too long on {name}", data, "nearest", 3, [0] * (dim + 1), False)
@@ -112,6 +120,7 @@ def make(program, folder, count):
         parts = (maker.damaged(part) if maker.draw.randrange(4) else part for part in (maker.read(it["name"] + end) for end in (".mt", ".log", ".proof")))
         file, logs, carried = parts
         maker.judge(f"damaged {number} of {it['name']}", file, logs, carried, it["root"])
+        maker.tell(f"damaged {number} of {it['name']}", file, logs)
         maker.ask(f"damaged {number} of {it['name']}", file, maker.draw.choice(["range", "nearest"]), maker.draw.choice([1, 100, 1 << 40]), maker.point(it["dim"], it["most"], it["metric"]), False)
     with open(os.path.join(folder, "cases.json"), "w") as out:
         json.dump(maker.cases, out)

@@ -3,6 +3,7 @@
 The module is compared in node, where node is there; the page is driven in headless Chromium, where it and its driver are there."""
 
 import base64
+import gzip
 import hashlib
 import http.server
 import json
@@ -22,6 +23,7 @@ PROGRAM, OUT = os.path.abspath(sys.argv[1]), os.path.abspath(sys.argv[2])
 HERE = os.path.dirname(os.path.abspath(__file__))
 METRICS = ["", "hamming", "l1", "max", "kendall", "hausdorff", "mixsum", "mixmax", "l1cap"]
 IDLE = "return document.getElementById('busy').hidden && !document.getElementById('prove').disabled"
+MODULE = '<script type="text/plain" id="module" data-form="gzip, then base64">'
 compared = failed = 0
 
 # Does steps on the page in its own window: a file is given as its bytes, and what stands on the page is told after each press.
@@ -113,7 +115,7 @@ def compare_judges(page, maker, count):
             if word is not None:
                 same(it["all"].startswith(word), True, f"the verdict of {case['call']} of {about}: {it['all'][:60]}")
         for case in cases[4:]:
-            if cases[0]["status"] == 6:
+            if cases[0]["status"] == 6 or case["call"] in ("stats", "dump", "show"):
                 continue
             bound = "radius" if case["call"] == "range" else "count"
             told = drive(page, [["fill", "point", ", ".join(map(str, case["point"]))], ["fill", bound, case["bound"]], ["press", case["call"], None, "askResult"]])[0]
@@ -150,6 +152,7 @@ def compare_reader(page, maker, whole, room):
                 page.run_async("setTimeout(arguments[0], 10)")
             logs += saved.read_bytes()
         same(logs, maker.read(it["name"] + ".log"), f"the saved logs of {it['name']}")
+        compare_contents(page, maker, it, room)
         if facts_of(data)["Objects"] == "0":
             continue
         page.keys("logs", os.path.join(maker.folder, it["name"] + ".log"))
@@ -164,6 +167,37 @@ def compare_reader(page, maker, whole, room):
         if facts_of(data)["Height"] != "0":
             page.keys("picture", "\ue015")
             holds(page.wait("const text = document.getElementById('node').textContent; return text.includes('in reach') && text"), "Centre (", f"the first child of {it['name']}")
+
+
+def saved_file(page, place):
+    """Waits until a file is saved whole."""
+    size = -1
+    for _ in range(300):
+        now = place.stat().st_size if place.exists() else -1
+        if now == size >= 0:
+            return place.read_bytes()
+        size = now
+        page.run_async("setTimeout(arguments[0], 20)")
+    return b""
+
+
+def compare_contents(page, maker, it, room):
+    """The levels, the saved objects, and the walk of the last query in words."""
+    told = {call: maker.run(call, it["file"])[1] for call in ("stats", "dump")}
+    levels = [line.split() for line in told["stats"].splitlines() if line.startswith("level ")]
+    rows = page.run("return [...document.querySelectorAll('#about tbody tr')].map((row) => [...row.children].map((cell) => cell.textContent))")
+    same([row[:2] for row in rows], [[words[1], f"{int(words[3]):,}"] for words in levels], f"the levels of {it['name']}")
+    wanted = [[f"{int(word):,}" for word in words[5:] if word.isdigit()] for words in levels]
+    same([[cell for cell in row[2:] if cell] for row in rows], wanted, f"the numbers of the levels of {it['name']}")
+    place = pathlib.Path(room, it["file"] + ".script")
+    place.unlink(missing_ok=True)
+    page.click("dump")
+    page.wait(IDLE)
+    same(saved_file(page, place).decode(), told["dump"], f"the saved objects of {it['name']}")
+    page.run("document.getElementById('words').open = true")
+    found = page.wait("return document.querySelector('#words pre')?.textContent")
+    log = pathlib.Path(room, it["asked"][-1][0] + ".log")
+    same(found, maker.run("show", it["file"], "--log", str(log))[1], f"the walk in words on {it['name']}")
 
 
 def compare_sentences(page, maker, whole):
@@ -202,21 +236,21 @@ def other_module():
         body = bytes([0, *words, 0x0B])
         return bytes([len(body)]) + body
 
-    names = ["page_take", "page_give", "mtree_range", "mtree_nearest", "mtree_verify", "mtree_proof", "mtree_audit", "mtree_check"]
+    names = ["page_take", "page_give", "mtree_range", "mtree_nearest", "mtree_verify", "mtree_proof", "mtree_audit", "mtree_check", "mtree_stats"]
     exports = [bytes([len(name)]) + name.encode() + bytes([0, i]) for i, name in enumerate(names)]
     body = part(7, *exports, b"\x06memory\x02\x00")
     none = code(0x41, 0)
-    codes = [code(0x23, 0, 0x23, 0, 0x20, 0, 0x7C, 0x24, 0), code(), none, none, none, none, code(0x03, 0x7F, 0x0C, 0, 0x0B), code(0)]
-    return b"\0asm\1\0\0\0" + b"".join((part(1, b"\x60\1\x7e\1\x7e", b"\x60\1\x7e\0", b"\x60\0\1\x7f"), part(3, *(bytes([it]) for it in (0, 1, 2, 2, 2, 2, 2, 2))), part(5, b"\0\x40"),
+    codes = [code(0x23, 0, 0x23, 0, 0x20, 0, 0x7C, 0x24, 0), code(), none, none, none, none, code(0x03, 0x7F, 0x0C, 0, 0x0B), code(0), none]
+    return b"\0asm\1\0\0\0" + b"".join((part(1, b"\x60\1\x7e\1\x7e", b"\x60\1\x7e\0", b"\x60\0\1\x7f"), part(3, *(bytes([it]) for it in (0, 1, 2, 2, 2, 2, 2, 2, 2))), part(5, b"\0\x40"),
                                         part(6, b"\x7e\1\x42\x80\x08\x0b"), body, part(10, *codes)))
 
 
 def compare_stops(page, maker, whole, room):
     """A trap of the module, and a job that is stopped, on a page with a module that does both."""
     text, module = pathlib.Path(OUT, "mtree.html").read_text(), other_module()
-    before, rest = text.split('<script type="text/plain" id="module">', 1)
-    old_sum = hashlib.sha256(base64.b64decode(rest.split("</script>", 1)[0])).hexdigest()
-    changed = before + '<script type="text/plain" id="module">\n' + spelled(module) + "\n</script>" + rest.split("</script>", 1)[1]
+    before, rest = text.split(MODULE, 1)
+    old_sum = hashlib.sha256(gzip.decompress(base64.b64decode(rest.split("</script>", 1)[0]))).hexdigest()
+    changed = before + MODULE + "\n" + spelled(gzip.compress(module)) + "\n</script>" + rest.split("</script>", 1)[1]
     place = pathlib.Path(room, "damaged.html")
     place.write_text(changed)
     page.go(place.as_uri())
