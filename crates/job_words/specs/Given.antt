@@ -21,7 +21,7 @@ use Rattle.job_words.specs.declared.names.PolicyNames.{PolicyNames}
 abbrev pub Given : Type 0
 Given = Text → Option Text
 
--- whether `name` is given, and is none of `names`
+-- whether `name` is given, and is not one of `names`
 abbrev pub is_other : List Text → Given → Text → Bool
 is_other names given name = is_some (given name) && not (list_any (bytes_eq name) names)
 

@@ -33,14 +33,14 @@ fn is_among(name: &str, names: &[&str]) -> bool
     false
 }
 
-// Returns whether `name` is given, and is none of `names`.
+// Returns whether `name` is given, and is not one of `names`.
 fn is_other(matches: &ArgMatches<'_>, names: &[&str], name: &str) -> bool
     ensures { result ≡ is_other (map (λ s. s.now) names.now) (given_in matches.now) name.now }
 {
     value(matches, name).is_some() && !is_among(name, names)
 }
 
-// Returns whether one of `options` is given that is none of `names`.
+// Returns whether one of `options` is given that is not one of `names`.
 fn has_other_option(matches: &ArgMatches<'_>, names: &[&str], options: &[&str]) -> bool
     ensures { result
         ≡ list_any (is_other (map (λ s. s.now) names.now) (given_in matches.now)) (map (λ s. s.now) options.now) }
@@ -53,7 +53,7 @@ fn has_other_option(matches: &ArgMatches<'_>, names: &[&str], options: &[&str]) 
     false
 }
 
-/// Returns whether something is given that is none of `names`. COMMAND always is.
+/// Returns whether something besides `names` is given. COMMAND always is.
 pub fn has_other(matches: &ArgMatches<'_>, names: &[&str]) -> bool
     ensures { result ≡ has_other (map (λ s. s.now) names.now) (given_in matches.now) }
 {
