@@ -33,7 +33,7 @@ files_of (Session index log workers show) = record (on_index index) { writes = t
 files_of (Shape index) = on_index index
 files_of (Stats index) = on_index index
 files_of (Dump index) = on_index index
-files_of (Show index log counts) = record (on_index index) { log_in = Some log }
+files_of (Show index log other counts) = record (on_index index) { other = other; log_in = Some log }
 files_of (Audit index workers) = on_index index
 files_of (Verify index log other) = record (on_index index) { other = other; log_in = Some log }
 files_of (Check index log other) = record (on_index index) { other = other; log_in = Some log }
@@ -69,7 +69,7 @@ same_texts (Session index (Some log) workers show) = refl
 same_texts (Shape index) = refl
 same_texts (Stats index) = refl
 same_texts (Dump index) = refl
-same_texts (Show index log counts) = refl
+same_texts (Show index log other counts) = refl
 same_texts (Audit index workers) = refl
 same_texts (Verify index log other) = refl
 same_texts (Check index log other) = refl

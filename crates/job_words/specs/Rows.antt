@@ -65,15 +65,15 @@ dump_of None = None
 abbrev pub dump_in : Given → Option (Job Text)
 dump_in given = only (codes "INDEX" ∷ []) given (dump_of (given (codes "INDEX")))
 
--- `show INDEX --log`, with `--marks` optional
-abbrev pub show_of : Option Text → Option Text → Option Bool → Option (Job Text)
-show_of (Some index) (Some log) (Some counts) = Some (job.Show index log counts)
-show_of _ _ _ = None
+-- `show INDEX --log`, with `--other`, `--marks` optional
+abbrev pub show_of : Option Text → Option Text → Option Text → Option Bool → Option (Job Text)
+show_of (Some index) (Some log) other (Some counts) = Some (job.Show index log other counts)
+show_of _ _ _ _ = None
 
 abbrev pub show_in : Given → Option (Job Text)
 show_in given =
-    only (codes "INDEX" ∷ codes "log" ∷ codes "marks" ∷ []) given
-    (show_of (given (codes "INDEX")) (given (codes "log")) (counts_only_given given))
+    only (codes "INDEX" ∷ codes "log" ∷ codes "other" ∷ codes "marks" ∷ []) given
+    (show_of (given (codes "INDEX")) (given (codes "log")) (given (codes "other")) (counts_only_given given))
 
 -- `audit INDEX`, with `--workers` optional
 abbrev pub audit_of : Option Text → Option ℕ → Option (Job Text)

@@ -102,11 +102,14 @@ pub fn files_of<Name: Copy>(job: Job<Name>) -> FileNames<Name>
         | Job::Dump { index }
         | Job::Audit { index, .. }
         | Job::Seal { index } => on_index(index),
-        Job::Show { index, log, .. } => FileNames {
-            log_in: Some(log),
-            ..on_index(index)
-        },
-        Job::Verify { index, log, other } | Job::Check { index, log, other } => FileNames {
+        Job::Verify { index, log, other }
+        | Job::Check { index, log, other }
+        | Job::Show {
+            index,
+            log,
+            other,
+            ..
+        } => FileNames {
             other,
             log_in: Some(log),
             ..on_index(index)

@@ -37,10 +37,12 @@ pub enum Job<Name> {
     Dump {
         index: Name,
     },
-    /// `show`: the walk that each log tells of, or where `counts_only` is true how often each mark stands in it.
+    /// `show`: the walk that each log tells of, or where `counts_only` is true how often each mark stands in it. Where `other` is given,
+    /// the logs are those of a join with it.
     Show {
         index: Name,
         log: Name,
+        other: Option<Name>,
         counts_only: bool,
     },
     /// `audit`: whether the index is sound.

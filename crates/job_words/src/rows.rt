@@ -26,7 +26,7 @@ pub const STATS: [&str; 1] = ["INDEX"];
 
 pub const DUMP: [&str; 1] = ["INDEX"];
 
-pub const SHOW: [&str; 3] = ["INDEX", "log", "marks"];
+pub const SHOW: [&str; 4] = ["INDEX", "log", "other", "marks"];
 
 pub const AUDIT: [&str; 2] = ["INDEX", "workers"];
 
@@ -147,6 +147,7 @@ pub fn show<'a>(matches: &ArgMatches<'a>) -> Option<Job<&'a str>>
     Some(Job::Show {
         index: value(matches, "INDEX")?,
         log: value(matches, "log")?,
+        other: value(matches, "other"),
         counts_only: counts_only_in(matches)?,
     })
 }

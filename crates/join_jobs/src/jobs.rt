@@ -16,8 +16,8 @@ use file_jobs::{open_index, put_line};
 use outside_io::{Sink, Source, Status};
 use std::alloc::Global;
 
-// Opens two indexes of version 2. Otherwise it writes why the first file that is no index is none, and returns the status.
-fn open_both<D: Disk, E: Disk, K: Sink>(
+/// Opens two indexes of version 2. Otherwise it writes why the first file that is no index is none, and returns the status.
+pub fn open_both<D: Disk, E: Disk, K: Sink>(
     index: &mut D,
     other: &mut E,
     out: &mut K,

@@ -8,4 +8,6 @@ pub mod laws;
 mod lines;
 mod opened;
 
-pub use jobs::{check_join_logs, join_indexes, verify_join_logs};
+pub use jobs::{check_join_logs, join_indexes, open_both, verify_join_logs};
+pub use lines::{push_answers, push_verdict, side_name};
+pub use opened::{REJECTED_SPACES, Trees};

@@ -18,7 +18,8 @@ pub fn push_pairs(pairs: Listed<Pair>, out: &mut Vec<u8>) -> Result<(), Memory>
     reply_text(&Reply::Pairs(pairs), false, out)
 }
 
-fn side_name(right: bool) -> &'static [u8]
+/// Returns the word for a side.
+pub fn side_name(right: bool) -> &'static [u8]
     ensures { result.now ≡ side_name right }
 {
     if right { b"right" } else { b"left" }

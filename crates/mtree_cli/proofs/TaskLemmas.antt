@@ -24,6 +24,7 @@ use Rattle.log_jobs.specs.Jobs.{JudgesLogs}
 use Rattle.join_jobs.specs.Jobs.{Joins, JudgesLogs as JudgesJoinLogs}
 use Rattle.show_jobs.specs.declared.report.Marks.{Marks}
 use Rattle.show_jobs.specs.Jobs.{ShowsLogs}
+use Rattle.show_joins.specs.Jobs.{ShowsLogs as ShowsJoinLogs}
 use Rattle.mtree_cli.proofs.Sessions.{memory_session}
 use Rattle.mtree_cli.specs.Run.{Task, Scene, Does, IsStatusOf, TakesWithin, scan_texts, task_of}
 use Rattle.std.proofs.lemmas.Bool.{true≢false}
@@ -33,7 +34,7 @@ use Rattle.batch_run.proofs.Published.{out_of_memory}
 use Rattle.making_jobs.specs.Jobs.{IsSummary, ids_of, points_of}
 use Rattle.making_jobs.proofs.Published.{no_memory, migrates_no_memory}
 use Rattle.making_jobs.specs.Migrating.{RefusesNothing}
-use Rattle.mtree_cli.specs.Run.Task.{Scans, Makes, Draws, Measures, Dumps, Shows, Sessions, Generates, Migrates, Batches, Judges, Seals, Carries, Reports, JoinsWithin, ReportsJoins, Proves, Nothing}
+use Rattle.mtree_cli.specs.Run.Task.{Scans, Makes, Draws, Measures, Dumps, Shows, ShowsJoins, Sessions, Generates, Migrates, Batches, Judges, Seals, Carries, Reports, JoinsWithin, ReportsJoins, Proves, Nothing}
 use Rattle.seal_jobs.specs.Seals.{Seals as SealsIndex}
 use Rattle.seal_jobs.specs.Carries.{CarriesLogs}
 use Rattle.seal_jobs.specs.Proofs.{ProvesLogs}
@@ -91,6 +92,26 @@ no_logs_shown what disk left o0 o1 line = record {
     memory = λ is. inl line;
   };
   unchanged = unchanged disk;
+  input_line = λ is. absurd (omega arith);
+  long_line = λ is. absurd (omega arith);
+}
+
+no_join_logs_shown : (what : Marks) (disk other : DiskState) (left : Option (List ℕ)) (o0 o1 : SinkState) → Tells o0 o1 (codes "fault memory\n") → ShowsJoinLogs what disk disk other other left left o0 o1 8
+no_join_logs_shown what disk other left o0 o1 line = record {
+  bytes = [];
+  taken = Consumes-nil left;
+  few = omega arith;
+  long = (λ is. absurd (omega arith), λ many. absurd (omega arith));
+  all = λ a b c. absurd (c refl);
+  judges = λ a b. record {
+    unchanged = (unchanged disk, unchanged other);
+    done = λ is. ⊎_elim (λ e. absurd (omega arith)) (λ e. absurd (omega arith)) is;
+    output = λ is. absurd (omega arith);
+    disk = λ is. absurd (omega arith);
+    not_index = λ is. absurd (omega arith);
+    memory = λ is. inl line;
+  };
+  unchanged = (unchanged disk, unchanged other);
   input_line = λ is. absurd (omega arith);
   long_line = λ is. absurd (omega arith);
 }
@@ -177,6 +198,7 @@ does_at_memory Dumps disk other input left v o0 o1 line = record {
   sound = λ tells head live sound. (λ is. absurd (omega arith), λ is. absurd (omega arith));
 }
 does_at_memory (Shows what) disk other input left v o0 o1 line = no_logs_shown what disk left o0 o1 line
+does_at_memory (ShowsJoins what) disk other input left v o0 o1 line = no_join_logs_shown what disk other left o0 o1 line
 does_at_memory Judges disk other input left v o0 o1 line = record {
   unchanged = unchanged disk;
   sound = λ is. absurd (omega arith);
@@ -256,6 +278,7 @@ status_eight Draws = inr (inr (inr (inr (inl refl))))
 status_eight Measures = inr (inr (inr (inr (inl refl))))
 status_eight Dumps = inr (inr (inr (inr (inl refl))))
 status_eight (Shows what) = inr (inr (inr (inr (inr (inr (inr refl))))))
+status_eight (ShowsJoins what) = inr (inr (inr (inr (inr (inr (inr refl))))))
 status_eight Judges = inr (inr (inr (inr (inr refl))))
 status_eight (Reports what) = inr (inr (inr (inr (inr (inr (inr refl))))))
 status_eight (JoinsWithin radius) = inr (inr (inr (inr (inr (inl refl)))))
@@ -325,6 +348,10 @@ logs_taken Large input left0 left1 what d0 d1 o0 o1 status told = within_logs La
 pub shown_taken : (Large : Type 0) (input left0 left1 : Option (List ℕ)) (what : Marks) (d0 d1 : DiskState) (o0 o1 : SinkState) (status : ℕ) → ShowsLogs what d0 d1 left0 left1 o0 o1 status → TakesWithin Large input input left0 left1 status
 shown_taken Large input left0 left1 what d0 d1 o0 o1 status told = within_logs Large input left0 left1 status told.bytes told.taken told.few told.long
 
+pub shown_joins_taken : (Large : Type 0) (input left0 left1 : Option (List ℕ)) (what : Marks) (d0 d1 e0 e1 : DiskState) (o0 o1 : SinkState) (status : ℕ) → ShowsJoinLogs what d0 d1 e0 e1 left0 left1 o0 o1 status
+    → TakesWithin Large input input left0 left1 status
+shown_joins_taken Large input left0 left1 what d0 d1 e0 e1 o0 o1 status told = within_logs Large input left0 left1 status told.bytes told.taken told.few told.long
+
 pub join_logs_taken : (Large : Type 0) (input left0 left1 : Option (List ℕ)) (what : Report) (d0 d1 e0 e1 : DiskState) (o0 o1 : SinkState) (status : ℕ) → JudgesJoinLogs what d0 d1 e0 e1 left0 left1 o0 o1 status
     → TakesWithin Large input input left0 left1 status
 join_logs_taken Large input left0 left1 what d0 d1 e0 e1 o0 o1 status told = within_logs Large input left0 left1 status told.bytes told.taken told.few told.long
@@ -363,6 +390,9 @@ logs_rose left0 left1 what d0 d1 o0 o1 status told is = ((told.judges (omega ari
 
 pub shown_rose : (left0 left1 : Option (List ℕ)) (what : Marks) (d0 d1 : DiskState) (o0 o1 : SinkState) (status : ℕ) → ShowsLogs what d0 d1 left0 left1 o0 o1 status → status ≡ 5 → Rose d0.faults d1.faults
 shown_rose left0 left1 what d0 d1 o0 o1 status told is = ((told.judges (omega arith) (omega arith)).disk is).0
+
+pub shown_joins_rose : (left0 left1 : Option (List ℕ)) (what : Marks) (d0 d1 e0 e1 : DiskState) (o0 o1 : SinkState) (status : ℕ) → ShowsJoinLogs what d0 d1 e0 e1 left0 left1 o0 o1 status → status ≡ 5 → Rose d0.faults d1.faults ⊎ Rose e0.faults e1.faults
+shown_joins_rose left0 left1 what d0 d1 e0 e1 o0 o1 status told is = ((told.judges (omega arith) (omega arith)).disk is).0
 
 pub join_logs_rose : (left0 left1 : Option (List ℕ)) (what : Report) (d0 d1 e0 e1 : DiskState) (o0 o1 : SinkState) (status : ℕ) → JudgesJoinLogs what d0 d1 e0 e1 left0 left1 o0 o1 status → status ≡ 5 → Rose d0.faults d1.faults ⊎ Rose e0.faults e1.faults
 join_logs_rose left0 left1 what d0 d1 e0 e1 o0 o1 status told is = ((told.judges (omega arith) (omega arith)).disk is).0

@@ -18,6 +18,7 @@ use Rattle.dump_jobs.specs.Jobs.{Dumps as DumpsIndex, IsDumpStatus}
 use Rattle.show_jobs.specs.declared.report.Marks.{Marks}
 use Rattle.show_jobs.specs.declared.report.Marks.TheVariants as marks
 use Rattle.show_jobs.specs.Jobs.{ShowsLogs}
+use Rattle.show_joins.specs.Jobs.{ShowsLogs as ShowsJoinLogs}
 use Rattle.file_jobs.specs.declared.logs.report.Report.{Report}
 use Rattle.file_jobs.specs.declared.logs.report.Report.TheVariants as report
 use Rattle.file_jobs.specs.Logs.Jobs.{IsLogStatus}
@@ -116,6 +117,7 @@ pub data Task : Type 0 where
   Measures : Task
   Dumps : Task
   Shows : Marks → Task
+  ShowsJoins : Marks → Task
   Sessions : Bool → Task
   Generates : Generation → Task
   Migrates : Task
@@ -140,7 +142,8 @@ task_of (Some (job.Create index space policies limit)) = Makes (new_head space p
 task_of (Some (job.Shape index)) = Draws
 task_of (Some (job.Stats index)) = Measures
 task_of (Some (job.Dump index)) = Dumps
-task_of (Some (job.Show index log counts)) = Shows (marks_of counts)
+task_of (Some (job.Show index log None counts)) = Shows (marks_of counts)
+task_of (Some (job.Show index log (Some other) counts)) = ShowsJoins (marks_of counts)
 task_of (Some (job.Session index log workers show)) = Sessions show
 task_of (Some (job.Gen index space count seed policies workers)) =
     Generates (record { head = new_head space policies most_objects; count = count; seed = seed; workers = workers })
@@ -178,6 +181,7 @@ Does Draws a b input status = Shapes a.index b.index a.out b.out status
 Does Measures a b input status = TellsStats a.index b.index a.out b.out status
 Does Dumps a b input status = DumpsIndex a.index b.index a.out b.out status
 Does (Shows what) a b input status = ShowsLogs what a.index b.index a.left b.left a.out b.out status
+Does (ShowsJoins what) a b input status = ShowsJoinLogs what a.index b.index a.other b.other a.left b.left a.out b.out status
 Does Judges a b input status = Audits a.index b.index a.out b.out status
 Does (Reports what) a b input status = JudgesLogs what a.index b.index a.left b.left a.out b.out status
 Does (JoinsWithin radius) a b input status = Joins radius a.index b.index a.other b.other a.out b.out a.log_out b.log_out status
@@ -199,6 +203,7 @@ TakesNoIndex Draws = ⊥
 TakesNoIndex Measures = ⊥
 TakesNoIndex Dumps = ⊥
 TakesNoIndex (Shows what) = ⊥
+TakesNoIndex (ShowsJoins what) = ⊥
 TakesNoIndex Judges = ⊥
 TakesNoIndex (Reports what) = ⊥
 TakesNoIndex (JoinsWithin radius) = ⊥
@@ -220,6 +225,7 @@ TakesNoLog Draws = Unit {0}
 TakesNoLog Measures = Unit {0}
 TakesNoLog Dumps = Unit {0}
 TakesNoLog (Shows what) = ⊥
+TakesNoLog (ShowsJoins what) = ⊥
 TakesNoLog Judges = Unit {0}
 TakesNoLog (Reports what) = ⊥
 TakesNoLog (JoinsWithin radius) = Unit {0}
@@ -241,6 +247,7 @@ TakesNoOther Draws = Unit {0}
 TakesNoOther Measures = Unit {0}
 TakesNoOther Dumps = Unit {0}
 TakesNoOther (Shows what) = Unit {0}
+TakesNoOther (ShowsJoins what) = ⊥
 TakesNoOther Judges = Unit {0}
 TakesNoOther (Reports what) = Unit {0}
 TakesNoOther (JoinsWithin radius) = ⊥
@@ -262,6 +269,7 @@ PutsNoLog Draws = Unit {0}
 PutsNoLog Measures = Unit {0}
 PutsNoLog Dumps = Unit {0}
 PutsNoLog (Shows what) = Unit {0}
+PutsNoLog (ShowsJoins what) = Unit {0}
 PutsNoLog Judges = Unit {0}
 PutsNoLog (Reports what) = Unit {0}
 PutsNoLog (JoinsWithin radius) = ⊥
@@ -327,6 +335,7 @@ IsStatusOf Draws n = IsShapeStatus n
 IsStatusOf Measures n = IsShapeStatus n
 IsStatusOf Dumps n = IsDumpStatus n
 IsStatusOf (Shows what) n = IsLogStatus n
+IsStatusOf (ShowsJoins what) n = IsLogStatus n
 IsStatusOf Judges n = IsAuditStatus n
 IsStatusOf (Reports what) n = IsLogStatus n
 IsStatusOf (JoinsWithin radius) n = IsJoinStatus n

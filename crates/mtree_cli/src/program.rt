@@ -36,6 +36,7 @@ use seal_jobs::{carry_logs, prove_logs, seal_index};
 use seal_log::laws::carried_logs_are_accepted;
 use session_run::laws::turns_are_their_meaning;
 use show_jobs::{Marks, show_logs};
+use show_joins::show_join_logs;
 use stats_jobs::stats_index;
 use std::alloc::Global;
 use std::thread::Threads;
@@ -77,7 +78,7 @@ fn marks_of(counts_only: bool) -> Marks
 /// and puts the log of each query to `log_out`. `batch` runs the script's queries by several threads. `shape` writes the shape of
 /// the tree, `stats` what is known of it without its objects, and `dump` the objects as a script. `show` shows the walks of the logs of
 /// `log_in`. `audit` tells whether it is sound. `verify` judges the logs of `log_in` by it, and `check` does both. `join` joins
-/// `index` with `other` and puts its log to `log_out`. With `--other`, `verify` and `check` take join logs and both indexes. `seal`
+/// `index` with `other` and puts its log to `log_out`. With `--other`, `verify`, `check` and `show` take join logs and both indexes. `seal`
 /// writes the root digest of the whole file of `index`. `proof` with an index puts each log of `log_in` to `log_out` with the pages
 /// that it names. `proof` with a digest judges such carried logs of `log_in` by the digest alone.
 pub fn run<R: Threads + Sync, D: SharedDisk, E: Disk, S: Source, L: Source, K: Sink, T: Sink>(
@@ -185,10 +186,24 @@ pub fn run<R: Threads + Sync, D: SharedDisk, E: Disk, S: Source, L: Source, K: S
         Ok(Job::Shape { .. }) => shape_index(alloc, index, out),
         Ok(Job::Stats { .. }) => stats_index(alloc, index, out),
         Ok(Job::Dump { .. }) => dump_index(alloc, index, out),
-        Ok(Job::Show { counts_only, .. }) => show_logs(
+        Ok(
+            Job::Show {
+                other: None,
+                counts_only,
+                ..
+            },
+        ) => show_logs(alloc, marks_of(counts_only), index, log_in, out),
+        Ok(
+            Job::Show {
+                other: Some(_),
+                counts_only,
+                ..
+            },
+        ) => show_join_logs(
             alloc,
             marks_of(counts_only),
             index,
+            other,
             log_in,
             out,
         ),

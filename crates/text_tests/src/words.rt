@@ -132,14 +132,16 @@ const JOBS: [(&str, Job<&str>); 21] = [
         Job::Show {
             index: "a.mt",
             log: "a.log",
+            other: None,
             counts_only: false,
         },
     ),
     (
-        "show a.mt --log a.log --marks count",
+        "show a.mt --log a.log --other b.mt --marks count",
         Job::Show {
             index: "a.mt",
             log: "a.log",
+            other: Some("b.mt"),
             counts_only: true,
         },
     ),
@@ -259,7 +261,7 @@ const OUT_OF_ROW: [&str; 39] = [
     "shape a.mt --workers 1",
     "stats a.mt --log a.log",
     "dump a.mt --tags show",
-    "show a.mt --log a.log --other b.mt",
+    "show a.mt --log a.log --radius 1",
     "show a.mt --log a.log --marks some",
     "audit a.mt --radius 1",
     "session a.mt --metric l1",

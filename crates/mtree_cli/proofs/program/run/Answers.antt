@@ -4,7 +4,7 @@ use Rattle.job_words.specs.Jobs.{job_of}
 use Rattle.job_words.specs.declared.job.Job.TheVariants as job
 use Rattle.file_jobs.specs.declared.logs.report.Report.TheVariants.{Verdicts, Answers}
 use Rattle.mtree_cli.specs.Run.{Does, HasTooManyPages, LeavesAtMemory, PutsLogLast, Task, TakesNoInput, TakesWithin, task_of}
-use Rattle.mtree_cli.proofs.TaskLemmas.{scene, task_is, unchanged, memory_does, memory_status, nothing_taken, input_taken, batch_taken, seal_taken, carried_taken, proofs_taken, logs_taken, logs_rose, join_logs_taken, join_logs_rose, join_rose, shown_taken, shown_rose}
+use Rattle.mtree_cli.proofs.TaskLemmas.{scene, task_is, unchanged, memory_does, memory_status, nothing_taken, input_taken, batch_taken, seal_taken, carried_taken, proofs_taken, logs_taken, logs_rose, join_logs_taken, join_logs_rose, join_rose, shown_taken, shown_rose, shown_joins_taken, shown_joins_rose}
 use Rattle.mtree_cli.proofs.program.run.Goals as goal
 
 pub returns-in-Ok-Scan-clause-does : goal.returns-in-Ok-Scan-clause-does
@@ -46,15 +46,6 @@ returns-in-Ok-Dump-clause-long g c = nothing_taken _ (g.S.Source.left c.args.inp
 
 pub returns-in-Ok-Dump-clause-other_same : goal.returns-in-Ok-Dump-clause-other_same
 returns-in-Ok-Dump-clause-other_same g c = unchanged (g.E.Disk.state c.args.other.now)
-
-pub returns-in-Ok-Show-clause-long : goal.returns-in-Ok-Show-clause-long
-returns-in-Ok-Show-clause-long g c = shown_taken _ (g.S.Source.left c.args.input.now) _ _ _ _ _ _ _ c.show_logs.result.0 c.show_logs.ensures.shows
-
-pub returns-in-Ok-Show-clause-other_same : goal.returns-in-Ok-Show-clause-other_same
-returns-in-Ok-Show-clause-other_same g c = unchanged (g.E.Disk.state c.args.other.now)
-
-pub returns-in-Ok-Show-clause-either_disk : goal.returns-in-Ok-Show-clause-either_disk
-returns-in-Ok-Show-clause-either_disk g c = λ is. inl (shown_rose _ _ _ _ _ _ _ c.show_logs.result.0 c.show_logs.ensures.shows is)
 
 pub returns-in-Ok-Audit-clause-memory : goal.returns-in-Ok-Audit-clause-memory
 returns-in-Ok-Audit-clause-memory g c = λ no is. c.audit_index_by.ensures.audits.unchanged

@@ -1,0 +1,5 @@
+pub mod Reasons
+pub mod Walks
+pub mod Frames
+pub mod Jobs
+pub mod Laws
