@@ -262,7 +262,10 @@ class Index:
 
     def show(self, logs: Any) -> str:
         """Returns the frames of `logs`, any bytes-like object, in words: the verdict, the query, its answers, and the walk with the reason of
-        each mark, as the program's `show` writes them. Raises `NoIndex`, `TooLong` and `NoLibrary`, and TypeError where `logs` are no bytes."""
+        each mark, as the program's `show` writes them. A rejected log is shown as far as its records lead. Logs of joins are shown by the
+        program alone.
+
+        Raises `NoIndex`, `TooLong` and `NoLibrary`, and TypeError where `logs` are no bytes."""
         held = _bytes(logs)
         with self._file.reading() as (file, size):
             return _library.report("mtree_show", file, size, held, len(held)).text
