@@ -43,12 +43,16 @@ head_text head =
     named (codes "metric ") (metric_word head.kind) ++ counted (codes "dim ") head.dim ++ named (codes "promote ") (promote_word head.promote)
     ++ named (codes "split ") (split_word head.split) ++ counted (codes "max ") head.limit
 
+-- the lines of a file's pages, where a tree takes `nodes` of them
+abbrev pub pages_text : ℕ → ℕ → List ℕ
+pages_text pages nodes =
+    counted (codes "pages ") pages ++ counted (codes "free ") (pages - (head_pages + nodes)) ++ counted (codes "bytes ") (4096 * pages)
+
 -- the lines of a live tree of `nodes` nodes
 abbrev pub tree_text : Live → ℕ → List ℕ
 tree_text live nodes =
     counted (codes "generation ") live.generation ++ counted (codes "objects ") live.count ++ counted (codes "height ") live.height
-    ++ counted (codes "nodes ") nodes ++ counted (codes "pages ") live.pages ++ counted (codes "free ") (live.pages - (head_pages + nodes))
-    ++ counted (codes "bytes ") (4096 * live.pages)
+    ++ counted (codes "nodes ") nodes ++ pages_text live.pages nodes
 
 -- the lines of a head, of its tree, and of the tree's levels
 abbrev pub stats_text : Head → Live → ℕ → List LevelNumbers → List ℕ

@@ -2,7 +2,7 @@
 ghost use Rattle.std.specs.Prelude.{◌≡◌, ◌++◌, flat_map, OnOk, IfOk};
 ghost use Rattle.rows_text.specs.Texts.{counted};
 ghost use Rattle.file_jobs.specs.Lines.{or_dash};
-ghost use Rattle.stats_jobs.specs.Jobs.{head_text, level_text, named, spread_text, stats_text, tree_text};
+ghost use Rattle.stats_jobs.specs.Jobs.{head_text, level_text, named, pages_text, spread_text, stats_text, tree_text};
 
 use crate::names::{metric_word, promote_word, split_word};
 use crate::numbers::{LevelNumbers, Spread};
@@ -80,18 +80,25 @@ fn push_head(head: &Head, out: &mut Vec<u8>) -> Result<(), Memory>
     push_counted(b"max ", u64::from(head.limit), out)
 }
 
+// Appends the lines of a file's pages, where a tree takes `nodes` of them.
+fn push_pages(pages: u32, nodes: u32, out: &mut Vec<u8>) -> Result<(), Memory>
+    ensures { OnOk result (out.new.items ≡ out.old.items ++ pages_text pages nodes) }
+{
+    let pages = u64::from(pages);
+    let taken = HEAD_PAGES + u64::from(nodes);
+    push_counted(b"pages ", pages, out)?;
+    push_counted(b"free ", pages.saturating_sub(taken), out)?;
+    push_counted(b"bytes ", PAGE_BYTES * pages, out)
+}
+
 fn push_tree(live: &Live, nodes: u32, out: &mut Vec<u8>) -> Result<(), Memory>
     ensures { OnOk result (out.new.items ≡ out.old.items ++ tree_text live.now nodes) }
 {
-    let nodes = u64::from(nodes);
-    let pages = u64::from(live.pages);
     push_counted(b"generation ", live.generation, out)?;
     push_counted(b"objects ", u64::from(live.count), out)?;
     push_counted(b"height ", u64::from(live.height), out)?;
-    push_counted(b"nodes ", nodes, out)?;
-    push_counted(b"pages ", pages, out)?;
-    push_counted(b"free ", pages.saturating_sub(HEAD_PAGES + nodes), out)?;
-    push_counted(b"bytes ", PAGE_BYTES * pages, out)
+    push_counted(b"nodes ", u64::from(nodes), out)?;
+    push_pages(live.pages, nodes, out)
 }
 
 /// Returns the lines of a head, of its tree of `nodes` nodes, and of the tree's levels.
