@@ -12,14 +12,15 @@ pub none_above : (lines : List ShapeLine) (height : ℕ) → StandAbove lines he
 none_above lines height more rest = let same : height - 0 ≡ height = omega arith in subst (λ (n : ℕ). AreLevels lines n more) same rest
 
 -- a level with those below it
-level_and_below : (lines : List ShapeLine) (level below : ℕ) (one : LevelNumbers) (more : List LevelNumbers) → level ≡ suc below → AreNumbersOf lines level one
-    → AreLevels lines below more → AreLevels lines level (one ∷ more)
+level_and_below : (lines : List ShapeLine) (level below : ℕ) (one : LevelNumbers) (more : List LevelNumbers) → level ≡ suc below
+    → AreNumbersOf lines level one → AreLevels lines below more → AreLevels lines level (one ∷ more)
 level_and_below lines level below one more next is rest =
     subst (λ (n : ℕ). AreLevels lines n (one ∷ more)) (sym next) (subst (λ (n : ℕ). AreNumbersOf lines n one) next is, rest)
 
 -- one more level was told
 pub one_more_above : (lines : List ShapeLine) (height above : ℕ) (levels : List LevelNumbers) (one : LevelNumbers) → above < height
-    → StandAbove lines height (height - above) levels → AreNumbersOf lines (height - above) one → StandAbove lines height (height - (above + 1)) (levels ++ one ∷ [])
+    → StandAbove lines height (height - above) levels → AreNumbersOf lines (height - above) one
+    → StandAbove lines height (height - (above + 1)) (levels ++ one ∷ [])
 one_more_above lines height above levels one below stand is more rest =
     let next : height - above ≡ suc (height - (above + 1)) = omega arith in
     subst (λ (all : List LevelNumbers). AreLevels lines height all) (sym (append_assoc levels (one ∷ []) more))

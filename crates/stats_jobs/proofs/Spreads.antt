@@ -7,7 +7,8 @@ use Rattle.std.proofs.lemmas.List.Sorted.{IsNonDecreasingBy-from_sort, length_pe
 use Rattle.std.proofs.lemmas.Option.{slice_get_read}
 use Rattle.stats_jobs.specs.Numbers.{AreEnds}
 
-pub ends_read : (numbers sorted : List ℕ) (last least middle most : ℕ) → IsPermutation numbers sorted → IsSorted nat_cmp sorted → 0 < length sorted → last ≡ length sorted - 1
+pub ends_read : (numbers sorted : List ℕ) (last least middle most : ℕ) → IsPermutation numbers sorted → IsSorted nat_cmp sorted
+    → 0 < length sorted → last ≡ length sorted - 1
     → least ≡ get_or sorted 0 least → middle ≡ get_or sorted (last / 2) middle → most ≡ get_or sorted last most
     → AreEnds numbers (record { least = least; middle = middle; most = most })
 ends_read numbers sorted last least middle most same up some last_is least_is middle_is most_is = record {

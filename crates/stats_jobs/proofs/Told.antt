@@ -8,8 +8,9 @@ use Rattle.tree_outline.specs.declared.outline.ShapeLine.{ShapeLine}
 use Rattle.file_jobs.specs.Shapes.{AreLinesOf}
 use Rattle.stats_jobs.specs.Jobs.{TellsStats, TellsTree}
 
-pub stats_before : (d0 d1 : DiskState) (head : Head) (live : Live) (lines : List ShapeLine) (Put : List ℕ → Type 0) → (IsTrue d0.tells → OpensTo d0.bytes head live)
-    → head.version ≡ 2 → IsUnchanged d0 d1 → (IsTrue d1.tells → AreLinesOf head live d1.bytes lines) → TellsTree head live lines Put → TellsStats d0 Put
+pub stats_before : (d0 d1 : DiskState) (head : Head) (live : Live) (lines : List ShapeLine) (Put : List ℕ → Type 0)
+    → (IsTrue d0.tells → OpensTo d0.bytes head live) → head.version ≡ 2 → IsUnchanged d0 d1
+    → (IsTrue d1.tells → AreLinesOf head live d1.bytes lines) → TellsTree head live lines Put → TellsStats d0 Put
 stats_before d0 d1 head live lines Put opens version same lines_are told = record {
   head = head;
   live = live;

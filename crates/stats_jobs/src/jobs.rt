@@ -28,16 +28,12 @@ fn text_of(alloc: Global, head: &Head, live: &Live, shape: &Shape) -> Result<Vec
 }
 
 // Writes the text on a tree whose nodes are those of `shape`, and ends.
-fn end_told<K: Sink>(
-    alloc: Global,
-    head: &Head,
-    live: &Live,
-    shape: &Shape,
-    out: &mut K,
-) -> Status
+fn end_told<K: Sink>(alloc: Global, head: &Head, live: &Live, shape: &Shape, out: &mut K) -> Status
     requires { shape.now.nodes ≡ length shape.now.lines }
-    ensures done { result.0 ≡ 0 → TellsTree head.now live.now shape.now.lines (Appends (K.state out.old).written (K.state out.new).written) }
-    ensures part { result.0 ≡ 4 → TellsTree head.now live.now shape.now.lines (AppendsPrefix (K.state out.old).written (K.state out.new).written) }
+    ensures done { result.0 ≡ 0 →
+        TellsTree head.now live.now shape.now.lines (Appends (K.state out.old).written (K.state out.new).written) }
+    ensures part { result.0 ≡ 4 →
+        TellsTree head.now live.now shape.now.lines (AppendsPrefix (K.state out.old).written (K.state out.new).written) }
     ensures memory { result.0 ≡ 8 → Tells (K.state out.old) (K.state out.new) (codes "fault memory\n") }
     ensures statuses { (result.0 ≡ 0) ⊎ ((result.0 ≡ 4) ⊎ (result.0 ≡ 8)) }
     ensures later { (K.state out.old).faults ≤ (K.state out.new).faults }

@@ -80,7 +80,16 @@ fn push_head(head: &Head, out: &mut Vec<u8>) -> Result<(), Memory>
     push_counted(b"max ", u64::from(head.limit), out)
 }
 
-// Appends the lines of a file's pages, where a tree takes `nodes` of them.
+fn push_tree(live: &Live, nodes: u32, out: &mut Vec<u8>) -> Result<(), Memory>
+    ensures { OnOk result (out.new.items ≡ out.old.items ++ tree_text live.now nodes) }
+{
+    push_counted(b"generation ", live.generation, out)?;
+    push_counted(b"objects ", u64::from(live.count), out)?;
+    push_counted(b"height ", u64::from(live.height), out)?;
+    push_counted(b"nodes ", u64::from(nodes), out)
+}
+
+// Appends the lines of a file's pages, where its tree has `nodes` nodes.
 fn push_pages(pages: u32, nodes: u32, out: &mut Vec<u8>) -> Result<(), Memory>
     ensures { OnOk result (out.new.items ≡ out.old.items ++ pages_text pages nodes) }
 {
@@ -91,17 +100,7 @@ fn push_pages(pages: u32, nodes: u32, out: &mut Vec<u8>) -> Result<(), Memory>
     push_counted(b"bytes ", PAGE_BYTES * pages, out)
 }
 
-fn push_tree(live: &Live, nodes: u32, out: &mut Vec<u8>) -> Result<(), Memory>
-    ensures { OnOk result (out.new.items ≡ out.old.items ++ tree_text live.now nodes) }
-{
-    push_counted(b"generation ", live.generation, out)?;
-    push_counted(b"objects ", u64::from(live.count), out)?;
-    push_counted(b"height ", u64::from(live.height), out)?;
-    push_counted(b"nodes ", u64::from(nodes), out)?;
-    push_pages(live.pages, nodes, out)
-}
-
-/// Returns the lines of a head, of its tree of `nodes` nodes, and of the tree's levels.
+/// Returns the lines of a head, of its tree of `nodes` nodes, of the file's pages, and of the tree's levels.
 pub fn stats_text(
     alloc: Global,
     head: &Head,
@@ -114,6 +113,7 @@ pub fn stats_text(
     let mut text = Vec::new(alloc);
     push_head(head, &mut text)?;
     push_tree(live, nodes, &mut text)?;
+    push_pages(live.pages, nodes, &mut text)?;
     push_levels(levels, &mut text)?;
     Ok(text)
 }

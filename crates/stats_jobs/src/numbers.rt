@@ -79,7 +79,11 @@ fn level_of(alloc: Global, lines: &[ShapeLine], level: u32) -> Result<LevelNumbe
 }
 
 /// Returns the numbers of each level, from `height` down to the leaves.
-pub fn levels_of(alloc: Global, lines: &[ShapeLine], height: u32) -> Result<Vec<LevelNumbers>, Memory>
+pub fn levels_of(
+    alloc: Global,
+    lines: &[ShapeLine],
+    height: u32,
+) -> Result<Vec<LevelNumbers>, Memory>
     ensures { IfOk result (λ levels. AreLevels lines.now height levels.items) }
 {
     let mut levels = Vec::new(alloc);

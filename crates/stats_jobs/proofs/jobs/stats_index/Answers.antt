@@ -1,5 +1,6 @@
-use Rattle.std.proofs.Common.{arith}
+use Rattle.std.proofs.Common.{ℕ, List, arith}
 use Rattle.disk_model.specs.Moments.{then_unchanged}
+use Rattle.page_store.specs.Shelf.{IsPassing}
 use Rattle.outside_io.proofs.Published.{rose_before}
 use Rattle.file_jobs.proofs.Published.{neither, none_of_three, no_index_unsound, damaged_unsound, damage_before, stop_rose}
 use Rattle.stats_jobs.proofs.Told.{stats_before}
@@ -20,7 +21,9 @@ returns-in-Err-clause-stats g c =
       memory = λ is. neither r 5 6 8 s is (omega arith) (omega arith);
       damaged = λ is. neither r 5 6 9 s is (omega arith) (omega arith);
       sound = λ tells head live sound. (
-        λ is. no_index_unsound c.fault_is_not_open.ensures c.one_live_slot.ensures d0.bytes _ ((told.refuses.not_index is).2 tells) head live sound,
+        λ is.
+            let named = (told.refuses.not_index is).2 tells in
+            no_index_unsound c.fault_is_not_open.ensures c.one_live_slot.ensures d0.bytes _ named head live sound,
         λ is. neither r 5 6 9 s is (omega arith) (omega arith),
       );
     }
@@ -36,10 +39,12 @@ returns-in-Ok-shape_opened-clause-stats g c =
     let told = c.in-Ok-shape_opened.ensures in
     let r = c.end_told.result.0 in
     let s = c.end_told.ensures.statuses in
+    let before = λ (Put : List ℕ → Type 0).
+    stats_before d0 d1 opened.0 opened.1 shape.lines Put first.opens first.version first.same told.lines in
     record {
       unchanged = then_unchanged d0 d1 d2 first.same told.same;
-      done = λ is. stats_before d0 d1 opened.0 opened.1 shape.lines _ first.opens first.version first.same told.lines (rw first.silent at c.end_told.ensures.done is);
-      part = λ is. stats_before d0 d1 opened.0 opened.1 shape.lines _ first.opens first.version first.same told.lines (rw first.silent at c.end_told.ensures.part is);
+      done = λ is. before _ (rw first.silent at c.end_told.ensures.done is);
+      part = λ is. before _ (rw first.silent at c.end_told.ensures.part is);
       disk = λ is. none_of_three r 0 4 8 5 s is (omega arith) (omega arith) (omega arith);
       not_index = λ is. none_of_three r 0 4 8 6 s is (omega arith) (omega arith) (omega arith);
       memory = λ is. rw first.silent at c.end_told.ensures.memory is;
@@ -61,21 +66,23 @@ returns-in-Err-shape_opened-clause-stats g c =
     let told = c.in-Err-shape_opened.ensures in
     let r = c.end_at_page.result.0 in
     let s = c.end_at_page.ensures.statuses in
+    let before = λ (stays : IsPassing fault → ⊥).
+    damage_before d0 d1 d2.faults opened.0 opened.1 fault first.opens first.version first.same stays told.stop in
     record {
       unchanged = then_unchanged d0 d1 d2 first.same told.same;
       done = λ is. none_of_three r 5 8 9 0 s is (omega arith) (omega arith) (omega arith);
       part = λ is. none_of_three r 5 8 9 4 s is (omega arith) (omega arith) (omega arith);
       disk = λ is.
           let failed = c.end_at_page.ensures.disk is in
-          (rose_before d0.faults d1.faults d2.faults first.later (stop_rose d1 d2.faults opened.0 opened.1 fault failed.0 told.stop), rw first.silent at failed.1);
+          let stop = stop_rose d1 d2.faults opened.0 opened.1 fault failed.0 told.stop in
+          (rose_before d0.faults d1.faults d2.faults first.later stop, rw first.silent at failed.1);
       not_index = λ is. none_of_three r 5 8 9 6 s is (omega arith) (omega arith) (omega arith);
       memory = λ is. rw first.silent at c.end_at_page.ensures.memory is;
       damaged = λ is.
           let ended = c.end_at_page.ensures.damaged is in
-          (fault, rw first.silent at ended.1, damage_before d0 d1 d2.faults opened.0 opened.1 fault first.opens first.version first.same ended.0 told.stop);
+          (fault, rw first.silent at ended.1, before ended.0);
       sound = λ tells head live sound. (
         λ is. none_of_three r 5 8 9 6 s is (omega arith) (omega arith) (omega arith),
-        λ is. damaged_unsound c.one_live_slot.ensures d0.bytes fault
-            (damage_before d0 d1 d2.faults opened.0 opened.1 fault first.opens first.version first.same (c.end_at_page.ensures.damaged is).0 told.stop tells) head live sound,
+        λ is. damaged_unsound c.one_live_slot.ensures d0.bytes fault (before (c.end_at_page.ensures.damaged is).0 tells) head live sound,
       );
     }

@@ -7,5 +7,6 @@ returns c =
     let sorted = c.sort_unstable.new.self in
     let long = sorted.ok.0 in
     let some = c.in_ok-last.ensures in
-    ends_read c.args.numbers.now.items sorted.items c.in_ok-last.last _ _ _ c.sort_unstable.ensures.permutation c.sort_unstable.ensures.sorted (omega arith) (omega arith)
+    let sort = c.sort_unstable.ensures in
+    ends_read c.args.numbers.now.items sorted.items c.in_ok-last.last _ _ _ sort.permutation sort.sorted (omega arith) (omega arith)
     c.index.ensures c.index-2.ensures c.index-3.ensures
