@@ -6,8 +6,10 @@ pub use Rattle.file_jobs.proofs.Statuses.{neither}
 pub use Rattle.file_jobs.proofs.Spaces.{space_by_head}
 -- How an audit ends, by what its parts told.
 pub use Rattle.file_jobs.proofs.Ends.{no_index, rose_by_disk, told_by, audit_rose, only, none_of_three, none_of_four, is_first, audited_before, sound_before}
+-- How the walk of an opened file's tree stops, said of the bytes before the opening.
+pub use Rattle.file_jobs.proofs.Shaped.{damage_before, stop_rose}
 -- Files that are not sound.
-pub use Rattle.file_jobs.proofs.Unsound.{no_index_unsound}
+pub use Rattle.file_jobs.proofs.Unsound.{no_index_unsound, damaged_unsound}
 -- What is said of a file and of what follows it, by what was put.
 pub use Rattle.file_jobs.proofs.logs.Audits.{file_stopped, file_unsound, unsound_status, file_then, sound_status}
 -- How a job ends, by what was put before.

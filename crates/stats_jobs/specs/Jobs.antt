@@ -1,5 +1,5 @@
 -- What the job `stats` does and writes, by the status with which it ends.
-use Rattle.std.specs.Prelude.{◌≡◌, ◌≢◌, ◌*◌, ◌+◌, ◌-◌, ℕ, List, ◌++◌, length, flat_map, decimal, codes, Option, IsTrue}
+use Rattle.std.specs.Prelude.{◌≡◌, ◌≢◌, ◌*◌, ◌+◌, ◌-◌, ℕ, List, ◌++◌, length, flat_map, decimal, codes, IsTrue}
 use Rattle.std.specs.Io.KnownBytes.{Appends}
 use Rattle.outside_io.specs.Bytes.{AppendsPrefix}
 use Rattle.outside_io.specs.Causes.{Rose}
@@ -34,17 +34,30 @@ spread_text spread = decimal spread.least ++ numbered space spread.middle ++ num
 -- `level LEVEL nodes NODES entries LEAST MIDDLE MOST radius LEAST MIDDLE MOST`: the root has no radius
 abbrev pub level_text : LevelNumbers → List ℕ
 level_text numbers =
-    numbered (codes "level ") numbers.level ++ numbered (codes " nodes ") numbers.nodes ++ codes " entries " ++ or_dash spread_text numbers.entries
-    ++ codes " radius " ++ or_dash spread_text numbers.radii ++ line_end
+    numbered (codes "level ") numbers.level ++ numbered (codes " nodes ") numbers.nodes
+    ++ codes " entries " ++ or_dash spread_text numbers.entries ++ codes " radius " ++ or_dash spread_text numbers.radii ++ line_end
 
--- the lines of a head, of a live tree of `nodes` nodes, and of its levels
+-- the lines of a head
+abbrev pub head_text : Head → List ℕ
+head_text head =
+    named (codes "metric ") (metric_word head.kind) ++ counted (codes "dim ") head.dim
+    ++ named (codes "promote ") (promote_word head.promote) ++ named (codes "split ") (split_word head.split)
+    ++ counted (codes "max ") head.limit
+
+-- the lines of a live tree of `nodes` nodes
+abbrev pub tree_text : Live → ℕ → List ℕ
+tree_text live nodes =
+    counted (codes "generation ") live.generation ++ counted (codes "objects ") live.count ++ counted (codes "height ") live.height
+    ++ counted (codes "nodes ") nodes
+
+-- the lines of a file's pages, where its tree has `nodes` nodes
+abbrev pub pages_text : ℕ → ℕ → List ℕ
+pages_text pages nodes =
+    counted (codes "pages ") pages ++ counted (codes "free ") (pages - (head_pages + nodes)) ++ counted (codes "bytes ") (4096 * pages)
+
+-- the lines of a head, of its tree, of the file's pages, and of the tree's levels
 abbrev pub stats_text : Head → Live → ℕ → List LevelNumbers → List ℕ
-stats_text head live nodes levels =
-    named (codes "metric ") (metric_word head.kind) ++ counted (codes "dim ") head.dim ++ named (codes "promote ") (promote_word head.promote)
-    ++ named (codes "split ") (split_word head.split) ++ counted (codes "max ") head.limit ++ counted (codes "generation ") live.generation
-    ++ counted (codes "objects ") live.count ++ counted (codes "height ") live.height ++ counted (codes "nodes ") nodes
-    ++ counted (codes "pages ") live.pages ++ counted (codes "free ") (live.pages - (head_pages + nodes)) ++ counted (codes "bytes ") (4096 * live.pages)
-    ++ flat_map level_text levels
+stats_text head live nodes levels = head_text head ++ tree_text live nodes ++ pages_text live.pages nodes ++ flat_map level_text levels
 
 -- the file opens to this head and this tree, whose nodes are walked by child numbers, with these numbers
 pub record AreStatsOf (file : List ℕ) (head : Head) (live : Live) (nodes : ℕ) (levels : List LevelNumbers) : Type 0 where
@@ -63,6 +76,12 @@ pub record TellsStats (disk : DiskState) (Put : List ℕ → Type 0) : Type 0 wh
   pub levels : List LevelNumbers
   pub put : Put (stats_text head live nodes levels)
   pub are : IsTrue disk.tells → AreStatsOf disk.bytes head live nodes levels
+
+-- the lines of a tree with the nodes `lines`, which `Put` says were put whole or in front
+pub record TellsTree (head : Head) (live : Live) (lines : List ShapeLine) (Put : List ℕ → Type 0) : Type 0 where
+  pub levels : List LevelNumbers
+  pub levels_are : AreLevels lines live.height levels
+  pub put : Put (stats_text head live (length lines) levels)
 
 -- what stands on out when `stats` ends
 pub record Stats (disk0 disk1 : DiskState) (out0 out1 : SinkState) (status : ℕ) : Type 0 where

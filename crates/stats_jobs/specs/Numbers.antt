@@ -1,5 +1,6 @@
 -- The numbers of a tree, level by level.
-use Rattle.std.specs.Prelude.{◌≡◌, ◌≤◌, ℕ, zero, suc, ◌-◌, ◌/◌, ◌==◌, List, [], ◌∷◌, length, map, filter, filter_map, Option, Some, None, slice_get}
+use Rattle.std.specs.Prelude.{◌≡◌, ℕ, zero, suc, ◌-◌, ◌/◌, ◌==◌, List, [], ◌∷◌, length, map, filter, Option, Some, None, slice_get}
+use Rattle.std.specs.List.{filter_map}
 use Rattle.std.specs.List.Sorted.{IsPermutation, IsNonDecreasing}
 use Rattle.tree_outline.specs.declared.outline.ShapeLine.{ShapeLine}
 use Rattle.stats_jobs.specs.declared.numbers.Spread.{Spread}

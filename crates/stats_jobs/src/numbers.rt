@@ -1,6 +1,7 @@
 // The numbers of a tree, level by level.
-ghost use Rattle.std.specs.Prelude.{◌≡◌, IfOk};
-ghost use Rattle.stats_jobs.specs.Numbers.{AreLevels, AreNumbersOf, IsSpread};
+ghost use Rattle.std.specs.Prelude.{◌≡◌, map, IfOk};
+ghost use Rattle.std.specs.List.{filter_map};
+ghost use Rattle.stats_jobs.specs.Numbers.{AreLevels, AreNumbersOf, IsSpread, on_level};
 
 use outside_io::Memory;
 use std::alloc::Global;
@@ -20,55 +21,77 @@ pub struct LevelNumbers {
     /// The level: 0 for the leaves.
     pub level: u32,
     /// The number of its nodes.
-    pub nodes: u32,
+    pub nodes: u64,
     /// The spread of the numbers of their entries.
     pub entries: Option<Spread>,
     /// The spread of the covering radii of their regions. The root has none.
     pub radii: Option<Spread>,
 }
 
-// Returns the spread of `numbers`, and sorts them.
+// Sorts `numbers` and returns their spread. Of no numbers there is none.
 fn spread_of(numbers: &mut Vec<u64>) -> Option<Spread>
     ensures { IsSpread numbers.old.items result }
 {
     numbers.sort_unstable();
-    let (least, most) = (numbers.first()?, numbers.last()?);
+    let last = numbers.len().checked_sub(1)?;
     Some(Spread {
-        least: *least,
-        middle: numbers[(numbers.len() - 1) / 2],
-        most: *most,
+        least: numbers[0],
+        middle: numbers[last / 2],
+        most: numbers[last],
     })
+}
+
+// Returns the numbers of the entries of the nodes on a level.
+fn entries_on(alloc: Global, lines: &[ShapeLine], level: u32) -> Result<Vec<u64>, Memory>
+    ensures { IfOk result (λ entries. entries.items ≡ map (λ line. line.entries) (on_level level lines.now)) }
+{
+    lines
+        .iter()
+        .filter(|line| u32::from(line.level) == level)
+        .map(|line| u64::from(line.entries))
+        .collect(alloc)
+}
+
+// Returns the radii of the regions of the nodes on a level.
+fn radii_on(alloc: Global, lines: &[ShapeLine], level: u32) -> Result<Vec<u64>, Memory>
+    ensures { IfOk result (λ radii. radii.items ≡ filter_map (λ line. line.radius) (on_level level lines.now)) }
+{
+    lines
+        .iter()
+        .filter(|line| u32::from(line.level) == level)
+        .filter_map(|line| line.radius)
+        .collect(alloc)
 }
 
 // Returns the numbers of a level.
 fn level_of(alloc: Global, lines: &[ShapeLine], level: u32) -> Result<LevelNumbers, Memory>
     ensures { IfOk result (AreNumbersOf lines.now level) }
 {
-    let mut entries = Vec::new(alloc);
-    let mut radii = Vec::new(alloc);
-    for line in lines {
-        if u32::from(line.level) == level {
-            entries.push(u64::from(line.entries))?;
-            if let Some(radius) = line.radius {
-                radii.push(radius)?;
-            }
-        }
-    }
+    let mut entries = entries_on(alloc, lines, level)?;
+    let mut radii = radii_on(alloc, lines, level)?;
+    let nodes = entries.len() as u64;
     Ok(LevelNumbers {
         level,
-        nodes: entries.len() as u32,
+        nodes,
         entries: spread_of(&mut entries),
         radii: spread_of(&mut radii),
     })
 }
 
 /// Returns the numbers of each level, from `height` down to the leaves.
-pub fn levels_of(alloc: Global, lines: &[ShapeLine], height: u32) -> Result<Vec<LevelNumbers>, Memory>
+pub fn levels_of(
+    alloc: Global,
+    lines: &[ShapeLine],
+    height: u32,
+) -> Result<Vec<LevelNumbers>, Memory>
     ensures { IfOk result (λ levels. AreLevels lines.now height levels.items) }
 {
     let mut levels = Vec::new(alloc);
-    for above in 0..height + 1 {
-        levels.push(level_of(alloc, lines, height - above)?)?;
+    for above in 0..height {
+        let inner = level_of(alloc, lines, height - above)?;
+        levels.push(inner)?;
     }
+    let leaves = level_of(alloc, lines, 0)?;
+    levels.push(leaves)?;
     Ok(levels)
 }
