@@ -1,0 +1,105 @@
+-- The places of objects, noted one after another.
+use Rattle.std.proofs.Common.{◌≡◌, ◌≢◌, ◌⊎◌, inl, inr, ⊎_elim, ℕ, ◌+◌, ◌*◌, ◌/◌, ◌%◌, ◌<◌, ◌≤◌, ◌==◌, nat_lt, if◌then◌else◌, Bool, true, false, List, [], ◌∷◌, ◌++◌, Some, map, length, get_or, set, refl, sym, ap, ◌∙◌, subst, arith, append_assoc, get_or-set_same, get_or-set_other}
+use Rattle.std.specs.Prelude.{slice_get, slice_index}
+use Rattle.std.proofs.lemmas.Bool.{cases_eq, cases_lt, lt-ltb, le-ltb, eq-eqb, ne_eqb}
+use Rattle.std.proofs.lemmas.List.{get_or_past, map-append}
+use Rattle.metric_laws.specs.Lists.{IsIn}
+use Rattle.metric_laws.proofs.Published.{in-append_left, in-append_right}
+use Rattle.tree_shape.specs.declared.entry.LeafEntry.{LeafEntry}
+use Rattle.tree_shape.specs.Tree.{Nodes, leaf_entries, times}
+use Rattle.tree_shape.proofs.Published.{times-append}
+use Rattle.dump_jobs.specs.Places.{entry_at, StandsAt, Notes}
+use Rattle.dump_jobs.specs.Rows.{due, times_among}
+
+abbrev ids_of : List LeafEntry → List ℕ
+ids_of es = map (λ e. e.id) es
+
+-- how often an id stands among more objects
+pub among-append : (xs ys : List LeafEntry) (id : ℕ) → times_among (xs ++ ys) id ≡ times_among xs id + times_among ys id
+among-append xs ys id = ap (times id) (map-append (λ (e : LeafEntry). e.id) xs ys) ∙ times-append id (ids_of xs) (ids_of ys)
+
+among_one : (e : LeafEntry) (id : ℕ) → e.id ≡ id → times_among (e ∷ []) id ≡ 1
+among_one e id is = let same = eq-eqb e.id id is in rw same (omega arith)
+
+among_other : (e : LeafEntry) (id : ℕ) → e.id ≢ id → times_among (e ∷ []) id ≡ 0
+among_other e id other = let no = ne_eqb e.id id other in rw no (omega arith)
+
+-- an id is due once at the most
+pub due_once : (count id : ℕ) → due count id ≤ 1
+due_once count id = elim (nat_lt id count) as (λ b. (if b then 1 else 0) ≤ 1) [ true ↦ omega arith | false ↦ omega arith ]
+
+pub due_below : (count id : ℕ) → id < count → due count id ≡ 1
+due_below count id low = ap (λ (b : Bool). if b then 1 else 0) (lt-ltb id count low)
+
+pub due_above : (count id : ℕ) → count ≤ id → due count id ≡ 0
+due_above count id high = ap (λ (b : Bool). if b then 1 else 0) (le-ltb id count high)
+
+-- no object was met
+pub none_noted : (nodes : Nodes) (numbers : List ℕ) → ((id : ℕ) → slice_index numbers id ≡ 0) → Notes nodes numbers []
+none_noted nodes numbers none = record { unmet = λ id is. refl; noted = λ id other. absurd (other (none id)) }
+
+module _ (nodes : Nodes) (numbers : List ℕ) (met : List LeafEntry) (before : Notes nodes numbers met) (e : LeafEntry) where
+  stands_still : (more : List LeafEntry) (id place : ℕ) → StandsAt nodes met id place → StandsAt nodes (met ++ more) id place
+  stands_still more id place at = record { entry = at.entry; among = in-append_left met more at.entry at.among; id_is = at.id_is; stands = at.stands }
+
+  -- one more object is noted
+  pub one_noted : (place : ℕ) → e.id < length numbers → slice_index numbers e.id ≡ 0 → place ≢ 0 → entry_at nodes place ≡ Some e → Notes nodes (set numbers e.id place) (met ++ e ∷ [])
+  one_noted place low new some stands = record {
+    unmet = λ id is. elim (cases_eq id e.id) [
+      | inl same ↦ absurd (some (sym (placed id same) ∙ is))
+      | inr other ↦ among-append met (e ∷ []) id
+          ∙ (let a = before.unmet id (sym (get_or-set_other numbers e.id id place 0 other) ∙ is) in let b = among_other e id (λ k. other (sym k)) in omega arith)
+    ];
+    noted = λ id there. elim (cases_eq id e.id) [
+      | inl same ↦ (
+          among-append met (e ∷ []) id ∙ (let a = before.unmet id (ap (slice_index numbers) same ∙ new) in let b = among_one e id (sym same) in omega arith),
+          record {
+            entry = e;
+            among = in-append_right met (e ∷ []) e (inl refl);
+            id_is = sym same;
+            stands = ap (entry_at nodes) (placed id same) ∙ stands;
+          },
+        )
+      | inr other ↦
+          (let kept = get_or-set_other numbers e.id id place 0 other in
+          let was = before.noted id (λ k. there (kept ∙ k)) in (
+            among-append met (e ∷ []) id ∙ (let a = was.0 in let b = among_other e id (λ k. other (sym k)) in omega arith),
+            subst (StandsAt nodes (met ++ e ∷ []) id) (sym kept) (stands_still (e ∷ []) id (slice_index numbers id) was.1),
+          ))
+    ];
+  }
+    where
+      placed : (id : ℕ) → id ≡ e.id → slice_index (set numbers e.id place) id ≡ place
+      placed id same = ap (slice_index (set numbers e.id place)) same ∙ get_or-set_same numbers e.id place 0 low
+
+  -- an object that is one too many
+  pub one_wrong : (more : List LeafEntry) → (length numbers ≤ e.id) ⊎ (slice_index numbers e.id ≢ 0) → due (length numbers) e.id < times_among (met ++ e ∷ more) e.id
+  one_wrong more (inl high) =
+      let here = eq-eqb e.id e.id refl in
+      let none = due_above (length numbers) e.id high in
+      let all = among-append met (e ∷ more) e.id in
+      let first : times_among (e ∷ more) e.id ≡ 1 + times_among more e.id = rw here refl in
+      omega arith
+  one_wrong more (inr other) =
+      let here = eq-eqb e.id e.id refl in
+      let once = due_once (length numbers) e.id in
+      let was = (before.noted e.id other).0 in
+      let all = among-append met (e ∷ more) e.id in
+      let first : times_among (e ∷ more) e.id ≡ 1 + times_among more e.id = rw here refl in
+      omega arith
+
+-- each id is there once, where each has a place
+pub all_noted : (nodes : Nodes) (numbers : List ℕ) (met : List LeafEntry) → Notes nodes numbers met → ((id : ℕ) → id < length numbers → slice_index numbers id ≢ 0) →
+    ((id : ℕ) → times_among met id ≡ due (length numbers) id) × ((id : ℕ) → id < length numbers → StandsAt nodes met id (slice_index numbers id))
+all_noted nodes numbers met notes all = (
+  λ id. elim (cases_lt id (length numbers)) [
+    | inl low ↦ (notes.noted id (all id low)).0 ∙ sym (due_below (length numbers) id low)
+    | inr high ↦ notes.unmet id (get_or_past numbers id 0 high) ∙ sym (due_above (length numbers) id high)
+  ],
+  λ id low. (notes.noted id (all id low)).1,
+)
+
+-- an id without a place is missing
+pub one_missing : (nodes : Nodes) (numbers : List ℕ) (met : List LeafEntry) (id : ℕ) → Notes nodes numbers met → id < length numbers → slice_index numbers id ≡ 0 →
+    times_among met id < due (length numbers) id
+one_missing nodes numbers met id notes low is = let none = notes.unmet id is in let once = due_below (length numbers) id low in omega arith
