@@ -27,7 +27,10 @@ use Rattle.page_store.specs.Reading.{is_within, judged, node_or_none, reading_in
 use Rattle.page_store.proofs.Published.{length-page_of, place-page_of, limit_small, tag_of-in}
 use Rattle.csv.specs.Machine.{next_record}
 use Rattle.csv.specs.Reading.{records_from, strip_bom}
-use Rattle.rows_text.specs.Meaning.{Holdings, Setting, after, nothing_yet}
+use Rattle.rows_text.specs.declared.command.Command.{Command}
+use Rattle.rows_text.specs.declared.refusal.Refusal.TheVariants as refusal
+use Rattle.rows_text.specs.declared.reply.Reply.TheVariants as reply
+use Rattle.rows_text.specs.Meaning.{Holdings, Setting, State, Step, after, execute, has_points_of, nothing_yet, refused, step}
 use Rattle.rows_text.specs.Script.{load_tagged, script}
 use Rattle.file_jobs.specs.Laws.{HeadsHaveSpaces}
 use Rattle.dump_jobs.specs.Laws.{AreBytes, DumpsMakeAgain, IsRow, objects_of, setting_of}
@@ -135,11 +138,17 @@ tags_of_rows os id (suc n) = ap (λ (l : List ℕ). tag_of id os ∷ l) (tags_of
 abbrev held : List Row → Holdings
 held rows = record { points = map (λ row. row.1) rows; tags = map (λ row. row.0) rows }
 
+-- a command whose points are points of the space is executed
+is_executed : (setting : Setting) (state : State) (c : Command) → has_points_of setting.space c ≡ true → step setting state c ≡ execute setting state c
+is_executed setting state c fits = ap (λ (b : Bool). if b then execute setting state c else refused state refusal.Unfit) fits
+
 load_makes : (setting : Setting) (words : ℕ) (rows : List Row) → list_all setting.space.fits (map (λ row. row.1) rows) ≡ true → length (map (λ (row : Row). row.1) rows) ≤ setting.limit →
     (after setting nothing_yet (load_tagged words rows ∷ [])).objects ≡ held rows
 load_makes setting words rows fits few =
-    let within = le-ltb setting.limit (length (map (λ (row : Row). row.1) rows)) few in
-    rw (fits, within) refl
+    let points : List (List ℕ) = map (λ (row : Row). row.1) rows in
+    let done : Step = record { reply = reply.Loaded (length points); state = record nothing_yet { objects = held rows } } in
+    ap (λ (s : Step). s.state.objects) (is_executed setting nothing_yet (load_tagged words rows) fits)
+    ∙ ap (λ (b : Bool). (if b then refused nothing_yet refusal.Full else done).state.objects) (le-ltb setting.limit (length points) few)
 
 none_makes : (setting : Setting) (words : ℕ) → (after setting nothing_yet (script words (script_text []))).objects ≡ held []
 unfolding strip_bom records_from next_record

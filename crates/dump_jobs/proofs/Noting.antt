@@ -1,8 +1,9 @@
 -- The places of objects, noted one after another.
-use Rattle.std.proofs.Common.{◌≡◌, ◌≢◌, ◌⊎◌, inl, inr, ⊎_elim, ℕ, ◌+◌, ◌*◌, ◌/◌, ◌%◌, ◌<◌, ◌≤◌, ◌==◌, nat_lt, if◌then◌else◌, Bool, true, false, List, [], ◌∷◌, ◌++◌, Some, map, length, get_or, set, refl, sym, ap, ◌∙◌, subst, arith, append_assoc, get_or-set_same, get_or-set_other}
+use Rattle.std.proofs.Common.{◌≡◌, ◌≢◌, ◌⊎◌, inl, inr, ⊎_elim, ℕ, ◌+◌, ◌*◌, ◌/◌, ◌%◌, ◌<◌, ◌≤◌, ◌==◌, nat_lt, if◌then◌else◌, Bool, true, false, List, [], ◌∷◌, ◌++◌, Some, map, length, get_or, set, refl, sym, ap, ◌∙◌, subst, arith, append_assoc, take, drop, take-append-drop, get_or-set_same, get_or-set_other}
 use Rattle.std.specs.Prelude.{slice_get, slice_index}
 use Rattle.std.proofs.lemmas.Bool.{cases_eq, cases_lt, lt-ltb, le-ltb, eq-eqb, ne_eqb}
-use Rattle.std.proofs.lemmas.List.{get_or_past, map-append}
+use Rattle.std.proofs.lemmas.List.{drop_more, get_or_past, map-append, take_more}
+use Rattle.std.proofs.lemmas.Option.{slice_get_read}
 use Rattle.metric_laws.specs.Lists.{IsIn}
 use Rattle.metric_laws.proofs.Published.{in-append_left, in-append_right}
 use Rattle.tree_shape.specs.declared.entry.LeafEntry.{LeafEntry}
@@ -103,3 +104,32 @@ all_noted nodes numbers met notes all = (
 pub one_missing : (nodes : Nodes) (numbers : List ℕ) (met : List LeafEntry) (id : ℕ) → Notes nodes numbers met → id < length numbers → slice_index numbers id ≡ 0 →
     times_among met id < due (length numbers) id
 one_missing nodes numbers met id notes low is = let none = notes.unmet id is in let once = due_below (length numbers) id low in omega arith
+
+-- ---- the entries of a leaf, one after another
+
+entry_more : (met es : List LeafEntry) (k : ℕ) (e : LeafEntry) → k < length es → e ≡ get_or es k e → met ++ take (k + 1) es ≡ (met ++ take k es) ++ e ∷ []
+entry_more met es k e low is =
+    ap (λ (l : List LeafEntry). met ++ l) (take_more es k e low ∙ ap (λ (x : LeafEntry). take k es ++ x ∷ []) (sym is)) ∙ sym (append_assoc met (take k es) (e ∷ []))
+
+entry_parts : (met es : List LeafEntry) (k : ℕ) (e : LeafEntry) → k < length es → e ≡ get_or es k e → met ++ es ≡ (met ++ take k es) ++ e ∷ drop (k + 1) es
+entry_parts met es k e low is =
+    ap (λ (l : List LeafEntry). met ++ l) (sym (take-append-drop k es) ∙ ap (λ (l : List LeafEntry). take k es ++ l) (drop_more es k e low ∙ ap (λ (x : LeafEntry). x ∷ drop (k + 1) es) (sym is)))
+    ∙ sym (append_assoc met (take k es) (e ∷ drop (k + 1) es))
+
+entry_stands : (nodes : Nodes) (page k : ℕ) (es : List LeafEntry) (e : LeafEntry) → leaf_entries (nodes page) ≡ es → length es ≤ 32 → k < length es → e ≡ get_or es k e → entry_at nodes (page * 32 + k) ≡ Some e
+entry_stands nodes page k es e leaf few low is =
+    let there : (page * 32 + k) / 32 ≡ page = omega arith in
+    let number : (page * 32 + k) % 32 ≡ k = omega arith in
+    ap (λ (p : ℕ). slice_get (leaf_entries (nodes p)) ((page * 32 + k) % 32)) there ∙ ap (λ (l : List LeafEntry). slice_get l ((page * 32 + k) % 32)) leaf
+    ∙ ap (slice_get es) number ∙ slice_get_read es (length es) k e refl low is
+
+module _ (nodes : Nodes) (numbers : List ℕ) (met es : List LeafEntry) (k : ℕ) (e : LeafEntry) (before : Notes nodes numbers (met ++ take k es)) (low : k < length es) (is : e ≡ get_or es k e) where
+  pub entry_noted : (page : ℕ) → leaf_entries (nodes page) ≡ es → 1 ≤ page → length es ≤ 32 → e.id < length numbers → slice_index numbers e.id ≡ 0 →
+      Notes nodes (set numbers e.id (page * 32 + k)) (met ++ take (k + 1) es)
+  entry_noted page leaf some few within new =
+      subst (Notes nodes (set numbers e.id (page * 32 + k))) (sym (entry_more met es k e low is))
+      (one_noted nodes numbers (met ++ take k es) before e (page * 32 + k) within new (λ z. omega arith) (entry_stands nodes page k es e leaf few low is))
+
+  pub entry_wrong : (length numbers ≤ e.id) ⊎ (slice_index numbers e.id ≢ 0) → due (length numbers) e.id < times_among (met ++ es) e.id
+  entry_wrong wrong =
+      subst (λ (os : List LeafEntry). due (length numbers) e.id < times_among os e.id) (sym (entry_parts met es k e low is)) (one_wrong nodes numbers (met ++ take k es) before e (drop (k + 1) es) wrong)

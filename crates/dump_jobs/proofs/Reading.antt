@@ -41,25 +41,25 @@ row_is nodes live numbers id e are low stands =
     ap (λ (x : LeafEntry). x.point) (sym same) ∙ sym (point_of-in os there.entry there.among (omega arith)) ∙ ap (λ (k : ℕ). point_of k os) there.id_is in
     λ i. (tag i, point i)
 
-module _ (shelf : Shelf) (numbers : List ℕ) (id page number : ℕ) (page_is : page ≡ slice_index numbers id / 32) (number_is : number ≡ slice_index numbers id % 32) where
+module _ (shelf : Shelf) (numbers : List ℕ) (id leaf number : ℕ) (page_is : leaf ≡ slice_index numbers id / 32) (number_is : number ≡ slice_index numbers id % 32) where
   -- the entry of a page's node
-  entry_is : (node : Node) → IsNodeOf shelf page node → IsTrue shelf.tells → entry_at (nodes_of shelf.read) (slice_index numbers id) ≡ slice_get (leaf_entries (Some node)) number
+  entry_is : (node : Node) → IsNodeOf shelf leaf node → IsTrue shelf.tells → entry_at (nodes_of shelf.read) (slice_index numbers id) ≡ slice_get (leaf_entries (Some node)) number
   entry_is node is tells =
       ap (λ (p : ℕ). slice_get (leaf_entries (nodes_of shelf.read p)) (slice_index numbers id % 32)) (sym page_is)
       ∙ ap (λ (o : Option Node). slice_get (leaf_entries o) (slice_index numbers id % 32)) (ap node_or_none (is.told tells))
       ∙ ap (slice_get (leaf_entries (Some node))) (sym number_is)
 
   -- the row of an entry that was read
-  pub row_read : (node : Node) (e : LeafEntry) → IsNodeOf shelf page node → slice_get (leaf_entries (Some node)) number ≡ Some e → (live : Live) → id < live.count → IsRowOf shelf live numbers id (e.tag, e.point)
+  pub row_read : (node : Node) (e : LeafEntry) → IsNodeOf shelf leaf node → slice_get (leaf_entries (Some node)) number ≡ Some e → (live : Live) → id < live.count → IsRowOf shelf live numbers id (e.tag, e.point)
   row_read node e is there live low tells are = row_is (nodes_of shelf.read) live numbers id e are low (entry_is node is tells ∙ there)
 
   -- no other entry is read, where the pages tell
-  pub row_lost : (node : Node) → IsNodeOf shelf page node → ((e : LeafEntry) → slice_get (leaf_entries (Some node)) number ≡ Some e → ¬ (e.id ≡ id)) → (live : Live) → id < live.count →
+  pub row_lost : (node : Node) → IsNodeOf shelf leaf node → ((e : LeafEntry) → slice_get (leaf_entries (Some node)) number ≡ Some e → ¬ (e.id ≡ id)) → (live : Live) → id < live.count →
       IsTrue shelf.tells → ¬ ArePlaces (nodes_of shelf.read) live numbers
   row_lost node is none live low tells are = let there = are.stand id low in none there.entry (sym (entry_is node is tells) ∙ there.stands) there.id_is
 
   -- a page with an object holds a node
-  no_fault : (fault : PageFault) → shelf.read page ≡ Err fault → (live : Live) → id < live.count → ¬ ArePlaces (nodes_of shelf.read) live numbers
+  no_fault : (fault : PageFault) → shelf.read leaf ≡ Err fault → (live : Live) → id < live.count → ¬ ArePlaces (nodes_of shelf.read) live numbers
   no_fault fault is live low are =
       let there = are.stand id low in
       let empty : ◌≡◌ {A = List LeafEntry} (leaf_entries (nodes_of shelf.read (slice_index numbers id / 32))) [] =
@@ -68,11 +68,11 @@ module _ (shelf : Shelf) (numbers : List ℕ) (id page number : ℕ) (page_is : 
       let none : length (leaf_entries (nodes_of shelf.read (slice_index numbers id / 32))) ≡ 0 = ap length empty in
       omega arith
 
-  pub page_lost : (new : Shelf) (fault : PageFault) → HasPageCause shelf new page fault → (live : Live) → id < live.count → HasReadCause live numbers shelf new (dump.Page fault)
+  pub page_lost : (new : Shelf) (fault : PageFault) → HasPageCause shelf new leaf fault → (live : Live) → id < live.count → HasReadCause live numbers shelf new (dump.Page fault)
   page_lost new page.Disk cause live low = cause
   page_lost new page.Memory cause live low = tt
-  page_lost new (page.Bad p f) cause live low = λ tells. no_fault (page.Bad page f) (cause.3 tells) live low
-  page_lost new (page.Outside p) cause live low = λ tells. no_fault (page.Outside page) (cause.2 tells) live low
+  page_lost new (page.Bad p f) cause live low = λ tells. no_fault (page.Bad leaf f) (cause.3 tells) live low
+  page_lost new (page.Outside p) cause live low = λ tells. no_fault (page.Outside leaf) (cause.2 tells) live low
   page_lost new (page.Repeats p) cause live low = absurd cause
   page_lost new (page.Level p) cause live low = absurd cause
 
