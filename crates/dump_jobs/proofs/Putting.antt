@@ -1,6 +1,6 @@
 -- A script that is put piece by piece.
-use Rattle.std.proofs.Common.{◌≡◌, ℕ, zero, suc, ◌+◌, ◌-◌, ◌<◌, ◌≤◌, Bool, true, false, List, [], ◌∷◌, ◌++◌, Option, Some, None, length, replicate, refl, sym, ap, ◌∙◌, subst, arith, append_assoc, length-append}
-use Rattle.std.specs.Prelude.{IsTrue, codes, flat_map}
+use Rattle.std.proofs.Common.{◌≡◌, ℕ, zero, suc, ◌+◌, ◌-◌, ◌<◌, ◌≤◌, Bool, true, false, List, [], ◌∷◌, ◌++◌, Option, Some, None, Result, Ok, Err, length, replicate, refl, sym, ap, ◌∙◌, subst, arith, append_assoc, length-append}
+use Rattle.std.specs.Prelude.{IsTrue, OnOk, codes, flat_map}
 use Rattle.std.specs.Io.KnownBytes.{Appends}
 use Rattle.std.proofs.KnownBytes.{Appends-nil, Appends-trans}
 use Rattle.std.proofs.lemmas.Bool.{true≢false}
@@ -113,6 +113,12 @@ module _ (old now : SinkState) (text : List ℕ) (count : ℕ) (front : List Row
   all_put new put long some =
       subst (Appends old.written new.written) (before.whole ∙ sym (script_is count front long some))
       (Appends-trans old.written now.written new.written before.sent text before.put put)
+
+-- the same, where it is said of a put
+pub text_done : {T E : Type 0} (r : Result T E) (now new : SinkState) (text left : List ℕ) → OnOk r (Appends now.written new.written text) → OnOk r (left ≡ []) → OnOk r (new.faults ≡ now.faults) →
+    OnOk r ((old : SinkState) (count : ℕ) (front : List Row) → IsWriting old now text count front → IsWriting old new left count front)
+text_done (Ok t) now new text left put none faults = λ old count front before. text_put old now text count front before new left put faults none
+text_done (Err e) now new text left put none faults = tt
 
 -- nothing is put
 pub writing_begins : (old : SinkState) (text : List ℕ) (count : ℕ) → text ≡ [] ++ counted (codes "tload,") count → IsWriting old old text count []

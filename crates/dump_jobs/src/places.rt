@@ -128,11 +128,10 @@ fn note_tree<P: Pages>(
     };
     loop {
         match tour.next(alloc, pages) {
-            Ok(Some((page, node))) => {
-                if let Err(id) = note_node(numbers, page, node.as_ref()) {
-                    return Err(DumpFault::Id(id));
-                }
-            }
+            Ok(Some((page, node))) => match note_node(numbers, page, node.as_ref()) {
+                Ok(()) => {}
+                Err(id) => return Err(DumpFault::Id(id)),
+            },
             Ok(None) => return Ok(()),
             Err(fault) => return Err(DumpFault::Page(fault)),
         }
@@ -153,8 +152,9 @@ pub fn places_of<P: Pages>(alloc: Global, pages: &mut P, live: &Live) -> Result<
     let Ok(mut numbers) = vec![in alloc; 0u32; live.count as usize] else {
         return Err(MEMORY);
     };
-    if let Err(fault) = note_tree(alloc, pages, live, numbers.as_mut_slice()) {
-        return Err(fault);
+    match note_tree(alloc, pages, live, numbers.as_mut_slice()) {
+        Ok(()) => {}
+        Err(fault) => return Err(fault),
     }
     match missing(numbers.as_slice()) {
         None => Ok(Places { numbers }),

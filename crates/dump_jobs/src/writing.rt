@@ -3,6 +3,7 @@ ghost use Rattle.std.specs.Prelude.{◌≡◌, ◌≤◌, ◌<◌, ◌++◌, ◌
 ghost use Rattle.std.specs.Io.KnownBytes.{Appends};
 ghost use Rattle.outside_io.specs.Bytes.{AppendsPrefix};
 ghost use Rattle.outside_io.specs.Causes.{HasCause as HasSinkCause};
+ghost use Rattle.outside_io.specs.Sinks.{SinkState};
 ghost use Rattle.tree_shape.specs.declared.entry.LeafEntry.{LeafEntry as TheEntry};
 ghost use Rattle.tree_shape.specs.declared.live.Live.{Live as TheLive};
 ghost use Rattle.tree_shape.specs.Tree.{leaf_entries};
@@ -11,7 +12,7 @@ ghost use Rattle.page_store.specs.Shelf.{HoldsSame};
 ghost use Rattle.dump_jobs.specs.Causes.{HasStop, PutsScript};
 ghost use Rattle.dump_jobs.specs.Places.{ArePlaces};
 ghost use Rattle.dump_jobs.specs.Scripts.{row_line};
-ghost use Rattle.dump_jobs.specs.Writing.{HasReadCause, IsRowOf};
+ghost use Rattle.dump_jobs.specs.Writing.{HasReadCause, IsRowOf, IsWriting};
 
 use crate::fault::{DumpFault, MEMORY, Stop};
 use crate::places::{Places, places_of};
@@ -81,6 +82,19 @@ fn put_text<K: Sink>(text: &mut Vec<u8>, out: &mut K) -> Result<(), Failed>
     Ok(())
 }
 
+// Puts the text once it is long, and empties it.
+fn put_long<K: Sink>(text: &mut Vec<u8>, out: &mut K) -> Result<(), Failed>
+    ensures done { OnOk result ((old : SinkState) (count : ℕ) (front : List (ℕ × List ℕ)) →
+        IsWriting old (K.state out.old) text.old.items count front → IsWriting old (K.state out.new) text.new.items count front) }
+    ensures cut { OnErr result (AppendsPrefix (K.state out.old).written (K.state out.new).written text.old.items) }
+    ensures cause { HasSinkCause (K.state out.old).faults (K.state out.new).faults result }
+{
+    if text.len() < PIECE {
+        return Ok(());
+    }
+    put_text(text, out)
+}
+
 // Writes the script of objects that stand at their places.
 fn write_rows<P: Pages, K: Sink>(
     alloc: Global,
@@ -107,8 +121,9 @@ fn write_rows<P: Pages, K: Sink>(
             Ok(()) => {}
             Err(fault) => return Err(Stop::Fault(fault)),
         }
-        if text.len() >= PIECE && put_text(&mut text, out).is_err() {
-            return Err(Stop::Sink);
+        match put_long(&mut text, out) {
+            Ok(()) => {}
+            Err(_) => return Err(Stop::Sink),
         }
     }
     match put_text(&mut text, out) {
