@@ -53,14 +53,14 @@ module _ (nodes : Nodes) (numbers : List ℕ) (met : List LeafEntry) (before : N
     ];
     noted = λ id there. elim (cases_eq id e.id) [
       | inl same ↦ (
-          among-append met (e ∷ []) id ∙ (let a = before.unmet id (ap (slice_index numbers) same ∙ new) in let b = among_one e id (sym same) in omega arith),
-          record {
-            entry = e;
-            among = in-append_right met (e ∷ []) e (inl refl);
-            id_is = sym same;
-            stands = ap (entry_at nodes) (placed id same) ∙ stands;
-          },
-        )
+        among-append met (e ∷ []) id ∙ (let a = before.unmet id (ap (slice_index numbers) same ∙ new) in let b = among_one e id (sym same) in omega arith),
+        record {
+          entry = e;
+          among = in-append_right met (e ∷ []) e (inl refl);
+          id_is = sym same;
+          stands = ap (entry_at nodes) (placed id same) ∙ stands;
+        },
+      )
       | inr other ↦
           (let kept = get_or-set_other numbers e.id id place 0 other in
           let was = before.noted id (λ k. there (kept ∙ k)) in (
