@@ -1,11 +1,10 @@
 -- The script of a file's objects makes the file's list.
-use Rattle.std.proofs.Common.{◌≡◌, ℕ, zero, suc, ◌+◌, ◌*◌, ◌<◌, ◌≤◌, ◌^◌, ◌==◌, Bool, true, false, List, [], ◌∷◌, ◌++◌, Option, Some, None, Err, map, length, get_or, refl, sym, ap, ◌∙◌, subst, arith, inl, inr}
-use Rattle.std.specs.Prelude.{All, IsTrue, nat_lt, slice_index, if◌then◌else◌}
+use Rattle.std.proofs.Common.{◌≡◌, ℕ, zero, suc, ◌+◌, ◌*◌, ◌<◌, ◌≤◌, ◌^◌, ◌==◌, Bool, true, false, List, [], ◌∷◌, Option, Some, None, Err, map, length, refl, sym, ap, ◌∙◌, subst, arith, inl, inr}
+use Rattle.std.specs.Prelude.{All, IsTrue, slice_index, if◌then◌else◌}
 use Rattle.std.specs.List.{AllByRecursion, list_all}
 use Rattle.std.proofs.lemmas.Bool.{and_from, cases_lt, le-ltb}
 use Rattle.std.proofs.lemmas.List.{get_or_past, length-map}
 use Rattle.byteorder.specs.Numbers.{big_from-lt}
-use Rattle.metric_laws.specs.Lists.{IsIn}
 use Rattle.metric_laws.specs.Space.{Space, IsSpace}
 use Rattle.metric_laws.proofs.Published.{all_append, all_flat_map, all_in}
 use Rattle.metric_mix.specs.MixSpaces.{mix_space}
@@ -15,7 +14,6 @@ use Rattle.tree_shape.specs.declared.live.Live.{Live}
 use Rattle.tree_shape.specs.Fill.{root_least}
 use Rattle.tree_shape.specs.Tree.{leaf_entries, objects, point_of, points_from, tag_of, tags_from}
 use Rattle.tree_shape.proofs.Published.{Fits, objects_fit, object_of, point_of-in}
-use Rattle.node_page.specs.declared.head.Head.{Head}
 use Rattle.node_page.specs.declared.node.NodeFault.{NodeFault}
 use Rattle.node_page.specs.declared.node.Version.TheVariants.{Second}
 use Rattle.node_page.specs.Bytes.{number_at}
@@ -33,8 +31,8 @@ use Rattle.rows_text.specs.declared.reply.Reply.TheVariants as reply
 use Rattle.rows_text.specs.Meaning.{Holdings, Setting, State, Step, after, execute, has_points_of, nothing_yet, refused, step}
 use Rattle.rows_text.specs.Script.{load_tagged, script}
 use Rattle.file_jobs.specs.Laws.{HeadsHaveSpaces}
-use Rattle.dump_jobs.specs.Laws.{AreBytes, DumpsMakeAgain, IsRow, objects_of, setting_of}
-use Rattle.dump_jobs.specs.Rows.{due, objects_on, row_of, rows_from, times_among, times_on}
+use Rattle.dump_jobs.specs.Laws.{AreBytes, DumpsMakeAgain, IsRow, setting_of}
+use Rattle.dump_jobs.specs.Rows.{due, objects_on, row_of, rows_from, times_among}
 use Rattle.dump_jobs.specs.Scripts.{script_text}
 use Rattle.dump_jobs.proofs.Noting.{due_below, due_once}
 use Rattle.dump_jobs.proofs.Putting.{length-rows_from}

@@ -1,10 +1,9 @@
 -- The places of objects, noted one after another.
-use Rattle.std.proofs.Common.{◌≡◌, ◌≢◌, ◌⊎◌, inl, inr, ⊎_elim, ℕ, ◌+◌, ◌*◌, ◌/◌, ◌%◌, ◌<◌, ◌≤◌, ◌==◌, nat_lt, if◌then◌else◌, Bool, true, false, List, [], ◌∷◌, ◌++◌, Some, map, length, get_or, set, refl, sym, ap, ◌∙◌, subst, arith, append_assoc, take, drop, take-append-drop, get_or-set_same, get_or-set_other}
+use Rattle.std.proofs.Common.{◌≡◌, ◌≢◌, ◌⊎◌, inl, inr, ℕ, ◌+◌, ◌*◌, ◌/◌, ◌%◌, ◌<◌, ◌≤◌, nat_lt, if◌then◌else◌, Bool, true, false, List, [], ◌∷◌, ◌++◌, Some, map, length, get_or, set, refl, sym, ap, ◌∙◌, subst, arith, append_assoc, take, drop, take-append-drop, get_or-set_same, get_or-set_other}
 use Rattle.std.specs.Prelude.{slice_get, slice_index}
 use Rattle.std.proofs.lemmas.Bool.{cases_eq, cases_lt, lt-ltb, le-ltb, eq-eqb, ne_eqb}
 use Rattle.std.proofs.lemmas.List.{drop_more, get_or_past, map-append, take_more}
 use Rattle.std.proofs.lemmas.Option.{slice_get_read}
-use Rattle.metric_laws.specs.Lists.{IsIn}
 use Rattle.metric_laws.proofs.Published.{in-append_left, in-append_right}
 use Rattle.tree_shape.specs.declared.entry.LeafEntry.{LeafEntry}
 use Rattle.tree_shape.specs.Tree.{Nodes, leaf_entries, times}

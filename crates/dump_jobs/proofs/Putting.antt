@@ -1,5 +1,5 @@
 -- A script that is put piece by piece.
-use Rattle.std.proofs.Common.{◌≡◌, ℕ, zero, suc, ◌+◌, ◌-◌, ◌<◌, ◌≤◌, Bool, true, false, List, [], ◌∷◌, ◌++◌, Option, Some, None, Result, Ok, Err, length, replicate, refl, sym, ap, ◌∙◌, subst, arith, append_assoc, length-append}
+use Rattle.std.proofs.Common.{◌≡◌, ℕ, zero, suc, ◌+◌, ◌-◌, ◌≤◌, Bool, true, false, List, [], ◌∷◌, ◌++◌, Option, Some, None, Result, Ok, Err, length, replicate, refl, sym, ap, ◌∙◌, subst, arith, append_assoc, length-append}
 use Rattle.std.specs.Prelude.{IsTrue, OnOk, codes, flat_map}
 use Rattle.std.specs.Io.KnownBytes.{Appends}
 use Rattle.std.proofs.KnownBytes.{Appends-nil, Appends-trans}
@@ -15,7 +15,7 @@ use Rattle.page_store.specs.Shelf.{Shelf}
 use Rattle.rows_text.specs.Texts.{counted}
 use Rattle.dump_jobs.specs.Causes.{AreRows, PutsFront, PutsScript}
 use Rattle.dump_jobs.specs.Places.{ArePlaces}
-use Rattle.dump_jobs.specs.Rows.{HasRows, objects_on, row_of, rows_from}
+use Rattle.dump_jobs.specs.Rows.{objects_on, row_of, rows_from}
 use Rattle.dump_jobs.specs.Scripts.{row_line, script_text}
 use Rattle.dump_jobs.specs.Writing.{AreFirstRows, IsRowOf, IsWriting, front_text}
 

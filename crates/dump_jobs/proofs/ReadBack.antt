@@ -1,6 +1,6 @@
 -- A script of rows is read as one load of them.
-use Rattle.std.proofs.Common.{◌≡◌, ℕ, zero, suc, ◌+◌, ◌<◌, ◌≤◌, ◌^◌, ◌==◌, Bool, true, false, List, [], ◌∷◌, ◌++◌, Option, Some, None, map, take, length, refl, sym, ap, ◌∙◌, subst, arith, append_assoc, length-append}
-use Rattle.std.specs.Prelude.{codes, decimal, filter_map, flat_map, nat_lt}
+use Rattle.std.proofs.Common.{◌≡◌, ℕ, zero, suc, ◌+◌, ◌<◌, ◌≤◌, ◌^◌, List, [], ◌∷◌, ◌++◌, Option, Some, None, map, length, refl, sym, ap, ◌∙◌, arith, length-append}
+use Rattle.std.specs.Prelude.{codes, decimal, filter_map, flat_map}
 use Rattle.std.specs.List.{AllByRecursion, position_from}
 use Rattle.std.specs.Option.{is_none}
 use Rattle.std.proofs.lemmas.Bool.{eq-eqb, le-ltb, ne_eqb}
@@ -10,9 +10,8 @@ use Rattle.csv.specs.Reading.{default_config, records, records_from, strip_bom}
 use Rattle.csv.specs.Writing.{default_writer, field_text, fields_text, row_text, is_blank as is_blank_row}
 use Rattle.csv.specs.declared.parser.State.TheVariants as st
 use Rattle.csv.proofs.RoundTrip.{read-write-many}
-use Rattle.rows_text.specs.Numbers.{number_below}
 use Rattle.rows_text.specs.Records.{Fields, script_records, without_blanks}
-use Rattle.rows_text.specs.Script.{command_of, commands_after, load_tagged, rows_used, script, tag_row_of}
+use Rattle.rows_text.specs.Script.{command_of, commands_after, load_tagged, rows_used, tag_row_of}
 use Rattle.rows_text.specs.Texts.{coordinates_text, counted, line_end}
 use Rattle.dump_jobs.specs.Laws.{IsRow, ScriptsReadBack}
 use Rattle.dump_jobs.specs.Scripts.{row_line, script_text}

@@ -1,8 +1,7 @@
 -- Objects that are read again at their places.
-use Rattle.std.proofs.Common.{◌≡◌, ℕ, ◌/◌, ◌%◌, ◌<◌, ◌≤◌, List, [], ◌∷◌, Option, Some, None, Ok, Err, length, refl, sym, ap, ◌∙◌, subst, arith}
+use Rattle.std.proofs.Common.{◌≡◌, ℕ, ◌/◌, ◌%◌, ◌<◌, List, [], Option, Some, Err, length, sym, ap, ◌∙◌, subst, arith}
 use Rattle.std.specs.Prelude.{IsTrue, slice_get, slice_index}
 use Rattle.std.proofs.lemmas.Option.{slice_get_within}
-use Rattle.outside_io.specs.Causes.{Rose}
 use Rattle.outside_io.specs.Sinks.{SinkState}
 use Rattle.outside_io.proofs.Published.{rose_before}
 use Rattle.tree_shape.specs.declared.entry.LeafEntry.{LeafEntry}
@@ -17,10 +16,10 @@ use Rattle.page_store.specs.Shelf.{Shelf, HoldsSame, IsNodeOf, HasPageCause}
 use Rattle.page_store.proofs.Published.{tag_of-in}
 use Rattle.dump_jobs.specs.declared.fault.DumpFault.{DumpFault}
 use Rattle.dump_jobs.specs.declared.fault.DumpFault.TheVariants as dump
-use Rattle.dump_jobs.specs.Causes.{HasCause, HasFaultOf, IsPassing}
+use Rattle.dump_jobs.specs.Causes.{HasCause, IsPassing}
 use Rattle.dump_jobs.specs.Places.{ArePlaces, entry_at}
 use Rattle.dump_jobs.specs.Rows.{objects_on, row_of}
-use Rattle.dump_jobs.specs.Writing.{AreFirstRows, HasReadCause, IsRowOf}
+use Rattle.dump_jobs.specs.Writing.{HasReadCause, IsRowOf}
 use Rattle.dump_jobs.proofs.Noting.{due_once}
 
 some_same : (x y : LeafEntry) → Some x ≡ Some y → x ≡ y

@@ -1,13 +1,13 @@
-use Rattle.std.proofs.Common.{◌≡◌, ℕ, refl, sym, subst, arith}
+use Rattle.std.proofs.Common.{sym, subst, arith}
 use Rattle.std.specs.Prelude.{IsTrue, codes}
 use Rattle.disk_model.specs.Moments.{then_unchanged}
 use Rattle.outside_io.specs.Sinks.{SinkState, Tells}
 use Rattle.outside_io.proofs.Published.{rose_before}
-use Rattle.file_jobs.proofs.Published.{neither, no_index_unsound, none_of_three}
+use Rattle.file_jobs.proofs.Published.{none_of_three}
 use Rattle.dump_jobs.specs.Causes.{HasStop}
 use Rattle.dump_jobs.specs.Jobs.{fault_text, opened_shelf}
 use Rattle.dump_jobs.specs.declared.fault.Stop.TheVariants as stop
-use Rattle.dump_jobs.proofs.Opened.{damage_before, damaged_unsound, disk_rose, line_follows, part_before, script_before}
+use Rattle.dump_jobs.proofs.Opened.{damage_before, damaged_unsound, disk_rose, line_follows}
 use Rattle.dump_jobs.proofs.jobs.dump_index.Goals as goal
 
 pub returns-in-Err-Fault-clause-dumps : goal.returns-in-Err-Fault-clause-dumps

@@ -1,9 +1,4 @@
-use Rattle.std.proofs.Common.{◌≡◌, ◌∙◌, refl, sym, ap, subst}
-use Rattle.page_cache.specs.Cache.{asked_for}
-use Rattle.page_store.specs.Shelf.{Shelf}
-use Rattle.page_store.specs.Shelves.{disk_shelf}
 use Rattle.file_jobs.proofs.Published.{space_by_head}
-use Rattle.dump_jobs.proofs.Opened.{done_moves, err_moves}
 use Rattle.dump_jobs.proofs.jobs.dump_opened.Goals as goal
 
 pub new-pages-requires-clause-some : goal.new-pages-requires-clause-some

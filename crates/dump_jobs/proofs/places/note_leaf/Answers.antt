@@ -1,4 +1,4 @@
-use Rattle.std.proofs.Common.{rules, ◌≡◌, ◌∙◌, ◌*◌, ◌+◌, ◌++◌, ◌<◌, List, ℕ, length, take, sym, subst, arith}
+use Rattle.std.proofs.Common.{rules, ◌+◌, ◌++◌, ◌<◌, List, ℕ, take, sym, subst}
 use Rattle.dump_jobs.specs.Places.{Notes}
 use Rattle.dump_jobs.specs.Rows.{due, times_among}
 use Rattle.dump_jobs.proofs.Noting.{entry_noted, entry_wrong}

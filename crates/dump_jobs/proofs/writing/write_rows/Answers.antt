@@ -1,8 +1,7 @@
-use Rattle.std.proofs.Common.{◌≡◌, ◌∙◌, ◌∷◌, ◌++◌, ◌+◌, ◌<◌, ◌≤◌, [], inl, inr, ℕ, List, refl, sym, ap, subst, length, length-append, arith}
+use Rattle.std.proofs.Common.{◌≡◌, ◌∷◌, ◌++◌, ◌+◌, ◌<◌, [], inr, ℕ, subst, length, length-append, arith}
 use Rattle.outside_io.specs.Causes.{Rose}
-use Rattle.page_store.proofs.Published.{holds_both, holds_none}
-use Rattle.dump_jobs.specs.Writing.{AreFirstRows, IsRowOf, IsWriting}
-use Rattle.dump_jobs.proofs.Putting.{first_more, first_none, part_cut, part_put, row_written, script_put, writing_begins}
+use Rattle.page_store.proofs.Published.{holds_both}
+use Rattle.dump_jobs.proofs.Putting.{first_more, part_cut, part_put, row_written, script_put}
 use Rattle.dump_jobs.proofs.Reading.{later_cause, row_before}
 use Rattle.dump_jobs.proofs.writing.write_rows.Goals as goal
 
