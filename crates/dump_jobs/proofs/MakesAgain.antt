@@ -7,7 +7,6 @@ use Rattle.std.proofs.lemmas.List.{get_or_past, length-map}
 use Rattle.byteorder.specs.Numbers.{big_from-lt}
 use Rattle.metric_laws.specs.Space.{Space, IsSpace}
 use Rattle.metric_laws.proofs.Published.{all_append, all_flat_map, all_in}
-use Rattle.metric_mix.specs.MixSpaces.{mix_space}
 use Rattle.tree_shape.specs.declared.entry.LeafEntry.{LeafEntry}
 use Rattle.tree_shape.specs.declared.entry.Node.TheVariants.{Leaf, Inner}
 use Rattle.tree_shape.specs.declared.live.Live.{Live}
@@ -31,6 +30,7 @@ use Rattle.rows_text.specs.declared.reply.Reply.TheVariants as reply
 use Rattle.rows_text.specs.Meaning.{Holdings, Setting, State, Step, after, execute, has_points_of, nothing_yet, refused, step}
 use Rattle.rows_text.specs.Script.{load_tagged, script}
 use Rattle.file_jobs.specs.Laws.{HeadsHaveSpaces}
+use Rattle.file_jobs.specs.Spaces.{space_of}
 use Rattle.dump_jobs.specs.Laws.{AreBytes, DumpsMakeAgain, IsRow, setting_of}
 use Rattle.dump_jobs.specs.Rows.{due, objects_on, row_of, rows_from, times_among}
 use Rattle.dump_jobs.specs.Scripts.{script_text}
@@ -160,7 +160,7 @@ script_makes setting (row ∷ rows) some all fits few low =
 
 pub dumps_make_again : HeadsHaveSpaces → DumpsMakeAgain
 dumps_make_again spaces head live file rows bytes sound has =
-    let s : Space = mix_space head.kind head.dim in
+    let s : Space = space_of head in
     let lawful = sound.opens.spells_head.lawful in
     let space : IsSpace s = spaces head lawful in
     let os : List LeafEntry = objects_on (nodes_in head.dim live file) has.pages in

@@ -2,7 +2,6 @@
 use Rattle.std.proofs.Common.{◌≡◌, inl, inr, ℕ, List, Option, Result, Ok, Err, sym, subst}
 use Rattle.std.specs.Prelude.{IsTrue, IfErr, OnOk}
 use Rattle.std.specs.Io.KnownBytes.{Appends}
-use Rattle.metric_mix.specs.MixSpaces.{mix_space}
 use Rattle.outside_io.specs.Causes.{Rose}
 use Rattle.outside_io.specs.Sinks.{SinkState, Tells}
 use Rattle.disk_model.specs.Disk.{DiskState, IsUnchanged}
@@ -17,6 +16,7 @@ use Rattle.page_store.specs.Reading.{Read, nodes_of, reading}
 use Rattle.page_store.specs.Shelf.{Shelf}
 use Rattle.file_jobs.specs.Shapes.{HasDamage, IsSound}
 use Rattle.file_jobs.specs.Shapes as shapes
+use Rattle.file_jobs.specs.Spaces.{space_of}
 use Rattle.dump_jobs.specs.declared.fault.DumpFault.{DumpFault}
 use Rattle.dump_jobs.specs.declared.fault.DumpFault.TheVariants as dump
 use Rattle.dump_jobs.specs.declared.fault.Stop.{Stop}
@@ -83,9 +83,9 @@ stops_in head live file (page.Level p) stops = stops
 fault_in : (head : Head) (live : Live) (file : List ℕ) (fault : DumpFault) → HasFaultOf (reading head.dim live.pages file) live fault → HasFault head live file fault
 fault_in head live file (dump.Page fault) has = record {
   stops = stops_in head live file fault has.is;
-  unsound = λ sound. has.unsound (mix_space head.kind head.dim) sound.tree;
+  unsound = λ sound. has.unsound (space_of head) sound.tree;
 }
-fault_in head live file (dump.Id id) has = (has.is, λ sound. has.unsound (mix_space head.kind head.dim) sound.tree)
+fault_in head live file (dump.Id id) has = (has.is, λ sound. has.unsound (space_of head) sound.tree)
 
 -- a fault that bytes tell
 told_cause : (live : Live) (old new : Shelf) (fault : DumpFault) → (IsPassing fault → ⊥) → HasCause live old new fault → IsTrue old.tells → HasFaultOf old.read live fault

@@ -16,7 +16,7 @@ pub enum DumpFault {
 pub const MEMORY: DumpFault = DumpFault::Page(PageFault::Memory);
 
 /// Why a script was not written whole.
-#[derive(Clone, Copy, PartialEq, Eq)]
+#[derive(Clone, Copy)]
 pub enum Stop {
     /// The objects can't be told.
     Fault(DumpFault),
