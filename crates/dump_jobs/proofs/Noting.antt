@@ -1,8 +1,8 @@
 -- The places of objects, noted one after another.
 use Rattle.std.proofs.Common.{◌≡◌, ◌≢◌, ◌⊎◌, inl, inr, ℕ, ◌+◌, ◌*◌, ◌/◌, ◌%◌, ◌<◌, ◌≤◌, nat_lt, if◌then◌else◌, Bool, true, false, List, [], ◌∷◌, ◌++◌, Some, map, length, get_or, set, refl, sym, ap, ◌∙◌, subst, arith, append_assoc, take, drop, take-append-drop, get_or-set_same, get_or-set_other}
 use Rattle.std.specs.Prelude.{slice_get, slice_index}
-use Rattle.std.proofs.lemmas.Bool.{cases_eq, cases_lt, lt-ltb, le-ltb, eq-eqb, ne_eqb}
-use Rattle.std.proofs.lemmas.List.{drop_more, get_or_past, map-append, take_more}
+use Rattle.std.proofs.lemmas.Bool.{cases_eq, lt-ltb, le-ltb, eq-eqb, ne_eqb}
+use Rattle.std.proofs.lemmas.List.{drop_more, map-append, take_more}
 use Rattle.std.proofs.lemmas.Option.{slice_get_read}
 use Rattle.metric_laws.proofs.Published.{in-append_left, in-append_right}
 use Rattle.tree_shape.specs.declared.entry.LeafEntry.{LeafEntry}
@@ -87,17 +87,6 @@ module _ (nodes : Nodes) (numbers : List ℕ) (met : List LeafEntry) (before : N
       let all = among-append met (e ∷ more) e.id in
       let first : times_among (e ∷ more) e.id ≡ 1 + times_among more e.id = rw here refl in
       omega arith
-
--- each id is there once, where each has a place
-pub all_noted : (nodes : Nodes) (numbers : List ℕ) (met : List LeafEntry) → Notes nodes numbers met → ((id : ℕ) → id < length numbers → slice_index numbers id ≢ 0) →
-    ((id : ℕ) → times_among met id ≡ due (length numbers) id) × ((id : ℕ) → id < length numbers → StandsAt nodes met id (slice_index numbers id))
-all_noted nodes numbers met notes all = (
-  λ id. elim (cases_lt id (length numbers)) [
-    | inl low ↦ (notes.noted id (all id low)).0 ∙ sym (due_below (length numbers) id low)
-    | inr high ↦ notes.unmet id (get_or_past numbers id 0 high) ∙ sym (due_above (length numbers) id high)
-  ],
-  λ id low. (notes.noted id (all id low)).1,
-)
 
 -- an id without a place is missing
 pub one_missing : (nodes : Nodes) (numbers : List ℕ) (met : List LeafEntry) (id : ℕ) → Notes nodes numbers met → id < length numbers → slice_index numbers id ≡ 0 →

@@ -1,7 +1,6 @@
 -- What is said of pages, said of the disk behind them.
-use Rattle.std.proofs.Common.{◌≡◌, inl, inr, ℕ, List, Option, Result, Ok, Err, sym, subst}
-use Rattle.std.specs.Prelude.{IsTrue, IfErr, OnOk}
-use Rattle.std.specs.Io.KnownBytes.{Appends}
+use Rattle.std.proofs.Common.{◌≡◌, inl, inr, ℕ, List, Option, sym, subst}
+use Rattle.std.specs.Prelude.{IsTrue}
 use Rattle.outside_io.specs.Causes.{Rose}
 use Rattle.outside_io.specs.Sinks.{SinkState, Tells}
 use Rattle.disk_model.specs.Disk.{DiskState, IsUnchanged}
@@ -12,63 +11,16 @@ use Rattle.node_page.specs.Opening.{OpensTo}
 use Rattle.page_store.specs.declared.pages.PageFault.{PageFault}
 use Rattle.page_store.specs.declared.pages.PageFault.TheVariants as page
 use Rattle.page_store.specs.Files.{nodes_in}
-use Rattle.page_store.specs.Reading.{Read, nodes_of, reading}
+use Rattle.page_store.specs.Reading.{reading}
 use Rattle.page_store.specs.Shelf.{Shelf}
 use Rattle.file_jobs.specs.Shapes.{HasDamage, IsSound}
 use Rattle.file_jobs.specs.Shapes as shapes
 use Rattle.file_jobs.specs.Spaces.{space_of}
 use Rattle.dump_jobs.specs.declared.fault.DumpFault.{DumpFault}
 use Rattle.dump_jobs.specs.declared.fault.DumpFault.TheVariants as dump
-use Rattle.dump_jobs.specs.declared.fault.Stop.{Stop}
-use Rattle.dump_jobs.specs.declared.fault.Stop.TheVariants as stop
-use Rattle.dump_jobs.specs.Causes.{AreRows, HasCause, HasFaultOf, HasStop, IsPassing, MayPut, PutsFront, PutsScript, StopsAt}
+use Rattle.dump_jobs.specs.Causes.{AreRows, HasCause, HasFaultOf, IsPassing, MayPut, PutsFront, StopsAt}
 use Rattle.dump_jobs.specs.Jobs.{Follows, HasFault, HoldsRows, IsDamaged, PutsPart, opened_shelf}
 use Rattle.dump_jobs.specs.Rows.{HasRows}
-use Rattle.dump_jobs.specs.Scripts.{script_text}
-
--- ---- pages that tell the same
-
-module _ (one other : Shelf) (tells : other.tells ≡ one.tells) (read : other.read ≡ one.read) (live : Live) where
-  rows_move : (rows : List (ℕ × List ℕ)) → AreRows one live rows → AreRows other live rows
-  rows_move rows are told = subst (λ (r : Read). HasRows (nodes_of r) live rows) (sym read) (are (subst IsTrue tells told))
-
-  pub script_moves : (w0 w1 : Option (List ℕ)) → PutsScript one live w0 w1 → PutsScript other live w0 w1
-  script_moves w0 w1 puts = (puts.0, puts.1, rows_move puts.0 puts.2)
-
-  front_moves : (w0 w1 : Option (List ℕ)) → PutsFront one live w0 w1 → PutsFront other live w0 w1
-  front_moves w0 w1 puts = (puts.0, puts.1, rows_move puts.0 puts.2)
-
-  may_move : (out0 out1 : SinkState) → MayPut one live out0 out1 → MayPut other live out0 out1
-  may_move out0 out1 (inl none) = inl none
-  may_move out0 out1 (inr part) = inr (part.0, front_moves out0.written out1.written part.1)
-
-  module _ (new last : Shelf) (rose : Rose one.faults new.faults → Rose other.faults last.faults) where
-    told_moves : (fault : DumpFault) → (IsTrue one.tells → HasFaultOf one.read live fault) → IsTrue other.tells → HasFaultOf other.read live fault
-    told_moves fault has told = subst (λ (r : Read). HasFaultOf r live fault) (sym read) (has (subst IsTrue tells told))
-
-    pub cause_moves : (fault : DumpFault) → HasCause live one new fault → HasCause live other last fault
-    cause_moves (dump.Page page.Disk) cause = rose cause
-    cause_moves (dump.Page page.Memory) cause = tt
-    cause_moves (dump.Page (page.Bad p f)) cause = told_moves (dump.Page (page.Bad p f)) cause
-    cause_moves (dump.Page (page.Outside p)) cause = told_moves (dump.Page (page.Outside p)) cause
-    cause_moves (dump.Page (page.Repeats p)) cause = told_moves (dump.Page (page.Repeats p)) cause
-    cause_moves (dump.Page (page.Level p)) cause = told_moves (dump.Page (page.Level p)) cause
-    cause_moves (dump.Id id) cause = told_moves (dump.Id id) cause
-
-    pub stop_moves : (out0 out1 : SinkState) (why : Stop) → HasStop live one new out0 out1 why → HasStop live other last out0 out1 why
-    stop_moves out0 out1 stop.Sink has = (front_moves out0.written out1.written has.0, has.1)
-    stop_moves out0 out1 (stop.Fault fault) has = (may_move out0 out1 has.0, cause_moves fault has.1, λ told stays. has.2 (subst IsTrue tells told) stays)
-
--- the same where it is said of a result
-pub done_moves : {T E : Type 0} (r : Result T E) (one other : Shelf) → other.tells ≡ one.tells → other.read ≡ one.read → (live : Live) (w0 w1 : Option (List ℕ)) → OnOk r (PutsScript one live w0 w1) →
-    OnOk r (PutsScript other live w0 w1)
-done_moves (Ok t) one other tells read live w0 w1 puts = script_moves one other tells read live w0 w1 puts
-done_moves (Err e) one other tells read live w0 w1 puts = tt
-
-pub err_moves : {T : Type 0} (r : Result T Stop) (one other new last : Shelf) → other.tells ≡ one.tells → other.read ≡ one.read → (Rose one.faults new.faults → Rose other.faults last.faults) →
-    (live : Live) (out0 out1 : SinkState) → IfErr r (HasStop live one new out0 out1) → IfErr r (HasStop live other last out0 out1)
-err_moves (Ok t) one other new last tells read rose live out0 out1 has = tt
-err_moves (Err why) one other new last tells read rose live out0 out1 has = stop_moves one other tells read live new last rose out0 out1 why has
 
 -- ---- the disk behind an opened file
 
@@ -120,10 +72,7 @@ module _ (d0 d1 : DiskState) (head : Head) (live : Live) (opens : IsTrue d0.tell
     rows_are = subst (λ (bytes : List ℕ). HasRows (nodes_in head.dim live bytes) live rows) same.same_bytes (are (subst IsTrue (sym same.same_tells) tells));
   }
 
-  pub script_before : (w0 w1 : Option (List ℕ)) → PutsScript (opened_shelf head live d1) live w0 w1 → (rows : List (ℕ × List ℕ)) × Appends w0 w1 (script_text rows) × (IsTrue d0.tells → HoldsRows d0.bytes rows)
-  script_before w0 w1 puts = (puts.0, puts.1, rows_before puts.0 puts.2)
-
-  pub part_before : (out : SinkState) (w1 : Option (List ℕ)) → PutsFront (opened_shelf head live d1) live out.written w1 → PutsPart d0 out w1
+  part_before : (out : SinkState) (w1 : Option (List ℕ)) → PutsFront (opened_shelf head live d1) live out.written w1 → PutsPart d0 out w1
   part_before out w1 puts = record { rows = puts.0; put = puts.1; are = rows_before puts.0 puts.2 }
 
   -- a line was told after what was put

@@ -2,7 +2,7 @@
 use Rattle.std.proofs.Common.{◌≡◌, ℕ, zero, suc, ◌+◌, ◌-◌, ◌≤◌, Bool, true, false, List, [], ◌∷◌, ◌++◌, Option, Some, None, Result, Ok, Err, length, replicate, refl, sym, ap, ◌∙◌, subst, arith, append_assoc, length-append}
 use Rattle.std.specs.Prelude.{IsTrue, OnOk, codes, flat_map}
 use Rattle.std.specs.Io.KnownBytes.{Appends}
-use Rattle.std.proofs.KnownBytes.{Appends-nil, Appends-trans}
+use Rattle.std.proofs.KnownBytes.{Appends-trans}
 use Rattle.std.proofs.lemmas.Bool.{true≢false}
 use Rattle.std.proofs.lemmas.List.{append-nil, length-replicate}
 use Rattle.metric_laws.proofs.Published.{flat_map-append}
@@ -120,15 +120,6 @@ pub text_done : {T E : Type 0} (r : Result T E) (now new : SinkState) (text left
 text_done (Ok t) now new text left put none faults = λ old count front before. text_put old now text count front before new left put faults none
 text_done (Err e) now new text left put none faults = tt
 
--- nothing is put
-pub writing_begins : (old : SinkState) (text : List ℕ) (count : ℕ) → text ≡ [] ++ counted (codes "tload,") count → IsWriting old old text count []
-writing_begins old text count is = record {
-  sent = [];
-  put = Appends-nil old.written;
-  faults = refl;
-  whole = is ∙ sym (append-nil (counted (codes "tload,") count));
-}
-
 -- ---- the rows of a tree
 
 -- rows of the tree, of which these are the first
@@ -138,10 +129,6 @@ pub record Completes (shelf : Shelf) (live : Live) (front : List Row) : Type 0 w
   pub parts : rows ≡ front ++ rest
   pub long : length rows ≡ live.count
   pub are : AreRows shelf live rows
-
--- no row is read yet
-pub first_none : (shelf : Shelf) (live : Live) (numbers : List ℕ) → AreFirstRows shelf live numbers 0 []
-first_none shelf live numbers tells are = refl
 
 -- one row more
 pub first_more : (shelf : Shelf) (live : Live) (numbers : List ℕ) (id : ℕ) (front : List Row) (row : Row) → AreFirstRows shelf live numbers id front → IsRowOf shelf live numbers id row →

@@ -1,7 +1,6 @@
 -- Objects that are read again at their places.
-use Rattle.std.proofs.Common.{◌≡◌, ℕ, ◌/◌, ◌%◌, ◌<◌, List, [], Option, Some, Err, length, sym, ap, ◌∙◌, subst, arith}
+use Rattle.std.proofs.Common.{◌≡◌, ℕ, ◌/◌, ◌%◌, ◌<◌, List, Option, Some, sym, ap, ◌∙◌, subst, arith}
 use Rattle.std.specs.Prelude.{IsTrue, slice_get, slice_index}
-use Rattle.std.proofs.lemmas.Option.{slice_get_within}
 use Rattle.outside_io.specs.Sinks.{SinkState}
 use Rattle.outside_io.proofs.Published.{rose_before}
 use Rattle.tree_shape.specs.declared.entry.LeafEntry.{LeafEntry}
@@ -9,10 +8,9 @@ use Rattle.tree_shape.specs.declared.entry.Node.{Node}
 use Rattle.tree_shape.specs.declared.live.Live.{Live}
 use Rattle.tree_shape.specs.Tree.{Nodes, leaf_entries, point_of, tag_of}
 use Rattle.tree_shape.proofs.Published.{point_of-in}
-use Rattle.page_store.specs.declared.pages.PageFault.{PageFault}
 use Rattle.page_store.specs.declared.pages.PageFault.TheVariants as page
 use Rattle.page_store.specs.Reading.{Read, nodes_of, node_or_none}
-use Rattle.page_store.specs.Shelf.{Shelf, HoldsSame, IsNodeOf, HasPageCause}
+use Rattle.page_store.specs.Shelf.{Shelf, HoldsSame, IsNodeOf}
 use Rattle.page_store.proofs.Published.{tag_of-in}
 use Rattle.dump_jobs.specs.declared.fault.DumpFault.{DumpFault}
 use Rattle.dump_jobs.specs.declared.fault.DumpFault.TheVariants as dump
@@ -51,29 +49,6 @@ module _ (shelf : Shelf) (numbers : List ℕ) (id leaf number : ℕ) (page_is : 
   -- the row of an entry that was read
   pub row_read : (node : Node) (e : LeafEntry) → IsNodeOf shelf leaf node → slice_get (leaf_entries (Some node)) number ≡ Some e → (live : Live) → id < live.count → IsRowOf shelf live numbers id (e.tag, e.point)
   row_read node e is there live low tells are = row_is (nodes_of shelf.read) live numbers id e are low (entry_is node is tells ∙ there)
-
-  -- no other entry is read, where the pages tell
-  pub row_lost : (node : Node) → IsNodeOf shelf leaf node → ((e : LeafEntry) → slice_get (leaf_entries (Some node)) number ≡ Some e → ¬ (e.id ≡ id)) → (live : Live) → id < live.count →
-      IsTrue shelf.tells → ¬ ArePlaces (nodes_of shelf.read) live numbers
-  row_lost node is none live low tells are = let there = are.stand id low in none there.entry (sym (entry_is node is tells) ∙ there.stands) there.id_is
-
-  -- a page with an object holds a node
-  no_fault : (fault : PageFault) → shelf.read leaf ≡ Err fault → (live : Live) → id < live.count → ¬ ArePlaces (nodes_of shelf.read) live numbers
-  no_fault fault is live low are =
-      let there = are.stand id low in
-      let empty : ◌≡◌ {A = List LeafEntry} (leaf_entries (nodes_of shelf.read (slice_index numbers id / 32))) [] =
-      ap (λ (p : ℕ). leaf_entries (nodes_of shelf.read p)) (sym page_is) ∙ ap (λ r. leaf_entries (node_or_none r)) is in
-      let within = slice_get_within (leaf_entries (nodes_of shelf.read (slice_index numbers id / 32))) (slice_index numbers id % 32) there.entry there.stands in
-      let none : length (leaf_entries (nodes_of shelf.read (slice_index numbers id / 32))) ≡ 0 = ap length empty in
-      omega arith
-
-  pub page_lost : (new : Shelf) (fault : PageFault) → HasPageCause shelf new leaf fault → (live : Live) → id < live.count → HasReadCause live numbers shelf new (dump.Page fault)
-  page_lost new page.Disk cause live low = cause
-  page_lost new page.Memory cause live low = tt
-  page_lost new (page.Bad p f) cause live low = λ tells. no_fault (page.Bad leaf f) (cause.3 tells) live low
-  page_lost new (page.Outside p) cause live low = λ tells. no_fault (page.Outside leaf) (cause.2 tells) live low
-  page_lost new (page.Repeats p) cause live low = absurd cause
-  page_lost new (page.Level p) cause live low = absurd cause
 
 -- ---- over pages that hold what they held
 

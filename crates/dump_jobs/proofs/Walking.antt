@@ -1,12 +1,10 @@
 -- The walk that notes the places of a tree's objects.
-use Rattle.std.proofs.Common.{◌≡◌, ℕ, ◌<◌, ◌≤◌, List, [], ◌∷◌, ◌++◌, Some, length, refl, sym, ap, ◌∙◌, subst, inl, inr, arith}
+use Rattle.std.proofs.Common.{◌≡◌, ℕ, ◌<◌, List, [], ◌∷◌, ◌++◌, Some, length, refl, sym, ap, ◌∙◌, subst, inl, inr}
 use Rattle.std.specs.Prelude.{IsTrue, slice_index}
 use Rattle.tree_shape.specs.declared.entry.LeafEntry.{LeafEntry}
 use Rattle.tree_shape.specs.declared.entry.Node.{Node}
-use Rattle.tree_shape.specs.declared.entry.Node.TheVariants.{Leaf, Inner}
 use Rattle.tree_shape.specs.declared.live.Live.{Live}
 use Rattle.tree_shape.specs.Tree.{Nodes, leaf_entries}
-use Rattle.node_page.specs.Nodes.{IsLawfulNode}
 use Rattle.page_store.specs.declared.pages.PageFault.{PageFault}
 use Rattle.page_store.specs.declared.pages.PageFault.TheVariants as page
 use Rattle.page_store.specs.Laws.{SoundTreesAreToured}
@@ -16,15 +14,10 @@ use Rattle.page_store.specs.Tours.{Tours, HasTourCause}
 use Rattle.page_store.proofs.Published.{tour_passes}
 use Rattle.dump_jobs.specs.declared.fault.DumpFault.TheVariants as dump
 use Rattle.dump_jobs.specs.Causes.{HasCause}
-use Rattle.dump_jobs.specs.Places.{ArePlaces, IsNoted, Notes}
+use Rattle.dump_jobs.specs.Places.{IsNoted, Notes}
 use Rattle.dump_jobs.specs.Rows.{IsOutOfPlace, due, objects_on, times_among}
-use Rattle.dump_jobs.proofs.Noting.{all_noted, one_missing}
+use Rattle.dump_jobs.proofs.Noting.{one_missing}
 use Rattle.dump_jobs.proofs.Whole.{in_place, objects_more}
-
--- a leaf has at most 32 entries
-pub few_entries : (dim : ℕ) (node : Node) → IsLawfulNode dim node → length (leaf_entries (Some node)) ≤ 32
-few_entries dim (Leaf es) lawful = (let few = lawful.0 in omega arith)
-few_entries dim (Inner level es) lawful = omega arith
 
 -- the objects of one more node are noted
 pub notes_more : (nodes : Nodes) (numbers opened : List ℕ) (page : ℕ) (node : Node) → nodes page ≡ Some node → Notes nodes numbers (objects_on nodes opened ++ leaf_entries (Some node)) →
@@ -62,15 +55,3 @@ module _ (toured : SoundTreesAreToured) (live : Live) (old new : Shelf) (numbers
       let wrong = subst (λ (k : ℕ). times_among (objects_on (nodes_of old.read) n.pages) id < due k id) long less in
       let out : IsOutOfPlace (nodes_of old.read) live id = record { pages = n.pages; left = []; walk = n.walk; wrong = inr (refl, wrong) } in
       record { is = out; unsound = λ s sound. in_place (nodes_of old.read) s toured live id sound out }
-
--- each object has a place
-pub places_are : (nodes : Nodes) (live : Live) (numbers : List ℕ) → length numbers ≡ live.count → ((id : ℕ) → id < length numbers → slice_index numbers id ≡ 0 → ⊥) → IsNoted nodes live numbers →
-    ArePlaces nodes live numbers
-places_are nodes live numbers long all noted =
-    let each = all_noted nodes numbers (objects_on nodes noted.pages) noted.notes all in
-    record {
-      pages = noted.pages;
-      walk = noted.walk;
-      once = λ id. each.0 id ∙ ap (λ (n : ℕ). due n id) long;
-      stand = λ id low. each.1 id (omega (arith, long, low));
-    }

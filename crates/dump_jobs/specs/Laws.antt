@@ -20,8 +20,8 @@ pub record IsRow (words : ℕ) (row : ℕ × List ℕ) : Type 0 where
 -- a script of objects is read as one load of them
 abbrev pub ScriptsReadBack : Type 0
 ScriptsReadBack =
-    (words : ℕ) (row : ℕ × List ℕ) (rows : List (ℕ × List ℕ)) → 1 ≤ words → length (row ∷ rows) < 2 ^ 64 → AllByRecursion (IsRow words) (row ∷ rows) →
-    script words (script_text (row ∷ rows)) ≡ load_tagged words (row ∷ rows) ∷ []
+    (words : ℕ) (row : ℕ × List ℕ) (rows : List (ℕ × List ℕ)) → 1 ≤ words → length (row ∷ rows) < 2 ^ 64 →
+    AllByRecursion (IsRow words) (row ∷ rows) → script words (script_text (row ∷ rows)) ≡ load_tagged words (row ∷ rows) ∷ []
 
 -- the space and the limit of a head
 abbrev pub setting_of : Head → Setting

@@ -33,7 +33,8 @@ IsRowOf shelf live numbers id row =
 -- the rows of the objects that stand at the first places
 abbrev pub AreFirstRows : Shelf → Live → List ℕ → ℕ → List (ℕ × List ℕ) → Type 0
 AreFirstRows shelf live numbers count front =
-    IsTrue shelf.tells → (are : ArePlaces (nodes_of shelf.read) live numbers) → front ≡ rows_from (objects_on (nodes_of shelf.read) are.pages) 0 count
+    IsTrue shelf.tells → (are : ArePlaces (nodes_of shelf.read) live numbers) →
+    front ≡ rows_from (objects_on (nodes_of shelf.read) are.pages) 0 count
 
 -- why an object that has a place could not be read: the disk failed, or memory ran out; nothing else, where the pages tell
 abbrev pub HasReadCause : Live → List ℕ → Shelf → Shelf → DumpFault → Type 0

@@ -34,8 +34,8 @@ fn dump_opened<D: Disk, K: Sink>(
     ensures same { IsUnchanged (D.state disk.old) (D.state disk.new) }
     ensures done { OnOk result (PutsScript (opened_shelf head.now live.now (D.state disk.old)) live.now
         (K.state out.old).written (K.state out.new).written) }
-    ensures stop { IfErr result (HasStop live.now (opened_shelf head.now live.now (D.state disk.old)) (opened_shelf head.now live.now (D.state disk.new))
-        (K.state out.old) (K.state out.new)) }
+    ensures stop { IfErr result (HasStop live.now (opened_shelf head.now live.now (D.state disk.old))
+        (opened_shelf head.now live.now (D.state disk.new)) (K.state out.old) (K.state out.new)) }
     ensures later { (K.state out.old).faults ≤ (K.state out.new).faults }
 {
     empty_cache_agrees();
@@ -61,7 +61,8 @@ fn id_text(alloc: Global, id: u32) -> Result<Vec<u8>, Memory>
 
 // Ends a job whose objects can't be told: with status 5 where the disk failed, 8 when memory ran out, and else with status 9.
 fn end_at_fault<K: Sink>(alloc: Global, fault: DumpFault, out: &mut K) -> Status
-    ensures disk { result.0 ≡ 5 → (fault ≡ DumpFault.Page PageFault.Disk) × Tells (K.state out.old) (K.state out.new) (codes "fault disk\n") }
+    ensures disk { result.0 ≡ 5 → (fault ≡ DumpFault.Page PageFault.Disk)
+        × Tells (K.state out.old) (K.state out.new) (codes "fault disk\n") }
     ensures memory { result.0 ≡ 8 → Tells (K.state out.old) (K.state out.new) (codes "fault memory\n") }
     ensures damaged { result.0 ≡ 9 → (IsPassing fault → ⊥) × Tells (K.state out.old) (K.state out.new) (fault_text fault) }
     ensures statuses { (result.0 ≡ 5) ⊎ ((result.0 ≡ 8) ⊎ (result.0 ≡ 9)) }

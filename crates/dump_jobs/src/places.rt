@@ -48,7 +48,8 @@ impl Places {
 
 // Notes the place of an object. Returns false where the id is too great, or was met before.
 fn note(numbers: &mut [u32], id: u32, place: u32) -> bool
-    ensures noted { IsTrue result → (id < length numbers.old) × (slice_index numbers.old id ≡ 0) × (numbers.new ≡ slice_set numbers.old id place) }
+    ensures noted { IsTrue result → (id < length numbers.old) × (slice_index numbers.old id ≡ 0)
+        × (numbers.new ≡ slice_set numbers.old id place) }
     ensures wrong { result ≡ false → (length numbers.old ≤ id) ⊎ (slice_index numbers.old id ≢ 0) }
 {
     let id = id as usize;
