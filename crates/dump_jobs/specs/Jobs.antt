@@ -1,5 +1,5 @@
 -- What the job `dump` does and writes, by the status with which it ends.
-use Rattle.std.specs.Prelude.{◌≡◌, ◌≢◌, ◌⊎◌, ℕ, List, [], ◌++◌, Option, codes, IsTrue}
+use Rattle.std.specs.Prelude.{◌≡◌, ◌≢◌, ◌⊎◌, ◌++◌, ℕ, false, List, Option, codes, IsTrue}
 use Rattle.std.specs.Io.KnownBytes.{Appends}
 use Rattle.outside_io.specs.Bytes.{AppendsPrefix}
 use Rattle.outside_io.specs.Causes.{Rose}
@@ -8,8 +8,9 @@ use Rattle.disk_model.specs.Disk.{DiskState, IsUnchanged}
 use Rattle.tree_shape.specs.declared.live.Live.{Live}
 use Rattle.node_page.specs.declared.head.Head.{Head}
 use Rattle.node_page.specs.Opening.{OpensTo}
-use Rattle.page_store.specs.declared.pages.PageFault.{PageFault}
 use Rattle.page_store.specs.Files.{nodes_in}
+use Rattle.page_store.specs.Shelf.{Shelf}
+use Rattle.page_store.specs.Shelves.{disk_shelf}
 use Rattle.fault_lines.specs.Lines.{numbered}
 use Rattle.rows_text.specs.Texts.{line_end}
 use Rattle.file_jobs.specs.Jobs.{IsNoIndex}
@@ -19,6 +20,10 @@ use Rattle.dump_jobs.specs.declared.fault.DumpFault.{DumpFault}
 use Rattle.dump_jobs.specs.declared.fault.DumpFault.TheVariants as dump
 use Rattle.dump_jobs.specs.Rows.{HasRows, IsOutOfPlace}
 use Rattle.dump_jobs.specs.Scripts.{script_text}
+
+-- the pages of an opened file of version 2
+abbrev pub opened_shelf : Head → Live → DiskState → Shelf
+opened_shelf head live disk = disk_shelf false head.dim live.pages disk 0
 
 -- the file opens to a tree with these tags and points
 pub record HoldsRows (file : List ℕ) (rows : List (ℕ × List ℕ)) : Type 0 where
@@ -54,7 +59,8 @@ pub record PutsPart (disk : DiskState) (old : SinkState) (middle : Option (List 
 
 -- a line was told, at once or after a front of the script
 abbrev pub Follows : DiskState → SinkState → SinkState → List ℕ → Type 0
-Follows disk old new line = Tells old new line ⊎ ((middle : Option (List ℕ)) × PutsPart disk old middle × Tells (record old { written = middle }) new line)
+Follows disk old new line =
+    Tells old new line ⊎ ((middle : Option (List ℕ)) × PutsPart disk old middle × Tells (record old { written = middle }) new line)
 
 -- what stands on out when `dump` ends
 pub record Dumps (disk0 disk1 : DiskState) (out0 out1 : SinkState) (status : ℕ) : Type 0 where
@@ -66,8 +72,9 @@ pub record Dumps (disk0 disk1 : DiskState) (out0 out1 : SinkState) (status : ℕ
   pub disk : status ≡ 5 → Rose disk0.faults disk1.faults × Follows disk0 out0 out1 (codes "fault disk\n")
   pub not_index : status ≡ 6 → (name : List ℕ) × Tells out0 out1 (not_index_text name) × (IsTrue disk0.tells → IsNoIndex disk0.bytes name)
   pub memory : status ≡ 8 → Follows disk0 out0 out1 (codes "fault memory\n")
-  -- nothing was put before
-  pub damaged : status ≡ 9 → (fault : DumpFault) × Tells out0 out1 (fault_text fault) × (IsTrue disk0.tells → IsDamaged disk0.bytes fault)
+  -- nothing was put before, where the disk tells its bytes; a disk that does not may hold other bytes when a page is read again
+  pub damaged : status ≡ 9 → (fault : DumpFault) × Follows disk0 out0 out1 (fault_text fault)
+      × (IsTrue disk0.tells → Tells out0 out1 (fault_text fault) × IsDamaged disk0.bytes fault)
   -- a sound file gives neither status 6 nor status 9
   pub sound : IsTrue disk0.tells → (head : Head) (live : Live) → IsSound head live disk0.bytes → (status ≢ 6) × (status ≢ 9)
 

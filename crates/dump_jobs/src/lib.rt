@@ -6,6 +6,7 @@ mod jobs;
 pub mod laws;
 mod places;
 mod rows;
+mod writing;
 
 pub use fault::DumpFault;
 pub use jobs::dump_index;

@@ -1,0 +1,9 @@
+pub mod Noting
+pub mod Whole
+pub mod Walking
+pub mod Putting
+pub mod Reading
+pub mod Opened
+pub mod Digits
+pub mod ReadBack
+pub mod MakesAgain

@@ -1,0 +1,157 @@
+// The writing of a script.
+ghost use Rattle.std.specs.Prelude.{◌≡◌, ◌≤◌, ◌<◌, ◌++◌, ◌^◌, ℕ, List, [], Some, IsTrue, IfErr, IfSome, IfNone, OnOk, OnErr, length, slice_get};
+ghost use Rattle.std.specs.Io.KnownBytes.{Appends};
+ghost use Rattle.outside_io.specs.Bytes.{AppendsPrefix};
+ghost use Rattle.outside_io.specs.Causes.{HasCause as HasSinkCause};
+ghost use Rattle.outside_io.specs.Sinks.{SinkState};
+ghost use Rattle.tree_shape.specs.declared.entry.LeafEntry.{LeafEntry as TheEntry};
+ghost use Rattle.tree_shape.specs.declared.live.Live.{Live as TheLive};
+ghost use Rattle.tree_shape.specs.Tree.{leaf_entries};
+ghost use Rattle.page_store.specs.Reading.{nodes_of};
+ghost use Rattle.page_store.specs.Shelf.{HoldsSame};
+ghost use Rattle.dump_jobs.specs.Causes.{HasStop, PutsScript};
+ghost use Rattle.dump_jobs.specs.Places.{ArePlaces};
+ghost use Rattle.dump_jobs.specs.Scripts.{row_line};
+ghost use Rattle.dump_jobs.specs.Writing.{HasReadCause, IsRowOf, IsWriting};
+
+use crate::fault::{DumpFault, MEMORY, Stop};
+use crate::places::{Places, places_of};
+use crate::rows::{push_head, push_row};
+use outside_io::{Failed, Sink};
+use page_store::Pages;
+use std::alloc::Global;
+use tree_shape::{LeafEntry, Live, Node};
+
+// A text is put once it has this many bytes.
+const PIECE: usize = 1 << 16;
+
+// Returns entry `number` of a leaf, if it is there and has this id.
+fn entry_of(node: &Node, number: usize, id: u32) -> Option<&LeafEntry>
+    ensures some { IfSome result (λ entry. (entry.now.id ≡ id) × (slice_get (leaf_entries (Some node.now)) number ≡ Some entry.now)) }
+    ensures none { IfNone result ((entry : TheEntry) → slice_get (leaf_entries (Some node.now)) number ≡ Some entry → ¬ (entry.id ≡ id)) }
+{
+    let Node::Leaf(entries) = node else {
+        return None;
+    };
+    let entries = entries.as_slice();
+    if number < entries.len() && entries[number].id == id {
+        return Some(&entries[number]);
+    }
+    None
+}
+
+// Appends the line of the object `id`, which is read at its place.
+fn push_object<P: Pages>(
+    alloc: Global,
+    pages: &mut P,
+    places: &Places,
+    id: u32,
+    text: &mut Vec<u8>,
+) -> Result<(), DumpFault>
+    requires { id < length places.now }
+    ensures same { HoldsSame (P.shelf pages.old) (P.shelf pages.new) }
+    ensures keeps { P.keeps pages.old pages.new }
+    ensures row { OnOk result ((row : ℕ × List ℕ) × (text.new.items ≡ text.old.items ++ row_line row)
+        × ((live : TheLive) → id < live.count → IsRowOf (P.shelf pages.old) live places.now id row)) }
+    ensures cause { IfErr result (λ fault. (live : TheLive) → id < live.count →
+        HasReadCause live places.now (P.shelf pages.old) (P.shelf pages.new) fault) }
+{
+    let (page, number) = places.of(id);
+    let node = match pages.node(alloc, page) {
+        Ok(node) => node,
+        Err(fault) => return Err(DumpFault::Page(fault)),
+    };
+    let Some(entry) = entry_of(node.as_ref(), number, id) else {
+        return Err(DumpFault::Id(id));
+    };
+    match push_row(entry, text) {
+        Ok(()) => Ok(()),
+        Err(_) => Err(MEMORY),
+    }
+}
+
+// Puts the text and empties it. Where the output fails, the text stays.
+fn put_text<K: Sink>(text: &mut Vec<u8>, out: &mut K) -> Result<(), Failed>
+    ensures done { OnOk result (Appends (K.state out.old).written (K.state out.new).written text.old.items) }
+    ensures empty { OnOk result (text.new.items ≡ []) }
+    ensures cut { OnErr result (AppendsPrefix (K.state out.old).written (K.state out.new).written text.old.items) }
+    ensures cause { HasSinkCause (K.state out.old).faults (K.state out.new).faults result }
+{
+    out.put(text.as_slice())?;
+    text.clear();
+    Ok(())
+}
+
+// Puts the text once it is long, and empties it.
+fn put_long<K: Sink>(text: &mut Vec<u8>, out: &mut K) -> Result<(), Failed>
+    ensures done { OnOk result ((old : SinkState) (count : ℕ) (front : List (ℕ × List ℕ)) →
+        IsWriting old (K.state out.old) text.old.items count front → IsWriting old (K.state out.new) text.new.items count front) }
+    ensures cut { OnErr result (AppendsPrefix (K.state out.old).written (K.state out.new).written text.old.items) }
+    ensures cause { HasSinkCause (K.state out.old).faults (K.state out.new).faults result }
+{
+    if text.len() < PIECE {
+        return Ok(());
+    }
+    put_text(text, out)
+}
+
+// Writes the script of objects that stand at their places.
+fn write_rows<P: Pages, K: Sink>(
+    alloc: Global,
+    pages: &mut P,
+    live: &Live,
+    places: &Places,
+    out: &mut K,
+) -> Result<(), Stop>
+    requires some { 1 ≤ live.now.count }
+    requires long { length places.now ≡ live.now.count }
+    requires are { IsTrue (P.shelf pages.old).tells → ArePlaces (nodes_of (P.shelf pages.old).read) live.now places.now }
+    ensures same { HoldsSame (P.shelf pages.old) (P.shelf pages.new) }
+    ensures keeps { P.keeps pages.old pages.new }
+    ensures done { OnOk result (PutsScript (P.shelf pages.old) live.now (K.state out.old).written (K.state out.new).written) }
+    ensures stop { IfErr result (HasStop live.now (P.shelf pages.old) (P.shelf pages.new) (K.state out.old) (K.state out.new)) }
+    ensures later { (K.state out.old).faults ≤ (K.state out.new).faults }
+{
+    let mut text = Vec::new(alloc);
+    if push_head(live.count, &mut text).is_err() {
+        return Err(Stop::Fault(MEMORY));
+    }
+    for id in 0..live.count {
+        match push_object(alloc, pages, places, id, &mut text) {
+            Ok(()) => {}
+            Err(fault) => return Err(Stop::Fault(fault)),
+        }
+        match put_long(&mut text, out) {
+            Ok(()) => {}
+            Err(_) => return Err(Stop::Sink),
+        }
+    }
+    match put_text(&mut text, out) {
+        Ok(()) => Ok(()),
+        Err(_) => Err(Stop::Sink),
+    }
+}
+
+/// Writes the objects of a tree as a script that makes them again. Memory is taken for a number an object and a few pages.
+pub fn dump_pages<P: Pages, K: Sink>(
+    alloc: Global,
+    pages: &mut P,
+    live: &Live,
+    out: &mut K,
+) -> Result<(), Stop>
+    requires pages { (P.shelf pages.old).pages ≤ 2 ^ 24 }
+    ensures same { HoldsSame (P.shelf pages.old) (P.shelf pages.new) }
+    ensures keeps { P.keeps pages.old pages.new }
+    ensures done { OnOk result (PutsScript (P.shelf pages.old) live.now (K.state out.old).written (K.state out.new).written) }
+    ensures stop { IfErr result (HasStop live.now (P.shelf pages.old) (P.shelf pages.new) (K.state out.old) (K.state out.new)) }
+    ensures later { (K.state out.old).faults ≤ (K.state out.new).faults }
+{
+    let places = match places_of(alloc, pages, live) {
+        Ok(places) => places,
+        Err(fault) => return Err(Stop::Fault(fault)),
+    };
+    if live.count == 0 {
+        return Ok(());
+    }
+    write_rows(alloc, pages, live, &places, out)
+}
