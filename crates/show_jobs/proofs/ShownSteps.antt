@@ -56,8 +56,8 @@ shown_ends f read (c ∷ cs) = refl
 
 -- a walk that has shown nothing
 pub shown_first : (lines : List ℕ) (counts : Counts) (rest : Shown) → lines ≡ [] → counts ≡ none_counted → with_rest lines counts rest ≡ rest
-shown_first lines counts rest none zero =
-    ap (λ (l : List ℕ). with_rest l counts rest) none ∙ ap (λ (c : Counts). with_rest [] c rest) zero
+shown_first lines counts rest none uncounted =
+    ap (λ (l : List ℕ). with_rest l counts rest) none ∙ ap (λ (c : Counts). with_rest [] c rest) uncounted
     ∙ ap (shown_as rest.lines) (none_together rest.counts)
 
 -- a walk that is at its end

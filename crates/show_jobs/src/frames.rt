@@ -6,7 +6,7 @@ ghost use Rattle.page_store.specs.Shelf.{HoldsSame};
 ghost use Rattle.log_model.specs.Grammar.{IsLawfulLog, query_point};
 ghost use Rattle.prune_log.specs.Reading.{log_at, frames_at};
 ghost use Rattle.file_jobs.specs.Logs.Jobs.{Puts, stop_of};
-ghost use Rattle.file_jobs.specs.Logs.Sayings.{are_sound};
+ghost use Rattle.file_jobs.specs.Logs.Sayings.{are_sound, end_text};
 ghost use Rattle.show_jobs.specs.Frames.{head_texts, names_tree, shown_of};
 ghost use Rattle.show_jobs.specs.Steps.{fault_by, said_by, space_in, text_by, texts_by};
 
@@ -16,7 +16,7 @@ use crate::shown::Walk;
 use crate::texts::frame_text;
 use crate::view::View;
 use crate::walking::show_records;
-use file_jobs::logs::{Report, Stop, end_text, put, undecoded_text};
+use file_jobs::logs::{Report, Stop, put, undecoded_text};
 use log_model::{Log, radius_of};
 use log_verify::{Verdict, verify};
 use metric_laws::{Meter, Metric};
@@ -69,12 +69,7 @@ fn judge<P: Pages>(
 }
 
 // Shows the walk of a log. Nothing is shown where it names another tree, or its point is not one of the space.
-fn show_walk<P: Pages>(
-    alloc: Global,
-    view: &View,
-    pages: &mut P,
-    log: &Log,
-) -> Result<Walk, Stop>
+fn show_walk<P: Pages>(alloc: Global, view: &View, pages: &mut P, log: &Log) -> Result<Walk, Stop>
     requires { IsLawfulLog log.now }
     ensures same { HoldsSame (P.shelf pages.old) (P.shelf pages.new) }
     ensures keeps { P.keeps pages.old pages.new }
@@ -162,10 +157,18 @@ fn put_head<K: Sink>(marks: Marks, out: &mut K) -> Result<(), Stop>
 {
     match marks {
         Marks::Each => Ok(()),
-        Marks::Count => put(
-            out,
-            b"frame opened nodes skip far near distances verdict\n",
-        ),
+        Marks::Count => put(out, b"frame opened nodes skip far near distances verdict\n"),
+    }
+}
+
+// Returns the line after all frames.
+fn end_text(sound: bool) -> &'static [u8]
+    ensures { result.now ≡ end_text Report.Verdicts sound }
+{
+    if sound {
+        b"log accepted, file not audited\n"
+    } else {
+        b"log rejected\n"
     }
 }
 
@@ -190,7 +193,7 @@ fn show_all<P: Pages, K: Sink>(
 {
     put_head(view.marks, out)?;
     let sound = show_frames(alloc, view, pages, logs, out)?;
-    put(out, end_text(Report::Verdicts, sound))?;
+    put(out, end_text(sound))?;
     Ok(sound)
 }
 

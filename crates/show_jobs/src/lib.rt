@@ -10,6 +10,7 @@ mod opened;
 mod reasons;
 mod report;
 mod shown;
+mod stops;
 mod texts;
 mod view;
 mod walking;

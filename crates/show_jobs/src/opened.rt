@@ -12,6 +12,7 @@ ghost use Rattle.show_jobs.specs.Jobs.{AreNodes, showing};
 
 use crate::Marks;
 use crate::frames::show_bytes;
+use crate::stops::stop_at;
 use crate::view::View;
 use disk_model::Disk;
 use file_jobs::logs::Stop;
@@ -21,7 +22,7 @@ use outside_io::{Sink, Status};
 use page_cache::laws::empty_cache_agrees;
 use page_cache::{Cached, KEPT_NODES, Kept};
 use page_store::laws::tour_has_one_course;
-use page_store::{DiskPages, PageFault, Pages};
+use page_store::{DiskPages, Pages};
 use page_tour::count_nodes;
 use std::alloc::Global;
 use tree_shape::Live;
@@ -48,9 +49,10 @@ fn nodes_in<P: Pages>(alloc: Global, pages: &mut P, live: &Live) -> Result<Optio
     tour_has_one_course();
     match count_nodes(alloc, pages, live) {
         Ok(count) => Ok(Some(count)),
-        Err(PageFault::Disk) => Err(Stop::Disk),
-        Err(PageFault::Memory) => Err(Stop::Memory),
-        Err(_) => Ok(None),
+        Err(fault) => {
+            stop_at(fault)?;
+            Ok(None)
+        }
     }
 }
 

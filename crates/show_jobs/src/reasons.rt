@@ -49,12 +49,7 @@ fn push_reach(reach: Reach, out: &mut Vec<u8>) -> Result<(), Memory>
 }
 
 // Appends the centre test of an entry after `word`.
-fn push_centre_test(
-    word: &[u8],
-    dist: u64,
-    reach: Reach,
-    out: &mut Vec<u8>,
-) -> Result<(), Memory>
+fn push_centre_test(word: &[u8], dist: u64, reach: Reach, out: &mut Vec<u8>) -> Result<(), Memory>
     ensures { OnOk result (out.new.items ≡ out.old.items ++ (word.now ++ test_text (decimal dist) dist reach)) }
 {
     let radius = radius_or_zero(reach.radius);

@@ -1,5 +1,5 @@
 // Walks along the records of a log, as far as they lead, and shows each node.
-ghost use Rattle.std.specs.Prelude.{◌≡◌, ◌⊎◌, ◌+◌, ◌<◌, ◌≤◌, ◌^◌, ℕ, List, [], ◌∷◌, length, reverse, None, IsTrue, IfOk, IfSome, IfNone, IsErrOf, OnOk};
+ghost use Rattle.std.specs.Prelude.{◌≡◌, ◌⊎◌, ◌+◌, ◌-◌, ◌<◌, ◌≤◌, ◌^◌, ℕ, List, [], ◌∷◌, length, reverse, None, IsTrue, IfOk, IfSome, IfNone, IsErrOf, OnOk};
 ghost use Rattle.std.specs.List.{AllByRecursion};
 ghost use Rattle.outside_io.specs.Causes.{Rose};
 ghost use Rattle.page_store.specs.Shelf.{HoldsSame};
@@ -11,11 +11,12 @@ ghost use Rattle.show_jobs.specs.Steps.{AreSmall, AreUpTo, search_in, shown_then
 use crate::entries::Gauge;
 use crate::nodes::show_node;
 use crate::shown::Walk;
+use crate::stops::stop_at;
 use crate::{Coming, Counts};
 use file_jobs::logs::Stop;
 use log_model::{Need, Record, entry_count};
 use outside_io::Memory;
-use page_store::{PageFault, Pages, SharedNode};
+use page_store::{Pages, SharedNode};
 use std::alloc::Global;
 
 impl Walk {
@@ -72,9 +73,10 @@ fn node_told<P: Pages>(
     }
     let shared = match pages.node(alloc, page) {
         Ok(shared) => shared,
-        Err(PageFault::Disk) => return Err(Stop::Disk),
-        Err(PageFault::Memory) => return Err(Stop::Memory),
-        Err(_) => return Ok(None),
+        Err(fault) => {
+            stop_at(fault)?;
+            return Ok(None);
+        }
     };
     if told.marks.as_slice().len() != entry_count(shared.as_ref()) {
         return Ok(None);
