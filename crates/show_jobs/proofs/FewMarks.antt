@@ -1,17 +1,12 @@
 -- The counts of a walk fit 64 bits.
-use Rattle.std.proofs.Common.{◌≡◌, ◌⊎◌, ⊎_elim, ℕ, zero, suc, ◌+◌, ◌*◌, ◌^◌, ◌<◌, ◌≤◌, List, [], ◌∷◌, length, drop, get_or, sym, ap, subst, ◌∙◌, arith}
+use Rattle.std.proofs.Common.{◌≡◌, ◌⊎◌, ⊎_elim, ℕ, zero, suc, ◌+◌, ◌*◌, ◌^◌, ◌<◌, ◌≤◌, List, [], ◌∷◌, length, get_or, sym, subst, arith}
 use Rattle.std.specs.List.{AllByRecursion}
-use Rattle.std.proofs.lemmas.List.{drop_more}
 use Rattle.log_model.specs.declared.marks.Mark.{Mark}
 use Rattle.log_model.specs.declared.marks.Mark.TheVariants.{Skip, Far, Near}
 use Rattle.log_model.specs.declared.marks.Record.{Record}
 use Rattle.show_jobs.specs.declared.shown.Counts.{Counts}
 use Rattle.show_jobs.specs.Walks.{fars_in, nears_in, skips_in, with_marks}
 use Rattle.show_jobs.specs.Steps.{AreSmall}
-
--- mark i, and the marks behind it
-pub at_mark : (marks : List Mark) (i : ℕ) (m : Mark) → i < length marks → m ≡ get_or marks i m → drop i marks ≡ m ∷ drop (i + 1) marks
-at_mark marks i m low is = drop_more marks i m low ∙ ap (λ (x : Mark). x ∷ drop (i + 1) marks) (sym is)
 
 record AreBelow (marks : List Mark) : Type 0 where
   pub skips : skips_in marks ≤ length marks

@@ -29,7 +29,7 @@ use Rattle.show_jobs.specs.declared.shown.Coming.{Coming}
 use Rattle.show_jobs.specs.Frames.{distances, names_tree, shown_of}
 use Rattle.show_jobs.specs.Laws.{Holds}
 use Rattle.show_jobs.specs.Reasons.{object_reach, subtree_reach}
-use Rattle.show_jobs.specs.Walks.{Shown, coming_from, coming_of, fars_in, nears_in, node_lines, node_marked, node_then, node_told, nothing_shown, root_coming, shown, shown_on}
+use Rattle.show_jobs.specs.Walks.{Shown, coming_from, coming_of, fars_in, nears_in, node_lines, node_then, node_told, nothing_shown, root_coming, shown, shown_on}
 
 -- ---- marks that are allowed
 
