@@ -5,7 +5,7 @@ ghost use Rattle.rows_text.specs.Texts.{space};
 ghost use Rattle.log_model.specs.declared.marks.Mark.TheVariants.{Skip, Near};
 ghost use Rattle.log_model.specs.Walk.{allows_object, allows_subtree, away};
 ghost use Rattle.show_jobs.specs.Walks.{indent, object_line, subtree_line};
-ghost use Rattle.show_jobs.specs.Steps.{search_in};
+ghost use Rattle.show_jobs.specs.Steps.{search_by};
 
 use crate::reasons::push_reason;
 use crate::{Coming, Reach};
@@ -62,9 +62,9 @@ fn push_place(
 
 // Tests the mark of an object.
 fn test_object(gauge: Gauge, above: Option<u64>, entry: &LeafEntry, mark: Mark) -> Tested
-    ensures allowed { result.allowed ≡ allows_object (search_in gauge.entry.space gauge.entry.q.now gauge.entry.rho) above entry.now mark }
+    ensures allowed { result.allowed ≡ allows_object (search_by gauge.entry) above entry.now mark }
     ensures dist { (mark ≡ Skip → ⊥) →
-        result.dist ≡ away (search_in gauge.entry.space gauge.entry.q.now gauge.entry.rho) entry.now.point }
+        result.dist ≡ away (search_by gauge.entry) entry.now.point }
 {
     let point = entry.point.as_slice();
     match mark {
@@ -91,9 +91,9 @@ fn test_object(gauge: Gauge, above: Option<u64>, entry: &LeafEntry, mark: Mark) 
 
 // Tests the mark of a subtree.
 fn test_subtree(gauge: Gauge, above: Option<u64>, entry: &InnerEntry, mark: Mark) -> Tested
-    ensures allowed { result.allowed ≡ allows_subtree (search_in gauge.entry.space gauge.entry.q.now gauge.entry.rho) above entry.now mark }
+    ensures allowed { result.allowed ≡ allows_subtree (search_by gauge.entry) above entry.now mark }
     ensures dist { (mark ≡ Skip → ⊥) →
-        result.dist ≡ away (search_in gauge.entry.space gauge.entry.q.now gauge.entry.rho) entry.now.point }
+        result.dist ≡ away (search_by gauge.entry) entry.now.point }
 {
     let point = entry.point.as_slice();
     match mark {
@@ -126,9 +126,9 @@ pub fn show_object(
 ) -> Result<bool, Memory>
     requires { coming.depth + 1 < 2 ^ 32 }
     ensures line { OnOk result (out.new.items ≡ out.old.items ++
-        object_line (search_in gauge.entry.space gauge.entry.q.now gauge.entry.rho) coming place entry.now mark) }
+        object_line (search_by gauge.entry) coming place entry.now mark) }
     ensures allowed { IfOk result (λ allowed. allowed ≡
-        allows_object (search_in gauge.entry.space gauge.entry.q.now gauge.entry.rho) coming.need.above entry.now mark) }
+        allows_object (search_by gauge.entry) coming.need.above entry.now mark) }
 {
     let above = coming.need.above;
     let tested = test_object(gauge, above, entry, mark);
@@ -153,11 +153,11 @@ pub fn show_subtree(
 ) -> Result<Tested, Memory>
     requires { coming.depth + 1 < 2 ^ 32 }
     ensures line { OnOk result (out.new.items ≡ out.old.items ++
-        subtree_line (search_in gauge.entry.space gauge.entry.q.now gauge.entry.rho) coming place entry.now mark) }
+        subtree_line (search_by gauge.entry) coming place entry.now mark) }
     ensures allowed { IfOk result (λ tested. tested.allowed ≡
-        allows_subtree (search_in gauge.entry.space gauge.entry.q.now gauge.entry.rho) coming.need.above entry.now mark) }
+        allows_subtree (search_by gauge.entry) coming.need.above entry.now mark) }
     ensures dist { IfOk result (λ tested. mark ≡ Near →
-        tested.dist ≡ away (search_in gauge.entry.space gauge.entry.q.now gauge.entry.rho) entry.now.point) }
+        tested.dist ≡ away (search_by gauge.entry) entry.now.point) }
 {
     let above = coming.need.above;
     let tested = test_subtree(gauge, above, entry, mark);

@@ -1,7 +1,7 @@
 use Rattle.std.proofs.Common.{◌≤◌, length, reverse, arith}
 use Rattle.log_model.specs.Walk.{Search}
 use Rattle.page_store.proofs.Published.{holds_both}
-use Rattle.show_jobs.specs.Steps.{search_in}
+use Rattle.show_jobs.specs.Steps.{search_by}
 use Rattle.show_jobs.proofs.FewMarks.{few_next, few_small, short_at}
 use Rattle.show_jobs.proofs.ShownSteps.{way_next}
 use Rattle.show_jobs.proofs.walking.show_records.Goals as goal
@@ -17,7 +17,7 @@ returns-in_err-show_record-clause-keeps g c =
 
 pub loop-told-preserved : goal.loop-told-preserved
 loop-told-preserved g c =
-    let f : Search = search_in c.args.gauge.space c.args.gauge.q.now c.args.gauge.rho in
+    let f : Search = search_by c.args.gauge in
     let i = c.loop-told.told-index in
     let r = c.told-item.result in
     let before = c.loop-told.invariant in
