@@ -16,11 +16,14 @@ use metric_mix::MixSpace;
 use outside_io::Memory;
 use tree_shape::{InnerEntry, LeafEntry};
 
-// What entries are tested by: the space, the query's point, and the radius that prunes.
+// What entries are tested by.
 #[derive(Clone, Copy)]
 pub struct Gauge<'a> {
+    // The space.
     pub space: MixSpace,
+    // The query's point.
     pub q: &'a [u32],
+    // The radius that prunes.
     pub rho: u64,
 }
 
@@ -63,8 +66,7 @@ fn push_place(
 // Tests the mark of an object.
 fn test_object(gauge: Gauge, above: Option<u64>, entry: &LeafEntry, mark: Mark) -> Tested
     ensures allowed { result.allowed ≡ allows_object (search_by gauge.entry) above entry.now mark }
-    ensures dist { (mark ≡ Skip → ⊥) →
-        result.dist ≡ away (search_by gauge.entry) entry.now.point }
+    ensures dist { (mark ≡ Skip → ⊥) → result.dist ≡ away (search_by gauge.entry) entry.now.point }
 {
     let point = entry.point.as_slice();
     match mark {
@@ -92,8 +94,7 @@ fn test_object(gauge: Gauge, above: Option<u64>, entry: &LeafEntry, mark: Mark) 
 // Tests the mark of a subtree.
 fn test_subtree(gauge: Gauge, above: Option<u64>, entry: &InnerEntry, mark: Mark) -> Tested
     ensures allowed { result.allowed ≡ allows_subtree (search_by gauge.entry) above entry.now mark }
-    ensures dist { (mark ≡ Skip → ⊥) →
-        result.dist ≡ away (search_by gauge.entry) entry.now.point }
+    ensures dist { (mark ≡ Skip → ⊥) → result.dist ≡ away (search_by gauge.entry) entry.now.point }
 {
     let point = entry.point.as_slice();
     match mark {
@@ -156,8 +157,7 @@ pub fn show_subtree(
         subtree_line (search_by gauge.entry) coming place entry.now mark) }
     ensures allowed { IfOk result (λ tested. tested.allowed ≡
         allows_subtree (search_by gauge.entry) coming.need.above entry.now mark) }
-    ensures dist { IfOk result (λ tested. mark ≡ Near →
-        tested.dist ≡ away (search_by gauge.entry) entry.now.point) }
+    ensures dist { IfOk result (λ tested. mark ≡ Near → tested.dist ≡ away (search_by gauge.entry) entry.now.point) }
 {
     let above = coming.need.above;
     let tested = test_subtree(gauge, above, entry, mark);

@@ -35,10 +35,10 @@ fn show_leaf(
 ) -> Result<bool, Memory>
     requires long { length marks.now ≡ length entries.now }
     requires deep { coming.depth + 1 < 2 ^ 32 }
-    ensures lines { OnOk result (out.new.items ≡ out.old.items ++ marked_lines
-        (object_line (search_by gauge.entry) coming) 0 entries.now marks.now) }
-    ensures allowed { IfOk result (λ allowed. allowed ≡ is_none (first_wrong
-        (allows_object (search_by gauge.entry) coming.need.above) entries.now marks.now 0)) }
+    ensures lines { OnOk result (out.new.items ≡ out.old.items ++
+        marked_lines (object_line (search_by gauge.entry) coming) 0 entries.now marks.now) }
+    ensures allowed { IfOk result (λ allowed. allowed ≡
+        is_none (first_wrong (allows_object (search_by gauge.entry) coming.need.above) entries.now marks.now 0)) }
 {
     let mut allowed = true;
     for i in 0..entries.len() {
@@ -69,10 +69,10 @@ fn show_inner(
 ) -> Result<bool, Memory>
     requires long { length marks.now ≡ length entries.now }
     requires deep { coming.depth + 1 < 2 ^ 32 }
-    ensures lines { OnOk result (walk.new.lines.items ≡ walk.old.lines.items ++ marked_lines
-        (subtree_line (search_by gauge.entry) coming) 0 entries.now marks.now) }
-    ensures allowed { IfOk result (λ allowed. allowed ≡ is_none (first_wrong
-        (allows_subtree (search_by gauge.entry) coming.need.above) entries.now marks.now 0)) }
+    ensures lines { OnOk result (walk.new.lines.items ≡ walk.old.lines.items ++
+        marked_lines (subtree_line (search_by gauge.entry) coming) 0 entries.now marks.now) }
+    ensures allowed { IfOk result (λ allowed. allowed ≡
+        is_none (first_wrong (allows_subtree (search_by gauge.entry) coming.need.above) entries.now marks.now 0)) }
     ensures needs { OnOk result (walk.new.needs.items ≡ walk.old.needs.items ++
         comings_of (search_by gauge.entry) coming entries.now marks.now) }
     ensures stack { walk.new.stack.items ≡ walk.old.stack.items }
@@ -109,8 +109,7 @@ fn show_entries(
         node_lines (search_by gauge.entry) coming node.now marks.now) }
     ensures allowed { IfOk result (λ allowed. allowed ≡ is_none
         (first_wrong_in (search_by gauge.entry) coming.need.above node.now marks.now)) }
-    ensures needs { OnOk result (walk.new.needs.items ≡
-        coming_from (search_by gauge.entry) coming node.now marks.now) }
+    ensures needs { OnOk result (walk.new.needs.items ≡ coming_from (search_by gauge.entry) coming node.now marks.now) }
     ensures stack { walk.new.stack.items ≡ walk.old.stack.items }
     ensures counts { walk.new.counts ≡ walk.old.counts }
 {
@@ -182,10 +181,9 @@ pub fn show_node(
     ensures lines { OnOk result (walk.new.lines.items ≡ walk.old.lines.items ++
         node_lines (search_by gauge.entry) coming node.now marks.now) }
     ensures counts { OnOk result (walk.new.counts ≡ with_marks marks.now walk.old.counts) }
-    ensures stack { OnOk result (reverse walk.new.stack.items ≡ (if is_none
-        (first_wrong_in (search_by gauge.entry) coming.need.above node.now marks.now)
-        then coming_from (search_by gauge.entry) coming node.now marks.now ++ reverse walk.old.stack.items
-        else [])) }
+    ensures stack { OnOk result (reverse walk.new.stack.items ≡
+        (if is_none (first_wrong_in (search_by gauge.entry) coming.need.above node.now marks.now)
+        then coming_from (search_by gauge.entry) coming node.now marks.now ++ reverse walk.old.stack.items else [])) }
 {
     let allowed = show_entries(gauge, coming, node, marks, walk)?;
     walk.counts = count_marks(walk.counts, marks);
