@@ -1,5 +1,5 @@
 -- What is shown of a sound log.
-use Rattle.std.specs.Prelude.{◌≡◌, ℕ, true, false, IsTrue, List, length, Option, Some, None}
+use Rattle.std.specs.Prelude.{◌≡◌, ℕ, true, false, IsTrue, length, Option, Some, None}
 use Rattle.metric_laws.specs.Space.{Space}
 use Rattle.metric_laws.specs.Pruning.{gap}
 use Rattle.tree_shape.specs.declared.live.Live.{Live}
@@ -13,7 +13,8 @@ use Rattle.log_model.specs.Counts.{measured}
 use Rattle.log_model.specs.Sound.{IsSoundLog}
 use Rattle.log_model.specs.Walk.{Search, allows_object, allows_subtree, away}
 use Rattle.show_jobs.specs.Frames.{distances, shown_of}
-use Rattle.show_jobs.specs.Reasons.{Reach, exceeds, object_reach, subtree_reach}
+use Rattle.show_jobs.specs.declared.reasons.Reach.{Reach}
+use Rattle.show_jobs.specs.Reasons.{exceeds, object_reach, subtree_reach}
 
 -- the test that a reason shows comes out as its mark says: a skip is known from a distance above
 abbrev pub Holds : Option ℕ → ℕ → ℕ → Reach → Mark → Type 0
