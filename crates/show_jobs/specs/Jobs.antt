@@ -33,7 +33,8 @@ showing what s read live nodes (Ok logs) = record {
   status = if are_sound (log_fault s read live) logs then 0 else 1;
 }
 
--- the number of the tree's nodes, where its walk by child numbers is whole and opens no more pages than the file has
+-- the number of the tree's nodes, where its walk by child numbers is whole; none where no whole walk opens at most as many pages as
+-- the file has
 abbrev pub AreNodes : Read → Live → Option ℕ → Type 0
 AreNodes read live (Some count) = HasNodes (nodes_of read) live count
 AreNodes read live None = ¬ IsToured (nodes_of read) live
