@@ -7,7 +7,8 @@ pub enum DumpFault {
     /// A page gave no node, or the walk of the tree named more pages than there are.
     #[error("{0}")]
     Page(PageFault),
-    /// An object has this id twice, has it though it is not below the number of objects, or has to have it and is not there.
+    /// Two objects have this id, an object has it though it is not below the number of objects, or no object has it. Or its object was
+    /// not there when its page was read again.
     #[error("object {0} is not there once")]
     Id(u32),
 }

@@ -58,7 +58,7 @@ impl Tour {
     }
 
     /// Opens the next page and returns its number and its node. Returns `None` where no page is left. After as many pages as it may
-    /// open, one more is refused unasked, with [`PageFault::Repeats`]. An error ends the walk: it says nothing of a later call.
+    /// open, one more is refused unasked, with [`PageFault::Repeats`]. After an error the walk can't go on.
     pub fn next<P: Pages>(
         &mut self,
         alloc: Global,
