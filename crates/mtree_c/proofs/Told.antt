@@ -154,7 +154,7 @@ module _ (d0 d1 : DiskState) (o0 o1 : SinkState) (file text : List ℕ) (tells :
         no_index = λ is. let n = dumps.not_index is in unopened n.0 n.1 n.2;
         damaged = λ is.
             let d = dumps.damaged is in
-            (d.0, subst (λ (x : List ℕ). IsDumpDamaged x d.0) bytes_are (d.2 tells), told o0 o1 text (fault_text d.0) empty holds none never d.1);
+            (d.0, subst (λ (x : List ℕ). IsDumpDamaged x d.0) bytes_are (d.2 tells).1, told o0 o1 text (fault_text d.0) empty holds none never (d.2 tells).0);
         sound = λ head live is. shaped_sound status ends (dumps.sound tells head live (subst (λ (x : List ℕ). IsSound head live x) (sym bytes_are) is));
         statuses = ends;
       }
