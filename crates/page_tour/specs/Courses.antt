@@ -1,11 +1,13 @@
 -- What a walk by child numbers has done, and what one step of it does.
-use Rattle.std.specs.Prelude.{◌≡◌, ℕ, ◌+◌, ◌<◌, List, [], ◌∷◌, ◌++◌, length}
+use Rattle.std.specs.Prelude.{◌≡◌, ℕ, ◌+◌, ◌<◌, ◌≤◌, IsTrue, List, [], ◌∷◌, ◌++◌, length}
+use Rattle.metric_laws.specs.Counts.{next_count, count_up}
 use Rattle.tree_shape.specs.declared.live.Live.{Live}
 use Rattle.tree_shape.specs.declared.entry.Node.{Node}
 use Rattle.tree_shape.specs.Tree.{Nodes}
 use Rattle.page_store.specs.declared.pages.PageFault.{PageFault}
 use Rattle.page_store.specs.declared.pages.PageFault.TheVariants.{Repeats}
-use Rattle.page_store.specs.Shelf.{Shelf, IsNodeOf, HasPageCause}
+use Rattle.page_store.specs.Reading.{nodes_of}
+use Rattle.page_store.specs.Shelf.{Shelf, HoldsSame, IsNodeOf, HasPageCause}
 use Rattle.page_store.specs.Tours.{Tours, children}
 
 -- a walk: the pages that it has still to open, the next one first; how many it has opened; and how many it may open
@@ -14,25 +16,36 @@ pub record Course : Type 0 where
   pub opened : ℕ
   pub most : ℕ
 
--- the walk opened the next page, which holds the node; the pages that the node names come next
-pub record OpensNext (shelf : Shelf) (old new : Course) (page : ℕ) (node : Node) : Type 0 where
+-- the walk opened the next page, which was asked for once and holds the node; the pages that the node names come next
+pub record OpensNext (before after : Shelf) (old new : Course) (page : ℕ) (node : Node) : Type 0 where
   pub left : List ℕ
   pub next : old.coming ≡ page ∷ left
   pub room : old.opened < old.most
-  pub is : IsNodeOf shelf page node
+  pub is : IsNodeOf before page node
+  pub asked : after.asked ≡ next_count before.asked
   pub new_is : new ≡ record old { coming = children node ++ left; opened = old.opened + 1 }
 
--- why the walk could not open a page: it has opened as many pages as it may, memory ran out, or the page gives no node
+-- why the walk could not open a page: it has opened as many pages as it may, and did not ask for one more; or the page gives no node
 abbrev pub StopsAtPage : Shelf → Shelf → Course → ℕ → PageFault → Type 0
-StopsAtPage old new course page (Repeats p) = (p ≡ page) × (course.opened ≡ course.most)
-StopsAtPage old new course page fault = (course.opened < course.most) × HasPageCause old new page fault
+StopsAtPage before after course page (Repeats p) = (p ≡ page) × (course.opened ≡ course.most) × (after ≡ before)
+StopsAtPage before after course page fault = (course.opened < course.most) × HasPageCause before after page fault
 
--- The walk could not open the next page: the page gives no node, or the walk has opened as many pages as it may.
-pub record StopsNext (old new : Shelf) (course : Course) (fault : PageFault) : Type 0 where
+-- the walk could not open the next page
+pub record StopsNext (before after : Shelf) (course : Course) (fault : PageFault) : Type 0 where
   pub page : ℕ
   pub left : List ℕ
   pub next : course.coming ≡ page ∷ left
-  pub why : StopsAtPage old new course page fault
+  pub why : StopsAtPage before after course page fault
+
+-- a walk of the live tree is on its way: it has opened these pages, asked once for each
+pub record IsOnTour (old now : Shelf) (live : Live) (course : Course) (opened : List ℕ) : Type 0 where
+  pub same : HoldsSame old now
+  pub count : course.opened ≡ length opened
+  pub room : course.opened ≤ course.most
+  pub most : course.most ≡ live.pages
+  pub asked : now.asked ≡ count_up old.asked (length opened)
+  pub reads : now.reads ≤ old.reads + length opened
+  pub walk : IsTrue old.tells → Tours (nodes_of old.read) (live.root ∷ []) opened course.coming
 
 -- the walk of the live tree is whole, and opens `count` pages
 pub record HasNodes (nodes : Nodes) (live : Live) (count : ℕ) : Type 0 where

@@ -1,16 +1,16 @@
-// A walk of a tree by the child numbers in its nodes.
-ghost use Rattle.std.specs.Prelude.{◌≡◌, ◌≤◌, ◌+◌, ◌++◌, [], ◌∷◌, map, reverse, IsTrue, IfOk, IfErr, IfSome, IfNone, OnOk};
+// A walk of a tree by child numbers.
+ghost use Rattle.std.specs.Prelude.{◌≡◌, ◌≤◌, ◌+◌, ◌++◌, [], ◌∷◌, reverse, IsTrue, IfOk, IfErr, IfSome, IfNone, OnOk};
 ghost use Rattle.metric_laws.specs.Space.{Space};
 ghost use Rattle.tree_shape.specs.Tree.{IsSoundTree};
 ghost use Rattle.page_store.specs.Reading.{nodes_of};
 ghost use Rattle.page_store.specs.Shelf.{HoldsSame, IsPassing};
-ghost use Rattle.page_store.specs.Tours.{HasTourCause};
+ghost use Rattle.page_store.specs.Tours.{children, HasTourCause};
 ghost use Rattle.page_tour.specs.Courses.{HasNodes, OpensNext, StopsNext};
 
 use page_store::{Memory, PageFault, Pages, SharedNode};
 use std::alloc::Global;
 use std::marker::Model;
-use tree_shape::{InnerEntry, Live, Node};
+use tree_shape::{Live, Node};
 
 /// A walk in pre-order, in progress. Contracts see the pages that it has still to open, the next one first, how many pages it has
 /// opened, and how many it may open.
@@ -23,20 +23,24 @@ pub struct Tour {
 }
 
 impl Model for Tour {
-    ghost use Rattle.std.specs.Prelude.{reverse};
+    ghost use Rattle.std.specs.Prelude.{◌≤◌, reverse};
     ghost use Rattle.page_tour.specs.Courses.{Course};
 
     ghost Value = { Course };
 
     ghost view = { λ t. record { coming = reverse t.stack.items; opened = t.opened; most = t.most } };
+
+    ghost invariant = { λ t. t.opened ≤ t.most };
 }
 
-// Pushes the children of `entries`, the first one topmost.
-fn put_on_top(stack: &mut Vec<u32>, entries: &[InnerEntry]) -> Result<(), Memory>
-    ensures { OnOk result (reverse stack.new.items ≡ map (λ e. e.child) entries.now ++ reverse stack.old.items) }
+// Pushes the pages that `node` names on the stack, so that the first of them is on top.
+fn push_children(stack: &mut Vec<u32>, node: &Node) -> Result<(), Memory>
+    ensures { OnOk result (reverse stack.new.items ≡ children node.now ++ reverse stack.old.items) }
 {
-    for done in 0..entries.len() {
-        stack.push(entries[entries.len() - 1 - done].child)?;
+    if let Node::Inner { entries, .. } = node {
+        for entry in entries.as_slice().iter().rev() {
+            stack.push(entry.child)?;
+        }
     }
     Ok(())
 }
@@ -54,7 +58,7 @@ impl Tour {
     }
 
     /// Opens the next page and returns its number and its node. Returns `None` where no page is left. After as many pages as it may
-    /// open, one more is refused unasked, with [`PageFault::Repeats`].
+    /// open, one more is refused unasked, with [`PageFault::Repeats`]. An error ends the walk: it says nothing of a later call.
     pub fn next<P: Pages>(
         &mut self,
         alloc: Global,
@@ -64,8 +68,9 @@ impl Tour {
         ensures keeps { P.keeps pages.old pages.new }
         ensures no_fault { OnOk result ((P.shelf pages.new).faults ≡ (P.shelf pages.old).faults) }
         ensures reads { (P.shelf pages.new).reads ≤ (P.shelf pages.old).reads + 1 }
-        ensures ended { IfOk result (λ found. IfNone found ((self.old.coming ≡ []) × (self.new ≡ self.old))) }
-        ensures opened { IfOk result (λ found. IfSome found (λ one. OpensNext (P.shelf pages.old) self.old self.new one.0 one.1)) }
+        ensures ended { IfOk result (λ found. IfNone found ((self.old.coming ≡ []) × (self.new ≡ self.old) × (pages.new ≡ pages.old))) }
+        ensures opened { IfOk result (λ found. IfSome found (λ one.
+            OpensNext (P.shelf pages.old) (P.shelf pages.new) self.old self.new one.0 one.1)) }
         ensures stop { IfErr result (StopsNext (P.shelf pages.old) (P.shelf pages.new) self.old) }
     {
         let Some(page) = self.stack.pop() else {
@@ -74,14 +79,12 @@ impl Tour {
         if self.opened == self.most {
             return Err(PageFault::Repeats(page));
         }
-        let shared = pages.node(alloc, page)?;
-        if let Node::Inner { entries, .. } = shared.as_ref() {
-            if put_on_top(&mut self.stack, entries.as_slice()).is_err() {
-                return Err(PageFault::Memory);
-            }
+        let node = pages.node(alloc, page)?;
+        if push_children(&mut self.stack, node.as_ref()).is_err() {
+            return Err(PageFault::Memory);
         }
         self.opened += 1;
-        Ok(Some((page, shared)))
+        Ok(Some((page, node)))
     }
 }
 

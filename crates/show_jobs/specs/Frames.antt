@@ -8,7 +8,6 @@ use Rattle.page_store.specs.Reading.{Read}
 use Rattle.log_model.specs.declared.logs.Log.{Log}
 use Rattle.log_model.specs.Grammar.{query_point}
 use Rattle.log_model.specs.Sound.{search_for}
-use Rattle.log_model.specs.Walk.{root_need}
 use Rattle.log_verify.specs.declared.faults.Verdict.{Verdict}
 use Rattle.log_verify.specs.Judged.{log_fault}
 use Rattle.file_jobs.specs.Lines.{or_dash}
@@ -16,7 +15,7 @@ use Rattle.file_jobs.specs.Logs.Lines.{answers_text, frame, verdict_text}
 use Rattle.show_jobs.specs.declared.report.Marks.{Marks}
 use Rattle.show_jobs.specs.declared.report.Marks.TheVariants as marks
 use Rattle.show_jobs.specs.declared.shown.Counts.{Counts}
-use Rattle.show_jobs.specs.Walks.{Shown, nothing_shown, shown}
+use Rattle.show_jobs.specs.Walks.{Shown, nothing_shown, root_coming, shown}
 
 -- ` accepted`, or ` rejected` with the log's first fault
 abbrev pub verdict_words : Option Verdict → List ℕ
@@ -49,15 +48,21 @@ names_tree s live log = (log.generation == live.generation) && ((log.root == liv
 -- what is shown of a log's walk; nothing where the log names another tree, or its point is not one of the space
 abbrev pub shown_of : Space → Read → Live → Log → Shown
 shown_of s read live log =
-    if names_tree s live log then shown (search_for s log.query log.answers) read (record { need = root_need live.root; depth = 0 } ∷ []) log.records
+    if names_tree s live log then shown (search_for s log.query log.answers) read (root_coming live.root ∷ []) log.records
     else nothing_shown
 
--- the text on the log of frame i, in a tree of `nodes` nodes
+-- whether a log is accepted, and its query and its answers
+abbrev pub frame_head : ℕ → Log → Option Verdict → List ℕ
+frame_head i log why = frame i ++ verdict_words why ++ line_end ++ answers_text log.query log.answers
+
+-- the text on the log of frame i with its first fault, and with what is shown of its walk in a tree of `nodes` nodes
+abbrev pub frame_words : Marks → Option ℕ → ℕ → Log → Option Verdict → Shown → List ℕ
+frame_words marks.Each nodes i log why walk = frame_head i log why ++ walk.lines ++ opened_line nodes walk.counts
+frame_words marks.Count nodes i log why walk = count_line i nodes walk.counts why
+
+-- the text on the log of frame i
 abbrev pub frame_text : Marks → Space → Read → Live → Option ℕ → ℕ → Log → List ℕ
-frame_text marks.Each s read live nodes i log =
-    frame i ++ verdict_words (log_fault s read live log) ++ line_end ++ answers_text log.query log.answers ++ (shown_of s read live log).lines
-    ++ opened_line nodes (shown_of s read live log).counts
-frame_text marks.Count s read live nodes i log = count_line i nodes (shown_of s read live log).counts (log_fault s read live log)
+frame_text what s read live nodes i log = frame_words what nodes i log (log_fault s read live log) (shown_of s read live log)
 
 -- the texts on logs, where the first stands in frame i
 abbrev pub frame_texts : Marks → Space → Read → Live → Option ℕ → ℕ → List Log → List (List ℕ)

@@ -8,6 +8,7 @@ use Rattle.tree_shape.specs.declared.live.Live.{Live}
 use Rattle.node_page.specs.declared.head.Head.{Head}
 use Rattle.node_page.specs.Opening.{OpensTo}
 use Rattle.page_store.specs.Reading.{Read, nodes_of}
+use Rattle.page_store.specs.Tours.{IsToured}
 use Rattle.page_tour.specs.Courses.{HasNodes}
 use Rattle.log_model.specs.declared.logs.Log.{Log}
 use Rattle.log_verify.specs.Judged.{log_fault}
@@ -26,17 +27,15 @@ use Rattle.show_jobs.specs.Frames.{frame_texts, head_texts}
 -- what is said of bytes that were read as logs, or that have a fault
 abbrev pub showing : Marks → Space → Read → Live → Option ℕ → Result (List Log) LogFault → Saying
 showing what s read live nodes (Err why) = record { texts = undecoded_text why ∷ []; status = 1 }
-showing what s read live nodes (Ok logs) =
-    let sound = are_sound (log_fault s read live) logs in
-    record {
-      texts = head_texts what ++ frame_texts what s read live nodes 0 logs ++ end_text report.Verdicts sound ∷ [];
-      status = if sound then 0 else 1;
-    }
+showing what s read live nodes (Ok logs) = record {
+  texts = head_texts what ++ frame_texts what s read live nodes 0 logs ++ end_text report.Verdicts (are_sound (log_fault s read live) logs) ∷ [];
+  status = if are_sound (log_fault s read live) logs then 0 else 1;
+}
 
--- the number of the tree's nodes, where it can be walked by its child numbers
+-- the number of the tree's nodes, where its walk by child numbers is whole and opens no more pages than the file has
 abbrev pub AreNodes : Read → Live → Option ℕ → Type 0
 AreNodes read live (Some count) = HasNodes (nodes_of read) live count
-AreNodes read live None = (count : ℕ) → ¬ HasNodes (nodes_of read) live count
+AreNodes read live None = ¬ IsToured (nodes_of read) live
 
 -- what is said about a file that opens and the bytes of its logs
 pub record Shows (what : Marks) (file bytes : List ℕ) (said : Saying) : Type 0 where

@@ -13,7 +13,8 @@ use Rattle.log_model.specs.Counts.{measured}
 use Rattle.log_model.specs.Sound.{IsSoundLog}
 use Rattle.log_model.specs.Walk.{Search, allows_object, allows_subtree, away}
 use Rattle.show_jobs.specs.Frames.{distances, shown_of}
-use Rattle.show_jobs.specs.Reasons.{Reach, exceeds, object_reach, subtree_reach}
+use Rattle.show_jobs.specs.declared.reasons.Reach.{Reach}
+use Rattle.show_jobs.specs.Reasons.{exceeds, object_reach, subtree_reach}
 
 -- the test that a reason shows comes out as its mark says: a skip is known from a distance above
 abbrev pub Holds : Option ℕ → ℕ → ℕ → Reach → Mark → Type 0

@@ -7,11 +7,7 @@ use Rattle.log_model.specs.declared.marks.Mark.TheVariants.{Skip, Far, Near}
 use Rattle.log_model.specs.Walk.{Search, allows_object, allows_subtree, away}
 use Rattle.tree_shape.specs.declared.entry.LeafEntry.{LeafEntry}
 use Rattle.tree_shape.specs.declared.entry.InnerEntry.{InnerEntry}
-
--- what a distance is compared with: the radius that prunes, and the covering radius of a subtree; an object has none
-pub record Reach : Type 0 where
-  pub rho : ℕ
-  pub radius : Option ℕ
+use Rattle.show_jobs.specs.declared.reasons.Reach.{Reach}
 
 -- an object's radius is 0
 abbrev pub radius_or_zero : Option ℕ → ℕ

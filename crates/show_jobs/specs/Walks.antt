@@ -12,9 +12,8 @@ use Rattle.page_store.specs.Reading.{Read}
 use Rattle.log_model.specs.declared.marks.Mark.{Mark}
 use Rattle.log_model.specs.declared.marks.Mark.TheVariants.{Skip, Far, Near}
 use Rattle.log_model.specs.declared.marks.Record.{Record}
-use Rattle.log_model.specs.declared.marks.Need.{Need}
 use Rattle.log_model.specs.Counts.{entry_count}
-use Rattle.log_model.specs.Walk.{Search, needs_of}
+use Rattle.log_model.specs.Walk.{Search, near_ones, need_of, root_need}
 use Rattle.log_verify.specs.Judged.{first_wrong_in}
 use Rattle.show_jobs.specs.declared.shown.Coming.{Coming}
 use Rattle.show_jobs.specs.declared.shown.Counts.{Counts}
@@ -93,17 +92,35 @@ with_marks marks counts = record {
 abbrev pub node_then : List ℕ → List Mark → Shown → Shown
 node_then lines marks rest = record { lines = lines ++ rest.lines; counts = with_marks marks rest.counts }
 
--- the pages that a node's marks need, one step deeper
-abbrev pub coming_from : Search → Coming → Node → List Mark → List Coming
-coming_from f c node marks = map (λ need. record { need = need; depth = c.depth + 1 }) (needs_of f node marks)
+abbrev pub root_coming : ℕ → Coming
+root_coming page = record { need = root_need page; depth = 0 }
 
--- the record of a page with its node; the walk goes on where each mark is allowed
-abbrev pub shown_on : Search → Coming → List Mark → Result Node PageFault → (Node → Shown) → Shown
-shown_on f c marks (Err fault) rest = nothing_shown
-shown_on f c marks (Ok node) rest =
-    if length marks == entry_count node
-    then node_then (node_lines f c node marks) marks (if is_none (first_wrong_in f c.need.above node marks) then rest node else nothing_shown)
-    else nothing_shown
+-- a page that a subtree marked Near needs, one step deeper
+abbrev pub coming_of : Search → Coming → InnerEntry → Coming
+coming_of f c e = record { need = need_of f e; depth = c.depth + 1 }
+
+abbrev pub comings_of : Search → Coming → List InnerEntry → List Mark → List Coming
+comings_of f c es marks = map (coming_of f c) (near_ones es marks)
+
+-- the pages that a node's marks need
+abbrev pub coming_from : Search → Coming → Node → List Mark → List Coming
+coming_from f c (Leaf es) marks = []
+coming_from f c (Inner level es) marks = comings_of f c es marks
+
+-- the node with which a record agrees: there is one mark for each entry
+abbrev pub node_marked : List Mark → Result Node PageFault → Option Node
+node_marked marks (Err fault) = None
+node_marked marks (Ok node) = if length marks == entry_count node then Some node else None
+
+-- the node of a needed page, where the record names the page and agrees with its node
+abbrev pub node_told : Read → ℕ → Record → Option Node
+node_told read page r = if r.page == page then node_marked r.marks (read page) else None
+
+-- a record's node and the rest of the walk, which goes on where each mark is allowed
+abbrev pub shown_on : Search → Coming → List Mark → Option Node → (Node → Shown) → Shown
+shown_on f c marks None rest = nothing_shown
+shown_on f c marks (Some node) rest =
+    node_then (node_lines f c node marks) marks (if is_none (first_wrong_in f c.need.above node marks) then rest node else nothing_shown)
 
 -- What is shown of the records of a log, as far as they lead: each names the next page that is needed, the page holds a node, and there
 -- is one mark for each entry. A node with a mark that is not allowed is the last.
@@ -111,6 +128,4 @@ abbrev pub shown : Search → Read → List Coming → List Record → Shown
 shown f read [] rs = nothing_shown
 shown f read (c ∷ cs) [] = nothing_shown
 shown f read (c ∷ cs) (r ∷ rs) =
-    if r.page == c.need.page
-    then shown_on f c r.marks (read c.need.page) (λ node. shown f read (coming_from f c node r.marks ++ cs) rs)
-    else nothing_shown
+    shown_on f c r.marks (node_told read c.need.page r) (λ node. shown f read (coming_from f c node r.marks ++ cs) rs)

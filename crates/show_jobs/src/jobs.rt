@@ -1,8 +1,48 @@
 // The job `show`, from its devices to its status.
 ghost use Rattle.std.specs.Prelude.{◌≡◌, ◌≤◌};
 ghost use Rattle.outside_io.specs.Causes.{Rose};
-ghost use Rattle.file_jobs.specs.Logs.Jobs.{IsLogStatus};
-ghost use Rattle.show_jobs.specs.Jobs.{ShowsLogs};
+ghost use Rattle.file_jobs.specs.Logs.Jobs.{IsJudgeStatus, IsLogStatus};
+ghost use Rattle.show_jobs.specs.Jobs.{ShowsBytes, ShowsLogs};
+
+use crate::Marks;
+use crate::opened::{Docket, count_opened, show_opened};
+use disk_model::Disk;
+use file_jobs::logs::{end_stopped, read_logs};
+use file_jobs::open_index;
+use outside_io::{Sink, Source, Status};
+use std::alloc::Global;
+
+// Says what there is to say about an index and the bytes of its logs.
+fn show_index<D: Disk, K: Sink>(
+    alloc: Global,
+    marks: Marks,
+    index: &mut D,
+    bytes: &[u8],
+    out: &mut K,
+) -> Status
+    ensures shows { ShowsBytes marks (D.state index.old) (D.state index.new) bytes.now (K.state out.old) (K.state out.new) result.0 }
+    ensures statuses { IsJudgeStatus result.0 }
+    ensures output { result.0 ≡ 4 → Rose (K.state out.old).faults (K.state out.new).faults }
+    ensures later { (K.state out.old).faults ≤ (K.state out.new).faults }
+{
+    let opened = match open_index(index, out) {
+        Ok(opened) => opened,
+        Err(status) => return status,
+    };
+    let nodes = match count_opened(alloc, index, &opened) {
+        Ok(nodes) => nodes,
+        Err(why) => return end_stopped(why, out),
+    };
+    let docket = Docket {
+        marks,
+        nodes,
+        bytes,
+    };
+    match show_opened(alloc, &docket, index, &opened, out) {
+        Ok(status) => status,
+        Err(why) => end_stopped(why, out),
+    }
+}
 
 /// Shows the logs of `log_in`, each as a walk of the index: whether it is accepted, or its first fault; its query and its answers; and
 /// then each opened node, in pre-order and indented by its depth, with a line for each entry: its place, the child's page or the
@@ -24,5 +64,8 @@ pub fn show_logs<D: Disk, S: Source, K: Sink>(
     ensures output { result.0 ≡ 4 → Rose (K.state out.old).faults (K.state out.new).faults }
     ensures counts { (S.faults log_in.old ≤ S.faults log_in.new) × ((K.state out.old).faults ≤ (K.state out.new).faults) }
 {
-    todo!()
+    match read_logs(alloc, log_in, out) {
+        Ok(bytes) => show_index(alloc, marks, index, &bytes, out),
+        Err(status) => status,
+    }
 }

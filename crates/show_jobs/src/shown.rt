@@ -21,3 +21,16 @@ pub struct Counts {
     /// How many entries were not ruled out.
     pub nears: u64,
 }
+
+/// A walk along the records of a log, in progress.
+#[derive(Drop)]
+pub struct Walk {
+    /// The lines so far.
+    pub lines: Vec<u8>,
+    /// The counts so far.
+    pub counts: Counts,
+    /// The pages that are still to come, the next one last.
+    pub stack: Vec<Coming>,
+    /// Room for the pages that one node needs.
+    pub needs: Vec<Coming>,
+}

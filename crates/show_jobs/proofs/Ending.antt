@@ -1,0 +1,61 @@
+-- What is said about an opened file, by what was put.
+use Rattle.std.proofs.Common.{◌≡◌, ◌⊎◌, inl, ℕ, List, Option, Some, None, Err, refl, sym, subst, arith}
+use Rattle.std.specs.Prelude.{◌≤◌, IsTrue, IsErrOf, codes}
+use Rattle.outside_io.specs.Sinks.{SinkState, Tells}
+use Rattle.disk_model.specs.Disk.{DiskState, IsUnchanged}
+use Rattle.tree_shape.specs.declared.live.Live.{Live}
+use Rattle.node_page.specs.declared.head.Head.{Head}
+use Rattle.node_page.specs.Opening.{OpensTo}
+use Rattle.prune_log.specs.Reading.{log_at, frames_at}
+use Rattle.file_jobs.specs.Spaces.{space_of}
+use Rattle.file_jobs.specs.declared.logs.stop.Stop.{Stop}
+use Rattle.file_jobs.specs.declared.logs.stop.Stop.TheVariants as stop
+use Rattle.file_jobs.specs.Logs.Files.{read_of}
+use Rattle.file_jobs.specs.Logs.Sayings.{Saying}
+use Rattle.file_jobs.specs.Logs.Jobs.{JudgesBytes, Puts, Stops, Writes}
+use Rattle.file_jobs.proofs.Published.{judged_late, judged_none, said_all, said_some}
+use Rattle.show_jobs.specs.declared.report.Marks.{Marks}
+use Rattle.show_jobs.specs.Jobs.{AreNodes, WritesShown, showing}
+
+abbrev pub said_of : Marks → List ℕ → List ℕ → Head → Live → Option ℕ → Saying
+said_of what file bytes head live nodes = showing what (space_of head) (read_of file head live) live nodes (frames_at log_at bytes)
+
+module _ (what : Marks) (d0 d1 d2 : DiskState) (bytes : List ℕ) (head : Head) (live : Live) (nodes : Option ℕ) (opening : IsUnchanged d0 d1) (counting : IsUnchanged d1 d2)
+    (opens : IsTrue d0.tells → OpensTo d0.bytes head live) (version : head.version ≡ 2) (nodes_are : IsTrue d1.tells → AreNodes (read_of d1.bytes head live) live nodes) where
+  -- what was said on the file of the second state is said on that of the first
+  said_first : (status : ℕ) (w0 w1 : SinkState) → (IsTrue d2.tells → Writes status (said_of what d2.bytes bytes head live nodes) w0 w1) → WritesShown what d0 bytes w0 w1 status
+  said_first status w0 w1 writes tells =
+      let tells1 : IsTrue d1.tells = subst IsTrue (sym opening.same_tells) tells in
+      let tells2 : IsTrue d2.tells = subst IsTrue (sym counting.same_tells) tells1 in (
+        said_of what d0.bytes bytes head live nodes,
+        record {
+          head = head;
+          live = live;
+          opens = opens tells;
+          version = version;
+          nodes = nodes;
+          nodes_are = subst (λ (file : List ℕ). AreNodes (read_of file head live) live nodes) opening.same_bytes (nodes_are tells1);
+          said_is = refl;
+        },
+        subst (λ (file : List ℕ). Writes status (said_of what file bytes head live nodes) w0 w1) opening.same_bytes
+            (subst (λ (file : List ℕ). Writes status (said_of what file bytes head live nodes) w0 w1) counting.same_bytes (writes tells2)),
+      )
+
+  -- all was said
+  pub shows_all : (w0 w1 : SinkState) (status : ℕ) → (status ≡ 0) ⊎ (status ≡ 1)
+      → (IsTrue d2.tells → Puts (said_of what d2.bytes bytes head live nodes).texts w0.written w1.written None) → (IsTrue d2.tells → status ≡ (said_of what d2.bytes bytes head live nodes).status)
+      → WritesShown what d0 bytes w0 w1 status
+  shows_all w0 w1 status either puts is = said_first status w0 w1 (λ tells. said_all (said_of what d2.bytes bytes head live nodes) w0 w1 status either (is tells) (puts tells))
+
+  -- it stopped before
+  pub shows_some : (w0 w1 w2 : SinkState) (status : ℕ) (why : Stop) → w0.faults ≤ w1.faults
+      → (IsTrue d2.tells → Puts (said_of what d2.bytes bytes head live nodes).texts w0.written w1.written (Some why)) → Stops why w1 w2 status → WritesShown what d0 bytes w0 w2 status
+  shows_some w0 w1 w2 status why later puts ends = said_first status w0 w2 (λ tells. said_some (said_of what d2.bytes bytes head live nodes) w0 w1 w2 status why later (puts tells) ends)
+
+-- it stopped before anything was put
+pub stopped_early : {A : Type 0} (Unchanged Says Failed : Type 0) (IsNoIndex : List ℕ → Type 0) (unchanged : Unchanged) (why : Stop) (w0 w1 : SinkState) (status : ℕ) → Stops why w0 w1 status
+    → (IsErrOf {T = A} {E = Stop} (Err why) stop.Sink → ⊥) → (why ≡ stop.Disk → Failed) → JudgesBytes Unchanged Says Failed IsNoIndex w0 w1 status
+stopped_early Unchanged Says Failed IsNoIndex unchanged stop.Sink w0 w1 status ends not_sink failed = absurd (not_sink refl)
+stopped_early Unchanged Says Failed IsNoIndex unchanged stop.Disk w0 w1 status ends not_sink failed =
+    judged_none Unchanged Says Failed IsNoIndex unchanged w0 w1 status (inl ends.0) (λ is. (failed refl, ends.1)) (λ is. absurd (let no : ⊥ = omega (arith, ends.0, is) in no))
+stopped_early Unchanged Says Failed IsNoIndex unchanged stop.Memory w0 w1 status ends not_sink failed = judged_late Unchanged Says Failed IsNoIndex unchanged w0 w1 status ends.0 ends.1

@@ -1,0 +1,172 @@
+// The line of an entry, and the test of its mark.
+ghost use Rattle.std.specs.Prelude.{◌≡◌, ◌++◌, ◌+◌, ◌<◌, ◌^◌, OnOk, IfOk, decimal};
+ghost use Rattle.fault_lines.specs.Lines.{numbered};
+ghost use Rattle.rows_text.specs.Texts.{space};
+ghost use Rattle.log_model.specs.declared.marks.Mark.TheVariants.{Skip, Near};
+ghost use Rattle.log_model.specs.Walk.{allows_object, allows_subtree, away};
+ghost use Rattle.show_jobs.specs.Walks.{indent, object_line, subtree_line};
+ghost use Rattle.show_jobs.specs.Steps.{search_in};
+
+use crate::reasons::push_reason;
+use crate::{Coming, Reach};
+use fault_lines::push_numbered;
+use log_model::{Mark, is_ruled_out};
+use metric_laws::{Metric, centre_test};
+use metric_mix::MixSpace;
+use outside_io::Memory;
+use tree_shape::{InnerEntry, LeafEntry};
+
+// What entries are tested by: the space, the query's point, and the radius that prunes.
+#[derive(Clone, Copy)]
+pub struct Gauge<'a> {
+    pub space: MixSpace,
+    pub q: &'a [u32],
+    pub rho: u64,
+}
+
+// The test of a mark.
+#[derive(Clone, Copy)]
+pub struct Tested {
+    // Whether the mark is allowed.
+    pub allowed: bool,
+    // The distance of the entry from the query's point, and 0 where the entry is marked Skip.
+    pub dist: u64,
+}
+
+// Appends two blanks for each step.
+pub fn push_indent(depth: u32, out: &mut Vec<u8>) -> Result<(), Memory>
+    ensures { OnOk result (out.new.items ≡ out.old.items ++ indent depth) }
+{
+    for _step in 0..depth {
+        out.extend_from_slice(b"  ")?;
+    }
+    Ok(())
+}
+
+// Appends the place of an entry, a word and a number.
+fn push_place(
+    depth: u32,
+    place: u64,
+    word: &[u8],
+    number: u32,
+    out: &mut Vec<u8>,
+) -> Result<(), Memory>
+    ensures { OnOk result
+        (out.new.items ≡ out.old.items ++ (indent depth ++ decimal place ++ numbered word.now number ++ space)) }
+{
+    push_indent(depth, out)?;
+    push_numbered(b"", place, out)?;
+    push_numbered(word, u64::from(number), out)?;
+    out.extend_from_slice(b" ")
+}
+
+// Tests the mark of an object.
+fn test_object(gauge: Gauge, above: Option<u64>, entry: &LeafEntry, mark: Mark) -> Tested
+    ensures allowed { result.allowed ≡ allows_object (search_in gauge.entry.space gauge.entry.q.now gauge.entry.rho) above entry.now mark }
+    ensures dist { (mark ≡ Skip → ⊥) →
+        result.dist ≡ away (search_in gauge.entry.space gauge.entry.q.now gauge.entry.rho) entry.now.point }
+{
+    let point = entry.point.as_slice();
+    match mark {
+        Mark::Skip => Tested {
+            allowed: is_ruled_out(above, entry.parent, gauge.rho, 0),
+            dist: 0,
+        },
+        Mark::Far => {
+            let dist = gauge.space.dist(point, gauge.q);
+            Tested {
+                allowed: centre_test(dist, gauge.rho, 0),
+                dist,
+            }
+        }
+        Mark::Near => {
+            let dist = gauge.space.dist(point, gauge.q);
+            Tested {
+                allowed: dist <= gauge.rho,
+                dist,
+            }
+        }
+    }
+}
+
+// Tests the mark of a subtree.
+fn test_subtree(gauge: Gauge, above: Option<u64>, entry: &InnerEntry, mark: Mark) -> Tested
+    ensures allowed { result.allowed ≡ allows_subtree (search_in gauge.entry.space gauge.entry.q.now gauge.entry.rho) above entry.now mark }
+    ensures dist { (mark ≡ Skip → ⊥) →
+        result.dist ≡ away (search_in gauge.entry.space gauge.entry.q.now gauge.entry.rho) entry.now.point }
+{
+    let point = entry.point.as_slice();
+    match mark {
+        Mark::Skip => Tested {
+            allowed: is_ruled_out(above, entry.parent, gauge.rho, entry.radius),
+            dist: 0,
+        },
+        Mark::Far => {
+            let dist = gauge.space.dist(point, gauge.q);
+            Tested {
+                allowed: centre_test(dist, gauge.rho, entry.radius),
+                dist,
+            }
+        }
+        Mark::Near => Tested {
+            allowed: true,
+            dist: gauge.space.dist(point, gauge.q),
+        },
+    }
+}
+
+// Appends the line of an object, and returns whether its mark is allowed.
+pub fn show_object(
+    gauge: Gauge,
+    coming: Coming,
+    place: u64,
+    entry: &LeafEntry,
+    mark: Mark,
+    out: &mut Vec<u8>,
+) -> Result<bool, Memory>
+    requires { coming.depth + 1 < 2 ^ 32 }
+    ensures line { OnOk result (out.new.items ≡ out.old.items ++
+        object_line (search_in gauge.entry.space gauge.entry.q.now gauge.entry.rho) coming place entry.now mark) }
+    ensures allowed { IfOk result (λ allowed. allowed ≡
+        allows_object (search_in gauge.entry.space gauge.entry.q.now gauge.entry.rho) coming.need.above entry.now mark) }
+{
+    let above = coming.need.above;
+    let tested = test_object(gauge, above, entry, mark);
+    let reach = Reach {
+        rho: gauge.rho,
+        radius: None,
+    };
+    push_place(coming.depth + 1, place, b" object ", entry.id, out)?;
+    push_reason(above, entry.parent, tested.dist, reach, mark, out)?;
+    out.extend_from_slice(b"\n")?;
+    Ok(tested.allowed)
+}
+
+// Appends the line of a subtree, and returns the test of its mark.
+pub fn show_subtree(
+    gauge: Gauge,
+    coming: Coming,
+    place: u64,
+    entry: &InnerEntry,
+    mark: Mark,
+    out: &mut Vec<u8>,
+) -> Result<Tested, Memory>
+    requires { coming.depth + 1 < 2 ^ 32 }
+    ensures line { OnOk result (out.new.items ≡ out.old.items ++
+        subtree_line (search_in gauge.entry.space gauge.entry.q.now gauge.entry.rho) coming place entry.now mark) }
+    ensures allowed { IfOk result (λ tested. tested.allowed ≡
+        allows_subtree (search_in gauge.entry.space gauge.entry.q.now gauge.entry.rho) coming.need.above entry.now mark) }
+    ensures dist { IfOk result (λ tested. mark ≡ Near →
+        tested.dist ≡ away (search_in gauge.entry.space gauge.entry.q.now gauge.entry.rho) entry.now.point) }
+{
+    let above = coming.need.above;
+    let tested = test_subtree(gauge, above, entry, mark);
+    let reach = Reach {
+        rho: gauge.rho,
+        radius: Some(entry.radius),
+    };
+    push_place(coming.depth + 1, place, b" child ", entry.child, out)?;
+    push_reason(above, entry.parent, tested.dist, reach, mark, out)?;
+    out.extend_from_slice(b"\n")?;
+    Ok(tested)
+}
