@@ -1,7 +1,7 @@
 -- What is said about an opened file, by what was put.
-use Rattle.std.proofs.Common.{◌≡◌, ◌⊎◌, inl, ℕ, List, Option, Some, None, Err, refl, sym, subst, arith}
-use Rattle.std.specs.Prelude.{◌≤◌, IsTrue, IsErrOf, codes}
-use Rattle.outside_io.specs.Sinks.{SinkState, Tells}
+use Rattle.std.proofs.Common.{◌≡◌, ◌⊎◌, ℕ, List, Option, Some, None, refl, sym, subst}
+use Rattle.std.specs.Prelude.{◌≤◌, IsTrue}
+use Rattle.outside_io.specs.Sinks.{SinkState}
 use Rattle.disk_model.specs.Disk.{DiskState, IsUnchanged}
 use Rattle.tree_shape.specs.declared.live.Live.{Live}
 use Rattle.node_page.specs.declared.head.Head.{Head}
@@ -9,11 +9,10 @@ use Rattle.node_page.specs.Opening.{OpensTo}
 use Rattle.prune_log.specs.Reading.{log_at, frames_at}
 use Rattle.file_jobs.specs.Spaces.{space_of}
 use Rattle.file_jobs.specs.declared.logs.stop.Stop.{Stop}
-use Rattle.file_jobs.specs.declared.logs.stop.Stop.TheVariants as stop
 use Rattle.file_jobs.specs.Logs.Files.{read_of}
 use Rattle.file_jobs.specs.Logs.Sayings.{Saying}
-use Rattle.file_jobs.specs.Logs.Jobs.{JudgesBytes, Puts, Stops, Writes}
-use Rattle.file_jobs.proofs.Published.{judged_late, judged_none, said_all, said_some}
+use Rattle.file_jobs.specs.Logs.Jobs.{Puts, Stops, Writes}
+use Rattle.file_jobs.proofs.Published.{said_all, said_some}
 use Rattle.show_jobs.specs.declared.report.Marks.{Marks}
 use Rattle.show_jobs.specs.Jobs.{AreNodes, WritesShown, showing}
 
@@ -51,11 +50,3 @@ module _ (what : Marks) (d0 d1 d2 : DiskState) (bytes : List ℕ) (head : Head) 
   pub shows_some : (w0 w1 w2 : SinkState) (status : ℕ) (why : Stop) → w0.faults ≤ w1.faults
       → (IsTrue d2.tells → Puts (said_of what d2.bytes bytes head live nodes).texts w0.written w1.written (Some why)) → Stops why w1 w2 status → WritesShown what d0 bytes w0 w2 status
   shows_some w0 w1 w2 status why later puts ends = said_first status w0 w2 (λ tells. said_some (said_of what d2.bytes bytes head live nodes) w0 w1 w2 status why later (puts tells) ends)
-
--- it stopped before anything was put
-pub stopped_early : {A : Type 0} (Unchanged Says Failed : Type 0) (IsNoIndex : List ℕ → Type 0) (unchanged : Unchanged) (why : Stop) (w0 w1 : SinkState) (status : ℕ) → Stops why w0 w1 status
-    → (IsErrOf {T = A} {E = Stop} (Err why) stop.Sink → ⊥) → (why ≡ stop.Disk → Failed) → JudgesBytes Unchanged Says Failed IsNoIndex w0 w1 status
-stopped_early Unchanged Says Failed IsNoIndex unchanged stop.Sink w0 w1 status ends not_sink failed = absurd (not_sink refl)
-stopped_early Unchanged Says Failed IsNoIndex unchanged stop.Disk w0 w1 status ends not_sink failed =
-    judged_none Unchanged Says Failed IsNoIndex unchanged w0 w1 status (inl ends.0) (λ is. (failed refl, ends.1)) (λ is. absurd (let no : ⊥ = omega (arith, ends.0, is) in no))
-stopped_early Unchanged Says Failed IsNoIndex unchanged stop.Memory w0 w1 status ends not_sink failed = judged_late Unchanged Says Failed IsNoIndex unchanged w0 w1 status ends.0 ends.1

@@ -1,7 +1,6 @@
 -- The counts of a walk fit 64 bits.
-use Rattle.std.proofs.Common.{◌≡◌, ◌⊎◌, ⊎_elim, ℕ, zero, suc, ◌+◌, ◌*◌, ◌^◌, ◌<◌, ◌≤◌, List, [], ◌∷◌, length, drop, get_or, sym, ap, subst, ◌∙◌, arith}
+use Rattle.std.proofs.Common.{◌≡◌, ◌⊎◌, ⊎_elim, ℕ, zero, suc, ◌+◌, ◌*◌, ◌^◌, ◌<◌, ◌≤◌, List, [], ◌∷◌, length, get_or, sym, subst, arith}
 use Rattle.std.specs.List.{AllByRecursion}
-use Rattle.std.proofs.lemmas.List.{drop_more}
 use Rattle.log_model.specs.declared.marks.Mark.{Mark}
 use Rattle.log_model.specs.declared.marks.Mark.TheVariants.{Skip, Far, Near}
 use Rattle.log_model.specs.declared.marks.Record.{Record}
@@ -9,16 +8,12 @@ use Rattle.show_jobs.specs.declared.shown.Counts.{Counts}
 use Rattle.show_jobs.specs.Walks.{fars_in, nears_in, skips_in, with_marks}
 use Rattle.show_jobs.specs.Steps.{AreSmall}
 
--- mark i, and the marks behind it
-pub at_mark : (marks : List Mark) (i : ℕ) (m : Mark) → i < length marks → m ≡ get_or marks i m → drop i marks ≡ m ∷ drop (i + 1) marks
-at_mark marks i m low is = drop_more marks i m low ∙ ap (λ (x : Mark). x ∷ drop (i + 1) marks) (sym is)
-
-record AreBelow (marks : List Mark) : Type 0 where
+pub record AreBelow (marks : List Mark) : Type 0 where
   pub skips : skips_in marks ≤ length marks
   pub fars : fars_in marks ≤ length marks
   pub nears : nears_in marks ≤ length marks
 
-each_below : (marks : List Mark) → AreBelow marks
+pub each_below : (marks : List Mark) → AreBelow marks
 each_below [] = record { skips = omega arith; fars = omega arith; nears = omega arith }
 each_below (Skip ∷ marks) = let deep = each_below marks in record { skips = omega (arith, deep.skips); fars = omega (arith, deep.fars); nears = omega (arith, deep.nears) }
 each_below (Far ∷ marks) = let deep = each_below marks in record { skips = omega (arith, deep.skips); fars = omega (arith, deep.fars); nears = omega (arith, deep.nears) }

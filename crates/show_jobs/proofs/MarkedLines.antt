@@ -1,5 +1,5 @@
 -- One entry more of a node.
-use Rattle.std.proofs.Common.{◌≡◌, ℕ, zero, suc, ◌+◌, ◌<◌, ◌&&◌, Bool, true, false, Option, Some, List, [], ◌∷◌, ◌++◌, length, map, drop, get_or, refl, sym, ap, ◌∙◌, arith, append_assoc}
+use Rattle.std.proofs.Common.{◌≡◌, ℕ, zero, suc, ◌+◌, ◌<◌, ◌&&◌, Bool, true, false, Option, Some, List, [], ◌∷◌, ◌++◌, length, drop, get_or, refl, sym, ap, ◌∙◌, arith, append_assoc}
 use Rattle.std.specs.Prelude.{if◌then◌else◌, codes}
 use Rattle.std.specs.Option.{is_none}
 use Rattle.std.proofs.lemmas.List.{drop_more}
@@ -8,9 +8,7 @@ use Rattle.log_model.specs.declared.marks.Mark.{Mark}
 use Rattle.log_model.specs.declared.marks.Mark.TheVariants.{Skip, Far, Near}
 use Rattle.log_model.specs.Walk.{Search, away, near_ones}
 use Rattle.log_verify.specs.Judged.{first_wrong}
-use Rattle.show_jobs.specs.declared.reasons.Reach.{Reach}
 use Rattle.show_jobs.specs.declared.shown.Coming.{Coming}
-use Rattle.show_jobs.specs.Reasons.{reason_text}
 use Rattle.show_jobs.specs.Walks.{coming_of, comings_of, indent, marked_lines}
 
 -- ---- blanks
@@ -22,19 +20,6 @@ blanks_turn (suc depth) = ap (λ (l : List ℕ). codes "  " ++ l) (blanks_turn d
 -- one step more
 pub indent_more : (depth : ℕ) → indent (depth + 1) ≡ indent depth ++ codes "  "
 indent_more depth = ap indent (let e : depth + 1 ≡ suc depth = omega arith in e) ∙ blanks_turn depth
-
--- ---- reasons
-
--- no skipped entry shows its distance
-pub reason_same : (above : Option ℕ) (stored one other : ℕ) (reach : Reach) (m : Mark) → ((m ≡ Skip → ⊥) → one ≡ other) → reason_text above stored one reach m ≡ reason_text above stored other reach m
-reason_same above stored one other reach Skip same = refl
-reason_same above stored one other reach Far same = ap (λ (d : ℕ). reason_text above stored d reach Far) (same (λ e. cc))
-reason_same above stored one other reach Near same = ap (λ (d : ℕ). reason_text above stored d reach Near) (same (λ e. cc))
-
--- the line of an entry, piece by piece
-pub entry_written : (out0 out1 out2 out3 place reason shown : List ℕ) → out1 ≡ out0 ++ place → out2 ≡ out1 ++ reason → out3 ≡ out2 ++ 10 ∷ [] → reason ≡ shown → out3 ≡ out0 ++ ((place ++ shown) ++ 10 ∷ [])
-entry_written out0 out1 out2 out3 place reason shown one two three same =
-    three ∙ ap (λ (l : List ℕ). l ++ 10 ∷ []) (two ∙ ap (λ (l : List ℕ). l ++ reason) one ∙ append_assoc out0 place reason ∙ ap (λ (l : List ℕ). out0 ++ (place ++ l)) same) ∙ append_assoc out0 (place ++ shown) (10 ∷ [])
 
 -- ---- a loop over entries
 

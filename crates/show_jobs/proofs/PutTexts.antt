@@ -19,9 +19,6 @@ none_put w texts stop.Memory other = record { put = []; more = texts; middle = w
 pub memory_put : (w : Option (List ℕ)) (texts : List (List ℕ)) → Puts texts w w (Some stop.Memory)
 memory_put w texts = record { put = []; more = texts; middle = w; whole = refl; written = Appends-nil w; follows = refl }
 
-pub empty_put : (w : Option (List ℕ)) → Puts [] w w None
-empty_put w = record { put = []; more = []; middle = w; whole = refl; written = Appends-nil w; follows = (refl, refl) }
-
 -- the first of these texts are put, and these are still to come
 pub record HasPut (texts more : List (List ℕ)) (w0 w1 : Option (List ℕ)) : Type 0 where
   pub put : List (List ℕ)
@@ -75,10 +72,6 @@ stopped_put texts others w0 w1 why puts = record {
   written = puts.written;
   follows = follows_more why puts.more others puts.middle w1 puts.follows;
 }
-
--- all are put
-pub ended : (texts : List (List ℕ)) (w0 w1 : Option (List ℕ)) → HasPut texts [] w0 w1 → Puts texts w0 w1 None
-ended texts w0 w1 before = record { put = before.put; more = []; middle = w1; whole = before.whole; written = before.written; follows = (refl, refl) }
 
 -- these are put, and then others
 pub both_put : (texts others : List (List ℕ)) (w0 w1 w2 : Option (List ℕ)) (why : Option Stop) → Puts texts w0 w1 None → Puts others w1 w2 why → Puts (texts ++ others) w0 w2 why

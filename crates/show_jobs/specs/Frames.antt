@@ -29,7 +29,8 @@ distances counts = counts.fars + counts.nears
 -- `opened N of M nodes, K distances`, with a dash for M where the tree can't be walked
 abbrev pub opened_line : Option ℕ → Counts → List ℕ
 opened_line nodes counts =
-    numbered (codes "opened ") counts.opened ++ codes " of " ++ or_dash decimal nodes ++ numbered (codes " nodes, ") (distances counts) ++ codes " distances\n"
+    numbered (codes "opened ") counts.opened ++ codes " of " ++ or_dash decimal nodes ++ numbered (codes " nodes, ") (distances counts)
+    ++ codes " distances\n"
 
 -- `FRAME OPENED NODES SKIP FAR NEAR DISTANCES VERDICT`
 abbrev pub count_line : ℕ → Option ℕ → Counts → Option Verdict → List ℕ
@@ -67,7 +68,8 @@ frame_text what s read live nodes i log = frame_words what nodes i log (log_faul
 -- the texts on logs, where the first stands in frame i
 abbrev pub frame_texts : Marks → Space → Read → Live → Option ℕ → ℕ → List Log → List (List ℕ)
 frame_texts what s read live nodes i [] = []
-frame_texts what s read live nodes i (log ∷ logs) = frame_text what s read live nodes i log ∷ frame_texts what s read live nodes (i + 1) logs
+frame_texts what s read live nodes i (log ∷ logs) =
+    frame_text what s read live nodes i log ∷ frame_texts what s read live nodes (i + 1) logs
 
 -- what stands above the texts on logs
 abbrev pub head_texts : Marks → List (List ℕ)

@@ -28,11 +28,13 @@ use Rattle.show_jobs.specs.Frames.{frame_texts, head_texts}
 abbrev pub showing : Marks → Space → Read → Live → Option ℕ → Result (List Log) LogFault → Saying
 showing what s read live nodes (Err why) = record { texts = undecoded_text why ∷ []; status = 1 }
 showing what s read live nodes (Ok logs) = record {
-  texts = head_texts what ++ frame_texts what s read live nodes 0 logs ++ end_text report.Verdicts (are_sound (log_fault s read live) logs) ∷ [];
+  texts = head_texts what ++ frame_texts what s read live nodes 0 logs
+      ++ end_text report.Verdicts (are_sound (log_fault s read live) logs) ∷ [];
   status = if are_sound (log_fault s read live) logs then 0 else 1;
 }
 
--- the number of the tree's nodes, where its walk by child numbers is whole and opens no more pages than the file has
+-- the number of the tree's nodes, where its walk by child numbers is whole; none where no whole walk opens at most as many pages as
+-- the file has
 abbrev pub AreNodes : Read → Live → Option ℕ → Type 0
 AreNodes read live (Some count) = HasNodes (nodes_of read) live count
 AreNodes read live None = ¬ IsToured (nodes_of read) live
@@ -49,7 +51,8 @@ pub record Shows (what : Marks) (file bytes : List ℕ) (said : Saying) : Type 0
 
 -- where the disk tells its bytes, the job said what there is to say about its file and the logs
 abbrev pub WritesShown : Marks → DiskState → List ℕ → SinkState → SinkState → ℕ → Type 0
-WritesShown what disk bytes old new status = IsTrue disk.tells → (said : Saying) × Shows what disk.bytes bytes said × Writes status said old new
+WritesShown what disk bytes old new status =
+    IsTrue disk.tells → (said : Saying) × Shows what disk.bytes bytes said × Writes status said old new
 
 -- what the job does with an index and the bytes of its logs
 abbrev pub ShowsBytes : Marks → DiskState → DiskState → List ℕ → SinkState → SinkState → ℕ → Type 0

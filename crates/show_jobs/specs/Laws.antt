@@ -1,5 +1,5 @@
 -- What is shown of a sound log.
-use Rattle.std.specs.Prelude.{◌≡◌, ℕ, true, false, IsTrue, List, length, Option, Some, None}
+use Rattle.std.specs.Prelude.{◌≡◌, ℕ, true, false, IsTrue, length, Option, Some, None}
 use Rattle.metric_laws.specs.Space.{Space}
 use Rattle.metric_laws.specs.Pruning.{gap}
 use Rattle.tree_shape.specs.declared.live.Live.{Live}

@@ -1,10 +1,10 @@
 -- The reason of a mark, with its numbers.
-use Rattle.std.specs.Prelude.{◌≡◌, ℕ, ◌+◌, Bool, true, false, IsTrue, List, ◌++◌, codes, decimal, Option, Some, None, if◌then◌else◌, nat_lt}
+use Rattle.std.specs.Prelude.{ℕ, ◌+◌, Bool, true, false, List, ◌++◌, codes, decimal, Option, Some, None, nat_lt}
 use Rattle.fault_lines.specs.Lines.{numbered}
 use Rattle.metric_laws.specs.Pruning.{gap}
 use Rattle.log_model.specs.declared.marks.Mark.{Mark}
 use Rattle.log_model.specs.declared.marks.Mark.TheVariants.{Skip, Far, Near}
-use Rattle.log_model.specs.Walk.{Search, allows_object, allows_subtree, away}
+use Rattle.log_model.specs.Walk.{Search, away}
 use Rattle.tree_shape.specs.declared.entry.LeafEntry.{LeafEntry}
 use Rattle.tree_shape.specs.declared.entry.InnerEntry.{InnerEntry}
 use Rattle.show_jobs.specs.declared.reasons.Reach.{Reach}

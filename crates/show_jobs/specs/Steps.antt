@@ -12,6 +12,7 @@ use Rattle.log_verify.specs.Judged.{log_fault}
 use Rattle.log_verify.specs.declared.faults.Verdict.{Verdict}
 use Rattle.prune_log.specs.declared.fault.LogFault.{LogFault}
 use Rattle.file_jobs.specs.Logs.Sayings.{Saying}
+use Rattle.show_jobs.specs.declared.entries.Gauge.{Gauge}
 use Rattle.show_jobs.specs.declared.shown.Coming.{Coming}
 use Rattle.show_jobs.specs.declared.shown.Counts.{Counts}
 use Rattle.show_jobs.specs.declared.view.View.{View}
@@ -26,9 +27,9 @@ use Rattle.show_jobs.specs.Walks.{Shown}
 abbrev pub space_in : MixSpace → Space
 space_in m = mix_space (mix_kind m) (mix_dim m)
 
--- a search in the space of a value
-abbrev pub search_in : MixSpace → List ℕ → ℕ → Search
-search_in m q rho = search_at (space_in m) q rho
+-- the search of a gauge
+abbrev pub search_by : Gauge → Search
+search_by gauge = search_at (space_in gauge.space) gauge.q.now gauge.rho
 
 -- counts that 64 bits hold
 abbrev pub AreSmall : Counts → Type 0

@@ -1,5 +1,5 @@
 -- The walk of a log, as its lines: the nodes that were opened, in pre-order, and the reason of each mark.
-use Rattle.std.specs.Prelude.{ℕ, zero, suc, ◌+◌, Bool, List, [], ◌∷◌, ◌++◌, length, map, codes, decimal, Option, Some, None, Result, Ok, Err, if◌then◌else◌, ◌==◌}
+use Rattle.std.specs.Prelude.{ℕ, zero, suc, ◌+◌, List, [], ◌∷◌, ◌++◌, length, map, codes, decimal, Option, Some, None, Result, Ok, Err, if◌then◌else◌, ◌==◌}
 use Rattle.std.specs.Option.{is_none}
 use Rattle.fault_lines.specs.Lines.{numbered}
 use Rattle.rows_text.specs.Texts.{line_end, space}

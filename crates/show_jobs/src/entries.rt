@@ -5,7 +5,7 @@ ghost use Rattle.rows_text.specs.Texts.{space};
 ghost use Rattle.log_model.specs.declared.marks.Mark.TheVariants.{Skip, Near};
 ghost use Rattle.log_model.specs.Walk.{allows_object, allows_subtree, away};
 ghost use Rattle.show_jobs.specs.Walks.{indent, object_line, subtree_line};
-ghost use Rattle.show_jobs.specs.Steps.{search_in};
+ghost use Rattle.show_jobs.specs.Steps.{search_by};
 
 use crate::reasons::push_reason;
 use crate::{Coming, Reach};
@@ -16,11 +16,14 @@ use metric_mix::MixSpace;
 use outside_io::Memory;
 use tree_shape::{InnerEntry, LeafEntry};
 
-// What entries are tested by: the space, the query's point, and the radius that prunes.
+// What entries are tested by.
 #[derive(Clone, Copy)]
 pub struct Gauge<'a> {
+    // The space.
     pub space: MixSpace,
+    // The query's point.
     pub q: &'a [u32],
+    // The radius that prunes.
     pub rho: u64,
 }
 
@@ -33,7 +36,7 @@ pub struct Tested {
     pub dist: u64,
 }
 
-// Appends two blanks for each step.
+/// Appends two blanks for each step.
 pub fn push_indent(depth: u32, out: &mut Vec<u8>) -> Result<(), Memory>
     ensures { OnOk result (out.new.items ≡ out.old.items ++ indent depth) }
 {
@@ -43,8 +46,8 @@ pub fn push_indent(depth: u32, out: &mut Vec<u8>) -> Result<(), Memory>
     Ok(())
 }
 
-// Appends the place of an entry, a word and a number.
-fn push_place(
+/// Appends the place of an entry, a word and a number.
+pub fn push_place(
     depth: u32,
     place: u64,
     word: &[u8],
@@ -62,9 +65,8 @@ fn push_place(
 
 // Tests the mark of an object.
 fn test_object(gauge: Gauge, above: Option<u64>, entry: &LeafEntry, mark: Mark) -> Tested
-    ensures allowed { result.allowed ≡ allows_object (search_in gauge.entry.space gauge.entry.q.now gauge.entry.rho) above entry.now mark }
-    ensures dist { (mark ≡ Skip → ⊥) →
-        result.dist ≡ away (search_in gauge.entry.space gauge.entry.q.now gauge.entry.rho) entry.now.point }
+    ensures allowed { result.allowed ≡ allows_object (search_by gauge.entry) above entry.now mark }
+    ensures dist { (mark ≡ Skip → ⊥) → result.dist ≡ away (search_by gauge.entry) entry.now.point }
 {
     let point = entry.point.as_slice();
     match mark {
@@ -91,9 +93,8 @@ fn test_object(gauge: Gauge, above: Option<u64>, entry: &LeafEntry, mark: Mark) 
 
 // Tests the mark of a subtree.
 fn test_subtree(gauge: Gauge, above: Option<u64>, entry: &InnerEntry, mark: Mark) -> Tested
-    ensures allowed { result.allowed ≡ allows_subtree (search_in gauge.entry.space gauge.entry.q.now gauge.entry.rho) above entry.now mark }
-    ensures dist { (mark ≡ Skip → ⊥) →
-        result.dist ≡ away (search_in gauge.entry.space gauge.entry.q.now gauge.entry.rho) entry.now.point }
+    ensures allowed { result.allowed ≡ allows_subtree (search_by gauge.entry) above entry.now mark }
+    ensures dist { (mark ≡ Skip → ⊥) → result.dist ≡ away (search_by gauge.entry) entry.now.point }
 {
     let point = entry.point.as_slice();
     match mark {
@@ -126,9 +127,9 @@ pub fn show_object(
 ) -> Result<bool, Memory>
     requires { coming.depth + 1 < 2 ^ 32 }
     ensures line { OnOk result (out.new.items ≡ out.old.items ++
-        object_line (search_in gauge.entry.space gauge.entry.q.now gauge.entry.rho) coming place entry.now mark) }
+        object_line (search_by gauge.entry) coming place entry.now mark) }
     ensures allowed { IfOk result (λ allowed. allowed ≡
-        allows_object (search_in gauge.entry.space gauge.entry.q.now gauge.entry.rho) coming.need.above entry.now mark) }
+        allows_object (search_by gauge.entry) coming.need.above entry.now mark) }
 {
     let above = coming.need.above;
     let tested = test_object(gauge, above, entry, mark);
@@ -153,11 +154,10 @@ pub fn show_subtree(
 ) -> Result<Tested, Memory>
     requires { coming.depth + 1 < 2 ^ 32 }
     ensures line { OnOk result (out.new.items ≡ out.old.items ++
-        subtree_line (search_in gauge.entry.space gauge.entry.q.now gauge.entry.rho) coming place entry.now mark) }
+        subtree_line (search_by gauge.entry) coming place entry.now mark) }
     ensures allowed { IfOk result (λ tested. tested.allowed ≡
-        allows_subtree (search_in gauge.entry.space gauge.entry.q.now gauge.entry.rho) coming.need.above entry.now mark) }
-    ensures dist { IfOk result (λ tested. mark ≡ Near →
-        tested.dist ≡ away (search_in gauge.entry.space gauge.entry.q.now gauge.entry.rho) entry.now.point) }
+        allows_subtree (search_by gauge.entry) coming.need.above entry.now mark) }
+    ensures dist { IfOk result (λ tested. mark ≡ Near → tested.dist ≡ away (search_by gauge.entry) entry.now.point) }
 {
     let above = coming.need.above;
     let tested = test_subtree(gauge, above, entry, mark);

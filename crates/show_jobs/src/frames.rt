@@ -69,12 +69,7 @@ fn judge<P: Pages>(
 }
 
 // Shows the walk of a log. Nothing is shown where it names another tree, or its point is not one of the space.
-fn show_walk<P: Pages>(
-    alloc: Global,
-    view: &View,
-    pages: &mut P,
-    log: &Log,
-) -> Result<Walk, Stop>
+fn show_walk<P: Pages>(alloc: Global, view: &View, pages: &mut P, log: &Log) -> Result<Walk, Stop>
     requires { IsLawfulLog log.now }
     ensures same { HoldsSame (P.shelf pages.old) (P.shelf pages.new) }
     ensures keeps { P.keeps pages.old pages.new }
@@ -162,15 +157,12 @@ fn put_head<K: Sink>(marks: Marks, out: &mut K) -> Result<(), Stop>
 {
     match marks {
         Marks::Each => Ok(()),
-        Marks::Count => put(
-            out,
-            b"frame opened nodes skip far near distances verdict\n",
-        ),
+        Marks::Count => put(out, b"frame opened nodes skip far near distances verdict\n"),
     }
 }
 
-// Returns the line after all frames.
-fn end_text(sound: bool) -> &'static [u8]
+/// Returns the line after all frames.
+pub fn end_text(sound: bool) -> &'static [u8]
     ensures { result.now ≡ end_text Report.Verdicts sound }
 {
     if sound {

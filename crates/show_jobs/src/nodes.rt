@@ -5,7 +5,7 @@ ghost use Rattle.log_model.specs.Counts.{entry_count};
 ghost use Rattle.log_model.specs.Walk.{allows_object, allows_subtree, near_ones};
 ghost use Rattle.log_verify.specs.Judged.{first_wrong, first_wrong_in};
 ghost use Rattle.show_jobs.specs.Walks.{coming_from, comings_of, marked_lines, node_line, node_lines, object_line, subtree_line, with_marks};
-ghost use Rattle.show_jobs.specs.Steps.{AreSmall, search_in};
+ghost use Rattle.show_jobs.specs.Steps.{AreSmall, search_by};
 
 use crate::entries::{Gauge, push_indent, show_object, show_subtree};
 use crate::shown::Walk;
@@ -35,10 +35,10 @@ fn show_leaf(
 ) -> Result<bool, Memory>
     requires long { length marks.now ≡ length entries.now }
     requires deep { coming.depth + 1 < 2 ^ 32 }
-    ensures lines { OnOk result (out.new.items ≡ out.old.items ++ marked_lines
-        (object_line (search_in gauge.entry.space gauge.entry.q.now gauge.entry.rho) coming) 0 entries.now marks.now) }
-    ensures allowed { IfOk result (λ allowed. allowed ≡ is_none (first_wrong
-        (allows_object (search_in gauge.entry.space gauge.entry.q.now gauge.entry.rho) coming.need.above) entries.now marks.now 0)) }
+    ensures lines { OnOk result (out.new.items ≡ out.old.items ++
+        marked_lines (object_line (search_by gauge.entry) coming) 0 entries.now marks.now) }
+    ensures allowed { IfOk result (λ allowed. allowed ≡
+        is_none (first_wrong (allows_object (search_by gauge.entry) coming.need.above) entries.now marks.now 0)) }
 {
     let mut allowed = true;
     for i in 0..entries.len() {
@@ -69,12 +69,12 @@ fn show_inner(
 ) -> Result<bool, Memory>
     requires long { length marks.now ≡ length entries.now }
     requires deep { coming.depth + 1 < 2 ^ 32 }
-    ensures lines { OnOk result (walk.new.lines.items ≡ walk.old.lines.items ++ marked_lines
-        (subtree_line (search_in gauge.entry.space gauge.entry.q.now gauge.entry.rho) coming) 0 entries.now marks.now) }
-    ensures allowed { IfOk result (λ allowed. allowed ≡ is_none (first_wrong
-        (allows_subtree (search_in gauge.entry.space gauge.entry.q.now gauge.entry.rho) coming.need.above) entries.now marks.now 0)) }
+    ensures lines { OnOk result (walk.new.lines.items ≡ walk.old.lines.items ++
+        marked_lines (subtree_line (search_by gauge.entry) coming) 0 entries.now marks.now) }
+    ensures allowed { IfOk result (λ allowed. allowed ≡
+        is_none (first_wrong (allows_subtree (search_by gauge.entry) coming.need.above) entries.now marks.now 0)) }
     ensures needs { OnOk result (walk.new.needs.items ≡ walk.old.needs.items ++
-        comings_of (search_in gauge.entry.space gauge.entry.q.now gauge.entry.rho) coming entries.now marks.now) }
+        comings_of (search_by gauge.entry) coming entries.now marks.now) }
     ensures stack { walk.new.stack.items ≡ walk.old.stack.items }
     ensures counts { walk.new.counts ≡ walk.old.counts }
 {
@@ -106,11 +106,10 @@ fn show_entries(
     requires long { length marks.now ≡ entry_count node.now }
     requires deep { coming.depth + 1 < 2 ^ 32 }
     ensures lines { OnOk result (walk.new.lines.items ≡ walk.old.lines.items ++
-        node_lines (search_in gauge.entry.space gauge.entry.q.now gauge.entry.rho) coming node.now marks.now) }
+        node_lines (search_by gauge.entry) coming node.now marks.now) }
     ensures allowed { IfOk result (λ allowed. allowed ≡ is_none
-        (first_wrong_in (search_in gauge.entry.space gauge.entry.q.now gauge.entry.rho) coming.need.above node.now marks.now)) }
-    ensures needs { OnOk result (walk.new.needs.items ≡
-        coming_from (search_in gauge.entry.space gauge.entry.q.now gauge.entry.rho) coming node.now marks.now) }
+        (first_wrong_in (search_by gauge.entry) coming.need.above node.now marks.now)) }
+    ensures needs { OnOk result (walk.new.needs.items ≡ coming_from (search_by gauge.entry) coming node.now marks.now) }
     ensures stack { walk.new.stack.items ≡ walk.old.stack.items }
     ensures counts { walk.new.counts ≡ walk.old.counts }
 {
@@ -127,8 +126,8 @@ fn show_entries(
     }
 }
 
-// Returns the counts with those of one opened node more.
-fn count_marks(counts: Counts, marks: &[Mark]) -> Counts
+/// Returns the counts with those of one opened node more.
+pub fn count_marks(counts: Counts, marks: &[Mark]) -> Counts
     requires { AreSmall (with_marks marks.now counts) }
     ensures { result ≡ with_marks marks.now counts }
 {
@@ -156,7 +155,8 @@ fn put_on_top(stack: &mut Vec<Coming>, needs: &mut Vec<Coming>) -> Result<(), Me
 
 // Goes on to the pages that the node needs, or ends the walk.
 fn go_on(walk: &mut Walk, goes: bool) -> Result<(), Memory>
-    ensures stack { OnOk result (reverse walk.new.stack.items ≡ (if goes then walk.old.needs.items ++ reverse walk.old.stack.items else [])) }
+    ensures stack { OnOk result (reverse walk.new.stack.items ≡
+        (if goes then walk.old.needs.items ++ reverse walk.old.stack.items else [])) }
     ensures lines { walk.new.lines.items ≡ walk.old.lines.items }
     ensures counts { walk.new.counts ≡ walk.old.counts }
 {
@@ -179,12 +179,11 @@ pub fn show_node(
     requires deep { coming.depth + 1 < 2 ^ 32 }
     requires small { AreSmall (with_marks marks.now walk.old.counts) }
     ensures lines { OnOk result (walk.new.lines.items ≡ walk.old.lines.items ++
-        node_lines (search_in gauge.entry.space gauge.entry.q.now gauge.entry.rho) coming node.now marks.now) }
+        node_lines (search_by gauge.entry) coming node.now marks.now) }
     ensures counts { OnOk result (walk.new.counts ≡ with_marks marks.now walk.old.counts) }
-    ensures stack { OnOk result (reverse walk.new.stack.items ≡ (if is_none
-        (first_wrong_in (search_in gauge.entry.space gauge.entry.q.now gauge.entry.rho) coming.need.above node.now marks.now)
-        then coming_from (search_in gauge.entry.space gauge.entry.q.now gauge.entry.rho) coming node.now marks.now ++ reverse walk.old.stack.items
-        else [])) }
+    ensures stack { OnOk result (reverse walk.new.stack.items ≡
+        (if is_none (first_wrong_in (search_by gauge.entry) coming.need.above node.now marks.now)
+        then coming_from (search_by gauge.entry) coming node.now marks.now ++ reverse walk.old.stack.items else [])) }
 {
     let allowed = show_entries(gauge, coming, node, marks, walk)?;
     walk.counts = count_marks(walk.counts, marks);

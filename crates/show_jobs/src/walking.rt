@@ -6,7 +6,7 @@ ghost use Rattle.page_store.specs.Shelf.{HoldsSame};
 ghost use Rattle.log_model.specs.declared.marks.Record.{Record};
 ghost use Rattle.log_model.specs.Counts.{entry_count};
 ghost use Rattle.show_jobs.specs.Walks.{node_told, none_counted, root_coming, shown, with_marks};
-ghost use Rattle.show_jobs.specs.Steps.{AreSmall, AreUpTo, search_in, shown_then};
+ghost use Rattle.show_jobs.specs.Steps.{AreSmall, AreUpTo, search_by, shown_then};
 
 use crate::entries::Gauge;
 use crate::nodes::show_node;
@@ -97,10 +97,8 @@ fn show_record<P: Pages>(
     ensures same { HoldsSame (P.shelf pages.old) (P.shelf pages.new) }
     ensures keeps { P.keeps pages.old pages.new }
     ensures shown { OnOk result (IsTrue (P.shelf pages.old).tells → (rs : List Record) →
-        shown_then walk.old (shown (search_in gauge.entry.space gauge.entry.q.now gauge.entry.rho)
-        (P.shelf pages.old).read (reverse walk.old.stack.items) (told.now ∷ rs))
-        ≡ shown_then walk.new (shown (search_in gauge.entry.space gauge.entry.q.now gauge.entry.rho)
-        (P.shelf pages.old).read (reverse walk.new.stack.items) rs)) }
+        shown_then walk.old (shown (search_by gauge.entry) (P.shelf pages.old).read (reverse walk.old.stack.items) (told.now ∷ rs))
+        ≡ shown_then walk.new (shown (search_by gauge.entry) (P.shelf pages.old).read (reverse walk.new.stack.items) rs)) }
     ensures depths { OnOk result ((depth : ℕ) → AreUpTo depth (reverse walk.old.stack.items) →
         AreUpTo (depth + 1) (reverse walk.new.stack.items)) }
     ensures counts { OnOk result ((walk.new.counts ≡ walk.old.counts) ⊎ (walk.new.counts ≡ with_marks told.now.marks walk.old.counts)) }
@@ -131,11 +129,9 @@ pub fn show_records<P: Pages>(
     ensures same { HoldsSame (P.shelf pages.old) (P.shelf pages.new) }
     ensures keeps { P.keeps pages.old pages.new }
     ensures lines { IfOk result (λ walk. IsTrue (P.shelf pages.old).tells → walk.lines.items ≡
-        (shown (search_in gauge.entry.space gauge.entry.q.now gauge.entry.rho) (P.shelf pages.old).read
-        (root_coming root ∷ []) records.now).lines) }
+        (shown (search_by gauge.entry) (P.shelf pages.old).read (root_coming root ∷ []) records.now).lines) }
     ensures counts { IfOk result (λ walk. IsTrue (P.shelf pages.old).tells → walk.counts ≡
-        (shown (search_in gauge.entry.space gauge.entry.q.now gauge.entry.rho) (P.shelf pages.old).read
-        (root_coming root ∷ []) records.now).counts) }
+        (shown (search_by gauge.entry) (P.shelf pages.old).read (root_coming root ∷ []) records.now).counts) }
     ensures few { IfOk result (λ walk. walk.counts.fars + walk.counts.nears < 2 ^ 64) }
     ensures disk { IsErrOf result Stop.Disk → Rose (P.shelf pages.old).faults (P.shelf pages.new).faults }
     ensures not_sink { IsErrOf result Stop.Sink → ⊥ }

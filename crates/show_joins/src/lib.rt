@@ -1,11 +1,13 @@
 //! The job `show` with two indexes: each log of their joins as the walk that it tells of, in words.
 #![tactic(auto)]
 
-mod jobs;
+mod entries;
 pub mod laws;
+mod nodes;
 mod reasons;
 mod shown;
+mod view;
+mod walking;
 
-pub use jobs::show_join_logs;
 pub use reasons::PairReach;
 pub use shown::PairComing;

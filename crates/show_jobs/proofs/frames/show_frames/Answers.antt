@@ -1,6 +1,5 @@
 use Rattle.std.proofs.Common.{rules, ◌≡◌, suc, length, ap, refl, arith}
 use Rattle.std.proofs.lemmas.Result.{err_from_is_err_and}
-use Rattle.outside_io.proofs.Published.{rose_before}
 use Rattle.page_store.proofs.Published.{holds_none, holds_both}
 use Rattle.show_jobs.proofs.PutTexts.{begun}
 use Rattle.show_jobs.proofs.Framing.{frame_put, frame_stopped, frame_sound}

@@ -26,8 +26,14 @@ returns-in-Err-show_opened-clause-shows g c =
     let d2 = g.D.Disk.state c.count_opened.new.index in
     let d3 = g.D.Disk.state c.show_opened.new.index in
     let w1 = g.K.Sink.state c.show_opened.new.out in
+    let w2 = g.K.Sink.state c.end_stopped-in-Err-show_opened.new.out in
     let first = c.in-Ok.ensures in
     let counted = c.in-Ok-count_opened.ensures in
     let told = c.in-Err-show_opened.ensures in
     let why = c.in-Err-show_opened.why in
-    ?
+    let r = c.end_stopped-in-Err-show_opened.result.0 in
+    let ends = c.end_stopped-in-Err-show_opened.ensures.ends in
+    judged_some _ _ _ _ (then_unchanged d0 d1 d3 first.same (then_unchanged d1 d2 d3 counted.same told.same)) why _ w1 w2 r ends
+    (shows_some c.args.marks d0 d1 d2 c.args.bytes.now c.in-Ok.opened.0 c.in-Ok.opened.1 c.in-Ok-count_opened.nodes first.same counted.same first.opens first.version counted.nodes
+    (g.K.Sink.state c.args.out.now) w1 w2 r why (rw first.silent at told.later) (rw first.silent at told.puts) ends)
+    (λ is. rose_before d0.faults d1.faults d3.faults first.later (rose_before d1.faults d2.faults d3.faults counted.later (told.disk (ap (λ w. Err w) is))))

@@ -1,12 +1,12 @@
 use Rattle.log_model.specs.Walk.{Search, allows_subtree}
 use Rattle.show_jobs.specs.Walks.{subtree_line}
-use Rattle.show_jobs.specs.Steps.{search_in}
+use Rattle.show_jobs.specs.Steps.{search_by}
 use Rattle.show_jobs.proofs.MarkedLines.{lines_next, allowed_next, needs_next}
 use Rattle.show_jobs.proofs.nodes.show_inner.Goals as goal
 
 pub loop-i-preserved : goal.loop-i-preserved
 loop-i-preserved c =
-    let f : Search = search_in c.args.gauge.space c.args.gauge.q.now c.args.gauge.rho in
+    let f : Search = search_by c.args.gauge in
     let e = c.index-entries-i.result in
     let told = c.in_ok-tested.ensures in
     record {

@@ -1,12 +1,12 @@
 use Rattle.log_model.specs.Walk.{Search, allows_object}
 use Rattle.show_jobs.specs.Walks.{object_line}
-use Rattle.show_jobs.specs.Steps.{search_in}
+use Rattle.show_jobs.specs.Steps.{search_by}
 use Rattle.show_jobs.proofs.MarkedLines.{lines_next, allowed_next}
 use Rattle.show_jobs.proofs.nodes.show_leaf.Goals as goal
 
 pub loop-i-preserved : goal.loop-i-preserved
 loop-i-preserved c =
-    let f : Search = search_in c.args.gauge.space c.args.gauge.q.now c.args.gauge.rho in
+    let f : Search = search_by c.args.gauge in
     let e = c.index-entries-i.result in
     record {
       lines = lines_next (object_line f c.args.coming) c.args.entries.now c.args.marks.now c.loop-i.i e _ _ _ c.loop-i-test.true c.requires.long c.index-entries-i.is c.in_ok-is_allowed.ensures.line c.loop-i.invariant.lines;

@@ -2,7 +2,7 @@ use Rattle.std.proofs.Common.{◌≡◌, [], ◌∷◌, reverse, drop}
 use Rattle.std.specs.Prelude.{IsTrue}
 use Rattle.page_store.specs.Shelf.{HoldsSame}
 use Rattle.show_jobs.specs.Walks.{root_coming, shown}
-use Rattle.show_jobs.specs.Steps.{AreUpTo, search_in, shown_then}
+use Rattle.show_jobs.specs.Steps.{AreUpTo, search_by, shown_then}
 use Rattle.show_jobs.proofs.FewMarks.{AreFew}
 use Rattle.show_jobs.proofs.walking.show_records.Given as goal
 
@@ -14,6 +14,6 @@ invariant-loop-told g l = record {
   depths : AreUpTo l.told-index (reverse l.walk.stack.items);
   few : AreFew l.told-index l.walk.counts;
   way : IsTrue (g.P.Pages.shelf l.fn.pages).tells →
-      shown_then l.walk (shown (search_in l.gauge.space l.gauge.q.now l.gauge.rho) (g.P.Pages.shelf l.fn.pages).read (reverse l.walk.stack.items) (drop l.told-index l.records))
-      ≡ shown (search_in l.gauge.space l.gauge.q.now l.gauge.rho) (g.P.Pages.shelf l.fn.pages).read (root_coming l.root ∷ []) l.records;
+      shown_then l.walk (shown (search_by l.gauge) (g.P.Pages.shelf l.fn.pages).read (reverse l.walk.stack.items) (drop l.told-index l.records))
+      ≡ shown (search_by l.gauge) (g.P.Pages.shelf l.fn.pages).read (root_coming l.root ∷ []) l.records;
 }

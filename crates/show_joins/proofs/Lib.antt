@@ -1,0 +1,3 @@
+pub mod MarkedPairs
+pub mod PairSteps
+pub mod PairWholeness
