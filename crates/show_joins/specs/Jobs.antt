@@ -34,12 +34,16 @@ abbrev pub showing_trees : Marks → Tree → Tree → BothNodes → List ℕ �
 showing_trees what left right nodes bytes =
     showing what (space_of left) (read_of left) (read_of right) left.live right.live nodes (frames_at join_log_at bytes)
 
+-- what is said of two opened files and the bytes of their logs, where the trees have these numbers of nodes
+abbrev pub said_on : Marks → Tree → Tree → BothNodes → List ℕ → Saying
+said_on what left right nodes bytes = if is_one_space left.head right.head then showing_trees what left right nodes bytes else on_spaces
+
 -- what is said of two opened files and the bytes of their logs; where their spaces differ, no nodes are counted
 pub record Shows (what : Marks) (left right : Tree) (bytes : List ℕ) (said : Saying) : Type 0 where
   pub nodes : BothNodes
   pub left_nodes : is_one_space left.head right.head ≡ true → AreNodes (read_of left) left.live nodes.0
   pub right_nodes : is_one_space left.head right.head ≡ true → AreNodes (read_of right) right.live nodes.1
-  pub said_is : said ≡ (if is_one_space left.head right.head then showing_trees what left right nodes bytes else on_spaces)
+  pub said_is : said ≡ said_on what left right nodes bytes
 
 -- where both disks tell their bytes, the job said what there is to say about both files and the logs
 abbrev pub WritesShown : Marks → DiskState → DiskState → List ℕ → SinkState → SinkState → ℕ → Type 0

@@ -49,11 +49,9 @@ shown_then walk rest = record {
   measured = walk.measured + rest.measured;
 }
 
--- a walk has shown all this
-pub record HasShown (walk : PairWalk) (all : PairsShown) : Type 0 where
-  pub lines : walk.lines.items ≡ all.lines
-  pub counts : walk.counts ≡ all.counts
-  pub measured : walk.measured ≡ all.measured
+-- what a walk has shown
+abbrev pub walk_shown : PairWalk → PairsShown
+walk_shown walk = record { lines = walk.lines.items; counts = walk.counts; measured = walk.measured }
 
 -- ---- frames
 

@@ -10,7 +10,7 @@ ghost use Rattle.log_verify.specs.JoinJudged.{is_of};
 ghost use Rattle.show_jobs.specs.Walks.{node_marked, none_counted, with_marks};
 ghost use Rattle.show_jobs.specs.Steps.{AreSmall};
 ghost use Rattle.show_joins.specs.Walks.{coming_at, node_told, shown};
-ghost use Rattle.show_joins.specs.Steps.{AreUpTo, HasShown, HoldBoth, OneRose, search_by, shown_then};
+ghost use Rattle.show_joins.specs.Steps.{AreUpTo, HoldBoth, OneRose, search_by, shown_then, walk_shown};
 
 use crate::PairComing;
 use crate::entries::{PairGauge, PairSearch};
@@ -186,7 +186,7 @@ pub fn show_records<P: Pages, Q: Pages>(
     ensures left_keeps { P.keeps left.old left.new }
     ensures right_keeps { Q.keeps right.old right.new }
     ensures shown { IfOk result (λ walk. IsTrue (P.shelf left.old).tells → IsTrue (Q.shelf right.old).tells →
-        HasShown walk (shown (search_by search) (P.shelf left.old).read (Q.shelf right.old).read (reverse begun.stack.items) records.now)) }
+        walk_shown walk ≡ shown (search_by search) (P.shelf left.old).read (Q.shelf right.old).read (reverse begun.stack.items) records.now) }
     ensures disk { IsErrOf result Stop.Disk → OneRose (P.shelf left.old) (P.shelf left.new) (Q.shelf right.old) (Q.shelf right.new) }
     ensures not_sink { IsErrOf result Stop.Sink → ⊥ }
 {
