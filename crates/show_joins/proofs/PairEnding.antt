@@ -41,16 +41,18 @@ module _ (what : Marks) (d0 d1 d2 e0 e1 e2 : DiskState) (bytes : List ℕ) (l r 
         refl,
         opens t,
         other_opens u,
-        (said_on what (tree_of d0 l) (tree_of e0 r) nodes bytes,
-        record {
-          nodes = nodes;
-          left_nodes = λ one. subst (λ (file : List ℕ). AreNodes (read_of (tree_at file l)) l.1 nodes.0) opening.same_bytes (nodes_are t1 one);
-          right_nodes = λ one. subst (λ (file : List ℕ). AreNodes (read_of (tree_at file r)) r.1 nodes.1) other_opening.same_bytes (other_nodes_are u1 one);
-          said_is = refl;
-        },
-        subst (λ (file : List ℕ). Writes status (said_on what (tree_at file l) (tree_of e0 r) nodes bytes) w0 w1) there
-            (subst (λ (file : List ℕ). Writes status (said_on what (tree_of d2 l) (tree_at file r) nodes bytes) w0 w1) other_there
-            (writes (subst IsTrue (sym counting.same_tells) t1) (subst IsTrue (sym other_counting.same_tells) u1)))),
+        (
+          said_on what (tree_of d0 l) (tree_of e0 r) nodes bytes,
+          record {
+            nodes = nodes;
+            left_nodes = λ one. subst (λ (file : List ℕ). AreNodes (read_of (tree_at file l)) l.1 nodes.0) opening.same_bytes (nodes_are t1 one);
+            right_nodes = λ one. subst (λ (file : List ℕ). AreNodes (read_of (tree_at file r)) r.1 nodes.1) other_opening.same_bytes (other_nodes_are u1 one);
+            said_is = refl;
+          },
+          subst (λ (file : List ℕ). Writes status (said_on what (tree_at file l) (tree_of e0 r) nodes bytes) w0 w1) there
+              (subst (λ (file : List ℕ). Writes status (said_on what (tree_of d2 l) (tree_at file r) nodes bytes) w0 w1) other_there
+              (writes (subst IsTrue (sym counting.same_tells) t1) (subst IsTrue (sym other_counting.same_tells) u1))),
+        ),
       )
 
   -- all was said

@@ -1,5 +1,5 @@
 -- The steps of what is shown of joins.
-use Rattle.std.specs.Prelude.{◌≡◌, ◌⊎◌, ℕ, ◌+◌, ◌≤◌, List, ◌++◌, Option, Result}
+use Rattle.std.specs.Prelude.{◌⊎◌, ℕ, ◌+◌, ◌≤◌, List, ◌++◌, Option, Result}
 use Rattle.std.specs.List.{AllByRecursion}
 use Rattle.outside_io.specs.Causes.{Rose}
 use Rattle.page_store.specs.Reading.{Read}

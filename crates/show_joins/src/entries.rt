@@ -109,7 +109,13 @@ fn test_subtree(gauge: PairGauge, level: u8, entry: &InnerEntry, mark: Mark) -> 
     let point = entry.point.as_slice();
     match mark {
         Mark::Skip => PairTested {
-            allowed: is_skipped(need.apart, entry.parent, gauge.search.rho, entry.radius, reach),
+            allowed: is_skipped(
+                need.apart,
+                entry.parent,
+                gauge.search.rho,
+                entry.radius,
+                reach,
+            ),
             apart: None,
         },
         Mark::Far => {

@@ -104,13 +104,7 @@ fn show_opened<D: Disk, E: Disk, K: Sink>(
     let right_pages = DiskPages::new(other, right.0.dim, right.1.pages);
     let mut left_pages = Cached::from_parts(left_pages, left_kept);
     let mut right_pages = Cached::from_parts(right_pages, right_kept);
-    let shown = show_bytes(
-        &view,
-        &mut left_pages,
-        &mut right_pages,
-        docket.bytes,
-        out,
-    );
+    let shown = show_bytes(&view, &mut left_pages, &mut right_pages, docket.bytes, out);
     let _index = left_pages.into_inner().disk;
     let _other = right_pages.into_inner().disk;
     shown

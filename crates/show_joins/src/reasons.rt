@@ -85,7 +85,10 @@ fn push_parent_test(
             let (own, other) = (radius_or_zero(reach.own), radius_or_zero(reach.other));
             out.extend_from_slice(b"skip ")?;
             push_gap(above, stored, out)?;
-            push_sign(pair_test(above.abs_diff(stored), reach.rho, own, other), out)?;
+            push_sign(
+                pair_test(above.abs_diff(stored), reach.rho, own, other),
+                out,
+            )?;
             push_reach(reach, out)
         }
     }

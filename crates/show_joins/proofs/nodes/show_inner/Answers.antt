@@ -1,9 +1,7 @@
-use Rattle.std.proofs.Common.{ℕ, Bool, List, Option, ◌++◌, ap, refl}
+use Rattle.std.proofs.Common.{ℕ, List, Option, ◌++◌, ap, refl}
 use Rattle.std.specs.Option.{is_none}
-use Rattle.metric_laws.specs.Space.{Space}
-use Rattle.log_model.specs.declared.marks.Mark.{Mark}
 use Rattle.log_model.specs.declared.pairs.JoinNeed.{JoinNeed}
-use Rattle.log_model.specs.JoinWalk.{Entry, JoinSearch, allows_entry, subtree_entry}
+use Rattle.log_model.specs.JoinWalk.{JoinSearch, allows_entry, subtree_entry}
 use Rattle.show_jobs.specs.Steps.{space_in}
 use Rattle.show_jobs.proofs.Published.{allowed_next, lines_next}
 use Rattle.show_joins.specs.Walks.{pair_entry_line}
