@@ -8,12 +8,12 @@ use Rattle.show_jobs.specs.declared.shown.Counts.{Counts}
 use Rattle.show_jobs.specs.Walks.{fars_in, nears_in, skips_in, with_marks}
 use Rattle.show_jobs.specs.Steps.{AreSmall}
 
-record AreBelow (marks : List Mark) : Type 0 where
+pub record AreBelow (marks : List Mark) : Type 0 where
   pub skips : skips_in marks ≤ length marks
   pub fars : fars_in marks ≤ length marks
   pub nears : nears_in marks ≤ length marks
 
-each_below : (marks : List Mark) → AreBelow marks
+pub each_below : (marks : List Mark) → AreBelow marks
 each_below [] = record { skips = omega arith; fars = omega arith; nears = omega arith }
 each_below (Skip ∷ marks) = let deep = each_below marks in record { skips = omega (arith, deep.skips); fars = omega (arith, deep.fars); nears = omega (arith, deep.nears) }
 each_below (Far ∷ marks) = let deep = each_below marks in record { skips = omega (arith, deep.skips); fars = omega (arith, deep.fars); nears = omega (arith, deep.nears) }

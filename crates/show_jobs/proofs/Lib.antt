@@ -6,3 +6,4 @@ pub mod Courses
 pub mod Wholeness
 pub mod Framing
 pub mod Ending
+pub mod Published

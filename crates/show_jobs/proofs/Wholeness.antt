@@ -54,7 +54,7 @@ subtree_holds f (Some above) e Near other allowed = absurd (other refl)
 
 -- ---- the records of a sound log
 
-none_wrong : {X : Type 0} (allows : X → Mark → Bool) (es : List X) (ms : List Mark) (j : ℕ) → AllZip (λ e m. IsTrue (allows e m)) es ms →
+pub none_wrong : {X : Type 0} (allows : X → Mark → Bool) (es : List X) (ms : List Mark) (j : ℕ) → AllZip (λ e m. IsTrue (allows e m)) es ms →
     (length ms ≡ length es) × (first_wrong allows es ms j ≡ None)
 none_wrong allows [] [] j all = (refl, refl)
 none_wrong allows [] (m ∷ ms) j all = absurd all
@@ -67,7 +67,7 @@ marks_fine : (f : Search) (above : Option ℕ) (node : Node) (marks : List Mark)
 marks_fine f above (Leaf es) marks all = none_wrong (allows_object f above) es marks 0 all
 marks_fine f above (Inner level es) marks all = none_wrong (allows_subtree f above) es marks 0 all
 
-ok_from_some : (o : Result Node PageFault) (node : Node) → node_or_none o ≡ Some node → o ≡ Ok node
+pub ok_from_some : (o : Result Node PageFault) (node : Node) → node_or_none o ≡ Some node → o ≡ Ok node
 ok_from_some (Ok m) node is = (let e : m ≡ node = cc in ap Ok e)
 ok_from_some (Err fault) node is = absurd (cc)
 

@@ -36,7 +36,7 @@ pub struct Tested {
     pub dist: u64,
 }
 
-// Appends two blanks for each step.
+/// Appends two blanks for each step.
 pub fn push_indent(depth: u32, out: &mut Vec<u8>) -> Result<(), Memory>
     ensures { OnOk result (out.new.items ≡ out.old.items ++ indent depth) }
 {
@@ -46,8 +46,8 @@ pub fn push_indent(depth: u32, out: &mut Vec<u8>) -> Result<(), Memory>
     Ok(())
 }
 
-// Appends the place of an entry, a word and a number.
-fn push_place(
+/// Appends the place of an entry, a word and a number.
+pub fn push_place(
     depth: u32,
     place: u64,
     word: &[u8],

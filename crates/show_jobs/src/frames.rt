@@ -161,8 +161,8 @@ fn put_head<K: Sink>(marks: Marks, out: &mut K) -> Result<(), Stop>
     }
 }
 
-// Returns the line after all frames.
-fn end_text(sound: bool) -> &'static [u8]
+/// Returns the line after all frames.
+pub fn end_text(sound: bool) -> &'static [u8]
     ensures { result.now ≡ end_text Report.Verdicts sound }
 {
     if sound {

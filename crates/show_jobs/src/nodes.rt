@@ -126,8 +126,8 @@ fn show_entries(
     }
 }
 
-// Returns the counts with those of one opened node more.
-fn count_marks(counts: Counts, marks: &[Mark]) -> Counts
+/// Returns the counts with those of one opened node more.
+pub fn count_marks(counts: Counts, marks: &[Mark]) -> Counts
     requires { AreSmall (with_marks marks.now counts) }
     ensures { result ≡ with_marks marks.now counts }
 {

@@ -56,7 +56,7 @@ fn nodes_in<P: Pages>(alloc: Global, pages: &mut P, live: &Live) -> Result<Optio
     }
 }
 
-// Returns the number of an opened file's nodes, or `None` where the tree can't be walked.
+/// Returns the number of an opened file's nodes, or `None` where the tree can't be walked.
 pub fn count_opened<D: Disk>(
     alloc: Global,
     index: &mut D,

@@ -16,8 +16,8 @@ pub struct Reach {
     pub radius: Option<u64>,
 }
 
-// Returns the covering radius, or 0 where there is none.
-fn radius_or_zero(radius: Option<u64>) -> u64
+/// Returns the covering radius, or 0 where there is none.
+pub fn radius_or_zero(radius: Option<u64>) -> u64
     ensures { result ≡ radius_or_zero radius }
 {
     match radius {
@@ -26,8 +26,8 @@ fn radius_or_zero(radius: Option<u64>) -> u64
     }
 }
 
-// Appends whether a distance is greater.
-fn push_sign(exceeds: bool, out: &mut Vec<u8>) -> Result<(), Memory>
+/// Appends whether a distance is greater.
+pub fn push_sign(exceeds: bool, out: &mut Vec<u8>) -> Result<(), Memory>
     ensures { OnOk result (out.new.items ≡ out.old.items ++ sign exceeds) }
 {
     if exceeds {
@@ -58,8 +58,8 @@ fn push_centre_test(word: &[u8], dist: u64, reach: Reach, out: &mut Vec<u8>) -> 
     push_reach(reach, out)
 }
 
-// Appends the difference of a distance from above and a stored distance.
-fn push_gap(above: u64, stored: u64, out: &mut Vec<u8>) -> Result<(), Memory>
+/// Appends the difference of a distance from above and a stored distance.
+pub fn push_gap(above: u64, stored: u64, out: &mut Vec<u8>) -> Result<(), Memory>
     ensures { OnOk result (out.new.items ≡ out.old.items ++ gap_text above stored) }
 {
     push_numbered(b"|", above, out)?;

@@ -5,7 +5,7 @@ ghost use Rattle.page_store.specs.Shelf.{IsPassing};
 use file_jobs::logs::Stop;
 use page_store::PageFault;
 
-// Stops where the disk failed or memory ran out. Each other fault says that a page holds no node.
+/// Stops where the disk failed or memory ran out. Each other fault says that a page holds no node.
 pub fn stop_at(fault: PageFault) -> Result<(), Stop>
     ensures damage { OnOk result (IsPassing fault → ⊥) }
     ensures disk { IsErrOf result Stop.Disk → fault ≡ PageFault.Disk }

@@ -26,8 +26,8 @@ fn push_judged(fault: Option<Verdict>, out: &mut Vec<u8>) -> Result<(), Memory>
     }
 }
 
-// Appends the number of a tree's nodes, or a dash where there is none.
-fn push_nodes(nodes: Option<u32>, out: &mut Vec<u8>) -> Result<(), Memory>
+/// Appends the number of a tree's nodes, or a dash where there is none.
+pub fn push_nodes(nodes: Option<u32>, out: &mut Vec<u8>) -> Result<(), Memory>
     ensures { OnOk result (out.new.items ≡ out.old.items ++ or_dash decimal nodes) }
 {
     match nodes {

@@ -14,7 +14,7 @@ use Rattle.file_jobs.specs.Logs.Lines.{frame}
 use Rattle.join_jobs.specs.Lines.{join_words, verdict_text}
 use Rattle.show_jobs.specs.declared.report.Marks.{Marks}
 use Rattle.show_jobs.specs.declared.report.Marks.TheVariants as marks
-use Rattle.show_joins.specs.Walks.{PairsShown, nothing_shown, shown}
+use Rattle.show_joins.specs.Walks.{PairsShown, coming_at, nothing_shown, shown}
 
 -- the numbers of the nodes of the two trees, where they can be walked
 abbrev pub BothNodes : Type 0
@@ -44,14 +44,20 @@ count_head = codes "frame opened left right skip far near distances verdict\n"
 -- what is shown of a log's walk; nothing where the log names another tree
 abbrev pub shown_of : Space → Read → Read → Live → Live → JoinLog → PairsShown
 shown_of s left right l r log =
-    if names log.left l && names log.right r then shown (join_at s log.r) left right (record { need = root_pair l r; depth = 0 } ∷ []) log.records else nothing_shown
+    if names log.left l && names log.right r then shown (join_at s log.r) left right (coming_at 0 (root_pair l r) ∷ []) log.records else nothing_shown
 
--- the text on the log of frame i, in trees of `nodes` nodes
+-- whether a log is accepted, and its radius and its answers
+abbrev pub frame_head : ℕ → JoinLog → Option JoinVerdict → List ℕ
+frame_head i log why = frame i ++ verdict_words why ++ line_end ++ join_words.answers log
+
+-- the text on the log of frame i with its first fault, and with what is shown of its walk in trees of `nodes` nodes
+abbrev pub frame_words : Marks → BothNodes → ℕ → JoinLog → Option JoinVerdict → PairsShown → List ℕ
+frame_words marks.Each nodes i log why walk = frame_head i log why ++ walk.lines ++ opened_line nodes walk
+frame_words marks.Count nodes i log why walk = count_line i nodes walk why
+
+-- the text on the log of frame i
 abbrev pub frame_text : Marks → Space → Read → Read → Live → Live → BothNodes → ℕ → JoinLog → List ℕ
-frame_text marks.Each s left right l r nodes i log =
-    frame i ++ verdict_words (join_fault s left right l r log) ++ line_end ++ join_words.answers log ++ (shown_of s left right l r log).lines
-    ++ opened_line nodes (shown_of s left right l r log)
-frame_text marks.Count s left right l r nodes i log = count_line i nodes (shown_of s left right l r log) (join_fault s left right l r log)
+frame_text what s left right l r nodes i log = frame_words what nodes i log (join_fault s left right l r log) (shown_of s left right l r log)
 
 -- the texts on logs, where the first stands in frame i
 abbrev pub frame_texts : Marks → Space → Read → Read → Live → Live → BothNodes → ℕ → List JoinLog → List (List ℕ)

@@ -1,8 +1,12 @@
 -- What the job `show` does and writes with two files, by the status with which it ends.
-use Rattle.std.specs.Prelude.{◌≡◌, ℕ, List, [], ◌∷◌, ◌++◌, Option, Result, Ok, Err, if◌then◌else◌}
+use Rattle.std.specs.Prelude.{◌≡◌, ℕ, true, List, [], ◌∷◌, ◌++◌, Option, Result, Ok, Err, if◌then◌else◌}
 use Rattle.outside_io.specs.Sinks.{SinkState}
 use Rattle.disk_model.specs.Disk.{DiskState, IsUnchanged}
+use Rattle.metric_laws.specs.Space.{Space}
+use Rattle.tree_shape.specs.declared.live.Live.{Live}
+use Rattle.page_store.specs.Reading.{Read}
 use Rattle.log_model.specs.declared.logs.JoinLog.{JoinLog}
+use Rattle.log_verify.specs.JoinJudged.{join_fault}
 use Rattle.prune_log.specs.declared.fault.LogFault.{LogFault}
 use Rattle.prune_log.specs.Reading.{join_log_at, frames_at}
 use Rattle.file_jobs.specs.declared.logs.report.Report.TheVariants as report
@@ -10,28 +14,36 @@ use Rattle.file_jobs.specs.Logs.Lines.{undecoded_text}
 use Rattle.file_jobs.specs.Logs.Sayings.{Saying, are_sound, end_text}
 use Rattle.file_jobs.specs.Logs.Jobs.{JudgesBytes, ReadsLogs, Writes}
 use Rattle.join_jobs.specs.Lines.{on_spaces}
-use Rattle.join_jobs.specs.Trees.{Tree, is_one_space, judge_of, read_of, space_of}
+use Rattle.join_jobs.specs.Trees.{Tree, is_one_space, read_of, space_of}
 use Rattle.join_jobs.specs.Jobs.{EitherRose, IsNoPair, OnTrees}
 use Rattle.show_jobs.specs.declared.report.Marks.{Marks}
 use Rattle.show_jobs.specs.Jobs.{AreNodes}
 use Rattle.show_joins.specs.Frames.{BothNodes, frame_texts, head_texts}
 
--- what is said of bytes that were read as logs of joins of two trees, or that have a fault
-abbrev pub showing : Marks → Tree → Tree → BothNodes → Result (List JoinLog) LogFault → Saying
-showing what left right nodes (Err why) = record { texts = undecoded_text why ∷ []; status = 1 }
-showing what left right nodes (Ok logs) = record {
-  texts = head_texts what
-      ++ frame_texts what (space_of left) (read_of left) (read_of right) left.live right.live nodes 0 logs
-      ++ end_text report.Verdicts (are_sound (judge_of left right) logs) ∷ [];
-  status = if are_sound (judge_of left right) logs then 0 else 1;
+-- what is said of bytes that were read as logs of joins, or that have a fault
+abbrev pub showing : Marks → Space → Read → Read → Live → Live → BothNodes → Result (List JoinLog) LogFault → Saying
+showing what s left right l r nodes (Err why) = record { texts = undecoded_text why ∷ []; status = 1 }
+showing what s left right l r nodes (Ok logs) = record {
+  texts = head_texts what ++ frame_texts what s left right l r nodes 0 logs
+      ++ end_text report.Verdicts (are_sound (join_fault s left right l r) logs) ∷ [];
+  status = if are_sound (join_fault s left right l r) logs then 0 else 1;
 }
 
--- what is said of two opened files and the bytes of their logs
+-- what is said of two trees of one space and the bytes of their logs
+abbrev pub showing_trees : Marks → Tree → Tree → BothNodes → List ℕ → Saying
+showing_trees what left right nodes bytes =
+    showing what (space_of left) (read_of left) (read_of right) left.live right.live nodes (frames_at join_log_at bytes)
+
+-- what is said of two opened files and the bytes of their logs, where the trees have these numbers of nodes
+abbrev pub said_on : Marks → Tree → Tree → BothNodes → List ℕ → Saying
+said_on what left right nodes bytes = if is_one_space left.head right.head then showing_trees what left right nodes bytes else on_spaces
+
+-- what is said of two opened files and the bytes of their logs; where their spaces differ, no nodes are counted
 pub record Shows (what : Marks) (left right : Tree) (bytes : List ℕ) (said : Saying) : Type 0 where
   pub nodes : BothNodes
-  pub left_nodes : AreNodes (read_of left) left.live nodes.0
-  pub right_nodes : AreNodes (read_of right) right.live nodes.1
-  pub said_is : said ≡ (if is_one_space left.head right.head then showing what left right nodes (frames_at join_log_at bytes) else on_spaces)
+  pub left_nodes : is_one_space left.head right.head ≡ true → AreNodes (read_of left) left.live nodes.0
+  pub right_nodes : is_one_space left.head right.head ≡ true → AreNodes (read_of right) right.live nodes.1
+  pub said_is : said ≡ said_on what left right nodes bytes
 
 -- where both disks tell their bytes, the job said what there is to say about both files and the logs
 abbrev pub WritesShown : Marks → DiskState → DiskState → List ℕ → SinkState → SinkState → ℕ → Type 0

@@ -44,7 +44,11 @@ pair_reach j n e = record { rho = j.rho; own = item_radius e.item; other = item_
 
 -- The mark of an entry with the numbers of its test. Skip: the distance of the two items, less the stored distance of the entry, or the
 -- other way round. Far and Near: the distance of the entry from the other item.
+abbrev pub reason_text : Option ℕ → ℕ → Option ℕ → PairReach → Mark → List ℕ
+reason_text above stored apart reach Skip = parent_text above stored reach
+reason_text above stored apart reach Far = centre_text (codes "far") apart reach
+reason_text above stored apart reach Near = centre_text (codes "near") apart reach
+
+-- the reason of an entry's mark
 abbrev pub pair_reason : JoinSearch → JoinNeed → Entry → Mark → List ℕ
-pair_reason j n e Skip = parent_text n.apart e.stored (pair_reach j n e)
-pair_reason j n e Far = centre_text (codes "far") (with_entry j.space n e).apart (pair_reach j n e)
-pair_reason j n e Near = centre_text (codes "near") (with_entry j.space n e).apart (pair_reach j n e)
+pair_reason j n e mark = reason_text n.apart e.stored (with_entry j.space n e).apart (pair_reach j n e) mark

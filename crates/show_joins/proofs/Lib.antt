@@ -1,0 +1,6 @@
+pub mod MarkedPairs
+pub mod PairSteps
+pub mod PairWholeness
+pub mod PairFraming
+pub mod PairEnding
+pub mod PairTexts
