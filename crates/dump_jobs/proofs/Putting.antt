@@ -122,7 +122,7 @@ text_done (Err e) now new text left put none faults = tt
 
 -- ---- the rows of a tree
 
--- rows of the tree, of which these are the first
+-- the rows of the tree, whose front these are
 pub record Completes (shelf : Shelf) (live : Live) (front : List Row) : Type 0 where
   pub rows : List Row
   pub rest : List Row

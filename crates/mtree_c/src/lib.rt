@@ -18,9 +18,7 @@ pub use describing::{
     Description, mtree_describe, mtree_dump, mtree_seal, mtree_shape, mtree_stats,
 };
 pub use each::{mtree_nearest_each, mtree_range_each};
-pub use judging::{
-    RootDigest, mtree_audit, mtree_check, mtree_proof, mtree_show, mtree_verify,
-};
+pub use judging::{RootDigest, mtree_audit, mtree_check, mtree_proof, mtree_show, mtree_verify};
 
 /// The query can't be answered: a point is not in the file's space, the points have another size, or none of the nearest are asked for.
 pub(crate) const NO_QUERY: u8 = 2;

@@ -68,7 +68,11 @@ fn new_head(space: SpaceName, policies: PolicyNames, limit: u32) -> Head
 fn marks_of(counts_only: bool) -> Marks
     ensures { result ≡ marks_of counts_only }
 {
-    if counts_only { Marks::Count } else { Marks::Each }
+    if counts_only {
+        Marks::Count
+    } else {
+        Marks::Each
+    }
 }
 
 /// Does the job of the words after the program's name, and returns the status.
@@ -199,14 +203,7 @@ pub fn run<R: Threads + Sync, D: SharedDisk, E: Disk, S: Source, L: Source, K: S
                 counts_only,
                 ..
             },
-        ) => show_join_logs(
-            alloc,
-            marks_of(counts_only),
-            index,
-            other,
-            log_in,
-            out,
-        ),
+        ) => show_join_logs(alloc, marks_of(counts_only), index, other, log_in, out),
         Ok(Job::Audit { workers, .. }) => audit_index_by(rt, alloc, index, workers, out),
         Ok(Job::Verify { other: None, .. }) => verify_logs(alloc, index, log_in, out),
         Ok(Job::Check { other: None, .. }) => check_logs(alloc, index, log_in, out),
