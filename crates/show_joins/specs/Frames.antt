@@ -35,7 +35,8 @@ opened_line nodes walk =
 abbrev pub count_line : ℕ → BothNodes → PairsShown → Option JoinVerdict → List ℕ
 count_line i nodes walk why =
     decimal i ++ numbered space walk.counts.opened ++ space ++ or_dash decimal nodes.0 ++ space ++ or_dash decimal nodes.1
-    ++ numbered space walk.counts.skips ++ numbered space walk.counts.fars ++ numbered space walk.counts.nears ++ numbered space walk.measured ++ verdict_words why ++ line_end
+    ++ numbered space walk.counts.skips ++ numbered space walk.counts.fars ++ numbered space walk.counts.nears
+    ++ numbered space walk.measured ++ verdict_words why ++ line_end
 
 -- the words above the lines of counts
 abbrev pub count_head : List ℕ

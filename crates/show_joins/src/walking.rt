@@ -1,5 +1,6 @@
 // Walks along the records of a join's log, as far as they lead, and shows each node.
-ghost use Rattle.std.specs.Prelude.{◌≡◌, ◌⊎◌, ◌+◌, ◌-◌, ◌<◌, ◌≤◌, ◌^◌, ℕ, List, [], ◌∷◌, length, reverse, IsTrue, IfOk, IfSome, IsErrOf, OnOk};
+ghost use Rattle.std.specs.Prelude.{◌≡◌, ◌⊎◌, ◌+◌, ◌-◌, ◌<◌, ◌≤◌, ◌^◌, ℕ, List, [], ◌∷◌, length, reverse};
+ghost use Rattle.std.specs.Prelude.{IsTrue, IfOk, IfSome, IsErrOf, OnOk};
 ghost use Rattle.std.specs.List.{AllByRecursion};
 ghost use Rattle.outside_io.specs.Causes.{Rose};
 ghost use Rattle.page_store.specs.Shelf.{HoldsSame};
