@@ -28,14 +28,15 @@ verdict_words (Some why) = codes " rejected " ++ verdict_text why
 -- `opened N nodes of trees with M and M, K distances`, with a dash for M where a tree can't be walked
 abbrev pub opened_line : BothNodes → PairsShown → List ℕ
 opened_line nodes walk =
-    numbered (codes "opened ") walk.counts.opened ++ codes " nodes of trees with " ++ or_dash decimal nodes.0 ++ codes " and " ++ or_dash decimal nodes.1
-    ++ numbered (codes ", ") walk.measured ++ codes " distances\n"
+    numbered (codes "opened ") walk.counts.opened ++ codes " nodes of trees with " ++ or_dash decimal nodes.0 ++ codes " and "
+    ++ or_dash decimal nodes.1 ++ numbered (codes ", ") walk.measured ++ codes " distances\n"
 
 -- `FRAME OPENED LEFT RIGHT SKIP FAR NEAR DISTANCES VERDICT`
 abbrev pub count_line : ℕ → BothNodes → PairsShown → Option JoinVerdict → List ℕ
 count_line i nodes walk why =
-    decimal i ++ numbered space walk.counts.opened ++ space ++ or_dash decimal nodes.0 ++ space ++ or_dash decimal nodes.1 ++ numbered space walk.counts.skips
-    ++ numbered space walk.counts.fars ++ numbered space walk.counts.nears ++ numbered space walk.measured ++ verdict_words why ++ line_end
+    decimal i ++ numbered space walk.counts.opened ++ space ++ or_dash decimal nodes.0 ++ space ++ or_dash decimal nodes.1
+    ++ numbered space walk.counts.skips ++ numbered space walk.counts.fars ++ numbered space walk.counts.nears
+    ++ numbered space walk.measured ++ verdict_words why ++ line_end
 
 -- the words above the lines of counts
 abbrev pub count_head : List ℕ
@@ -44,7 +45,8 @@ count_head = codes "frame opened left right skip far near distances verdict\n"
 -- what is shown of a log's walk; nothing where the log names another tree
 abbrev pub shown_of : Space → Read → Read → Live → Live → JoinLog → PairsShown
 shown_of s left right l r log =
-    if names log.left l && names log.right r then shown (join_at s log.r) left right (coming_at 0 (root_pair l r) ∷ []) log.records else nothing_shown
+    if names log.left l && names log.right r
+    then shown (join_at s log.r) left right (coming_at 0 (root_pair l r) ∷ []) log.records else nothing_shown
 
 -- whether a log is accepted, and its radius and its answers
 abbrev pub frame_head : ℕ → JoinLog → Option JoinVerdict → List ℕ
@@ -57,7 +59,8 @@ frame_words marks.Count nodes i log why walk = count_line i nodes walk why
 
 -- the text on the log of frame i
 abbrev pub frame_text : Marks → Space → Read → Read → Live → Live → BothNodes → ℕ → JoinLog → List ℕ
-frame_text what s left right l r nodes i log = frame_words what nodes i log (join_fault s left right l r log) (shown_of s left right l r log)
+frame_text what s left right l r nodes i log =
+    frame_words what nodes i log (join_fault s left right l r log) (shown_of s left right l r log)
 
 -- the texts on logs, where the first stands in frame i
 abbrev pub frame_texts : Marks → Space → Read → Read → Live → Live → BothNodes → ℕ → List JoinLog → List (List ℕ)

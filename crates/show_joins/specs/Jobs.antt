@@ -57,7 +57,8 @@ ShowsBytes what index0 index1 other0 other1 bytes out0 out1 status =
     (EitherRose index0 index1 other0 other1) (IsNoPair index0 other0) out0 out1 status
 
 -- what the job does that takes bytes of logs from `left0`
-abbrev pub ShowsLogs : Marks → DiskState → DiskState → DiskState → DiskState → Option (List ℕ) → Option (List ℕ) → SinkState → SinkState → ℕ → Type 0
+abbrev pub ShowsLogs : Marks → DiskState → DiskState → DiskState → DiskState →
+    Option (List ℕ) → Option (List ℕ) → SinkState → SinkState → ℕ → Type 0
 ShowsLogs what index0 index1 other0 other1 left0 left1 out0 out1 status =
     ReadsLogs (IsUnchanged index0 index1 × IsUnchanged other0 other1)
     (λ bytes. ShowsBytes what index0 index1 other0 other1 bytes out0 out1 status) left0 left1 out0 out1 status

@@ -32,8 +32,8 @@ level_of (Inner level es) = level
 -- `left node PAGE level LEVEL with node PAGE`
 abbrev pub pair_line : PairComing → ℕ → List ℕ
 pair_line c level =
-    indent c.depth ++ side_name (opens_right c.need) ++ numbered (codes " node ") (page_of (opened c.need)) ++ numbered (codes " level ") level
-    ++ codes " with " ++ item_name (other c.need) ++ line_end
+    indent c.depth ++ side_name (opens_right c.need) ++ numbered (codes " node ") (page_of (opened c.need))
+    ++ numbered (codes " level ") level ++ codes " with " ++ item_name (other c.need) ++ line_end
 
 -- ` child PAGE`, or ` object ID`
 abbrev pub entry_name : Item → List ℕ
@@ -42,7 +42,8 @@ entry_name (Object id point) = numbered (codes " object ") id
 
 -- `PLACE child PAGE REASON`, `PLACE object ID REASON`
 abbrev pub pair_entry_line : JoinSearch → PairComing → ℕ → Entry → Mark → List ℕ
-pair_entry_line j c place e mark = indent (c.depth + 1) ++ decimal place ++ entry_name e.item ++ space ++ pair_reason j c.need e mark ++ line_end
+pair_entry_line j c place e mark =
+    indent (c.depth + 1) ++ decimal place ++ entry_name e.item ++ space ++ pair_reason j c.need e mark ++ line_end
 
 -- the lines of an opened node
 abbrev pub pair_lines : JoinSearch → PairComing → Node → List Mark → List ℕ
@@ -85,10 +86,11 @@ node_told left right n r = if is_of n r then node_marked r.marks (read_of left r
 -- a record's node and the rest of the walk, which goes on where each mark is allowed
 abbrev pub shown_on : JoinSearch → PairComing → List Mark → Option Node → (Node → PairsShown) → PairsShown
 shown_on j c marks None rest = nothing_shown
-shown_on j c marks (Some node) rest = node_then j c node marks (if is_none (join_wrong_in j c.need node marks) then rest node else nothing_shown)
+shown_on j c marks (Some node) rest =
+    node_then j c node marks (if is_none (join_wrong_in j c.need node marks) then rest node else nothing_shown)
 
--- What is shown of the records of a join's log, as far as they lead: each names the side and the page that are needed next, the page holds a
--- node, and there is one mark for each entry. A node with a mark that is not allowed is the last.
+-- What is shown of the records of a join's log, as far as they lead: each names the side and the page that are needed next, the page holds
+-- a node, and there is one mark for each entry. A node with a mark that is not allowed is the last.
 abbrev pub shown : JoinSearch → Read → Read → List PairComing → List JoinRecord → PairsShown
 shown j left right [] rs = nothing_shown
 shown j left right (c ∷ cs) [] = nothing_shown

@@ -1,5 +1,6 @@
 // Walks along the records of a join's log, as far as they lead, and shows each node.
-ghost use Rattle.std.specs.Prelude.{◌≡◌, ◌⊎◌, ◌+◌, ◌-◌, ◌*◌, ◌<◌, ◌≤◌, ◌^◌, ℕ, List, [], ◌∷◌, length, reverse, IsTrue, IfOk, IfSome, IsErrOf, OnOk};
+ghost use Rattle.std.specs.Prelude.{◌≡◌, ◌⊎◌, ◌+◌, ◌-◌, ◌<◌, ◌≤◌, ◌^◌, ℕ, List, [], ◌∷◌, length, reverse};
+ghost use Rattle.std.specs.Prelude.{IsTrue, IfOk, IfSome, IsErrOf, OnOk};
 ghost use Rattle.std.specs.List.{AllByRecursion};
 ghost use Rattle.outside_io.specs.Causes.{Rose};
 ghost use Rattle.page_store.specs.Shelf.{HoldsSame};
@@ -186,7 +187,8 @@ pub fn show_records<P: Pages, Q: Pages>(
     ensures left_keeps { P.keeps left.old left.new }
     ensures right_keeps { Q.keeps right.old right.new }
     ensures shown { IfOk result (λ walk. IsTrue (P.shelf left.old).tells → IsTrue (Q.shelf right.old).tells →
-        walk_shown walk ≡ shown (search_by search) (P.shelf left.old).read (Q.shelf right.old).read (reverse begun.stack.items) records.now) }
+        walk_shown walk ≡ shown (search_by search) (P.shelf left.old).read (Q.shelf right.old).read
+        (reverse begun.stack.items) records.now) }
     ensures disk { IsErrOf result Stop.Disk → OneRose (P.shelf left.old) (P.shelf left.new) (Q.shelf right.old) (Q.shelf right.new) }
     ensures not_sink { IsErrOf result Stop.Sink → ⊥ }
 {
