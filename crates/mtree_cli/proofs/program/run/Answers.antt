@@ -79,6 +79,14 @@ pub returns-in-Ok-Check-default-default-None-clause-long : goal.returns-in-Ok-Ch
 returns-in-Ok-Check-default-default-None-clause-long g c =
     logs_taken _ (g.S.Source.left c.args.input.now) _ _ _ _ _ _ _ c.check_logs.result.0 c.check_logs.ensures.judges
 
+pub returns-in-Ok-Show-default-default-None-default-clause-long : goal.returns-in-Ok-Show-default-default-None-default-clause-long
+returns-in-Ok-Show-default-default-None-default-clause-long g c =
+    shown_taken _ (g.S.Source.left c.args.input.now) _ _ _ _ _ _ _ c.show_logs.result.0 c.show_logs.ensures.shows
+
+pub returns-in-Ok-Show-default-default-Some-default-clause-long : goal.returns-in-Ok-Show-default-default-Some-default-clause-long
+returns-in-Ok-Show-default-default-Some-default-clause-long g c =
+    shown_joins_taken _ (g.S.Source.left c.args.input.now) _ _ _ _ _ _ _ _ _ c.show_join_logs.result.0 c.show_join_logs.ensures.shows
+
 pub returns-in-Err-Memory-clause-long : goal.returns-in-Err-Memory-clause-long
 returns-in-Err-Memory-clause-long g c = nothing_taken _ (g.S.Source.left c.args.input.now) (g.L.Source.left c.args.log_in.now) c.end_with.result.0 (grind (arith))
 
