@@ -244,8 +244,9 @@ class Index:
         lines = self._said("stats").splitlines()
         told = dict(line.split(" ", 1) for line in lines if not line.startswith("level "))
         levels = [_level(line.split()) for line in lines if line.startswith("level ")]
-        numbers = [int(told[word]) for word in ("max", "generation", "objects", "height", "nodes", "pages", "free")]
-        return Stats(told["metric"], int(told["dim"]), told["promote"], told["split"], *numbers, levels)
+        most, generation, objects, height, nodes, pages, free = (
+            int(told[word]) for word in ("max", "generation", "objects", "height", "nodes", "pages", "free"))
+        return Stats(told["metric"], int(told["dim"]), told["promote"], told["split"], most, generation, objects, height, nodes, pages, free, levels)
 
     def rows(self) -> Any:
         """Returns `(tags, rows)`, in order of id: arrays of uint64 of the shapes (count,) and (count, dim). Without numpy they are lists.
