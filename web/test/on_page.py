@@ -230,7 +230,8 @@ def other_module():
     """A module in which `audit` never ends and `check` traps, and all else says 0 and nothing."""
     def part(number, *items):
         body = bytes([len(items)]) + b"".join(items)
-        return bytes([number, len(body)]) + body
+        # (the length in two bytes of seven bits, the lower ones first)
+        return bytes([number, len(body) & 127 | 128, len(body) >> 7]) + body
 
     def code(*words):
         body = bytes([0, *words, 0x0B])
