@@ -108,12 +108,14 @@ const jobs = {
             engine.free(span);
             return { kind: null, said };
         }
+        // (the last call before the bytes are looked at: a call may move the module's memory)
+        const stats = engine.stats(span).text;
         const bytes = engine.bytes(span), head = headOf(bytes), tree = treeOf(bytes, head);
         index = { file, span, head, tree };
         const first = tree === null || tree.nodes[0].entries === 0 ? null : entryOf(bytes, head, tree.nodes[0].page, 0);
         const leaf = tree?.nodes.find((node) => node.level === 0 && node.parent !== null);
         return {
-            kind: "index", said, head, stats: tree === null ? null : engine.stats(span).text, point: first?.point ?? null, radius: leaf ? entryOf(bytes, head, leaf.parent.page, leaf.place).radius : 0,
+            kind: "index", said, head, stats: tree === null ? null : stats, point: first?.point ?? null, radius: leaf ? entryOf(bytes, head, leaf.parent.page, leaf.place).radius : 0,
             tree: tree && { objects: tree.objects, page: Uint32Array.from(tree.nodes, (it) => it.page), depth: Uint8Array.from(tree.nodes, (it) => it.depth), from: Uint32Array.from(tree.nodes, (it) => it.from), to: Uint32Array.from(tree.nodes, (it) => it.to) },
         };
     },

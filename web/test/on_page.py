@@ -200,6 +200,23 @@ def compare_contents(page, maker, it, room):
     same(found, maker.run("show", it["file"], "--log", str(log))[1], f"the walk in words on {it['name']}")
 
 
+def compare_large(page, room):
+    """An index that moves the module's memory while it is opened and judged."""
+    path = os.path.join(room, "large.mt")
+    subprocess.run([PROGRAM, "gen", path, "--metric", "l1", "--dim", "8", "--count", "30000"], check=True, stdout=subprocess.DEVNULL)
+    page.keys("index", path)
+    page.wait(IDLE)
+    holds(page.text("about"), "30,000", "a large index")
+    stats = subprocess.run([PROGRAM, "stats", path], check=True, stdout=subprocess.PIPE, text=True).stdout
+    holds(page.text("about"), f"{int(stats.splitlines()[-1].split()[3]):,}", "the leaves of a large index")
+    page.click("audit")
+    page.wait(IDLE)
+    holds(page.text("auditResult"), "sound", "the audit of a large index")
+    page.click("nearest")
+    page.wait(IDLE)
+    holds(page.text("askResult"), "answers", "a query on a large index")
+
+
 def compare_sentences(page, maker, whole):
     """Each bad input has its sentence."""
     first, root = whole[0], whole[0]["root"]
@@ -332,6 +349,7 @@ def main():
             compare_judges(page, maker, 80)
             compare_sentences(page, maker, whole)
             compare_reader(page, maker, whole, room)
+            compare_large(page, room)
             compare_stops(page, maker, whole, room)
             requests = requests_of(page)
             same([url for url in requests if not url.startswith(("file:", "blob:", "data:"))], [], "requests of the page")
