@@ -212,7 +212,7 @@ impl<M: Metric> Index<M> {
 
     /// Loads `rows` with `tags` into an index that has no objects, and returns how many they are. Row i gets the id i. It is one
     /// commit: after `Ok` the objects are there whatever crash comes, and before that a crash leaves the file with all of them or with
-    /// none. As many threads as `workers` says share the work; any number of them makes the same tree.
+    /// none. `crew` does the work, with as many workers as `workers` says; any number of them makes the same tree.
     ///
     /// The refusals come in this order, and all but the last change nothing: `Stopped` where a commit failed before; `NotEmpty` where
     /// there are objects; `Full` where there are more rows than the head allows; `Worn` where there is no further generation; `Disk`
