@@ -1,4 +1,4 @@
-// The job `session`: a script on an index.
+//! The job `session`: a script on an index.
 ghost use Rattle.std.specs.Prelude.{◌≡◌, ◌≢◌, ◌⊎◌, ◌≤◌, ◌^◌, false, length, IsTrue, IfOk, IfErr, OnOk};
 ghost use Rattle.std.specs.Io.KnownBytes.{IsAtEnd};
 ghost use Rattle.outside_io.specs.Bytes.{TakesUpTo};
@@ -11,8 +11,10 @@ ghost use Rattle.std.specs.List.{AllByRecursion};
 ghost use Rattle.rows_text.specs.Script.{script};
 ghost use Rattle.session_run.specs.Session.{IsAsking};
 ghost use Rattle.file_jobs.specs.Spaces.{space_of};
-ghost use Rattle.mtree_cli.specs.Session.{HasEnded, HasFinished, HasRefused, IsComplete, IsSessionStatus, LeavesAll, ReadsFew, ReadsScript, RunsOn, RunsScript, RunsSession, state_in};
+ghost use Rattle.session_run.specs.Job.{HasEnded, HasFinished, HasRefused, IsComplete, IsSessionStatus, LeavesAll, ReadsFew, ReadsScript, RunsOn, RunsScript, RunsSession, state_in};
 
+use crate::running::session;
+use crate::stop::Stop;
 use disk_model::Disk;
 use file_jobs::{
     FAULT_DISK, FAULT_INPUT, FAULT_LONG, FAULT_MEMORY, MOST_INPUT, damaged_text, end_unopened,
@@ -25,7 +27,6 @@ use node_page::laws::{fault_is_not_open, one_live_slot};
 use outside_io::{ReadAll, Sink, Source, Status, read_all};
 use page_cache::KEPT_NODES;
 use rows_text::read_script;
-use session_run::{Stop, session};
 use std::alloc::Global;
 use std::thread::Threads;
 
