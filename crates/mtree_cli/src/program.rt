@@ -24,6 +24,7 @@ use file_jobs::{FAULT_MEMORY, create_index, end_with, put_line, shape_index};
 use job_words::{Job, JobFault, PolicyNames, SpaceName, read_job};
 use join_jobs::laws::faultless_is_complete as joins_are_complete;
 use join_jobs::{check_join_logs, join_indexes, verify_join_logs};
+use load_threads::ByThreads;
 use log_jobs::laws::faultless_is_complete;
 use log_jobs::{check_logs, verify_logs};
 use log_model::laws::least_logs_are_sound;
@@ -164,6 +165,7 @@ pub fn run<R: Threads + Sync, D: SharedDisk, E: Disk, S: Source, L: Source, K: S
     least_logs_are_sound();
     accepted_show();
     carried_logs_are_accepted();
+    let crew = ByThreads::new(rt);
     match read_job(alloc, words) {
         Ok(
             Job::Scan {
@@ -186,7 +188,7 @@ pub fn run<R: Threads + Sync, D: SharedDisk, E: Disk, S: Source, L: Source, K: S
                 show_tags,
                 ..
             },
-        ) => run_session(rt, alloc, index, workers, show_tags, input, out, log_out),
+        ) => run_session(&crew, alloc, index, workers, show_tags, input, out, log_out),
         Ok(Job::Shape { .. }) => shape_index(alloc, index, out),
         Ok(Job::Stats { .. }) => stats_index(alloc, index, out),
         Ok(Job::Dump { .. }) => dump_index(alloc, index, out),
@@ -228,9 +230,9 @@ pub fn run<R: Threads + Sync, D: SharedDisk, E: Disk, S: Source, L: Source, K: S
                 seed,
                 workers,
             };
-            generate_index(rt, alloc, index, &asked, out)
+            generate_index(&crew, alloc, index, &asked, out)
         }
-        Ok(Job::Migrate { .. }) => migrate_index(rt, alloc, index, other, out),
+        Ok(Job::Migrate { .. }) => migrate_index(alloc, index, other, out),
         Ok(
             Job::Batch {
                 workers,
