@@ -1,5 +1,5 @@
 -- How the bytes before and the touched pages show a file.
-use Rattle.std.specs.Prelude.{◌≡◌, ◌⊎◌, ℕ, ◌+◌, ◌-◌, ◌*◌, ◌<◌, ◌≤◌, max, Bool, true, false, cond, List, ◌++◌, Option, None, Some, IsSome, length, take, drop, slice_index, ◌==◌, if◌then◌else◌}
+use Rattle.std.specs.Prelude.{◌≡◌, ◌⊎◌, ℕ, ◌+◌, ◌-◌, ◌*◌, ◌<◌, ◌≤◌, true, false, cond, List, ◌++◌, Option, None, Some, IsSome, length, take, drop, slice_index, ◌==◌}
 use Rattle.std.proofs.Common.{arith, refl, sym, ◌∙◌, ap, inl, inr, length-drop}
 use Rattle.std.specs.Ordering.{nat_cmp}
 use Rattle.std.specs.BTreeMap.{is_at}
@@ -10,7 +10,7 @@ use Rattle.std.proofs.lemmas.Bool.Decides.{nat_tests}
 use Rattle.std.proofs.lemmas.List.{length-take-le, get_or-append-add, get_or_append_left, get_or-take, get_or-drop}
 use borrow.Rule.Slice.PartMut.{put_mid, post_of}
 use Rattle.disk_model.specs.Disk.{Written}
-use Rattle.plan_disk.specs.Patches.{Page, Patches, page_at, byte_of, Shows, HasPlaces}
+use Rattle.plan_disk.specs.Patches.{Page, Patches, page_at, byte_of, Shows}
 
 -- ---- reading
 
@@ -81,24 +81,28 @@ module _ (old new : List (ℕ × Page)) (page : ℕ) (bytes : Page) (updated : I
 -- a page that is touched shows what was there before
 pub touched_shows : (old new : Patches) (page : ℕ) (bytes : Page) (file : List ℕ) → new.base ≡ old.base → IsUpdated old.pages new.pages page bytes → None ≡ page_at old.pages page
     → ((i : ℕ) → i < 4096 → slice_index bytes.items i ≡ slice_index old.base (4096 * page + i)) → Shows old file → Shows new file
-touched_shows old new page bytes file base updated none copied shows = record { each = λ q i lt. elim (this_or_other old.pages new.pages page bytes updated q) [
-  | inl (same, this) ↦
-      ap (λ (own : Option Page). byte_of new.base own q i) this ∙ copied i lt ∙ shown_before old file shows page none i lt ∙ ap (λ (p : ℕ). slice_index file (4096 * p + i)) (sym same)
-  | inr (apart, other) ↦
-      ap (λ (own : Option Page). byte_of new.base own q i) other ∙ ap (λ (b : List ℕ). byte_of b (page_at old.pages q) q i) base ∙ shows.each q i lt
-] }
+touched_shows old new page bytes file base updated none copied shows = record {
+  each = λ q i lt. elim (this_or_other old.pages new.pages page bytes updated q) [
+    | inl (same, this) ↦
+        ap (λ (own : Option Page). byte_of new.base own q i) this ∙ copied i lt ∙ shown_before old file shows page none i lt ∙ ap (λ (p : ℕ). slice_index file (4096 * p + i)) (sym same)
+    | inr (apart, other) ↦
+        ap (λ (own : Option Page). byte_of new.base own q i) other ∙ ap (λ (b : List ℕ). byte_of b (page_at old.pages q) q i) base ∙ shows.each q i lt
+  ];
+}
 
 -- ---- writing
 
 -- a part of a touched page was written
 pub put_shows : (old new : Patches) (page from : ℕ) (own bytes : Page) (wrote file later : List ℕ) → new.base ≡ old.base → IsUpdated old.pages new.pages page bytes → Some own ≡ page_at old.pages page
     → from + length wrote ≤ 4096 → Written from wrote own.items bytes.items → Shows old file → Written (4096 * page + from) wrote file later → Shows new later
-put_shows old new page from own bytes wrote file later base updated was within put shows written = record { each = λ q i lt. elim (this_or_other old.pages new.pages page bytes updated q) [
-  | inl (same, this) ↦
-      ap (λ (b : Option Page). byte_of new.base b q i) this ∙ here i lt ∙ ap (λ (p : ℕ). slice_index later (4096 * p + i)) (sym same)
-  | inr (apart, other) ↦
-      ap (λ (b : Option Page). byte_of new.base b q i) other ∙ ap (λ (b : List ℕ). byte_of b (page_at old.pages q) q i) base ∙ shows.each q i lt ∙ sym (elsewhere q i lt apart)
-] }
+put_shows old new page from own bytes wrote file later base updated was within put shows written = record {
+  each = λ q i lt. elim (this_or_other old.pages new.pages page bytes updated q) [
+    | inl (same, this) ↦
+        ap (λ (b : Option Page). byte_of new.base b q i) this ∙ here i lt ∙ ap (λ (p : ℕ). slice_index later (4096 * p + i)) (sym same)
+    | inr (apart, other) ↦
+        ap (λ (b : Option Page). byte_of new.base b q i) other ∙ ap (λ (b : List ℕ). byte_of b (page_at old.pages q) q i) base ∙ shows.each q i lt ∙ sym (elsewhere q i lt apart)
+  ];
+}
   where
     here : (i : ℕ) → i < 4096 → slice_index bytes.items i ≡ slice_index later (4096 * page + i)
     here i lt = elim (cases_lt i from) [

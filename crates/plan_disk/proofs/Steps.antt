@@ -1,14 +1,14 @@
 -- What one step more makes of a plan's disk.
-use Rattle.std.specs.Prelude.{◌≡◌, ℕ, ◌+◌, ◌<◌, ◌≤◌, max, true, false, List, [], ◌∷◌, ◌++◌, length, take, drop}
-use Rattle.std.proofs.Common.{arith, refl, sym, ◌∙◌, ap, subst, inl, inr, length-drop}
+use Rattle.std.specs.Prelude.{◌≡◌, ℕ, ◌+◌, ◌≤◌, true, List, [], ◌∷◌, ◌++◌, length, drop}
+use Rattle.std.proofs.Common.{arith, refl, sym, ◌∙◌, ap, subst, length-drop, length-append}
 use Rattle.std.proofs.lemmas.List.{take_all, take-append-le, drop-append-le, nil_from_length}
 use Rattle.disk_model.specs.Disk.{DiskState, MayLeave, LeavesOnly, Torn, Written, Follows, IsOneCall, IsUnchanged}
-use Rattle.disk_model.specs.Memory.Model.{Call, look, sync, write, Noted}
-use Rattle.disk_model.specs.Memory.Files.{overwritten, length-overwritten, overwritten-written}
+use Rattle.disk_model.specs.Memory.Model.{Call, look, write, Noted}
+use Rattle.disk_model.specs.Memory.Files.{overwritten, overwritten-written}
 use Rattle.disk_model.specs.Memory.Images.{Kept, at_rest, after, replayed}
 use Rattle.disk_model.proofs.Calls.{state_at, replayed_push, one_call, write_follows, nothing_follows, nothing_unchanged, nothing_one_call, sync_only, sync_fewer}
 use Rattle.plan_disk.specs.declared.step.Step.{Step}
-use Rattle.plan_disk.specs.Plan.{Plan, call_of, calls_of, total, simulated, plan_state, file_of, write_step, sync_step, with_step, with_fault}
+use Rattle.plan_disk.specs.Plan.{Plan, call_of, calls_of, total, IsWhole, simulated, plan_state, file_of, write_step, sync_step, with_step}
 
 -- ---- the calls of a plan
 
@@ -42,9 +42,6 @@ past_of plan = (simulated plan).past
 
 abbrev kept_of : Plan → Kept
 kept_of plan = replayed (at_rest plan.base) (past_of plan)
-
-abbrev pub IsWhole : Plan → Type 0
-IsWhole plan = total plan.steps ≡ length plan.written
 
 -- the state after a call more
 abbrev state_after : Plan → List Noted → ℕ → ℕ → DiskState
@@ -116,3 +113,24 @@ module _ (plan : Plan) (faults reads : ℕ) where
 
   pub count_torn : (at size : ℕ) → Follows (Torn at size) (plan_state plan) (plan_state counted)
   count_torn at size = nothing_follows plan.base (past_of plan) at size [] [] 0 0 0 0
+
+-- ---- how the plan is kept
+
+-- before the first step
+pub empty_file : (plan : Plan) → plan.steps ≡ [] → file_of plan ≡ plan.base
+unfolding calls_of replayed
+empty_file plan none = ap (λ (steps : List Step). (replayed (at_rest plan.base) (calls_of 1 steps plan.written)).read) none
+
+pub empty_whole : (steps : List Step) (written : List ℕ) → steps ≡ [] → written ≡ [] → total steps ≡ length written
+unfolding total
+empty_whole steps written none empty = ap total none ∙ sym (ap length empty)
+
+pub plan_by : (plan : Plan) (step : Step) (bytes base : List ℕ) (steps : List Step) (written : List ℕ) → base ≡ plan.base → steps ≡ plan.steps ++ step ∷ [] → written ≡ plan.written ++ bytes
+    → record plan { base = base; steps = steps; written = written } ≡ with_step plan step bytes
+plan_by plan step bytes base steps written same longer more =
+    ap (λ (b : List ℕ). record plan { base = b; steps = steps; written = written }) same
+    ∙ ap (λ (s : List Step). record plan { steps = s; written = written }) longer
+    ∙ ap (λ (w : List ℕ). record plan { steps = plan.steps ++ step ∷ []; written = w }) more
+
+pub whole_step : (plan : Plan) (step : Step) (bytes : List ℕ) → IsWhole plan → step.size ≡ length bytes → IsWhole (with_step plan step bytes)
+whole_step plan step bytes whole size = omega (arith, total_push plan.steps step, whole, size, length-append plan.written bytes)

@@ -1,5 +1,5 @@
 -- What a disk over a file was asked to do, and what the disk means.
-use Rattle.std.specs.Prelude.{ℕ, ◌+◌, true, false, List, [], ◌∷◌, ◌++◌, None, length, take, drop, if◌then◌else◌}
+use Rattle.std.specs.Prelude.{◌≡◌, ℕ, ◌+◌, true, false, List, [], ◌∷◌, ◌++◌, None, length, take, drop, if◌then◌else◌}
 use Rattle.disk_model.specs.Disk.{DiskState}
 use Rattle.disk_model.specs.Memory.Model.{Call, look, sync, write, Noted, SimulatedDisk}
 use Rattle.disk_model.specs.Memory.Images.{kept_by, memory_state}
@@ -29,6 +29,10 @@ calls_of first (step ∷ steps) bytes = record { number = first; call = call_of 
 unfoldable pub total : List Step → ℕ
 total [] = 0
 total (step ∷ steps) = step.size + total steps
+
+-- the bytes are those of the steps
+abbrev pub IsWhole : Plan → Type 0
+IsWhole plan = total plan.steps ≡ length plan.written
 
 -- A disk in memory with this file, all of it synced, of which these calls were made. First of all it was looked at: so a crash at
 -- moment 0 leaves the file before, and one in the step number k, from 0, has the moment k + 1.

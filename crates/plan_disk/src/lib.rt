@@ -2,7 +2,11 @@
 //! a plan of writes and syncs, which the caller then does to the file.
 #![tactic(auto)]
 
+mod disk;
+mod laws;
 mod patched;
 mod step;
 
+pub use disk::PlanDisk;
+pub use laws::same_base;
 pub use step::Step;

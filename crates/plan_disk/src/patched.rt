@@ -51,7 +51,7 @@ impl<'a> Patched<'a> {
 
     /// Fills `buf` with the file's bytes from place `at` on, and with 0 past its end.
     pub fn read(&self, at: usize, buf: &mut [u8])
-        requires { at + length buf.old ≤ 2 ^ 37 }
+        requires { at + length buf.old ≤ 2 ^ 63 }
         ensures { (file : List ℕ) → Shows self.now file
             → EachIndex buf.new (λ i. slice_index buf.new i ≡ slice_index file (at + i)) }
     {
@@ -67,7 +67,7 @@ impl<'a> Patched<'a> {
     // Copies a part of one page, from its place `from` on.
     fn copy_part(&self, page: usize, from: usize, buf: &mut [u8])
         requires within { from + length buf.old ≤ 4096 }
-        requires small { page ≤ 2 ^ 26 }
+        requires small { 4096 * page ≤ 2 ^ 63 }
         ensures { (file : List ℕ) → Shows self.now file
             → EachIndex buf.new (λ i. slice_index buf.new i ≡ slice_index file (4096 * page + from + i)) }
     {
@@ -149,7 +149,7 @@ fn put(page: &mut [u8], from: usize, bytes: &[u8])
 
 // Fills `buf` with the bytes from place `at` on, and with 0 past their end.
 fn copy_out(file: &[u8], at: usize, buf: &mut [u8])
-    requires { at + length buf.old ≤ 2 ^ 40 }
+    requires { at ≤ 2 ^ 63 + 4096 }
     ensures { EachIndex buf.new (λ i. slice_index buf.new i ≡ slice_index file.now (at + i)) }
 {
     let start = at.min(file.len());

@@ -1,4 +1,4 @@
-use Rattle.std.proofs.Common.{◌∙◌, ◌+◌, ◌*◌, ◌≡◌, ap, sym, arith, slice_index, List, ℕ}
+use Rattle.std.proofs.Common.{◌∙◌, ◌+◌, ◌*◌, ◌≡◌, ap, arith, slice_index, List, ℕ}
 use Rattle.plan_disk.specs.Patches.{Patches}
 use Rattle.plan_disk.proofs.Pages.{shown_touched, shown_before}
 use Rattle.plan_disk.proofs.patched.Patched.copy_part.Goals as goal

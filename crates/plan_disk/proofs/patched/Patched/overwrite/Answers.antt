@@ -1,7 +1,7 @@
-use Rattle.std.proofs.Common.{◌≡◌, ◌≤◌, ◌∙◌, ◌+◌, ◌-◌, ◌*◌, ◌/◌, ◌%◌, List, ℕ, length, take, drop, ap, sym, arith, rules, subst}
+use Rattle.std.proofs.Common.{◌≡◌, ◌∙◌, ◌+◌, ◌-◌, ◌*◌, ◌/◌, ◌%◌, ℕ, take, drop, arith, rules, subst}
 use Rattle.disk_model.specs.Disk.{Written}
 use Rattle.disk_model.specs.Memory.Files.{overwritten, overwritten-written}
-use Rattle.plan_disk.proofs.Pages.{none_written, next_written}
+use Rattle.plan_disk.proofs.Pages.{next_written}
 use Rattle.plan_disk.proofs.patched.Patched.overwrite.Goals as goal
 
 pub put_part-requires-clause-touched : goal.put_part-requires-clause-touched

@@ -1,4 +1,4 @@
-use Rattle.std.proofs.Common.{◌≡◌, ◌+◌, ◌-◌, ◌<◌, ◌≤◌, List, ℕ, length, take}
+use Rattle.std.proofs.Common.{◌≡◌, ◌-◌, ◌≤◌, List, ℕ, length, take}
 use Rattle.disk_model.specs.Disk.{Written}
 use Rattle.plan_disk.specs.Patches.{Shows, HasPlaces}
 use Rattle.plan_disk.proofs.patched.Patched.overwrite.Given as goal

@@ -1,4 +1,4 @@
-use Rattle.std.proofs.Common.{rules, ◌∙◌, ◌+◌, ◌-◌, ◌*◌, ◌/◌, ◌%◌, ◌≡◌, ap, sym, arith, slice_index, List, ℕ}
+use Rattle.std.proofs.Common.{rules, ◌∙◌, ◌-◌, ap, arith, slice_index, ℕ}
 use Rattle.plan_disk.proofs.Pages.{filled}
 use Rattle.plan_disk.proofs.patched.Patched.read.Goals as goal
 

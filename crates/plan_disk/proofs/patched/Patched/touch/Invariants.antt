@@ -1,4 +1,4 @@
-use Rattle.std.proofs.Common.{◌≡◌, ◌+◌, ◌-◌, ◌/◌, ◌<◌, ◌≤◌, List, ℕ, IsSome}
+use Rattle.std.proofs.Common.{◌≡◌, ◌/◌, ◌<◌, ◌≤◌, List, ℕ, IsSome}
 use Rattle.plan_disk.specs.Patches.{Shows, page_at}
 use Rattle.plan_disk.proofs.patched.Patched.touch.Given as goal
 

@@ -19,8 +19,8 @@ returns-clause-same c = λ file shows.
     let none : None ≡ page_at c.self.inside.pages.entries c.args.page = none_of _ (sym c.contains_key.ensures ∙ c.if-contains_key.false) in
     touched_shows (record { base = c.self.inside.base.now; pages = c.self.inside.pages.entries }) _ c.args.page (with_items c.in_ok-bytes.bytes c.copy_out.new.buf) file refl c.in_ok-insert.ensures.updates.0 none
     (λ i lt. let here : c.args.page * 4096 + i ≡ 4096 * c.args.page + i = omega arith in
-        ap (λ (bytes : List ℕ). slice_index bytes i) (with_items_is c.in_ok-bytes.bytes c.copy_out.new.buf long)
-        ∙ c.copy_out.ensures i (omega (arith, whole)) ∙ ap (λ (m : ℕ). slice_index c.self.inside.base.now m) here)
+    ap (λ (bytes : List ℕ). slice_index bytes i) (with_items_is c.in_ok-bytes.bytes c.copy_out.new.buf long)
+    ∙ c.copy_out.ensures i (omega (arith, whole)) ∙ ap (λ (m : ℕ). slice_index c.self.inside.base.now m) here)
     (subst (λ (p : Patches). Shows p file) (sym c.self.view_is) shows)
 
 pub returns-clause-others : goal.returns-clause-others
