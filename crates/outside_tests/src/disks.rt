@@ -9,7 +9,7 @@ use std::fs::{self, File, OpenOptions};
 use std::process::Abort;
 
 // Is a call of a disk.
-enum Call {
+pub(crate) enum Call {
     Size,
     Read,
     Sync,
@@ -145,13 +145,13 @@ pub(crate) fn holds(rt: &impl Abort, is_so: bool) {
 }
 
 // Makes a call, and says whether it answered `Ok`.
-fn make<D: Disk>(rt: &impl Abort, disk: &mut D, call: &Call) -> bool {
+pub(crate) fn make<D: Disk>(rt: &impl Abort, disk: &mut D, call: &Call) -> bool {
     match call {
         Size => disk.size().is_ok(),
         Read => disk.read_at(0, &mut [0; 2]).is_ok(),
         Sync => disk.sync().is_ok(),
         Write(at, bytes) => {
-            assert!(rt; *at < 100 && bytes.len() < 100);
+            assert!(rt; *at < 10_000 && bytes.len() < 100);
             disk.write_at(*at, bytes).is_ok()
         }
     }
@@ -305,7 +305,7 @@ fn a_sync_of_a_file_asks_the_system(rt: HostRuntime) {
 }
 
 // Is what every file has.
-struct Any;
+pub(crate) struct Any;
 
 impl FileProperty for Any {
     ghost holds = { λ file. Unit {0} };

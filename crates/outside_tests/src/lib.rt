@@ -6,6 +6,8 @@ mod disks;
 #[cfg(test)]
 mod files;
 #[cfg(test)]
+mod plans;
+#[cfg(test)]
 mod slices;
 #[cfg(test)]
 mod streams;

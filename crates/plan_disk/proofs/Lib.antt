@@ -1,0 +1,4 @@
+pub mod Pages
+pub mod Steps
+pub mod Bases
+pub mod Published
