@@ -1,7 +1,8 @@
 /* The index for programs in C.
 
    Each call takes the bytes of an index file, read or mapped, and answers into the caller's buffers. The library keeps nothing
-   between calls, opens no file and writes none. Every call may run in any thread, beside others.
+   between calls, opens no file and writes none: mtree_session_in changes an index in a buffer, and mtree_session_plan says what
+   to write to a file. Every call may run in any thread, beside others.
 
    The caller sees to it that no process writes the file while a call reads it. The programs of mtree hold a file by an advisory
    lock: shared where they read it, exclusive where they write it. A caller does the same:
@@ -17,20 +18,22 @@
    one of them is written. The other pointers point to one value each.
 
    Every call returns a status:
-     0  done
+     0  done; a script is done, whatever its commands were told (session_in, session_plan)
      1  the file or a log is rejected; the text names the fault (audit, seal, verify, show, check, carry, proof)
      2  no query: a point is not of the file's space, the points have another size, or `count` is 0 (range, nearest, range_each,
-        nearest_each)
+        nearest_each); or the file is longer than its buffer (session_in)
      4  a buffer is too small; the sizes tell what is needed, and the buffers are as they were
      6  the bytes are no index of version 2
-     7  there are more than 2^30 bytes of logs (verify, show, check, carry, proof), or the file has more than 262144 pages (seal, carry)
+     7  there are more than 2^30 bytes of logs (verify, show, check, carry, proof), or the file has more than 262144 pages (seal, carry),
+        or there are more than 2^26 bytes of script (session_in, session_plan)
      8  out of memory
-     9  a damaged page was met (range, nearest, range_each, nearest_each, shape, stats, dump), or an id is not there once (dump); audit
-        names the file's fault
+     9  a damaged page was met (range, nearest, range_each, nearest_each, shape, stats, dump, session_in, session_plan), or an id is not
+        there once (dump); audit names the file's fault
    No call returns 5, the status of a device that failed: the bytes can always be read. */
 #ifndef MTREE_H
 #define MTREE_H
 
+#include <stdbool.h>
 #include <stddef.h>
 #include <stdint.h>
 
@@ -134,6 +137,50 @@ struct mtree_carried_sizes {
    `sizes`. At status 4 and 8 both buffers are as they were. */
 uint8_t mtree_carry(const uint8_t *file, size_t file_size, const uint8_t *logs, size_t logs_size, uint8_t *carried, size_t carried_room,
                     uint8_t *text, size_t text_room, struct mtree_carried_sizes *sizes);
+
+/* The next two calls run a script: the commands that the program's `session` reads. Put the replies to the front of `text`, each as
+   `session` writes it, and the frames of the queries' logs to the front of `log`. `show_tags` is that of the program's --tags. No threads
+   are started. */
+
+/* The sizes of what a session leaves, in bytes: the file, the replies, and the frames of the logs. They are 0 at status 2 and 8. */
+struct mtree_session_sizes {
+    size_t file;
+    size_t text;
+    size_t log;
+};
+
+/* Runs the script on the index file at the front of `file`, of `file_size` bytes, and puts the file after it to the front of `file`. Does
+   all of the script, or at status 2, 4 and 8 nothing: the buffers are then as they were. At status 9 the commands before the fault are
+   done. */
+uint8_t mtree_session_in(uint8_t *file, size_t file_room, size_t file_size, bool show_tags, const uint8_t *script, size_t script_size,
+                         uint8_t *text, size_t text_room, uint8_t *log, size_t log_room, struct mtree_session_sizes *sizes);
+
+/* A step of a plan: a write of `size` bytes at place `at` of the file, or a sync, whose `at` and `size` are 0. */
+struct mtree_step {
+    uint64_t at;
+    uint64_t size;
+    bool is_sync;
+};
+
+/* The sizes of a plan: the number of its steps, and the bytes of its writes, of the replies and of the frames. They are 0 at status 8. */
+struct mtree_plan_sizes {
+    size_t steps;
+    size_t written;
+    size_t text;
+    size_t log;
+};
+
+/* Runs the script on the file, which stays as it is, and says what `session` does to it. Puts the writes and syncs to the front of
+   `steps`, in their order, and the bytes of the writes to the front of `written`, one write's after another's. At status 4 and 8 the
+   buffers are as they were.
+
+   The caller holds the file by the exclusive lock from before it is mapped until after the last step. It does the steps to the file one
+   after another (pwrite, fsync), and gives nobody the replies before all of them are done. Where the file was sound, a crash between any
+   two steps or within one leaves the objects after some first commands of the script, and after the last step those after all of them. A
+   step that fails ends the plan, and the file is mapped anew. */
+uint8_t mtree_session_plan(const uint8_t *file, size_t file_size, bool show_tags, const uint8_t *script, size_t script_size,
+                           struct mtree_step *steps, size_t steps_room, uint8_t *written, size_t written_room, uint8_t *text,
+                           size_t text_room, uint8_t *log, size_t log_room, struct mtree_plan_sizes *sizes);
 
 #ifdef __cplusplus
 }

@@ -262,7 +262,7 @@ fn are_staged_same(left: &Staged, right: &Staged) -> bool {
     is_so
 }
 
-// Loads 65536 points out of order in the parts of `workers` workers, all of which the caller makes.
+// Loads 65536 points out of order in the parts of `workers` workers. The caller makes all of them.
 fn placed_alone(rt: &(impl AllocGlobal + Abort), workers: usize) -> Placed
     requires some { 1 ≤ workers }
     requires few { workers ≤ 64 }
