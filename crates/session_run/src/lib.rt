@@ -7,9 +7,11 @@ mod job;
 pub mod laws;
 mod pinned;
 mod queries;
+mod requests;
 mod running;
 mod stop;
 
-pub use job::run_session;
+pub use job::{run_requests, run_session};
+pub use requests::{Requests, ScriptBytes};
 pub use running::{Ended, session};
 pub use stop::Stop;
