@@ -3,6 +3,7 @@
 
 mod answer;
 mod commands;
+mod given_rows;
 mod job;
 pub mod laws;
 mod pinned;
@@ -11,6 +12,7 @@ mod requests;
 mod running;
 mod stop;
 
+pub use given_rows::{GivenRows, RowsToInsert, RowsToLoad};
 pub use job::{run_requests, run_session};
 pub use requests::{Requests, ScriptBytes};
 pub use running::{Ended, session};
