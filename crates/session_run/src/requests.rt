@@ -11,7 +11,7 @@ use std::alloc::Global;
 
 /// What a session is asked. Its commands are known once the number of coordinates of a point is.
 pub trait Requests: Drop {
-    /// The commands for points of so many coordinates.
+    /// The commands for points of a number of coordinates.
     ghost commands: { Self → ℕ → List Asked };
 
     /// Returns the commands for points of `words` coordinates.
