@@ -42,10 +42,10 @@ use Rattle.answer_texts.proofs.Published.{told_behind, disk_ends, input_ends, lo
 use Rattle.session_run.specs.Turns.{AreTurns, Turn, answers_of, held_on}
 use Rattle.session_run.proofs.Taken.{always, read_whole, unfinished, weaker}
 use Rattle.file_jobs.specs.Spaces.{space_of}
-use Rattle.session_run.specs.Job.{HasEnded, HasFinished, HasRefused, HoldsFront, IsComplete, IsLeft, Leaves, LeavesAll, ReadsFew, ReadsScript, RunsOn, RunsScript, RunsSession, SessionEnds, setting_in, state_in}
+use Rattle.session_run.specs.Job.{HasEnded, HasFinished, HasRefused, HoldsFront, IsComplete, IsLeft, Leaves, LeavesAll, ReadsFew, ReadsAsked, ReadsScript, RunsOn, RunsAsked, RunsScript, RunsSession, SessionEnds, asked_by, setting_in, state_in}
 use Rattle.outside_io.proofs.Published.{rose_before}
 
-module _ (show : Bool) (bytes : List ℕ) (head : Head) (live : Live) (file : List ℕ) (disk0 disk1 : DiskState) (out0 out1 out2 log0 log1 : SinkState) where
+module _ (show : Bool) (asked : ℕ → List Command) (head : Head) (live : Live) (file : List ℕ) (disk0 disk1 : DiskState) (out0 out1 out2 log0 log1 : SinkState) where
   abbrev pub state0 : State
   state0 = state_in head live file
 
@@ -53,7 +53,7 @@ module _ (show : Bool) (bytes : List ℕ) (head : Head) (live : Live) (file : Li
   file0 = held_in head.dim live file
 
   -- the line of a fault stands behind the acknowledged replies
-  module _ (Left : List Turn → List Command → Type 0) (turns : List Turn) (more : List Command) (line : List ℕ) (whole : script head.dim bytes ≡ commands_of (answers_of turns) ++ more)
+  module _ (Left : List Turn → List Command → Type 0) (turns : List Turn) (more : List Command) (line : List ℕ) (whole : asked head.dim ≡ commands_of (answers_of turns) ++ more)
       (are : AreTurns (setting_in head) head state0 file0 turns) (written : Appends out0.written out1.written (concat (texts_of show (answers_of turns)))) (logged : Appends log0.written log1.written (framed (logs_of (answers_of turns))))
       (later : out0.faults ≤ out1.faults) (told : Tells out1 out2 line) (left : Left turns more) where
     told_since : Appends out1.written out2.written line ⊎ (AppendsPrefix out1.written out2.written line × Rose out0.faults out2.faults)
@@ -64,7 +64,7 @@ module _ (show : Bool) (bytes : List ℕ) (head : Head) (live : Live) (file : Li
 
     pub with_line : (status : ℕ) →
         ((rest : List ℕ) → IsTold (Rose out0.faults out2.faults) rest line → SessionEnds (Rose out0.faults out2.faults) status head show state0 file0 turns more rest []) → status ≢ 0 →
-        RunsOn Left show bytes head live file disk1 out0 out2 log0 log1 status
+        RunsOn Left show asked head live file disk1 out0 out2 log0 log1 status
     with_line status ends other =
         let part = told_behind out0.written out1.written out2.written (Rose out0.faults out2.faults) (concat (texts_of show (answers_of turns))) line written told_since in
         record {
@@ -83,10 +83,10 @@ module _ (show : Bool) (bytes : List ℕ) (head : Head) (live : Live) (file : Li
 
 -- ---- after a session on an opened index
 
-module _ (show : Bool) (bytes : List ℕ) (head : Head) (live : Live) (file : List ℕ) (disk0 disk1 : DiskState) (out0 out1 log0 log1 : SinkState) (commands : List Command) (ack : ℕ) (left : Held)
-    (script_is : commands ≡ script head.dim bytes) (later : out0.faults ≤ out1.faults) where
+module _ (show : Bool) (asked : ℕ → List Command) (head : Head) (live : Live) (file : List ℕ) (disk0 disk1 : DiskState) (out0 out1 log0 log1 : SinkState) (commands : List Command) (ack : ℕ) (left : Held)
+    (script_is : commands ≡ asked head.dim) (later : out0.faults ≤ out1.faults) where
   pub done_runs : HasRun (setting_in head) head show commands (state_in head live file) (held_in head.dim live file) disk0 disk1 out0 out1 log0 log1 ack None left → IsLeft head left disk1 →
-      RunsOn (LeavesAll head (state_in head live file) disk0 disk1) show bytes head live file disk1 out0 out1 log0 log1 0
+      RunsOn (LeavesAll head (state_in head live file) disk0 disk1) show asked head live file disk1 out0 out1 log0 log1 0
   done_runs ran is_left = record {
     turns = ran.turns;
     more = ran.more;
@@ -113,7 +113,7 @@ module _ (show : Bool) (bytes : List ℕ) (head : Head) (live : Live) (file : Li
 
   -- an output failed
   pub cut_runs : HasRun (setting_in head) head show commands (state_in head live file) (held_in head.dim live file) disk0 disk1 out0 out1 log0 log1 ack (Some stop.Sink) left → (status : ℕ) → status ≡ 4 →
-      RunsOn (LeavesAll head (state_in head live file) disk0 disk1) show bytes head live file disk1 out0 out1 log0 log1 status
+      RunsOn (LeavesAll head (state_in head live file) disk0 disk1) show asked head live file disk1 out0 out1 log0 log1 status
   cut_runs ran status is = record {
     turns = ran.turns;
     more = ran.more;
@@ -143,9 +143,9 @@ module _ (show : Bool) (bytes : List ℕ) (head : Head) (live : Live) (file : Li
     lined : (why : Stop) (line : List ℕ) (ran : HasRun (setting_in head) head show commands (state_in head live file) (held_in head.dim live file) disk0 disk1 out0 out1 log0 log1 ack (Some why) left) →
         (ran.rest ≡ []) × (ran.log_rest ≡ []) → Tells out1 out2 line → (status : ℕ) →
         ((rest : List ℕ) → IsTold (Rose out0.faults out2.faults) rest line → SessionEnds (Rose out0.faults out2.faults) status head show (state_in head live file) (held_in head.dim live file) ran.turns ran.more rest []) → status ≢ 0 →
-        RunsOn (LeavesAll head (state_in head live file) disk0 disk1) show bytes head live file disk1 out0 out2 log0 log1 status
+        RunsOn (LeavesAll head (state_in head live file) disk0 disk1) show asked head live file disk1 out0 out2 log0 log1 status
     lined why line ran nothing told status ends other =
-        with_line show bytes head live file disk0 disk1 out0 out1 out2 log0 log1 (LeavesAll head (state_in head live file) disk0 disk1) ran.turns ran.more line (sym script_is ∙ ran.whole) ran.are
+        with_line show asked head live file disk0 disk1 out0 out1 out2 log0 log1 (LeavesAll head (state_in head live file) disk0 disk1) ran.turns ran.more line (sym script_is ∙ ran.whole) ran.are
         (subst (λ (l : List ℕ). Appends out0.written out1.written l) (append-nil (concat (texts_of show (answers_of ran.turns))))
         (subst (λ (rest : List ℕ). Appends out0.written out1.written (concat (texts_of show (answers_of ran.turns)) ++ rest)) nothing.0 ran.written))
         (subst (λ (l : List ℕ). Appends log0.written log1.written l) (append-nil (framed (logs_of (answers_of ran.turns))))
@@ -155,7 +155,7 @@ module _ (show : Bool) (bytes : List ℕ) (head : Head) (live : Live) (file : Li
     -- it was stopped
     pub stopped_runs : (why : Stop) (status : ℕ) → HasRun (setting_in head) head show commands (state_in head live file) (held_in head.dim live file) disk0 disk1 out0 out1 log0 log1 ack (Some why) left →
         HasEnded why out1 out2 status → HasStopCause Sound disk0 disk1 out0 out1 log0 log1 why → Sound →
-        RunsOn (LeavesAll head (state_in head live file) disk0 disk1) show bytes head live file disk1 out0 out2 log0 log1 status
+        RunsOn (LeavesAll head (state_in head live file) disk0 disk1) show asked head live file disk1 out0 out2 log0 log1 status
     stopped_runs stop.Sink status ran ended cause sound = rw ended.1 (cut_runs ran status ended.0)
     stopped_runs stop.Disk status ran ended cause sound =
         lined stop.Disk (codes "fault disk\n") ran ran.ends ended.1 status (λ rest line. disk_ends _ _ ran.more rest (answers_of ran.turns) status ended.0 line) (λ e. absurd (omega (arith, ended.0)))
@@ -234,27 +234,27 @@ memory_finished head disk out0 out1 log status is told = record {
 is_left : {M : Type 0} (new : OpenIndex M) (disk1 : DiskState) (head : Head) → new.file.head ≡ head → StandsAlone new disk1 → IsTrue disk1.tells → IsLeft head (held_on new.file disk1) disk1
 is_left new disk1 head same alone tells = subst (λ (h : Head). IsLeft h (held_on new.file disk1) disk1) same (record { opens = alone.stands.opens tells; nodes = refl; only = alone.only tells })
 
-module _ {M : Type 0} (show : Bool) (bytes : List ℕ) (old new : OpenIndex M) (disk0 disk1 : DiskState) (out0 out1 log0 log1 : SinkState) (commands : List Command) (ack : ℕ)
-    (script_is : commands ≡ script old.file.head.dim bytes) (later : out0.faults ≤ out1.faults) (told : disk1.tells ≡ disk0.tells) where
+module _ {M : Type 0} (show : Bool) (asked : ℕ → List Command) (old new : OpenIndex M) (disk0 disk1 : DiskState) (out0 out1 log0 log1 : SinkState) (commands : List Command) (ack : ℕ)
+    (script_is : commands ≡ asked old.file.head.dim) (later : out0.faults ≤ out1.faults) (told : disk1.tells ≡ disk0.tells) where
   pub opened_done : (IsSoundOn (space_of old.file.head) old.file disk0 →
       HasRun (setting_of (space_of old.file.head) old.file) old.file.head show commands (state_on old.file disk0 no_cursors) (held_on old.file disk0) disk0 disk1 out0 out1 log0 log1 ack None (held_on new.file disk1)) →
       new.file.head ≡ old.file.head → StandsAlone new disk1 → IsTrue disk0.tells → IsSoundTree (space_of old.file.head) (nodes_on old.file disk0) old.file.live →
-      RunsOn (LeavesAll old.file.head (state_in old.file.head old.file.live disk0.bytes) disk0 disk1) show bytes old.file.head old.file.live disk0.bytes disk1 out0 out1 log0 log1 0
+      RunsOn (LeavesAll old.file.head (state_in old.file.head old.file.live disk0.bytes) disk0 disk1) show asked old.file.head old.file.live disk0.bytes disk1 out0 out1 log0 log1 0
   opened_done run same alone tells sound =
-      done_runs show bytes old.file.head old.file.live disk0.bytes disk0 disk1 out0 out1 log0 log1 commands ack (held_on new.file disk1) script_is later (run (tells, sound))
+      done_runs show asked old.file.head old.file.live disk0.bytes disk0 disk1 out0 out1 log0 log1 commands ack (held_on new.file disk1) script_is later (run (tells, sound))
       (is_left new disk1 old.file.head same alone (rw told tells))
 
   pub opened_stopped : (out2 : SinkState) (why : Stop) (status : ℕ) → (IsSoundOn (space_of old.file.head) old.file disk0 →
       HasRun (setting_of (space_of old.file.head) old.file) old.file.head show commands (state_on old.file disk0 no_cursors) (held_on old.file disk0) disk0 disk1 out0 out1 log0 log1 ack (Some why)
       (held_on new.file disk1)) → HasEnded why out1 out2 status → HasStopCause (IsSoundOn (space_of old.file.head) old.file disk0) disk0 disk1 out0 out1 log0 log1 why →
       IsTrue disk0.tells → IsSoundTree (space_of old.file.head) (nodes_on old.file disk0) old.file.live →
-      RunsOn (LeavesAll old.file.head (state_in old.file.head old.file.live disk0.bytes) disk0 disk1) show bytes old.file.head old.file.live disk0.bytes disk1 out0 out2 log0 log1 status
+      RunsOn (LeavesAll old.file.head (state_in old.file.head old.file.live disk0.bytes) disk0 disk1) show asked old.file.head old.file.live disk0.bytes disk1 out0 out2 log0 log1 status
   opened_stopped out2 why status run ended cause tells sound =
-      stopped_runs show bytes old.file.head old.file.live disk0.bytes disk0 disk1 out0 out1 log0 log1 commands ack (held_on new.file disk1) script_is later (IsSoundOn (space_of old.file.head) old.file disk0) out2 why status
+      stopped_runs show asked old.file.head old.file.live disk0.bytes disk0 disk1 out0 out1 log0 log1 commands ack (held_on new.file disk1) script_is later (IsSoundOn (space_of old.file.head) old.file disk0) out2 why status
       (run (tells, sound)) ended cause (tells, sound)
 
-module _ {M : Type 0} (s : Space) (show : Bool) (bytes : List ℕ) (old new : OpenIndex M) (disk0 disk1 : DiskState) (out0 out1 log0 log1 : SinkState) (commands : List Command) (ack : ℕ) (ended : Option Stop)
-    (same : s ≡ space_of old.file.head) (script_is : commands ≡ script old.file.head.dim bytes) (later : out0.faults ≤ out1.faults) (told : disk1.tells ≡ disk0.tells)
+module _ {M : Type 0} (s : Space) (show : Bool) (asked : ℕ → List Command) (old new : OpenIndex M) (disk0 disk1 : DiskState) (out0 out1 log0 log1 : SinkState) (commands : List Command) (ack : ℕ) (ended : Option Stop)
+    (same : s ≡ space_of old.file.head) (script_is : commands ≡ asked old.file.head.dim) (later : out0.faults ≤ out1.faults) (told : disk1.tells ≡ disk0.tells)
     (run : IsSoundOn s old.file disk0 →
     HasRun (setting_of s old.file) old.file.head show commands (state_on old.file disk0 no_cursors) (held_on old.file disk0) disk0 disk1 out0 out1 log0 log1 ack ended (held_on new.file disk1)) where
   run_in : (e : Option Stop) → ended ≡ e → IsSoundOn (space_of old.file.head) old.file disk0 →
@@ -266,18 +266,18 @@ module _ {M : Type 0} (s : Space) (show : Bool) (bytes : List ℕ) (old new : Op
       HasRun (setting_of x old.file) old.file.head show commands (state_on old.file disk0 no_cursors) (held_on old.file disk0) disk0 disk1 out0 out1 log0 log1 ack ended (held_on new.file disk1)) same run)
 
   pub is_done : ended ≡ None → new.file.head ≡ old.file.head → StandsAlone new disk1 → IsTrue disk0.tells → IsSoundTree (space_of old.file.head) (nodes_on old.file disk0) old.file.live →
-      RunsOn (LeavesAll old.file.head (state_in old.file.head old.file.live disk0.bytes) disk0 disk1) show bytes old.file.head old.file.live disk0.bytes disk1 out0 out1 log0 log1 0
-  is_done is same_head alone tells sound = opened_done show bytes old new disk0 disk1 out0 out1 log0 log1 commands ack script_is later told (run_in None is) same_head alone tells sound
+      RunsOn (LeavesAll old.file.head (state_in old.file.head old.file.live disk0.bytes) disk0 disk1) show asked old.file.head old.file.live disk0.bytes disk1 out0 out1 log0 log1 0
+  is_done is same_head alone tells sound = opened_done show asked old new disk0 disk1 out0 out1 log0 log1 commands ack script_is later told (run_in None is) same_head alone tells sound
 
   pub is_stopped : (out2 : SinkState) (why : Stop) (status : ℕ) → ended ≡ Some why → HasEnded why out1 out2 status →
       MatchOption ended (Unit {0}) (HasStopCause (IsSoundOn s old.file disk0) disk0 disk1 out0 out1 log0 log1) → IsTrue disk0.tells → IsSoundTree (space_of old.file.head) (nodes_on old.file disk0) old.file.live →
-      RunsOn (LeavesAll old.file.head (state_in old.file.head old.file.live disk0.bytes) disk0 disk1) show bytes old.file.head old.file.live disk0.bytes disk1 out0 out2 log0 log1 status
+      RunsOn (LeavesAll old.file.head (state_in old.file.head old.file.live disk0.bytes) disk0 disk1) show asked old.file.head old.file.live disk0.bytes disk1 out0 out2 log0 log1 status
   is_stopped out2 why status is end cause tells sound =
-      opened_stopped show bytes old new disk0 disk1 out0 out1 log0 log1 commands ack script_is later told out2 why status (run_in (Some why) is) end
+      opened_stopped show asked old new disk0 disk1 out0 out1 log0 log1 commands ack script_is later told out2 why status (run_in (Some why) is) end
       (subst (λ (x : Space). HasStopCause (IsSoundOn x old.file disk0) disk0 disk1 out0 out1 log0 log1 why) same (rw is at cause)) tells sound
 
   -- few pages were read
-  pub few_read : ended ≡ None → IsTrue disk0.tells → IsSoundTree (space_of old.file.head) (nodes_on old.file disk0) old.file.live → AllByRecursion IsAsking (script old.file.head.dim bytes) → ReadsFew 0 show disk0 disk1 log0 log1
+  pub few_read : ended ≡ None → IsTrue disk0.tells → IsSoundTree (space_of old.file.head) (nodes_on old.file disk0) old.file.live → AllByRecursion IsAsking (asked old.file.head.dim) → ReadsFew 0 show disk0 disk1 log0 log1
   few_read is tells sound asks = record {
     logs = logs_of (answers_of ran.turns);
     logged = subst (λ (l : List ℕ). Appends log0.written log1.written l) (append-nil (framed (logs_of (answers_of ran.turns))))
@@ -305,12 +305,12 @@ held index disk words same lawful alone tells sound image left =
     (holds (space_of index.file.head) index.file disk _ _ (subst (λ (w : ℕ). IsLawfulFile w index.file) same lawful) alone.stands (objects_on (space_of index.file.head) index.file disk (tells, sound)))
 
 -- nothing was done: the line of a fault is all that was put
-pub unread : (show : Bool) (bytes : List ℕ) (head : Head) (live : Live) (file : List ℕ) (disk0 disk1 : DiskState) (out0 out1 log : SinkState) (line : List ℕ) (Left : List Turn → List Command → Type 0) →
-    Tells out0 out1 line → Left [] (script head.dim bytes) → (status : ℕ) →
-    ((rest : List ℕ) → IsTold (Rose out0.faults out1.faults) rest line → SessionEnds (Rose out0.faults out1.faults) status head show (state_in head live file) (held_in head.dim live file) [] (script head.dim bytes) rest []) →
-    status ≢ 0 → RunsOn Left show bytes head live file disk1 out0 out1 log log status
-unread show bytes head live file disk0 disk1 out0 out1 log line Left told left status ends other =
-    with_line show bytes head live file disk0 disk1 out0 out0 out1 log log Left [] (script head.dim bytes) line refl tt (Appends-nil out0.written) (Appends-nil log.written) (omega arith) told left status ends other
+pub unread : (show : Bool) (asked : ℕ → List Command) (head : Head) (live : Live) (file : List ℕ) (disk0 disk1 : DiskState) (out0 out1 log : SinkState) (line : List ℕ) (Left : List Turn → List Command → Type 0) →
+    Tells out0 out1 line → Left [] (asked head.dim) → (status : ℕ) →
+    ((rest : List ℕ) → IsTold (Rose out0.faults out1.faults) rest line → SessionEnds (Rose out0.faults out1.faults) status head show (state_in head live file) (held_in head.dim live file) [] (asked head.dim) rest []) →
+    status ≢ 0 → RunsOn Left show asked head live file disk1 out0 out1 log log status
+unread show asked head live file disk0 disk1 out0 out1 log line Left told left status ends other =
+    with_line show asked head live file disk0 disk1 out0 out0 out1 log log Left [] (asked head.dim) line refl tt (Appends-nil out0.written) (Appends-nil log.written) (omega arith) told left status ends other
 
 -- a session that did nothing left the objects that were there
 pub nothing_left : (head : Head) (live : Live) (file : List ℕ) (disk : DiskState) (more : List Command) → ((image : List ℕ) → MayLeave disk image → HoldsState (space_of head) head (state_in head live file) image) →
@@ -320,9 +320,9 @@ nothing_left head live file disk more holds = (started disk _ (λ image left. in
 -- ---- since the opening
 
 -- what is left is said in another way
-pub said_of : {L K : List Turn → List Command → Type 0} (show : Bool) (bytes : List ℕ) (head : Head) (live : Live) (file : List ℕ) (disk1 : DiskState) (out0 out1 log0 log1 : SinkState) (status : ℕ) →
-    ((turns : List Turn) (more : List Command) → L turns more → K turns more) → RunsOn L show bytes head live file disk1 out0 out1 log0 log1 status → RunsOn K show bytes head live file disk1 out0 out1 log0 log1 status
-said_of show bytes head live file disk1 out0 out1 log0 log1 status run ran = record {
+pub said_of : {L K : List Turn → List Command → Type 0} (show : Bool) (asked : ℕ → List Command) (head : Head) (live : Live) (file : List ℕ) (disk1 : DiskState) (out0 out1 log0 log1 : SinkState) (status : ℕ) →
+    ((turns : List Turn) (more : List Command) → L turns more → K turns more) → RunsOn L show asked head live file disk1 out0 out1 log0 log1 status → RunsOn K show asked head live file disk1 out0 out1 log0 log1 status
+said_of show asked head live file disk1 out0 out1 log0 log1 status run ran = record {
   turns = ran.turns;
   more = ran.more;
   rest = ran.rest;
@@ -347,12 +347,12 @@ pub opening : (disk0 disk1 disk2 : DiskState) → IsUnchanged disk0 disk1 → Ea
 opening disk0 disk1 disk2 same time = joined disk0 disk1 disk2 (MayLeave disk0) same.time (weakened disk1 disk2 (MayLeave disk1) (MayLeave disk0) time (λ image left. (same.same_images image).0 left))
 
 -- the index is not opened at all
-pub refused_runs : FaultIsNotOpen → OneLiveSlot → (show : Bool) (bytes : List ℕ) (disk0 disk1 : DiskState) (out0 out1 log : SinkState) (status : ℕ) → IsUnchanged disk0 disk1 → Refuses disk0 disk1 out0 out1 status →
-    RunsScript show bytes disk0 disk1 out0 out1 log log status
-refused_runs faults one show bytes disk0 disk1 out0 out1 log status same refuses tells head live sound = elim refuses.statuses [
+pub refused_runs : FaultIsNotOpen → OneLiveSlot → (show : Bool) (asked : ℕ → List Command) (disk0 disk1 : DiskState) (out0 out1 log : SinkState) (status : ℕ) → IsUnchanged disk0 disk1 → Refuses disk0 disk1 out0 out1 status →
+    RunsAsked show asked disk0 disk1 out0 out1 log log status
+refused_runs faults one show asked disk0 disk1 out0 out1 log status same refuses tells head live sound = elim refuses.statuses [
   | inl five ↦
-      unread show bytes head live disk0.bytes disk0 disk1 out0 out1 log (codes "fault disk\n") (Leaves head (state_in head live disk0.bytes) disk0 disk1) (refuses.disk five).1 (inl (refl, same.time)) status
-      (λ rest line. disk_ends (Rose out0.faults out1.faults) _ (script head.dim bytes) rest [] status five line) (λ e. absurd (omega arith))
+      unread show asked head live disk0.bytes disk0 disk1 out0 out1 log (codes "fault disk\n") (Leaves head (state_in head live disk0.bytes) disk0 disk1) (refuses.disk five).1 (inl (refl, same.time)) status
+      (λ rest line. disk_ends (Rose out0.faults out1.faults) _ (asked head.dim) rest [] status five line) (λ e. absurd (omega arith))
   | inr six ↦ let named = refuses.not_index six in absurd (no_index_unsound faults one disk0.bytes named.0 (named.2 tells) head live sound)
 ]
 
@@ -390,13 +390,13 @@ memory_ends_it disk0 disk1 out0 out1 log status is told = record {
 }
 
 -- a session that is refused while it opens the index puts only a line
-pub memory_runs : (show : Bool) (bytes : List ℕ) (disk0 disk1 disk2 : DiskState) (out0 out1 log : SinkState) (status : ℕ) → IsUnchanged disk0 disk1 → EachImage disk1 disk2 (MayLeave disk1) → status ≡ 8 →
-    Tells out0 out1 (codes "fault memory\n") → RunsScript show bytes disk0 disk2 out0 out1 log log status
-memory_runs show bytes disk0 disk1 disk2 out0 out1 log status same time eight told tells head live sound =
-    unread show bytes head live disk0.bytes disk0 disk2 out0 out1 log (codes "fault memory\n") (Leaves head (state_in head live disk0.bytes) disk0 disk2) told (inl (refl, opening disk0 disk1 disk2 same time)) status
-    (λ rest line. memory_ends (Rose out0.faults out1.faults) _ (script head.dim bytes) rest [] status eight line) (λ e. absurd (omega arith))
+pub memory_runs : (show : Bool) (asked : ℕ → List Command) (disk0 disk1 disk2 : DiskState) (out0 out1 log : SinkState) (status : ℕ) → IsUnchanged disk0 disk1 → EachImage disk1 disk2 (MayLeave disk1) → status ≡ 8 →
+    Tells out0 out1 (codes "fault memory\n") → RunsAsked show asked disk0 disk2 out0 out1 log log status
+memory_runs show asked disk0 disk1 disk2 out0 out1 log status same time eight told tells head live sound =
+    unread show asked head live disk0.bytes disk0 disk2 out0 out1 log (codes "fault memory\n") (Leaves head (state_in head live disk0.bytes) disk0 disk2) told (inl (refl, opening disk0 disk1 disk2 same time)) status
+    (λ rest line. memory_ends (Rose out0.faults out1.faults) _ (asked head.dim) rest [] status eight line) (λ e. absurd (omega arith))
 
-module _ (faults : FaultIsNotOpen) (one : OneLiveSlot) (show : Bool) (bytes : List ℕ) (disk0 disk1 disk2 : DiskState) (out0 out1 log : SinkState) (words status : ℕ) (why : OpenFault) (opened : Head × Live)
+module _ (faults : FaultIsNotOpen) (one : OneLiveSlot) (show : Bool) (asked : ℕ → List Command) (disk0 disk1 disk2 : DiskState) (out0 out1 log : SinkState) (words status : ℕ) (why : OpenFault) (opened : Head × Live)
     (same : IsUnchanged disk0 disk1) (later : disk0.faults ≤ disk1.faults) (opens : IsTrue disk0.tells → OpensTo disk0.bytes opened.0 opened.1) (version : opened.0.version ≡ 2) (dim : words ≡ opened.0.dim)
     (cause : HasReaderCause words disk1 disk2 why) (five : status ≡ 5 → why ≡ fault.Disk) (six : status ≡ 6 → why ≢ fault.Disk) (line : Tells out0 out1 (unopened_text why)) (statuses : (status ≡ 5) ⊎ (status ≡ 6)) where
   told : IsTrue disk0.tells → IsTrue disk1.tells
@@ -425,12 +425,12 @@ module _ (faults : FaultIsNotOpen) (one : OneLiveSlot) (show : Bool) (bytes : Li
       no_version is v (inl (w, e, named)) = let none : open_fault disk0.bytes ≡ None = (faults disk0.bytes).1 (opened.0, opened.1, is) in cc
       no_version is v (inr (h, l, other, old, named)) = let e = one disk0.bytes opened.0 h opened.1 l is other in omega (arith, ap (λ (x : Head). x.version) e.0, v, old)
 
-  pub unopened_runs : EachImage disk1 disk2 (MayLeave disk1) → RunsScript show bytes disk0 disk2 out0 out1 log log status
+  pub unopened_runs : EachImage disk1 disk2 (MayLeave disk1) → RunsAsked show asked disk0 disk2 out0 out1 log log status
   unopened_runs time tells head live sound = elim statuses [
     | inl is ↦
-        unread show bytes head live disk0.bytes disk0 disk2 out0 out1 log (codes "fault disk\n") (Leaves head (state_in head live disk0.bytes) disk0 disk2)
+        unread show asked head live disk0.bytes disk0 disk2 out0 out1 log (codes "fault disk\n") (Leaves head (state_in head live disk0.bytes) disk0 disk2)
         (subst (λ (w : OpenFault). Tells out0 out1 (unopened_text w)) (five is) line) (inl (refl, opening disk0 disk1 disk2 same time)) status
-        (λ rest line. disk_ends (Rose out0.faults out1.faults) _ (script head.dim bytes) rest [] status is line) (λ e. absurd (omega arith))
+        (λ rest line. disk_ends (Rose out0.faults out1.faults) _ (asked head.dim) rest [] status is line) (λ e. absurd (omega arith))
     | inr is ↦ absurd (never tells (six is))
   ]
 
@@ -495,7 +495,7 @@ module _ {M : Type 0} (one : OneLiveSlot) (index : OpenIndex M) (opened : Head �
   opened_is = (one disk0.bytes opened.0 index.file.head opened.1 index.file.live (opens tells) opens_here).0
 
 -- a session on the opened index, said of the file as it was before
-module _ {M : Type 0} (kind_of dim_of : M → ℕ) (one : OneLiveSlot) (show : Bool) (bytes : List ℕ) (index : OpenIndex M) (opened : Head × Live) (disk0 disk1 disk2 disk3 : DiskState) (out0 out1 log0 log1 : SinkState) (status : ℕ)
+module _ {M : Type 0} (kind_of dim_of : M → ℕ) (one : OneLiveSlot) (show : Bool) (asked : ℕ → List Command) (index : OpenIndex M) (opened : Head × Live) (disk0 disk1 disk2 disk3 : DiskState) (out0 out1 log0 log1 : SinkState) (status : ℕ)
     (same : IsUnchanged disk0 disk1) (time : EachImage disk1 disk2 (MayLeave disk1)) (bytes_same : disk2.bytes ≡ disk1.bytes) (tells_same : disk2.tells ≡ disk1.tells)
     (reopens : IsTrue disk2.tells → OpensTo disk2.bytes index.file.head index.file.live) (opens : IsTrue disk0.tells → OpensTo disk0.bytes opened.0 opened.1)
     (kind : kind_of index.file.metric ≡ opened.0.kind) (dim : dim_of index.file.metric ≡ opened.0.dim) where
@@ -524,18 +524,18 @@ module _ {M : Type 0} (kind_of dim_of : M → ℕ) (one : OneLiveSlot) (show : B
 
   pub since_opening :
       (IsTrue disk2.tells → kind_of index.file.metric ≡ index.file.head.kind → dim_of index.file.metric ≡ index.file.head.dim → IsSoundTree (space_of index.file.head) (nodes_on index.file disk2) index.file.live →
-      RunsOn (LeavesAll index.file.head (state_in index.file.head index.file.live disk2.bytes) disk2 disk3) show bytes index.file.head index.file.live disk2.bytes disk3 out0 out1 log0 log1 status) →
-      RunsScript show bytes disk0 disk3 out0 out1 log0 log1 status
+      RunsOn (LeavesAll index.file.head (state_in index.file.head index.file.live disk2.bytes) disk2 disk3) show asked index.file.head index.file.live disk2.bytes disk3 out0 out1 log0 log1 status) →
+      RunsAsked show asked disk0 disk3 out0 out1 log0 log1 status
   since_opening run tells head live sound =
-      said_of show bytes head live disk0.bytes disk3 out0 out1 log0 log1 status (λ turns more left. left_since head (state_in head live disk0.bytes) disk0 disk2 disk3 (opening disk0 disk1 disk2 same time) turns more left)
-      (said_before (λ dim. Unit {0}) (λ h l f. RunsOn (LeavesAll h (state_in h l f) disk2 disk3) show bytes h l f disk3 out0 out1 log0 log1 status) head live tells sound tt
+      said_of show asked head live disk0.bytes disk3 out0 out1 log0 log1 status (λ turns more left. left_since head (state_in head live disk0.bytes) disk0 disk2 disk3 (opening disk0 disk1 disk2 same time) turns more left)
+      (said_before (λ dim. Unit {0}) (λ h l f. RunsOn (LeavesAll h (state_in h l f) disk2 disk3) show asked h l f disk3 out0 out1 log0 log1 status) head live tells sound tt
       (λ told is_kind is_dim tree asks. run told is_kind is_dim tree))
 
   pub reads_since : disk1.reads ≤ disk0.reads + 3 → disk2.reads ≤ disk1.reads + 3 →
       (status ≡ 0 → IsTrue disk2.tells → kind_of index.file.metric ≡ index.file.head.kind → dim_of index.file.metric ≡ index.file.head.dim → IsSoundTree (space_of index.file.head) (nodes_on index.file disk2) index.file.live →
-      AllByRecursion IsAsking (script index.file.head.dim bytes) → ReadsFew 0 show disk2 disk3 log0 log1) → ReadsScript show bytes disk0 disk3 log0 log1 status
+      AllByRecursion IsAsking (asked index.file.head.dim) → ReadsFew 0 show disk2 disk3 log0 log1) → ReadsAsked show asked disk0 disk3 log0 log1 status
   reads_since first second run zero tells head live sound asks =
-      let few = said_before (λ dim. AllByRecursion IsAsking (script dim bytes)) (λ h l f. ReadsFew 0 show disk2 disk3 log0 log1) head live tells sound asks (run zero) in
+      let few = said_before (λ dim. AllByRecursion IsAsking (asked dim)) (λ h l f. ReadsFew 0 show disk2 disk3 log0 log1) head live tells sound asks (run zero) in
       record { logs = few.logs; logged = few.logged; reads = let r = few.reads in omega (arith, first, second, r) }
 
 -- what ended it
@@ -579,7 +579,7 @@ pub unread_session : (show : Bool) (input : Option (List ℕ)) (disk : DiskState
     RunsSession show input disk disk out0 out1 log log status
 unread_session show input disk out0 out1 log status line told zero five six nine lines ends = record {
   runs = always input _ (λ bytes tells head live sound.
-      unread show bytes head live disk.bytes disk disk out0 out1 log line (Leaves head (state_in head live disk.bytes) disk disk) told (inl (refl, started disk (MayLeave disk) (λ image left. left))) status
+      unread show (asked_by bytes) head live disk.bytes disk disk out0 out1 log line (Leaves head (state_in head live disk.bytes) disk disk) told (inl (refl, started disk (MayLeave disk) (λ image left. left))) status
       (λ rest l. ends bytes head live rest l) zero);
   reads = always input _ (λ bytes is. absurd (zero is));
   disk = λ is. absurd (five is);

@@ -14,6 +14,7 @@ pub mod Stepped
 pub mod Turning
 pub mod Runs
 pub mod Meanings
+mod RowLists
 mod Taken
 mod Jobs
 pub mod Published

@@ -4,3 +4,4 @@ pub mod Pinned
 pub mod Steps
 pub mod Laws
 pub mod Job
+pub mod GivenRows

@@ -8,11 +8,11 @@ ghost use Rattle.tree_shape.specs.Tree.{IsSoundTree};
 ghost use Rattle.index_core.specs.Files.{nodes_on};
 ghost use Rattle.index_core.specs.Index.{MayGoOn};
 ghost use Rattle.std.specs.List.{AllByRecursion};
-ghost use Rattle.rows_text.specs.Script.{script};
 ghost use Rattle.session_run.specs.Session.{IsAsking};
 ghost use Rattle.file_jobs.specs.Spaces.{space_of};
-ghost use Rattle.session_run.specs.Job.{HasEnded, HasFinished, HasRefused, IsComplete, IsSessionStatus, LeavesAll, ReadsFew, ReadsScript, RunsOn, RunsScript, RunsSession, state_in};
+ghost use Rattle.session_run.specs.Job.{HasEnded, HasFinished, HasRefused, IsComplete, IsSessionStatus, LeavesAll, ReadsAsked, ReadsFew, RunsAsked, RunsOn, RunsSession, state_in};
 
+use crate::requests::{Requests, ScriptBytes};
 use crate::running::session;
 use crate::stop::Stop;
 use bulk_load::Crew;
@@ -27,7 +27,6 @@ use metric_mix::MixSpace;
 use node_page::laws::{fault_is_not_open, one_live_slot};
 use outside_io::{ReadAll, Sink, Source, Status, read_all};
 use page_cache::KEPT_NODES;
-use rows_text::read_script;
 use std::alloc::Global;
 
 // Ends a session that stopped for the reason `why`.
@@ -46,32 +45,31 @@ fn end_stopped<K: Sink>(alloc: Global, why: Stop, out: &mut K) -> Status
     }
 }
 
-// Runs a script that is already read, on an opened index.
-fn run_opened<W: Crew<MixSpace>, D: Disk, K: Sink, T: Sink>(
+// Does what is asked on an opened index.
+fn run_opened<W: Crew<MixSpace>, S: Requests, D: Disk, K: Sink, T: Sink>(
     crew: &W,
     alloc: Global,
     opened: &mut Index<MixSpace>,
     index: &mut D,
     show_tags: bool,
-    bytes: &[u8],
+    requests: S,
     out: &mut K,
     log_out: &mut T,
 ) -> Status
     requires ready { W.ready crew.now }
     requires going { opened.old.stopped ≡ false }
     requires stands { MayGoOn opened.old (D.state index.old) }
-    requires few { length bytes.now ≤ 2 ^ 26 }
     ensures runs { IsTrue (D.state index.old).tells → mix_kind opened.old.file.metric ≡ opened.old.file.head.kind →
         mix_dim opened.old.file.metric ≡ opened.old.file.head.dim →
         IsSoundTree (space_of opened.old.file.head) (nodes_on opened.old.file (D.state index.old)) opened.old.file.live →
         RunsOn (LeavesAll opened.old.file.head (state_in opened.old.file.head opened.old.file.live (D.state index.old).bytes)
         (D.state index.old) (D.state index.new))
-        show_tags bytes.now opened.old.file.head opened.old.file.live (D.state index.old).bytes (D.state index.new)
+        show_tags (S.commands requests) opened.old.file.head opened.old.file.live (D.state index.old).bytes (D.state index.new)
         (K.state out.old) (K.state out.new) (T.state log_out.old) (T.state log_out.new) result.0 }
     ensures reads { result.0 ≡ 0 → IsTrue (D.state index.old).tells →
         mix_kind opened.old.file.metric ≡ opened.old.file.head.kind → mix_dim opened.old.file.metric ≡ opened.old.file.head.dim →
         IsSoundTree (space_of opened.old.file.head) (nodes_on opened.old.file (D.state index.old)) opened.old.file.live →
-        AllByRecursion IsAsking (script opened.old.file.head.dim bytes.now) →
+        AllByRecursion IsAsking (S.commands requests opened.old.file.head.dim) →
         ReadsFew 0 show_tags (D.state index.old) (D.state index.new) (T.state log_out.old) (T.state log_out.new) }
     ensures finished { HasFinished opened.old.file.head (D.state index.old) (D.state index.new) (K.state out.old) (K.state out.new)
         (T.state log_out.old) (T.state log_out.new) result.0 }
@@ -80,7 +78,7 @@ fn run_opened<W: Crew<MixSpace>, D: Disk, K: Sink, T: Sink>(
     ensures log_later { (T.state log_out.old).faults ≤ (T.state log_out.new).faults }
 {
     opened.is_lawful();
-    let Ok(commands) = read_script(alloc, bytes, opened.metric().words()) else {
+    let Ok(commands) = requests.read(alloc, opened.metric().words()) else {
         return end_with(out, FAULT_MEMORY, 8);
     };
     let ended = session(
@@ -92,24 +90,24 @@ fn run_opened<W: Crew<MixSpace>, D: Disk, K: Sink, T: Sink>(
     }
 }
 
-// Opens the index, and runs a script on it that is already read.
-fn run_on_index<W: Crew<MixSpace>, D: Disk, K: Sink, T: Sink>(
+/// Opens the index, and does on it what is asked. Writes each reply to `out` and the log of each query to `log_out`. `crew` does the work
+/// of loads, with `workers` workers, 1 to 64. The statuses are those of `run_session`, but 3 and 7, which are of its input.
+pub fn run_requests<W: Crew<MixSpace>, S: Requests, D: Disk, K: Sink, T: Sink>(
     crew: &W,
     alloc: Global,
     index: &mut D,
     workers: usize,
     show_tags: bool,
-    bytes: &[u8],
+    requests: S,
     out: &mut K,
     log_out: &mut T,
 ) -> Status
     requires ready { W.ready crew.now }
     requires some { 1 ≤ workers }
     requires many { workers ≤ 64 }
-    requires few { length bytes.now ≤ 2 ^ 26 }
-    ensures runs { RunsScript show_tags bytes.now (D.state index.old) (D.state index.new) (K.state out.old) (K.state out.new)
+    ensures runs { RunsAsked show_tags (S.commands requests) (D.state index.old) (D.state index.new) (K.state out.old) (K.state out.new)
         (T.state log_out.old) (T.state log_out.new) result.0 }
-    ensures reads { ReadsScript show_tags bytes.now (D.state index.old) (D.state index.new) (T.state log_out.old) (T.state log_out.new) result.0 }
+    ensures reads { ReadsAsked show_tags (S.commands requests) (D.state index.old) (D.state index.new) (T.state log_out.old) (T.state log_out.new) result.0 }
     ensures ends { HasRefused (D.state index.old) (D.state index.new) (K.state out.old) (K.state out.new) (T.state log_out.old) (T.state log_out.new) result.0 }
     ensures out_later { (K.state out.old).faults ≤ (K.state out.new).faults }
     ensures log_later { (T.state log_out.old).faults ≤ (T.state log_out.new).faults }
@@ -134,7 +132,7 @@ fn run_on_index<W: Crew<MixSpace>, D: Disk, K: Sink, T: Sink>(
         &mut opened,
         index,
         show_tags,
-        bytes,
+        requests,
         out,
         log_out,
     )
@@ -175,7 +173,16 @@ pub fn run_session<W: Crew<MixSpace>, D: Disk, S: Source, K: Sink, T: Sink>(
         × ((T.state log_out.old).faults ≤ (T.state log_out.new).faults) }
 {
     match read_all(alloc, input, MOST_INPUT) {
-        Ok(bytes) => run_on_index(crew, alloc, index, workers, show_tags, &bytes, out, log_out),
+        Ok(bytes) => run_requests(
+            crew,
+            alloc,
+            index,
+            workers,
+            show_tags,
+            ScriptBytes::new(&bytes),
+            out,
+            log_out,
+        ),
         Err(ReadAll::Fault) => end_with(out, FAULT_INPUT, 3),
         Err(ReadAll::TooLong) => end_with(out, FAULT_LONG, 7),
         Err(ReadAll::Memory) => end_with(out, FAULT_MEMORY, 8),

@@ -3,13 +3,17 @@
 
 mod answer;
 mod commands;
+mod given_rows;
 mod job;
 pub mod laws;
 mod pinned;
 mod queries;
+mod requests;
 mod running;
 mod stop;
 
-pub use job::run_session;
+pub use given_rows::{GivenRows, RowsToInsert, RowsToLoad};
+pub use job::{run_requests, run_session};
+pub use requests::{Requests, ScriptBytes};
 pub use running::{Ended, session};
 pub use stop::Stop;

@@ -1,7 +1,6 @@
-use Rattle.std.proofs.Common.{ap, ◌∙◌, ℕ, [], arith}
+use Rattle.std.proofs.Common.{ap, ◌∙◌, [], arith}
 use Rattle.metric_mix.specs.MixKinds.{mix_dim, mix_kind}
 use Rattle.metric_mix.specs.MixSpaces.{mix_space}
-use Rattle.rows_text.specs.Script.{script}
 use Rattle.index_core.specs.Answers.{IsSoundOn}
 use Rattle.answer_texts.proofs.Published.{memory_ends}
 use Rattle.session_run.specs.Job.{LeavesAll, state_in}
@@ -10,18 +9,18 @@ use Rattle.session_run.proofs.job.run_opened.Goals as goal
 
 pub returns-in-None-clause-runs : goal.returns-in-None-clause-runs
 returns-in-None-clause-runs g c = λ tells kind dim sound.
-    is_done (mix_space (mix_kind c.args.opened.now.file.metric) (mix_dim c.args.opened.now.file.metric)) c.args.show_tags c.args.bytes.now c.args.opened.now c.session-ended.new.index
+    is_done (mix_space (mix_kind c.args.opened.now.file.metric) (mix_dim c.args.opened.now.file.metric)) c.args.show_tags (g.S.Requests.commands c.args.requests) c.args.opened.now c.session-ended.new.index
     (g.D.Disk.state c.args.index.now) (g.D.Disk.state c.session-ended.new.disk) (g.K.Sink.state c.args.out.now) (g.K.Sink.state c.session-ended.new.out) (g.T.Sink.state c.args.log_out.now)
     (g.T.Sink.state c.session-ended.new.log_out) c.deref.result.now c.session-ended.result.acknowledged c.session-ended.result.stopped (λ i. mix_space (kind i) (dim i))
-    (c.deref.ensures.value ∙ c.in-Ok.ensures.script ∙ ap (λ (w : ℕ). script w c.args.bytes.now) (c.words.ensures ∙ ap mix_dim c.metric.ensures ∙ dim)) c.session-ended.ensures.out_later
+    (c.deref.ensures.value ∙ c.in-Ok.ensures.commands ∙ ap (g.S.Requests.commands c.args.requests) (c.words.ensures ∙ ap mix_dim c.metric.ensures ∙ dim)) c.session-ended.ensures.out_later
     c.session-ended.ensures.tells c.session-ended.ensures.run c.in-None.is (c.session-ended.ensures.head c.in-None.is) (c.session-ended.ensures.stands (c.session-ended.ensures.going c.in-None.is)) tells sound
 
 pub returns-clause-runs : goal.returns-clause-runs
 returns-clause-runs g c = λ tells kind dim sound.
-    is_stopped (mix_space (mix_kind c.args.opened.now.file.metric) (mix_dim c.args.opened.now.file.metric)) c.args.show_tags c.args.bytes.now c.args.opened.now c.session-ended.new.index
+    is_stopped (mix_space (mix_kind c.args.opened.now.file.metric) (mix_dim c.args.opened.now.file.metric)) c.args.show_tags (g.S.Requests.commands c.args.requests) c.args.opened.now c.session-ended.new.index
     (g.D.Disk.state c.args.index.now) (g.D.Disk.state c.session-ended.new.disk) (g.K.Sink.state c.args.out.now) (g.K.Sink.state c.session-ended.new.out) (g.T.Sink.state c.args.log_out.now)
     (g.T.Sink.state c.session-ended.new.log_out) c.deref.result.now c.session-ended.result.acknowledged c.session-ended.result.stopped (λ i. mix_space (kind i) (dim i))
-    (c.deref.ensures.value ∙ c.in-Ok.ensures.script ∙ ap (λ (w : ℕ). script w c.args.bytes.now) (c.words.ensures ∙ ap mix_dim c.metric.ensures ∙ dim)) c.session-ended.ensures.out_later
+    (c.deref.ensures.value ∙ c.in-Ok.ensures.commands ∙ ap (g.S.Requests.commands c.args.requests) (c.words.ensures ∙ ap mix_dim c.metric.ensures ∙ dim)) c.session-ended.ensures.out_later
     c.session-ended.ensures.tells c.session-ended.ensures.run (g.K.Sink.state c.end_stopped.new.out) c.in-Some.why c.end_stopped.result.0 c.in-Some.is c.end_stopped.ensures.ended c.session-ended.ensures.cause tells sound
 
 pub returns-in_default-clause-runs : goal.returns-in_default-clause-runs
@@ -29,9 +28,9 @@ returns-in_default-clause-runs g c = λ tells kind dim sound.
     let head = c.args.opened.now.file.head in
     let live = c.args.opened.now.file.live in
     let disk = g.D.Disk.state c.args.index.now in
-    unread c.args.show_tags c.args.bytes.now head live disk.bytes disk disk (g.K.Sink.state c.args.out.now) (g.K.Sink.state c.end_with.new.out) (g.T.Sink.state c.args.log_out.now) _
+    unread c.args.show_tags (g.S.Requests.commands c.args.requests) head live disk.bytes disk disk (g.K.Sink.state c.args.out.now) (g.K.Sink.state c.end_with.new.out) (g.T.Sink.state c.args.log_out.now) _
     (LeavesAll head (state_in head live disk.bytes) disk disk) c.end_with.ensures.line
-    (nothing_left head live disk.bytes disk (script head.dim c.args.bytes.now) (held c.args.opened.now disk (mix_dim c.args.opened.now.file.metric) dim c.is_lawful.ensures (c.requires.stands c.requires.going) tells sound))
+    (nothing_left head live disk.bytes disk (g.S.Requests.commands c.args.requests head.dim) (held c.args.opened.now disk (mix_dim c.args.opened.now.file.metric) dim c.is_lawful.ensures (c.requires.stands c.requires.going) tells sound))
     c.end_with.result.0 (λ rest line. memory_ends _ _ _ rest [] c.end_with.result.0 c.end_with.ensures.status line) (λ e. absurd (omega (arith, c.end_with.ensures.status)))
 
 pub returns-clause-finished : goal.returns-clause-finished
@@ -54,10 +53,10 @@ returns-in_default-clause-finished g c =
 
 pub returns-in-None-clause-reads : goal.returns-in-None-clause-reads
 returns-in-None-clause-reads g c = λ zero tells kind dim sound asks.
-    few_read (mix_space (mix_kind c.args.opened.now.file.metric) (mix_dim c.args.opened.now.file.metric)) c.args.show_tags c.args.bytes.now c.args.opened.now c.session-ended.new.index
+    few_read (mix_space (mix_kind c.args.opened.now.file.metric) (mix_dim c.args.opened.now.file.metric)) c.args.show_tags (g.S.Requests.commands c.args.requests) c.args.opened.now c.session-ended.new.index
     (g.D.Disk.state c.args.index.now) (g.D.Disk.state c.session-ended.new.disk) (g.K.Sink.state c.args.out.now) (g.K.Sink.state c.session-ended.new.out) (g.T.Sink.state c.args.log_out.now)
     (g.T.Sink.state c.session-ended.new.log_out) c.deref.result.now c.session-ended.result.acknowledged c.session-ended.result.stopped (λ i. mix_space (kind i) (dim i))
-    (c.deref.ensures.value ∙ c.in-Ok.ensures.script ∙ ap (λ (w : ℕ). script w c.args.bytes.now) (c.words.ensures ∙ ap mix_dim c.metric.ensures ∙ dim)) c.session-ended.ensures.out_later
+    (c.deref.ensures.value ∙ c.in-Ok.ensures.commands ∙ ap (g.S.Requests.commands c.args.requests) (c.words.ensures ∙ ap mix_dim c.metric.ensures ∙ dim)) c.session-ended.ensures.out_later
     c.session-ended.ensures.tells c.session-ended.ensures.run c.in-None.is tells sound asks
 
 pub returns-clause-reads : goal.returns-clause-reads

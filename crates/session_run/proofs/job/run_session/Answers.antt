@@ -1,3 +1,4 @@
+use Rattle.std.proofs.Common.{◌∙◌}
 use Rattle.session_run.proofs.Jobs.{input_session, long_session, memory_session, ran_complete, ran_session}
 use Rattle.session_run.proofs.job.run_session.Goals as goal
 
@@ -18,14 +19,14 @@ returns-in-Err-Memory-clause-runs g c =
 
 pub returns-in-Ok-clause-runs : goal.returns-in-Ok-clause-runs
 returns-in-Ok-clause-runs g c =
-    ran_session c.args.show_tags (g.S.Source.left c.args.input.now) (g.S.Source.left c.read_all.new.source) c.in-Ok.bytes.items c.deref.result.now (g.D.Disk.state c.args.index.now) (g.D.Disk.state c.run_on_index.new.index) (g.K.Sink.state c.args.out.now) (g.K.Sink.state c.run_on_index.new.out) (g.T.Sink.state c.args.log_out.now)
-    (g.T.Sink.state c.run_on_index.new.log_out) c.run_on_index.result.0
-    c.in-Ok.ensures.ok c.in-Ok.ensures.end c.deref.ensures.value c.run_on_index.ensures.runs c.run_on_index.ensures.reads c.run_on_index.ensures.ends
+    ran_session c.args.show_tags (g.S.Source.left c.args.input.now) (g.S.Source.left c.read_all.new.source) c.in-Ok.bytes.items c.new.result.bytes.now (g.D.Disk.state c.args.index.now) (g.D.Disk.state c.run_requests.new.index) (g.K.Sink.state c.args.out.now) (g.K.Sink.state c.run_requests.new.out) (g.T.Sink.state c.args.log_out.now)
+    (g.T.Sink.state c.run_requests.new.log_out) c.run_requests.result.0
+    c.in-Ok.ensures.ok c.in-Ok.ensures.end (c.new.ensures ∙ c.deref.ensures.value) c.run_requests.ensures.runs c.run_requests.ensures.reads c.run_requests.ensures.ends
 
 pub returns-in-Ok-clause-complete : goal.returns-in-Ok-clause-complete
 returns-in-Ok-clause-complete g c =
-    ran_complete c.args.show_tags (g.S.Source.left c.args.input.now) (g.D.Disk.state c.args.index.now) (g.D.Disk.state c.run_on_index.new.index) (g.K.Sink.state c.args.out.now) (g.K.Sink.state c.run_on_index.new.out) (g.T.Sink.state c.args.log_out.now)
-    (g.T.Sink.state c.run_on_index.new.log_out) c.run_on_index.result.0 _
-    (ran_session c.args.show_tags (g.S.Source.left c.args.input.now) (g.S.Source.left c.read_all.new.source) c.in-Ok.bytes.items c.deref.result.now (g.D.Disk.state c.args.index.now) (g.D.Disk.state c.run_on_index.new.index) (g.K.Sink.state c.args.out.now) (g.K.Sink.state c.run_on_index.new.out) (g.T.Sink.state c.args.log_out.now)
-    (g.T.Sink.state c.run_on_index.new.log_out) c.run_on_index.result.0
-    c.in-Ok.ensures.ok c.in-Ok.ensures.end c.deref.ensures.value c.run_on_index.ensures.runs c.run_on_index.ensures.reads c.run_on_index.ensures.ends) c.run_on_index.ensures.ends
+    ran_complete c.args.show_tags (g.S.Source.left c.args.input.now) (g.D.Disk.state c.args.index.now) (g.D.Disk.state c.run_requests.new.index) (g.K.Sink.state c.args.out.now) (g.K.Sink.state c.run_requests.new.out) (g.T.Sink.state c.args.log_out.now)
+    (g.T.Sink.state c.run_requests.new.log_out) c.run_requests.result.0 _
+    (ran_session c.args.show_tags (g.S.Source.left c.args.input.now) (g.S.Source.left c.read_all.new.source) c.in-Ok.bytes.items c.new.result.bytes.now (g.D.Disk.state c.args.index.now) (g.D.Disk.state c.run_requests.new.index) (g.K.Sink.state c.args.out.now) (g.K.Sink.state c.run_requests.new.out) (g.T.Sink.state c.args.log_out.now)
+    (g.T.Sink.state c.run_requests.new.log_out) c.run_requests.result.0
+    c.in-Ok.ensures.ok c.in-Ok.ensures.end (c.new.ensures ∙ c.deref.ensures.value) c.run_requests.ensures.runs c.run_requests.ensures.reads c.run_requests.ensures.ends) c.run_requests.ensures.ends

@@ -3,11 +3,11 @@ use Rattle.metric_mix.specs.MixKinds.{mix_dim, mix_kind}
 use Rattle.metric_mix.specs.declared.mix_space.MixSpace.{MixSpace}
 use Rattle.index_core.specs.Index.{OpenIndex}
 use Rattle.session_run.proofs.Jobs.{head_is, memory_ends_it, memory_runs, reads_since, refused_ends, refused_of, refused_runs, since_opening, unopened_ends, unopened_runs}
-use Rattle.session_run.proofs.job.run_on_index.Goals as goal
+use Rattle.session_run.proofs.job.run_requests.Goals as goal
 
 pub returns-in-Err-clause-runs : goal.returns-in-Err-clause-runs
 returns-in-Err-clause-runs g c =
-    refused_runs c.fault_is_not_open.ensures c.one_live_slot.ensures c.args.show_tags c.args.bytes.now (g.D.Disk.state c.args.index.now) (g.D.Disk.state c.open_index.new.disk) (g.K.Sink.state c.args.out.now)
+    refused_runs c.fault_is_not_open.ensures c.one_live_slot.ensures c.args.show_tags (g.S.Requests.commands c.args.requests) (g.D.Disk.state c.args.index.now) (g.D.Disk.state c.open_index.new.disk) (g.K.Sink.state c.args.out.now)
     (g.K.Sink.state c.open_index.new.out) (g.T.Sink.state c.args.log_out.now) c.in-Err.status.0 c.in-Err.ensures.same c.in-Err.ensures.refuses
 
 pub returns-in-Err-clause-ends : goal.returns-in-Err-clause-ends
@@ -22,21 +22,21 @@ returns-in_default-clause-ends g c =
 
 pub returns-in-Err-open_write-clause-runs : goal.returns-in-Err-open_write-clause-runs
 returns-in-Err-open_write-clause-runs g c =
-    unopened_runs c.fault_is_not_open.ensures c.one_live_slot.ensures c.args.show_tags c.args.bytes.now (g.D.Disk.state c.args.index.now) (g.D.Disk.state c.open_index.new.disk) (g.D.Disk.state c.open_write.new.disk)
+    unopened_runs c.fault_is_not_open.ensures c.one_live_slot.ensures c.args.show_tags (g.S.Requests.commands c.args.requests) (g.D.Disk.state c.args.index.now) (g.D.Disk.state c.open_index.new.disk) (g.D.Disk.state c.open_write.new.disk)
     (g.K.Sink.state c.args.out.now) (g.K.Sink.state c.end_unopened.new.out) (g.T.Sink.state c.args.log_out.now) (mix_dim c.space_of.result) c.end_unopened.result.0 c.in-Err-open_write.fault c.in-Ok.opened
     c.in-Ok.ensures.same c.in-Ok.ensures.later c.in-Ok.ensures.opens c.in-Ok.ensures.version c.space_of.ensures.dim c.in-Err-open_write.ensures.cause c.end_unopened.ensures.disk c.end_unopened.ensures.index
     (rw c.in-Ok.ensures.silent at c.end_unopened.ensures.line) c.end_unopened.ensures.statuses c.open_write.ensures.time
 
 pub returns-in-Err-open_write-clause-ends : goal.returns-in-Err-open_write-clause-ends
 returns-in-Err-open_write-clause-ends g c =
-    unopened_ends c.fault_is_not_open.ensures c.one_live_slot.ensures c.args.show_tags c.args.bytes.now (g.D.Disk.state c.args.index.now) (g.D.Disk.state c.open_index.new.disk) (g.D.Disk.state c.open_write.new.disk)
+    unopened_ends c.fault_is_not_open.ensures c.one_live_slot.ensures c.args.show_tags (g.S.Requests.commands c.args.requests) (g.D.Disk.state c.args.index.now) (g.D.Disk.state c.open_index.new.disk) (g.D.Disk.state c.open_write.new.disk)
     (g.K.Sink.state c.args.out.now) (g.K.Sink.state c.end_unopened.new.out) (g.T.Sink.state c.args.log_out.now) (mix_dim c.space_of.result) c.end_unopened.result.0 c.in-Err-open_write.fault c.in-Ok.opened
     c.in-Ok.ensures.same c.in-Ok.ensures.later c.in-Ok.ensures.opens c.in-Ok.ensures.version c.space_of.ensures.dim c.in-Err-open_write.ensures.cause c.end_unopened.ensures.disk c.end_unopened.ensures.index
     (rw c.in-Ok.ensures.silent at c.end_unopened.ensures.line) c.end_unopened.ensures.statuses
 
 pub returns-in_default-clause-runs : goal.returns-in_default-clause-runs
 returns-in_default-clause-runs g c =
-    memory_runs c.args.show_tags c.args.bytes.now (g.D.Disk.state c.args.index.now) (g.D.Disk.state c.open_index.new.disk) (g.D.Disk.state c.open_write.new.disk) (g.K.Sink.state c.args.out.now)
+    memory_runs c.args.show_tags (g.S.Requests.commands c.args.requests) (g.D.Disk.state c.args.index.now) (g.D.Disk.state c.open_index.new.disk) (g.D.Disk.state c.open_write.new.disk) (g.K.Sink.state c.args.out.now)
     (g.K.Sink.state c.end_with.new.out) (g.T.Sink.state c.args.log_out.now) c.end_with.result.0 c.in-Ok.ensures.same c.open_write.ensures.time c.end_with.ensures.status (rw c.in-Ok.ensures.silent at c.end_with.ensures.line)
 
 pub returns-clause-runs : goal.returns-clause-runs
@@ -45,7 +45,7 @@ returns-clause-runs g c =
     let live_is = ap (λ (i : OpenIndex MixSpace). i.file.live) c.in-Ok-use_cache.ensures.ok ∙ ap (λ (i : OpenIndex MixSpace). i.file.live) c.set_workers.ensures in
     let metric_is = ap (λ (i : OpenIndex MixSpace). i.file.metric) c.in-Ok-use_cache.ensures.ok ∙ ap (λ (i : OpenIndex MixSpace). i.file.metric) c.set_workers.ensures
     ∙ ap (λ (i : OpenIndex MixSpace). i.file.metric) c.in-Ok-open_write.ensures.opened in
-    since_opening mix_kind mix_dim c.one_live_slot.ensures c.args.show_tags c.args.bytes.now c.use_cache.new.self c.in-Ok.opened (g.D.Disk.state c.args.index.now) (g.D.Disk.state c.open_index.new.disk)
+    since_opening mix_kind mix_dim c.one_live_slot.ensures c.args.show_tags (g.S.Requests.commands c.args.requests) c.use_cache.new.self c.in-Ok.opened (g.D.Disk.state c.args.index.now) (g.D.Disk.state c.open_index.new.disk)
     (g.D.Disk.state c.open_write.new.disk) (g.D.Disk.state c.run_opened.new.index) (g.K.Sink.state c.args.out.now) (g.K.Sink.state c.run_opened.new.out) (g.T.Sink.state c.args.log_out.now)
     (g.T.Sink.state c.run_opened.new.log_out) c.run_opened.result.0 c.in-Ok.ensures.same c.open_write.ensures.time c.open_write.ensures.bytes c.open_write.ensures.tells
     (λ tells. rw (head_is, live_is) (c.in-Ok-open_write.ensures.stands.stands.opens tells)) c.in-Ok.ensures.opens (ap mix_kind metric_is ∙ c.space_of.ensures.kind) (ap mix_dim metric_is ∙ c.space_of.ensures.dim)
@@ -57,7 +57,7 @@ returns-clause-reads g c =
     let live_is = ap (λ (i : OpenIndex MixSpace). i.file.live) c.in-Ok-use_cache.ensures.ok ∙ ap (λ (i : OpenIndex MixSpace). i.file.live) c.set_workers.ensures in
     let metric_is = ap (λ (i : OpenIndex MixSpace). i.file.metric) c.in-Ok-use_cache.ensures.ok ∙ ap (λ (i : OpenIndex MixSpace). i.file.metric) c.set_workers.ensures
     ∙ ap (λ (i : OpenIndex MixSpace). i.file.metric) c.in-Ok-open_write.ensures.opened in
-    reads_since mix_kind mix_dim c.one_live_slot.ensures c.args.show_tags c.args.bytes.now c.use_cache.new.self c.in-Ok.opened (g.D.Disk.state c.args.index.now) (g.D.Disk.state c.open_index.new.disk)
+    reads_since mix_kind mix_dim c.one_live_slot.ensures c.args.show_tags (g.S.Requests.commands c.args.requests) c.use_cache.new.self c.in-Ok.opened (g.D.Disk.state c.args.index.now) (g.D.Disk.state c.open_index.new.disk)
     (g.D.Disk.state c.open_write.new.disk) (g.D.Disk.state c.run_opened.new.index) (g.K.Sink.state c.args.out.now) (g.K.Sink.state c.run_opened.new.out) (g.T.Sink.state c.args.log_out.now)
     (g.T.Sink.state c.run_opened.new.log_out) c.run_opened.result.0 c.in-Ok.ensures.same c.open_write.ensures.time c.open_write.ensures.bytes c.open_write.ensures.tells
     (λ tells. rw (head_is, live_is) (c.in-Ok-open_write.ensures.stands.stands.opens tells)) c.in-Ok.ensures.opens (ap mix_kind metric_is ∙ c.space_of.ensures.kind) (ap mix_dim metric_is ∙ c.space_of.ensures.dim)
