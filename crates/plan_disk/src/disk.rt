@@ -80,6 +80,13 @@ impl<'a> PlanDisk<'a> {
         self.size
     }
 
+    /// Returns the number of calls that failed.
+    pub fn faults(&self) -> u64
+        ensures { result ≡ self.now.faults }
+    {
+        self.faults
+    }
+
     /// Copies the file after the plan to the front of `room`.
     pub fn copy_to(&self, room: &mut [u8])
         requires { length (file_of self.now) ≤ length room.old }
