@@ -71,3 +71,7 @@ with_step plan step bytes = record plan { steps = plan.steps ++ step ∷ []; wri
 -- the plan as it was, with one fault more
 abbrev pub with_fault : Plan → Plan
 with_fault plan = record plan { faults = next_count plan.faults }
+
+-- the plan of the first steps alone
+abbrev pub first_steps : ℕ → Plan → Plan
+first_steps k plan = record plan { steps = take k plan.steps; written = take (total (take k plan.steps)) plan.written }
