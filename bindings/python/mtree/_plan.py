@@ -19,7 +19,7 @@ _WORDS_OF_COMMITS = ("id ", "loaded ")
 
 
 class Failed(Exception):
-    """A write or a sync failed, after so many syncs."""
+    """A write or a sync failed, after `syncs` syncs."""
 
     def __init__(self, syncs: int) -> None:
         super().__init__(syncs)
