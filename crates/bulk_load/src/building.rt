@@ -15,13 +15,13 @@ ghost use Rattle.bulk_load.specs.Postorder.{last_of};
 ghost use Rattle.bulk_load.specs.Sets.{load_by, page_by, IsLawfulLoad, top_height, top_nodes};
 
 use crate::BuildFault;
+use crate::crew::Crew;
 use crate::sharing::add_tree;
 use crate::subtree::{Loading, Set};
 use metric_laws::{Memory, Metric, Rows};
 use node_page::Head;
 use page_store::{NewTree, Numbering, Placed, RoomFault, settle};
 use std::alloc::Global;
-use std::thread::Threads;
 use tree_shape::{LAST_GENERATION, Live, fill};
 
 // Returns the least height of a tree with room for `count` objects, at most `most` entries to a node.
@@ -52,12 +52,13 @@ fn all_places(alloc: Global, count: usize) -> Result<Vec<u32>, Memory>
 }
 
 // Makes the tree of all rows, in place of one that has no objects.
-fn new_tree<R: Threads + Sync, M: Metric>(
-    rt: &R,
+fn new_tree<W: Crew<M>, M: Metric>(
+    crew: &W,
     alloc: Global,
     loading: &Loading<'_, M>,
     live: &Live,
 ) -> Result<NewTree, Memory>
+    requires ready { W.ready crew.now }
     requires load { IsLawfulLoad (load_by (M.space loading.now.metric) loading.now) }
     requires some { 0 < length loading.now.rows.now.points }
     requires few { length loading.now.rows.now.points ≤ 2 ^ 24 }
@@ -76,7 +77,7 @@ fn new_tree<R: Threads + Sync, M: Metric>(
         places: places.as_slice(),
     };
     let mut nodes = Vec::new(alloc);
-    let root = add_tree(rt, alloc, loading, &set, &mut nodes)?;
+    let root = add_tree(crew, alloc, loading, &set, &mut nodes)?;
     let left = vec![in alloc; live.root]?;
     Ok(NewTree {
         nodes,
@@ -90,8 +91,8 @@ fn new_tree<R: Threads + Sync, M: Metric>(
 /// Makes the nodes of the tree of `rows` with `tags`, for a commit to an index that has no objects. Row i gets the id i. The rows
 /// alone settle the tree: any number of workers gives the same. New nodes get the pages `numbers`, in order, and then those from
 /// the file's end on. Children are numbered before their parent, in order of groups.
-pub fn build<R: Threads + Sync, M: Metric>(
-    rt: &R,
+pub fn build<W: Crew<M>, M: Metric>(
+    crew: &W,
     alloc: Global,
     metric: M,
     workers: usize,
@@ -101,6 +102,7 @@ pub fn build<R: Threads + Sync, M: Metric>(
     rows: &Rows,
     tags: &[u64],
 ) -> Result<Placed, BuildFault>
+    requires ready { W.ready crew.now }
     requires head { IsLawfulHead head.now }
     requires live { IsLawfulLive head.now.limit (live.now.pages * 4096) live.now }
     requires empty { live.now.count ≡ 0 }
@@ -144,7 +146,7 @@ pub fn build<R: Threads + Sync, M: Metric>(
             first: live.pages,
         },
     };
-    let Ok(tree) = new_tree(rt, alloc, &loading, live) else {
+    let Ok(tree) = new_tree(crew, alloc, &loading, live) else {
         return Err(BuildFault::Memory);
     };
     match settle(alloc, &loading.numbering, live, tree) {

@@ -7,12 +7,12 @@ ghost use Rattle.tree_growth.specs.Groups.{entry, placed_from, filled_from};
 ghost use Rattle.bulk_load.specs.Groupable.{IsFill, IsSized, load_of};
 ghost use Rattle.bulk_load.specs.MemberLists.{lists_in, HaveMembers, groups_with};
 
+use crate::crew::Scout;
 use crate::distances::{Distances, centres_at, mutual_distances};
 use crate::filling::fill_up;
 use crate::placing::{Placing, group_number, place_all, seed_places};
 use metric_laws::{Listed, Memory, Metric, Rows};
 use std::alloc::Global;
-use std::thread::Threads;
 use tree_growth::{Group, Member};
 use tree_shape::Bounds;
 
@@ -93,12 +93,13 @@ fn groups_of(
 }
 
 // Returns the group of each object, where each group has at least `least` objects.
-fn parted<R: Threads + Sync, M: Metric>(
-    rt: &R,
+fn parted<W: Scout<M>, M: Metric>(
+    crew: &W,
     alloc: Global,
     placing: &Placing<'_, M>,
     least: usize,
 ) -> Result<Vec<Member>, Memory>
+    requires ready { W.ready crew.now }
     requires width { (0 < placing.now.distances.now.width) × (placing.now.distances.now.width ≤ 64) }
     requires seeds { length placing.now.seeds.now ≡ placing.now.distances.now.width }
     requires workers { (1 ≤ placing.now.workers) × (placing.now.workers ≤ 64) }
@@ -108,15 +109,15 @@ fn parted<R: Threads + Sync, M: Metric>(
     ensures small { IfOk result (λ v. All (λ p. p.group < placing.now.distances.now.width) v.items) }
     ensures len { IfOk result (λ v. vec_len v ≡ length placing.now.distances.now.table) }
 {
-    let mut placed = place_all(rt, alloc, placing)?;
+    let mut placed = place_all(crew, alloc, placing)?;
     fill_up(alloc, placing.distances, least, placed.as_mut_slice())?;
     Ok(placed)
 }
 
 /// Returns the groups of `set` that make the entries of a node at a level above 0. The set and the groups hold places of the rows.
 /// Fails only out of memory.
-pub fn groups<R: Threads + Sync, M: Metric>(
-    rt: &R,
+pub fn groups<W: Scout<M>, M: Metric>(
+    crew: &W,
     alloc: Global,
     metric: M,
     workers: usize,
@@ -126,6 +127,7 @@ pub fn groups<R: Threads + Sync, M: Metric>(
     root: bool,
     fill: &Bounds,
 ) -> Result<Vec<Group>, Memory>
+    requires ready { W.ready crew.now }
     requires rows { length rows.now.points < 2 ^ 32 }
     requires points { All (λ p. IsTrue ((M.space metric).fits p)) rows.now.points }
     requires places { All (λ k. k < length rows.now.points) set.now }
@@ -149,6 +151,6 @@ pub fn groups<R: Threads + Sync, M: Metric>(
         seeds: seeds.as_slice(),
         workers,
     };
-    let placed = parted(rt, alloc, &placing, least)?;
+    let placed = parted(crew, alloc, &placing, least)?;
     groups_of(alloc, seeds.as_slice(), set, placed.as_slice())
 }

@@ -1,9 +1,10 @@
 //! The nearest groups of many objects, found by several workers before the objects' turns come.
 
-ghost use Rattle.std.specs.Prelude.{◌≡◌, ℕ, List, ◌<◌, ◌≤◌, ◌+◌, ◌^◌, OnOk, IfSome, length};
+ghost use Rattle.std.specs.Prelude.{◌≡◌, ℕ, List, ◌<◌, ◌≤◌, ◌+◌, ◌^◌, OnOk, IfOk, IfSome, length};
 ghost use Rattle.tree_growth.specs.Groups.{Far, entry};
 ghost use Rattle.bulk_load.specs.Hints.{IsHint, AreHints};
 
+use crate::crew::Scout;
 use crate::placing::{Placing, nearest};
 use metric_laws::{Memory, Metric};
 use par_work::share;
@@ -27,6 +28,31 @@ fn hint_for<M: Metric>(placing: &Placing<'_, M>, counts: &[usize], place: usize)
     }
 }
 
+/// Returns hints for the objects of the block that begins at `place`, where the groups have `counts` objects. Several threads
+/// find them.
+#[tactic(auto, using(crate::proofs::Ahead::hints_are))]
+pub fn hints_by_threads<R: Threads + Sync, M: Metric>(
+    rt: &R,
+    alloc: Global,
+    placing: &Placing<'_, M>,
+    counts: &[usize],
+    place: usize,
+) -> Result<Vec<Option<u32>>, Memory>
+    requires place { place < length placing.now.distances.now.table }
+    requires width { placing.now.distances.now.width ≤ 64 }
+    requires counts { length counts.now ≡ placing.now.distances.now.width }
+    requires workers { (1 ≤ placing.now.workers) × (placing.now.workers ≤ 64) }
+    ensures { IfOk result (λ v. AreHints (entry placing.now.distances.now.table) placing.now.room place counts.now v.items) }
+{
+    let count = BLOCK.min(placing.distances.objects() - place);
+    let hint = |i: usize| -> Option<u32>
+        requires { (place + i < 2 ^ 64) × (place + i < length placing.now.distances.now.table)
+            × (placing.now.distances.now.width ≤ 64) × (length counts.now ≡ placing.now.distances.now.width) }
+        ensures { IfSome result (IsHint (entry placing.entry.now.distances.now.table) placing.entry.now.room (place + i) counts.entry.now) }
+    { hint_for(placing, counts, place + i) };
+    share(rt, alloc, count, placing.workers, &hint)
+}
+
 /// Hints for the objects of one block.
 #[derive(Drop)]
 pub struct Hints {
@@ -45,17 +71,17 @@ impl Hints {
         }
     }
 
-    /// Has several workers look at the objects of the block that begins at `place`, where the groups have `counts` objects. Does
-    /// nothing where no block begins at `place`, and nothing for one worker.
-    #[tactic(auto, using(crate::proofs::Ahead::hints_are))]
-    pub fn look_ahead<R: Threads + Sync, M: Metric>(
+    /// Has `crew` look at the objects of the block that begins at `place`, where the groups have `counts` objects. Does nothing
+    /// where no block begins at `place`, and nothing for one worker.
+    pub fn look_ahead<W: Scout<M>, M: Metric>(
         &mut self,
-        rt: &R,
+        crew: &W,
         alloc: Global,
         placing: &Placing<'_, M>,
         counts: &[usize],
         place: usize,
     ) -> Result<(), Memory>
+        requires ready { W.ready crew.now }
         requires place { place < length placing.now.distances.now.table }
         requires width { placing.now.distances.now.width ≤ 64 }
         requires counts { length counts.now ≡ placing.now.distances.now.width }
@@ -66,13 +92,7 @@ impl Hints {
         if placing.workers == 1 || place % BLOCK != 0 {
             return Ok(());
         }
-        let count = BLOCK.min(placing.distances.objects() - place);
-        let hint = |i: usize| -> Option<u32>
-            requires { (place + i < 2 ^ 64) × (place + i < length placing.now.distances.now.table)
-                × (placing.now.distances.now.width ≤ 64) × (length counts.now ≡ placing.now.distances.now.width) }
-            ensures { IfSome result (IsHint (entry placing.entry.now.distances.now.table) placing.entry.now.room (place + i) counts.entry.now) }
-        { hint_for(placing, counts, place + i) };
-        self.groups = share(rt, alloc, count, placing.workers, &hint)?;
+        self.groups = crew.hints(alloc, placing, counts, place)?;
         self.first = place;
         Ok(())
     }

@@ -3,6 +3,7 @@
 #![tactic(auto)]
 
 mod building;
+mod crew;
 mod distances;
 mod faults;
 mod filling;
@@ -14,5 +15,10 @@ mod sharing;
 mod subtree;
 
 pub use building::build;
+pub use crew::{Alone, Crew, Scout};
 pub use faults::BuildFault;
 pub use grouping::groups;
+pub use hints::hints_by_threads;
+pub use placing::Placing;
+pub use sharing::{Made, made_by_threads};
+pub use subtree::{Loading, Set};

@@ -5,11 +5,11 @@ ghost use Rattle.tree_growth.specs.Groups.{entry, group_count, seeds_from, neare
 ghost use Rattle.tree_growth.specs.Groups.{chosen as chosen_of};
 ghost use Rattle.bulk_load.specs.Hints.{IsHint, HaveGrown};
 
+use crate::crew::Scout;
 use crate::distances::Distances;
 use crate::hints::Hints;
 use metric_laws::{Memory, Metric};
 use std::alloc::Global;
-use std::thread::Threads;
 use tree_growth::Member;
 use tree_shape::Bounds;
 
@@ -187,11 +187,12 @@ fn place_one<M: Metric>(
 /// Returns the group of each object, before small groups are filled up. Several workers look ahead for each block of objects; one
 /// alone has nothing to look ahead for.
 #[tactic(auto, using(crate::proofs::Ahead::hints_grow))]
-pub fn place_all<R: Threads + Sync, M: Metric>(
-    rt: &R,
+pub fn place_all<W: Scout<M>, M: Metric>(
+    crew: &W,
     alloc: Global,
     placing: &Placing<'_, M>,
 ) -> Result<Vec<Member>, Memory>
+    requires ready { W.ready crew.now }
     requires width { (0 < placing.now.distances.now.width) × (placing.now.distances.now.width ≤ 64) }
     requires seeds { length placing.now.seeds.now ≡ placing.now.distances.now.width }
     requires workers { (1 ≤ placing.now.workers) × (placing.now.workers ≤ 64) }
@@ -208,7 +209,7 @@ pub fn place_all<R: Threads + Sync, M: Metric>(
     let mut hints = Hints::none(alloc);
     let mut before = 0;
     for place in 0..objects {
-        hints.look_ahead(rt, alloc, placing, counts, place)?;
+        hints.look_ahead(crew, alloc, placing, counts, place)?;
         let hint = hints.at(place);
         let (one, next) = place_one(placing, place, hint, before, counts);
         placed.push(one)?;

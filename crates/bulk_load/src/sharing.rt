@@ -6,11 +6,12 @@ ghost use Rattle.bulk_load.specs.Sets.{load_by, page_by, IsLawfulLoad, IsSetFor,
 ghost use Rattle.bulk_load.specs.Postorder.{is_top, last_of, nodes_at};
 ghost use Rattle.bulk_load.specs.Apart.{IsMadeOf, AreMadeOf};
 
+use crate::crew::{Alone, Crew};
 use crate::moving::add_nodes;
 use crate::subtree::{Loading, Set, add_subtree, group_entry_of, groups_in, push_inner};
 use metric_laws::{Memory, Metric};
 use page_store::Numbering;
-use par_work::share;
+use par_work::{in_turn, share};
 use std::alloc::Global;
 use std::thread::Threads;
 use tree_growth::Group;
@@ -26,8 +27,7 @@ pub struct Made {
 }
 
 // Makes one worker's part: the entry and the nodes of `group`.
-fn made_of<R: Threads + Sync, M: Metric>(
-    rt: &R,
+fn made_of<M: Metric>(
     alloc: Global,
     loading: &Loading<'_, M>,
     set: &Set<'_>,
@@ -57,14 +57,14 @@ fn made_of<R: Threads + Sync, M: Metric>(
         places: group.members.as_slice(),
     };
     let mut nodes = Vec::new(alloc);
-    add_subtree(rt, alloc, &alone, &below, &mut nodes)?;
+    add_subtree(&Alone, alloc, &alone, &below, &mut nodes)?;
     let entry = group_entry_of(alloc, loading, set.seed, group, 0)?;
     Ok(Made { entry, nodes })
 }
 
-// Makes the parts of all `groups` of `set`, by several workers.
+/// Makes the parts of all `groups` of `set`, by several threads.
 #[tactic(auto, using(crate::proofs::Moved::all_made))]
-fn all_made<R: Threads + Sync, M: Metric>(
+pub fn made_by_threads<R: Threads + Sync, M: Metric>(
     rt: &R,
     alloc: Global,
     loading: &Loading<'_, M>,
@@ -89,18 +89,71 @@ fn all_made<R: Threads + Sync, M: Metric>(
         ensures { (g : Group) → IfOk result
             (IsMadeOf (load_by (M.space loading.entry.now.metric) loading.entry.now) set.entry.now.seed (set.entry.now.level - 1)
             (slice_index_or groups.entry.now i g)) }
-    { made_of(rt, alloc, loading, set, &groups[i]) };
+    { made_of(alloc, loading, set, &groups[i]) };
     share(rt, alloc, groups.len(), loading.workers, &work)
 }
 
+// Makes the parts of all `groups` of `set`, by the caller alone.
+#[tactic(auto, using(crate::proofs::Moved::all_made))]
+fn made_in_turn<M: Metric>(
+    alloc: Global,
+    loading: &Loading<'_, M>,
+    set: &Set<'_>,
+    groups: &[Group],
+) -> Result<Vec<Result<Made, Memory>>, Memory>
+    requires load { IsLawfulLoad (load_by (M.space loading.now.metric) loading.now) }
+    requires rows { length loading.now.rows.now.points ≤ 2 ^ 24 }
+    requires seed { IfSome set.now.seed (λ k. k < length loading.now.rows.now.points) }
+    requires level { (1 ≤ set.now.level) × (set.now.level ≤ 14) }
+    requires groups { All (IsGroupFor (load_by (M.space loading.now.metric) loading.now) (set.now.level - 1)) groups.now }
+    ensures { IfOk result (λ parts. AreMadeOf (load_by (M.space loading.now.metric) loading.now) set.now.seed (set.now.level - 1) groups.now parts.items) }
+{
+    let work = |i: usize| -> Result<Made, Memory>
+        requires load { IsLawfulLoad (load_by (M.space loading.now.metric) loading.now) }
+        requires rows { length loading.now.rows.now.points ≤ 2 ^ 24 }
+        requires seed { IfSome set.now.seed (λ k. k < length loading.now.rows.now.points) }
+        requires level { (1 ≤ set.now.level) × (set.now.level ≤ 14) }
+        requires groups { All (IsGroupFor (load_by (M.space loading.now.metric) loading.now) (set.now.level - 1)) groups.now }
+        requires inside { i < length groups.now }
+        ensures { (g : Group) → IfOk result
+            (IsMadeOf (load_by (M.space loading.entry.now.metric) loading.entry.now) set.entry.now.seed (set.entry.now.level - 1)
+            (slice_index_or groups.entry.now i g)) }
+    { made_of(alloc, loading, set, &groups[i]) };
+    in_turn(alloc, groups.len(), &work)
+}
+
+// Makes the parts of all `groups` of `set`, by the crew or else by the caller alone.
+fn all_made<W: Crew<M>, M: Metric>(
+    crew: &W,
+    alloc: Global,
+    loading: &Loading<'_, M>,
+    set: &Set<'_>,
+    groups: &[Group],
+) -> Result<Vec<Result<Made, Memory>>, Memory>
+    requires ready { W.ready crew.now }
+    requires load { IsLawfulLoad (load_by (M.space loading.now.metric) loading.now) }
+    requires rows { length loading.now.rows.now.points ≤ 2 ^ 24 }
+    requires workers { (1 ≤ loading.now.workers) × (loading.now.workers ≤ 64) }
+    requires seed { IfSome set.now.seed (λ k. k < length loading.now.rows.now.points) }
+    requires level { (1 ≤ set.now.level) × (set.now.level ≤ 14) }
+    requires groups { All (IsGroupFor (load_by (M.space loading.now.metric) loading.now) (set.now.level - 1)) groups.now }
+    ensures { IfOk result (λ parts. AreMadeOf (load_by (M.space loading.now.metric) loading.now) set.now.seed (set.now.level - 1) groups.now parts.items) }
+{
+    match crew.made(alloc, loading, set, groups)? {
+        Some(parts) => Ok(parts),
+        None => made_in_turn(alloc, loading, set, groups),
+    }
+}
+
 /// Appends the nodes of the tree of `set` as `add_subtree` does, by as many workers as the load has.
-pub fn add_tree<R: Threads + Sync, M: Metric>(
-    rt: &R,
+pub fn add_tree<W: Crew<M>, M: Metric>(
+    crew: &W,
     alloc: Global,
     loading: &Loading<'_, M>,
     set: &Set<'_>,
     nodes: &mut Vec<Node>,
 ) -> Result<u32, Memory>
+    requires ready { W.ready crew.now }
     requires load { IsLawfulLoad (load_by (M.space loading.now.metric) loading.now) }
     requires rows { length loading.now.rows.now.points ≤ 2 ^ 24 }
     requires workers { (1 ≤ loading.now.workers) × (loading.now.workers ≤ 64) }
@@ -118,10 +171,10 @@ pub fn add_tree<R: Threads + Sync, M: Metric>(
         set.now.places.now (length nodes.old.items)) }
 {
     if loading.workers == 1 || set.level == 0 {
-        return add_subtree(rt, alloc, loading, set, nodes);
+        return add_subtree(crew, alloc, loading, set, nodes);
     }
-    let groups = groups_in(rt, alloc, loading, set)?;
-    let parts = all_made(rt, alloc, loading, set, groups.as_slice())?;
+    let groups = groups_in(crew, alloc, loading, set)?;
+    let parts = all_made(crew, alloc, loading, set, groups.as_slice())?;
     let mut entries = Vec::with_capacity(alloc, groups.len())?;
     for part in parts {
         let made = part?;

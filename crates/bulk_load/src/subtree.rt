@@ -8,11 +8,11 @@ ghost use Rattle.tree_growth.specs.Bulk.{point_of, radius_of, groups_at};
 ghost use Rattle.bulk_load.specs.Sets.{load_by, page_by, IsLawfulLoad, IsSetFor};
 ghost use Rattle.bulk_load.specs.Postorder.{is_top, seed_point, leaf_entry, group_entry, last_of, nodes_at};
 
+use crate::crew::Scout;
 use crate::grouping::groups;
 use metric_laws::{Listed, Memory, Metric, Point, Rows};
 use page_store::Numbering;
 use std::alloc::Global;
-use std::thread::Threads;
 use tree_growth::Group;
 use tree_shape::{Bounds, InnerEntry, LeafEntry, Node};
 
@@ -174,12 +174,13 @@ pub fn push_inner<M: Metric>(
 }
 
 /// Returns the groups of a set above level 0.
-pub fn groups_in<R: Threads + Sync, M: Metric>(
-    rt: &R,
+pub fn groups_in<W: Scout<M>, M: Metric>(
+    crew: &W,
     alloc: Global,
     loading: &Loading<'_, M>,
     set: &Set<'_>,
 ) -> Result<Vec<Group>, Memory>
+    requires ready { W.ready crew.now }
     requires load { IsLawfulLoad (load_by (M.space loading.now.metric) loading.now) }
     requires rows { length loading.now.rows.now.points < 2 ^ 32 }
     requires workers { (1 ≤ loading.now.workers) × (loading.now.workers ≤ 64) }
@@ -189,7 +190,7 @@ pub fn groups_in<R: Threads + Sync, M: Metric>(
         (is_top set.now.seed) set.now.level set.now.places.now) }
 {
     groups(
-        rt,
+        crew,
         alloc,
         loading.metric,
         loading.workers,
@@ -202,13 +203,14 @@ pub fn groups_in<R: Threads + Sync, M: Metric>(
 }
 
 /// Appends the nodes of the subtree of `set` to `nodes`, children before their parent, and returns the page of the subtree's root.
-pub fn add_subtree<R: Threads + Sync, M: Metric>(
-    rt: &R,
+pub fn add_subtree<W: Scout<M>, M: Metric>(
+    crew: &W,
     alloc: Global,
     loading: &Loading<'_, M>,
     set: &Set<'_>,
     nodes: &mut Vec<Node>,
 ) -> Result<u32, Memory>
+    requires ready { W.ready crew.now }
     requires load { IsLawfulLoad (load_by (M.space loading.now.metric) loading.now) }
     requires rows { length loading.now.rows.now.points < 2 ^ 32 }
     requires workers { (1 ≤ loading.now.workers) × (loading.now.workers ≤ 64) }
@@ -229,7 +231,7 @@ pub fn add_subtree<R: Threads + Sync, M: Metric>(
         let entries = leaf_entries(alloc, loading, set)?;
         return push_node(loading, Node::Leaf(Listed::new(entries)), nodes);
     }
-    let groups = groups_in(rt, alloc, loading, set)?;
+    let groups = groups_in(crew, alloc, loading, set)?;
     let mut entries = Vec::with_capacity(alloc, groups.len())?;
     for group in groups {
         let below = Set {
@@ -237,7 +239,7 @@ pub fn add_subtree<R: Threads + Sync, M: Metric>(
             seed: Some(group.seed),
             places: group.members.as_slice(),
         };
-        let page = add_subtree(rt, alloc, loading, &below, nodes)?;
+        let page = add_subtree(crew, alloc, loading, &below, nodes)?;
         let entry = group_entry_of(alloc, loading, set.seed, &group, page)?;
         entries.push(entry)?;
     }

@@ -6,8 +6,8 @@ ghost use Rattle.page_store.specs.Numbers.{AreNumbers};
 
 use crate::groups::line;
 use crate::work::holds;
-use bulk_load::{BuildFault, build};
-use meeting::{Meeting, Seen};
+use bulk_load::{Alone, BuildFault, build};
+use meeting::{Meeting, Seen, Threaded};
 use metric_laws::{Memory, Rows};
 use node_page::Head;
 use page_store::{Placed, Staged};
@@ -85,7 +85,7 @@ fn empty(generation: u64, pages: u32) -> Live
     }
 }
 
-// Loads rows of one coordinate, with their tags.
+// Loads rows of one coordinate, with their tags, by threads.
 fn load<R: AllocGlobal + Abort + Threads + Sync>(
     rt: &R,
     workers: usize,
@@ -104,10 +104,11 @@ fn load<R: AllocGlobal + Abort + Threads + Sync>(
     let count = rows.len() as u32;
     let tags = tags_of(rt.alloc(), count).expect(rt, "memory");
     let head = head_of(count);
+    let seen = Seen::new();
     build(
-        rt,
+        &Threaded::new(rt),
         rt.alloc(),
-        L1::new(1),
+        Meeting::of_none(&seen),
         workers,
         &head,
         live,
@@ -261,6 +262,27 @@ fn are_staged_same(left: &Staged, right: &Staged) -> bool {
     is_so
 }
 
+// Loads 65536 points out of order in the parts of `workers` workers, all of which the caller makes.
+fn placed_alone(rt: &(impl AllocGlobal + Abort), workers: usize) -> Placed
+    requires some { 1 ≤ workers }
+    requires few { workers ≤ 64 }
+{
+    let rows = scattered(rt.alloc(), 65_536).expect(rt, "memory");
+    let tags = tags_of(rt.alloc(), 65_536).expect(rt, "memory");
+    build(
+        &Alone,
+        rt.alloc(),
+        L1::new(1),
+        workers,
+        &head_of(65_536),
+        &empty(1, 4),
+        &[],
+        &rows,
+        &tags,
+    )
+    .expect(rt, "placed")
+}
+
 // Loads 65536 points out of order by `workers` workers.
 fn placed_by<R: AllocGlobal + Abort + Threads + Sync>(rt: &R, workers: usize) -> Placed
     requires some { 1 ≤ workers }
@@ -279,6 +301,9 @@ fn any_number_of_workers_gives_the_same_nodes(rt: HostRuntime) {
         holds(&rt, placed.next == by_one.next);
         holds(&rt, are_staged_same(&placed.staged, &by_one.staged));
     }
+    let alone = placed_alone(&rt, 64);
+    holds(&rt, alone.next == by_one.next);
+    holds(&rt, are_staged_same(&alone.staged, &by_one.staged));
 }
 
 // Says whether two workers of a load met.
@@ -296,7 +321,7 @@ fn has_met<R: AllocGlobal + Abort + Threads + Sync>(rt: &R, workers: usize) -> b
         seen: &seen,
     };
     let placed = build(
-        rt,
+        &Threaded::new(rt),
         rt.alloc(),
         metric,
         workers,

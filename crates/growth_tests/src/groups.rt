@@ -3,13 +3,13 @@ ghost use Rattle.vector_kinds.specs.Vectors.{vector_space};
 
 use crate::work::holds;
 use bulk_load::groups;
+use meeting::{Meeting, Seen, Threaded};
 use metric_laws::{Memory, Rows};
 use std::alloc::Global;
 use std::process::Abort;
 use std::thread::Threads;
 use tree_growth::Group;
 use tree_shape::fill;
-use vector_kinds::L1;
 
 // Gives `count` points of one coordinate, each `step` above the one before, and their places.
 pub fn line(alloc: Global, count: u32, step: u32) -> Result<(Rows, Vec<u32>), Memory>
@@ -45,10 +45,11 @@ fn parted<R: AllocGlobal + Abort + Threads + Sync>(
     requires few_workers { workers ≤ 64 }
 {
     let (points, set) = line(rt.alloc(), count, step).expect(rt, "memory");
+    let seen = Seen::new();
     groups(
-        rt,
+        &Threaded::new(rt),
         rt.alloc(),
-        L1::new(1),
+        Meeting::of_none(&seen),
         workers,
         &points,
         set.as_slice(),

@@ -16,12 +16,11 @@ use crate::index::Index;
 use crate::placing::Placement;
 use crate::view::View;
 use crate::{IndexFault, Memory};
-use bulk_load::{BuildFault, build};
+use bulk_load::{BuildFault, Crew, build};
 use disk_model::Disk;
 use free_pages::Free;
 use metric_laws::{Metric, Rows};
 use std::alloc::Global;
-use std::thread::Threads;
 use tree_shape::LAST_GENERATION;
 
 // Maps a load's fault to the index's.
@@ -37,15 +36,16 @@ fn build_fault(fault: BuildFault) -> IndexFault
 
 impl<M: Metric> View<M> {
     // Places the tree of `rows` with `tags` on free pages, in place of a tree that has no objects.
-    pub(crate) fn build<R: Threads + Sync>(
+    pub(crate) fn build<W: Crew<M>>(
         &self,
-        rt: &R,
+        crew: &W,
         alloc: Global,
         workers: usize,
         free: &Free,
         rows: &Rows,
         tags: &[u64],
     ) -> Result<Placement, IndexFault>
+        requires ready { W.ready crew.now }
         requires empty { self.now.live.count ≡ 0 }
         requires unworn { self.now.live.generation ≢ 2 ^ 48 - 1 }
         requires some { 0 < length rows.now.points }
@@ -70,7 +70,7 @@ impl<M: Metric> View<M> {
             return Err(IndexFault::Memory);
         };
         let answer = build(
-            rt,
+            crew,
             alloc,
             self.metric,
             workers,
@@ -124,15 +124,16 @@ impl<M: Metric> Index<M> {
     }
 
     // Loads `rows`, which may be loaded, on pages of the free list `free`.
-    fn load_on<R: Threads + Sync, D: Disk>(
+    fn load_on<W: Crew<M>, D: Disk>(
         &mut self,
-        rt: &R,
+        crew: &W,
         alloc: Global,
         disk: &mut D,
         free: Free,
         rows: &Rows,
         tags: &[u64],
     ) -> Result<u32, IndexFault>
+        requires ready { W.ready crew.now }
         requires may { load_fault self.old (length rows.now.points) ≡ None }
         requires stands { StandsOn self.old.file (D.state disk.old) }
         requires only { IsTrue (D.state disk.old).tells → LeavesOnly (D.state disk.old) (D.state disk.old).bytes }
@@ -153,7 +154,10 @@ impl<M: Metric> Index<M> {
         ensures no_fault { OnOk result ((D.state disk.new).faults ≡ (D.state disk.old).faults) }
     {
         self.view.is_lawful();
-        match self.view.build(rt, alloc, self.workers, &free, rows, tags) {
+        match self
+            .view
+            .build(crew, alloc, self.workers, &free, rows, tags)
+        {
             Ok(placement) => {
                 let count = placement.placed.next.count;
                 self.commit_placed(disk, free, &placement, count)
@@ -167,13 +171,14 @@ impl<M: Metric> Index<M> {
 
     /// Loads `rows` into an index that has no objects, and returns how many they are. Row i gets the id i, and its id as its
     /// tag. The refusals are those of `load_tagged`.
-    pub fn load<R: Threads + Sync, D: Disk>(
+    pub fn load<W: Crew<M>, D: Disk>(
         &mut self,
-        rt: &R,
+        crew: &W,
         alloc: Global,
         disk: &mut D,
         rows: &Rows,
     ) -> Result<u32, IndexFault>
+        requires ready { W.ready crew.now }
         requires stands { MayGoOn self.old (D.state disk.old) }
         requires some { 0 < length rows.now.points }
         requires fits { All (λ p. IsTrue ((M.space self.old.file.metric).fits p)) rows.now.points }
@@ -202,26 +207,27 @@ impl<M: Metric> Index<M> {
         let Ok(tags) = tags_of(alloc, rows.len()) else {
             return Err(IndexFault::Memory);
         };
-        self.load_tagged(rt, alloc, disk, rows, tags.as_slice())
+        self.load_tagged(crew, alloc, disk, rows, tags.as_slice())
     }
 
     /// Loads `rows` with `tags` into an index that has no objects, and returns how many they are. Row i gets the id i. It is one
     /// commit: after `Ok` the objects are there whatever crash comes, and before that a crash leaves the file with all of them or with
-    /// none. As many threads as `workers` says share the work; any number of them makes the same tree.
+    /// none. `crew` does the work, with as many workers as `workers` says; any number of them makes the same tree.
     ///
     /// The refusals come in this order, and all but the last change nothing: `Stopped` where a commit failed before; `NotEmpty` where
     /// there are objects; `Full` where there are more rows than the head allows; `Worn` where there is no further generation; `Disk`
     /// or `Damaged` (`Bad`, `Outside` or `Repeats`, with the page) of the walk that makes the free list, where it isn't made yet;
     /// `NoRoom` where the new nodes need more pages than a file may have; `Memory`; and `Commit` where the disk failed in the commit.
     /// `Commit` stops the index: the file then has the objects or not, and has to be opened anew.
-    pub fn load_tagged<R: Threads + Sync, D: Disk>(
+    pub fn load_tagged<W: Crew<M>, D: Disk>(
         &mut self,
-        rt: &R,
+        crew: &W,
         alloc: Global,
         disk: &mut D,
         rows: &Rows,
         tags: &[u64],
     ) -> Result<u32, IndexFault>
+        requires ready { W.ready crew.now }
         requires stands { MayGoOn self.old (D.state disk.old) }
         requires some { 0 < length rows.now.points }
         requires fits { All (λ p. IsTrue ((M.space self.old.file.metric).fits p)) rows.now.points }
@@ -251,6 +257,6 @@ impl<M: Metric> Index<M> {
             Ok(free) => free,
             Err(fault) => return Err(fault),
         };
-        self.load_on(rt, alloc, disk, free, rows, tags)
+        self.load_on(crew, alloc, disk, free, rows, tags)
     }
 }

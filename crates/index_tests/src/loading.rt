@@ -6,9 +6,10 @@ use crate::trial::{
     Watched, check_images, check_stopped, copied, count_on, disk_of, empty_disk, holds, insert,
     insert_all, keeps_middle, opened, stopping, worn_disk,
 };
+use bulk_load::{Alone, Crew};
 use disk_model::{Disk, MemoryDisk};
 use index_core::{Index, IndexFault};
-use meeting::{Meeting, Seen};
+use meeting::{Meeting, Seen, Threaded};
 use metric_laws::{Metric, Rows};
 use std::alloc::Global;
 use std::process::Abort;
@@ -30,16 +31,18 @@ fn numbers<M: Metric>(rt: &(impl AllocGlobal + Abort), metric: &M, count: u32) -
 }
 
 // Loads the numbers 0 to 32.
-fn load<R: AllocGlobal + Abort + Threads + Sync, D: Disk, M: Metric>(
-    rt: &R,
+fn load<W: Crew<M>, D: Disk, M: Metric>(
+    rt: &(impl AllocGlobal + Abort),
+    crew: &W,
     index: &mut Index<M>,
     disk: &mut D,
 ) -> Result<u32, IndexFault>
-    requires { MayGoOn index.old (D.state disk.old) }
+    requires ready { W.ready crew.now }
+    requires stands { MayGoOn index.old (D.state disk.old) }
     ensures { MayGoOn index.new (D.state disk.new) }
 {
     let rows = numbers(rt, &index.metric(), 33);
-    index.load(rt, rt.alloc(), disk, &rows)
+    index.load(crew, rt.alloc(), disk, &rows)
 }
 
 // Describes the live tree after that load into an empty index.
@@ -52,36 +55,53 @@ const LOADED: Live = Live {
     pages: 9,
 };
 
-// Loads the numbers 0 to 32 into an empty index, by `workers` threads.
-fn check_load<R: AllocGlobal + Abort + Threads + Sync, D: Disk>(
-    rt: &R,
+// Opens a disk for writing with this metric.
+fn opened_by<D: Disk, M: Metric>(rt: &impl Abort, disk: &mut D, metric: M) -> Index<M>
+    ensures { MayGoOn result (D.state disk.new) }
+{
+    Index::open_write(disk, metric).expect(rt, "opened")
+}
+
+// Loads the numbers 0 to 32 into an empty index, by a crew of `workers` workers.
+fn check_load<W: Crew<M>, D: Disk, M: Metric>(
+    rt: &(impl AllocGlobal + Abort),
+    crew: &W,
+    metric: M,
     disk: &mut D,
     workers: usize,
 )
+    requires ready { W.ready crew.now }
     requires some { 1 ≤ workers }
     requires few { workers ≤ 64 }
 {
-    let mut index = opened(rt, disk);
+    let mut index = opened_by(rt, disk, metric);
     index.set_workers(workers);
     holds(rt, index.workers() == workers);
-    holds(rt, load(rt, &mut index, disk) == Ok(33));
+    holds(rt, load(rt, crew, &mut index, disk) == Ok(33));
     holds(rt, index.live() == LOADED);
 }
 
 // Makes the disk of an index into which the numbers 0 to 32 were loaded.
-fn loaded<R: AllocGlobal + Abort + Threads + Sync, D: Disk + Watched + Drop>(rt: &R) -> D {
+fn loaded<R: AllocGlobal + Abort, D: Disk + Watched + Drop>(rt: &R) -> D {
     let mut disk: D = empty_disk(rt, 1_000, None);
-    check_load(rt, &mut disk, 1);
+    check_load(rt, &Alone, L1::new(1), &mut disk, 1);
     disk_of(rt, copied(rt, &disk), None)
 }
 
-// Checks that one thread and many make the same bytes.
+// Checks that the caller alone and many threads make the same bytes.
 fn check_workers<R: AllocGlobal + Abort + Threads + Sync, D: Disk + Watched + Drop>(rt: &R) {
     let mut first: D = empty_disk(rt, 33, None);
-    check_load(rt, &mut first, 1);
+    check_load(rt, &Alone, L1::new(1), &mut first, 1);
     holds(rt, count_on(rt, &mut first) == 33);
     let mut second: D = empty_disk(rt, 33, None);
-    check_load(rt, &mut second, 64);
+    let seen = Seen::new();
+    check_load(
+        rt,
+        &Threaded::new(rt),
+        Meeting::of_none(&seen),
+        &mut second,
+        64,
+    );
     holds(rt, first.file() == second.file());
 }
 
@@ -91,19 +111,19 @@ fn a_load_makes_one_tree(rt: HostRuntime) {
 }
 
 // Checks that a load is refused, and that it makes no call of the disk.
-fn check_refused<R: AllocGlobal + Abort + Threads + Sync, D: Disk + Watched>(
+fn check_refused<R: AllocGlobal + Abort, D: Disk + Watched>(
     rt: &R,
     disk: &mut D,
     expected: IndexFault,
 ) {
     let mut index = opened(rt, disk);
     let calls = disk.calls();
-    holds(rt, load(rt, &mut index, disk) == Err(expected));
+    holds(rt, load(rt, &Alone, &mut index, disk) == Err(expected));
     holds(rt, disk.calls() == calls);
 }
 
 // Loads more rows than an index may have, into one that has objects, and into one without a further generation.
-fn check_refusals<R: AllocGlobal + Abort + Threads + Sync, D: Disk + Watched + Drop>(rt: &R) {
+fn check_refusals<R: AllocGlobal + Abort, D: Disk + Watched + Drop>(rt: &R) {
     let mut small: D = empty_disk(rt, 32, None);
     check_refused(rt, &mut small, IndexFault::Full);
     let mut used: D = loaded(rt);
@@ -127,14 +147,11 @@ fn may_answer(answer: &Result<u32, IndexFault>) -> bool {
 
 // Loads into an empty index on a disk that stops at the call `stop`. A crash at any moment leaves all of the rows or
 // none. Says whether the load is done.
-fn check_stop<R: AllocGlobal + Abort + Threads + Sync, D: Disk + Watched + Drop>(
-    rt: &R,
-    stop: u64,
-) -> bool {
+fn check_stop<R: AllocGlobal + Abort, D: Disk + Watched + Drop>(rt: &R, stop: u64) -> bool {
     let mut disk: D = empty_disk(rt, 1_000, Some(stop));
     let mut index = opened(rt, &mut disk);
     let began = disk.calls();
-    let answer = load(rt, &mut index, &mut disk);
+    let answer = load(rt, &Alone, &mut index, &mut disk);
     check_images(rt, &disk, began, (0, 33), answer.is_ok());
     holds(rt, may_answer(&answer));
     if answer == Err(IndexFault::Commit) {
@@ -268,7 +285,7 @@ fn live_after<D: Disk>(rt: &(impl AllocGlobal + Abort), disk: &mut D) -> Live {
 }
 
 // Checks the pages after two inserts, after a pin and below one.
-fn check_released<R: AllocGlobal + Abort + Threads + Sync, D: Disk + Watched + Drop>(rt: &R) {
+fn check_released<R: AllocGlobal + Abort, D: Disk + Watched + Drop>(rt: &R) {
     let mut disk: D = loaded(rt);
     let live = live_after(rt, &mut disk);
     holds(rt, (live.root, live.pages) == (8, 10));
@@ -309,7 +326,7 @@ fn tags_near<D: Disk>(
 }
 
 // Checks a tag that was given, and those of a load.
-fn check_tagged<R: AllocGlobal + Abort + Threads + Sync, D: Disk + Watched + Drop>(rt: &R) {
+fn check_tagged<R: AllocGlobal + Abort, D: Disk + Watched + Drop>(rt: &R) {
     let mut disk: D = loaded(rt);
     let mut index = opened(rt, &mut disk);
     holds(rt, insert_tagged(rt, &mut index, &mut disk) == Ok(33));
@@ -320,13 +337,6 @@ fn check_tagged<R: AllocGlobal + Abort + Threads + Sync, D: Disk + Watched + Dro
 #[test]
 fn hits_have_their_tags(rt: HostRuntime) {
     check_tagged::<HostRuntime, MemoryDisk>(&rt);
-}
-
-// Opens a disk for writing with this metric.
-fn opened_by<D: Disk, M: Metric>(rt: &impl Abort, disk: &mut D, metric: M) -> Index<M>
-    ensures { MayGoOn result (D.state disk.new) }
-{
-    Index::open_write(disk, metric).expect(rt, "opened")
 }
 
 // Says whether the two halves of a load by `workers` threads met.
@@ -347,7 +357,7 @@ fn has_met<R: AllocGlobal + Abort + Threads + Sync, D: Disk>(
     };
     let mut index = opened_by(rt, disk, metric);
     index.set_workers(workers);
-    holds(rt, load(rt, &mut index, disk) == Ok(33));
+    holds(rt, load(rt, &Threaded::new(rt), &mut index, disk) == Ok(33));
     seen.met()
 }
 

@@ -1,5 +1,6 @@
 use crate::files::{disk_of, holds, sink_of};
 use disk_model::Disk;
+use load_threads::ByThreads;
 use making_jobs::{Generation, Memory, generate_index, generated_rows, migrate_index};
 use node_page::Head;
 use outside_io::{Sink, Status};
@@ -65,7 +66,7 @@ fn generate<R: Threads + Sync, D: Disk, K: Sink>(
     disk: &mut D,
     out: &mut K,
 ) -> Status {
-    generate_index(rt, alloc, disk, &FOUR, out)
+    generate_index(&ByThreads::new(rt), alloc, disk, &FOUR, out)
 }
 
 // Checks a run of `gen`.
@@ -147,14 +148,13 @@ fn file_of(rt: &(impl AllocGlobal + Abort), pages: &[Page]) -> Vec<u8> {
 }
 
 // Migrates an old file to a new one.
-fn migrate<R: Threads + Sync, D: Disk, E: Disk, K: Sink>(
-    rt: &R,
+fn migrate<D: Disk, E: Disk, K: Sink>(
     alloc: Global,
     index: &mut D,
     other: &mut E,
     out: &mut K,
 ) -> Status {
-    migrate_index(rt, alloc, index, other, out)
+    migrate_index(alloc, index, other, out)
 }
 
 // Says whether the new file has become what a case says.
@@ -166,12 +166,12 @@ fn is_made(rt: &(impl AllocGlobal + Abort), bytes: &[u8], case: &Migration<'_>) 
 }
 
 // Checks a run of `migrate`.
-fn check_migration<R: AllocGlobal + Threads + Sync + Abort>(rt: &R, case: &Migration<'_>) {
+fn check_migration(rt: &(impl AllocGlobal + Abort), case: &Migration<'_>) {
     let old = file_of(rt, case.old);
     let mut index = disk_of(rt, case.index, None);
     let mut other = disk_of(rt, &old, case.stop);
     let mut out = sink_of(rt, case.fails);
-    let status = migrate(rt, rt.alloc(), &mut index, &mut other, &mut out);
+    let status = migrate(rt.alloc(), &mut index, &mut other, &mut out);
     holds(rt, status == Status(case.status));
     holds(rt, out.written() == case.text.as_bytes());
     holds(rt, other.bytes() == old.as_slice());

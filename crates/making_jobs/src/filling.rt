@@ -8,6 +8,7 @@ ghost use Rattle.index_core.specs.Index.{MayGoOn};
 ghost use Rattle.file_jobs.specs.Spaces.{space_of};
 ghost use Rattle.making_jobs.specs.Filling.{HasFillCause, HoldsNoneOrAll, IsFilled, fault_of};
 
+use bulk_load::Crew;
 use disk_model::Disk;
 use file_jobs::laws::heads_have_spaces;
 use file_jobs::space_of;
@@ -19,7 +20,6 @@ use node_page::laws::{fault_is_not_open, one_live_slot};
 use page_store::PageFault;
 use shadow_root::OpenFault;
 use std::alloc::Global;
-use std::thread::Threads;
 use thiserror::Error;
 use tree_shape::Live;
 
@@ -73,11 +73,11 @@ fn is_of<M: Metric>(index: &Index<M>, head: &Head, live: &Live) -> bool
 }
 
 /// Opens the index of a file that was just made, with this head and this live slot, and loads these objects into it, if there are
-/// any. `workers` threads share the work, 1 to 64. At every moment a crash leaves the file with no object or with all of them.
-/// `Unopened`, `Changed` and `Damaged` come only on a disk that does not tell its bytes, where the bytes are not those that were
-/// written. `Disk` (and `Unopened` with it) comes only where the disk failed.
-pub fn fill<R: Threads + Sync, D: Disk>(
-    rt: &R,
+/// any. `crew` does the work, with `workers` workers, 1 to 64. At every moment a crash leaves the file with no object or with all of
+/// them. `Unopened`, `Changed` and `Damaged` come only on a disk that does not tell its bytes, where the bytes are not those that
+/// were written. `Disk` (and `Unopened` with it) comes only where the disk failed.
+pub fn fill<W: Crew<MixSpace>, D: Disk>(
+    crew: &W,
     alloc: Global,
     disk: &mut D,
     head: &Head,
@@ -85,6 +85,7 @@ pub fn fill<R: Threads + Sync, D: Disk>(
     workers: usize,
     objects: &Objects,
 ) -> Result<Index<MixSpace>, FillFault>
+    requires ready { W.ready crew.now }
     requires lawful { IsLawfulHead head.now }
     requires some { 1 ≤ workers }
     requires many { workers ≤ 64 }
@@ -121,7 +122,7 @@ pub fn fill<R: Threads + Sync, D: Disk>(
     if objects.rows.is_empty() {
         return Ok(index);
     }
-    match index.load_tagged(rt, alloc, disk, &objects.rows, &objects.tags) {
+    match index.load_tagged(crew, alloc, disk, &objects.rows, &objects.tags) {
         Ok(_) => Ok(index),
         Err(fault) => Err(fault_of(fault)),
     }

@@ -19,6 +19,7 @@ use crate::Memory;
 use crate::asking::{Tally, ask_all, page_fault};
 use crate::filling::{FillFault, Objects, fill};
 use crate::generator::generated_rows;
+use bulk_load::Crew;
 use disk_model::Disk;
 use fault_lines::push_numbered;
 use file_jobs::{
@@ -33,7 +34,6 @@ use outside_io::{Sink, Status};
 use page_store::PageFault;
 use shadow_root::{CreateFault, create};
 use std::alloc::Global;
-use std::thread::Threads;
 use tree_outline::Shape;
 
 // Ends a job whose new index could not be filled.
@@ -53,8 +53,8 @@ fn end_unfilled<K: Sink>(alloc: Global, fault: FillFault, out: &mut K) -> Status
 /// Makes an index with this head in an empty file, and fills it with these objects. Otherwise it writes why not, and returns the
 /// status: 5 where the disk failed; 6 where the file holds something, which stays as it is; 8 where memory ran out; 9 where a page
 /// is damaged, which comes only on a disk that does not tell its bytes.
-pub fn make_filled<R: Threads + Sync, D: Disk, K: Sink>(
-    rt: &R,
+pub fn make_filled<W: Crew<MixSpace>, D: Disk, K: Sink>(
+    crew: &W,
     alloc: Global,
     disk: &mut D,
     head: &Head,
@@ -62,6 +62,7 @@ pub fn make_filled<R: Threads + Sync, D: Disk, K: Sink>(
     objects: &Objects,
     out: &mut K,
 ) -> Result<Index<MixSpace>, Status>
+    requires ready { W.ready crew.now }
     requires lawful { IsLawfulHead head.now }
     requires version { head.now.version ≡ 2 }
     requires some { 1 ≤ workers }
@@ -92,7 +93,7 @@ pub fn make_filled<R: Threads + Sync, D: Disk, K: Sink>(
         Err(CreateFault::NotEmpty) => return Err(end_with(out, FAULT_NOT_EMPTY, 6)),
         Err(CreateFault::Disk) => return Err(end_with(out, FAULT_DISK, 5)),
     };
-    match fill(rt, alloc, disk, head, &live, workers, objects) {
+    match fill(crew, alloc, disk, head, &live, workers, objects) {
         Ok(index) => Ok(index),
         Err(fault) => Err(end_unfilled(alloc, fault, out)),
     }
@@ -194,13 +195,14 @@ fn generated_objects(alloc: Global, asked: &Generation) -> Result<Objects, Memor
 /// the number of objects, the number of nodes, the tree's height, and the results of the queries. Status 4: the lines could not be
 /// written; 5: the disk failed; 6: the file holds something, and stays as it is; 8: memory ran out; 9: a page is damaged, which
 /// comes only on a disk that does not tell its bytes.
-pub fn generate_index<R: Threads + Sync, D: Disk, K: Sink>(
-    rt: &R,
+pub fn generate_index<W: Crew<MixSpace>, D: Disk, K: Sink>(
+    crew: &W,
     alloc: Global,
     disk: &mut D,
     asked: &Generation,
     out: &mut K,
 ) -> Status
+    requires ready { W.ready crew.now }
     requires lawful { IsLawfulHead asked.now.head }
     requires version { asked.now.head.version ≡ 2 }
     requires vectors { (asked.now.head.kind ≢ 4) × (asked.now.head.kind ≢ 5) }
@@ -217,7 +219,7 @@ pub fn generate_index<R: Threads + Sync, D: Disk, K: Sink>(
     let Ok(objects) = generated_objects(alloc, asked) else {
         return end_with(out, FAULT_MEMORY, 8);
     };
-    let made = make_filled(rt, alloc, disk, &asked.head, asked.workers, &objects, out);
+    let made = make_filled(crew, alloc, disk, &asked.head, asked.workers, &objects, out);
     let mut index = match made {
         Ok(index) => index,
         Err(status) => return status,

@@ -19,6 +19,7 @@ ghost use Rattle.making_jobs.specs.Migrating.{HasOldFault, IsMigrateStatus, IsOl
 use crate::filling::Objects;
 use crate::generating::{make_filled, push_counted};
 use crate::ordering::objects_of;
+use bulk_load::Alone;
 use disk_model::Disk;
 use file_jobs::{
     FAULT_DISK, FAULT_MEMORY, FAULT_NOT_EMPTY, FAULT_VERSION, end_rejected, end_unopened, end_with,
@@ -31,7 +32,6 @@ use outside_io::{Sink, Status};
 use page_store::{DiskPages, Pages};
 use shadow_root::open;
 use std::alloc::Global;
-use std::thread::Threads;
 use tree_audit::laws::audit_faults_are_unsoundness;
 use tree_audit::{AuditFault, audit};
 use tree_shape::Live;
@@ -195,8 +195,7 @@ fn end_migrated<K: Sink>(alloc: Global, objects: usize, out: &mut K) -> Status
 }
 
 // Fills a new index with the old head, but of version 2, and the old objects.
-fn move_objects<R: Threads + Sync, D: Disk, K: Sink>(
-    rt: &R,
+fn move_objects<D: Disk, K: Sink>(
     alloc: Global,
     index: &mut D,
     head: &Head,
@@ -213,7 +212,7 @@ fn move_objects<R: Threads + Sync, D: Disk, K: Sink>(
     ensures later { (K.state out.old).faults ≤ (K.state out.new).faults }
     ensures rose { result.0 ≡ 4 → Rose (K.state out.old).faults (K.state out.new).faults }
 {
-    let made = make_filled(rt, alloc, index, &renewed(head), 1, objects, out);
+    let made = make_filled(&Alone, alloc, index, &renewed(head), 1, objects, out);
     let _index = match made {
         Ok(index) => index,
         Err(status) => return status,
@@ -222,8 +221,7 @@ fn move_objects<R: Threads + Sync, D: Disk, K: Sink>(
 }
 
 // Does the job.
-fn migrate<R: Threads + Sync, D: Disk, E: Disk, K: Sink>(
-    rt: &R,
+fn migrate<D: Disk, E: Disk, K: Sink>(
     alloc: Global,
     index: &mut D,
     other: &mut E,
@@ -237,7 +235,7 @@ fn migrate<R: Threads + Sync, D: Disk, E: Disk, K: Sink>(
         return status;
     }
     match read_old(alloc, other, out) {
-        Ok((head, objects)) => move_objects(rt, alloc, index, &head, &objects, out),
+        Ok((head, objects)) => move_objects(alloc, index, &head, &objects, out),
         Err(status) => status,
     }
 }
@@ -248,8 +246,7 @@ fn migrate<R: Threads + Sync, D: Disk, E: Disk, K: Sink>(
 /// first fault is written; 4: the line could not be written; 5: a disk failed; 6: `index` holds something, or `other` does not open
 /// as a file of version 1; 8: memory ran out; 9: a page of the new index is damaged, which comes only on a disk that does not tell
 /// its bytes.
-pub fn migrate_index<R: Threads + Sync, D: Disk, E: Disk, K: Sink>(
-    rt: &R,
+pub fn migrate_index<D: Disk, E: Disk, K: Sink>(
     alloc: Global,
     index: &mut D,
     other: &mut E,
@@ -266,5 +263,5 @@ pub fn migrate_index<R: Threads + Sync, D: Disk, E: Disk, K: Sink>(
     fault_is_not_open();
     one_live_slot();
     audit_faults_are_unsoundness();
-    migrate(rt, alloc, index, other, out)
+    migrate(alloc, index, other, out)
 }

@@ -1,3 +1,4 @@
+ghost use Rattle.std.specs.Prelude.{◌≡◌};
 ghost use Rattle.vector_kinds.specs.Vectors.{vector_space};
 ghost use Rattle.vector_kinds.specs.VectorLaws.{l1_axioms};
 
@@ -19,7 +20,19 @@ pub struct Meeting<'a> {
     pub seen: &'a Seen,
 }
 
-impl Meeting<'_> {
+impl<'a> Meeting<'a> {
+    /// Makes a metric of one coordinate under which no points have to meet.
+    pub fn of_none(seen: &'a Seen) -> Self
+        ensures { result.plain.dim ≡ 1 }
+    {
+        Meeting {
+            plain: L1::new(1),
+            first: &[],
+            second: &[],
+            seen,
+        }
+    }
+
     fn see(&self, a: &[u32], b: &[u32]) {
         let first = a == self.first || b == self.first;
         let second = a == self.second || b == self.second;

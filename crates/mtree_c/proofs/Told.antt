@@ -16,7 +16,8 @@ use Rattle.page_store.specs.Files.{IsLarge}
 use Rattle.seal_jobs.specs.Seals.{IsSealed, IsSealStatus, Seals, sealed_text}
 use Rattle.file_jobs.specs.Logs.Sayings.{Saying}
 use Rattle.file_jobs.specs.Logs.Jobs.{IsLogStatus, JudgesBytes, ReadsLogs, Writes}
-use Rattle.mtree_c.specs.Rooms.{HandsText, StandAtFront}
+use Rattle.caller_ends.specs.Rooms.{StandAtFront}
+use Rattle.mtree_c.specs.Rooms.{HandsText}
 use Rattle.prune_log.specs.Spelling.{frame_bytes}
 use Rattle.seal_jobs.specs.Proofs.{IsProofStatus, ProvesLogs, Shown}
 use Rattle.seal_jobs.specs.Carries.{CarriesLogs, CarriesOn, IsCarriedLogsStatus, IsDone, IsRefusal}

@@ -19,7 +19,7 @@ use Rattle.image_answers.specs.Outcomes.{IsOutcomeOf}
 use Rattle.mtree_c.specs.declared.answering.TaggedHit.{TaggedHit}
 use Rattle.mtree_c.specs.declared.answering.Sizes.{Sizes}
 use Rattle.mtree_c.specs.declared.describing.Description.{Description}
-use Rattle.mtree_c.specs.Rooms.{StandAtFront}
+use Rattle.caller_ends.specs.Rooms.{StandAtFront}
 use Rattle.file_jobs.specs.Spaces.{space_of}
 
 -- each hit with its tag

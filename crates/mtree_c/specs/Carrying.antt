@@ -3,7 +3,7 @@ use Rattle.std.specs.Prelude.{◌≡◌, ◌≢◌, ◌⊎◌, ◌<◌, ◌^◌,
 use Rattle.page_store.specs.Files.{IsLarge}
 use Rattle.seal_jobs.specs.Carries.{CarriesOn, IsDone}
 use Rattle.mtree_c.specs.declared.carrying.CarriedSizes.{CarriedSizes}
-use Rattle.mtree_c.specs.Rooms.{StandAtFront}
+use Rattle.caller_ends.specs.Rooms.{StandAtFront}
 use Rattle.mtree_c.specs.Texts.{IsUnopenedText}
 
 -- The frames of carried logs and the lines on them. Status 0 and 1: each log without a fault has its frame, and each log its line, and

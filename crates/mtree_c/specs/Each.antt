@@ -21,7 +21,7 @@ use Rattle.image_answers.specs.Outcomes.{ArePagesOf}
 use Rattle.mtree_c.specs.declared.answering.TaggedHit.{TaggedHit}
 use Rattle.mtree_c.specs.declared.each.Ask.{Ask}
 use Rattle.mtree_c.specs.declared.each.Ask.TheVariants as asked
-use Rattle.mtree_c.specs.Rooms.{StandAtFront}
+use Rattle.caller_ends.specs.Rooms.{StandAtFront}
 use Rattle.mtree_c.specs.Answers.{ComesTo, IsNoQuery, tagged}
 
 -- the command that asks this about a point

@@ -1,9 +1,6 @@
 -- What is put into a caller's buffers.
-use Rattle.std.specs.Prelude.{◌≡◌, ◌≢◌, ◌<◌, ℕ, List, ◌++◌, length, drop}
-
--- the items stand at the front of the buffer, and after them what stood there
-abbrev pub StandAtFront : {A : Type 0} → List A → List A → List A → Type 0
-StandAtFront items before after = after ≡ items ++ drop (length items) before
+use Rattle.std.specs.Prelude.{◌≡◌, ◌≢◌, ◌<◌, ℕ, List, length}
+use Rattle.caller_ends.specs.Rooms.{StandAtFront}
 
 -- The buffer holds a whole text and the status is the text's. Or the status is 4, and the buffer, which has no room for the text, is as
 -- it was. In both cases the text's size is given. Or the status is 8, because memory ran out, and the buffer is as it was.

@@ -11,9 +11,9 @@ ghost use Rattle.image_answers.specs.declared.outcome.Outcome.TheVariants as out
 ghost use Rattle.image_answers.specs.Outcomes.{IsLawful};
 ghost use Rattle.mtree_c.specs.Answers.{ComesTo, HandsAnswer, HasNoAnswer, IsUnanswered, frame_for, status_of};
 
-use crate::ends::Gathered;
-use crate::rooms::{put_bytes, put_hits};
+use crate::rooms::put_hits;
 use crate::{DAMAGED, MEMORY, NO_QUERY, SHORT};
+use caller_ends::{Gathered, put_front};
 use file_jobs::{open_index, space_of};
 use image_answers::{Memory, Outcome, nearest_outcome, range_outcome};
 use log_model::Log;
@@ -182,7 +182,7 @@ fn hand_over(
         return SHORT;
     }
     put_hits(found, answer.tags.as_slice(), hits);
-    put_bytes(&frame, log);
+    put_front(&frame, log);
     0
 }
 

@@ -1,12 +1,11 @@
 // Turns logs into carried logs.
 ghost use Rattle.std.specs.Prelude.{◌≡◌, ◌≢◌, ◌⊎◌, ◌<◌, length};
 ghost use Rattle.seal_log.specs.Laws.{CarriedLogsAreAccepted};
-ghost use Rattle.mtree_c.specs.Rooms.{StandAtFront};
+ghost use Rattle.caller_ends.specs.Rooms.{StandAtFront};
 ghost use Rattle.mtree_c.specs.Carrying.{HandsCarried, IsCarriedText, carried_sizes};
 
-use crate::ends::{Gathered, SliceSource};
-use crate::rooms::put_bytes;
 use crate::{MEMORY, SHORT};
+use caller_ends::{Gathered, SliceSource, put_front};
 use outside_io::Status;
 use seal_jobs::carry_logs;
 use slice_disk::SliceDisk;
@@ -64,8 +63,8 @@ fn hand_carried(
     if frames.len() > carried.len() || lines.len() > text.len() {
         return SHORT;
     }
-    put_bytes(frames, carried);
-    put_bytes(lines, text);
+    put_front(frames, carried);
+    put_front(lines, text);
     status.0
 }
 

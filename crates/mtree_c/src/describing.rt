@@ -5,8 +5,8 @@ ghost use Rattle.mtree_c.specs.Rooms.{HandsText};
 ghost use Rattle.mtree_c.specs.Texts.{IsDumpText, IsSealText, IsShapeText, IsStatsText};
 
 use crate::answering::open_file;
-use crate::ends::Gathered;
 use crate::rooms::hand_text;
+use caller_ends::Gathered;
 use dump_jobs::dump_index;
 use file_jobs::shape_index;
 use seal_jobs::seal_index;

@@ -4,7 +4,7 @@ ghost use Rattle.page_store.specs.Images.{bytes_in};
 ghost use Rattle.rows_text.specs.declared.reply.Reply.TheVariants as reply;
 ghost use Rattle.image_answers.specs.declared.outcome.Outcome.TheVariants as outcome;
 ghost use Rattle.image_answers.specs.Outcomes.{ArePagesOf, IsOutcomeOf};
-ghost use Rattle.mtree_c.specs.Rooms.{StandAtFront};
+ghost use Rattle.caller_ends.specs.Rooms.{StandAtFront};
 ghost use Rattle.mtree_c.specs.Answers.{ComesTo, HasNoAnswer, tagged};
 ghost use Rattle.mtree_c.specs.Each.{AnswersRows, AnswersTo, AsksSome, HandsEach, HasNoAnswers, IsOpened, command_of};
 

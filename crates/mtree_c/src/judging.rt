@@ -6,8 +6,8 @@ ghost use Rattle.mtree_c.specs.Rooms.{HandsText};
 ghost use Rattle.seal_jobs.specs.Laws.{AcceptedShow};
 ghost use Rattle.mtree_c.specs.Texts.{IsAuditText, IsLogText, IsProofText, IsShownText};
 
-use crate::ends::{Gathered, SliceSource};
 use crate::rooms::hand_text;
+use caller_ends::{Gathered, SliceSource};
 use file_jobs::audit_index;
 use log_jobs::laws::faultless_is_complete;
 use log_jobs::{check_logs, verify_logs};

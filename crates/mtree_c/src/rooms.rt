@@ -1,23 +1,14 @@
 // What is put into the caller's buffers.
 ghost use Rattle.std.specs.Prelude.{◌≡◌, ◌≢◌, ◌≤◌, ◌<◌, length};
 ghost use Rattle.scan_model.specs.declared.hit.Hit.{Hit};
-ghost use Rattle.mtree_c.specs.Rooms.{StandAtFront};
+ghost use Rattle.caller_ends.specs.Rooms.{StandAtFront};
 ghost use Rattle.mtree_c.specs.Answers.{tagged};
 
 use crate::answering::TaggedHit;
-use crate::ends::Gathered;
 use crate::{MEMORY, SHORT};
+use caller_ends::{Gathered, put_front};
 use outside_io::Status;
 use scan_model::Hit;
-
-/// Puts `bytes` at the front of `room`, which has room for them.
-pub fn put_bytes(bytes: &[u8], room: &mut [u8])
-    requires { length bytes.now ≤ length room.old }
-    ensures { StandAtFront bytes.now room.old room.new }
-{
-    let (front, _) = room.split_at_mut(bytes.len());
-    front.copy_from_slice(bytes);
-}
 
 /// Puts `hits` and their `tags` at the front of `room`, which has room for them.
 pub fn put_hits(hits: &[Hit], tags: &[u64], room: &mut [TaggedHit])
@@ -53,6 +44,6 @@ pub fn hand_text(status: Status, written: &Gathered, text: &mut [u8], size: &mut
     if bytes.len() > text.len() {
         return SHORT;
     }
-    put_bytes(bytes, text);
+    put_front(bytes, text);
     status.0
 }

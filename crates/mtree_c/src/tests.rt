@@ -1,8 +1,11 @@
 use crate::{
     CarriedSizes, Description, RootDigest, Sizes, TaggedHit, mtree_audit, mtree_carry, mtree_check,
     mtree_describe, mtree_dump, mtree_nearest, mtree_nearest_each, mtree_proof, mtree_range,
-    mtree_range_each, mtree_seal, mtree_shape, mtree_show, mtree_stats, mtree_verify,
+    mtree_range_each, mtree_seal, mtree_session_in, mtree_session_plan, mtree_shape, mtree_show,
+    mtree_stats, mtree_verify,
 };
+use c_sessions::{PlanSizes, SessionSizes};
+use plan_disk::Step;
 use std::alloc::{AllocError, Global};
 use std::test::Fail;
 
@@ -356,5 +359,194 @@ fn carried_logs(rt: HostRuntime) -> Result<(), Fail> {
         assert!(rt; found == *status);
         assert!(rt; &text[..size.min(40)] == wanted.as_bytes());
     }
+    Ok(())
+}
+
+// A buffer with a file of 16384 bytes at its front.
+fn buffer(alloc: Global, room: usize) -> Result<Vec<u8>, AllocError> {
+    let mut bytes = file(alloc)?;
+    bytes.resize(room, 0)?;
+    Ok(bytes)
+}
+
+// Scripts: whether tags are shown, the script, the room for the file, the size that is told of it, the room for the text, and the expected
+// status, size of the file and text.
+type Script = (
+    bool,
+    &'static [u8],
+    usize,
+    usize,
+    usize,
+    u8,
+    usize,
+    &'static str,
+);
+
+const SCRIPTS: [Script; 9] = [
+    (false, b"count\n", 16384, 16384, 8, 0, 16384, "count 2\n"),
+    (
+        true,
+        b"range,0,4\n",
+        16384,
+        16384,
+        14,
+        0,
+        16384,
+        "hits 1\n0 7 0\n",
+    ),
+    (
+        false,
+        b"insert,5\nrange,1,5\n",
+        24576,
+        16384,
+        20,
+        0,
+        20480,
+        "id 2\nhits 2\n2 0\n0 1\n",
+    ),
+    (false, b"insert,5\n", 16384, 16384, 5, 4, 20480, ""),
+    (false, b"insert,5\n", 24576, 16384, 4, 4, 20480, ""),
+    (false, b"insert,5\n", 24576, 24577, 5, 2, 0, ""),
+    (
+        false,
+        b"count\n",
+        16384,
+        0,
+        22,
+        6,
+        0,
+        "fault notindex short\n",
+    ),
+    (
+        false,
+        b"insert,x\n",
+        16384,
+        16384,
+        15,
+        0,
+        16384,
+        "refused number\n",
+    ),
+    (false, b"", 16384, 16384, 0, 0, 16384, ""),
+];
+
+#[test]
+fn sessions_in_a_buffer(rt: HostRuntime) -> Result<(), Fail> {
+    let alloc = rt.alloc();
+    for (show, script, room, size, text_room, status, after, wanted) in &SCRIPTS {
+        let mut room = buffer(alloc, *room)?;
+        let before = room.clone()?;
+        let mut text = vec![in alloc; 0u8; *text_room]?;
+        let mut log = [0u8; 200];
+        let mut sizes = SessionSizes {
+            file: 9,
+            text: 9,
+            log: 9,
+        };
+        let found = mtree_session_in(
+            alloc,
+            &mut room,
+            *size,
+            *show,
+            script,
+            &mut text,
+            log.as_mut_slice(),
+            &mut sizes,
+        );
+        assert!(rt; found == *status);
+        assert!(rt; sizes.file == *after);
+        assert!(rt; found == 4 || &text[..sizes.text.min(*text_room)] == wanted.as_bytes());
+        assert!(rt; (room == before) == (*after != 20480 || found == 4));
+    }
+    Ok(())
+}
+
+// Does a plan's writes to a file.
+fn after_plan(
+    alloc: Global,
+    file: &[u8],
+    steps: &[Step],
+    written: &[u8],
+) -> Result<Vec<u8>, AllocError> {
+    let mut after = Vec::from_slice(alloc, file)?;
+    let mut left = written;
+    for step in steps {
+        let (bytes, rest) = left.split_at(left.len().min(step.size as usize));
+        left = rest;
+        let at = (step.at as usize).min(100_000);
+        if after.len() < at.saturating_add(bytes.len()) {
+            after.resize(at.saturating_add(bytes.len()), 0)?;
+        }
+        after[at..at.saturating_add(bytes.len())].copy_from_slice(bytes);
+    }
+    Ok(after)
+}
+
+const NO_STEP: Step = Step {
+    at: 0,
+    size: 0,
+    is_sync: false,
+};
+
+// The plan of an insert: what it leaves is what the session leaves in a buffer.
+#[test]
+fn a_plan_leaves_what_the_session_leaves(rt: HostRuntime) -> Result<(), Fail> {
+    let alloc = rt.alloc();
+    let script = b"insert,5\n".as_slice();
+    let mut steps = [NO_STEP; 20];
+    let mut written = [0u8; 20_000];
+    let mut text = [0u8; 5];
+    let mut sizes = PlanSizes {
+        steps: 9,
+        written: 9,
+        text: 9,
+        log: 9,
+    };
+    let file = file(alloc)?;
+    let status = mtree_session_plan(
+        alloc,
+        &file,
+        false,
+        script,
+        steps.as_mut_slice(),
+        written.as_mut_slice(),
+        text.as_mut_slice(),
+        &mut [],
+        &mut sizes,
+    );
+    assert!(rt; (status, sizes.text, sizes.log) == (0, 5, 0));
+    assert!(rt; text.as_slice() == b"id 2\n".as_slice());
+    let done = &steps[..sizes.steps.min(20)];
+    assert!(rt; done.iter().filter(|step| step.is_sync).count() == 4);
+    let planned = after_plan(alloc, &file, done, &written[..sizes.written.min(20_000)])?;
+    let mut room = buffer(alloc, 20480)?;
+    let mut left = SessionSizes {
+        file: 0,
+        text: 0,
+        log: 0,
+    };
+    let status = mtree_session_in(
+        alloc,
+        &mut room,
+        16384,
+        false,
+        script,
+        text.as_mut_slice(),
+        &mut [],
+        &mut left,
+    );
+    assert!(rt; status == 0 && room == planned);
+    let short = mtree_session_plan(
+        alloc,
+        &file,
+        false,
+        script,
+        &mut [],
+        &mut [],
+        &mut [],
+        &mut [],
+        &mut sizes,
+    );
+    assert!(rt; (short, sizes.text) == (4, 5));
     Ok(())
 }

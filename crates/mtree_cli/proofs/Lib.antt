@@ -1,4 +1,3 @@
 mod ProgramLemmas
 mod TaskLemmas
 mod FileLemmas
-pub mod Sessions

@@ -1,48 +1,22 @@
--- What a run writes, by its status.
+-- What a scan writes, by its status.
 use Rattle.std.proofs.Common.{◌≡◌, ◌⊎◌, inl, inr, ⊎_elim, ◌≤◌, ℕ, List, [], ◌++◌, Option, Some, None, Err, refl, sym, ◌∙◌, ap, subst, arith}
-use Rattle.std.specs.Prelude.{codes, IfSome}
+use Rattle.std.specs.Prelude.{codes}
 use Rattle.std.specs.List.{concat}
-use Rattle.std.specs.Io.KnownBytes.{Appends, Consumes, IsAtEnd}
-use Rattle.std.proofs.KnownBytes.{Appends-nil, Consumes-all}
+use Rattle.std.specs.Io.KnownBytes.{Appends}
+use Rattle.std.proofs.KnownBytes.{Appends-nil}
 use Rattle.std.proofs.lemmas.List.{append-nil}
 use Rattle.outside_io.specs.Bytes.{AppendsPrefix}
 use Rattle.outside_io.specs.Causes.{Rose}
 use Rattle.outside_io.specs.Sinks.{SinkState, Tells}
 use Rattle.job_words.specs.Names.{kind_of}
-use Rattle.job_words.specs.declared.job.Job.{Job}
-use Rattle.job_words.specs.declared.job.Job.TheVariants as job
 use Rattle.metric_mix.specs.MixSpaces.{mix_space}
 use Rattle.plain_scan.specs.declared.session.Stop.TheVariants as stop
 use Rattle.plain_scan.specs.Written.{Writes, reply_texts}
 use Rattle.rows_text.specs.Script.{script}
 use Rattle.answer_texts.specs.Ending.{IsTold}
 use Rattle.answer_texts.proofs.Published.{told_behind}
-use Rattle.mtree_cli.specs.Run.{Asked, IsScan, WritesScan, Ends, scan_texts}
+use Rattle.mtree_cli.specs.Run.{Asked, WritesScan, Ends, scan_texts}
 use Rattle.outside_io.proofs.Published.{rose_before}
-
--- words ask for one scan
-
-asked_in : Asked → Option (Job (List ℕ)) → Asked
-asked_in other (Some (job.Scan space limit show)) = record { space = space; limit = limit; show = show }
-asked_in other found = other
-
-pub one_scan : (words : List (List ℕ)) (a b : Asked) → IsScan words a → IsScan words b → a ≡ b
-unfolding asked_in
-one_scan words a b first second = ap (asked_in a) (sym first ∙ second)
-
--- what holds of all holds of what is there
-
-pub always : {A : Type 0} (o : Option A) (P : A → Type 0) → ((x : A) → P x) → IfSome o P
-always None P all = tt
-always (Some x) P all = all x
-
-pub weaker : {A : Type 0} (o : Option A) (P Q : A → Type 0) → ((x : A) → P x → Q x) → IfSome o P → IfSome o Q
-weaker None P Q step some = tt
-weaker (Some x) P Q step some = step x some
-
--- all bytes that were left were read
-pub read_whole : (old new : Option (List ℕ)) (bs : List ℕ) → Consumes old new bs → IsAtEnd new → IfSome old (λ xs. bs ≡ xs)
-read_whole old new bs took end = Consumes-all old new bs [] bs took end refl
 
 -- faults
 

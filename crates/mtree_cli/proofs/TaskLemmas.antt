@@ -25,7 +25,7 @@ use Rattle.join_jobs.specs.Jobs.{Joins, JudgesLogs as JudgesJoinLogs}
 use Rattle.show_jobs.specs.declared.report.Marks.{Marks}
 use Rattle.show_jobs.specs.Jobs.{ShowsLogs}
 use Rattle.show_joins.specs.Jobs.{ShowsLogs as ShowsJoinLogs}
-use Rattle.mtree_cli.proofs.Sessions.{memory_session}
+use Rattle.session_run.proofs.Published.{always, memory_session}
 use Rattle.mtree_cli.specs.Run.{Task, Scene, Does, IsStatusOf, TakesWithin, scan_texts, task_of}
 use Rattle.std.proofs.lemmas.Bool.{true≢false}
 use Rattle.page_store.specs.Files.{IsLarge}
@@ -40,7 +40,7 @@ use Rattle.seal_jobs.specs.Carries.{CarriesLogs}
 use Rattle.seal_jobs.specs.Proofs.{ProvesLogs}
 use Rattle.file_jobs.specs.declared.logs.stop.Stop.{Stop}
 use Rattle.file_jobs.specs.declared.logs.stop.Stop.TheVariants as stop
-use Rattle.mtree_cli.proofs.ProgramLemmas.{always, fault_writes, memory_ends}
+use Rattle.mtree_cli.proofs.ProgramLemmas.{fault_writes, memory_ends}
 
 -- the task of a job of the words
 pub task_is : (words : List (List ℕ)) (found named : Job (Bor (List ℕ))) → job_of words ≡ Some (texts_in found) → found ≡ named → task_of (job_of words) ≡ task_of (Some (texts_in named))

@@ -29,7 +29,7 @@ use Rattle.job_words.specs.declared.names.SpaceName.{SpaceName}
 use Rattle.metric_mix.specs.MixSpaces.{mix_space}
 use Rattle.plain_scan.specs.Written.{IsFrontOf, first_text, reply_texts}
 use Rattle.answer_texts.specs.Ending.{IsTold}
-use Rattle.mtree_cli.specs.Session.{RunsSession, IsSessionStatus}
+use Rattle.session_run.specs.Job.{RunsSession, IsSessionStatus}
 use Rattle.rows_text.specs.Meaning.{Setting}
 use Rattle.rows_text.specs.Script.{script}
 use Rattle.making_jobs.specs.declared.generating.Generation.{Generation}

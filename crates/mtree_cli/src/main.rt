@@ -12,7 +12,6 @@ mod program;
 #[cfg(test)]
 mod runs;
 mod scan_job;
-mod session_job;
 #[cfg(test)]
 mod session_tests;
 mod telling;

@@ -13,11 +13,10 @@ ghost use Rattle.log_model.specs.Laws.{LeastLogsAreSound};
 ghost use Rattle.session_run.specs.Laws.{TurnsAreTheirMeaning};
 ghost use Rattle.seal_jobs.specs.Laws.{AcceptedShow};
 ghost use Rattle.seal_log.specs.Laws.{CarriedLogsAreAccepted};
-ghost use Rattle.mtree_cli.specs.Session.{IsComplete};
+ghost use Rattle.session_run.specs.Job.{IsComplete};
 ghost use Rattle.mtree_cli.specs.Run.{Asked, Does, HasTooManyPages, IsScan, IsSession, IsStatusOf, LeavesAtMemory, PutsLogLast, PutsNoLog, TakesNoIndex, TakesNoInput, TakesNoLog, TakesNoOther, TakesWithin, marks_of, new_head, task_of};
 
 use crate::scan_job::run_scan;
-use crate::session_job::run_session;
 use batch_run::jobs::{audit_index_by, run_batch};
 use disk_model::{Disk, SharedDisk};
 use dump_jobs::dump_index;
@@ -25,6 +24,7 @@ use file_jobs::{FAULT_MEMORY, create_index, end_with, put_line, shape_index};
 use job_words::{Job, JobFault, PolicyNames, SpaceName, read_job};
 use join_jobs::laws::faultless_is_complete as joins_are_complete;
 use join_jobs::{check_join_logs, join_indexes, verify_join_logs};
+use load_threads::ByThreads;
 use log_jobs::laws::faultless_is_complete;
 use log_jobs::{check_logs, verify_logs};
 use log_model::laws::least_logs_are_sound;
@@ -35,6 +35,7 @@ use seal_jobs::laws::accepted_show;
 use seal_jobs::{carry_logs, prove_logs, seal_index};
 use seal_log::laws::carried_logs_are_accepted;
 use session_run::laws::turns_are_their_meaning;
+use session_run::run_session;
 use show_jobs::{Marks, show_logs};
 use show_joins::show_join_logs;
 use stats_jobs::stats_index;
@@ -164,6 +165,7 @@ pub fn run<R: Threads + Sync, D: SharedDisk, E: Disk, S: Source, L: Source, K: S
     least_logs_are_sound();
     accepted_show();
     carried_logs_are_accepted();
+    let crew = ByThreads::new(rt);
     match read_job(alloc, words) {
         Ok(
             Job::Scan {
@@ -186,7 +188,7 @@ pub fn run<R: Threads + Sync, D: SharedDisk, E: Disk, S: Source, L: Source, K: S
                 show_tags,
                 ..
             },
-        ) => run_session(rt, alloc, index, workers, show_tags, input, out, log_out),
+        ) => run_session(&crew, alloc, index, workers, show_tags, input, out, log_out),
         Ok(Job::Shape { .. }) => shape_index(alloc, index, out),
         Ok(Job::Stats { .. }) => stats_index(alloc, index, out),
         Ok(Job::Dump { .. }) => dump_index(alloc, index, out),
@@ -228,9 +230,9 @@ pub fn run<R: Threads + Sync, D: SharedDisk, E: Disk, S: Source, L: Source, K: S
                 seed,
                 workers,
             };
-            generate_index(rt, alloc, index, &asked, out)
+            generate_index(&crew, alloc, index, &asked, out)
         }
-        Ok(Job::Migrate { .. }) => migrate_index(rt, alloc, index, other, out),
+        Ok(Job::Migrate { .. }) => migrate_index(alloc, index, other, out),
         Ok(
             Job::Batch {
                 workers,

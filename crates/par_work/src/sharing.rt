@@ -45,6 +45,19 @@ fn piece<X: Send + Drop, F: Fn(usize) -> X>(
     answers_of(alloc, work, from, piece_end(from, size, count))
 }
 
+/// Returns the results of the work at each place below `count`, in order. The caller alone does it.
+pub fn in_turn<X: Send + Drop, F: Fn(usize) -> X>(
+    alloc: Global,
+    count: usize,
+    work: &F,
+) -> Result<Vec<X>, Memory>
+    requires calls { (i : ℕ) → i < count → F.pre work.now i }
+    ensures len { IfOk result (λ v. vec_len v ≡ count) }
+    ensures each { IfOk result (λ v. (i : ℕ) (x : X) → slice_get v.items i ≡ Some x → F.post work.now i x) }
+{
+    answers_of(alloc, work, 0, count)
+}
+
 /// Returns the results of the work at each place below `count`, in order. The places are cut in order into pieces of
 /// `ceil(count / workers)`. A thread of its own does each piece; the caller does a piece whose thread can't be started.
 pub fn share<R: Threads + Sync, X: Send + Drop, F: Fn(usize) -> X + Sync>(

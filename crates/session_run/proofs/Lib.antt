@@ -14,4 +14,6 @@ pub mod Stepped
 pub mod Turning
 pub mod Runs
 pub mod Meanings
+mod Taken
+mod Jobs
 pub mod Published

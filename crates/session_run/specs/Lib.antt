@@ -3,3 +3,4 @@ pub mod Session
 pub mod Pinned
 pub mod Steps
 pub mod Laws
+pub mod Job

@@ -10,17 +10,17 @@ use crate::answer::{Answer, inserted, loaded};
 use crate::pinned::PinnedCursors;
 use crate::queries::{nearest, range};
 use crate::stop::Stop;
+use bulk_load::Crew;
 use disk_model::Disk;
 use index_core::Index;
 use metric_laws::Metric;
 use plain_scan::has_points_of;
 use rows_text::{Command, Refusal, Reply};
 use std::alloc::Global;
-use std::thread::Threads;
 
 // Carries out `command`, where its points are points of the space.
-fn execute<R: Threads + Sync, M: Metric, D: Disk>(
-    rt: &R,
+fn execute<W: Crew<M>, M: Metric, D: Disk>(
+    crew: &W,
     alloc: Global,
     index: &mut Index<M>,
     cursors: &mut PinnedCursors,
@@ -28,6 +28,7 @@ fn execute<R: Threads + Sync, M: Metric, D: Disk>(
     show: bool,
     command: &Command,
 ) -> Result<Answer, Stop>
+    requires ready { W.ready crew.now }
     requires going { index.old.stopped ≡ false }
     requires stands { MayGoOn index.old (D.state disk.old) }
     requires numbers { cursors.old.next + 1 < 2 ^ 32 }
@@ -44,9 +45,9 @@ fn execute<R: Threads + Sync, M: Metric, D: Disk>(
         Command::TagInsert { tag, p } => {
             inserted(index.insert_tagged(alloc, disk, p.as_slice(), *tag))
         }
-        Command::Load(rows) => loaded(index.load(rt, alloc, disk, rows)),
+        Command::Load(rows) => loaded(index.load(crew, alloc, disk, rows)),
         Command::TagLoad { tags, rows } => {
-            loaded(index.load_tagged(rt, alloc, disk, rows, tags.as_slice()))
+            loaded(index.load_tagged(crew, alloc, disk, rows, tags.as_slice()))
         }
         Command::Range { r, q } => range(alloc, index, disk, show, q, *r),
         Command::Nearest { k, q } => nearest(alloc, index, disk, show, q, *k),
@@ -62,8 +63,8 @@ fn execute<R: Threads + Sync, M: Metric, D: Disk>(
 }
 
 /// Carries out `command`. Refuses a command with a point that is not in the space.
-pub fn step<R: Threads + Sync, M: Metric, D: Disk>(
-    rt: &R,
+pub fn step<W: Crew<M>, M: Metric, D: Disk>(
+    crew: &W,
     alloc: Global,
     index: &mut Index<M>,
     cursors: &mut PinnedCursors,
@@ -71,6 +72,7 @@ pub fn step<R: Threads + Sync, M: Metric, D: Disk>(
     show: bool,
     command: &Command,
 ) -> Result<Answer, Stop>
+    requires ready { W.ready crew.now }
     requires going { index.old.stopped ≡ false }
     requires stands { MayGoOn index.old (D.state disk.old) }
     requires numbers { cursors.old.next + 1 < 2 ^ 32 }
@@ -84,5 +86,5 @@ pub fn step<R: Threads + Sync, M: Metric, D: Disk>(
     if !has_points_of(&index.metric(), command) {
         return Ok(Answer::plain(Reply::Refused(Refusal::Unfit)));
     }
-    execute(rt, alloc, index, cursors, disk, show, command)
+    execute(crew, alloc, index, cursors, disk, show, command)
 }

@@ -11,13 +11,13 @@ use crate::commands::step;
 use crate::pinned::PinnedCursors;
 use crate::stop::Stop;
 use answer_texts::texts_of;
+use bulk_load::Crew;
 use disk_model::Disk;
 use index_core::Index;
 use metric_laws::Metric;
 use outside_io::Sink;
 use rows_text::Command;
 use std::alloc::Global;
-use std::thread::Threads;
 
 /// How a session ended.
 #[derive(Clone, Copy, PartialEq, Eq)]
@@ -30,8 +30,8 @@ pub struct Ended {
 }
 
 // Carries out one command, and writes the frame of its log and its reply.
-fn turn<R: Threads + Sync, M: Metric, D: Disk, K: Sink, T: Sink>(
-    rt: &R,
+fn turn<W: Crew<M>, M: Metric, D: Disk, K: Sink, T: Sink>(
+    crew: &W,
     alloc: Global,
     index: &mut Index<M>,
     cursors: &mut PinnedCursors,
@@ -41,6 +41,7 @@ fn turn<R: Threads + Sync, M: Metric, D: Disk, K: Sink, T: Sink>(
     out: &mut K,
     log_out: &mut T,
 ) -> Result<(), Stop>
+    requires ready { W.ready crew.now }
     requires going { index.old.stopped ≡ false }
     requires stands { MayGoOn index.old (D.state disk.old) }
     requires numbers { cursors.old.next + 1 < 2 ^ 32 }
@@ -52,7 +53,7 @@ fn turn<R: Threads + Sync, M: Metric, D: Disk, K: Sink, T: Sink>(
         (K.state out.old) (K.state out.new) (T.state log_out.old) (T.state log_out.new) result }
 {
     index.is_lawful();
-    let answer = match step(rt, alloc, index, cursors, disk, show, command) {
+    let answer = match step(crew, alloc, index, cursors, disk, show, command) {
         Ok(answer) => answer,
         Err(why) => return Err(why),
     };
@@ -75,8 +76,8 @@ fn turn<R: Threads + Sync, M: Metric, D: Disk, K: Sink, T: Sink>(
 /// On a sound index each reply is that of a plain list, unless the file has no room or no further generation, and each log is the
 /// least one. A crash at any moment leaves the objects after some first commands; at the end, at least those of the acknowledged
 /// ones.
-pub fn session<R: Threads + Sync, M: Metric, D: Disk, K: Sink, T: Sink>(
-    rt: &R,
+pub fn session<W: Crew<M>, M: Metric, D: Disk, K: Sink, T: Sink>(
+    crew: &W,
     alloc: Global,
     index: &mut Index<M>,
     disk: &mut D,
@@ -85,6 +86,7 @@ pub fn session<R: Threads + Sync, M: Metric, D: Disk, K: Sink, T: Sink>(
     out: &mut K,
     log_out: &mut T,
 ) -> Ended
+    requires ready { W.ready crew.now }
     requires going { index.old.stopped ≡ false }
     requires stands { MayGoOn index.old (D.state disk.old) }
     requires few { length commands.now < 2 ^ 32 }
@@ -114,7 +116,7 @@ pub fn session<R: Threads + Sync, M: Metric, D: Disk, K: Sink, T: Sink>(
     let mut acknowledged = 0u64;
     for command in commands {
         if let Err(why) = turn(
-            rt,
+            crew,
             alloc,
             index,
             &mut cursors,

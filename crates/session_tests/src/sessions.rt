@@ -2,6 +2,7 @@ ghost use Rattle.std.specs.Prelude.{◌≡◌, ◌≤◌, ◌^◌, false, None, 
 ghost use Rattle.node_page.specs.Heads.{IsLawfulHead};
 ghost use Rattle.index_core.specs.Index.{MayGoOn};
 
+use bulk_load::Alone;
 use disk_model::{Disk, MemoryDisk};
 use index_core::Index;
 use metric_laws::{Memory, Metric};
@@ -15,7 +16,6 @@ use session_run::{Ended, Stop, session};
 use shadow_root::{OpenFault, create};
 use std::alloc::Global;
 use std::process::Abort;
-use std::thread::Threads;
 use vector_kinds::L1;
 
 // Ends a test in which `is_so` is false.
@@ -119,7 +119,7 @@ fn count_on<D: Disk>(rt: &impl Abort, disk: &mut D) -> u32 {
 }
 
 // Does the commands of a script on an index.
-fn run_on<R: AllocGlobal + Abort + Threads + Sync, M: Metric, D: Disk, K: Sink, T: Sink>(
+fn run_on<R: AllocGlobal + Abort, M: Metric, D: Disk, K: Sink, T: Sink>(
     rt: &R,
     index: &mut Index<M>,
     disk: &mut D,
@@ -137,11 +137,11 @@ fn run_on<R: AllocGlobal + Abort + Threads + Sync, M: Metric, D: Disk, K: Sink, 
     let words = index.metric().words();
     assert!(rt; words == 1 && script.len() < 1_000);
     let commands = read_script(alloc, script, words).expect(rt, "memory");
-    session(rt, alloc, index, disk, &commands, show, out, log_out)
+    session(&Alone, alloc, index, disk, &commands, show, out, log_out)
 }
 
 // Opens the index on a disk, and does the commands of a script on it.
-fn run<R: AllocGlobal + Abort + Threads + Sync, D: Disk, K: Sink, T: Sink>(
+fn run<R: AllocGlobal + Abort, D: Disk, K: Sink, T: Sink>(
     rt: &R,
     disk: &mut D,
     script: &[u8],
@@ -170,11 +170,7 @@ struct Whole<'a> {
 }
 
 // Checks that all commands of a script are done, with the replies and the logs of a case.
-fn check_whole<R: AllocGlobal + Abort + Threads + Sync, D: Disk>(
-    rt: &R,
-    disk: &mut D,
-    case: &Whole<'_>,
-) {
+fn check_whole<R: AllocGlobal + Abort, D: Disk>(rt: &R, disk: &mut D, case: &Whole<'_>) {
     let mut out = sink_of(rt, &[]);
     let mut log_out = sink_of(rt, &[]);
     let ended = run(rt, disk, case.script, case.show, &mut out, &mut log_out);
@@ -315,11 +311,7 @@ const BROKEN: [Broken; 6] = [
 ];
 
 // Checks that a session of the mixed commands ends where a put fails.
-fn check_broken<R: AllocGlobal + Abort + Threads + Sync, D: Disk>(
-    rt: &R,
-    disk: &mut D,
-    case: &Broken,
-) {
+fn check_broken<R: AllocGlobal + Abort, D: Disk>(rt: &R, disk: &mut D, case: &Broken) {
     let mut out = sink_of(rt, case.fails);
     let mut log_out = sink_of(rt, case.log_fails);
     let ended = run(rt, disk, MIXED, false, &mut out, &mut log_out);
@@ -372,7 +364,7 @@ fn stop_after(commands: u64) -> Option<Stop> {
 }
 
 // Runs the script on a disk that stops, and counts the objects that are acknowledged.
-fn run_stopped<R: AllocGlobal + Abort + Threads + Sync, D: Disk>(rt: &R, disk: &mut D) -> u64 {
+fn run_stopped<R: AllocGlobal + Abort, D: Disk>(rt: &R, disk: &mut D) -> u64 {
     let mut out = sink_of(rt, &[]);
     let mut log_out = sink_of(rt, &[]);
     let ended = run(rt, disk, STOPPED, false, &mut out, &mut log_out);
@@ -383,7 +375,7 @@ fn run_stopped<R: AllocGlobal + Abort + Threads + Sync, D: Disk>(rt: &R, disk: &
 }
 
 // Inserts one object more into an index of `count` objects.
-fn check_more<R: AllocGlobal + Abort + Threads + Sync, D: Disk>(rt: &R, disk: &mut D, count: u64) {
+fn check_more<R: AllocGlobal + Abort, D: Disk>(rt: &R, disk: &mut D, count: u64) {
     let more = count.saturating_add(1);
     let replies = format!(in rt.alloc(); "id {count}\ncount {more}\n").expect(rt, "memory");
     let case = Whole {
@@ -397,23 +389,14 @@ fn check_more<R: AllocGlobal + Abort + Threads + Sync, D: Disk>(rt: &R, disk: &m
 }
 
 // Checks that what a crash left is opened, has `objects` objects or one more, and goes on.
-fn check_goes_on<R: AllocGlobal + Abort + Threads + Sync, D: Disk>(
-    rt: &R,
-    disk: &mut D,
-    objects: u64,
-) {
+fn check_goes_on<R: AllocGlobal + Abort, D: Disk>(rt: &R, disk: &mut D, objects: u64) {
     let count = u64::from(count_on(rt, disk));
     holds(rt, count == objects || count == objects.saturating_add(1));
     check_more(rt, disk, count);
 }
 
 // Checks what a crash after the last call of a disk leaves.
-fn check_left<R: AllocGlobal + Abort + Threads + Sync, D: Watched>(
-    rt: &R,
-    disk: &D,
-    pick: u64,
-    objects: u64,
-) {
+fn check_left<R: AllocGlobal + Abort, D: Watched>(rt: &R, disk: &D, pick: u64, objects: u64) {
     let image = disk.left(rt.alloc(), pick).expect(rt, "memory");
     let mut again = disk_of(rt, image, None);
     check_goes_on(rt, &mut again, objects);
@@ -421,7 +404,7 @@ fn check_left<R: AllocGlobal + Abort + Threads + Sync, D: Watched>(
 
 // Runs the script on a disk that stops at the call `stop`, checks what that leaves, and counts the objects that are
 // acknowledged.
-fn check_stop<R: AllocGlobal + Abort + Threads + Sync>(rt: &R, stop: u64) -> u64 {
+fn check_stop<R: AllocGlobal + Abort>(rt: &R, stop: u64) -> u64 {
     let mut disk = empty_disk(rt, Some(stop));
     let objects = run_stopped(rt, &mut disk);
     for pick in [0, 1, 165] {
@@ -465,7 +448,7 @@ const ROOTS: [Rooted; 6] = [
 ];
 
 // Gives the page of the root after two scripts.
-fn root_after<R: AllocGlobal + Abort + Threads + Sync, D: Disk>(
+fn root_after<R: AllocGlobal + Abort, D: Disk>(
     rt: &R,
     disk: &mut D,
     script: &[u8],
@@ -482,7 +465,7 @@ fn root_after<R: AllocGlobal + Abort + Threads + Sync, D: Disk>(
 }
 
 // Checks the page of the root after two scripts.
-fn check_root<R: AllocGlobal + Abort + Threads + Sync>(rt: &R, case: &Rooted) {
+fn check_root<R: AllocGlobal + Abort>(rt: &R, case: &Rooted) {
     let (script, more, root) = *case;
     let mut disk = empty_disk(rt, None);
     holds(rt, root_after(rt, &mut disk, script, more) == root);
@@ -504,7 +487,7 @@ const ONE: Whole<'static> = Whole {
 };
 
 // Gives the bytes of an index of one object in which one byte of its root's page is changed.
-fn damaged_file<R: AllocGlobal + Abort + Threads + Sync>(rt: &R) -> Vec<u8> {
+fn damaged_file<R: AllocGlobal + Abort>(rt: &R) -> Vec<u8> {
     let mut disk = empty_disk(rt, None);
     check_whole(rt, &mut disk, &ONE);
     let mut bytes = copied(rt, &disk);
@@ -521,7 +504,7 @@ fn is_bad(stopped: &Option<Stop>) -> bool {
 }
 
 // Checks that a session ends at the first command that comes to the page.
-fn check_damaged<R: AllocGlobal + Abort + Threads + Sync, D: Disk>(rt: &R, disk: &mut D) {
+fn check_damaged<R: AllocGlobal + Abort, D: Disk>(rt: &R, disk: &mut D) {
     let mut out = sink_of(rt, &[]);
     let mut log_out = sink_of(rt, &[]);
     let script = b"count\nhello\nrange,0,7\ncount\n";

@@ -197,7 +197,7 @@ fn show_all<P: Pages, K: Sink>(
     Ok(sound)
 }
 
-// Says what there is to say about the logs that `bytes` spell, and returns the status.
+// Writes what is shown of the logs that `bytes` spell, and returns the status.
 pub fn show_bytes<P: Pages, K: Sink>(
     alloc: Global,
     view: &View,

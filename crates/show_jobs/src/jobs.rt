@@ -12,7 +12,7 @@ use file_jobs::open_index;
 use outside_io::{Sink, Source, Status};
 use std::alloc::Global;
 
-// Says what there is to say about an index and the bytes of its logs.
+// Writes what is shown of the bytes of logs of an index.
 fn show_index<D: Disk, K: Sink>(
     alloc: Global,
     marks: Marks,

@@ -76,7 +76,7 @@ pub fn count_opened<D: Disk>(
     nodes_in(alloc, &mut pages, live)
 }
 
-// Says what there is to say about the logs of an opened file.
+// Writes what is shown of the logs of an opened file.
 pub fn show_opened<D: Disk, K: Sink>(
     alloc: Global,
     docket: &Docket<'_>,

@@ -4,3 +4,4 @@ pub mod PairWholeness
 pub mod PairFraming
 pub mod PairEnding
 pub mod PairTexts
+pub mod PairReasons

@@ -207,7 +207,7 @@ fn show_all<P: Pages, Q: Pages, K: Sink>(
     Ok(sound)
 }
 
-// Says what there is to say about the logs that `bytes` spell, and returns the status.
+// Writes what is shown of the logs that `bytes` spell, and returns the status.
 pub fn show_bytes<P: Pages, Q: Pages, K: Sink>(
     view: &JoinView,
     left: &mut P,

@@ -12,7 +12,7 @@ use outside_io::{Sink, Source, Status};
 use show_jobs::Marks;
 use std::alloc::Global;
 
-// Says what there is to say about two indexes and the bytes of their logs.
+// Writes what is shown of the bytes of logs of two indexes.
 fn show_indexes<D: Disk, E: Disk, K: Sink>(
     alloc: Global,
     marks: Marks,

@@ -59,7 +59,7 @@ pub fn count_both<D: Disk, E: Disk>(
     Ok((left, right))
 }
 
-// Says what there is to say about the logs of two opened files of one space.
+// Writes what is shown of the logs of two opened files of one space.
 fn show_opened<D: Disk, E: Disk, K: Sink>(
     alloc: Global,
     docket: &Docket<'_>,
@@ -110,7 +110,7 @@ fn show_opened<D: Disk, E: Disk, K: Sink>(
     shown
 }
 
-// Says what there is to say about two opened files and the logs of their joins.
+// Writes what is shown of the logs of joins of two opened files.
 pub fn show_trees<D: Disk, E: Disk, K: Sink>(
     alloc: Global,
     docket: &Docket<'_>,

@@ -11,11 +11,11 @@ use Rattle.making_jobs.proofs.Generated.{is_full, is_sound, is_summary, leaves_o
 use Rattle.making_jobs.proofs.generating.generate_index.Goals as goal
 
 pub make_filled-made-requires-clause-fits : goal.make_filled-made-requires-clause-fits
-make_filled-made-requires-clause-fits g c = λ κs within.
+make_filled-made-requires-clause-fits g c =
     rows_fit c.vectors_fit.ensures c.args.asked.now.head c.requires.lawful c.requires.vectors c.args.asked.now.seed c.args.asked.now.count c.in-Ok.objects.rows.points (ap (λ r. r.points) c.in-Ok.ensures.rows)
 
 pub make_filled-made-requires-clause-few : goal.make_filled-made-requires-clause-few
-make_filled-made-requires-clause-few g c = λ κs within.
+make_filled-made-requires-clause-few g c =
     let long = rows_long c.args.asked.now.seed c.args.asked.now.head.dim c.args.asked.now.count c.in-Ok.objects.rows.points (ap (λ r. r.points) c.in-Ok.ensures.rows) in
     let few = c.requires.few in omega (arith, long, few)
 

@@ -15,7 +15,7 @@ returns-in-Err-Disk-clause-unfilled g c =
     c.end_with-in-Err-Disk.result.0 (g.D.Disk.state c.create.new.disk) (subst (HasCreateCause (g.D.Disk.state c.args.disk.now) (g.D.Disk.state c.create.new.disk)) c.in-Err-Disk.field-0-is c.in-Err-Disk.ensures.fault) c.create.ensures.reads c.end_with-in-Err-Disk.ensures.status c.end_with-in-Err-Disk.ensures.line
 
 pub fill-requires-clause-made : goal.fill-requires-clause-made
-fill-requires-clause-made g c = λ _ _ tells. c.in-Ok.ensures.made (subst IsTrue c.create.ensures.tells tells)
+fill-requires-clause-made g c = λ tells. c.in-Ok.ensures.made (subst IsTrue c.create.ensures.tells tells)
 
 pub returns-in-Ok-fill-clause-since : goal.returns-in-Ok-fill-clause-since
 returns-in-Ok-fill-clause-since g c =

@@ -16,6 +16,6 @@ returns-then-found-hits c = λ file command comes none.
 pub returns : goal.returns
 returns c = λ file command comes none.
     let a = c.in-Ok.answer in
-    handed file command a.hits a.tags a.log c.in-Ok-frame_for.frame.items c.args.hits.now c.put_hits.new.room c.args.log.now c.put_bytes.new.room _ _
+    handed file command a.hits a.tags a.log c.in-Ok-frame_for.frame.items c.args.hits.now c.put_hits.new.room c.args.log.now c.put_front.new.room _ _
     (search rules) (search rules) c.in-Ok-frame_for.ensures (search rules) (search rules)
     (search rules) (search rules)

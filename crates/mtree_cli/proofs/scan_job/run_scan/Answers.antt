@@ -1,6 +1,7 @@
 use Rattle.std.proofs.Common.{◌≡◌, [], ℕ, List, ◌∙◌, refl}
 use Rattle.mtree_cli.specs.Run.{Asked}
-use Rattle.mtree_cli.proofs.ProgramLemmas.{always, weaker, read_whole, fault_writes, input_ends, long_ends, memory_ends, same_scan}
+use Rattle.session_run.proofs.Published.{always, weaker, read_whole}
+use Rattle.mtree_cli.proofs.ProgramLemmas.{fault_writes, input_ends, long_ends, memory_ends, same_scan}
 use Rattle.mtree_cli.proofs.scan_job.run_scan.Goals as goal
 
 pub returns-in-Ok-clause-wrote : goal.returns-in-Ok-clause-wrote

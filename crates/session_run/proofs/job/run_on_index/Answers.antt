@@ -2,8 +2,8 @@ use Rattle.std.proofs.Common.{inl, inr, ap, ◌∙◌, arith}
 use Rattle.metric_mix.specs.MixKinds.{mix_dim, mix_kind}
 use Rattle.metric_mix.specs.declared.mix_space.MixSpace.{MixSpace}
 use Rattle.index_core.specs.Index.{OpenIndex}
-use Rattle.mtree_cli.proofs.Sessions.{head_is, memory_ends_it, memory_runs, reads_since, refused_ends, refused_of, refused_runs, since_opening, unopened_ends, unopened_runs}
-use Rattle.mtree_cli.proofs.session_job.run_on_index.Goals as goal
+use Rattle.session_run.proofs.Jobs.{head_is, memory_ends_it, memory_runs, reads_since, refused_ends, refused_of, refused_runs, since_opening, unopened_ends, unopened_runs}
+use Rattle.session_run.proofs.job.run_on_index.Goals as goal
 
 pub returns-in-Err-clause-runs : goal.returns-in-Err-clause-runs
 returns-in-Err-clause-runs g c =

@@ -1,5 +1,5 @@
-use Rattle.mtree_cli.proofs.Sessions.{input_session, long_session, memory_session, ran_complete, ran_session}
-use Rattle.mtree_cli.proofs.session_job.run_session.Goals as goal
+use Rattle.session_run.proofs.Jobs.{input_session, long_session, memory_session, ran_complete, ran_session}
+use Rattle.session_run.proofs.job.run_session.Goals as goal
 
 pub returns-in-Err-Fault-clause-runs : goal.returns-in-Err-Fault-clause-runs
 returns-in-Err-Fault-clause-runs g c =

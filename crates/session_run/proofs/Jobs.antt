@@ -27,8 +27,7 @@ use Rattle.metric_laws.specs.Space.{Space}
 use Rattle.index_core.specs.Files.{IsLawfulFile, nodes_on}
 use Rattle.index_core.specs.Index.{OpenIndex, StandsAlone}
 use Rattle.index_core.proofs.Published.{holds}
-use Rattle.session_run.proofs.Published.{objects_on}
-use Rattle.batch_run.proofs.Published.{unfinished}
+use Rattle.session_run.proofs.Reading.{objects_on}
 use Rattle.file_jobs.specs.Lines.{not_index_text, unopened_name, unopened_text}
 use Rattle.rows_text.specs.declared.command.Command.{Command}
 use Rattle.rows_text.specs.Meaning.{State}
@@ -41,9 +40,9 @@ use Rattle.answer_texts.specs.Asked.{Held, held_in}
 use Rattle.answer_texts.specs.Ending.{IsTold, TellsFault}
 use Rattle.answer_texts.proofs.Published.{told_behind, disk_ends, input_ends, long_ends, memory_ends, line_alone, disk_told, input_told, long_told, memory_told, none_told}
 use Rattle.session_run.specs.Turns.{AreTurns, Turn, answers_of, held_on}
-use Rattle.mtree_cli.proofs.ProgramLemmas.{always, read_whole, weaker}
+use Rattle.session_run.proofs.Taken.{always, read_whole, unfinished, weaker}
 use Rattle.file_jobs.specs.Spaces.{space_of}
-use Rattle.mtree_cli.specs.Session.{HasEnded, HasFinished, HasRefused, HoldsFront, IsComplete, IsLeft, Leaves, LeavesAll, ReadsFew, ReadsScript, RunsOn, RunsScript, RunsSession, SessionEnds, setting_in, state_in}
+use Rattle.session_run.specs.Job.{HasEnded, HasFinished, HasRefused, HoldsFront, IsComplete, IsLeft, Leaves, LeavesAll, ReadsFew, ReadsScript, RunsOn, RunsScript, RunsSession, SessionEnds, setting_in, state_in}
 use Rattle.outside_io.proofs.Published.{rose_before}
 
 module _ (show : Bool) (bytes : List ℕ) (head : Head) (live : Live) (file : List ℕ) (disk0 disk1 : DiskState) (out0 out1 out2 log0 log1 : SinkState) where

@@ -1,4 +1,4 @@
-// The job `session`: a script on an index.
+//! The job `session`: a script on an index.
 ghost use Rattle.std.specs.Prelude.{◌≡◌, ◌≢◌, ◌⊎◌, ◌≤◌, ◌^◌, false, length, IsTrue, IfOk, IfErr, OnOk};
 ghost use Rattle.std.specs.Io.KnownBytes.{IsAtEnd};
 ghost use Rattle.outside_io.specs.Bytes.{TakesUpTo};
@@ -11,8 +11,11 @@ ghost use Rattle.std.specs.List.{AllByRecursion};
 ghost use Rattle.rows_text.specs.Script.{script};
 ghost use Rattle.session_run.specs.Session.{IsAsking};
 ghost use Rattle.file_jobs.specs.Spaces.{space_of};
-ghost use Rattle.mtree_cli.specs.Session.{HasEnded, HasFinished, HasRefused, IsComplete, IsSessionStatus, LeavesAll, ReadsFew, ReadsScript, RunsOn, RunsScript, RunsSession, state_in};
+ghost use Rattle.session_run.specs.Job.{HasEnded, HasFinished, HasRefused, IsComplete, IsSessionStatus, LeavesAll, ReadsFew, ReadsScript, RunsOn, RunsScript, RunsSession, state_in};
 
+use crate::running::session;
+use crate::stop::Stop;
+use bulk_load::Crew;
 use disk_model::Disk;
 use file_jobs::{
     FAULT_DISK, FAULT_INPUT, FAULT_LONG, FAULT_MEMORY, MOST_INPUT, damaged_text, end_unopened,
@@ -25,9 +28,7 @@ use node_page::laws::{fault_is_not_open, one_live_slot};
 use outside_io::{ReadAll, Sink, Source, Status, read_all};
 use page_cache::KEPT_NODES;
 use rows_text::read_script;
-use session_run::{Stop, session};
 use std::alloc::Global;
-use std::thread::Threads;
 
 // Ends a session that stopped for the reason `why`.
 fn end_stopped<K: Sink>(alloc: Global, why: Stop, out: &mut K) -> Status
@@ -46,8 +47,8 @@ fn end_stopped<K: Sink>(alloc: Global, why: Stop, out: &mut K) -> Status
 }
 
 // Runs a script that is already read, on an opened index.
-fn run_opened<R: Threads + Sync, D: Disk, K: Sink, T: Sink>(
-    rt: &R,
+fn run_opened<W: Crew<MixSpace>, D: Disk, K: Sink, T: Sink>(
+    crew: &W,
     alloc: Global,
     opened: &mut Index<MixSpace>,
     index: &mut D,
@@ -56,6 +57,7 @@ fn run_opened<R: Threads + Sync, D: Disk, K: Sink, T: Sink>(
     out: &mut K,
     log_out: &mut T,
 ) -> Status
+    requires ready { W.ready crew.now }
     requires going { opened.old.stopped ≡ false }
     requires stands { MayGoOn opened.old (D.state index.old) }
     requires few { length bytes.now ≤ 2 ^ 26 }
@@ -81,7 +83,9 @@ fn run_opened<R: Threads + Sync, D: Disk, K: Sink, T: Sink>(
     let Ok(commands) = read_script(alloc, bytes, opened.metric().words()) else {
         return end_with(out, FAULT_MEMORY, 8);
     };
-    let ended = session(rt, alloc, opened, index, &commands, show_tags, out, log_out);
+    let ended = session(
+        crew, alloc, opened, index, &commands, show_tags, out, log_out,
+    );
     match ended.stopped {
         None => Status(0),
         Some(why) => end_stopped(alloc, why, out),
@@ -89,8 +93,8 @@ fn run_opened<R: Threads + Sync, D: Disk, K: Sink, T: Sink>(
 }
 
 // Opens the index, and runs a script on it that is already read.
-fn run_on_index<R: Threads + Sync, D: Disk, K: Sink, T: Sink>(
-    rt: &R,
+fn run_on_index<W: Crew<MixSpace>, D: Disk, K: Sink, T: Sink>(
+    crew: &W,
     alloc: Global,
     index: &mut D,
     workers: usize,
@@ -99,6 +103,7 @@ fn run_on_index<R: Threads + Sync, D: Disk, K: Sink, T: Sink>(
     out: &mut K,
     log_out: &mut T,
 ) -> Status
+    requires ready { W.ready crew.now }
     requires some { 1 ≤ workers }
     requires many { workers ≤ 64 }
     requires few { length bytes.now ≤ 2 ^ 26 }
@@ -124,7 +129,7 @@ fn run_on_index<R: Threads + Sync, D: Disk, K: Sink, T: Sink>(
         return end_with(out, FAULT_MEMORY, 8);
     };
     run_opened(
-        rt,
+        crew,
         alloc,
         &mut opened,
         index,
@@ -135,12 +140,12 @@ fn run_on_index<R: Threads + Sync, D: Disk, K: Sink, T: Sink>(
     )
 }
 
-/// Runs the script of `input` on the index. Writes each reply to `out` and the log of each query to `log_out`. Loads share their
-/// work among `workers` threads, 1 to 64. Status 3: the input could not be read; 4: a reply or a log could not be written; 5: the
-/// disk failed; 6: the file is no index of version 2; 7: the input is longer than 2 ^ 26 bytes; 8: memory ran out; 9: a page of a
-/// file that is not sound is damaged.
-pub fn run_session<R: Threads + Sync, D: Disk, S: Source, K: Sink, T: Sink>(
-    rt: &R,
+/// Runs the script of `input` on the index. Writes each reply to `out` and the log of each query to `log_out`. `crew` does the work of
+/// loads, with `workers` workers, 1 to 64. Status 3: the input could not be read; 4: a reply or a log could not be written; 5: the disk
+/// failed; 6: the file is no index of version 2; 7: the input is longer than 2 ^ 26 bytes; 8: memory ran out; 9: a page of a file that
+/// is not sound is damaged.
+pub fn run_session<W: Crew<MixSpace>, D: Disk, S: Source, K: Sink, T: Sink>(
+    crew: &W,
     alloc: Global,
     index: &mut D,
     workers: usize,
@@ -149,6 +154,7 @@ pub fn run_session<R: Threads + Sync, D: Disk, S: Source, K: Sink, T: Sink>(
     out: &mut K,
     log_out: &mut T,
 ) -> Status
+    requires ready { W.ready crew.now }
     requires some { 1 ≤ workers }
     requires many { workers ≤ 64 }
     ensures runs { RunsSession show_tags (S.left input.old) (D.state index.old) (D.state index.new) (K.state out.old)
@@ -169,7 +175,7 @@ pub fn run_session<R: Threads + Sync, D: Disk, S: Source, K: Sink, T: Sink>(
         × ((T.state log_out.old).faults ≤ (T.state log_out.new).faults) }
 {
     match read_all(alloc, input, MOST_INPUT) {
-        Ok(bytes) => run_on_index(rt, alloc, index, workers, show_tags, &bytes, out, log_out),
+        Ok(bytes) => run_on_index(crew, alloc, index, workers, show_tags, &bytes, out, log_out),
         Err(ReadAll::Fault) => end_with(out, FAULT_INPUT, 3),
         Err(ReadAll::TooLong) => end_with(out, FAULT_LONG, 7),
         Err(ReadAll::Memory) => end_with(out, FAULT_MEMORY, 8),

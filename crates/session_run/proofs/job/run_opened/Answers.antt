@@ -4,9 +4,9 @@ use Rattle.metric_mix.specs.MixSpaces.{mix_space}
 use Rattle.rows_text.specs.Script.{script}
 use Rattle.index_core.specs.Answers.{IsSoundOn}
 use Rattle.answer_texts.proofs.Published.{memory_ends}
-use Rattle.mtree_cli.specs.Session.{LeavesAll, state_in}
-use Rattle.mtree_cli.proofs.Sessions.{done_finished, few_read, finished, held, is_done, is_stopped, memory_finished, not_done, nothing_left, unread}
-use Rattle.mtree_cli.proofs.session_job.run_opened.Goals as goal
+use Rattle.session_run.specs.Job.{LeavesAll, state_in}
+use Rattle.session_run.proofs.Jobs.{done_finished, few_read, finished, held, is_done, is_stopped, memory_finished, not_done, nothing_left, unread}
+use Rattle.session_run.proofs.job.run_opened.Goals as goal
 
 pub returns-in-None-clause-runs : goal.returns-in-None-clause-runs
 returns-in-None-clause-runs g c = λ tells kind dim sound.

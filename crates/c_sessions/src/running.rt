@@ -1,0 +1,60 @@
+// Runs a script on a file, which stays as it is.
+ghost use Rattle.std.specs.Prelude.{IfSome};
+ghost use Rattle.c_sessions.specs.Sessions.{IsSession};
+
+use bulk_load::Alone;
+use caller_ends::{Gathered, SliceSource};
+use plan_disk::PlanDisk;
+use session_run::run_session;
+use std::alloc::Global;
+
+/// The greatest number of bytes of a disk.
+const MOST: u64 = 1 << 37;
+
+/// What a session came to.
+#[derive(Drop)]
+pub struct Ran<'a> {
+    /// The status of the job.
+    pub status: u8,
+    /// The plan of what the session does to the file.
+    pub disk: PlanDisk<'a>,
+    /// The replies.
+    pub text: Gathered,
+    /// The frames of the logs.
+    pub log: Gathered,
+}
+
+/// Runs `script` on the bytes of an index file, as the program's `session` does. Returns none where memory ran out.
+pub fn run<'a>(alloc: Global, file: &'a [u8], show_tags: bool, script: &[u8]) -> Option<Ran<'a>>
+    ensures { IfSome result (λ ran. IsSession show_tags script.now file.now
+        (record { plan = ran.disk; text = ran.text.bytes.items; log = ran.log.bytes.items }) ran.status) }
+{
+    let mut disk = PlanDisk::new(alloc, file, MOST);
+    let mut source = SliceSource::new(script);
+    let mut text = Gathered::new(alloc);
+    let mut log = Gathered::new(alloc);
+    let status = run_session(
+        &Alone,
+        alloc,
+        &mut disk,
+        1,
+        show_tags,
+        &mut source,
+        &mut text,
+        &mut log,
+    );
+    // The disk and the outputs fail only where memory runs out.
+    if status.0 == 8 || disk.faults() > 0 || text.faults > 0 || log.faults > 0 {
+        return None;
+    }
+    // It is the same file still, but no contract of what is done to a disk says so.
+    if disk.base() != file {
+        return None;
+    }
+    Some(Ran {
+        status: status.0,
+        disk,
+        text,
+        log,
+    })
+}
