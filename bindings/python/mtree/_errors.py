@@ -58,5 +58,5 @@ class Refused(_Partly, ValueError):
 
 
 class Stopped(_Partly):
-    """The program ended before all rows were done. `row` is the number of the first row without an answer, from 0. `ids` are those of the
-    rows whose addition was acknowledged. The row `row` itself may have been added too. `__cause__` says why the program ended."""
+    """A write failed, or the program ended, before all rows were done. `row` is the number of the first row without an answer, from 0. `ids`
+    are those of the rows whose addition was acknowledged. The row `row` itself may have been added too. `__cause__` says why it stopped."""

@@ -2,23 +2,28 @@
 
 from __future__ import annotations
 
+import contextlib
 import ctypes
 import os
 import tempfile
 import threading
-from typing import Any, Callable, Generic, Iterable, Iterator, List, Optional, Tuple, TypeVar, Union
+from typing import Any, Iterable, Iterator, List, NamedTuple, Optional, Tuple, Union
 
-from . import _library, _points, _program
+from . import _library, _plan, _points, _program
 from ._answers import Hit, Level, Node, Pair, Report, Shape, Spread, Stats
 from ._errors import NoQuery, Refused, Stopped
 from ._file import File, read_state
 from ._points import Points
 
 Path = Union[str, "os.PathLike[str]"]
-T = TypeVar("T")
 
-_BLOCK = 1024
-"""How many points one call of the library answers. Their hits are in memory together."""
+_BLOCK = 4096
+"""How many points one call of the library answers at most. Python hears of an interrupt between two calls."""
+_BLOCK_HITS = 1 << 20
+"""How many hits the buffer of such a call is first made for, where more than one point is asked for."""
+_PLANNED = 1024
+"""How many rows one plan inserts at most. Its writes are in memory together."""
+_HIT_BYTES = ctypes.sizeof(_library.CHit)
 
 
 class Index:
@@ -80,7 +85,8 @@ class Index:
     def load(self, rows: Any, tags: Any = None, *, workers: int = 1) -> int:
         """Fills an empty index with all `rows`, of the shape (count, dim), or with none. Returns their number.
 
-        `tags` are `count` whole numbers below 2^64, and the ids where they are not given. `workers` is how many threads build the tree.
+        `tags` are `count` whole numbers below 2^64, and the ids where they are not given. `workers` is how many threads build the tree: the
+        program's, where there are more than one.
 
         Raises `NoQuery` where a row holds no whole numbers, `Refused` where the index refuses one or holds objects, and ValueError where the
         rows take more than 64 MiB as a script."""
@@ -90,7 +96,12 @@ class Index:
     def _load(self, rows: Points, tags: Optional[List[str]], workers: int) -> int:
         script = _program.load_script(rows.lines(), tags)
         with self._file.writing():
-            text = _program.said(_program.run(["session", self._file.whole_path, "--workers", str(workers)], script))
+            # The library builds by one thread.
+            if _plan.is_here() and (workers == 1 or not _program.is_here()):
+                ran = _plan.run(self._file.whole_path, script, (1 << 20) + 512 * len(rows))
+            else:
+                ran = _program.run(["session", self._file.whole_path, "--workers", str(workers)], script)
+        text = _program.said(ran)
         if not text.startswith("loaded "):
             words = text.split("\n", 1)[0]
             raise Refused(f"the load is {words}", int(words.rsplit(" ", 1)[1]) if words.startswith("refused row ") else 0, [])
@@ -99,18 +110,22 @@ class Index:
     def insert(self, rows: Any, tags: Any = None) -> List[int]:
         """Adds `rows`, of the shape (count, dim), one after another. Returns their ids. Each row is durable then.
 
-        `tags` are `count` whole numbers below 2^64, and the ids where they are not given. Each call starts a process, which takes
-        some milliseconds: hand in many rows at once.
+        `tags` are `count` whole numbers below 2^64, and the ids where they are not given. Each call looks through the whole file for free
+        pages, which takes some milliseconds: hand in many rows at once.
 
         Raises `NoQuery` where a row holds no whole numbers; then nothing is added. Raises `Refused` where the index refuses rows; the others
-        are added all the same. Raises `Stopped` where the program ended after some rows were added."""
+        are added all the same. Raises `Stopped` where a write failed, or the program ended, after some rows were added."""
         judged = Points(rows)
         labels = None if tags is None else _points.tags(tags, len(judged))
         ids: List[int] = []
         refused: List[Tuple[int, str]] = []
-        for script in _program.insert_scripts(judged.lines(), labels):
+        plans = _plan.is_here()
+        for script in _program.insert_scripts(judged.lines(), labels, _PLANNED if plans else None):
             with self._file.writing():
-                ran = _program.run(["session", self._file.whole_path], script)
+                if plans:
+                    ran = _plan.run(self._file.whole_path, script, (1 << 20) + (1 << 15) * script.count(b"\n"))
+                else:
+                    ran = _program.run(["session", self._file.whole_path], script)
             # A reply that was cut by the program's end is none.
             for line in ran[1].split("\n")[:-1]:
                 if line.startswith("id "):
@@ -144,13 +159,11 @@ class Index:
             objects = read_state(*held).objects
             if wanted > objects:
                 raise NoQuery(f"n_neighbors is {n_neighbors}, and the index holds {objects} objects")
-            answers = self._each(held, asked, "nearest", wanted, n_jobs, _columns(numpy))
-        distances, ids, tags = ([answer[i] for answer in answers] for i in (0, 1, 2))
-        if numpy is not None:
-            shape = (len(asked), wanted)
-            arrays = [numpy.array(column, kind).reshape(shape) for column, kind in ((distances, "i8"), (ids, "i8"), (tags, "u8"))]
-            return _chosen(arrays, return_distance, return_tags)
-        return _chosen([distances, ids, tags], return_distance, return_tags)
+            parts = self._each(held, asked, "nearest", wanted, n_jobs)
+        if numpy is None:
+            return _chosen(_lists(parts), return_distance, return_tags)
+        shape = (len(asked), wanted)
+        return _chosen([column.reshape(shape) for column in _arrays(numpy, parts)], return_distance, return_tags)
 
     def radius_neighbors(self, points: Any, radius: float, return_distance: bool = True, return_tags: bool = False,
                          n_jobs: Optional[int] = 1) -> Any:
@@ -163,11 +176,11 @@ class Index:
         asked, bound = Points(points), _points.radius(radius)
         numpy = _points.numpy_or_none()
         with self._file.reading() as held:
-            answers = self._each(held, asked, "range", bound, n_jobs, _columns(numpy))
-        columns: List[Any] = [[answer[i] for answer in answers] for i in (0, 1, 2)]
-        if numpy is not None:
-            columns = [_array_of_arrays(numpy, column) for column in columns]
-        return _chosen(columns, return_distance, return_tags)
+            parts = self._each(held, asked, "range", bound, n_jobs)
+        if numpy is None:
+            return _chosen(_lists(parts), return_distance, return_tags)
+        counts = [count for part in parts for count in part.counts]
+        return _chosen([_array_of_arrays(numpy, column, counts) for column in _arrays(numpy, parts)], return_distance, return_tags)
 
     def nearest(self, point: Iterable[int], count: int) -> List[Hit]:
         """Returns the `count` objects nearest to `point`, by distance, then by id. There are fewer where the index holds fewer.
@@ -193,13 +206,13 @@ class Index:
         """Returns the answer of `nearest` for each of `points`, in their order. Works by `threads` threads."""
         asked, wanted = Points(points), _points.count(count)
         with self._file.reading() as held:
-            return self._each(held, asked, "nearest", wanted, max(1, threads), _as_hits())
+            return _answers(self._each(held, asked, "nearest", wanted, max(1, threads)))
 
     def range_of_each(self, points: Iterable[Iterable[int]], radius: float, threads: int = 1) -> List[List[Hit]]:
         """Returns the answer of `range` for each of `points`, in their order. Works by `threads` threads."""
         asked, bound = Points(points), _points.radius(radius)
         with self._file.reading() as held:
-            return self._each(held, asked, "range", bound, max(1, threads), _as_hits())
+            return _answers(self._each(held, asked, "range", bound, max(1, threads)))
 
     def iter_nearest(self, point: Iterable[int]) -> Iterator[Hit]:
         """Yields all objects one after another, by distance from `point`, then by id. Searches only as far as it is asked.
@@ -228,8 +241,7 @@ class Index:
 
         `other` is an index, or the path of one. It may be this one. Raises `Rejected` where the two have other metrics or dimensions."""
         bound = _points.radius(radius)
-        path = other._file.whole_path if isinstance(other, Index) else os.path.abspath(os.fsdecode(other))
-        text = self._told(["join", self._file.whole_path, "--other", path, "--radius", str(bound)])
+        text = self._told(["join", self._file.whole_path, "--other", _path_of(other), "--radius", str(bound)])
         return [Pair(*map(int, line.split())) for line in text.splitlines()[1:]]
 
     def shape(self) -> Shape:
@@ -261,15 +273,23 @@ class Index:
         table = numbers.reshape(len(lines), self.dim + 1)
         return table[:, 0].copy(), table[:, 1:].copy()
 
-    def show(self, logs: Any) -> str:
+    def show(self, logs: Any, *, other: "Optional[Union[Index, Path]]" = None) -> str:
         """Returns the frames of `logs`, any bytes-like object, in words: the verdict, the query, its answers, and the walk with the reason of
-        each mark, as the program's `show` writes them. A rejected log is shown as far as its records lead. Logs of joins are shown by the
-        program alone.
+        each mark, as the program's `show` writes them. A rejected log is shown as far as its records lead.
 
-        Raises `NoIndex`, `TooLong` and `NoLibrary`, and TypeError where `logs` are no bytes."""
+        Where `other` is given, an index or the path of one, the logs are those of a join with it, and the program shows them.
+
+        Raises `NoIndex`, `TooLong` and `NoLibrary`, and TypeError where `logs` are no bytes. With `other` also `Rejected` where the two have
+        other metrics or dimensions, and what `join` raises."""
         held = _bytes(logs)
-        with self._file.reading() as (file, size):
-            return _library.report("mtree_show", file, size, held, len(held)).text
+        if other is None:
+            with self._file.reading() as (file, size):
+                return _library.report("mtree_show", file, size, held, len(held)).text
+        with _log_file(held) as log, self._file.reading():
+            ran = _program.run(["show", self._file.whole_path, "--other", _path_of(other), "--log", log])
+        if ran[0] != 1 or ran[1] == "rejected spaces\n":
+            return _program.said(ran)
+        return ran[1]
 
     def explain(self, point: Iterable[int], count: Optional[int] = None, *, radius: Optional[float] = None) -> str:
         """Returns how the `count` objects nearest to `point`, or all within `radius`, were found: the text of `show` on the query's log.
@@ -295,12 +315,9 @@ class Index:
             if status != 0:
                 raise _library.error(status, text)
             return frames
-        with tempfile.TemporaryDirectory(prefix="mtree-") as room:
-            log, carried = os.path.join(room, "log"), os.path.join(room, "carried")
-            with open(log, "wb") as file:
-                file.write(held)
-            self._told(["proof", self._file.whole_path, "--log", log, "--proof", carried])
-            with open(carried, "rb") as file:
+        with _log_file(held) as log:
+            self._told(["proof", self._file.whole_path, "--log", log, "--proof", f"{log}-carried"])
+            with open(f"{log}-carried", "rb") as file:
                 return file.read()
 
     def audit(self) -> Report:
@@ -392,7 +409,7 @@ class Index:
             return self._ask_library(word, point, bound, False)[0]
         asked = Points([point])
         with self._file.reading() as held:
-            return self._each(held, asked, word, bound, 1, _as_hits(), is_one=True)[0]
+            return _answers(self._each(held, asked, word, bound, 1, is_one=True))[0]
 
     def _ask_library(self, word: str, point: Any, bound: int, with_log: bool) -> Tuple[List[Hit], bytes]:
         call = _library.call(f"mtree_{word}")
@@ -413,30 +430,31 @@ class Index:
         del kept
         return _hits(rooms.hits, 0, sizes.hits), bytes(memoryview(rooms.log)[: sizes.log])
 
-    def _each(self, held: Tuple[Any, int], points: Points, word: str, bound: int, n_jobs: Optional[int], kind: "_Kind[T]",
-              is_one: bool = False) -> List[T]:
-        """Returns the answers for `points`, each turned into what `kind` makes. The caller holds the file, whose bytes are `held`."""
+    def _each(self, held: Tuple[Any, int], points: Points, word: str, bound: int, n_jobs: Optional[int], is_one: bool = False) -> List["_Part"]:
+        """Returns the answers for `points`, in their order. The caller holds the file, whose bytes are `held`."""
         threads = _points.jobs(n_jobs)
         if not len(points):
             return []
         if not _library.is_here():
-            return [kind.of_hits(hits) for hits in self._each_by_program(held, points, word, bound, threads, is_one)]
+            return [_packed(self._each_by_program(held, points, word, bound, threads, is_one))]
         call, places = _library.call(f"mtree_{word}"), points.places()
         # A hit more than there are objects is never needed.
         room = min(bound, max(1, read_state(*held).objects)) if word == "nearest" else 64
+        step = max(1, min(_BLOCK, _BLOCK_HITS // room))
 
-        def work(first: int, end: int) -> List[T]:
-            answers: List[T] = []
-            if points.are_in_one:
-                for start in range(first, end, _BLOCK):
-                    block = self._block(held, places[start:min(start + _BLOCK, end)], word, bound, room, kind)
-                    # Where a row has no answer, each is asked for alone, so that the exception names the row.
-                    answers += one_by_one(start, min(start + _BLOCK, end)) if block is None else block
-                return answers
-            return one_by_one(first, end)
+        def work(first: int, end: int) -> List[_Part]:
+            if not points.are_in_one:
+                return [one_by_one(first, end)]
+            parts = []
+            for start in range(first, end, step):
+                stop = min(start + step, end)
+                part = self._block(held, places[start:stop], word, bound, room)
+                # Where a row has no answer, each is asked for alone, so that the exception names the row.
+                parts.append(one_by_one(start, stop) if part is None else part)
+            return parts
 
-        def one_by_one(first: int, end: int) -> List[T]:
-            hits, sizes, answers = (_library.CHit * room)(), _library.CSizes(), []
+        def one_by_one(first: int, end: int) -> _Part:
+            hits, sizes, found, counts = (_library.CHit * room)(), _library.CSizes(), bytearray(), []
             about = ctypes.byref(sizes)
             for number in range(first, end):
                 place, coordinates = places[number]
@@ -446,8 +464,9 @@ class Index:
                     status = call(*held, place, coordinates, bound, hits, len(hits), None, 0, about)
                 if status != 0:
                     raise _no_answer(held, status, coordinates, f"row {number}: ")
-                answers.append(kind.of_room(hits, 0, sizes.hits))
-            return answers
+                found += ctypes.string_at(hits, sizes.hits * _HIT_BYTES)
+                counts.append(sizes.hits)
+            return _Part(found, counts)
 
         threads = min(threads, len(places))
         if threads == 1:
@@ -456,9 +475,9 @@ class Index:
 
         with ThreadPoolExecutor(threads) as workers:
             cuts = [len(places) * i // threads for i in range(threads + 1)]
-            return [answer for part in workers.map(work, cuts[:-1], cuts[1:]) for answer in part]
+            return [part for parts in workers.map(work, cuts[:-1], cuts[1:]) for part in parts]
 
-    def _block(self, held: Tuple[Any, int], places: List[Tuple[int, int]], word: str, bound: int, room: int, kind: "_Kind[T]") -> Optional[List[T]]:
+    def _block(self, held: Tuple[Any, int], places: List[Tuple[int, int]], word: str, bound: int, room: int) -> "Optional[_Part]":
         """Returns the answers for points that stand one after another, by one call. Returns None where one of them has no answer."""
         (place, coordinates), rows = places[0], len(places)
         call = _library.call(f"mtree_{word}_each")
@@ -467,13 +486,7 @@ class Index:
         if status == _library.SHORT:
             hits = (_library.CHit * size.value)()
             status = call(*held, place, coordinates * rows, bound, hits, len(hits), counts, rows, ctypes.byref(size))
-        if status != 0:
-            return None
-        answers, start = [], 0
-        for count in counts:
-            answers.append(kind.of_room(hits, start, count))
-            start += count
-        return answers
+        return None if status != 0 else _Part(hits, list(counts))
 
     def _each_by_program(self, held: Tuple[Any, int], points: Points, word: str, bound: int, threads: int, is_one: bool) -> List[List[Hit]]:
         dim = read_state(*held).dim
@@ -510,48 +523,55 @@ class _Rooms(threading.local):
         self.log = (ctypes.c_uint8 * 4096)()
 
 
-class _Kind(Generic[T]):
-    """How hits become what is wanted."""
+class _Part(NamedTuple):
+    """The answers for some points, one after another."""
 
-    def __init__(self, of_room: Callable[[Any, int, int], T], of_hits: Callable[[List[Hit]], T]) -> None:
-        self.of_room = of_room
-        self.of_hits = of_hits
+    hits: Any
+    """The hits as bytes, each a `CHit`. There may be more bytes than hits."""
+    counts: List[int]
+    """How many hits each point has."""
+
+
+def _packed(answers: List[List[Hit]]) -> _Part:
+    hits = [hit for answer in answers for hit in answer]
+    return _Part((_library.CHit * len(hits))(*(_library.CHit(hit.id, hit.distance, hit.tag) for hit in hits)), [len(answer) for answer in answers])
 
 
 def _hits(room: Any, start: int, count: int) -> List[Hit]:
     return [Hit(hit.id, hit.distance, hit.tag) for hit in room[start : start + count]]
 
 
-def _as_hits() -> "_Kind[List[Hit]]":
-    return _Kind(_hits, lambda hits: hits)
+def _answers(parts: List[_Part]) -> List[List[Hit]]:
+    """Returns the hits of each point."""
+    answers = []
+    for part in parts:
+        start, room = 0, (_library.CHit * sum(part.counts)).from_buffer(part.hits)
+        for count in part.counts:
+            answers.append(_hits(room, start, count))
+            start += count
+    return answers
 
 
-def _columns(numpy: Any) -> "_Kind[Tuple[Any, Any, Any]]":
-    """Makes distances, ids and tags of an answer: arrays, or lists where there is no numpy."""
+def _lists(parts: List[_Part]) -> List[Any]:
+    """Returns the distances, the ids and the tags, each as a list for each point."""
+    return [[[hit[place] for hit in hits] for hits in _answers(parts)] for place in (1, 0, 2)]
 
-    def of_hits(hits: List[Hit]) -> Tuple[Any, Any, Any]:
-        distances, ids, tags = [hit[1] for hit in hits], [hit[0] for hit in hits], [hit[2] for hit in hits]
-        if numpy is None:
-            return distances, ids, tags
-        return numpy.array(distances, "i8"), numpy.array(ids, "i8"), numpy.array(tags, "u8")
 
-    if numpy is None:
-        return _Kind(lambda room, start, count: of_hits(_hits(room, start, count)), of_hits)
+def _arrays(numpy: Any, parts: List[_Part]) -> List[Any]:
+    """Returns the distances, the ids and the tags of all points, one after another in an array each."""
     fields = numpy.dtype({"names": ["id", "distance", "tag"], "formats": ["u4", "u8", "u8"],
-                          "offsets": [getattr(_library.CHit, name).offset for name in ("id", "distance", "tag")],
-                          "itemsize": ctypes.sizeof(_library.CHit)})
-
-    def of_room(room: Any, start: int, count: int) -> Tuple[Any, Any, Any]:
-        held = numpy.frombuffer(room, fields, count, start * fields.itemsize)
-        return held["distance"].astype("i8"), held["id"].astype("i8"), held["tag"].copy()
-
-    return _Kind(of_room, of_hits)
+                          "offsets": [getattr(_library.CHit, name).offset for name in ("id", "distance", "tag")], "itemsize": _HIT_BYTES})
+    held = [numpy.frombuffer(part.hits, fields, sum(part.counts)) for part in parts if part.counts]
+    return [numpy.concatenate([numpy.empty(0, kind), *(part[name].astype(kind) for part in held)])
+            for name, kind in (("distance", "i8"), ("id", "i8"), ("tag", "u8"))]
 
 
-def _array_of_arrays(numpy: Any, column: List[Any]) -> Any:
-    held = numpy.empty(len(column), object)
-    for number, array in enumerate(column):
-        held[number] = array
+def _array_of_arrays(numpy: Any, column: Any, counts: List[int]) -> Any:
+    """Returns a column as an array for each point, in an array."""
+    held, start = numpy.empty(len(counts), object), 0
+    for number, count in enumerate(counts):
+        held[number] = column[start:start + count]
+        start += count
     return held
 
 
@@ -580,6 +600,21 @@ def _level(words: List[str]) -> Level:
     at = words.index("radius")
     entries, radii = (None if numbers == ["-"] else Spread(*map(int, numbers)) for numbers in (words[5:at], words[at + 1:]))
     return Level(int(words[1]), int(words[3]), entries, radii)
+
+
+def _path_of(index: Union[Index, Path]) -> str:
+    """Returns the path of an index for a child process."""
+    return index._file.whole_path if isinstance(index, Index) else os.path.abspath(os.fsdecode(index))
+
+
+@contextlib.contextmanager
+def _log_file(frames: bytes) -> Iterator[str]:
+    """Returns the path of a file of logs, which is there meanwhile."""
+    with tempfile.TemporaryDirectory(prefix="mtree-") as room:
+        log = os.path.join(room, "log")
+        with open(log, "wb") as file:
+            file.write(frames)
+        yield log
 
 
 def _bytes(given: Any) -> bytes:

@@ -4,7 +4,7 @@ from __future__ import annotations
 
 import ctypes
 import os
-from typing import Any, Optional, Tuple
+from typing import Any, Dict, List, Optional, Tuple
 
 from ._answers import Report
 from ._errors import Damaged, Error, NoIndex, NoLibrary, Rejected, TooLong
@@ -25,6 +25,18 @@ class CSizes(ctypes.Structure):
     _fields_ = [("hits", ctypes.c_size_t), ("log", ctypes.c_size_t)]
 
 
+class CStep(ctypes.Structure):
+    """`struct mtree_step`."""
+
+    _fields_ = [("at", ctypes.c_uint64), ("size", ctypes.c_uint64), ("is_sync", ctypes.c_bool)]
+
+
+class CPlanSizes(ctypes.Structure):
+    """`struct mtree_plan_sizes`."""
+
+    _fields_ = [("steps", ctypes.c_size_t), ("written", ctypes.c_size_t), ("text", ctypes.c_size_t), ("log", ctypes.c_size_t)]
+
+
 class CCarriedSizes(ctypes.Structure):
     """`struct mtree_carried_sizes`."""
 
@@ -40,7 +52,7 @@ def _load() -> Tuple[Optional[ctypes.CDLL], str]:
         return None, str(reason)
     place, size, number = ctypes.c_void_p, ctypes.c_size_t, ctypes.c_uint64
     query = [place, size, place, size, number, place, size, place, size, place]
-    calls = {
+    calls: Dict[str, List[Any]] = {
         "mtree_range": query,
         "mtree_nearest": query,
         "mtree_range_each": query,
@@ -56,11 +68,14 @@ def _load() -> Tuple[Optional[ctypes.CDLL], str]:
         "mtree_check": [place, size, place, size, place, size, place],
         "mtree_proof": [place, size, place, place, size, place],
     }
-    for call_name, arguments in calls.items():
+    # A library of an earlier version has none, and the program changes the index.
+    later: Dict[str, List[Any]] = {"mtree_session_plan": [place, size, ctypes.c_bool, place, size, place, size, place, size, place, size, place, size, place]}
+    for call_name, arguments in {**calls, **later}.items():
         call = getattr(library, call_name, None)
-        if call is None:
+        if call is not None:
+            call.argtypes, call.restype = arguments, ctypes.c_uint8
+        elif call_name in calls:
             return None, f"{name} has no {call_name}"
-        call.argtypes, call.restype = arguments, ctypes.c_uint8
     return library, ""
 
 

@@ -86,10 +86,10 @@ def error(ran: Ran) -> Exception:
     return {2: ValueError, 5: OSError, 6: NoIndex, 7: TooLong, 9: Damaged, 10: OSError}.get(status, Error)(words)
 
 
-def insert_scripts(rows: Iterable[str], tags: Optional[Iterable[str]]) -> Iterator[bytes]:
-    """Returns scripts of one insert for each row, each within the program's limit."""
+def insert_scripts(rows: Iterable[str], tags: Optional[Iterable[str]], most: Optional[int] = None) -> Iterator[bytes]:
+    """Returns scripts of one insert for each row, each of at most `most` rows and within the program's limit."""
     lines = (f"insert,{row}\n" for row in rows) if tags is None else (f"tinsert,{tag},{row}\n" for tag, row in zip(tags, rows))
-    return _scripts(lines)
+    return _scripts(lines, most)
 
 
 def query_scripts(word: str, bound: int, points: Iterable[str]) -> Iterator[bytes]:
@@ -97,11 +97,11 @@ def query_scripts(word: str, bound: int, points: Iterable[str]) -> Iterator[byte
     return _scripts(f"{word},{bound},{point}\n" for point in points)
 
 
-def _scripts(lines: Iterable[str]) -> Iterator[bytes]:
+def _scripts(lines: Iterable[str], most: Optional[int] = None) -> Iterator[bytes]:
     script: List[str] = []
     size = 0
     for line in lines:
-        if size + len(line) > _SCRIPT_BYTES:
+        if size + len(line) > _SCRIPT_BYTES or len(script) == most:
             yield "".join(script).encode()
             script, size = [], 0
         script.append(line)

@@ -16,7 +16,7 @@ import threading
 import time
 
 import mtree
-from mtree import _library, _program
+from mtree import _library, _plan, _program
 from trying import PROGRAM, ended, raises, run, same
 
 HERE = os.path.dirname(os.path.abspath(__file__))
@@ -33,6 +33,20 @@ def without_library():
         yield
     finally:
         _library.library = held
+
+
+BY_PROGRAM = "from mtree import _plan; _plan.is_here = lambda: False\n"
+"""The first line of a program of Python whose inserts and loads go over the program."""
+
+
+@contextlib.contextmanager
+def by_program():
+    """Inserts and loads go over the program."""
+    held, _plan.is_here = _plan.is_here, lambda: False
+    try:
+        yield
+    finally:
+        _plan.is_here = held
 
 
 @contextlib.contextmanager
@@ -279,6 +293,13 @@ def compare_children():
         with mtree.Index.create("nothing.mt", metric="l1", dim=3) as nothing:
             same([*map(len, nothing.rows()), *nothing.stats()[6:9]], [0, 0, 0, 0, 1], "no rows")
         raises(mtree.Rejected, lambda: index.join(other, 3), "a join of two spaces", "rejected spaces")
+        run("join", name, "--other", name, "--radius", "9", "--log", "join.log")
+        with open("join.log", "rb") as file:
+            joined = file.read()
+        same(index.show(joined, other=name), run("show", name, "--other", name, "--log", "join.log")[1], "a join's log in words")
+        same(index.show(joined[:-1], other=index), "log rejected cut\n", "a join's log that is cut, in words")
+        raises(mtree.Rejected, lambda: index.show(joined, other=other), "a join's log of two spaces in words", "rejected spaces")
+        raises(FileNotFoundError, lambda: index.show(joined, other="missing.mt"), "a join's log with nothing", "missing.mt")
         same(index.join("child.mt", float("inf"))[-1][:2], (299, 299), "a join of all with all")
         raises(mtree.NoQuery, lambda: index.join(other, -1), "a join within a negative radius", "-1")
         raises(FileNotFoundError, lambda: index.join("missing.mt", 1), "a join with nothing", "missing.mt")
@@ -393,7 +414,7 @@ def compare_processes():
 
     # The program has its whole script before it starts, so the end of Python cuts no row.
     with other_program("touch started; sleep 0.2; wc -c >size.part; mv size.part size\n"):
-        child = python("import mtree; mtree.Index('shared.mt').insert([[i] for i in range(100000)])")
+        child = python(BY_PROGRAM + "import mtree; mtree.Index('shared.mt').insert([[i] for i in range(100000)])")
         wait_for("started")
         child.kill()
         child.communicate()
@@ -403,12 +424,12 @@ def compare_processes():
     text = ("import functools, mtree, subprocess, sys\nsubprocess.run = functools.partial(subprocess.run, pass_fds=(int(sys.argv[1]),))\n"
             "index = mtree.Index('killed.mt')\nfor first in range(0, 100000, 20):\n"
             "    print(len(index.insert([[i, 3 * i] for i in range(first, first + 20)])), flush=True)\n")
-    for delay in (0.0, 0.05, 0.2):
+    for delay, way in itertools.product((0.0, 0.05, 0.2), ("", BY_PROGRAM)):
         if os.path.exists("killed.mt"):
             os.remove("killed.mt")
         mtree.Index.create("killed.mt", metric="l1", dim=2).close()
         ending, held = os.pipe()
-        child = python(text, str(held), pass_fds=(held,))
+        child = python(way + text, str(held), pass_fds=(held,))
         os.close(held)
         child.stdout.readline()
         time.sleep(delay)
@@ -421,7 +442,7 @@ def compare_processes():
             same(acknowledged <= len(index) <= acknowledged + 20, True, f"{acknowledged} acknowledged, {len(index)} there")
             same([hits[0][:2] for hits in index.nearest_of_each([[i, 3 * i] for i in range(len(index))], 1)], [(i, 0) for i in range(len(index))], "its rows")
 
-    with mtree.Index("killed.mt") as index:
+    with mtree.Index("killed.mt") as index, by_program():
         before = len(index)
         with other_program("printf 'id 7\\nid 8\\nid 9'; echo 'mtree: killed.mt: the disk is full' >&2; exit 5\n"):
             try:
@@ -436,6 +457,108 @@ def compare_processes():
         with other_program("exit 8\n"):
             raises(MemoryError, lambda: index.insert([[1, 1]]), "a program without memory", "status 8")
         same(len(index), before, "objects after all this")
+
+
+def both_ways(name):
+    """What inserts and loads answer, with the bytes of the file after each."""
+    told = []
+
+    def ask(call):
+        try:
+            told.append(call())
+        except Exception as error:
+            told.append((type(error), getattr(error, "row", None), getattr(error, "ids", None), str(error).replace(name, "")))
+        told.append(open(name, "rb").read())
+
+    rows = points_of("l1", 300, 21)
+    with mtree.Index.create(name, metric="l1", dim=6, max_objects=260) as index:
+        ask(lambda: index.load(rows[:3] + [[1, 2]]))
+        ask(lambda: index.load(rows[:150], range(7, 157)))
+        ask(lambda: index.load(rows[:2]))
+        ask(lambda: index.insert(rows[150:200]))
+        ask(lambda: index.insert([[1] * 6, [1], [2] * 6, [3] * 7], [1 << 63, 5, 6, 7]))
+        ask(lambda: index.insert(rows[200:]))
+    for held in (b"", b"MTREEIDX", b"x" * 20000):
+        with open(name, "wb") as file:
+            file.write(held)
+        with mtree.Index(name) as index:
+            ask(lambda: index.insert(rows[:2]))
+            ask(lambda: index.load(rows[:2]))
+    with open("damaged.mt", "rb") as damaged, open(name, "wb") as file:
+        file.write(damaged.read())
+    with mtree.Index(name) as index:
+        ask(lambda: index.insert([[1, 1], [2, 2]]))
+    return told
+
+
+@contextlib.contextmanager
+def failing(number, is_torn):
+    """The write or sync with this number fails, from 0. Half of such a write is done where `is_torn` is true."""
+    kept, calls = (os.pwrite, os.fsync), itertools.count()
+
+    def pwrite(handle, part, at):
+        if next(calls) != number:
+            return kept[0](handle, part, at)
+        if is_torn:
+            kept[0](handle, part[:len(part) // 2], at)
+        raise OSError(28, "No space left on device")
+
+    def fsync(handle):
+        if next(calls) == number:
+            raise OSError(5, "Input/output error")
+        kept[1](handle)
+
+    os.pwrite, os.fsync = pwrite, fsync
+    try:
+        yield
+    finally:
+        os.pwrite, os.fsync = kept
+
+
+def compare_plans():
+    """Inserts and loads by plans of the library, beside the program's, and where a write or a sync fails."""
+    if not _plan.is_here():
+        print("bindings: the library makes no plans here, so they are not tried")
+        return
+    planned = both_ways("planned.mt")
+    with by_program():
+        same(planned, both_ways("told.mt"), "plans beside the program")
+    rows = points_of("l1", 50, 33)
+    rows[43] = [1]
+    mtree.Index.from_array("base.mt", rows[:40], metric="l1").close()
+    with open("base.mt", "rb") as file:
+        base = file.read()
+    acknowledged, number = [], 0
+    while number == 0 or acknowledged[-1] < 9:
+        with open("failed.mt", "wb") as file:
+            file.write(base)
+        with mtree.Index("failed.mt") as index:
+            with failing(number, number % 2 == 0):
+                try:
+                    same(index.insert(rows[40:]), "no answer", "rows of which one is refused")
+                except mtree.Refused as refused:
+                    ids = refused.ids
+                except mtree.Stopped as stopped:
+                    ids = stopped.ids
+                    same((stopped.row, type(stopped.__cause__)), (len(ids) + (len(ids) > 2), OSError), f"the row at which {number} calls were done")
+                except OSError as error:
+                    ids = []
+                    same("failed.mt" in str(error), True, f"the first insert: {error}")
+            same(ids, list(range(40, 40 + len(ids))), f"what was acknowledged after {number} calls")
+            same(0 <= len(index) - 40 - len(ids) <= 1, True, f"{len(index) - 40} rows after {number} calls, of which {len(ids)} were acknowledged")
+            there = [row for row in rows if len(row) == 6][:len(index)]
+            same([hits[0][1] for hits in index.nearest_of_each(there, 1)], [0] * len(there), f"the rows after {number} calls")
+        same(run("audit", "failed.mt")[0], 0, f"the audit after {number} calls")
+        acknowledged.append(len(ids))
+        number += 1
+    same((acknowledged == sorted(acknowledged), set(acknowledged)), (True, set(range(10))), "how many were acknowledged")
+    with mtree.Index("failed.mt") as index:
+        with failing(2, True):
+            raises(OSError, lambda: mtree.Index.create("none.mt", metric="l1", dim=1).load([[1]]), "a load that failed", "none.mt")
+        with mtree.Index("failed.mt") as other, other._file.reading():
+            raises(mtree.InUse, lambda: index.insert([[1] * 6]), "an insert beside a reader", "is in use")
+            raises(mtree.InUse, lambda: index.load([[1] * 6]), "a load beside a reader", "is in use")
+        same((len(index), index.insert([[1] * 6])), (49, [49]), "an insert after all this")
 
 
 def compare_missing():
@@ -466,8 +589,10 @@ def compare_missing():
     if _library.is_here():
         library = _library.library._name
         same(tell(text, MTREE_LIBRARY=library), "True", "the library alone")
-        words = tell("import mtree; mtree.Index('points.mt').insert([[1] * 6])", MTREE_LIBRARY=library)
+        words = tell(BY_PROGRAM + "import mtree; mtree.Index('points.mt').insert([[1] * 6])", MTREE_LIBRARY=library)
         same("FileNotFoundError" in words and "MTREE_PROGRAM" in words, True, f"an insert without the program: {words}")
+        if _plan.is_here():
+            same(tell("import mtree; print(mtree.Index('points.mt').insert([[1] * 6]))", MTREE_LIBRARY=library), "[80]", "an insert by the library alone")
 
 
 def compare_silence():
@@ -580,7 +705,7 @@ def compare_neighbors():
 def main():
     with open(os.path.join(HERE, "..", "..", "..", "VERSION")) as file:
         same(mtree.__version__, file.read().strip(), "the version")
-    for part in (compare_metrics, compare_points, compare_arrays, compare_children, compare_threads, compare_processes, compare_missing,
+    for part in (compare_metrics, compare_points, compare_arrays, compare_children, compare_threads, compare_processes, compare_plans, compare_missing,
                  compare_neighbors, compare_silence):
         part()
     return ended("the package")

@@ -1,7 +1,7 @@
 use crate::disks::Call::{self, Read, Size, Sync, Write};
 use crate::disks::{Any, holds, make};
 use disk_model::Disk;
-use plan_disk::{PlanDisk, Step, same_base};
+use plan_disk::{PlanDisk, Step, crash_in_step, same_base};
 use std::process::Abort;
 
 const FILE: [u8; 3] = [1, 2, 3];
@@ -94,5 +94,7 @@ fn a_write_goes_over_the_end_of_a_page(rt: HostRuntime) {
     let found = around_the_second_page(&rt, &mut disk);
     holds(&rt, found == [7, 7, 7, 1, 2, 3, 4, 0]);
     holds(&rt, disk.size() == Ok(4099));
+    holds(&rt, disk.faults() == 0);
     same_base::<Any>(&disk, &disk);
+    crash_in_step(&disk);
 }

@@ -34,8 +34,8 @@ total (step ∷ steps) = step.size + total steps
 abbrev pub IsWhole : Plan → Type 0
 IsWhole plan = total plan.steps ≡ length plan.written
 
--- A disk in memory with this file, all of it synced, of which these calls were made. First of all it was looked at: so a crash at
--- moment 0 leaves the file before, and one in the step number k, from 0, has the moment k + 1.
+-- A disk in memory with this file, all of it synced, and with these calls made. The first call is a look: so a crash at moment 0
+-- leaves the file before, and a crash within the step number k, from 0, is at moment k + 1.
 abbrev pub simulated : Plan → SimulatedDisk
 simulated plan = record {
   first = plan.base;
@@ -57,7 +57,7 @@ plan_state plan = memory_state (simulated plan)
 abbrev pub file_of : Plan → List ℕ
 file_of plan = (kept_by (simulated plan)).read
 
--- the first bytes of the plan's caller, as a step: a write of these bytes, and a sync
+-- the step of a write of these bytes, and the step of a sync
 abbrev pub write_step : ℕ → List ℕ → Step
 write_step at bytes = record { at = at; size = length bytes; is_sync = false }
 
@@ -71,3 +71,7 @@ with_step plan step bytes = record plan { steps = plan.steps ++ step ∷ []; wri
 -- the plan as it was, with one fault more
 abbrev pub with_fault : Plan → Plan
 with_fault plan = record plan { faults = next_count plan.faults }
+
+-- the plan of the first steps alone
+abbrev pub first_steps : ℕ → Plan → Plan
+first_steps k plan = record plan { steps = take k plan.steps; written = take (total (take k plan.steps)) plan.written }

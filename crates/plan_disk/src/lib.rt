@@ -8,5 +8,5 @@ mod patched;
 mod step;
 
 pub use disk::PlanDisk;
-pub use laws::same_base;
+pub use laws::{crash_in_step, same_base};
 pub use step::Step;

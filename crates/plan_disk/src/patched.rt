@@ -30,7 +30,7 @@ impl<'a> Model for Patched<'a> {
 }
 
 impl<'a> Patched<'a> {
-    /// Returns the file `base`, no page of which was touched.
+    /// Returns the file `base` with no page touched.
     pub fn new(alloc: Global, base: &'a [u8]) -> Self
         ensures base { result.base ≡ base.now }
         ensures shows { Shows result base.now }
