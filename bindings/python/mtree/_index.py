@@ -98,7 +98,7 @@ class Index:
         with self._file.writing():
             # The library builds by one thread.
             if _plan.is_here() and (workers == 1 or not _program.is_here()):
-                ran = _plan.run(self._file.whole_path, script, (1 << 20) + 512 * len(rows))
+                ran = _plan.run(self._file, script, (1 << 20) + 512 * len(rows))
             else:
                 ran = _program.run(["session", self._file.whole_path, "--workers", str(workers)], script)
         text = _program.said(ran)
@@ -123,7 +123,7 @@ class Index:
         for script in _program.insert_scripts(judged.lines(), labels, _PLANNED if plans else None):
             with self._file.writing():
                 if plans:
-                    ran = _plan.run(self._file.whole_path, script, (1 << 20) + (1 << 15) * script.count(b"\n"))
+                    ran = _plan.run(self._file, script, (1 << 20) + (1 << 15) * script.count(b"\n"))
                 else:
                     ran = _program.run(["session", self._file.whole_path], script)
             # A reply that was cut by the program's end is none.

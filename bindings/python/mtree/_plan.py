@@ -10,6 +10,7 @@ from typing import Any, List, Tuple
 
 from . import _library
 from ._errors import InUse
+from ._file import File
 from ._program import Ran
 
 _SYNCS_OF_OPENING, _SYNCS_OF_COMMIT = 1, 3
@@ -31,35 +32,36 @@ def is_here() -> bool:
     return _library.is_here() and hasattr(_library.library, "mtree_session_plan")
 
 
-def run(path: str, script: bytes, bytes_at_first: int) -> Ran:
-    """Runs a script without queries on the index file `path`, as the program's `session` does. Gives its status, what it writes, and what it
-    tells on standard error. `bytes_at_first` is for how many bytes of writes there is room at first.
+def run(file: File, script: bytes, bytes_at_first: int) -> Ran:
+    """Runs a script without queries on an index file, within its `writing`, as the program's `session` does. Gives its status, what it writes,
+    and what it tells on standard error. `bytes_at_first` is for how many bytes of writes there is room at first.
 
     The file is held by an exclusive lock meanwhile. The replies are given once all writes and syncs are done. Where one fails, the replies are
     those of the commits before it. Raises `InUse`, OSError where the file can't be opened, and MemoryError."""
+    path = file.whole_path
     handle = os.open(path, os.O_RDWR | os.O_CLOEXEC)
     try:
         try:
             fcntl.flock(handle, fcntl.LOCK_EX | fcntl.LOCK_NB)
         except BlockingIOError:
             raise InUse(f"{path} is in use: another process writes it, or reads it") from None
-        status, steps, written, text = _made(handle, script, bytes_at_first)
+        place, size, held = file.bytes_of(handle)
+        status, steps, written, text = _made(place, size, script, bytes_at_first)
+        del held
         try:
             _done(handle, steps, written)
         except Failed as failed:
             return 5, _acknowledged(text, failed.syncs, sum(is_sync for _, _, is_sync in steps)), f"{path}: {failed.__cause__}"
+        finally:
+            file.keep_map()
         return status, text, ""
     finally:
         os.close(handle)
 
 
-def _made(handle: int, script: bytes, bytes_at_first: int) -> Tuple[int, List[Tuple[int, int, bool]], memoryview, str]:
+def _made(place: Any, size: int, script: bytes, bytes_at_first: int) -> Tuple[int, List[Tuple[int, int, bool]], memoryview, str]:
     """Plans a script on the bytes of a file. Returns the status, the steps, the bytes of the writes, and the replies."""
-    call, size = _library.call("mtree_session_plan"), os.fstat(handle).st_size
-    sizes = _library.CPlanSizes(4096, bytes_at_first, 1 << 16, 0)
-    file = mmap.mmap(handle, size, access=mmap.ACCESS_COPY) if size else None
-    held = (ctypes.c_char * size).from_buffer(file) if file else None
-    place = ctypes.addressof(held) if held else None
+    call, sizes = _library.call("mtree_session_plan"), _library.CPlanSizes(4096, bytes_at_first, 1 << 16, 0)
     while True:
         steps, text = (_library.CStep * sizes.steps)(), (ctypes.c_char * sizes.text)()
         # Of memory that is mapped only what is written is ever taken.
