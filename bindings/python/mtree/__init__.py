@@ -28,7 +28,7 @@ from ._neighbors import MTreeNeighbors
 
 __all__ = ["Index", "MTreeNeighbors", "prove", "Hit", "Pair", "Node", "Shape", "Level", "Spread", "Stats", "Report", "Error", "NoLibrary",
            "InUse", "NoIndex", "NoQuery", "Damaged", "TooLong", "Rejected", "Refused", "Stopped", "NotFitted"]
-__version__ = "0.3.0"
+__version__ = "0.4.0"
 
 if not _library.is_here() and (_os.environ.get("MTREE_LIBRARY") or not _program.is_here()):
     raise ImportError(f"mtree needs its library or its program. The library is not there: {_library.reason}. Run bindings/build, or name it in "

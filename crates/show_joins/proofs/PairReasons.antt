@@ -4,12 +4,13 @@ use Rattle.std.specs.Prelude.{IsTrue, if◌then◌else◌, ◌&&◌, nat_le, nat
 use Rattle.std.proofs.lemmas.Bool.{true≢false}
 use Rattle.std.proofs.lemmas.Bool.Decides.{nat_tests}
 use Rattle.metric_laws.specs.Pruning.{gap}
+use Rattle.metric_laws.specs.Space.{Space}
 use Rattle.log_model.specs.declared.marks.Mark.{Mark}
 use Rattle.log_model.specs.declared.marks.Mark.TheVariants.{Skip, Far, Near}
 use Rattle.log_model.specs.declared.pairs.Item.{Item}
 use Rattle.log_model.specs.declared.pairs.Item.TheVariants.{Subtree, Object}
 use Rattle.log_model.specs.declared.pairs.JoinNeed.{JoinNeed}
-use Rattle.log_model.specs.JoinWalk.{Entry, JoinSearch, allows_entry, far_apart, far_stored, is_hit, is_object, opens_right, other, radius_of, with_entry, within_apart}
+use Rattle.log_model.specs.JoinWalk.{Entry, JoinSearch, allows_entry, apart_of, centre_of, far_apart, far_stored, is_hit, is_object, opens_right, other, radius_of, with_entry, within_apart}
 use Rattle.show_jobs.specs.Reasons.{radius_or_zero}
 use Rattle.show_joins.specs.declared.reasons.PairReach.{PairReach}
 use Rattle.show_joins.specs.Laws.{ComesOut, PairHolds, gap_to}
@@ -51,10 +52,15 @@ second_true true b is = is
 second_true false b is = absurd (true≢false (sym is))
 
 -- a pair of two objects is of an object beside an object
+objects_of : (right : Bool) (s : Space) (n : JoinNeed) (e : Entry) →
+    is_hit (if right then record { left = n.left; right = e.item; apart = apart_of s (centre_of n.left) (centre_of e.item) }
+    else record { left = e.item; right = n.right; apart = apart_of s (centre_of e.item) (centre_of n.right) }) ≡ true →
+    (is_object e.item ≡ true) × (is_object (if right then n.left else n.right) ≡ true)
+objects_of true s n e hit = (second_true (is_object n.left) (is_object e.item) hit, first_true (is_object n.left) (is_object e.item) hit)
+objects_of false s n e hit = (first_true (is_object e.item) (is_object n.right) hit, second_true (is_object e.item) (is_object n.right) hit)
+
 objects : (j : JoinSearch) (n : JoinNeed) (e : Entry) → is_hit (with_entry j.space n e) ≡ true → (is_object e.item ≡ true) × (is_object (other n) ≡ true)
-objects j n e hit with opens_right n
-objects j n e hit | true = (second_true _ _ hit, first_true _ _ hit)
-objects j n e hit | false = (first_true _ _ hit, second_true _ _ hit)
+objects j n e hit = objects_of (opens_right n) j.space n e hit
 
 pub pair_holds : (j : JoinSearch) (n : JoinNeed) (e : Entry) (m : Mark) → (m ≡ Near → is_hit (with_entry j.space n e) ≡ true) → IsTrue (allows_entry j n e m) →
     PairHolds m n.apart e.stored (with_entry j.space n e).apart (pair_reach j n e)
