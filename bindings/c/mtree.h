@@ -1,8 +1,8 @@
 /* The index for programs in C.
 
    Each call takes the bytes of an index file, read or mapped, and answers into the caller's buffers. The library keeps nothing
-   between calls, opens no file and writes none: mtree_session_in changes an index in a buffer, and mtree_session_plan says what
-   to write to a file. Every call may run in any thread, beside others.
+   between calls, opens no file and writes none: mtree_create_in and mtree_session_in make and change an index in a buffer, and
+   mtree_session_plan says what to write to a file. Every call may run in any thread, beside others.
 
    The caller sees to it that no process writes the file while a call reads it. The programs of mtree hold a file by an advisory
    lock: shared where they read it, exclusive where they write it. A caller does the same:
@@ -21,7 +21,7 @@
      0  done; a script is done, whatever its commands were told (session_in, session_plan)
      1  the file or a log is rejected; the text names the fault (audit, seal, verify, show, check, carry, proof)
      2  no query: a point is not of the file's space, the points have another size, or `count` is 0 (range, nearest, range_each,
-        nearest_each); or the file is longer than its buffer (session_in)
+        nearest_each); the file is longer than its buffer (session_in); no index has this shape (create_in)
      4  a buffer is too small; the sizes tell what is needed, and the buffers are as they were
      6  the bytes are no index of version 2
      7  there are more than 2^30 bytes of logs (verify, show, check, carry, proof), or the file has more than 262144 pages (seal, carry),
@@ -137,6 +137,19 @@ struct mtree_carried_sizes {
    `sizes`. At status 4 and 8 both buffers are as they were. */
 uint8_t mtree_carry(const uint8_t *file, size_t file_size, const uint8_t *logs, size_t logs_size, uint8_t *carried, size_t carried_room,
                     uint8_t *text, size_t text_room, struct mtree_carried_sizes *sizes);
+
+/* What an index is made for. */
+struct mtree_index_shape {
+    uint8_t kind;    /* the metric, as in struct mtree_description */
+    uint8_t dim;     /* the number of coordinates of a point, 1 to 64; even for the metrics 6 and 7 */
+    uint8_t promote; /* the promotion: 1 m_RAD, 2 mM_RAD */
+    uint8_t split;   /* the partition: 1 generalized hyperplane, 2 balanced */
+    uint32_t limit;  /* the greatest number of objects, 1 to 2^24 */
+};
+
+/* Makes an empty index of version 2 at the front of `file`, and puts its size to `file_size`, which is 0 at status 2 and 8. Where the
+   status is not 0, `file` is as it was. Written to an empty file and synced, the bytes are an index file. */
+uint8_t mtree_create_in(uint8_t *file, size_t file_room, const struct mtree_index_shape *shape, size_t *file_size);
 
 /* The next two calls run a script: the commands that the program's `session` reads. Put the replies to the front of `text`, each as
    `session` writes it, and the frames of the queries' logs to the front of `log`. `show_tags` is that of the program's --tags. No threads

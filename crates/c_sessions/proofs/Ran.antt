@@ -1,5 +1,6 @@
 -- A session that met no fault, in the terms of the file and the script.
-use Rattle.std.proofs.Common.{◌≡◌, ◌≢◌, ◌⊎◌, inl, inr, ℕ, ◌^◌, ◌<◌, Bool, List, [], ◌++◌, length, length-append, Option, None, Some, subst, ap, arith}
+use Rattle.std.proofs.Common.{◌≡◌, ◌≢◌, ◌⊎◌, inl, inr, ℕ, ◌^◌, ◌<◌, Bool, List, [], ◌++◌, length, length-append, Option, None, Some, subst, sym, ap, arith}
+use Rattle.std.specs.Prelude.{IfSome}
 use Rattle.outside_io.specs.Bytes.{TakesUpTo}
 use Rattle.outside_io.specs.Causes.{Rose}
 use Rattle.plan_disk.specs.Plan.{Plan, IsWhole, plan_state}
@@ -50,3 +51,8 @@ module _ (show : Bool) (script file : List ℕ) (plan : Plan) (text log : List �
     long = taken_long script left status takes;
     statuses = ends statuses input output memory;
   }
+
+-- what holds of a list holds of what is that list, where there is one
+pub if_some_is : {X : Type 0} (list_of : X → List ℕ) (Holds : List ℕ → Type 0) (file : List ℕ) (found : Option X) → IfSome found (λ x. list_of x ≡ file) → Holds file → IfSome found (λ x. Holds (list_of x))
+if_some_is list_of Holds file None is holds = tt
+if_some_is list_of Holds file (Some x) is holds = subst Holds (sym is) holds

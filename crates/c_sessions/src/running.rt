@@ -1,5 +1,6 @@
 // Runs a script on a file, which stays as it is.
-ghost use Rattle.std.specs.Prelude.{IfSome};
+ghost use Rattle.std.specs.Prelude.{◌≡◌, IfSome};
+ghost use Rattle.plan_disk.specs.Plan.{file_of};
 ghost use Rattle.c_sessions.specs.Sessions.{IsSession};
 
 use bulk_load::Alone;
@@ -9,7 +10,7 @@ use session_run::run_session;
 use std::alloc::Global;
 
 /// The greatest number of bytes of a disk.
-const MOST: u64 = 1 << 37;
+pub const MOST: u64 = 1 << 37;
 
 /// What a session came to.
 #[derive(Drop)]
@@ -57,4 +58,15 @@ pub fn run<'a>(alloc: Global, file: &'a [u8], show_tags: bool, script: &[u8]) ->
         text,
         log,
     })
+}
+
+/// Returns the file after a plan, or none where memory ran out.
+pub fn file_after(alloc: Global, disk: &PlanDisk<'_>) -> Option<Vec<u8>>
+    ensures { IfSome result (λ file. file.items ≡ file_of disk.now) }
+{
+    let Ok(mut file) = vec![in alloc; 0; disk.size_now() as usize] else {
+        return None;
+    };
+    disk.copy_to(&mut file);
+    Some(file)
 }

@@ -5,7 +5,7 @@ ghost use Rattle.plan_disk.specs.Plan.{Plan, file_of};
 ghost use Rattle.c_sessions.specs.Handed.{HandsSession};
 ghost use Rattle.c_sessions.specs.Sessions.{IsSession};
 
-use crate::running::{Ran, run};
+use crate::running::{file_after, run};
 use crate::{MEMORY, NO_FILE, SHORT};
 use caller_ends::{Gathered, put_front};
 use std::alloc::Global;
@@ -46,13 +46,10 @@ fn left_of(alloc: Global, file: &[u8], show_tags: bool, script: &[u8]) -> Option
     let Some(ran) = run(alloc, file, show_tags, script) else {
         return None;
     };
-    let Ok(mut after) = vec![in alloc; 0; ran.disk.size_now() as usize] else {
-        return None;
-    };
-    ran.disk.copy_to(&mut after);
+    let file = file_after(alloc, &ran.disk)?;
     Some(Left {
         status: ran.status,
-        file: after,
+        file,
         text: ran.text,
         log: ran.log,
     })

@@ -1,11 +1,26 @@
-// Runs scripts that change an index.
+// Makes indexes, and runs scripts that change them.
 ghost use Rattle.std.specs.Prelude.{take};
 ghost use Rattle.c_sessions.specs.Handed.{HandsPlan, HandsSession};
+ghost use Rattle.c_sessions.specs.Making.{HandsIndex};
 ghost use Rattle.c_sessions.specs.Sessions.{IsSession};
 
-use c_sessions::{PlanSizes, SessionSizes, session_in, session_plan};
+use c_sessions::{PlanSizes, SessionSizes, Shape, create_in, session_in, session_plan};
 use plan_disk::Step;
 use std::alloc::Global;
+
+/// Makes an empty index of `shape` at the front of `room`, of `size` bytes. Status 0: done; 2: no index has this shape; 4: `room` has no room
+/// for `size` bytes; 8: out of memory. With status 2, 4 and 8 the buffer is left as it is.
+#[unsafe(no_mangle)]
+pub extern "C" fn mtree_create_in(
+    alloc: Global,
+    room: &mut [u8],
+    shape: &Shape,
+    size: &mut usize,
+) -> u8
+    ensures { HandsIndex shape.now room.old room.new size.new result }
+{
+    create_in(alloc, room, shape, size)
+}
 
 /// Runs a script on the index file at the front of `room`, of `size` bytes, all of it or nothing. The file after it stands at the front of
 /// `room`, the replies at the front of `text`, and the frames of the queries' logs at the front of `log`. They are those of the program's

@@ -14,7 +14,7 @@ mod rooms;
 
 pub use answering::{Sizes, TaggedHit, mtree_nearest, mtree_range};
 pub use carrying::{CarriedSizes, mtree_carry};
-pub use changing::{mtree_session_in, mtree_session_plan};
+pub use changing::{mtree_create_in, mtree_session_in, mtree_session_plan};
 pub use describing::{
     Description, mtree_describe, mtree_dump, mtree_seal, mtree_shape, mtree_stats,
 };

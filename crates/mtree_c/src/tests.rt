@@ -1,10 +1,10 @@
 use crate::{
     CarriedSizes, Description, RootDigest, Sizes, TaggedHit, mtree_audit, mtree_carry, mtree_check,
-    mtree_describe, mtree_dump, mtree_nearest, mtree_nearest_each, mtree_proof, mtree_range,
-    mtree_range_each, mtree_seal, mtree_session_in, mtree_session_plan, mtree_shape, mtree_show,
-    mtree_stats, mtree_verify,
+    mtree_create_in, mtree_describe, mtree_dump, mtree_nearest, mtree_nearest_each, mtree_proof,
+    mtree_range, mtree_range_each, mtree_seal, mtree_session_in, mtree_session_plan, mtree_shape,
+    mtree_show, mtree_stats, mtree_verify,
 };
-use c_sessions::{PlanSizes, SessionSizes};
+use c_sessions::{PlanSizes, SessionSizes, Shape};
 use plan_disk::Step;
 use std::alloc::{AllocError, Global};
 use std::test::Fail;
@@ -548,5 +548,40 @@ fn a_plan_leaves_what_the_session_leaves(rt: HostRuntime) -> Result<(), Fail> {
         &mut sizes,
     );
     assert!(rt; (short, sizes.text) == (4, 5));
+    Ok(())
+}
+
+const SHAPE: Shape = Shape {
+    kind: 2,
+    dim: 1,
+    promote: 2,
+    split: 1,
+    limit: 7,
+};
+
+// New indexes: the shape, the room, and the expected status and size. Only at status 0 the room is no longer all sevens.
+#[test]
+fn new_indexes(rt: HostRuntime) -> Result<(), Fail> {
+    let alloc = rt.alloc();
+    let cases: [(Shape, usize, u8, usize); 4] = [
+        (Shape { dim: 65, ..SHAPE }, 16384, 2, 0),
+        (Shape { limit: 0, ..SHAPE }, 16384, 2, 0),
+        (SHAPE, 16383, 4, 16384),
+        (SHAPE, 16384, 0, 16384),
+    ];
+    for (shape, size, status, wanted) in &cases {
+        let mut room = vec![in alloc; 7u8; *size]?;
+        let mut size = 9;
+        let found = mtree_create_in(alloc, &mut room, shape, &mut size);
+        assert!(rt; (found, size) == (*status, *wanted));
+        assert!(rt; room.iter().all(|byte| *byte == 7) == (found != 0));
+    }
+    let mut room = vec![in alloc; 0u8; 16384]?;
+    let mut size = 0;
+    let made = mtree_create_in(alloc, &mut room, &SHAPE, &mut size);
+    let mut text = [0u8; 40];
+    let audited = mtree_audit(alloc, &room, text.as_mut_slice(), &mut size);
+    assert!(rt; (made, audited) == (0, 0));
+    assert!(rt; &text[..size.min(40)] == b"sound\nobjects 0\nnodes 1\n".as_slice());
     Ok(())
 }
