@@ -47,7 +47,7 @@ def run(path: str, script: bytes, bytes_at_first: int) -> Ran:
         try:
             _done(handle, steps, written)
         except Failed as failed:
-            return 5, _acknowledged(text, failed.syncs), f"{path}: {failed.__cause__}"
+            return 5, _acknowledged(text, failed.syncs, sum(is_sync for _, _, is_sync in steps)), f"{path}: {failed.__cause__}"
         return status, text, ""
     finally:
         os.close(handle)
@@ -96,14 +96,12 @@ def _write(handle: int, at: int, part: memoryview) -> None:
         part, at = part[count:], at + count
 
 
-def _acknowledged(text: str, syncs: int) -> str:
-    """Returns the replies before the first one whose commit was not synced."""
-    commits = (syncs - _SYNCS_OF_OPENING) // _SYNCS_OF_COMMIT
-    replies = []
-    for line in text.splitlines(keepends=True):
-        if line.startswith(_WORDS_OF_COMMITS):
-            commits -= 1
-            if commits < 0:
-                break
-        replies.append(line)
-    return "".join(replies)
+def _acknowledged(text: str, done: int, planned: int) -> str:
+    """Returns the replies before the first one whose commit was not synced, where `done` of the `planned` syncs are done. Returns none where
+    the syncs are others than those of the commits that the replies tell of."""
+    lines = text.splitlines(keepends=True)
+    commits = [number for number, line in enumerate(lines) if line.startswith(_WORDS_OF_COMMITS)]
+    if planned != _SYNCS_OF_OPENING + _SYNCS_OF_COMMIT * len(commits):
+        return ""
+    synced = max(0, done - _SYNCS_OF_OPENING) // _SYNCS_OF_COMMIT
+    return "".join(lines[:commits[synced]] if synced < len(commits) else lines)

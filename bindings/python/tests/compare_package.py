@@ -535,7 +535,7 @@ def compare_plans():
         with mtree.Index("failed.mt") as index:
             with failing(number, number % 2 == 0):
                 try:
-                    same(index.insert(rows[40:]), "no answer", "rows of which one is refused")
+                    same(index.insert(rows[40:]), "no answer", "rows, one refused")
                 except mtree.Refused as refused:
                     ids = refused.ids
                 except mtree.Stopped as stopped:
@@ -545,7 +545,7 @@ def compare_plans():
                     ids = []
                     same("failed.mt" in str(error), True, f"the first insert: {error}")
             same(ids, list(range(40, 40 + len(ids))), f"what was acknowledged after {number} calls")
-            same(0 <= len(index) - 40 - len(ids) <= 1, True, f"{len(index) - 40} rows after {number} calls, of which {len(ids)} were acknowledged")
+            same(0 <= len(index) - 40 - len(ids) <= 1, True, f"{len(index) - 40} rows after {number} calls, {len(ids)} acknowledged")
             there = [row for row in rows if len(row) == 6][:len(index)]
             same([hits[0][1] for hits in index.nearest_of_each(there, 1)], [0] * len(there), f"the rows after {number} calls")
         same(run("audit", "failed.mt")[0], 0, f"the audit after {number} calls")
