@@ -67,26 +67,23 @@ async function judged(file, tell, judge) {
     }
 }
 
-// A worker below this one, of the same script and the same module. It judges portions, one after another.
+// A worker below this one, of the same script and the same module. It judges portions, one after another. `stop` is called where it ends.
 class Helper {
-    constructor() {
+    constructor(stop) {
         this.worker = new Worker(script);
         this.asked = [];
-        this.worker.onmessage = ({ data: { said, fault } }) => {
-            const { done, fail } = this.asked.shift();
-            if (fault === undefined) done(said);
-            else fail(fault);
+        this.worker.onmessage = ({ data }) => this.asked.shift()(data);
+        this.worker.onerror = (event) => {
+            event.preventDefault();
+            stop();
         };
-        this.worker.onerror = (event) => this.asked.forEach(({ fail }) => fail(event.message));
-        this.ask("start", { code: engine.module, text: "" }).catch(() => {});
+        this.ask("start", { code: engine.module, text: "" });
     }
 
-    // Does a job. A portion's bytes move to the helper.
+    // Has the helper do a job. The bytes of a portion move to it.
     ask(job, given, moved = []) {
-        return new Promise((done, fail) => {
-            this.asked.push({ done, fail });
-            this.worker.postMessage({ id: 0, job, given }, moved);
-        });
+        this.worker.postMessage({ id: 0, job, given }, moved);
+        return new Promise((done) => this.asked.push(done));
     }
 }
 
@@ -105,15 +102,19 @@ function together(pieces) {
 // file, or null where that can't be told of its portions.
 async function judgedByHelpers(file, root, count, tell) {
     const began = performance.now(), helpers = [], portions = new Portions(PORTION), asked = [];
+    let stop = null;
+    const stopped = new Promise((done) => (stop = () => done(null)));
     const hand = (pieces) => {
         const bytes = together(pieces);
         asked.push(helpers[asked.length % count].ask("portion", { bytes, root }, [bytes.buffer]));
     };
     try {
-        while (helpers.length < count) helpers.push(new Helper());
+        while (helpers.length < count) helpers.push(new Helper(stop));
         await eachPiece(file, tell, (bytes) => portions.add(bytes).forEach(hand));
         hand(portions.rest());
-        const all = joined(await Promise.all(asked));
+        const answers = await Promise.race([Promise.all(asked), stopped]);
+        if (answers === null || answers.some((it) => it.fault !== undefined)) return null;
+        const all = joined(answers.map((it) => it.said));
         return all && { ...all, helpers: count, took: performance.now() - began };
     } catch {
         return null;
@@ -272,6 +273,10 @@ async function recovered(fault) {
         return `${fault.message}. Its memory was dropped and a new one was made. The index could not be read again: choose it once more.`;
     }
 }
+
+onmessageerror = () => {
+    throw new Error("a message can't be read");
+};
 
 let turn = Promise.resolve();
 onmessage = ({ data: { id, job, given } }) => {

@@ -253,6 +253,8 @@ def compare_carried(page, run, place, root):
     has_helpers = page.run("return navigator.hardwareConcurrency > 1")
     for what, data in given.items():
         digest = other if what == "under another digest" else root
+        # (a browser does not say that a file of the same name was chosen again)
+        place = place.with_name(f"{what}.proof")
         place.write_bytes(data)
         page.keys("carried", str(place))
         page.fill("digest", digest)
@@ -262,6 +264,27 @@ def compare_carried(page, run, place, root):
         same("workers side by side" in page.text("proveResult"), has_helpers, f"how carried logs {what} are judged")
         same(page.run("return document.querySelector('#proveResult pre.said').textContent"), told.stdout, f"the lines of carried logs {what}")
         same(page.text("proveResult").startswith("✓ proved" if told.returncode == 0 else "✗ rejected"), True, f"the verdict of carried logs {what}")
+    compare_alone(page, place, root, told)
+
+
+def compare_alone(page, place, root, told):
+    """Where a helper stops or refuses a portion, the whole file is judged by one call. `told` is what the program says of the file."""
+    text, line = pathlib.Path(OUT, "mtree.html").read_text(), "script = URL.createObjectURL(new Blob([text]"
+    same(text.count(line), 1, "the line of the page that names the script of helpers")
+    for what, script in (("stops", "throw new Error('it stops');"), ("refuses", "onmessage = () => postMessage({ id: 0, fault: 'it refuses', status: -1 });")):
+        changed = place.with_suffix(".html")
+        changed.write_text(text.replace(line, line.replace("text", json.dumps(script))))
+        page.go(changed.as_uri())
+        page.wait("return document.documentElement.dataset.ready === 'yes'")
+        page.keys("carried", str(place))
+        page.fill("digest", root)
+        page.click("prove")
+        page.wait(IDLE, seconds=120)
+        same("side by side" in page.text("proveResult"), False, f"how a file is judged where a helper {what}")
+        same(page.run("return document.querySelector('#proveResult pre.said').textContent"), told.stdout, f"the lines of carried logs where a helper {what}")
+    page.logs("browser")
+    page.go(pathlib.Path(OUT, "mtree.html").as_uri())
+    page.wait("return document.documentElement.dataset.ready === 'yes'")
 
 
 def compare_plain(maker, room):
