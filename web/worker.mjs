@@ -67,16 +67,19 @@ async function judged(file, tell, judge) {
     }
 }
 
-// A worker below this one, of the same script and the same module. It judges portions, one after another. `stop` is called where it ends.
+// A worker below this one, of the same script and the same module. It judges portions, one after another.
 class Helper {
-    constructor(stop) {
+    constructor() {
         this.worker = new Worker(script);
         this.asked = [];
         this.worker.onmessage = ({ data }) => this.asked.shift()(data);
-        this.worker.onerror = (event) => {
-            event.preventDefault();
-            stop();
-        };
+        // Gives null where the helper stops.
+        this.stopped = new Promise((done) => {
+            this.worker.onerror = (event) => {
+                event.preventDefault();
+                done(null);
+            };
+        });
         this.ask("start", { code: engine.module, text: "" });
     }
 
@@ -86,6 +89,9 @@ class Helper {
         return new Promise((done) => this.asked.push(done));
     }
 }
+
+// The helpers, which stay for the next file.
+let helpers = [];
 
 // The bytes of pieces, one behind the other.
 function together(pieces) {
@@ -98,29 +104,27 @@ function together(pieces) {
     return bytes;
 }
 
-// Judges the portions of a file side by side, each while the next ones are read. Returns what one call of the module says of the whole
-// file, or null where that can't be told of its portions.
-async function judgedByHelpers(file, root, count, tell) {
-    const began = performance.now(), helpers = [], portions = new Portions(PORTION), asked = [];
-    let stop = null;
-    const stopped = new Promise((done) => (stop = () => done(null)));
+// What the helpers say of the portions of a file. They judge while the next ones are read. Null where one can't be judged.
+async function saidByHelpers(file, root, count, tell) {
+    const portions = new Portions(PORTION), asked = [];
     const hand = (pieces) => {
         const bytes = together(pieces);
         asked.push(helpers[asked.length % count].ask("portion", { bytes, root }, [bytes.buffer]));
     };
-    try {
-        while (helpers.length < count) helpers.push(new Helper(stop));
-        await eachPiece(file, tell, (bytes) => portions.add(bytes).forEach(hand));
-        hand(portions.rest());
-        const answers = await Promise.race([Promise.all(asked), stopped]);
-        if (answers === null || answers.some((it) => it.fault !== undefined)) return null;
-        const all = joined(answers.map((it) => it.said));
-        return all && { ...all, helpers: count, took: performance.now() - began };
-    } catch {
-        return null;
-    } finally {
-        helpers.forEach((helper) => helper.worker.terminate());
-    }
+    while (helpers.length < count) helpers.push(new Helper());
+    await eachPiece(file, tell, (bytes) => portions.add(bytes).forEach(hand));
+    hand(portions.rest());
+    const answers = await Promise.race([Promise.all(asked), ...helpers.map((helper) => helper.stopped)]);
+    return answers === null || answers.some((it) => it.fault !== undefined) ? null : joined(answers.map((it) => it.said));
+}
+
+// Judges a file by helpers, or returns null and drops them.
+async function judgedByHelpers(file, root, count, tell) {
+    const began = performance.now(), said = await saidByHelpers(file, root, count, tell).catch(() => null);
+    if (said !== null) return { ...said, helpers: count, took: performance.now() - began };
+    helpers.forEach((helper) => helper.worker.terminate());
+    helpers = [];
+    return null;
 }
 
 function opened() {
