@@ -221,17 +221,27 @@ def compare_large(page, room):
     page.click("nearest")
     page.wait(IDLE)
     holds(page.text("askResult"), "answers", "a query on a large index")
-    logs, carried, draw = os.path.join(room, "large.log"), os.path.join(room, "large.proof"), random.Random(7)
-    asked = "".join(f"nearest,9,{','.join(str(draw.randrange(65536)) for _ in range(8))}\n" for _ in range(40))
-    run("batch", path, "--log", logs, given=asked)
-    root = run("seal", path).stdout.split()[-1]
-    run("proof", path, "--log", logs, "--proof", carried)
-    compare_carried(page, run, pathlib.Path(carried), root)
+    compare_carried(page, run, *large_carried(run, path, room))
+
+
+def large_carried(run, path, room):
+    """Makes some 25 MB of carried logs of an index, and returns their place and the index's digest."""
+    draw, logs, carried = random.Random(7), os.path.join(room, "large.log"), os.path.join(room, "large.proof")
+    asked = [f"nearest,9,{','.join(str(draw.randrange(65536)) for _ in range(8))}\n" for _ in range(1000)]
+
+    def carry(count):
+        run("batch", path, "--log", logs, given="".join(asked[:count]))
+        run("proof", path, "--log", logs, "--proof", carried)
+        return os.path.getsize(carried)
+
+    carry(max(6, min(25_000_000 // carry(1), 1000)))
+    return pathlib.Path(carried), run("seal", path).stdout.split()[-1]
 
 
 def compare_carried(page, run, place, root):
     """Large files of carried logs: whole, damaged, cut, with a wrong length, with something behind, and under another digest."""
     whole, draw = place.read_bytes(), random.Random(7)
+    place.unlink()
     same(len(whole) > 1 << 24, True, "a large file of carried logs")
     starts, at = [], 0
     while at < len(whole):
@@ -264,7 +274,10 @@ def compare_carried(page, run, place, root):
         same("workers side by side" in page.text("proveResult"), has_helpers, f"how carried logs {what} are judged")
         same(page.run("return document.querySelector('#proveResult pre.said').textContent"), told.stdout, f"the lines of carried logs {what}")
         same(page.text("proveResult").startswith("✓ proved" if told.returncode == 0 else "✗ rejected"), True, f"the verdict of carried logs {what}")
+        place.unlink()
+    place.write_bytes(data)
     compare_alone(page, place, root, told)
+    place.unlink()
 
 
 def compare_alone(page, place, root, told):
