@@ -117,7 +117,8 @@ class Engine {
 
     // Judges carried logs by a root digest of 32 bytes. Their pages are not in the text.
     prove(logs, root) {
-        return this.during((take) => this.said(this.calls.mtree_proof, Math.ceil(logs.size / 2), logs.place, BigInt(logs.size), take(this.put(root)).place));
+        const likely = Math.ceil(logs.size / 2);
+        return this.during((take) => this.said(this.calls.mtree_proof, likely, logs.place, BigInt(logs.size), take(this.put(root)).place));
     }
 
     range(file, point, radius) {

@@ -49,8 +49,8 @@ class Portions {
     }
 }
 
-// What the judge says of a file, of what it said of each portion: the frames are counted on, and one last line is of all. Returns null where
-// a portion was not judged to its end.
+// What the judge says of a file, of what it said of each portion: the frames are counted on, and one last line is of all. Returns null
+// where a portion was not judged to its end.
 function joined(all) {
     const texts = [];
     let count = 0, isProved = true, last = "";
