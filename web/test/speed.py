@@ -86,6 +86,7 @@ def on_page(path, digest, asked):
         try:
             page.go(pathlib.Path(OUT, "mtree.html").as_uri())
             page.wait("return document.documentElement.dataset.ready === 'yes'")
+            print(page.text("state"))
             for id, end in (("index", ".mt"), ("logs", ".log"), ("carried", ".carried")):
                 page.keys(id, path(end))
                 page.wait(IDLE, seconds=120)
