@@ -3,6 +3,9 @@
 // Why a call gave no answer. STOPPED is no status of the module: the call did not return.
 const STOPPED = -1, NO_QUERY = 2, SHORT = 4, NO_INDEX = 6, MEMORY = 8, DAMAGED = 9;
 
+// The bytes of a text that there is room for before a call says how many it has: these at the least, and these at the most.
+const LEAST_TEXT = 4096, MOST_TEXT = 64 << 20;
+
 class Fault extends Error {
     constructor(status, words) {
         super(words);
@@ -71,11 +74,12 @@ class Engine {
         return Number(new DataView(this.calls.memory.buffer).getBigUint64(Number(span.place) + 8 * number, true));
     }
 
-    // The status and the text of a call that judges. The call says how large a buffer it needs.
-    said(call, ...given) {
+    // The status and the text of a call that judges. A call whose text has no room says how large a buffer it needs, and then has to judge
+    // once more. So there is room for `likely` bytes from the first.
+    said(call, likely, ...given) {
         return this.during((take) => {
             const size = take(this.room(8));
-            for (let room = 4096; ; room = this.word(size, 0)) {
+            for (let room = Math.min(LEAST_TEXT + likely, MOST_TEXT); ; room = this.word(size, 0)) {
                 const text = take(this.room(room));
                 const status = call(...given, text.place, BigInt(room), size.place);
                 if (status === MEMORY) throw new Fault(MEMORY, "out of memory");
@@ -85,34 +89,36 @@ class Engine {
     }
 
     audit(file) {
-        return this.said(this.calls.mtree_audit, file.place, BigInt(file.size));
+        return this.said(this.calls.mtree_audit, 0, file.place, BigInt(file.size));
     }
 
     verify(file, logs) {
-        return this.said(this.calls.mtree_verify, file.place, BigInt(file.size), logs.place, BigInt(logs.size));
+        return this.said(this.calls.mtree_verify, logs.size, file.place, BigInt(file.size), logs.place, BigInt(logs.size));
     }
 
+    // (a number of four bytes has up to 11 letters in the text)
     check(file, logs) {
-        return this.said(this.calls.mtree_check, file.place, BigInt(file.size), logs.place, BigInt(logs.size));
+        return this.said(this.calls.mtree_check, 3 * logs.size, file.place, BigInt(file.size), logs.place, BigInt(logs.size));
     }
 
     stats(file) {
-        return this.said(this.calls.mtree_stats, file.place, BigInt(file.size));
+        return this.said(this.calls.mtree_stats, 0, file.place, BigInt(file.size));
     }
 
     // The objects of an index, as a script that makes them again.
     dump(file) {
-        return this.said(this.calls.mtree_dump, file.place, BigInt(file.size));
+        return this.said(this.calls.mtree_dump, file.size, file.place, BigInt(file.size));
     }
 
-    // Logs in words: each opened node, and the reason of each mark.
+    // Logs in words: each opened node, and the reason of each mark, which has one byte in the log.
     show(file, logs) {
-        return this.said(this.calls.mtree_show, file.place, BigInt(file.size), logs.place, BigInt(logs.size));
+        return this.said(this.calls.mtree_show, 40 * logs.size, file.place, BigInt(file.size), logs.place, BigInt(logs.size));
     }
 
-    // Judges carried logs by a root digest of 32 bytes.
+    // Judges carried logs by a root digest of 32 bytes. Their pages are not in the text.
     prove(logs, root) {
-        return this.during((take) => this.said(this.calls.mtree_proof, logs.place, BigInt(logs.size), take(this.put(root)).place));
+        const likely = Math.ceil(logs.size / 2);
+        return this.during((take) => this.said(this.calls.mtree_proof, likely, logs.place, BigInt(logs.size), take(this.put(root)).place));
     }
 
     range(file, point, radius) {
@@ -127,7 +133,7 @@ class Engine {
     asked(call, file, point, bound) {
         return this.during((take) => {
             const place = take(this.put(new Uint8Array(Uint32Array.from(point).buffer))), sizes = take(this.room(16));
-            let hitsRoom = 64, logRoom = 4096;
+            let hitsRoom = 1024, logRoom = 1 << 16;
             for (;;) {
                 const hits = take(this.room(24 * hitsRoom)), log = take(this.room(logRoom));
                 const status = call(file.place, BigInt(file.size), place.place, BigInt(point.length), bound,

@@ -97,7 +97,7 @@ function logOf(bytes) {
 // The pruning radius that a log's marks are judged by.
 function rhoOf(log) {
     if (log.kind === "range") return log.bound < BigInt(FAR_OFF) ? Number(log.bound) : FAR_OFF;
-    return BigInt(log.answers.length) === log.bound && log.answers.length > 0 ? Math.min(log.answers.at(-1).distance, FAR_OFF) : FAR_OFF;
+    return BigInt(log.answers.length) === log.bound && log.answers.length > 0 ? Math.min(log.answers[log.answers.length - 1].distance, FAR_OFF) : FAR_OFF;
 }
 
 // The distance of two points.

@@ -10,6 +10,7 @@ function make(name, about = {}, ...children) {
     return it;
 }
 
+const lastOf = (list) => list[list.length - 1];
 const grouped = (number) => number.toLocaleString("en-US");
 const counted = (number, one, many = `${one}s`) => `${grouped(number)} ${number === 1 ? one : many}`;
 const timed = (ms) => (ms < 1000 ? `${ms.toFixed(1)} ms` : `${(ms / 1000).toFixed(2)} s`);
@@ -20,18 +21,22 @@ const sizeText = (bytes) => (bytes < 10000 ? `${grouped(bytes)} bytes` : bytes <
 
 let worker = null, number = 0;
 const waiting = new Map();
-// The module, once it is unpacked.
+// The module that this browser takes, once it is unpacked.
 let code = null;
+
+// A module of one function, which works on sixteen bytes at once. A browser that takes it takes the wide module.
+const SIXTEEN_BYTES = Uint8Array.of(0, 97, 115, 109, 1, 0, 0, 0, 1, 5, 1, 96, 0, 1, 123, 3, 2, 1, 0, 10, 10, 1, 8, 0, 65, 0, 253, 15, 253, 98, 11);
+const isWide = globalThis.WebAssembly !== undefined && WebAssembly.validate(SIXTEEN_BYTES);
 
 async function unpack() {
     if (globalThis.DecompressionStream === undefined) throw new Error("this browser can't unpack it; Chrome and Edge 80, Firefox 113, Safari 16.4 and later ones can");
-    const packed = Uint8Array.from(atob($("module").textContent.trim()), (letter) => letter.charCodeAt(0));
+    const text = $(isWide ? "wide" : "module").textContent, packed = Uint8Array.from(atob(text.trim()), (letter) => letter.charCodeAt(0));
     const unpacked = new Blob([packed]).stream().pipeThrough(new DecompressionStream("gzip"));
     code = new Uint8Array(await new Response(unpacked).arrayBuffer());
 }
 
 function startWorker() {
-    const place = URL.createObjectURL(new Blob([$("worker").textContent], { type: "text/javascript" }));
+    const text = $("worker").textContent, place = URL.createObjectURL(new Blob([text], { type: "text/javascript" }));
     worker = new Worker(place);
     worker.onmessage = ({ data: { id, said, fault, status, portion } }) => {
         const asked = waiting.get(id);
@@ -45,7 +50,7 @@ function startWorker() {
         for (const asked of waiting.values()) asked.fail(new Error(`the worker stopped: ${event.message ?? "no reason is told"}`));
         waiting.clear();
     };
-    return job("start", code).finally(() => URL.revokeObjectURL(place));
+    return job("start", { code, text }).finally(() => URL.revokeObjectURL(place));
 }
 
 function job(name, given, reads = () => {}) {
@@ -209,11 +214,11 @@ const WORDS = { audit: ["sound", "rejected"], verify: ["accepted", "rejected"], 
 
 // Shows what a judge said: the verdict, a sentence, the frames, and the very text.
 function showSaid(place, name, said, what) {
-    const lines = said.text.split("\n").slice(0, -1), frames = framesIn(lines), last = lines.at(-1) ?? "";
+    const lines = said.text.split("\n").slice(0, -1), frames = framesIn(lines), last = lastOf(lines) ?? "";
     const rejected = frames.filter((it) => it.word === "rejected"), first = frames.find((it) => it.to > it.from);
     let word = WORDS[name][said.status] ?? "not judged", why = "";
     if (said.status === 6) {
-        const fault = last.split(" ").at(-1);
+        const fault = lastOf(last.split(" "));
         word = "no index";
         why = LETTERS[fault] ?? meaning(fault);
     } else if (said.status === 7) why = "There are more than 1,073,741,824 bytes of logs.";
@@ -223,7 +228,8 @@ function showSaid(place, name, said, what) {
     else if (/^(log )?rejected ./.test(last)) why = meaning(last.replace(/^(log )?rejected /, ""));
     else if (rejected.length > 0) why = frames.length === 1 ? "" : `${grouped(rejected.length)} of ${counted(frames.length, "frame")} ${rejected.length === 1 ? "is" : "are"} rejected: ${rejected.slice(0, 20).map((it) => it.number).join(", ")}${rejected.length > 20 ? " and more" : ""}.`;
     if (said.status === 0 && name !== "audit" && frames.length === 0) why = "The file has no log in it.";
-    const parts = [verdict(said.status === 0, word, why, make("span", { className: "faint" }, ` ${what ?? ""} ${timed(said.took)}.`))];
+    const how = said.helpers === undefined ? "" : `read, and judged by ${said.helpers} workers side by side, in `;
+    const parts = [verdict(said.status === 0, word, why, make("span", { className: "faint" }, ` ${what ?? ""} ${how}${timed(said.took)}.`))];
     if (frames.length > 0) {
         parts.push(make("div", { className: "frames" }, ...frames.slice(0, MOST_FRAMES).map((it) => frameItem(it, lines, it === first))));
         if (frames.length > MOST_FRAMES) parts.push(make("p", { className: "faint" }, `The first ${grouped(MOST_FRAMES)} of ${counted(frames.length, "frame")} are listed.`));
@@ -267,7 +273,7 @@ async function openIndex(file) {
     await during("Opening", $("about"), async (reads) => {
         const said = await job("open", file, reads), place = $("about");
         if (said.kind !== "index") {
-            const fault = said.said?.text.trim().split(" ").at(-1), why = WHAT_ELSE[said.kind] ?? LETTERS[fault] ?? meaning(fault);
+            const fault = lastOf(said.said?.text.trim().split(" ") ?? []), why = WHAT_ELSE[said.kind] ?? LETTERS[fault] ?? meaning(fault);
             return place.replaceChildren(verdict(false, "no index", `${file.name}: `, why));
         }
         open = said;
@@ -343,7 +349,7 @@ $("words").ontoggle = async () => {
 };
 
 function wordsOf(text, what, most) {
-    const digits = text.trim().replaceAll(/[ ,_](?=\d{3}\b)/g, "");
+    const digits = text.trim().replace(/[ ,_](?=\d{3}\b)/g, "");
     if (!/^\d+$/.test(digits)) throw new Error(`${what} is a whole number, and “${text.trim()}” is none`);
     if (BigInt(digits) > most) throw new Error(`${what} is at most ${most}`);
     return BigInt(digits);
@@ -490,7 +496,7 @@ const picture = (() => {
         const depth = tree.depth[selected], row = rows[depth], place = row.indexOf(selected);
         const under = (other) => rows[other]?.find((i) => tree.from[i] <= tree.from[selected] && tree.to[i] >= tree.to[selected]);
         const steps = {
-            ArrowLeft: () => row[place - 1], ArrowRight: () => row[place + 1], Home: () => row[0], End: () => row.at(-1),
+            ArrowLeft: () => row[place - 1], ArrowRight: () => row[place + 1], Home: () => row[0], End: () => lastOf(row),
             ArrowUp: () => under(depth - 1), ArrowDown: () => rows[depth + 1]?.find((i) => i > selected),
         };
         const step = steps[event.key];
@@ -507,7 +513,10 @@ const picture = (() => {
             shown = null;
             selected = -1;
             rows = [];
-            tree?.depth.forEach((depth, i) => (rows[depth] ??= []).push(i));
+            tree?.depth.forEach((depth, i) => {
+                if (rows[depth] === undefined) rows[depth] = [];
+                rows[depth].push(i);
+            });
         },
         paint(drawn) {
             shown = drawn;
@@ -579,12 +588,13 @@ async function begin() {
         return;
     }
     const sum = globalThis.crypto?.subtle ? [...new Uint8Array(await crypto.subtle.digest("SHA-256", code))].map((byte) => byte.toString(16).padStart(2, "0")).join("") : null;
-    if (sum !== null && sum !== $("sum").textContent) {
+    if (sum !== null && sum !== $(isWide ? "sumOfWide" : "sumOfModule").textContent) {
         $("state").textContent = "This page is damaged: the module in it has another digest than it says. Nothing is judged.";
         worker.terminate();
         return;
     }
-    $("state").textContent = `The module is ready (${grouped(code.length)} bytes). Its digest stands at the end of this page.`;
+    $("state").textContent = `The ${isWide ? "wide" : "plain"} module is ready (${grouped(code.length)} bytes). Its digest stands at the end of this page.`;
+    $("taken").textContent = `This browser took the ${isWide ? "wide" : "plain"} one.`;
     enable();
     document.documentElement.dataset.ready = "yes";
 }

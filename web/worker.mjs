@@ -2,34 +2,53 @@
 // `{ id, said }` or `{ id, fault, status }`, and `{ id, portion }` comes while a file is read.
 import { Engine, Fault, STOPPED, NO_INDEX } from "./engine.mjs";
 import { MARKS, kindOf, headOf, entryOf, treeOf, framesOf, logOf, rhoOf, distance } from "./files.mjs";
+import { Portions, joined } from "./portions.mjs";
 
 // A fault that is no status of the module.
 const OTHER = -2;
 
-const CHUNK = 4 << 20, PLAIN = 0, OPENED = 1, FAR = 2, SKIP = 3, BELOW = 2;
+const PLAIN = 0, OPENED = 1, FAR = 2, SKIP = 3, BELOW = 2;
 
-let engine = null;
+// The bytes of carried logs that one helper judges at once, the most helpers, and the most bytes that the judge takes.
+const PORTION = 4 << 20, MOST_HELPERS = 8, MOST_CARRIED = 1 << 30;
+
+// The place of this script, which a helper runs too.
+let script = null, engine = null;
 // The open index: its file, its bytes in the module's memory, its head and its tree. And the log that is shown.
 let index = null, shown = null;
+
+const unread = (error) => new Fault(OTHER, `the file can't be read: ${error.message}`);
 
 // The bytes of a file, or of a part of it.
 async function bytesOf(part) {
     try {
         return new Uint8Array(await part.arrayBuffer());
     } catch (error) {
-        throw new Fault(OTHER, `the file can't be read: ${error.message}`);
+        throw unread(error);
     }
+}
+
+// Gives the bytes of a file to `use`, piece by piece with their place, as the browser reads them.
+async function eachPiece(file, tell, use) {
+    const reader = file.stream().getReader();
+    let at = 0;
+    for (;;) {
+        const { done, value } = await reader.read().catch((error) => {
+            throw unread(error);
+        });
+        if (done) break;
+        use(value, at);
+        at += value.length;
+        tell(at / file.size);
+    }
+    if (at !== file.size) throw new Fault(OTHER, "the file has another size by now");
 }
 
 // Reads a file into the module's memory.
 async function read(file, tell) {
     const span = engine.room(file.size);
     try {
-        for (let at = 0; at < file.size; at += CHUNK) {
-            const bytes = await bytesOf(file.slice(at, at + CHUNK));
-            engine.bytes(span).set(bytes, at);
-            tell(Math.min((at + CHUNK) / file.size, 1));
-        }
+        await eachPiece(file, tell, (bytes, at) => engine.bytes(span).set(bytes, at));
     } catch (error) {
         engine.free(span);
         throw error;
@@ -46,6 +65,66 @@ async function judged(file, tell, judge) {
     } finally {
         if (engine.calls === calls) engine.free(span);
     }
+}
+
+// A worker below this one, of the same script and the same module. It judges portions, one after another.
+class Helper {
+    constructor() {
+        this.worker = new Worker(script);
+        this.asked = [];
+        this.worker.onmessage = ({ data }) => this.asked.shift()(data);
+        // Gives null where the helper stops.
+        this.stopped = new Promise((done) => {
+            this.worker.onerror = (event) => {
+                event.preventDefault();
+                done(null);
+            };
+        });
+        this.ask("start", { code: engine.module, text: "" });
+    }
+
+    // Has the helper do a job. The bytes of a portion move to it.
+    ask(job, given, moved = []) {
+        this.worker.postMessage({ id: 0, job, given }, moved);
+        return new Promise((done) => this.asked.push(done));
+    }
+}
+
+// The helpers, which stay for the next file.
+let helpers = [];
+
+// The bytes of pieces, one behind the other.
+function together(pieces) {
+    const bytes = new Uint8Array(pieces.reduce((size, piece) => size + piece.length, 0));
+    let at = 0;
+    for (const piece of pieces) {
+        bytes.set(piece, at);
+        at += piece.length;
+    }
+    return bytes;
+}
+
+// What the helpers say of the portions of a file. They judge while the next ones are read. Null where one can't be judged.
+async function saidByHelpers(file, root, count, tell) {
+    const portions = new Portions(PORTION), asked = [];
+    const hand = (pieces) => {
+        const bytes = together(pieces);
+        asked.push(helpers[asked.length % count].ask("portion", { bytes, root }, [bytes.buffer]));
+    };
+    while (helpers.length < count) helpers.push(new Helper());
+    await eachPiece(file, tell, (bytes) => portions.add(bytes).forEach(hand));
+    hand(portions.rest());
+    const answers = await Promise.race([Promise.all(asked), ...helpers.map((helper) => helper.stopped)]);
+    return answers === null || answers.some((it) => it.fault !== undefined) ? null : joined(answers.map((it) => it.said));
+}
+
+// Judges a file by helpers, or returns null and drops them.
+async function judgedByHelpers(file, root, count, tell) {
+    const began = performance.now(), said = await saidByHelpers(file, root, count, tell).catch(() => null);
+    if (said !== null) return { ...said, helpers: count, took: performance.now() - began };
+    helpers.forEach((helper) => helper.worker.terminate());
+    helpers = [];
+    return null;
 }
 
 function opened() {
@@ -90,8 +169,10 @@ function entryFacts(node, number) {
 }
 
 const jobs = {
-    async start(code) {
-        engine = new Engine(await WebAssembly.compile(code));
+    // `code` is the bytes of a module, or the module; `text` is that of this script.
+    async start({ code, text }) {
+        script = URL.createObjectURL(new Blob([text], { type: "text/javascript" }));
+        engine = new Engine(code instanceof WebAssembly.Module ? code : await WebAssembly.compile(code));
         return null;
     },
 
@@ -139,7 +220,19 @@ const jobs = {
 
     verify: (file, tell) => judged(file, tell, (logs) => engine.verify(opened().span, logs)),
     check: (file, tell) => judged(file, tell, (logs) => engine.check(opened().span, logs)),
-    prove: ({ file, root }, tell) => judged(file, tell, (logs) => engine.prove(logs, root)),
+
+    // Judges carried logs. Large files of them are judged side by side, and as a whole where that fails.
+    async prove({ file, root }, tell) {
+        const count = file.size > MOST_CARRIED ? 1 : Math.min(MOST_HELPERS, navigator.hardwareConcurrency ?? 1, Math.floor(file.size / PORTION));
+        const said = count > 1 ? await judgedByHelpers(file, root, count, tell) : null;
+        return said ?? judged(file, tell, (logs) => engine.prove(logs, root));
+    },
+
+    portion({ bytes, root }) {
+        const logs = engine.put(bytes), said = engine.prove(logs, root);
+        engine.free(logs);
+        return said;
+    },
 
     ask({ kind, point, bound }) {
         const { span } = opened(), began = performance.now(), answer = engine[kind](span, point, bound);
@@ -184,6 +277,10 @@ async function recovered(fault) {
         return `${fault.message}. Its memory was dropped and a new one was made. The index could not be read again: choose it once more.`;
     }
 }
+
+onmessageerror = () => {
+    throw new Error("a message can't be read");
+};
 
 let turn = Promise.resolve();
 onmessage = ({ data: { id, job, given } }) => {

@@ -1,8 +1,10 @@
 // Compares a module with what the program wrote, in node. Use: compare.mjs MODULE FOLDER, with the cases that make_cases.py put into FOLDER.
 import { createHash } from "node:crypto";
 import { readFileSync } from "node:fs";
+import { basename } from "node:path";
 import { Engine, Fault } from "../engine.mjs";
 import { distance, entryOf, headOf, logOf, rhoOf, treeOf } from "../files.mjs";
+import { Portions, joined } from "../portions.mjs";
 
 const [, , place, folder] = process.argv;
 const engine = new Engine(new WebAssembly.Module(readFileSync(place)));
@@ -10,7 +12,7 @@ const cases = JSON.parse(readFileSync(`${folder}/cases.json`, "utf8"));
 const read = (name) => new Uint8Array(readFileSync(`${folder}/${name}`));
 const sum = (bytes) => createHash("sha256").update(bytes).digest("hex");
 const held = { name: null, span: null };
-let compared = 0, failed = 0;
+let compared = 0, failed = 0, cut = 0;
 
 function same(found, wanted, about) {
     compared += 1;
@@ -34,10 +36,25 @@ function answered(it) {
         const answer = engine[it.call](fileOf(it.file), it.point, BigInt(it.bound));
         return { ...answer, status: 0, text: `hits ${answer.ids.length}\n${Array.from(answer.ids, (id, i) => `${id} ${answer.tags[i]} ${answer.distances[i]}\n`).join("")}`, log: sum(answer.frame) };
     }
-    const logs = engine.put(read(it.logs));
-    const said = it.call === "prove" ? engine.prove(logs, Uint8Array.from(Buffer.from(it.root, "hex"))) : engine[it.call](fileOf(it.file), logs);
+    if (it.call === "prove") return proved(it, read(it.logs));
+    const logs = engine.put(read(it.logs)), said = engine[it.call](fileOf(it.file), logs);
     engine.free(logs);
     return said;
+}
+
+function proved(it, bytes) {
+    const logs = engine.put(bytes), said = engine.prove(logs, Uint8Array.from(Buffer.from(it.root, "hex")));
+    engine.free(logs);
+    return said;
+}
+
+// What is said of portions of at least `least` bytes, which come in pieces, is what is said of the whole file.
+function comparePortions(it, least, piece) {
+    const bytes = read(it.logs), portions = new Portions(least), all = [];
+    for (let at = 0; at < bytes.length; at += piece) all.push(...portions.add(bytes.subarray(at, at + piece)));
+    all.push(portions.rest());
+    same(joined(all.map((pieces) => proved(it, Buffer.concat(pieces)))), { status: it.status, text: it.text }, `${all.length} portions of ${it.about}`);
+    cut += all.length > 2 ? 1 : 0;
 }
 
 // What the picture tells of a query: each mark is allowed by the numbers that it shows, and the distances are those of the answers.
@@ -95,6 +112,8 @@ for (const it of cases) {
         answer = { status: error.status, text: null };
     }
     same([answer.status, answer.text, answer.log ?? null], [it.status, it.text, it.log ?? null], `${it.call} of ${it.about}`);
+    if (it.call === "prove") [[1, 1 << 20], [20000, 4093]].forEach(([least, piece]) => comparePortions(it, least, piece));
 }
-console.log(`page: ${compared} comparisons of the module with the program in node ${process.version}, ${failed} failed`);
+same(cut > 100, true, "more than a hundred files in more than two portions");
+console.log(`page: ${compared} comparisons of ${basename(place)} with the program in node ${process.version}, ${failed} failed`);
 process.exit(failed > 0 ? 1 : 0);

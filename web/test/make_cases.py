@@ -92,6 +92,17 @@ class Maker:
         return bytes(data)
 
 
+    def frames(self, whole):
+        """Frames of carried logs of some files, one behind the other, in part with a wrong length; and the root digest of one of the files."""
+        draw, parts = self.draw, []
+        for it in draw.choices(whole, k=draw.randrange(1, 4)):
+            frame = bytearray(self.read(it["name"] + ".proof"))
+            if draw.randrange(4) == 0:
+                frame[draw.choice([0, 4, 5, 6, 7])] ^= 1 << draw.randrange(8)
+            parts.append(bytes(frame) + bytes(draw.choice([0, 0, 0, 7, 8, 9])))
+        return b"".join(parts), draw.choice(whole)["root"]
+
+
 def make(program, folder, count):
     """The cases of each file and of `count` damaged sets, in `folder`; and the whole ones with their files' names."""
     maker, whole = Maker(program, folder), []
@@ -122,6 +133,10 @@ def make(program, folder, count):
         maker.judge(f"damaged {number} of {it['name']}", file, logs, carried, it["root"])
         maker.tell(f"damaged {number} of {it['name']}", file, logs)
         maker.ask(f"damaged {number} of {it['name']}", file, maker.draw.choice(["range", "nearest"]), maker.draw.choice([1, 100, 1 << 40]), maker.point(it["dim"], it["most"], it["metric"]), False)
+    for number in range(count // 4):
+        carried, root = maker.frames(whole)
+        carried = maker.keep(carried)
+        maker.add("prove", f"frames together {number}", maker.run("proof", "--log", carried, "--root", root), logs=carried, root=root)
     with open(os.path.join(folder, "cases.json"), "w") as out:
         json.dump(maker.cases, out)
     return maker, whole

@@ -9,6 +9,8 @@ import http.server
 import json
 import os
 import pathlib
+import platform
+import random
 import shutil
 import struct
 import subprocess
@@ -23,7 +25,11 @@ PROGRAM, OUT = os.path.abspath(sys.argv[1]), os.path.abspath(sys.argv[2])
 HERE = os.path.dirname(os.path.abspath(__file__))
 METRICS = ["", "hamming", "l1", "max", "kendall", "hausdorff", "mixsum", "mixmax", "l1cap"]
 IDLE = "return document.getElementById('busy').hidden && !document.getElementById('prove').disabled"
-MODULE = '<script type="text/plain" id="module" data-form="gzip, then base64">'
+MODULES = {"module": "module.wasm", "wide": "wide.wasm"}
+# The browser that is driven takes the wide module.
+MODULE = '<script type="text/plain" id="wide" data-form="gzip, then base64">'
+# It takes the plain one where it is told that its processor lacks what the other needs. Only one kind of processor can be told so.
+NOT_WIDE = ["--js-flags=--no-enable-sse4-1"]
 compared = failed = 0
 
 # Does steps on the page in its own window: a file is given as its bytes, and what stands on the page is told after each press.
@@ -201,20 +207,121 @@ def compare_contents(page, maker, it, room):
 
 
 def compare_large(page, room):
-    """An index that moves the module's memory while it is opened and judged."""
+    """An index that moves the module's memory while it is opened and judged, and carried logs that several workers judge."""
     path = os.path.join(room, "large.mt")
-    subprocess.run([PROGRAM, "gen", path, "--metric", "l1", "--dim", "8", "--count", "30000"], check=True, stdout=subprocess.DEVNULL)
+    run = lambda *words, given="": subprocess.run([PROGRAM, *words], input=given, stdout=subprocess.PIPE, stderr=subprocess.DEVNULL, text=True)
+    run("gen", path, "--metric", "l1", "--dim", "8", "--count", "30000")
     page.keys("index", path)
     page.wait(IDLE)
     holds(page.text("about"), "30,000", "a large index")
-    stats = subprocess.run([PROGRAM, "stats", path], check=True, stdout=subprocess.PIPE, text=True).stdout
-    holds(page.text("about"), f"{int(stats.splitlines()[-1].split()[3]):,}", "the leaves of a large index")
+    holds(page.text("about"), f"{int(run('stats', path).stdout.splitlines()[-1].split()[3]):,}", "the leaves of a large index")
     page.click("audit")
     page.wait(IDLE)
     holds(page.text("auditResult"), "sound", "the audit of a large index")
     page.click("nearest")
     page.wait(IDLE)
     holds(page.text("askResult"), "answers", "a query on a large index")
+    compare_carried(page, run, *large_carried(run, path, room))
+
+
+def large_carried(run, path, room):
+    """Makes some 25 MB of carried logs of an index, and returns their place and the index's digest."""
+    draw, logs, carried = random.Random(7), os.path.join(room, "large.log"), os.path.join(room, "large.proof")
+    asked = [f"nearest,9,{','.join(str(draw.randrange(65536)) for _ in range(8))}\n" for _ in range(1000)]
+
+    def carry(count):
+        run("batch", path, "--log", logs, given="".join(asked[:count]))
+        run("proof", path, "--log", logs, "--proof", carried)
+        return os.path.getsize(carried)
+
+    carry(max(6, min(25_000_000 // carry(1), 1000)))
+    return pathlib.Path(carried), run("seal", path).stdout.split()[-1]
+
+
+def compare_carried(page, run, place, root):
+    """Large files of carried logs: whole, damaged, cut, with a wrong length, with something behind, and under another digest."""
+    whole, draw = place.read_bytes(), random.Random(7)
+    place.unlink()
+    same(len(whole) > 1 << 24, True, "a large file of carried logs")
+    starts, at = [], 0
+    while at < len(whole):
+        starts.append(at)
+        at += 8 + int.from_bytes(whole[at : at + 8], "big")
+
+    def flipped(*places):
+        data = bytearray(whole)
+        for it in places:
+            data[it] ^= 1 << draw.randrange(8)
+        return bytes(data)
+
+    middle, other = starts[len(starts) // 2], root[:-1] + ("0" if root[-1] != "0" else "1")
+    given = {
+        "whole": whole, "under another digest": whole, "with bytes behind": whole + bytes(20), "cut at a frame": whole[:middle],
+        "cut in a length": whole[: middle + 3], "cut in a frame": whole[: middle + 3000], "damaged": flipped(*(draw.randrange(len(whole)) for _ in range(5))),
+        "with a wrong length": flipped(middle + 6), "with a huge length": flipped(middle), "with a wrong last length": flipped(starts[-1] + 5),
+    }
+    has_helpers = page.run("return navigator.hardwareConcurrency > 1")
+    for what, data in given.items():
+        digest = other if what == "under another digest" else root
+        # (a browser does not say that a file of the same name was chosen again)
+        place = place.with_name(f"{what}.proof")
+        place.write_bytes(data)
+        page.keys("carried", str(place))
+        page.fill("digest", digest)
+        page.click("prove")
+        page.wait(IDLE, seconds=120)
+        told = run("proof", "--log", str(place), "--root", digest)
+        same("workers side by side" in page.text("proveResult"), has_helpers, f"how carried logs {what} are judged")
+        same(page.run("return document.querySelector('#proveResult pre.said').textContent"), told.stdout, f"the lines of carried logs {what}")
+        same(page.text("proveResult").startswith("✓ proved" if told.returncode == 0 else "✗ rejected"), True, f"the verdict of carried logs {what}")
+        place.unlink()
+    place.write_bytes(data)
+    compare_alone(page, place, root, told)
+    place.unlink()
+
+
+def compare_alone(page, place, root, told):
+    """Where a helper stops or refuses a portion, the whole file is judged by one call. `told` is what the program says of the file."""
+    text, line = pathlib.Path(OUT, "mtree.html").read_text(), "script = URL.createObjectURL(new Blob([text]"
+    same(text.count(line), 1, "the line of the page that names the script of helpers")
+    for what, script in (("stops", "throw new Error('it stops');"), ("refuses", "onmessage = () => postMessage({ id: 0, fault: 'it refuses', status: -1 });")):
+        changed = place.with_suffix(".html")
+        changed.write_text(text.replace(line, line.replace("text", json.dumps(script))))
+        page.go(changed.as_uri())
+        page.wait("return document.documentElement.dataset.ready === 'yes'")
+        page.keys("carried", str(place))
+        page.fill("digest", root)
+        page.click("prove")
+        page.wait(IDLE, seconds=120)
+        same("side by side" in page.text("proveResult"), False, f"how a file is judged where a helper {what}")
+        same(page.run("return document.querySelector('#proveResult pre.said').textContent"), told.stdout, f"the lines of carried logs where a helper {what}")
+    page.logs("browser")
+    page.go(pathlib.Path(OUT, "mtree.html").as_uri())
+    page.wait("return document.documentElement.dataset.ready === 'yes'")
+
+
+def compare_plain(maker, room):
+    """A browser that can't take the wide module takes the plain one, and judges as the program does."""
+    if platform.machine() != "x86_64":
+        print("page: only a browser on x86_64 can be told to do without SIMD, so the plain module is not tried in one")
+        return
+    page = browser.Browser(room, words=NOT_WIDE)
+    try:
+        page.go(pathlib.Path(OUT, "mtree.html").as_uri())
+        page.wait("return document.documentElement.dataset.ready === 'yes'")
+        compare_taken(page, "module", "plain")
+        compare_judges(page, maker, 20)
+        same([line["message"] for line in page.logs("browser")], [], "complaints of the browser that takes the plain module")
+    finally:
+        page.close()
+
+
+def compare_taken(page, name, word):
+    """The page says which module it took, and the digests of both."""
+    holds(page.text("state"), f"The {word} module is ready ({os.path.getsize(os.path.join(OUT, MODULES[name])):,} bytes)", "the module that is taken")
+    holds(page.text("taken"), f"took the {word} one", "the module that is taken")
+    for id, file in (("sumOfModule", "module.wasm"), ("sumOfWide", "wide.wasm")):
+        same(page.text(id), hashlib.sha256(pathlib.Path(OUT, file).read_bytes()).hexdigest(), f"the digest of {file}")
 
 
 def compare_sentences(page, maker, whole):
@@ -338,14 +445,16 @@ def main():
         folder = os.path.join(room, "cases")
         os.mkdir(folder)
         maker, whole = make_cases.make(PROGRAM, folder, 400)
-        if node is not None and subprocess.run([node, os.path.join(HERE, "compare.mjs"), os.path.join(OUT, "module.wasm"), folder]).returncode != 0:
-            return 1
+        for name in MODULES.values() if node is not None else ():
+            if subprocess.run([node, os.path.join(HERE, "compare.mjs"), os.path.join(OUT, name), folder]).returncode != 0:
+                return 1
         if not has_browser:
             return 0
         page = browser.Browser(room)
         try:
             page.go(pathlib.Path(OUT, "mtree.html").as_uri())
             page.wait("return document.documentElement.dataset.ready === 'yes'")
+            compare_taken(page, "wide", "wide")
             compare_judges(page, maker, 80)
             compare_sentences(page, maker, whole)
             compare_reader(page, maker, whole, room)
@@ -357,6 +466,7 @@ def main():
             compare_requests(page)
         finally:
             page.close()
+        compare_plain(maker, room)
         print(f"page: {compared} comparisons of the page with the program in Chromium {page.version}, {failed} failed; {len(requests)} requests, and none left it")
         return 1 if failed else 0
 

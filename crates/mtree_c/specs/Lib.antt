@@ -3,3 +3,6 @@ pub mod Answers
 pub mod Each
 pub mod Texts
 pub mod Carrying
+pub mod Handed
+pub mod Making
+pub mod Sessions

@@ -1,10 +1,12 @@
 // Makes indexes, and runs scripts that change them.
 ghost use Rattle.std.specs.Prelude.{take};
-ghost use Rattle.c_sessions.specs.Handed.{HandsPlan, HandsSession};
-ghost use Rattle.c_sessions.specs.Making.{HandsIndex};
-ghost use Rattle.c_sessions.specs.Sessions.{IsSession};
+ghost use Rattle.mtree_c.specs.Handed.{HandsPlan, HandsSession};
+ghost use Rattle.mtree_c.specs.Making.{HandsIndex};
+ghost use Rattle.mtree_c.specs.Sessions.{IsSession};
 
-use c_sessions::{PlanSizes, SessionSizes, Shape, create_in, session_in, session_plan};
+use crate::making::{Shape, create_in};
+use crate::plans::{PlanSizes, session_plan};
+use crate::sessions::{SessionSizes, session_in};
 use plan_disk::Step;
 use std::alloc::Global;
 

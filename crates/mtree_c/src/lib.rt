@@ -10,7 +10,12 @@ mod changing;
 mod describing;
 mod each;
 mod judging;
+mod making;
+mod plans;
 mod rooms;
+mod row_plans;
+mod running;
+mod sessions;
 
 pub use answering::{Sizes, TaggedHit, mtree_nearest, mtree_range};
 pub use carrying::{CarriedSizes, mtree_carry};
@@ -20,6 +25,19 @@ pub use describing::{
 };
 pub use each::{mtree_nearest_each, mtree_range_each};
 pub use judging::{RootDigest, mtree_audit, mtree_check, mtree_proof, mtree_show, mtree_verify};
+pub use making::Shape;
+pub use plans::PlanSizes;
+pub use row_plans::{mtree_insert_plan, mtree_load_plan};
+pub use sessions::SessionSizes;
+
+/// The file is longer than the buffer that it stands in.
+pub(crate) const NO_FILE: u8 = 2;
+
+/// No index has this shape.
+pub(crate) const NO_HEAD: u8 = 2;
+
+/// The numbers are no rows.
+pub(crate) const NO_ROWS: u8 = 2;
 
 /// The query can't be answered: a point is not in the file's space, the points have another size, or none of the nearest are asked for.
 pub(crate) const NO_QUERY: u8 = 2;

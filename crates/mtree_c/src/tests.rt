@@ -1,10 +1,9 @@
 use crate::{
-    CarriedSizes, Description, RootDigest, Sizes, TaggedHit, mtree_audit, mtree_carry, mtree_check,
-    mtree_create_in, mtree_describe, mtree_dump, mtree_nearest, mtree_nearest_each, mtree_proof,
-    mtree_range, mtree_range_each, mtree_seal, mtree_session_in, mtree_session_plan, mtree_shape,
-    mtree_show, mtree_stats, mtree_verify,
+    CarriedSizes, Description, PlanSizes, RootDigest, SessionSizes, Shape, Sizes, TaggedHit,
+    mtree_audit, mtree_carry, mtree_check, mtree_create_in, mtree_describe, mtree_dump,
+    mtree_nearest, mtree_nearest_each, mtree_proof, mtree_range, mtree_range_each, mtree_seal,
+    mtree_session_in, mtree_session_plan, mtree_shape, mtree_show, mtree_stats, mtree_verify,
 };
-use c_sessions::{PlanSizes, SessionSizes, Shape};
 use plan_disk::Step;
 use std::alloc::{AllocError, Global};
 use std::test::Fail;

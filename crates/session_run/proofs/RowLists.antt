@@ -3,6 +3,7 @@ use Rattle.std.proofs.Common.{◌≡◌, ℕ, zero, suc, Bool, true, false, Opti
 use Rattle.std.proofs.lemmas.List.{drop-drop, length-take-le}
 use Rattle.std.proofs.lemmas.List.Elements.{All-append, All-cons}
 use Rattle.std.proofs.Common.{length-append, length-drop}
+use Rattle.std.specs.Prelude.{IsTrue}
 use Rattle.std.proofs.lemmas.Option.{none-some}
 use Rattle.metric_laws.specs.Rows.{rows_of}
 use Rattle.node_page.specs.Nodes.{firsts}
@@ -53,6 +54,6 @@ abbrev found_or : List ℕ → Option (List ℕ) → List ℕ
 found_or other None = other
 found_or other (Some tags) = tags
 
-pub each_has : (tagged : Bool) (tags found : List ℕ) → tags_if tagged tags ≡ Some found → length found ≡ length tags
-each_has true tags found is = ap (λ (o : Option (List ℕ)). length (found_or tags o)) (sym is)
-each_has false tags found is = absurd (none-some found is)
+pub each_has : (tagged : Bool) (tags found : List ℕ) (count : ℕ) → (IsTrue tagged → length tags ≡ count) → tags_if tagged tags ≡ Some found → length found ≡ count
+each_has true tags found count each is = ap (λ (o : Option (List ℕ)). length (found_or tags o)) (sym is) ∙ each refl
+each_has false tags found count each is = absurd (none-some found is)

@@ -1,6 +1,6 @@
 //! Rows that are given as numbers, to be loaded or inserted.
 
-ghost use Rattle.std.specs.Prelude.{◌≡◌, ◌≤◌, ◌<◌, ◌*◌, ◌^◌, [], ◌∷◌, All, length, IfOk};
+ghost use Rattle.std.specs.Prelude.{◌≡◌, ◌≤◌, ◌<◌, ◌*◌, ◌^◌, IsTrue, [], ◌∷◌, All, length, IfOk};
 ghost use Rattle.std.specs.Option.{ForSome};
 ghost use Rattle.metric_laws.specs.Rows.{rows_of};
 ghost use Rattle.rows_text.specs.Readable.{IsReadable};
@@ -66,7 +66,7 @@ impl GivenRows {
     ) -> Result<Self, Memory>
         requires whole { length cells.now ≡ count * width }
         requires few { count < 2 ^ 32 }
-        requires each { length tags.now ≡ count }
+        requires each { IsTrue tagged → length tags.now ≡ count }
         ensures rows { IfOk result (λ given. given.rows ≡ record { words = width; points = rows_of width count cells.now }) }
         ensures tags { IfOk result (λ given. given.tags ≡ tags_if tagged tags.now) }
     {

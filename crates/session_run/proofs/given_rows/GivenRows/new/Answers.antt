@@ -11,5 +11,5 @@ invariant_of-result c =
       as_wide = ap (λ (t : Table). t.words) c.in_ok-rows.ensures;
       wide = subst (All (λ (p : List ℕ). length p ≡ c.args.width)) (sym points) (rows_are_wide c.args.width c.args.count c.args.cells.now (omega (arith, c.requires.whole)));
       few = omega (arith, many, c.requires.few);
-      each = λ ts is. each_has c.args.tagged c.args.tags.now ts (sym c.in_ok-tags.ensures ∙ is) ∙ c.requires.each ∙ sym many;
+      each = λ ts is. each_has c.args.tagged c.args.tags.now ts c.args.count c.requires.each (sym c.in_ok-tags.ensures ∙ is) ∙ sym many;
     }

@@ -2,7 +2,7 @@
 ghost use Rattle.std.specs.Prelude.{◌≡◌, IfSome, IfNone};
 ghost use Rattle.node_page.specs.Heads.{IsLawfulHead, is_limit, is_policy, is_space};
 ghost use Rattle.shadow_root.specs.Making.{IsMade};
-ghost use Rattle.c_sessions.specs.Making.{HandsIndex, head_with};
+ghost use Rattle.mtree_c.specs.Making.{HandsIndex, head_with};
 
 use crate::running::{MOST, file_after};
 use crate::{MEMORY, NO_HEAD, SHORT};

@@ -1,7 +1,7 @@
 use Rattle.std.proofs.Common.{◌≡◌, length, refl, subst, arith, inl, inr}
 use Rattle.node_page.specs.Heads.{IsLawfulHead}
 use Rattle.shadow_root.specs.Making.{IsMade}
-use Rattle.c_sessions.proofs.making.create_in.Goals as goal
+use Rattle.mtree_c.proofs.making.create_in.Goals as goal
 
 pub returns-then-len-room : goal.returns-then-len-room
 returns-then-len-room c =

@@ -2,8 +2,8 @@
 ghost use Rattle.std.specs.Prelude.{◌≡◌, ◌≢◌, ◌⊎◌, ◌<◌, IfSome, length, take};
 ghost use Rattle.caller_ends.specs.Rooms.{StandAtFront};
 ghost use Rattle.plan_disk.specs.Plan.{Plan, file_of};
-ghost use Rattle.c_sessions.specs.Handed.{HandsSession};
-ghost use Rattle.c_sessions.specs.Sessions.{IsSession};
+ghost use Rattle.mtree_c.specs.Handed.{HandsSession};
+ghost use Rattle.mtree_c.specs.Sessions.{IsSession};
 
 use crate::running::{file_after, run};
 use crate::{MEMORY, NO_FILE, SHORT};

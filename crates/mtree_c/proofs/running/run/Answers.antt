@@ -1,7 +1,7 @@
 use Rattle.std.proofs.Common.{◌≡◌, subst, Some, rules, arith}
 use Rattle.plan_disk.specs.Plan.{IsWhole}
-use Rattle.c_sessions.proofs.Ran.{is_session}
-use Rattle.c_sessions.proofs.running.run.Goals as goal
+use Rattle.mtree_c.proofs.Ran.{is_session}
+use Rattle.mtree_c.proofs.running.run.Goals as goal
 
 pub returns : goal.returns
 returns c =

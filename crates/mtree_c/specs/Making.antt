@@ -4,7 +4,7 @@ use Rattle.node_page.specs.Heads.{IsLawfulHead}
 use Rattle.node_page.specs.declared.head.Head.{Head}
 use Rattle.shadow_root.specs.Making.{IsMade}
 use Rattle.caller_ends.specs.Rooms.{StandAtFront}
-use Rattle.c_sessions.specs.declared.making.Shape.{Shape}
+use Rattle.mtree_c.specs.declared.making.Shape.{Shape}
 
 -- the head of a file of this shape
 abbrev pub head_with : Shape → Head

@@ -1,11 +1,12 @@
 -- A session that met no fault, in the terms of the file and the script.
-use Rattle.std.proofs.Common.{◌≡◌, ◌≢◌, ◌⊎◌, inl, inr, ℕ, ◌^◌, ◌<◌, Bool, List, [], ◌++◌, length, length-append, Option, None, Some, subst, sym, ap, arith}
+use Rattle.std.proofs.Common.{◌≡◌, ◌≢◌, ◌⊎◌, inl, inr, ℕ, ◌^◌, ◌<◌, Bool, false, List, [], ◌++◌, length, length-append, Option, None, Some, subst, sym, ap, arith}
 use Rattle.std.specs.Prelude.{IfSome}
 use Rattle.outside_io.specs.Bytes.{TakesUpTo}
 use Rattle.outside_io.specs.Causes.{Rose}
 use Rattle.plan_disk.specs.Plan.{Plan, IsWhole, plan_state}
-use Rattle.session_run.specs.Job.{IsComplete, IsSessionStatus, RunsSession}
-use Rattle.c_sessions.specs.Sessions.{IsSession, holding, untouched}
+use Rattle.rows_text.specs.declared.command.Command.{Command}
+use Rattle.session_run.specs.Job.{HasRefused, IsComplete, IsSessionStatus, RunsAsked, RunsSession}
+use Rattle.mtree_c.specs.Sessions.{IsAsked, IsSession, holding, untouched}
 
 unmoved : Rose 0 0 → ⊥
 unmoved rose = omega (arith, rose)
@@ -50,6 +51,29 @@ module _ (show : Bool) (script file : List ℕ) (plan : Plan) (text log : List �
     complete = λ few tells head live sound none. complete few tells head live sound no_fault;
     long = taken_long script left status takes;
     statuses = ends statuses input output memory;
+  }
+
+module _ (asked : ℕ → List Command) (file : List ℕ) (plan : Plan) (text log : List ℕ) (status : ℕ) (faultless : plan.faults ≡ 0)
+    (refused : HasRefused (plan_state (untouched file)) (plan_state plan) (holding []) (holding text) (holding []) (holding log) status) where
+  asked_ends : status ≢ 8 → (status ≡ 0) ⊎ ((status ≡ 6) ⊎ (status ≡ 9))
+  asked_ends memory = elim refused.statuses [
+    inl is ↦ inl is
+  | inr (inl four) ↦ elim (refused.output four) [ inl rose ↦ absurd (unmoved rose) | inr rose ↦ absurd (unmoved rose) ]
+  | inr (inr (inl five)) ↦ absurd (unmoved (subst (Rose 0) faultless (refused.disk five)))
+  | inr (inr (inr (inl is))) ↦ inr (inl is)
+  | inr (inr (inr (inr (inl eight)))) ↦ absurd (memory eight)
+  | inr (inr (inr (inr (inr is)))) ↦ inr (inr is)
+  ]
+
+  pub is_asked : RunsAsked false asked (plan_state (untouched file)) (plan_state plan) (holding []) (holding text) (holding []) (holding log) status
+      → plan.base ≡ file → IsWhole plan → status ≢ 8 → IsAsked asked file (record { plan = plan; text = text; log = log }) status
+  is_asked runs base whole memory = record {
+    base = base;
+    whole = whole;
+    faultless = faultless;
+    runs = runs;
+    refused = refused;
+    statuses = asked_ends memory;
   }
 
 -- what holds of a list holds of what is that list, where there is one

@@ -1,13 +1,14 @@
-// Hands over what a script would do to a file.
-ghost use Rattle.std.specs.Prelude.{◌≡◌, ◌≢◌, ◌⊎◌};
+// Hands over what a script, or what else is asked, would do to a file.
+ghost use Rattle.std.specs.Prelude.{◌≡◌, ◌≢◌, ◌⊎◌, []};
 ghost use Rattle.caller_ends.specs.Rooms.{StandAtFront};
-ghost use Rattle.c_sessions.specs.Handed.{HandsPlan, HasNoRoomForPlan, plan_sizes};
-ghost use Rattle.c_sessions.specs.Sessions.{IsSession};
+ghost use Rattle.mtree_c.specs.Handed.{HandsPlan, HasNoRoomForPlan, plan_sizes};
+ghost use Rattle.mtree_c.specs.Sessions.{IsAsked, IsSession};
 
-use crate::running::{Ran, run};
+use crate::running::{Ran, run, run_asked};
 use crate::{MEMORY, SHORT};
 use caller_ends::put_front;
 use plan_disk::Step;
+use session_run::Requests;
 use std::alloc::Global;
 
 /// The sizes of a plan.
@@ -25,7 +26,7 @@ pub struct PlanSizes {
 }
 
 /// The sizes where nothing is handed over.
-const NO_PLAN: PlanSizes = PlanSizes {
+pub const NO_PLAN: PlanSizes = PlanSizes {
     steps: 0,
     written: 0,
     text: 0,
@@ -92,6 +93,26 @@ pub fn session_plan(
     *sizes = NO_PLAN;
     match run(alloc, file, show_tags, script) {
         Some(ran) => hand_plan(&ran, steps, written, text, log, sizes),
+        None => MEMORY,
+    }
+}
+
+/// Hands over what a session would do to a file that is asked `requests`. It has no log.
+pub fn asked_plan<S: Requests>(
+    alloc: Global,
+    file: &[u8],
+    requests: S,
+    steps: &mut [Step],
+    written: &mut [u8],
+    text: &mut [u8],
+    sizes: &mut PlanSizes,
+) -> u8
+    ensures { HandsPlan (IsAsked (S.commands requests) file.now) steps.old steps.new written.old written.new text.old text.new [] []
+        sizes.new result }
+{
+    *sizes = NO_PLAN;
+    match run_asked(alloc, file, requests) {
+        Some(ran) => hand_plan(&ran, steps, written, text, &mut [], sizes),
         None => MEMORY,
     }
 }

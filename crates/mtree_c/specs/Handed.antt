@@ -3,9 +3,9 @@ use Rattle.std.specs.Prelude.{◌≡◌, ◌≢◌, ◌⊎◌, ◌<◌, ℕ, Lis
 use Rattle.caller_ends.specs.Rooms.{StandAtFront}
 use Rattle.plan_disk.specs.Plan.{file_of}
 use Rattle.plan_disk.specs.declared.step.Step.{Step}
-use Rattle.c_sessions.specs.Sessions.{Session}
-use Rattle.c_sessions.specs.declared.plans.PlanSizes.{PlanSizes}
-use Rattle.c_sessions.specs.declared.sessions.SessionSizes.{SessionSizes}
+use Rattle.mtree_c.specs.Sessions.{Session}
+use Rattle.mtree_c.specs.declared.plans.PlanSizes.{PlanSizes}
+use Rattle.mtree_c.specs.declared.sessions.SessionSizes.{SessionSizes}
 
 -- ---- the plan
 
