@@ -4,4 +4,4 @@ use Rattle.job_tests.proofs.making.generate.Goals as goal
 
 pub generate_index-requires-clause-lawful : goal.generate_index-requires-clause-lawful
 unfolding is_version is_space is_policy is_limit
-generate_index-requires-clause-lawful g c = λ κs within. record { version = refl; space = refl; policy = refl; limit = refl }
+generate_index-requires-clause-lawful g c = record { version = refl; space = refl; policy = refl; limit = refl }
