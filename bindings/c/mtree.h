@@ -2,7 +2,7 @@
 
    Each call takes the bytes of an index file, read or mapped, and answers into the caller's buffers. The library keeps nothing
    between calls, opens no file and writes none: mtree_create_in and mtree_session_in make and change an index in a buffer, and
-   mtree_session_plan says what to write to a file. Every call may run in any thread, beside others.
+   mtree_session_plan, mtree_load_plan and mtree_insert_plan say what to write to a file. Every call may run in any thread, beside others.
 
    The caller sees to it that no process writes the file while a call reads it. The programs of mtree hold a file by an advisory
    lock: shared where they read it, exclusive where they write it. A caller does the same:
@@ -194,6 +194,21 @@ struct mtree_plan_sizes {
 uint8_t mtree_session_plan(const uint8_t *file, size_t file_size, bool show_tags, const uint8_t *script, size_t script_size,
                            struct mtree_step *steps, size_t steps_room, uint8_t *written, size_t written_room, uint8_t *text,
                            size_t text_room, uint8_t *log, size_t log_room, struct mtree_plan_sizes *sizes);
+
+/* What mtree_session_plan does, for one load of all rows into an index that is empty. `count` rows of `width` numbers stand one after
+   another in `rows`, which has `numbers` numbers in all. Where `tagged` is true, row i has the tag i of `tags`; else its tag is its id.
+   The reply is that of `load`. Rows of another width than the index's are refused. Status 2: `numbers` is not `count` times `width`,
+   `count` is 2^32 or more, or the rows are tagged and `tags_count` is not `count`. No log comes to `log`. */
+uint8_t mtree_load_plan(const uint8_t *file, size_t file_size, const uint32_t *rows, size_t numbers, size_t width, size_t count,
+                        bool tagged, const uint64_t *tags, size_t tags_count, struct mtree_step *steps, size_t steps_room,
+                        uint8_t *written, size_t written_room, uint8_t *text, size_t text_room, uint8_t *log, size_t log_room,
+                        struct mtree_plan_sizes *sizes);
+
+/* What mtree_session_plan does, for an insert of each row, in order. All else is as in mtree_load_plan, with the replies of `insert`. */
+uint8_t mtree_insert_plan(const uint8_t *file, size_t file_size, const uint32_t *rows, size_t numbers, size_t width, size_t count,
+                          bool tagged, const uint64_t *tags, size_t tags_count, struct mtree_step *steps, size_t steps_room,
+                          uint8_t *written, size_t written_room, uint8_t *text, size_t text_room, uint8_t *log, size_t log_room,
+                          struct mtree_plan_sizes *sizes);
 
 #ifdef __cplusplus
 }

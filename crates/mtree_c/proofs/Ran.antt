@@ -55,15 +55,13 @@ module _ (show : Bool) (script file : List ℕ) (plan : Plan) (text log : List �
 
 module _ (asked : ℕ → List Command) (file : List ℕ) (plan : Plan) (text log : List ℕ) (status : ℕ) (faultless : plan.faults ≡ 0)
     (refused : HasRefused (plan_state (untouched file)) (plan_state plan) (holding []) (holding text) (holding []) (holding log) status) where
-  asked_ends : status ≢ 8 → (status ≡ 0) ⊎ ((status ≡ 6) ⊎ (status ≡ 9))
-  asked_ends memory = elim refused.statuses [
-    inl is ↦ inl is
-  | inr (inl four) ↦ elim (refused.output four) [ inl rose ↦ absurd (unmoved rose) | inr rose ↦ absurd (unmoved rose) ]
-  | inr (inr (inl five)) ↦ absurd (unmoved (subst (Rose 0) faultless (refused.disk five)))
-  | inr (inr (inr (inl is))) ↦ inr (inl is)
-  | inr (inr (inr (inr (inl eight)))) ↦ absurd (memory eight)
-  | inr (inr (inr (inr (inr is)))) ↦ inr (inr is)
-  ]
+  asked_ends : (status ≡ 0) ⊎ ((status ≡ 4) ⊎ ((status ≡ 5) ⊎ ((status ≡ 6) ⊎ ((status ≡ 8) ⊎ (status ≡ 9))))) → status ≢ 8 → (status ≡ 0) ⊎ ((status ≡ 6) ⊎ (status ≡ 9))
+  asked_ends (inl is) memory = inl is
+  asked_ends (inr (inl four)) memory = elim (refused.output four) [ inl rose ↦ absurd (unmoved rose) | inr rose ↦ absurd (unmoved rose) ]
+  asked_ends (inr (inr (inl five))) memory = absurd (unmoved (subst (Rose 0) faultless (refused.disk five)))
+  asked_ends (inr (inr (inr (inl is)))) memory = inr (inl is)
+  asked_ends (inr (inr (inr (inr (inl eight))))) memory = absurd (memory eight)
+  asked_ends (inr (inr (inr (inr (inr is))))) memory = inr (inr is)
 
   pub is_asked : RunsAsked false asked (plan_state (untouched file)) (plan_state plan) (holding []) (holding text) (holding []) (holding log) status
       → plan.base ≡ file → IsWhole plan → status ≢ 8 → IsAsked asked file (record { plan = plan; text = text; log = log }) status
@@ -73,7 +71,7 @@ module _ (asked : ℕ → List Command) (file : List ℕ) (plan : Plan) (text lo
     faultless = faultless;
     runs = runs;
     refused = refused;
-    statuses = asked_ends memory;
+    statuses = asked_ends refused.statuses memory;
   }
 
 -- what holds of a list holds of what is that list, where there is one

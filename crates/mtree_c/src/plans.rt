@@ -1,5 +1,5 @@
 // Hands over what a script, or what else is asked, would do to a file.
-ghost use Rattle.std.specs.Prelude.{◌≡◌, ◌≢◌, ◌⊎◌, []};
+ghost use Rattle.std.specs.Prelude.{◌≡◌, ◌≢◌, ◌⊎◌};
 ghost use Rattle.caller_ends.specs.Rooms.{StandAtFront};
 ghost use Rattle.mtree_c.specs.Handed.{HandsPlan, HasNoRoomForPlan, plan_sizes};
 ghost use Rattle.mtree_c.specs.Sessions.{IsAsked, IsSession};
@@ -97,7 +97,7 @@ pub fn session_plan(
     }
 }
 
-/// Hands over what a session would do to a file that is asked `requests`. It has no log.
+/// Hands over what a session would do to a file that is asked `requests`.
 pub fn asked_plan<S: Requests>(
     alloc: Global,
     file: &[u8],
@@ -105,14 +105,15 @@ pub fn asked_plan<S: Requests>(
     steps: &mut [Step],
     written: &mut [u8],
     text: &mut [u8],
+    log: &mut [u8],
     sizes: &mut PlanSizes,
 ) -> u8
-    ensures { HandsPlan (IsAsked (S.commands requests) file.now) steps.old steps.new written.old written.new text.old text.new [] []
-        sizes.new result }
+    ensures { HandsPlan (IsAsked (S.commands requests) file.now) steps.old steps.new written.old written.new text.old text.new log.old
+        log.new sizes.new result }
 {
     *sizes = NO_PLAN;
     match run_asked(alloc, file, requests) {
-        Some(ran) => hand_plan(&ran, steps, written, text, &mut [], sizes),
+        Some(ran) => hand_plan(&ran, steps, written, text, log, sizes),
         None => MEMORY,
     }
 }

@@ -1,5 +1,5 @@
 // Hands over what a load or inserts of rows would do to a file.
-ghost use Rattle.std.specs.Prelude.{◌≡◌, ◌⊎◌, [], IfOk, IfErr};
+ghost use Rattle.std.specs.Prelude.{◌≡◌, ◌⊎◌, IfOk, IfErr};
 ghost use Rattle.metric_laws.specs.Rows.{rows_of};
 ghost use Rattle.session_run.specs.GivenRows.{inserts_of, load_of, tags_if};
 ghost use Rattle.mtree_c.specs.Handed.{HandsPlan};
@@ -23,7 +23,8 @@ fn given_rows(
     ensures are { IfOk result (λ given. AreRows width count tagged rows.now tags.now) }
     ensures rows { IfOk result (λ given. given.rows ≡ record { words = width; points = rows_of width count rows.now }) }
     ensures tags { IfOk result (λ given. given.tags ≡ tags_if tagged tags.now) }
-    ensures no_rows { IfErr result (λ status. ((status ≡ 2) × (¬ AreRows width count tagged rows.now tags.now)) ⊎ (status ≡ 8)) }
+    ensures no_rows { IfErr result (λ status. ((status ≡ 2) × (¬ AreRows width count tagged rows.now tags.now))
+        ⊎ ((status ≡ 8) × AreRows width count tagged rows.now tags.now)) }
 {
     let is_whole = count.checked_mul(width) == Some(rows.len());
     if !is_whole || count >= 1 << 32 || (tagged && tags.len() != count) {
@@ -37,7 +38,7 @@ fn given_rows(
 
 /// Does what `mtree_session_plan` does for a load of all rows into an index that is empty. `count` rows of `width` numbers stand one after
 /// another in `rows`. Where they are `tagged`, row i has the tag i of `tags`, else its id. The reply is that of `tload`, or of `load`. A
-/// row of another number of coordinates than the index has is refused. With status 2 these are no such rows. There is no log.
+/// row of another number of coordinates than the index has is refused. With status 2 these are no such rows.
 #[unsafe(no_mangle)]
 pub extern "C" fn mtree_load_plan(
     alloc: Global,
@@ -50,17 +51,27 @@ pub extern "C" fn mtree_load_plan(
     steps: &mut [Step],
     written: &mut [u8],
     text: &mut [u8],
+    log: &mut [u8],
     sizes: &mut PlanSizes,
 ) -> u8
     ensures plan { AreRows width count tagged rows.now tags.now →
         HandsPlan (IsAsked (load_of (record { words = width; points = rows_of width count rows.now }) (tags_if tagged tags.now)) file.now)
-        steps.old steps.new written.old written.new text.old text.new [] [] sizes.new result }
+        steps.old steps.new written.old written.new text.old text.new log.old log.new sizes.new result }
     ensures no_rows { ¬ AreRows width count tagged rows.now tags.now →
-        (result ≡ 2) × (steps.new ≡ steps.old) × (written.new ≡ written.old) × (text.new ≡ text.old) }
+        (result ≡ 2) × (steps.new ≡ steps.old) × (written.new ≡ written.old) × (text.new ≡ text.old) × (log.new ≡ log.old) }
 {
     *sizes = NO_PLAN;
     match given_rows(alloc, rows, width, count, tagged, tags) {
-        Ok(given) => asked_plan(alloc, file, RowsToLoad(given), steps, written, text, sizes),
+        Ok(given) => asked_plan(
+            alloc,
+            file,
+            RowsToLoad(given),
+            steps,
+            written,
+            text,
+            log,
+            sizes,
+        ),
         Err(status) => status,
     }
 }
@@ -79,13 +90,14 @@ pub extern "C" fn mtree_insert_plan(
     steps: &mut [Step],
     written: &mut [u8],
     text: &mut [u8],
+    log: &mut [u8],
     sizes: &mut PlanSizes,
 ) -> u8
     ensures plan { AreRows width count tagged rows.now tags.now →
         HandsPlan (IsAsked (inserts_of (record { words = width; points = rows_of width count rows.now }) (tags_if tagged tags.now)) file.now)
-        steps.old steps.new written.old written.new text.old text.new [] [] sizes.new result }
+        steps.old steps.new written.old written.new text.old text.new log.old log.new sizes.new result }
     ensures no_rows { ¬ AreRows width count tagged rows.now tags.now →
-        (result ≡ 2) × (steps.new ≡ steps.old) × (written.new ≡ written.old) × (text.new ≡ text.old) }
+        (result ≡ 2) × (steps.new ≡ steps.old) × (written.new ≡ written.old) × (text.new ≡ text.old) × (log.new ≡ log.old) }
 {
     *sizes = NO_PLAN;
     match given_rows(alloc, rows, width, count, tagged, tags) {
@@ -96,6 +108,7 @@ pub extern "C" fn mtree_insert_plan(
             steps,
             written,
             text,
+            log,
             sizes,
         ),
         Err(status) => status,

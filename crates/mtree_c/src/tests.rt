@@ -1,8 +1,9 @@
 use crate::{
     CarriedSizes, Description, PlanSizes, RootDigest, SessionSizes, Shape, Sizes, TaggedHit,
     mtree_audit, mtree_carry, mtree_check, mtree_create_in, mtree_describe, mtree_dump,
-    mtree_nearest, mtree_nearest_each, mtree_proof, mtree_range, mtree_range_each, mtree_seal,
-    mtree_session_in, mtree_session_plan, mtree_shape, mtree_show, mtree_stats, mtree_verify,
+    mtree_insert_plan, mtree_load_plan, mtree_nearest, mtree_nearest_each, mtree_proof,
+    mtree_range, mtree_range_each, mtree_seal, mtree_session_in, mtree_session_plan, mtree_shape,
+    mtree_show, mtree_stats, mtree_verify,
 };
 use plan_disk::Step;
 use std::alloc::{AllocError, Global};
@@ -487,6 +488,13 @@ const NO_STEP: Step = Step {
     is_sync: false,
 };
 
+const NO_PLAN: PlanSizes = PlanSizes {
+    steps: 9,
+    written: 9,
+    text: 9,
+    log: 9,
+};
+
 // The plan of an insert: what it leaves is what the session leaves in a buffer.
 #[test]
 fn a_plan_leaves_what_the_session_leaves(rt: HostRuntime) -> Result<(), Fail> {
@@ -495,12 +503,7 @@ fn a_plan_leaves_what_the_session_leaves(rt: HostRuntime) -> Result<(), Fail> {
     let mut steps = [NO_STEP; 20];
     let mut written = [0u8; 20_000];
     let mut text = [0u8; 5];
-    let mut sizes = PlanSizes {
-        steps: 9,
-        written: 9,
-        text: 9,
-        log: 9,
-    };
+    let mut sizes = NO_PLAN;
     let file = file(alloc)?;
     let status = mtree_session_plan(
         alloc,
@@ -547,6 +550,61 @@ fn a_plan_leaves_what_the_session_leaves(rt: HostRuntime) -> Result<(), Fail> {
         &mut sizes,
     );
     assert!(rt; (short, sizes.text) == (4, 5));
+    Ok(())
+}
+
+// Plans of rows for the file of two numbers: the numbers, how many rows they are said to be, the expected status, and the replies to
+// inserts and to a load.
+type RowPlan = (&'static [u32], usize, u8, &'static [u8], &'static [u8]);
+
+const ROW_PLANS: [RowPlan; 3] = [
+    (&[5], 1, 0, b"id 2\n", b"refused notempty\n"),
+    (&[], 0, 0, b"", b"refused count\n"),
+    (&[5], 2, 2, b"", b""),
+];
+
+#[test]
+fn plans_of_rows(rt: HostRuntime) -> Result<(), Fail> {
+    let alloc = rt.alloc();
+    let file = file(alloc)?;
+    for (rows, count, status, inserted, loaded) in &ROW_PLANS {
+        let mut steps = [NO_STEP; 20];
+        let mut written = buffer(alloc, 20_000)?;
+        let mut text = buffer(alloc, 20)?;
+        let mut sizes = NO_PLAN;
+        let found = mtree_insert_plan(
+            alloc,
+            &file,
+            rows,
+            1,
+            *count,
+            false,
+            &[],
+            steps.as_mut_slice(),
+            written.as_mut_slice(),
+            text.as_mut_slice(),
+            &mut [],
+            &mut sizes,
+        );
+        assert!(rt; (found, sizes.text) == (*status, inserted.len()));
+        assert!(rt; text.starts_with(inserted));
+        let found = mtree_load_plan(
+            alloc,
+            &file,
+            rows,
+            1,
+            *count,
+            false,
+            &[],
+            steps.as_mut_slice(),
+            written.as_mut_slice(),
+            text.as_mut_slice(),
+            &mut [],
+            &mut sizes,
+        );
+        assert!(rt; (found, sizes.text) == (*status, loaded.len()));
+        assert!(rt; text.starts_with(loaded));
+    }
     Ok(())
 }
 
