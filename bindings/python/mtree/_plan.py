@@ -44,8 +44,6 @@ class Asked(NamedTuple):
     """The call of the library."""
     words: Tuple[Any, ...]
     """What it is told besides the file."""
-    log: Tuple[Any, ...]
-    """The buffer of its log, where it takes one. Nothing is logged."""
     bytes_at_first: int
     """For how many bytes of writes there is room at first."""
     kept: Any
@@ -77,14 +75,14 @@ def _takes_rows() -> bool:
 
 
 def _of_script(script: bytes, room: int) -> Asked:
-    return Asked("mtree_session_plan", (False, script, len(script)), (None, 0), room, script)
+    return Asked("mtree_session_plan", (False, script, len(script)), room, script)
 
 
 def _of_rows(call: str, held: Tuple[int, int, Any], first: int, end: int, tags: Optional[List[str]], room: int) -> Asked:
     (place, width, kept), count = held, end - first
     marks = None if tags is None else (ctypes.c_uint64 * count)(*map(int, tags[first:end]))
     words = place + 4 * width * first, width * count, width, count, marks is not None, marks, 0 if marks is None else count
-    return Asked(call, words, (), room, kept)
+    return Asked(call, words, room, kept)
 
 
 def run(file: File, asked: Asked) -> Ran:
@@ -122,7 +120,7 @@ def _made(place: Any, size: int, asked: Asked) -> Tuple[int, List[Tuple[int, int
         # Of memory that is mapped only what is written is ever taken.
         room = mmap.mmap(-1, max(1, sizes.written))
         written = (ctypes.c_char * len(room)).from_buffer(room)
-        status = call(place, size, *asked.words, steps, len(steps), written, len(room), text, len(text), *asked.log, ctypes.byref(sizes))
+        status = call(place, size, *asked.words, steps, len(steps), written, len(room), text, len(text), None, 0, ctypes.byref(sizes))
         del written
         if status != _library.SHORT:
             break
