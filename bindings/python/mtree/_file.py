@@ -142,6 +142,25 @@ class File:
                 self._is_written = False
                 self._turn.notify_all()
 
+    def bytes_of(self, handle: int) -> Tuple[Any, int, Any]:
+        """Returns the place and the size of the bytes of the file that `handle` has open, within `writing`, and what has to live while they are
+        read. The file is locked by the caller. The map of this object serves where it is the same file."""
+        size, held = os.fstat(handle).st_size, None
+        own = self._opened()
+        if os.path.sameopenfile(handle, own.fileno()):
+            self._map_anew(own)
+            held = self._held
+        elif size:
+            held = (ctypes.c_char * size).from_buffer(mmap.mmap(handle, size, access=mmap.ACCESS_COPY))
+        return (None, 0, None) if held is None else (ctypes.addressof(held), size, held)
+
+    def keep_map(self) -> None:
+        """Keeps the map after this process wrote the file, within `writing`. A private map shows what the system holds of the file, as long as
+        nothing is written to the map itself. So it is only made anew where the size changed."""
+        now = os.fstat(self._opened().fileno())
+        if self._seen is not None and self._seen[0] == now.st_size:
+            self._seen = (now.st_size, now.st_mtime_ns)
+
     def state(self) -> State:
         """Reads the head and the live slot."""
         with self.reading() as (place, size):

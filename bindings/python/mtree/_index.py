@@ -21,8 +21,6 @@ _BLOCK = 4096
 """How many points one call of the library answers at most. Python hears of an interrupt between two calls."""
 _BLOCK_HITS = 1 << 20
 """How many hits the buffer of such a call is first made for, where more than one point is asked for."""
-_PLANNED = 1024
-"""How many rows one plan inserts at most. Its writes are in memory together."""
 _HIT_BYTES = ctypes.sizeof(_library.CHit)
 
 
@@ -89,23 +87,27 @@ class Index:
         program's, where there are more than one.
 
         Raises `NoQuery` where a row holds no whole numbers, `Refused` where the index refuses one or holds objects, and ValueError where the
-        rows take more than 64 MiB as a script."""
+        rows have to be handed over as a script, and it takes more than 64 MiB: to the program, or where they are of several lengths."""
         judged = Points(rows)
         return self._load(judged, None if tags is None else _points.tags(tags, len(judged)), workers)
 
     def _load(self, rows: Points, tags: Optional[List[str]], workers: int) -> int:
-        script = _program.load_script(rows.lines(), tags)
+        # The library builds by one thread.
+        plans = _plan.is_here() and (workers == 1 or not _program.is_here())
+        asked: Union[bytes, _plan.Asked]
+        asked = _plan.load(rows, tags) if plans else _program.load_script(rows.lines(), tags)
         with self._file.writing():
-            # The library builds by one thread.
-            if _plan.is_here() and (workers == 1 or not _program.is_here()):
-                ran = _plan.run(self._file.whole_path, script, (1 << 20) + 512 * len(rows))
-            else:
-                ran = _program.run(["session", self._file.whole_path, "--workers", str(workers)], script)
-        text = _program.said(ran)
+            text = _program.said(self._run(asked, ["--workers", str(workers)]))
         if not text.startswith("loaded "):
             words = text.split("\n", 1)[0]
             raise Refused(f"the load is {words}", int(words.rsplit(" ", 1)[1]) if words.startswith("refused row ") else 0, [])
         return int(text.split()[1])
+
+    def _run(self, asked: "Union[bytes, _plan.Asked]", options: List[str]) -> _program.Ran:
+        """Does what is asked to the file: by a plan, or by the program with a script."""
+        if isinstance(asked, bytes):
+            return _program.run(["session", self._file.whole_path, *options], asked)
+        return _plan.run(self._file, asked)
 
     def insert(self, rows: Any, tags: Any = None) -> List[int]:
         """Adds `rows`, of the shape (count, dim), one after another. Returns their ids. Each row is durable then.
@@ -119,13 +121,14 @@ class Index:
         labels = None if tags is None else _points.tags(tags, len(judged))
         ids: List[int] = []
         refused: List[Tuple[int, str]] = []
-        plans = _plan.is_here()
-        for script in _program.insert_scripts(judged.lines(), labels, _PLANNED if plans else None):
+        parts: Iterator[Union[bytes, _plan.Asked]]
+        if _plan.is_here():
+            parts = _plan.inserts(judged, labels)
+        else:
+            parts = _program.insert_scripts(judged.lines(), labels)
+        for asked in parts:
             with self._file.writing():
-                if plans:
-                    ran = _plan.run(self._file.whole_path, script, (1 << 20) + (1 << 15) * script.count(b"\n"))
-                else:
-                    ran = _program.run(["session", self._file.whole_path], script)
+                ran = self._run(asked, [])
             # A reply that was cut by the program's end is none.
             for line in ran[1].split("\n")[:-1]:
                 if line.startswith("id "):

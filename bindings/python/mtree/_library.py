@@ -69,7 +69,12 @@ def _load() -> Tuple[Optional[ctypes.CDLL], str]:
         "mtree_proof": [place, size, place, place, size, place],
     }
     # A library of an earlier version has none, and the program changes the index.
-    later: Dict[str, List[Any]] = {"mtree_session_plan": [place, size, ctypes.c_bool, place, size, place, size, place, size, place, size, place, size, place]}
+    rows = [place, size, place, size, size, size, ctypes.c_bool, place, size, place, size, place, size, place, size, place]
+    later: Dict[str, List[Any]] = {
+        "mtree_session_plan": [place, size, ctypes.c_bool, place, size, place, size, place, size, place, size, place, size, place],
+        "mtree_load_plan": rows,
+        "mtree_insert_plan": rows,
+    }
     for call_name, arguments in {**calls, **later}.items():
         call = getattr(library, call_name, None)
         if call is not None:

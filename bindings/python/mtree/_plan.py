@@ -6,16 +6,22 @@ import ctypes
 import fcntl
 import mmap
 import os
-from typing import Any, List, Tuple
+from typing import Any, Iterator, List, NamedTuple, Optional, Tuple
 
-from . import _library
+from . import _library, _program
 from ._errors import InUse
+from ._file import File
+from ._points import Points
 from ._program import Ran
 
 _SYNCS_OF_OPENING, _SYNCS_OF_COMMIT = 1, 3
 """How many syncs stand in a plan before the first commit, and how many each commit has, the last of them behind its last write."""
 _WORDS_OF_COMMITS = ("id ", "loaded ")
 """How the replies begin that tell of a commit."""
+_MOST = 1024
+"""How many rows one plan inserts at most. Its writes are in memory together."""
+_ROOM = 1 << 20
+"""For how many bytes of writes there is room at first, besides those of the rows."""
 
 
 class Failed(Exception):
@@ -31,41 +37,92 @@ def is_here() -> bool:
     return _library.is_here() and hasattr(_library.library, "mtree_session_plan")
 
 
-def run(path: str, script: bytes, bytes_at_first: int) -> Ran:
-    """Runs a script without queries on the index file `path`, as the program's `session` does. Gives its status, what it writes, and what it
-    tells on standard error. `bytes_at_first` is for how many bytes of writes there is room at first.
+class Asked(NamedTuple):
+    """What a plan is asked for."""
+
+    call: str
+    """The call of the library."""
+    words: Tuple[Any, ...]
+    """What it is told besides the file."""
+    log: Tuple[Any, ...]
+    """The buffer of its log, where it takes one. Nothing is logged."""
+    bytes_at_first: int
+    """For how many bytes of writes there is room at first."""
+    kept: Any
+    """What has to live meanwhile."""
+
+
+def load(rows: Points, tags: Optional[List[str]]) -> Asked:
+    """Returns what loads all `rows`. Raises ValueError where the library takes a script alone, and the rows are too many for one."""
+    held, room = rows.in_one() if _takes_rows() else None, _ROOM + 512 * len(rows)
+    if held is None:
+        return _of_script(_program.load_script(rows.lines(), tags), room)
+    return _of_rows("mtree_load_plan", held, 0, len(rows), tags, room)
+
+
+def inserts(rows: Points, tags: Optional[List[str]]) -> Iterator[Asked]:
+    """Returns what inserts all `rows`, in some parts."""
+    held = rows.in_one() if _takes_rows() else None
+    if held is None:
+        for script in _program.insert_scripts(rows.lines(), tags, _MOST):
+            yield _of_script(script, _ROOM + (1 << 15) * script.count(b"\n"))
+        return
+    for first in range(0, len(rows), _MOST):
+        end = min(first + _MOST, len(rows))
+        yield _of_rows("mtree_insert_plan", held, first, end, tags, _ROOM + (1 << 15) * (end - first))
+
+
+def _takes_rows() -> bool:
+    return hasattr(_library.library, "mtree_load_plan") and hasattr(_library.library, "mtree_insert_plan")
+
+
+def _of_script(script: bytes, room: int) -> Asked:
+    return Asked("mtree_session_plan", (False, script, len(script)), (None, 0), room, script)
+
+
+def _of_rows(call: str, held: Tuple[int, int, Any], first: int, end: int, tags: Optional[List[str]], room: int) -> Asked:
+    (place, width, kept), count = held, end - first
+    marks = None if tags is None else (ctypes.c_uint64 * count)(*map(int, tags[first:end]))
+    words = place + 4 * width * first, width * count, width, count, marks is not None, marks, 0 if marks is None else count
+    return Asked(call, words, (), room, kept)
+
+
+def run(file: File, asked: Asked) -> Ran:
+    """Does to an index file, within its `writing`, what the program's `session` does. Gives the status, what it writes, and what it tells on
+    standard error.
 
     The file is held by an exclusive lock meanwhile. The replies are given once all writes and syncs are done. Where one fails, the replies are
     those of the commits before it. Raises `InUse`, OSError where the file can't be opened, and MemoryError."""
+    path = file.whole_path
     handle = os.open(path, os.O_RDWR | os.O_CLOEXEC)
     try:
         try:
             fcntl.flock(handle, fcntl.LOCK_EX | fcntl.LOCK_NB)
         except BlockingIOError:
             raise InUse(f"{path} is in use: another process writes it, or reads it") from None
-        status, steps, written, text = _made(handle, script, bytes_at_first)
+        place, size, held = file.bytes_of(handle)
+        status, steps, written, text = _made(place, size, asked)
+        del held
         try:
             _done(handle, steps, written)
         except Failed as failed:
             return 5, _acknowledged(text, failed.syncs, sum(is_sync for _, _, is_sync in steps)), f"{path}: {failed.__cause__}"
+        finally:
+            file.keep_map()
         return status, text, ""
     finally:
         os.close(handle)
 
 
-def _made(handle: int, script: bytes, bytes_at_first: int) -> Tuple[int, List[Tuple[int, int, bool]], memoryview, str]:
-    """Plans a script on the bytes of a file. Returns the status, the steps, the bytes of the writes, and the replies."""
-    call, size = _library.call("mtree_session_plan"), os.fstat(handle).st_size
-    sizes = _library.CPlanSizes(4096, bytes_at_first, 1 << 16, 0)
-    file = mmap.mmap(handle, size, access=mmap.ACCESS_COPY) if size else None
-    held = (ctypes.c_char * size).from_buffer(file) if file else None
-    place = ctypes.addressof(held) if held else None
+def _made(place: Any, size: int, asked: Asked) -> Tuple[int, List[Tuple[int, int, bool]], memoryview, str]:
+    """Plans on the bytes of a file. Returns the status, the steps, the bytes of the writes, and the replies."""
+    call, sizes = _library.call(asked.call), _library.CPlanSizes(4096, asked.bytes_at_first, 1 << 16, 0)
     while True:
         steps, text = (_library.CStep * sizes.steps)(), (ctypes.c_char * sizes.text)()
         # Of memory that is mapped only what is written is ever taken.
         room = mmap.mmap(-1, max(1, sizes.written))
         written = (ctypes.c_char * len(room)).from_buffer(room)
-        status = call(place, size, False, script, len(script), steps, len(steps), written, len(room), text, len(text), None, 0, ctypes.byref(sizes))
+        status = call(place, size, *asked.words, steps, len(steps), written, len(room), text, len(text), *asked.log, ctypes.byref(sizes))
         del written
         if status != _library.SHORT:
             break

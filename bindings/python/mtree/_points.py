@@ -107,6 +107,20 @@ class Points:
         first = self._table.__array_interface__["data"][0]
         return [(first + number * count * 4, count) for number in range(rows)]
 
+    def in_one(self) -> Optional[Tuple[int, int, Any]]:
+        """Returns the place of all rows, one after another, how many numbers each has, and what has to live while they are read. Returns None
+        where there is no row, or one has another length."""
+        places = self.places()
+        if not places or any(count != places[0][1] for _, count in places):
+            return None
+        width = places[0][1]
+        if self._table is not None:
+            return places[0][0], width, self._table
+        held = (ctypes.c_uint32 * (width * len(places)))()
+        for number, (place, _) in enumerate(places):
+            ctypes.memmove(ctypes.addressof(held) + 4 * width * number, place, 4 * width)
+        return ctypes.addressof(held), width, held
+
     def lines(self) -> List[str]:
         """Returns each point as the fields of a script's record."""
         if self._table is None:

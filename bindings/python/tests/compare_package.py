@@ -183,7 +183,8 @@ def compare_points():
         same(index.insert(rows, range(40)), list(range(40, 80)), "scripts above the limit")
         with without_library():
             same(plain(index.kneighbors(rows, 2, return_tags=True)), [[[0, 0]] * 40, [[i, i + 40] for i in range(40)], [[i, i] for i in range(40)]], "queries above it")
-        raises(ValueError, lambda: index.load(rows), "a load above the limit", "insert the others after it")
+        with by_program():
+            raises(ValueError, lambda: index.load(rows), "a load above the limit", "insert the others after it")
         _program._SCRIPT_BYTES = kept
         same(index.insert([]), [], "an insert of nothing")
         raises(mtree.NoQuery, lambda: index.insert([[1] * 6, [1, 2, 3, 4, 5, -6]]), "a negative number", "row 1: a coordinate")
