@@ -3,3 +3,4 @@ pub mod Calls
 pub mod Steps
 pub mod Shown
 pub mod Begun
+pub mod Published

@@ -41,6 +41,6 @@ pub record IsAsked (asked : ℕ → List Command) (file : List ℕ) (s : Session
   pub refused : HasRefused (plan_state (untouched file)) (plan_state s.plan) (holding []) (holding s.text) (holding []) (holding s.log) status
   pub statuses : (status ≡ 0) ⊎ ((status ≡ 6) ⊎ (status ≡ 9))
 
--- so many rows of `width` numbers stand one after another, and where they are tagged, there are as many tags
+-- `count` rows of `width` numbers stand one after another, and where they are tagged, there are as many tags
 abbrev pub AreRows : ℕ → ℕ → Bool → List ℕ → List ℕ → Type 0
 AreRows width count tagged cells tags = (length cells ≡ count * width) × (count < 2 ^ 32) × (IsTrue tagged → length tags ≡ count)

@@ -28,7 +28,7 @@ pub struct Shape {
     pub limit: u32,
 }
 
-// Returns whether there is a metric of this kind with so many coordinates.
+// Returns whether there is a metric `kind` of `dim` coordinates.
 #[tactic(auto, unfolding(node_page::specs::Heads::is_space))]
 fn is_space(kind: u8, dim: u8) -> bool
     ensures { result ≡ is_space kind dim }
@@ -45,7 +45,7 @@ fn is_policy(promote: u8, split: u8) -> bool
     (promote == 1 || promote == 2) && (split == 1 || split == 2)
 }
 
-// Returns whether an index may have so many objects.
+// Returns whether an index may have the limit `limit`.
 #[tactic(auto, unfolding(node_page::specs::Heads::is_limit))]
 fn is_limit(limit: u32) -> bool
     ensures { result ≡ is_limit limit }

@@ -5,7 +5,7 @@ use Rattle.disk_model.specs.Disk.{EachImage}
 use Rattle.disk_model.specs.Memory.Model.{look, Noted}
 use Rattle.disk_model.specs.Memory.Images.{LeftAt, replayed}
 use Rattle.disk_model.specs.Memory.Laws.{rests}
-use Rattle.disk_model.proofs.Calls.{rest_only}
+use Rattle.disk_model.proofs.Published.{rest_only}
 use Rattle.plan_disk.specs.Plan.{Plan, plan_state}
 
 abbrev opened : List Noted → List Noted

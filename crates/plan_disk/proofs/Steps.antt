@@ -6,7 +6,7 @@ use Rattle.disk_model.specs.Disk.{DiskState, MayLeave, LeavesOnly, Torn, Written
 use Rattle.disk_model.specs.Memory.Model.{Call, look, write, Noted}
 use Rattle.disk_model.specs.Memory.Files.{overwritten, overwritten-written}
 use Rattle.disk_model.specs.Memory.Images.{Kept, at_rest, after, replayed}
-use Rattle.disk_model.proofs.Calls.{state_at, replayed_push, one_call, write_follows, nothing_follows, nothing_unchanged, nothing_one_call, sync_only, sync_fewer}
+use Rattle.disk_model.proofs.Published.{state_at, replayed_push, one_call, write_follows, nothing_follows, nothing_unchanged, nothing_one_call, sync_only, sync_fewer}
 use Rattle.plan_disk.specs.declared.step.Step.{Step}
 use Rattle.plan_disk.specs.Plan.{Plan, call_of, calls_of, total, IsWhole, simulated, plan_state, file_of, write_step, sync_step, with_step}
 
