@@ -64,10 +64,7 @@ pub fn explore<P: Pages, R: Ruler>(
         if opened == live.pages {
             return Err(PageFault::Repeats(next.page));
         }
-        match open_page(alloc, pages, ruler, Probe { q, rho }, next, machine) {
-            Ok(()) => {}
-            Err(fault) => return Err(fault),
-        }
+        open_page(alloc, pages, ruler, Probe { q, rho }, next, machine)?;
         opened += 1;
     }
 }

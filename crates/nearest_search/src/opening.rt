@@ -158,15 +158,10 @@ pub fn open_page<P: Pages, R: Ruler>(
     ensures cause { IfErr result (HasPageCause (P.shelf pages.old) (P.shelf pages.new) next.page) }
 {
     let node = pages.node(alloc, next.page)?;
-    let Ok(seen) = see_node(alloc, ruler, probe, next.above, node.as_ref(), machine) else {
-        return Err(PageFault::Memory);
-    };
+    let seen = see_node(alloc, ruler, probe, next.above, node.as_ref(), machine)?;
     let turn = Turn {
         page: next.page,
         above: next.above,
     };
-    match machine.kept.put(turn, seen) {
-        Ok(()) => Ok(()),
-        Err(_) => Err(PageFault::Memory),
-    }
+    Ok(machine.kept.put(turn, seen)?)
 }

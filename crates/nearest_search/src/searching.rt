@@ -58,22 +58,10 @@ pub fn nearest<P: Pages, R: Ruler>(
     ensures sound { IfErr result (λ fault. IsTrue (P.shelf pages.old).tells →
         IsSoundTree (R.M.space (R.metric ruler.old)) (nodes_of (P.shelf pages.old).read) live.now → IsPassing fault) }
 {
-    let Ok(point) = Point::new(alloc, q) else {
-        return Err(PageFault::Memory);
-    };
-    let Ok(mut machine) = Machine::begin(alloc, k, live.root) else {
-        return Err(PageFault::Memory);
-    };
-    let explored = match explore(alloc, pages, ruler, q, live, &mut machine) {
-        Ok(explored) => explored,
-        Err(fault) => return Err(fault),
-    };
-    let Ok(walk) = relog(alloc, explored.rho, live, &machine.kept) else {
-        return Err(PageFault::Memory);
-    };
+    let point = Point::new(alloc, q)?;
+    let mut machine = Machine::begin(alloc, k, live.root)?;
+    let explored = explore(alloc, pages, ruler, q, live, &mut machine)?;
+    let walk = relog(alloc, explored.rho, live, &machine.kept)?;
     let query = Query::Nearest { q: point, k };
-    match Found::of(alloc, live, query, walk) {
-        Ok(found) => Ok(found),
-        Err(_) => Err(PageFault::Memory),
-    }
+    Ok(Found::of(alloc, live, query, walk)?)
 }

@@ -1,5 +1,6 @@
 ghost use Rattle.std.specs.Prelude.{◌≡◌, ◌≢◌, ◌⊎◌, ◌+◌, ◌*◌, ◌/◌, ◌≤◌, ◌<◌, ◌==◌, length, take, true, IfOk, IfErr, Ok, Err, Some, None, slice_index};
 ghost use Rattle.tree_shape.specs.Fill.{most_for};
+ghost use Rattle.node_page.specs.declared.node.NodeFault.TheVariants.{Memory};
 ghost use Rattle.node_page.specs.Nodes.{IsFront, IsFrontBelow, SpellsIn, SpellsNode, SpellsOldNode, IsLawfulNode, firsts, point_at, parent_place, tag_at, leaf_in, inner_at, place_of, place_in, count_of, near_at, are_near, is_count, is_rest_zero, fault_in, node_in, node_fault, node_of, old_node_fault, old_node_of};
 
 use crate::bytes::{are_zero, get_u16, get_u32, get_u64};
@@ -28,6 +29,14 @@ pub enum NodeFault {
     /// There was no memory for the node.
     #[error("out of memory")]
     Memory,
+}
+
+impl From<AllocError> for NodeFault {
+    ghost from_gives = { λ _ fault. fault ≡ Memory };
+
+    fn from(_error: AllocError) -> NodeFault {
+        NodeFault::Memory
+    }
 }
 
 /// A version of the format of nodes.
@@ -353,10 +362,7 @@ fn decode(alloc: Global, page: &[u8; 4096], dim: u8, version: Version) -> Result
     if let Some(fault) = fault_of(page, dim, version) {
         return Err(fault);
     }
-    match node_in(alloc, page, dim, version) {
-        Ok(node) => Ok(node),
-        Err(_) => Err(NodeFault::Memory),
-    }
+    Ok(node_in(alloc, page, dim, version)?)
 }
 
 /// Reads a node over points of `dim` coordinates from a page of a file of version 2, or names the first fault in the

@@ -2,11 +2,11 @@ ghost use Rattle.std.specs.Prelude.{◌≡◌, ◌+◌, ◌≤◌, IfOk, IfErr, 
 ghost use Rattle.metric_laws.specs.Counts.{next_count};
 ghost use Rattle.page_store.specs.Reading.{is_within};
 ghost use Rattle.page_store.specs.Shelf.{Shelf, HoldsSame, IsNodeOf, HasPageCause};
-ghost use Rattle.page_store.specs.declared.pages.PageFault.TheVariants.{Outside};
+ghost use Rattle.page_store.specs.declared.pages.PageFault.TheVariants.{Memory, Outside};
 
 use crate::SharedNode;
 use node_page::NodeFault;
-use std::alloc::Global;
+use std::alloc::{AllocError, Global};
 use thiserror::Error;
 use tree_shape::Node;
 
@@ -31,6 +31,14 @@ pub enum PageFault {
     /// A descent met this page at a level other than its depth requires. A request for one page never fails so.
     #[error("page {0} stands at another level")]
     Level(u32),
+}
+
+impl From<AllocError> for PageFault {
+    ghost from_gives = { λ _ fault. fault ≡ Memory };
+
+    fn from(_error: AllocError) -> PageFault {
+        PageFault::Memory
+    }
 }
 
 /// Pages that give their nodes one at a time, and count the requests. Searches, walks, auditors and verifiers reach pages only
@@ -73,8 +81,5 @@ pub fn own_node<P: Pages>(alloc: Global, pages: &mut P, page: u32) -> Result<Nod
     ensures keeps { P.keeps pages.old pages.new }
 {
     let shared = pages.node(alloc, page)?;
-    match shared.into_node(alloc) {
-        Ok(node) => Ok(node),
-        Err(_) => Err(PageFault::Memory),
-    }
+    Ok(shared.into_node(alloc)?)
 }

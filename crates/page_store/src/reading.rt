@@ -77,10 +77,7 @@ pub fn node_on(
     ensures fault { IfErr result (IsBytesFault (version_of first_version) dim bytes.now page) }
 {
     match decode(alloc, bytes, dim, first_version) {
-        Ok(node) => match SharedNode::new(alloc, node) {
-            Ok(node) => Ok(node),
-            Err(_) => Err(PageFault::Memory),
-        },
+        Ok(node) => Ok(SharedNode::new(alloc, node)?),
         Err(NodeFault::Memory) => Err(PageFault::Memory),
         Err(fault) => Err(PageFault::Bad(page, fault)),
     }

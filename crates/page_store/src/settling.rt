@@ -5,12 +5,13 @@ ghost use Rattle.node_page.specs.Opening.{IsLawfulLive};
 ghost use Rattle.node_page.specs.declared.head.Head.{Head};
 ghost use Rattle.page_store.specs.Numbers.{number_at, numbered, AreNumbers};
 ghost use Rattle.page_store.specs.Placing.{HasRoomCause, IsPlacement};
+ghost use Rattle.page_store.specs.declared.settling.RoomFault.TheVariants.{Memory as NoMemory};
 
 use crate::Memory;
 use crate::numbering::Numbering;
 use crate::staging::{Placed, Staged};
 use metric_laws::Listed;
-use std::alloc::Global;
+use std::alloc::{AllocError, Global};
 use thiserror::Error;
 use tree_shape::{Live, MOST_PAGES, Node};
 
@@ -38,6 +39,14 @@ pub enum RoomFault {
     /// Memory ran out.
     #[error("out of memory")]
     Memory,
+}
+
+impl From<AllocError> for RoomFault {
+    ghost from_gives = { λ _ fault. fault ≡ NoMemory };
+
+    fn from(_error: AllocError) -> RoomFault {
+        RoomFault::Memory
+    }
 }
 
 // Stages the nodes, each on its page. They are given in reverse order.
@@ -138,9 +147,7 @@ pub fn settle(
             needed,
         });
     }
-    let Ok(staged) = number_nodes(alloc, numbering, nodes) else {
-        return Err(RoomFault::Memory);
-    };
+    let staged = number_nodes(alloc, numbering, nodes)?;
     let next = Live {
         side: other_side(live.side),
         generation: live.generation + 1,
