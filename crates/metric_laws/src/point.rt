@@ -54,13 +54,12 @@ impl Point {
         })
     }
 
-    /// Makes a point of the first `len` of `coordinates`, in the value itself.
-    pub fn short(alloc: Global, coordinates: [u32; 16], len: usize) -> Self
-        requires { len ≤ 16 }
-        ensures { result ≡ take len coordinates }
+    /// Makes a point of `coordinates`, which it takes as they are.
+    pub fn own(coordinates: SmallVec<u32, 16>) -> Self
+        ensures { result ≡ coordinates.items }
     {
         Point {
-            place: Place::Own(SmallVec::from_buf_and_len(alloc, coordinates, len)),
+            place: Place::Own(coordinates),
         }
     }
 

@@ -6,6 +6,7 @@ ghost use Rattle.node_page.specs.Nodes.{IsFront, IsFrontBelow, SpellsIn, SpellsN
 use crate::bytes::{are_zero, get_u16, get_u32, get_u64};
 use byteorder::{BigEndian, ByteOrder};
 use metric_laws::{BOUND, Listed, Point};
+use smallvec::SmallVec;
 use std::alloc::{AllocError, Global};
 use std::sync::ArcSlice;
 use thiserror::Error;
@@ -173,15 +174,15 @@ fn fault_of(page: &[u8; 4096], dim: u8, version: Version) -> Option<NodeFault>
     None
 }
 
-// Reads the coordinates from the place `at` on.
-fn coordinates_at(page: &[u8; 4096], at: usize, dim: usize) -> [u32; 16]
+// Reads the coordinates from the place `at` on, into the value itself.
+fn coordinates_at(alloc: Global, page: &[u8; 4096], at: usize, dim: usize) -> SmallVec<u32, 16>
     requires few { dim ≤ 16 }
     requires within { at + 4 * dim ≤ 4096 }
-    ensures { take dim result ≡ point_at dim page.now at }
+    ensures { result.items ≡ point_at dim page.now at }
 {
-    let mut coordinates = [0u32; 16];
+    let mut coordinates = SmallVec::new(alloc);
     for place in 0..dim {
-        coordinates[place] = get_u32(page, at + 4 * place);
+        coordinates.push_reserved(get_u32(page, at + 4 * place));
     }
     coordinates
 }
@@ -225,7 +226,7 @@ fn point_at(
 {
     let dim = usize::from(dim);
     match numbers {
-        Front::Unread => Ok(Point::short(alloc, coordinates_at(page, at, dim), dim)),
+        Front::Unread => Ok(Point::own(coordinates_at(alloc, page, at, dim))),
         Front::Read(numbers) => Point::part_of(numbers, at / 4, dim),
     }
 }
