@@ -1,10 +1,7 @@
 -- What a search keeps of each opening of a page.
-use Rattle.std.specs.Prelude.{◌≡◌, ℕ, ◌≤◌, List, length, Option, Some}
-use Rattle.std.specs.declared.cmp.Ordering.{Ordering}
-use Rattle.std.specs.Ordering.{nat_cmp, ordering_then}
-use Rattle.std.specs.Option.{option_cmp}
+use Rattle.std.specs.Prelude.{◌≡◌, ℕ, ◌≤◌, Bool, ◌&&◌, nat_eq, List, length, Option, Some}
+use Rattle.std.specs.Option.{option_eq}
 use Rattle.std.specs.Map.{lookup}
-use Rattle.std.specs.BTreeMap.{is_at}
 use Rattle.metric_laws.specs.Space.{Space}
 use Rattle.tree_shape.specs.declared.entry.Node.{Node}
 use Rattle.tree_shape.specs.Tree.{Nodes}
@@ -12,9 +9,9 @@ use Rattle.nearest_search.specs.declared.kept.Turn.{Turn}
 use Rattle.nearest_search.specs.declared.seen.Seen.{Seen}
 use Rattle.nearest_search.specs.Seeing.{IsSeenOf, sights}
 
--- by page, then by the distance of the routing point above
-abbrev pub turn_order : Turn → Turn → Ordering
-turn_order a b = ordering_then (nat_cmp a.page b.page) (option_cmp nat_cmp a.above b.above)
+-- whether two openings are of one page, below routing points at one distance
+abbrev pub is_turn : Turn → Turn → Bool
+is_turn a b = nat_eq a.page b.page && option_eq nat_eq a.above b.above
 
 -- openings with what was seen at them
 abbrev pub Keeping : Type 0
@@ -25,7 +22,7 @@ abbrev pub Sheets : Type 0
 Sheets = ℕ → Option ℕ → Option Seen
 
 abbrev pub kept_seen : Keeping → Sheets
-kept_seen es page above = lookup (is_at (turn_order (record { page = page; above = above }))) es
+kept_seen es page above = lookup (is_turn (record { page = page; above = above })) es
 
 abbrev pub IsKept : Sheets → ℕ → Option ℕ → Type 0
 IsKept kept page above = (seen : Seen) × (kept page above ≡ Some seen)

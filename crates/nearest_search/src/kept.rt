@@ -4,11 +4,11 @@ ghost use Rattle.nearest_search.specs.Keeping.{Keeping, kept_seen};
 
 use crate::seen::Seen;
 use std::alloc::{AllocError, Global};
-use std::collections::BTreeMap;
+use std::collections::HashMap;
 use std::marker::Model;
 
 /// An opening of a page.
-#[derive(Clone, Copy, PartialEq, Eq, PartialOrd, Ord)]
+#[derive(Clone, Copy, PartialEq, Eq, Hash)]
 pub struct Turn {
     /// The page.
     pub page: u32,
@@ -19,7 +19,7 @@ pub struct Turn {
 /// What was seen at each opening of a page.
 #[derive(Drop)]
 pub struct Kept {
-    map: BTreeMap<Turn, Seen>,
+    map: HashMap<Turn, Seen>,
 }
 
 impl Model for Kept {
@@ -34,7 +34,7 @@ impl Kept {
         ensures { result ≡ [] }
     {
         Kept {
-            map: BTreeMap::new(alloc),
+            map: HashMap::new(alloc),
         }
     }
 
