@@ -109,7 +109,8 @@ pub fn range_on<M: Metric>(
     requires few { live.now.pages ≤ 2 ^ 24 }
     requires pages { ArePagesOf (M.space metric) live.now (bytes_in pages.old.inner.image) pages.old }
     ensures given { IfOk result (IsGivenOf tags (M.space metric) live.now (bytes_in pages.old.inner.image) (command.Range r q.now)) }
-    ensures whole { tags ≡ true → IfOk result (IsOutcomeOf (M.space metric) live.now (bytes_in pages.old.inner.image) (command.Range r q.now)) }
+    ensures whole { tags ≡ true → IfOk result (IsOutcomeOf (M.space metric) live.now (bytes_in pages.old.inner.image)
+        (command.Range r q.now)) }
     ensures same { ArePagesOf (M.space metric) live.now (bytes_in pages.old.inner.image) pages.new }
 {
     if !metric.fits(q.as_slice()) {
@@ -137,7 +138,8 @@ pub fn nearest_on<M: Metric>(
     requires pages { ArePagesOf (M.space metric) live.now (bytes_in pages.old.inner.image) pages.old }
     requires some { 1 ≤ k }
     ensures given { IfOk result (IsGivenOf tags (M.space metric) live.now (bytes_in pages.old.inner.image) (command.Nearest k q.now)) }
-    ensures whole { tags ≡ true → IfOk result (IsOutcomeOf (M.space metric) live.now (bytes_in pages.old.inner.image) (command.Nearest k q.now)) }
+    ensures whole { tags ≡ true → IfOk result (IsOutcomeOf (M.space metric) live.now (bytes_in pages.old.inner.image)
+        (command.Nearest k q.now)) }
     ensures same { ArePagesOf (M.space metric) live.now (bytes_in pages.old.inner.image) pages.new }
 {
     if !metric.fits(q.as_slice()) {

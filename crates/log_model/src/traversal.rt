@@ -79,7 +79,8 @@ impl Traversal {
             (R.used ruler.new ≡ count_up (R.used ruler.old)
             (measured_by (least_marks (search_at (R.M.space (R.metric ruler.old)) probe.entry.q.now probe.entry.rho) need.above
             node.now))) }
-        ensures taken { OnOk result (TakesNode (search_at (R.M.space (R.metric ruler.old)) probe.entry.q.now probe.entry.rho) need node.now self.old self.new) }
+        ensures taken { OnOk result (TakesNode (search_at (R.M.space (R.metric ruler.old)) probe.entry.q.now probe.entry.rho) need
+            node.now self.old self.new) }
     {
         let mut marks = Vec::with_capacity(alloc, entry_count(node))?;
         match node {

@@ -44,7 +44,8 @@ fn first_met<'a, F: Folder>(
     log_in: Option<&'a str>,
 ) -> Option<&'a str>
     ensures met { IfSome result (λ name. ((text_of index.entry ≡ Some name.now)
-        ⊎ ((text_of other.entry ≡ Some name.now) ⊎ (text_of log_in.entry ≡ Some name.now))) × (F.meaning folder.now).are_one made.now name.now) }
+        ⊎ ((text_of other.entry ≡ Some name.now) ⊎ (text_of log_in.entry ≡ Some name.now)))
+        × (F.meaning folder.now).are_one made.now name.now) }
     ensures apart { IfNone result (IfSome (text_of index.entry) ((F.meaning folder.now).are_apart made.now)
         × IfSome (text_of other.entry) ((F.meaning folder.now).are_apart made.now)
         × IfSome (text_of log_in.entry) ((F.meaning folder.now).are_apart made.now)) }
@@ -181,7 +182,8 @@ fn take_written<'a, F: Folder>(
     folder: F,
     names: &FileNames<&'a str>,
 ) -> Result<(Named<F::Index>, Named<F::LogOut>), Unopened<&'a str, F>>
-    ensures index { IfOk result (λ x. IsFileOf (IsIndexOf (F.meaning folder) (file_texts names.now).makes names.now.writes) (file_texts names.now).index x.0.0) }
+    ensures index { IfOk result (λ x. IsFileOf (IsIndexOf (F.meaning folder) (file_texts names.now).makes names.now.writes)
+        (file_texts names.now).index x.0.0) }
     ensures log { IfOk result (λ x. IsFileOf (F.meaning folder).is_log_out (log_name (file_texts names.now).makes) x.1.0) }
     ensures denied { IfErr result (λ e. Denies (IsIndexDenied (F.meaning folder)) (file_texts names.now).index e.refusal
         ⊎ Denies (IsMakingDenied (F.meaning folder)) (log_name (file_texts names.now).makes) e.refusal) }

@@ -106,7 +106,8 @@ fn see_node<R: Ruler>(
     ensures count { machine.new.best.k ≡ machine.old.best.k }
     ensures kept { machine.new.kept ≡ machine.old.kept }
     ensures pushed { IfOk result (λ seen. IsPermutation
-        (pendings_of (search_at (R.M.space (R.metric ruler.old)) probe.entry.q.now probe.entry.rho) above node.now ++ machine.old.frontier) machine.new.frontier) }
+        (pendings_of (search_at (R.M.space (R.metric ruler.old)) probe.entry.q.now probe.entry.rho) above node.now
+        ++ machine.old.frontier) machine.new.frontier) }
     ensures noted { IfOk result (λ seen. Takes machine.old.best.k (heap_items machine.old.best.heap) (heap_items machine.new.best.heap)
         (dists_of (search_at (R.M.space (R.metric ruler.old)) probe.entry.q.now probe.entry.rho) above node.now)) }
     ensures seen { IfOk result (IsSeenOf (R.M.space (R.metric ruler.old)) probe.entry.q.now probe.entry.rho above node.now) }
@@ -153,8 +154,10 @@ pub fn open_page<P: Pages, R: Ruler>(
     ensures count { machine.new.best.k ≡ machine.old.best.k }
     ensures opened { OnOk result (IsOpened (search_at (R.M.space (R.metric ruler.old)) probe.entry.q.now probe.entry.rho)
         (P.shelf pages.old) machine.old.best.k next
-        (record { queue = machine.old.frontier; best = heap_items machine.old.best.heap; kept = kept_seen machine.old.kept; used = R.used ruler.old })
-        (record { queue = machine.new.frontier; best = heap_items machine.new.best.heap; kept = kept_seen machine.new.kept; used = R.used ruler.new })) }
+        (record { queue = machine.old.frontier; best = heap_items machine.old.best.heap; kept = kept_seen machine.old.kept;
+        used = R.used ruler.old })
+        (record { queue = machine.new.frontier; best = heap_items machine.new.best.heap; kept = kept_seen machine.new.kept;
+        used = R.used ruler.new })) }
     ensures cause { IfErr result (HasPageCause (P.shelf pages.old) (P.shelf pages.new) next.page) }
 {
     let node = pages.node(alloc, next.page)?;

@@ -42,7 +42,8 @@ pub fn nearest<P: Pages, R: Ruler>(
     ensures log { IfOk result (IsLogOf live.now (Nearest q.now k)) }
     ensures nearest { IfOk result (λ found. IsTrue (P.shelf pages.old).tells →
         IsSoundTree (R.M.space (R.metric ruler.old)) (nodes_of (P.shelf pages.old).read) live.now →
-        IsNearest (R.M.space (R.metric ruler.old)) (nodes_of (P.shelf pages.old).read) live.now q.now k (P.shelf pages.old) (P.shelf pages.new) found) }
+        IsNearest (R.M.space (R.metric ruler.old)) (nodes_of (P.shelf pages.old).read) live.now q.now k (P.shelf pages.old)
+        (P.shelf pages.new) found) }
     ensures front { IfOk result (λ found. IsTrue (P.shelf pages.old).tells →
         IsFront (R.M.space (R.metric ruler.old)) (nodes_of (P.shelf pages.old).read) live.now q.now k found) }
     ensures cause { IfErr result (HasNearestCause live.now (P.shelf pages.old) (P.shelf pages.new)) }

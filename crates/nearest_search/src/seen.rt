@@ -77,7 +77,8 @@ pub fn look<R: Ruler>(
     ensures metric { R.metric ruler.new ≡ R.metric ruler.old }
     ensures used { R.used ruler.new ≤ R.used ruler.old + 1 }
     ensures bounded { result.dist ≤ 2 ^ 38 }
-    ensures sight { result ≡ sight_of (search_at (R.M.space (R.metric ruler.old)) probe.entry.q.now probe.entry.rho) name radius skip point.now }
+    ensures sight { result ≡
+        sight_of (search_at (R.M.space (R.metric ruler.old)) probe.entry.q.now probe.entry.rho) name radius skip point.now }
 {
     if probe.rho < skip {
         return Sight {

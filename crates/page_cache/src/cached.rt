@@ -115,14 +115,16 @@ impl<P: Pages> Pages for Cached<P> {
             (asked_for (P.shelf self.new.inner) self.new.asked) page) }
         ensures no_fault { OnOk result ((P.shelf self.new.inner).faults ≡ (P.shelf self.old.inner).faults) }
         ensures outside { is_within (P.shelf self.old.inner).pages page ≡ false → result ≡ Err (Outside page) }
-        ensures unread { is_within (P.shelf self.old.inner).pages page ≡ false → (P.shelf self.new.inner).reads ≡ (P.shelf self.old.inner).reads }
+        ensures unread { is_within (P.shelf self.old.inner).pages page ≡ false →
+            (P.shelf self.new.inner).reads ≡ (P.shelf self.old.inner).reads }
         ensures same { HoldsSame (asked_for (P.shelf self.old.inner) self.old.asked) (asked_for (P.shelf self.new.inner) self.new.asked) }
         ensures asked { self.new.asked ≡ next_count self.old.asked }
         ensures reads { (P.shelf self.new.inner).reads ≤ (P.shelf self.old.inner).reads + 1 }
         ensures keeps { P.keeps self.old.inner self.new.inner × (self.new.kept.cap ≡ self.old.kept.cap) }
 
         // The cached node is returned, unless its holders can't be counted. The pages behind are not asked.
-        ensures hit { (node : TheNode) → kept_node self.old.kept page ≡ Some node → MatchResult result (λ answer. answer ≡ node) (λ fault. fault ≡ NoMemory) }
+        ensures hit { (node : TheNode) → kept_node self.old.kept page ≡ Some node →
+            MatchResult result (λ answer. answer ≡ node) (λ fault. fault ≡ NoMemory) }
         ensures unasked { IsSome (kept_node self.old.kept page) → self.new.inner ≡ self.old.inner }
 
         // For another page they are asked once.

@@ -113,7 +113,8 @@ pub fn settle(
     requires root { (i : ℕ) × (i < length tree.nodes.items) × (tree.root ≡ number_at numbering.now.numbers.now numbering.now.first i) }
 
     // Node i stands on page i of the numbers, and further nodes on the pages from the end on.
-    ensures staged { IfOk result (λ placed. placed.staged ≡ numbered (number_at numbering.now.numbers.now numbering.now.first) 0 tree.nodes.items) }
+    ensures staged { IfOk result (λ placed. placed.staged ≡
+        numbered (number_at numbering.now.numbers.now numbering.now.first) 0 tree.nodes.items) }
     ensures next { IfOk result (λ placed. placed.next ≡ record {
       side = 1 - live.now.side;
       generation = live.now.generation + 1;

@@ -77,7 +77,8 @@ pub fn share<R: Threads + Sync, X: Send + Drop, F: Fn(usize) -> X + Sync>(
     let pieces = piece_count(count, size);
     let part = |number: usize| -> Result<Vec<X>, Memory>
         requires { ((i : ℕ) → i < count → F.pre work.now i) × (number * size < count) }
-        ensures { IfOk result (λ v. (vec_len v ≡ min size (count - number * size)) × MeetsFrom (F.post work.entry.now) (number * size) v.items) }
+        ensures { IfOk result (λ v. (vec_len v ≡ min size (count - number * size))
+            × MeetsFrom (F.post work.entry.now) (number * size) v.items) }
     { piece(alloc, work, count, size, number) };
     let parts = thread::map_indices(rt, alloc, pieces, &part)?;
     join_lists(alloc, parts)

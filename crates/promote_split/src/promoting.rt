@@ -154,7 +154,8 @@ fn try_with(
     requires a { a < size matrix.now }
     requires two { 2 ≤ size matrix.now }
     requires cost { best.cost ≡ pair_cost matrix.now policy.promote policy.split least best.pair }
-    ensures pair { IfOk result (λ b. b.pair ≡ least_from (pair_cost matrix.now policy.promote policy.split least) best.pair (pairs_with (size matrix.now) a)) }
+    ensures pair { IfOk result (λ b. b.pair ≡ least_from (pair_cost matrix.now policy.promote policy.split least) best.pair
+        (pairs_with (size matrix.now) a)) }
     ensures cost { IfOk result (λ b. b.cost ≡ pair_cost matrix.now policy.promote policy.split least b.pair) }
     ensures low { IfOk result (λ b. IsPair (size matrix.now) best.pair → IsPair (size matrix.now) b.pair) }
 {

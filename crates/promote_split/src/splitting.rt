@@ -86,7 +86,8 @@ fn groups_of<E: Entry>(
     requires first { length first.now ≡ length entries.items }
     requires second { length second.now ≡ length entries.items }
     ensures first { IfOk result (λ groups. groups.first.items ≡ half_entries E.with_parent Side.First first.now sides.now entries.items) }
-    ensures second { IfOk result (λ groups. groups.second.items ≡ half_entries E.with_parent Side.Second second.now sides.now entries.items) }
+    ensures second { IfOk result (λ groups. groups.second.items ≡
+        half_entries E.with_parent Side.Second second.now sides.now entries.items) }
 {
     let mut entries = entries;
     entries.reverse();
@@ -149,7 +150,8 @@ pub fn split<R: Ruler, E: Entry>(
     requires radii { AllByRecursion (λ e. (E.ball e).1 ≤ bound) entries.items }
     ensures metric { R.metric ruler.new ≡ R.metric ruler.old }
     ensures counted { OnOk result (HasCounted (length entries.items * length entries.items) (R.used ruler.old) (R.used ruler.new)) }
-    ensures halves { IfOk result (λ h. IsSplit (R.M.space (R.metric ruler.old)) E.ball E.with_parent policy.promote policy.split least entries.items h) }
+    ensures halves { IfOk result (λ h. IsSplit (R.M.space (R.metric ruler.old)) E.ball E.with_parent policy.promote policy.split least
+        entries.items h) }
     ensures shares { IfOk result (λ h. (least ≤ length h.first.entries) × (least ≤ length h.second.entries)
         × (length h.first.entries + length h.second.entries ≡ length entries.items)) }
     ensures within { IfOk result (λ h. (h.first.radius ≤ bound) × (h.second.radius ≤ bound)) }

@@ -114,7 +114,8 @@ pub fn decode_join_frames(alloc: Global, bytes: &[u8]) -> Result<Vec<JoinLog>, L
     ensures lawful { IfOk result (λ logs. All IsLawfulJoinLog logs.items) }
     ensures in_range { IfOk result (λ logs. All JoinLogInRange logs.items) }
     // Bytes that spell lawful logs are read as these logs, unless memory runs out.
-    ensures only { (logs : List JoinLog) → All IsLawfulJoinLog logs → All JoinLogInRange logs → frames_bytes join_log_bytes logs ≡ bytes.now →
+    ensures only { (logs : List JoinLog) → All IsLawfulJoinLog logs → All JoinLogInRange logs →
+        frames_bytes join_log_bytes logs ≡ bytes.now →
         MatchResult result (λ read. read.items ≡ logs) (λ fault. fault ≡ LogFault.Memory) }
     ensures fault { IfErr result (λ fault. (fault ≡ LogFault.Memory) ⊎ (join_frames_fault bytes.now ≡ Some fault)) }
 {

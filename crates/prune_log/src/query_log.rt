@@ -166,7 +166,8 @@ pub fn decode_log(alloc: Global, bytes: &[u8]) -> Result<Log, LogFault>
     ensures lawful { IfOk result (λ log. IsLawfulLog log) }
     ensures in_range { IfOk result (λ log. LogInRange log) }
     // Bytes that spell a lawful log are read as this log, unless memory runs out.
-    ensures only { (log : Log) → IsLawfulLog log → LogInRange log → log_bytes log ≡ bytes.now → (result ≡ Ok log) ⊎ (result ≡ Err LogFault.Memory) }
+    ensures only { (log : Log) → IsLawfulLog log → LogInRange log → log_bytes log ≡ bytes.now →
+        (result ≡ Ok log) ⊎ (result ≡ Err LogFault.Memory) }
     ensures fault { IfErr result (λ fault. (fault ≡ LogFault.Memory) ⊎ (log_fault bytes.now ≡ Some fault)) }
 {
     whole_log(alloc, bytes)

@@ -15,7 +15,8 @@ fn push_pairs<M: Metric>(
     pairs: &mut Vec<Pair>,
 ) -> Result<(), Memory>
     requires { length rows.now.points < 2 ^ 32 }
-    ensures { OnOk result (pairs.new.items ≡ pairs.old.items ++ filter (is_close r) (pairs_from (M.space m.now) left p.now 0 rows.now.points)) }
+    ensures { OnOk result (pairs.new.items ≡ pairs.old.items
+        ++ filter (is_close r) (pairs_from (M.space m.now) left p.now 0 rows.now.points)) }
 {
     for right in 0..rows.len() {
         let dist = m.dist(p, rows.point(right));

@@ -84,7 +84,8 @@ fn put_pages<D: Disk>(
 ) -> Result<(), SealFault>
     requires few { length tree.now ≤ 262144 }
     requires within { All (λ page. page < 2 ^ 24) pages.now }
-    ensures put { OnOk result (IsTrue (D.state disk.old).tells → out.new.items ≡ out.old.items ++ pages_bytes (D.state disk.old).bytes tree.now pages.now) }
+    ensures put { OnOk result (IsTrue (D.state disk.old).tells → out.new.items ≡ out.old.items
+        ++ pages_bytes (D.state disk.old).bytes tree.now pages.now) }
     ensures disk { IsErrOf result SealFault.Disk → Rose (D.state disk.old).faults (D.state disk.new).faults }
     ensures later { (D.state disk.old).faults ≤ (D.state disk.new).faults }
     ensures no_fault { OnOk result ((D.state disk.new).faults ≡ (D.state disk.old).faults) }
@@ -119,7 +120,8 @@ pub fn carry<D: Disk>(
     requires few { length tree.now ≤ 262144 }
     requires lawful { IsLawfulLog log.now }
     requires within { All (λ r. r.page < length tree.now) log.now.records }
-    ensures carries { IfOk result (λ bytes. IsTrue (D.state disk.old).tells → Carries (D.state disk.old).bytes tree.now log.now bytes.items) }
+    ensures carries { IfOk result (λ bytes. IsTrue (D.state disk.old).tells →
+        Carries (D.state disk.old).bytes tree.now log.now bytes.items) }
     ensures disk { IsErrOf result SealFault.Disk → Rose (D.state disk.old).faults (D.state disk.new).faults }
     ensures later { (D.state disk.old).faults ≤ (D.state disk.new).faults }
     ensures no_fault { OnOk result ((D.state disk.new).faults ≡ (D.state disk.old).faults) }

@@ -36,7 +36,8 @@ fn step_up(
 ) -> Option<([u8; 32], &[[u8; 32]])>
     requires { place < width }
     ensures none { IsNone result → (above : List ℕ) → climbed (width ∷ above) place digest path.now ≡ None }
-    ensures some { IfSome result (λ x. (above : List ℕ) → climbed (width ∷ above) place digest path.now ≡ climbed above (place / 2) x.0 x.1.now) }
+    ensures some { IfSome result (λ x. (above : List ℕ) →
+        climbed (width ∷ above) place digest path.now ≡ climbed above (place / 2) x.0 x.1.now) }
 {
     if !has_partner(width, place) {
         return Some((digest, path));

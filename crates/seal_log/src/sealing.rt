@@ -15,7 +15,8 @@ use std::alloc::Global;
 // Reads page `page` and returns its digest.
 fn seal_page<D: Disk>(disk: &mut D, page: u32) -> Result<[u8; 32], SealFault>
     requires { page < 2 ^ 24 }
-    ensures sealed { IfOk result (λ digest. IsTrue (D.state disk.old).tells → digest ≡ sha256 (leaf_message (page_of (D.state disk.old).bytes page))) }
+    ensures sealed { IfOk result (λ digest. IsTrue (D.state disk.old).tells →
+        digest ≡ sha256 (leaf_message (page_of (D.state disk.old).bytes page))) }
     ensures disk { IsErrOf result SealFault.Disk → Rose (D.state disk.old).faults (D.state disk.new).faults }
     ensures later { (D.state disk.old).faults ≤ (D.state disk.new).faults }
     ensures no_fault { OnOk result ((D.state disk.new).faults ≡ (D.state disk.old).faults) }

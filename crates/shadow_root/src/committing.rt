@@ -73,7 +73,8 @@ fn stage<D: Disk>(
     requires successor { IsSuccessor live.now next.now }
     requires staged { IsStagedFor dim live.now next.now staged.now }
     requires ready { IsTrue (D.state disk.old).tells → IsReady dim live.now next.now staged.now (D.state disk.old) }
-    ensures images { IsTrue (D.state disk.old).tells → EachImage (D.state disk.old) (D.state disk.new) (IsKept dim live.now staged.now (D.state disk.old)) }
+    ensures images { IsTrue (D.state disk.old).tells → EachImage (D.state disk.old) (D.state disk.new)
+        (IsKept dim live.now staged.now (D.state disk.old)) }
     ensures only { OnOk result (LeavesOnly (D.state disk.new) (D.state disk.new).bytes) }
     ensures staged { OnOk result (IsTrue (D.state disk.old).tells
         → IsStaged dim live.now next.now staged.now (D.state disk.old) (D.state disk.new).bytes) }
@@ -115,7 +116,8 @@ pub fn write_through<D: Disk>(disk: &mut D, at: u64, bytes: &[u8]) -> Result<(),
     requires only { LeavesOnly (D.state disk.old) (D.state disk.old).bytes }
     ensures images { EachImage (D.state disk.old) (D.state disk.new) (Torn at (length bytes.now) (D.state disk.old).bytes) }
     ensures only { OnOk result (LeavesOnly (D.state disk.new) (D.state disk.new).bytes) }
-    ensures written { OnOk result (IsTrue (D.state disk.old).tells → Written at bytes.now (D.state disk.old).bytes (D.state disk.new).bytes) }
+    ensures written { OnOk result (IsTrue (D.state disk.old).tells →
+        Written at bytes.now (D.state disk.old).bytes (D.state disk.new).bytes) }
     ensures tells { (D.state disk.new).tells ≡ (D.state disk.old).tells }
     ensures reads { (D.state disk.new).reads ≡ (D.state disk.old).reads }
     ensures cause { HasCause (D.state disk.old).faults (D.state disk.new).faults result }

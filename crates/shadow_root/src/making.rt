@@ -48,7 +48,8 @@ fn lay_out<D: Disk>(
     ensures slot { OnOk result (IsTrue (D.state disk.old).tells → page_of (D.state disk.new).bytes 1 ≡ slot.now) }
     ensures other { OnOk result (IsTrue (D.state disk.old).tells → page_of (D.state disk.new).bytes 2 ≡ zeros.now) }
     ensures leaf { OnOk result (IsTrue (D.state disk.old).tells → page_of (D.state disk.new).bytes 3 ≡ zeros.now) }
-    ensures size { OnOk result (IsTrue (D.state disk.old).tells → length (D.state disk.new).bytes ≡ max (length (D.state disk.old).bytes) 16384) }
+    ensures size { OnOk result (IsTrue (D.state disk.old).tells →
+        length (D.state disk.new).bytes ≡ max (length (D.state disk.old).bytes) 16384) }
     ensures only { OnOk result (LeavesOnly (D.state disk.new) (D.state disk.new).bytes) }
     ensures tells { (D.state disk.new).tells ≡ (D.state disk.old).tells }
     ensures reads { (D.state disk.new).reads ≡ (D.state disk.old).reads }

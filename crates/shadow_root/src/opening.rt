@@ -98,7 +98,8 @@ fn live_of(
     ensures side { IfOk result (λ live. live.side ≤ 1) }
     ensures ok { IfOk result (λ live. (file : List ℕ) → HasSlots first.now second.now limit size file → LeadsTo limit size live file) }
     ensures kind { IfErr result IsSlotFault }
-    ensures fault { IfErr result (λ fault. (file : List ℕ) → HasSlots first.now second.now limit size file → slot_fault file ≡ told_as fault) }
+    ensures fault { IfErr result (λ fault. (file : List ℕ) → HasSlots first.now second.now limit size file →
+        slot_fault file ≡ told_as fault) }
 {
     match live_side(&read_gate(first), &read_gate(second)) {
         Err(fault) => Err(fault),
