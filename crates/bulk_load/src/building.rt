@@ -64,7 +64,8 @@ fn new_tree<W: Crew<M>, M: Metric>(
     requires few { length loading.now.rows.now.points ≤ 2 ^ 24 }
     requires workers { (1 ≤ loading.now.workers) × (loading.now.workers ≤ 64) }
     requires first { loading.now.numbering.first ≤ 2 ^ 24 }
-    ensures nodes { IfOk result (λ tree. tree.nodes.items ≡ top_nodes (load_by (M.space loading.now.metric) loading.now) (page_by loading.now)) }
+    ensures nodes { IfOk result (λ tree.
+        tree.nodes.items ≡ top_nodes (load_by (M.space loading.now.metric) loading.now) (page_by loading.now)) }
     ensures root { IfOk result (λ tree. tree.root ≡ last_of (page_by loading.now) 0 tree.nodes.items) }
     ensures height { IfOk result (λ tree. tree.height ≡ top_height (load_by (M.space loading.now.metric) loading.now)) }
     ensures added { IfOk result (λ tree. tree.added ≡ length loading.now.rows.now.points) }
@@ -146,9 +147,7 @@ pub fn build<W: Crew<M>, M: Metric>(
             first: live.pages,
         },
     };
-    let Ok(tree) = new_tree(crew, alloc, &loading, live) else {
-        return Err(BuildFault::Memory);
-    };
+    let tree = new_tree(crew, alloc, &loading, live)?;
     match settle(alloc, &loading.numbering, live, tree) {
         Ok(placed) => Ok(placed),
         Err(RoomFault::NoRoom { pages, needed }) => Err(BuildFault::NoRoom { pages, needed }),

@@ -53,7 +53,8 @@ pub trait Crew<M: Metric>: Scout<M> {
         requires seed { IfSome set.now.seed (λ k. k < length loading.now.rows.now.points) }
         requires level { (1 ≤ set.now.level) × (set.now.level ≤ 14) }
         requires groups { All (IsGroupFor (load_by (M.space loading.now.metric) loading.now) (set.now.level - 1)) groups.now }
-        ensures { IfOk result (λ made. IfSome made (λ parts. AreMadeOf (load_by (M.space loading.now.metric) loading.now) set.now.seed (set.now.level - 1)
+        ensures { IfOk result (λ made. IfSome made (λ parts.
+            AreMadeOf (load_by (M.space loading.now.metric) loading.now) set.now.seed (set.now.level - 1)
             groups.now parts.items)) };
 }
 

@@ -48,7 +48,8 @@ fn candidates<M: Metric>(
     requires placed { length placed.now ≡ length distances.now.table }
     requires groups { All (λ p. p.group < length counts.now) placed.now }
     requires counts { AreCounts counts.now placed.now }
-    ensures are { IfOk result (λ v. IsPermutation (candidates_from (entry distances.now.table) least group placed.now 0 placed.now) v.items) }
+    ensures are { IfOk result (λ v.
+        IsPermutation (candidates_from (entry distances.now.table) least group placed.now 0 placed.now) v.items) }
     ensures sorted { IfOk result (λ v. IsSortedBy is_nearer v.items) }
 {
     let mut near = Vec::new(alloc);
@@ -98,7 +99,8 @@ fn fill_one<M: Metric>(
     requires groups { All (λ p. p.group < length counts.old) placed.old }
     requires len { length counts.old ≡ distances.now.width }
     requires counts { AreCounts counts.old placed.old }
-    ensures placed { OnOk result (placed.new ≡ received (entry distances.now.table) least group (least - in_group group placed.old) placed.old) }
+    ensures placed { OnOk result (placed.new ≡
+        received (entry distances.now.table) least group (least - in_group group placed.old) placed.old) }
     ensures long { OnOk result (length placed.new ≡ length placed.old) }
     ensures groups { OnOk result (All (λ p. p.group < length counts.new) placed.new) }
     ensures counts { OnOk result (AreCounts counts.new placed.new) }

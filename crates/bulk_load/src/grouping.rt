@@ -136,7 +136,8 @@ pub fn groups<W: Scout<M>, M: Metric>(
     requires fill { IsFill fill.now }
     requires size { IsSized fill.now root level (length set.now) }
     requires workers { (1 ≤ workers) × (workers ≤ 64) }
-    ensures { IfOk result (λ gs. (tags : List ℕ) → gs.items ≡ groups_at (load_of (M.space metric) rows.now.points tags fill.now) root level set.now) }
+    ensures { IfOk result (λ gs. (tags : List ℕ) →
+        gs.items ≡ groups_at (load_of (M.space metric) rows.now.points tags fill.now) root level set.now) }
 {
     let n = set.len();
     let room = fill.most.pow(level);

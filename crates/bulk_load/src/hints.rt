@@ -87,7 +87,8 @@ impl Hints {
         requires counts { length counts.now ≡ placing.now.distances.now.width }
         requires workers { (1 ≤ placing.now.workers) × (placing.now.workers ≤ 64) }
         requires hints { AreHints (entry placing.now.distances.now.table) placing.now.room self.old.first counts.now self.old.groups.items }
-        ensures { OnOk result (AreHints (entry placing.now.distances.now.table) placing.now.room self.new.first counts.now self.new.groups.items) }
+        ensures { OnOk result (AreHints (entry placing.now.distances.now.table) placing.now.room self.new.first counts.now
+            self.new.groups.items) }
     {
         if placing.workers == 1 || place % BLOCK != 0 {
             return Ok(());

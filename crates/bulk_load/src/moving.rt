@@ -58,7 +58,8 @@ pub fn add_nodes(
     requires pages { numbering.now.first ≤ 2 ^ 24 }
     requires few { length nodes.old.items + length below.items ≤ 2 ^ 26 }
     requires children { AllByRecursion (AreChildrenBelow (length below.items)) below.items }
-    ensures page { IfOk result (λ page. page ≡ number_at numbering.now.numbers.now numbering.now.first (length nodes.old.items + length below.items - 1)) }
+    ensures page { IfOk result (λ page. page ≡ number_at numbering.now.numbers.now numbering.now.first
+        (length nodes.old.items + length below.items - 1)) }
     ensures nodes { OnOk result (nodes.new.items ≡ nodes.old.items
         ++ map (node_to (λ i. number_at numbering.now.numbers.now numbering.now.first (length nodes.old.items + i))) below.items) }
 {

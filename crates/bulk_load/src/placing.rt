@@ -127,7 +127,8 @@ fn choose<M: Metric>(
     requires counts { length counts.old ≡ placing.now.distances.now.width }
     requires hint { IfSome hint (IsHint (entry placing.now.distances.now.table) placing.now.room place counts.old) }
     ensures is { result ≡ chosen_of (nearest_from (entry placing.now.distances.now.table) placing.now.room place 0 None counts.old) }
-    ensures counts { counts.new ≡ counted (nearest_from (entry placing.now.distances.now.table) placing.now.room place 0 None counts.old) counts.old }
+    ensures counts { counts.new ≡
+        counted (nearest_from (entry placing.now.distances.now.table) placing.now.room place 0 None counts.old) counts.old }
     ensures small { result < placing.now.distances.now.width }
 {
     match group_for(placing, place, hint, counts) {

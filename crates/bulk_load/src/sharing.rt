@@ -77,7 +77,8 @@ pub fn made_by_threads<R: Threads + Sync, M: Metric>(
     requires seed { IfSome set.now.seed (λ k. k < length loading.now.rows.now.points) }
     requires level { (1 ≤ set.now.level) × (set.now.level ≤ 14) }
     requires groups { All (IsGroupFor (load_by (M.space loading.now.metric) loading.now) (set.now.level - 1)) groups.now }
-    ensures { IfOk result (λ parts. AreMadeOf (load_by (M.space loading.now.metric) loading.now) set.now.seed (set.now.level - 1) groups.now parts.items) }
+    ensures { IfOk result (λ parts. AreMadeOf (load_by (M.space loading.now.metric) loading.now) set.now.seed
+        (set.now.level - 1) groups.now parts.items) }
 {
     let work = |i: usize| -> Result<Made, Memory>
         requires load { IsLawfulLoad (load_by (M.space loading.now.metric) loading.now) }
@@ -106,7 +107,8 @@ fn made_in_turn<M: Metric>(
     requires seed { IfSome set.now.seed (λ k. k < length loading.now.rows.now.points) }
     requires level { (1 ≤ set.now.level) × (set.now.level ≤ 14) }
     requires groups { All (IsGroupFor (load_by (M.space loading.now.metric) loading.now) (set.now.level - 1)) groups.now }
-    ensures { IfOk result (λ parts. AreMadeOf (load_by (M.space loading.now.metric) loading.now) set.now.seed (set.now.level - 1) groups.now parts.items) }
+    ensures { IfOk result (λ parts. AreMadeOf (load_by (M.space loading.now.metric) loading.now) set.now.seed
+        (set.now.level - 1) groups.now parts.items) }
 {
     let work = |i: usize| -> Result<Made, Memory>
         requires load { IsLawfulLoad (load_by (M.space loading.now.metric) loading.now) }
@@ -137,7 +139,8 @@ fn all_made<W: Crew<M>, M: Metric>(
     requires seed { IfSome set.now.seed (λ k. k < length loading.now.rows.now.points) }
     requires level { (1 ≤ set.now.level) × (set.now.level ≤ 14) }
     requires groups { All (IsGroupFor (load_by (M.space loading.now.metric) loading.now) (set.now.level - 1)) groups.now }
-    ensures { IfOk result (λ parts. AreMadeOf (load_by (M.space loading.now.metric) loading.now) set.now.seed (set.now.level - 1) groups.now parts.items) }
+    ensures { IfOk result (λ parts. AreMadeOf (load_by (M.space loading.now.metric) loading.now) set.now.seed
+        (set.now.level - 1) groups.now parts.items) }
 {
     match crew.made(alloc, loading, set, groups)? {
         Some(parts) => Ok(parts),

@@ -45,7 +45,8 @@ pub struct Set<'a> {
 // Returns the parent distance of `p`: its distance to the point of `seed`, and 0 without a seed.
 fn parent_of<M: Metric>(loading: &Loading<'_, M>, seed: Option<u32>, p: &[u32]) -> u64
     requires seed { IfSome seed (λ k. k < length loading.now.rows.now.points) }
-    ensures { result ≡ parent_distance (M.space loading.now.metric) (seed_point (load_by (M.space loading.now.metric) loading.now) seed) p.now }
+    ensures { result ≡ parent_distance (M.space loading.now.metric)
+        (seed_point (load_by (M.space loading.now.metric) loading.now) seed) p.now }
 {
     match seed {
         Some(row) => loading.metric.dist(p, loading.rows.point(row as usize)),
@@ -85,7 +86,8 @@ fn leaf_entries<M: Metric>(
     requires seed { IfSome set.now.seed (λ k. k < length loading.now.rows.now.points) }
     requires places { All (λ k. k < length loading.now.rows.now.points) set.now.places.now }
     requires tags { length loading.now.tags.now ≡ length loading.now.rows.now.points }
-    ensures { IfOk result (λ es. es.items ≡ map (leaf_entry (load_by (M.space loading.now.metric) loading.now) set.now.seed) set.now.places.now) }
+    ensures { IfOk result (λ es. es.items ≡
+        map (leaf_entry (load_by (M.space loading.now.metric) loading.now) set.now.seed) set.now.places.now) }
 {
     let mut entries = Vec::with_capacity(alloc, set.places.len())?;
     for row in set.places {

@@ -68,8 +68,10 @@ impl Free {
         ensures same { HoldsSame (P.shelf pages.old) (P.shelf pages.new) }
         ensures keeps { P.keeps pages.old pages.new }
         ensures no_fault { OnOk result ((P.shelf pages.new).faults ≡ (P.shelf pages.old).faults) }
-        ensures outside { IfOk result (λ f. IsTrue (P.shelf pages.old).tells → AreOutsideTree live.now (P.shelf pages.old) (P.shelf pages.new) f.free) }
-        ensures sound { IfOk result (λ f. (s : Space) → IsTrue (P.shelf pages.old).tells → IsSoundTree s (nodes_of (P.shelf pages.old).read) live.now →
+        ensures outside { IfOk result (λ f. IsTrue (P.shelf pages.old).tells →
+            AreOutsideTree live.now (P.shelf pages.old) (P.shelf pages.new) f.free) }
+        ensures sound { IfOk result (λ f. (s : Space) → IsTrue (P.shelf pages.old).tells →
+            IsSoundTree s (nodes_of (P.shelf pages.old).read) live.now →
             f.free ≡ outside_pages live.now.pages (live_pages (nodes_of (P.shelf pages.old).read) live.now)) }
         ensures numbers { IfOk result (λ f. AreNumbers live.now.pages f.free) }
         ensures fresh { IfOk result IsFresh }
@@ -80,13 +82,8 @@ impl Free {
         ensures asked { 1 ≤ live.now.pages → (P.shelf pages.new).asked ≤ (P.shelf pages.old).asked + live.now.pages }
         ensures reads { 1 ≤ live.now.pages → (P.shelf pages.new).reads ≤ (P.shelf pages.old).reads + live.now.pages }
     {
-        let walk = match walk_tree(alloc, pages, live) {
-            Ok(walk) => walk,
-            Err(fault) => return Err(fault),
-        };
-        let Ok(free) = unopened(alloc, walk.opened.as_slice(), walk.count) else {
-            return Err(PageFault::Memory);
-        };
+        let walk = walk_tree(alloc, pages, live)?;
+        let free = unopened(alloc, walk.opened.as_slice(), walk.count)?;
         Ok(Free {
             free,
             held: VecDeque::new(alloc),

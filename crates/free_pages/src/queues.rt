@@ -168,7 +168,8 @@ pub fn release(free: &mut VecDeque<u32>, held: &mut VecDeque<Held>, least: Optio
 /// Returns the pages from 3 up that a walk didn't open.
 pub fn unopened(alloc: Global, opened: &[bool], count: usize) -> Result<VecDeque<u32>, Memory>
     requires { length opened.now < 2 ^ 32 }
-    ensures outside { IfOk result (λ free. (tree : List ℕ) → AreOpened opened.now tree → free.items ≡ outside_pages (length opened.now) tree) }
+    ensures outside { IfOk result (λ free. (tree : List ℕ) → AreOpened opened.now tree →
+        free.items ≡ outside_pages (length opened.now) tree) }
     ensures numbers { IfOk result (λ free. AreNumbers (length opened.now) free.items) }
 {
     let mut free = VecDeque::with_capacity(alloc, opened.len().saturating_sub(count))?;

@@ -87,13 +87,8 @@ fn visit<P: Pages>(
     if is_opened(walk.opened.as_slice(), page) {
         return Err(PageFault::Repeats(page));
     }
-    let node = match pages.node(alloc, page) {
-        Ok(node) => node,
-        Err(fault) => return Err(fault),
-    };
-    let Ok(()) = name_children(&mut walk.coming, node.as_ref()) else {
-        return Err(PageFault::Memory);
-    };
+    let node = pages.node(alloc, page)?;
+    name_children(&mut walk.coming, node.as_ref())?;
     walk.opened[page as usize] = true;
     walk.count += 1;
     Ok(())
@@ -111,14 +106,9 @@ pub fn walk_tree<P: Pages>(alloc: Global, pages: &mut P, live: &Live) -> Result<
     ensures asked { 1 ≤ live.now.pages → (P.shelf pages.new).asked ≤ (P.shelf pages.old).asked + live.now.pages }
     ensures reads { 1 ≤ live.now.pages → (P.shelf pages.new).reads ≤ (P.shelf pages.old).reads + live.now.pages }
 {
-    let Ok(mut walk) = begin(alloc, live) else {
-        return Err(PageFault::Memory);
-    };
+    let mut walk = begin(alloc, live)?;
     while let Some(page) = walk.coming.pop() {
-        match visit(alloc, pages, &mut walk, page) {
-            Ok(()) => {}
-            Err(fault) => return Err(fault),
-        }
+        visit(alloc, pages, &mut walk, page)?;
     }
     Ok(walk)
 }

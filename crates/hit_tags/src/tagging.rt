@@ -37,14 +37,9 @@ fn walked_tags<P: Pages>(
     ensures cause { IfErr result (HasTagsCause (P.shelf pages.old) (P.shelf pages.new) (live.now.root ∷ []) found.now.log.records) }
 {
     let hits = found.hits.as_slice();
-    let Ok(mut walk) = Walk::begin(alloc, live.root, hits) else {
-        return Err(PageFault::Memory);
-    };
+    let mut walk = Walk::begin(alloc, live.root, hits)?;
     walk.follow_all(alloc, pages, found.log.records.as_slice(), are_marked)?;
-    match walk.wanted.tags(alloc, hits) {
-        Ok(tags) => Ok(tags),
-        Err(_) => Err(PageFault::Memory),
-    }
+    Ok(walk.wanted.tags(alloc, hits)?)
 }
 
 /// Returns the tag of each hit: the tag of the first object with its id that the walk of the live tree by the found log meets, or 0

@@ -124,10 +124,8 @@ impl Walk {
         if marks.len() != entry_count(node) {
             return Ok(false);
         }
-        match self.take_node(node, marks) {
-            Ok(()) => Ok(true),
-            Err(_) => Err(PageFault::Memory),
-        }
+        self.take_node(node, marks)?;
+        Ok(true)
     }
 
     // Passes over the next needed page.

@@ -1,8 +1,10 @@
 ghost use Rattle.std.specs.Prelude.{◌≡◌, MatchResult, Ok, Err};
 ghost use Rattle.index_core.specs.Causes.{place_fault, read_fault};
+ghost use Rattle.index_core.specs.declared.faults.IndexFault.TheVariants.{Memory};
 
 use insert_path::PlaceFault;
 use page_store::PageFault;
+use std::alloc::AllocError;
 use thiserror::Error;
 
 /// Why a call of an opened index was refused.
@@ -36,6 +38,14 @@ pub enum IndexFault {
     /// The disk failed in the commit: the file has the tree before or the one after, and has to be opened anew.
     #[error("the commit failed")]
     Commit,
+}
+
+impl From<AllocError> for IndexFault {
+    ghost from_gives = { λ _ e. e ≡ Memory };
+
+    fn from(_error: AllocError) -> IndexFault {
+        IndexFault::Memory
+    }
 }
 
 // Maps a walk's fault to the index's.

@@ -71,15 +71,13 @@ impl<M: Metric> Index<M> {
         if disk.sync().is_err() {
             return Err(OpenFault::Disk);
         }
-        match View::open_read(disk, metric) {
-            Ok(view) => Ok(Index {
-                view,
-                free: None,
-                stopped: false,
-                workers: 1,
-            }),
-            Err(fault) => Err(fault),
-        }
+        let view = View::open_read(disk, metric)?;
+        Ok(Index {
+            view,
+            free: None,
+            stopped: false,
+            workers: 1,
+        })
     }
 
     /// States what always holds of an opened index, for callers that hold a reference to one.
@@ -166,7 +164,8 @@ impl<M: Metric> Index<M> {
         ensures rest { self.new ≡ record self.old { file = self.new.file } }
         ensures searched { self.old.stopped ≡ false → HasSearched (M.space self.old.file.metric) self.old.file (Range q.now r)
             (D.state disk.old) (D.state disk.new) result }
-        ensures found { IfOk result (IsFoundOn (M.space self.old.file.metric) self.old.file (Range q.now r) (D.state disk.old) (D.state disk.new)) }
+        ensures found { IfOk result (IsFoundOn (M.space self.old.file.metric) self.old.file (Range q.now r) (D.state disk.old)
+            (D.state disk.new)) }
         ensures cause { self.old.stopped ≡ false →
             IfErr result (HasRangeCause (M.space self.old.file.metric) self.old.file q.now r (D.state disk.old)
             (D.state disk.new)) }
@@ -221,7 +220,8 @@ impl<M: Metric> Index<M> {
         ensures no_fault { OnOk result ((D.state disk.new).faults ≡ (D.state disk.old).faults) }
         ensures few { (D.state disk.new).reads ≤ (D.state disk.old).reads + self.old.file.live.pages }
         ensures rest { self.new ≡ record self.old { file = self.new.file } }
-        ensures drawn { self.old.stopped ≡ false → HasDrawn (M.space self.old.file.metric) self.old.file (D.state disk.old) (D.state disk.new) result }
+        ensures drawn { self.old.stopped ≡ false →
+            HasDrawn (M.space self.old.file.metric) self.old.file (D.state disk.old) (D.state disk.new) result }
     {
         if self.stopped {
             return Err(IndexFault::Stopped);

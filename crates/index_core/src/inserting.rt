@@ -34,7 +34,8 @@ impl<M: Metric> Index<M> {
         requires lawful { IsLawfulFree self.old.file.live free }
         requires beside { IsTrue (D.state disk.old).tells → AreSpare (nodes_on self.old.file (D.state disk.old)) self.old.file.live free }
         requires placed { IsPlacedOn self.old.file free placement.now.used placement.now.placed }
-        requires follows { IsTrue (D.state disk.old).tells → Follows (nodes_on self.old.file (D.state disk.old)) self.old.file.live placement.now.placed }
+        requires follows { IsTrue (D.state disk.old).tells →
+            Follows (nodes_on self.old.file (D.state disk.old)) self.old.file.live placement.now.placed }
         ensures stands { MayGoOn self.new (D.state disk.new) }
         ensures written { (write : Write) → placement.now.placed.next.count ≡ self.old.file.live.count + added_by write →
             answer ≡ answer_to write self.old.file.live.count →
@@ -42,7 +43,8 @@ impl<M: Metric> Index<M> {
             IsPlacedFor (M.space self.old.file.metric) self.old.file.head write (nodes_on self.old.file (D.state disk.old))
             self.old.file.live placement.now.placed) →
             IsNumberedFor write self.old.file free placement.now.placed →
-            HasWritten (M.space self.old.file.metric) write (record self.old { free = Some free }) self.new (D.state disk.old) (D.state disk.new) result }
+            HasWritten (M.space self.old.file.metric) write (record self.old { free = Some free }) self.new (D.state disk.old)
+            (D.state disk.new) result }
         ensures refusals { IfErr result (λ fault. (fault ≡ IndexFault.Memory) ⊎ (fault ≡ IndexFault.Commit)) }
         ensures rose { IfErr result (λ fault. fault ≡ IndexFault.Commit → Rose (D.state disk.old).faults (D.state disk.new).faults) }
         ensures tells { (D.state disk.new).tells ≡ (D.state disk.old).tells }
@@ -81,15 +83,19 @@ impl<M: Metric> Index<M> {
         ensures stands { MayGoOn self.new (D.state disk.new) }
         ensures stopped { self.old.stopped ≡ true → (result ≡ Err IndexFault.Stopped) × (self.new ≡ self.old) × (disk.new ≡ disk.old) }
         ensures written { self.old.stopped ≡ false →
-            HasWritten (M.space self.old.file.metric) (Inserts p.now self.old.file.live.count) self.old self.new (D.state disk.old) (D.state disk.new) result }
+            HasWritten (M.space self.old.file.metric) (Inserts p.now self.old.file.live.count) self.old self.new
+            (D.state disk.old) (D.state disk.new) result }
         ensures full { self.old.stopped ≡ false → (result ≡ Err IndexFault.Full) ↔ (self.old.file.live.count ≡ self.old.file.head.limit) }
         ensures worn { self.old.stopped ≡ false →
-            (result ≡ Err IndexFault.Worn) ↔ ((self.old.file.live.count ≢ self.old.file.head.limit) × (self.old.file.live.generation ≡ 2 ^ 48 - 1)) }
+            (result ≡ Err IndexFault.Worn) ↔
+            ((self.old.file.live.count ≢ self.old.file.head.limit) × (self.old.file.live.generation ≡ 2 ^ 48 - 1)) }
         ensures cause { IfErr result (HasInsertCause (M.space self.old.file.metric) self.old
-            (record { id = self.old.file.live.count; tag = self.old.file.live.count; point = p.now }) (D.state disk.old) (D.state disk.new)) }
+            (record { id = self.old.file.live.count; tag = self.old.file.live.count; point = p.now }) (D.state disk.old)
+            (D.state disk.new)) }
         // A page that the refusal blames is damaged.
         ensures damage { IfErr result (BlamesDamage self.old.file (D.state disk.old)) }
-        ensures undamaged { IfErr result (λ fault. IsSoundOn (M.space self.old.file.metric) self.old.file (D.state disk.old) → BlamesNoPage fault) }
+        ensures undamaged { IfErr result (λ fault.
+            IsSoundOn (M.space self.old.file.metric) self.old.file (D.state disk.old) → BlamesNoPage fault) }
         ensures few { IsSome self.old.free → (D.state disk.new).reads ≤ (D.state disk.old).reads + (self.old.file.live.height + 2) }
         ensures most { (D.state disk.new).reads ≤ (D.state disk.old).reads + (self.old.file.live.pages + (self.old.file.live.height + 2)) }
         ensures tells { (D.state disk.new).tells ≡ (D.state disk.old).tells }
@@ -126,12 +132,14 @@ impl<M: Metric> Index<M> {
             (D.state disk.new) result }
         ensures full { self.old.stopped ≡ false → (result ≡ Err IndexFault.Full) ↔ (self.old.file.live.count ≡ self.old.file.head.limit) }
         ensures worn { self.old.stopped ≡ false →
-            (result ≡ Err IndexFault.Worn) ↔ ((self.old.file.live.count ≢ self.old.file.head.limit) × (self.old.file.live.generation ≡ 2 ^ 48 - 1)) }
+            (result ≡ Err IndexFault.Worn) ↔
+            ((self.old.file.live.count ≢ self.old.file.head.limit) × (self.old.file.live.generation ≡ 2 ^ 48 - 1)) }
         ensures cause { IfErr result (HasInsertCause (M.space self.old.file.metric) self.old
             (record { id = self.old.file.live.count; tag = tag; point = p.now }) (D.state disk.old) (D.state disk.new)) }
         // A page that the refusal blames is damaged.
         ensures damage { IfErr result (BlamesDamage self.old.file (D.state disk.old)) }
-        ensures undamaged { IfErr result (λ fault. IsSoundOn (M.space self.old.file.metric) self.old.file (D.state disk.old) → BlamesNoPage fault) }
+        ensures undamaged { IfErr result (λ fault.
+            IsSoundOn (M.space self.old.file.metric) self.old.file (D.state disk.old) → BlamesNoPage fault) }
         ensures few { IsSome self.old.free → (D.state disk.new).reads ≤ (D.state disk.old).reads + (self.old.file.live.height + 2) }
         ensures most { (D.state disk.new).reads ≤ (D.state disk.old).reads + (self.old.file.live.pages + (self.old.file.live.height + 2)) }
         ensures tells { (D.state disk.new).tells ≡ (D.state disk.old).tells }

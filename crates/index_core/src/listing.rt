@@ -27,8 +27,10 @@ impl<M: Metric> View<M> {
         ensures kept { IfOk result IsKept }
         ensures made { IfOk result (IsMadeList self.old (D.state disk.old)) }
         ensures lawful { IfOk result (IsLawfulFree self.old.live) }
-        ensures beside { IfOk result (λ f. IsTrue (D.state disk.old).tells → AreSpare (nodes_on self.old (D.state disk.old)) self.old.live f) }
-        ensures exact { IfOk result (λ f. IsSoundOn (M.space self.old.metric) self.old (D.state disk.old) → IsExactFor self.old f (D.state disk.old)) }
+        ensures beside { IfOk result (λ f. IsTrue (D.state disk.old).tells →
+            AreSpare (nodes_on self.old (D.state disk.old)) self.old.live f) }
+        ensures exact { IfOk result (λ f. IsSoundOn (M.space self.old.metric) self.old (D.state disk.old) →
+            IsExactFor self.old f (D.state disk.old)) }
         ensures cause { IfErr result (HasListCause self.old (D.state disk.old) (D.state disk.new).faults) }
         ensures undamaged { IfErr result (λ fault. IsSoundOn (M.space self.old.metric) self.old (D.state disk.old) → BlamesNoPage fault) }
     {
@@ -62,13 +64,15 @@ impl<M: Metric> Index<M> {
         ensures list { IfOk result (IsListOf self.old (D.state disk.old)) }
         ensures kept { IfOk result IsKept }
         ensures lawful { IfOk result (IsLawfulFree self.old.file.live) }
-        ensures beside { IfOk result (λ f. IsTrue (D.state disk.old).tells → AreSpare (nodes_on self.old.file (D.state disk.old)) self.old.file.live f) }
-        ensures exact { IfOk result (λ f. IsSoundOn (M.space self.old.file.metric) self.old.file (D.state disk.old) → IsExact self.old (D.state disk.old) →
-            IsExactFor self.old.file f (D.state disk.old)) }
+        ensures beside { IfOk result (λ f. IsTrue (D.state disk.old).tells →
+            AreSpare (nodes_on self.old.file (D.state disk.old)) self.old.file.live f) }
+        ensures exact { IfOk result (λ f. IsSoundOn (M.space self.old.file.metric) self.old.file (D.state disk.old) →
+            IsExact self.old (D.state disk.old) → IsExactFor self.old.file f (D.state disk.old)) }
         ensures there { IsSome self.old.free → disk.new ≡ disk.old }
         ensures made { IfErr result (λ fault. self.old.free ≡ None) }
         ensures cause { IfErr result (HasListCause self.old.file (D.state disk.old) (D.state disk.new).faults) }
-        ensures undamaged { IfErr result (λ fault. IsSoundOn (M.space self.old.file.metric) self.old.file (D.state disk.old) → BlamesNoPage fault) }
+        ensures undamaged { IfErr result (λ fault.
+            IsSoundOn (M.space self.old.file.metric) self.old.file (D.state disk.old) → BlamesNoPage fault) }
     {
         if let Some(free) = self.free.take() {
             free.are_kept();

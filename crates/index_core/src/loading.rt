@@ -66,9 +66,7 @@ impl<M: Metric> View<M> {
     {
         free.are_kept();
         let (head, live) = (self.head, self.live);
-        let Ok(numbers) = free.least(alloc, free.len()) else {
-            return Err(IndexFault::Memory);
-        };
+        let numbers = free.least(alloc, free.len())?;
         let answer = build(
             crew,
             alloc,
@@ -143,10 +141,10 @@ impl<M: Metric> Index<M> {
         requires fits { All (λ p. IsTrue ((M.space self.old.file.metric).fits p)) rows.now.points }
         requires tags { length tags.now ≡ length rows.now.points }
         ensures stands { MayGoOn self.new (D.state disk.new) }
-        ensures written { HasWritten (M.space self.old.file.metric) (Loads rows.now.points tags.now) (record self.old { free = Some free }) self.new
-            (D.state disk.old) (D.state disk.new) result }
-        ensures cause { IfErr result (HasLoadingCause (M.space self.old.file.metric) (record self.old { free = Some free }) rows.now.points tags.now
-            (D.state disk.old) (D.state disk.new).faults) }
+        ensures written { HasWritten (M.space self.old.file.metric) (Loads rows.now.points tags.now)
+            (record self.old { free = Some free }) self.new (D.state disk.old) (D.state disk.new) result }
+        ensures cause { IfErr result (HasLoadingCause (M.space self.old.file.metric) (record self.old { free = Some free })
+            rows.now.points tags.now (D.state disk.old) (D.state disk.new).faults) }
         ensures undamaged { IfErr result BlamesNoPage }
         ensures tells { (D.state disk.new).tells ≡ (D.state disk.old).tells }
         ensures reads { (D.state disk.new).reads ≤ (D.state disk.old).reads + 1 }
@@ -193,7 +191,8 @@ impl<M: Metric> Index<M> {
             (ids (length rows.now.points)) (D.state disk.old) (D.state disk.new).faults) }
         // A page that the refusal blames is damaged.
         ensures damage { IfErr result (BlamesDamage self.old.file (D.state disk.old)) }
-        ensures undamaged { IfErr result (λ fault. IsSoundOn (M.space self.old.file.metric) self.old.file (D.state disk.old) → BlamesNoPage fault) }
+        ensures undamaged { IfErr result (λ fault.
+            IsSoundOn (M.space self.old.file.metric) self.old.file (D.state disk.old) → BlamesNoPage fault) }
         ensures few { IsSome self.old.free → (D.state disk.new).reads ≤ (D.state disk.old).reads + 1 }
         ensures most { (D.state disk.new).reads ≤ (D.state disk.old).reads + (self.old.file.live.pages + 1) }
         ensures tells { (D.state disk.new).tells ≡ (D.state disk.old).tells }
@@ -204,9 +203,7 @@ impl<M: Metric> Index<M> {
         if let Err(fault) = self.may_load(rows.len()) {
             return Err(fault);
         }
-        let Ok(tags) = tags_of(alloc, rows.len()) else {
-            return Err(IndexFault::Memory);
-        };
+        let tags = tags_of(alloc, rows.len())?;
         self.load_tagged(crew, alloc, disk, rows, tags.as_slice())
     }
 
@@ -236,13 +233,15 @@ impl<M: Metric> Index<M> {
             (result ≡ Err fault) × (self.new ≡ self.old) × (disk.new ≡ disk.old) }
         ensures stands { MayGoOn self.new (D.state disk.new) }
         ensures written { self.old.stopped ≡ false →
-            HasWritten (M.space self.old.file.metric) (Loads rows.now.points tags.now) self.old self.new (D.state disk.old) (D.state disk.new) result }
+            HasWritten (M.space self.old.file.metric) (Loads rows.now.points tags.now) self.old self.new (D.state disk.old)
+            (D.state disk.new) result }
         ensures cause { load_fault self.old (length rows.now.points) ≡ None →
             IfErr result (HasLoadingCause (M.space self.old.file.metric) self.old rows.now.points tags.now
             (D.state disk.old) (D.state disk.new).faults) }
         // A page that the refusal blames is damaged.
         ensures damage { IfErr result (BlamesDamage self.old.file (D.state disk.old)) }
-        ensures undamaged { IfErr result (λ fault. IsSoundOn (M.space self.old.file.metric) self.old.file (D.state disk.old) → BlamesNoPage fault) }
+        ensures undamaged { IfErr result (λ fault.
+            IsSoundOn (M.space self.old.file.metric) self.old.file (D.state disk.old) → BlamesNoPage fault) }
         ensures few { IsSome self.old.free → (D.state disk.new).reads ≤ (D.state disk.old).reads + 1 }
         ensures most { (D.state disk.new).reads ≤ (D.state disk.old).reads + (self.old.file.live.pages + 1) }
         ensures tells { (D.state disk.new).tells ≡ (D.state disk.old).tells }

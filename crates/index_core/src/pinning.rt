@@ -34,7 +34,8 @@ impl<M: Metric> Index<M> {
         ensures pinned { OnOk result (HasPinned self.old.file.live.generation self.old self.new) }
         // The pages to which child numbers lead are guarded from now on, and what was guarded stays so.
         ensures guards { OnOk result (IsTrue (D.state disk.old).tells → (tree : List ℕ) →
-            AreReached (nodes_on self.old.file (D.state disk.old)) self.old.file.live.root tree → GuardsPages self.old.file.live.generation tree self.new) }
+            AreReached (nodes_on self.old.file (D.state disk.old)) self.old.file.live.root tree →
+            GuardsPages self.old.file.live.generation tree self.new) }
         ensures guarded { (generation : ℕ) (tree : List ℕ) → GuardsPages generation tree self.old → GuardsPages generation tree self.new }
         ensures exact { IsSoundOn (M.space self.old.file.metric) self.old.file (D.state disk.old) → IsExact self.old (D.state disk.old) →
             IsExact self.new (D.state disk.new) }
@@ -43,7 +44,8 @@ impl<M: Metric> Index<M> {
         // A page that the refusal blames is damaged.
         ensures damage { IfErr result (BlamesDamage self.old.file (D.state disk.old)) }
         ensures made { self.old.stopped ≡ false → IfErr result (λ fault. fault ≢ IndexFault.Memory → self.old.free ≡ None) }
-        ensures undamaged { IfErr result (λ fault. IsSoundOn (M.space self.old.file.metric) self.old.file (D.state disk.old) → BlamesNoPage fault) }
+        ensures undamaged { IfErr result (λ fault.
+            IsSoundOn (M.space self.old.file.metric) self.old.file (D.state disk.old) → BlamesNoPage fault) }
     {
         if self.stopped {
             return Err(IndexFault::Stopped);
@@ -73,7 +75,8 @@ impl<M: Metric> Index<M> {
     pub fn unpin(&mut self, generation: u64)
         requires { IsPinned generation self.old }
         ensures list { MatchOption self.old.free ⊥ (λ f. self.new ≡ record self.old { free = Some (unpinned generation f) }) }
-        ensures guarded { (other : ℕ) (tree : List ℕ) → IsPinned other self.new → GuardsPages other tree self.old → GuardsPages other tree self.new }
+        ensures guarded { (other : ℕ) (tree : List ℕ) → IsPinned other self.new → GuardsPages other tree self.old →
+            GuardsPages other tree self.new }
         // The same pages are free or held as before.
         ensures beside { (nodes : Nodes) → LiesBesideTree nodes self.old → LiesBesideTree nodes self.new }
         ensures outside { (tree : List ℕ) → LiesOutside tree self.old → LiesOutside tree self.new }

@@ -51,7 +51,8 @@ impl<M: Metric> View<M> {
         ensures takes_place { IfOk result (λ placement. IsTrue (D.state disk.old).tells →
             TakesPlace (nodes_on self.old (D.state disk.old)) self.old.live placement.placed) }
         ensures inserts { IfOk result (λ placement. IsSoundOn (M.space self.old.metric) self.old (D.state disk.old) →
-            IsPlacedFor (M.space self.old.metric) self.old.head (Inserts p.now tag) (nodes_on self.old (D.state disk.old)) self.old.live placement.placed) }
+            IsPlacedFor (M.space self.old.metric) self.old.head (Inserts p.now tag) (nodes_on self.old (D.state disk.old))
+            self.old.live placement.placed) }
         ensures cause { IfErr result (HasPathCause (M.space self.old.metric) self.old free.now
             (record { id = self.old.live.count; tag = tag; point = p.now }) (D.state disk.old) (D.state disk.new)) }
         ensures undamaged { IfErr result (λ fault. IsSoundOn (M.space self.old.metric) self.old (D.state disk.old) → BlamesNoPage fault) }
@@ -59,9 +60,7 @@ impl<M: Metric> View<M> {
     {
         free.are_kept();
         let (head, live) = (self.head, self.live);
-        let Ok(numbers) = free.least(alloc, 2 * live.height as usize + 3) else {
-            return Err(IndexFault::Memory);
-        };
+        let numbers = free.least(alloc, 2 * live.height as usize + 3)?;
         let mut ruler = Meter::new(self.metric);
         let mut pages = self.lend(disk);
         let answer = place(

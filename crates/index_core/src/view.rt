@@ -45,7 +45,12 @@ impl<M: Metric> Model for View<M> {
 
     ghost view = { λ o. record { head = o.head; live = o.live; metric = o.metric; kept = o.kept } };
 
-    ghost invariant = { λ o. IsLawfulFile (M.space o.metric).words (record { head = o.head; live = o.live; metric = o.metric; kept = o.kept }) };
+    ghost invariant = { λ o. IsLawfulFile (M.space o.metric).words (record {
+      head = o.head;
+      live = o.live;
+      metric = o.metric;
+      kept = o.kept;
+    }) };
 }
 
 impl<M: Metric> View<M> {
@@ -63,10 +68,7 @@ impl<M: Metric> View<M> {
         ensures later { (D.state disk.old).faults ≤ (D.state disk.new).faults }
         ensures no_fault { OnOk result ((D.state disk.new).faults ≡ (D.state disk.old).faults) }
     {
-        let (head, live) = match open(disk) {
-            Ok(opened) => opened,
-            Err(fault) => return Err(fault),
-        };
+        let (head, live) = open(disk)?;
         if head.version != 2 {
             return Err(OpenFault::Head(HeadFault::Version));
         }

@@ -56,7 +56,8 @@ impl<M: Metric> View<M> {
         ensures moments { IsTrue (D.state disk.old).tells →
             EachImage (D.state disk.old) (D.state disk.new)
             (IsBeforeOrAfter self.old.head.dim self.old.live placed.now.next placed.now.staged (D.state disk.old)) }
-        ensures committed { OnOk result (IsCommitted self.old self.new free.old free.new used placed.now (D.state disk.old) (D.state disk.new)) }
+        ensures committed { OnOk result (IsCommitted self.old self.new free.old free.new used placed.now (D.state disk.old)
+            (D.state disk.new)) }
         ensures tells { (D.state disk.new).tells ≡ (D.state disk.old).tells }
         ensures reads { (D.state disk.new).reads ≤ (D.state disk.old).reads + 1 }
         ensures cause { HasCause (D.state disk.old).faults (D.state disk.new).faults result }

@@ -64,8 +64,10 @@ fn see(seen: Seen, aim: Aim) -> Seen
 fn see_all<R: Ruler>(ruler: &mut R, entries: &[InnerEntry], p: &[u32]) -> Seen
     ensures metric { R.metric ruler.new ≡ R.metric ruler.old }
     ensures counted { HasCounted (length entries.now) (R.used ruler.old) (R.used ruler.new) }
-    ensures inside { result.inside ≡ first_least (λ a. a.dist) (filter is_inside (aims (R.M.space (R.metric ruler.old)) p.now 0 (map inner_ball entries.now))) }
-    ensures outside { result.outside ≡ first_least excess (filter is_outside (aims (R.M.space (R.metric ruler.old)) p.now 0 (map inner_ball entries.now))) }
+    ensures inside { result.inside ≡ first_least (λ a. a.dist)
+        (filter is_inside (aims (R.M.space (R.metric ruler.old)) p.now 0 (map inner_ball entries.now))) }
+    ensures outside { result.outside ≡ first_least excess
+        (filter is_outside (aims (R.M.space (R.metric ruler.old)) p.now 0 (map inner_ball entries.now))) }
 {
     let mut seen = Seen {
         inside: None,

@@ -97,7 +97,8 @@ fn at_leaf<R: Ruler>(
     requires room { 2 * task.now.bounds.least ≤ task.now.bounds.most }
     ensures metric { R.metric ruler.new ≡ R.metric ruler.old }
     ensures count { OnOk result (length nodes.new.items ≤ length nodes.old.items + 2) }
-    ensures within { parent_distance (R.M.space (R.metric ruler.old)) (above_of spot.now.root spot.now.above.now) task.now.object.point.now ≤ bound }
+    ensures within { parent_distance (R.M.space (R.metric ruler.old)) (above_of spot.now.root spot.now.above.now)
+        task.now.object.point.now ≤ bound }
     ensures staged { IfOk result (λ g. let P = plan_of (R.M.space (R.metric ruler.old)) task.now.policy task.now.bounds
         (number_at task.now.numbering.numbers.now task.now.numbering.first)
         (record { id = task.now.object.id; tag = task.now.object.tag; point = task.now.object.point.now }) in IsStaged P leaf_ball
@@ -200,10 +201,7 @@ pub fn descend<P: Pages, R: Ruler>(
                 return Err(PageFault::Level(spot.page));
             }
             let entries = entries.into_vec();
-            match at_leaf(alloc, ruler, task, spot, entries, &mut written.nodes) {
-                Ok(grew) => Ok(grew),
-                Err(_) => Err(PageFault::Memory),
-            }
+            Ok(at_leaf(alloc, ruler, task, spot, entries, &mut written.nodes)?)
         }
         Node::Inner { level, entries } => {
             if level != spot.level {
@@ -224,10 +222,7 @@ pub fn descend<P: Pages, R: Ruler>(
                 place,
                 grew,
             };
-            match back_at(alloc, ruler, task, spot, regrowth, &mut written.nodes) {
-                Ok(grew) => Ok(grew),
-                Err(_) => Err(PageFault::Memory),
-            }
+            Ok(back_at(alloc, ruler, task, spot, regrowth, &mut written.nodes)?)
         }
     }
 }

@@ -1,7 +1,9 @@
 ghost use Rattle.std.specs.Prelude.{◌≡◌};
 ghost use Rattle.insert_path.specs.Causes.{fault_of};
+ghost use Rattle.insert_path.specs.declared.faults.PlaceFault.TheVariants.{Memory};
 
 use page_store::PageFault;
+use std::alloc::AllocError;
 use thiserror::Error;
 
 /// Why an object could not be inserted. The faults are tried in the order `Full`, `Worn`, `Page`, `NoRoom`. `Memory` may come
@@ -24,6 +26,14 @@ pub enum PlaceFault {
     /// Memory ran out.
     #[error("out of memory")]
     Memory,
+}
+
+impl From<AllocError> for PlaceFault {
+    ghost from_gives = { λ _ e. e ≡ Memory };
+
+    fn from(_error: AllocError) -> PlaceFault {
+        PlaceFault::Memory
+    }
 }
 
 /// Maps the fault of a walk to that of the insertion.

@@ -49,7 +49,8 @@ fn stage_root(
     requires first { task.now.numbering.first ≤ 2 ^ 24 }
     requires few { length nodes.old.items < 2 ^ 10 }
     ensures page { IfOk result (λ p. p ≡ number_at task.now.numbering.numbers.now task.now.numbering.first (length nodes.old.items)) }
-    ensures staged { OnOk result (nodes.new.items ≡ nodes.old.items ++ Node.Inner level (root_entry halves.0 ∷ root_entry halves.1 ∷ []) ∷ []) }
+    ensures staged { OnOk result (nodes.new.items ≡
+        nodes.old.items ++ Node.Inner level (root_entry halves.0 ∷ root_entry halves.1 ∷ []) ∷ []) }
     ensures count { OnOk result (length nodes.new.items ≡ length nodes.old.items + 1) }
 {
     let entries = root_entries(alloc, halves.0, halves.1)?;
@@ -90,16 +91,14 @@ fn grow_root(
                 return Err(PlaceFault::Page(PageFault::Level(live.root)));
             }
             let level = live.height as u8 + 1;
-            match stage_root(alloc, task, level, (first, second), &mut nodes) {
-                Ok(root) => Ok(NewTree {
-                    nodes,
-                    root,
-                    height: live.height + 1,
-                    added: 1,
-                    left,
-                }),
-                Err(_) => Err(PlaceFault::Memory),
-            }
+            let root = stage_root(alloc, task, level, (first, second), &mut nodes)?;
+            Ok(NewTree {
+                nodes,
+                root,
+                height: live.height + 1,
+                added: 1,
+                left,
+            })
         }
     }
 }

@@ -59,7 +59,8 @@ pub fn place<P: Pages, R: Ruler>(
 
     // Page by page, the new nodes take the place of what is left, also on a file that isn't sound.
     ensures left_within { IfOk result (λ placed. AllByRecursion (IsWithin live.now.pages) placed.left) }
-    ensures takes_place { IfOk result (λ placed. IsTrue (P.shelf pages.old).tells → TakesPlace (nodes_of (P.shelf pages.old).read) live.now placed) }
+    ensures takes_place { IfOk result (λ placed. IsTrue (P.shelf pages.old).tells →
+        TakesPlace (nodes_of (P.shelf pages.old).read) live.now placed) }
 
     // What is placed is the insertion's.
     ensures walked { IfOk result (λ placed. IsTrue (P.shelf pages.old).tells →

@@ -65,7 +65,8 @@ fn stage_half<E: NodeEntry>(
 ) -> Result<Stem, Memory>
     requires first { task.now.numbering.first ≤ 2 ^ 24 }
     requires few { length nodes.old.items < 2 ^ 10 }
-    ensures stem { IfOk result (λ s. s ≡ stem_of (number_at task.now.numbering.numbers.now task.now.numbering.first (length nodes.old.items)) half) }
+    ensures stem { IfOk result (λ s.
+        s ≡ stem_of (number_at task.now.numbering.numbers.now task.now.numbering.first (length nodes.old.items)) half) }
     ensures staged { OnOk result (nodes.new.items ≡ nodes.old.items ++ E.make level half.entries ∷ []) }
     ensures count { OnOk result (length nodes.new.items ≡ length nodes.old.items + 1) }
 {
@@ -95,7 +96,8 @@ fn stage_halves<E: NodeEntry>(
         g ≡ Grew.Two (stem_of (number_at task.now.numbering.numbers.now task.now.numbering.first (length nodes.old.items))
         halves.first) (stem_of (number_at task.now.numbering.numbers.now task.now.numbering.first (length nodes.old.items + 1))
         halves.second)) }
-    ensures staged { OnOk result (nodes.new.items ≡ nodes.old.items ++ E.make level halves.first.entries ∷ E.make level halves.second.entries ∷ []) }
+    ensures staged { OnOk result (nodes.new.items ≡
+        nodes.old.items ++ E.make level halves.first.entries ∷ E.make level halves.second.entries ∷ []) }
     ensures count { OnOk result (length nodes.new.items ≡ length nodes.old.items + 2) }
 {
     let Halves { first, second } = halves;

@@ -30,8 +30,10 @@ fn check_object<R: Ruler>(
 ) -> Checked
     ensures metric { R.metric ruler.new ≡ R.metric ruler.old }
     ensures counted { R.used ruler.new ≡ count_up (R.used ruler.old) (measured_by (mark ∷ [])) }
-    ensures allowed { result.allowed ≡ allows_object (search_at (R.M.space (R.metric ruler.old)) probe.entry.q.now probe.entry.rho) above entry.now mark }
-    ensures dist { mark ≡ Near → result.dist ≡ away (search_at (R.M.space (R.metric ruler.old)) probe.entry.q.now probe.entry.rho) entry.now.point }
+    ensures allowed { result.allowed ≡
+        allows_object (search_at (R.M.space (R.metric ruler.old)) probe.entry.q.now probe.entry.rho) above entry.now mark }
+    ensures dist { mark ≡ Near →
+        result.dist ≡ away (search_at (R.M.space (R.metric ruler.old)) probe.entry.q.now probe.entry.rho) entry.now.point }
 {
     match mark {
         Mark::Skip => Checked {
@@ -62,8 +64,10 @@ fn check_subtree<R: Ruler>(
 ) -> Checked
     ensures metric { R.metric ruler.new ≡ R.metric ruler.old }
     ensures counted { R.used ruler.new ≡ count_up (R.used ruler.old) (measured_by (mark ∷ [])) }
-    ensures allowed { result.allowed ≡ allows_subtree (search_at (R.M.space (R.metric ruler.old)) probe.entry.q.now probe.entry.rho) above entry.now mark }
-    ensures dist { mark ≡ Near → result.dist ≡ away (search_at (R.M.space (R.metric ruler.old)) probe.entry.q.now probe.entry.rho) entry.now.point }
+    ensures allowed { result.allowed ≡
+        allows_subtree (search_at (R.M.space (R.metric ruler.old)) probe.entry.q.now probe.entry.rho) above entry.now mark }
+    ensures dist { mark ≡ Near →
+        result.dist ≡ away (search_at (R.M.space (R.metric ruler.old)) probe.entry.q.now probe.entry.rho) entry.now.point }
 {
     match mark {
         Mark::Skip => Checked {

@@ -92,7 +92,8 @@ fn check_subtree<R: Ruler>(
     ensures metric { R.metric ruler.new ≡ R.metric ruler.old }
     ensures allowed { result.allowed ≡ allows_entry (search_within (R.M.space (R.metric ruler.old)) probe.entry.rho) probe.entry.need.now
         (subtree_entry level entry.now) mark }
-    ensures apart { mark ≡ Near → result.apart ≡ (subtree_pair (R.M.space (R.metric ruler.old)) probe.entry.need.now level entry.now).apart }
+    ensures apart { mark ≡ Near →
+        result.apart ≡ (subtree_pair (R.M.space (R.metric ruler.old)) probe.entry.need.now level entry.now).apart }
     ensures counted { CountsUpTo (R.used ruler.old) (R.used ruler.new) (measured_by (mark ∷ [])) }
 {
     match mark {

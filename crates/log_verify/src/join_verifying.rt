@@ -47,7 +47,8 @@ pub fn verify_join<P: Pages, Q: Pages, R: Ruler>(
     ensures faultless { OnOk result (IsTrue (P.shelf left.old).tells → IsTrue (Q.shelf right.old).tells →
         join_fault (R.M.space (R.metric ruler.old)) (P.shelf left.old).read (Q.shelf right.old).read ll.now lr.now log.now ≡ None) }
     ensures sound { OnOk result (IsTrue (P.shelf left.old).tells → IsTrue (Q.shelf right.old).tells →
-        IsSoundJoinLog (R.M.space (R.metric ruler.old)) (nodes_of (P.shelf left.old).read) (nodes_of (Q.shelf right.old).read) ll.now lr.now log.now) }
+        IsSoundJoinLog (R.M.space (R.metric ruler.old)) (nodes_of (P.shelf left.old).read) (nodes_of (Q.shelf right.old).read)
+        ll.now lr.now log.now) }
     // The verdict is the first fault.
     ensures cause { IfErr result (λ v. HasJoinCause (P.shelf left.old) (P.shelf left.new) (Q.shelf right.old) (Q.shelf right.new) v
         (join_fault (R.M.space (R.metric ruler.old)) (P.shelf left.old).read (Q.shelf right.old).read ll.now lr.now log.now ≡ Some v)) }

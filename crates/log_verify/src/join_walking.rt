@@ -104,7 +104,8 @@ fn opened_node<P: Pages, Q: Pages>(
     ensures few { IfOk result (λ node. entry_count node < 2 ^ 32) }
     ensures told { IfOk result (λ node. IsTrue (P.shelf left.old).tells → IsTrue (Q.shelf right.old).tells →
         read_of (P.shelf left.old).read (Q.shelf right.old).read (opens_right need.now) (page_of (opened need.now)) ≡ Ok node) }
-    ensures cause { IfErr result (λ v. IsJoinPageVerdict (P.shelf left.old) (P.shelf left.new) (Q.shelf right.old) (Q.shelf right.new) need.now v) }
+    ensures cause { IfErr result (λ v.
+        IsJoinPageVerdict (P.shelf left.old) (P.shelf left.new) (Q.shelf right.old) (Q.shelf right.new) need.now v) }
     ensures few_asked { AskBothUpTo (P.shelf left.old) (P.shelf left.new) (Q.shelf right.old) (Q.shelf right.new) 1 }
 {
     let page = need.opened().page();
@@ -146,8 +147,8 @@ fn take_record<P: Pages, Q: Pages, R: Ruler>(
         (Q.shelf right.old).read walk.old.named.hits.items (reverse walk.old.stack.items) (told.now ∷ rs) walk.old.taken
         ≡ join_walked (search_within (R.M.space (R.metric ruler.old)) walk.old.rho) (P.shelf left.old).read
         (Q.shelf right.old).read walk.new.named.hits.items (reverse walk.new.stack.items) rs walk.new.taken) }
-    ensures cause { IfErr result (λ v. HasJoinCause (P.shelf left.old) (P.shelf left.new) (Q.shelf right.old) (Q.shelf right.new) v ((rs : List JoinRecord) →
-        join_walked (search_within (R.M.space (R.metric ruler.old)) walk.old.rho) (P.shelf left.old).read
+    ensures cause { IfErr result (λ v. HasJoinCause (P.shelf left.old) (P.shelf left.new) (Q.shelf right.old) (Q.shelf right.new) v
+        ((rs : List JoinRecord) → join_walked (search_within (R.M.space (R.metric ruler.old)) walk.old.rho) (P.shelf left.old).read
         (Q.shelf right.old).read walk.old.named.hits.items (reverse walk.old.stack.items) (told.now ∷ rs) walk.old.taken
         ≡ Err v)) }
     ensures few_asked { AskBothUpTo (P.shelf left.old) (P.shelf left.new) (Q.shelf right.old) (Q.shelf right.new) 1 }
@@ -172,14 +173,13 @@ fn take_record<P: Pages, Q: Pages, R: Ruler>(
         reach: need.other().radius(),
     };
     walk.named.needs.clear();
-    match check_node(ruler, probe, node, marks, &mut walk.named) {
-        Ok(None) => {
+    match check_node(ruler, probe, node, marks, &mut walk.named)? {
+        None => {
             put_on_top(&mut walk.stack, &mut walk.named.needs)?;
             walk.taken += 1;
             Ok(())
         }
-        Ok(Some(entry)) => Err(JoinVerdict::WrongMark(walk.taken, entry)),
-        Err(_) => Err(JoinVerdict::Memory),
+        Some(entry) => Err(JoinVerdict::WrongMark(walk.taken, entry)),
     }
 }
 

@@ -170,13 +170,12 @@ fn take_record<P: Pages, R: Ruler>(
     if marks.len() != entry_count(node) {
         return Err(Verdict::WrongCount(walk.taken));
     }
-    match check_node(ruler, probe, need.above, node, marks, walk) {
-        Ok(None) => {
+    match check_node(ruler, probe, need.above, node, marks, walk)? {
+        None => {
             walk.taken += 1;
             Ok(())
         }
-        Ok(Some(entry)) => Err(Verdict::WrongMark(walk.taken, entry)),
-        Err(_) => Err(Verdict::Memory),
+        Some(entry) => Err(Verdict::WrongMark(walk.taken, entry)),
     }
 }
 

@@ -78,7 +78,8 @@ pub fn join<P: Pages, Q: Pages, R: Ruler>(
         joined.pairs ≡ join_pairs (R.M.space (R.metric ruler.old)) (points_by_id (nodes_of (P.shelf left.old).read) ll.now)
         (points_by_id (nodes_of (Q.shelf right.old).read) lr.now) r) }
 
-    ensures cause { IfErr result (HasJoinCause ll.now lr.now (P.shelf left.old) (P.shelf left.new) (Q.shelf right.old) (Q.shelf right.new)) }
+    ensures cause { IfErr result (HasJoinCause ll.now lr.now (P.shelf left.old) (P.shelf left.new) (Q.shelf right.old)
+        (Q.shelf right.new)) }
     ensures sound { IfErr result (λ fault. IsTrue (P.shelf left.old).tells → IsTrue (Q.shelf right.old).tells →
         IsSoundTree (R.M.space (R.metric ruler.old)) (nodes_of (P.shelf left.old).read) ll.now →
         IsSoundTree (R.M.space (R.metric ruler.old)) (nodes_of (Q.shelf right.old).read) lr.now →

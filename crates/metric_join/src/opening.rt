@@ -34,7 +34,8 @@ struct Marked {
 fn measured_mark<R: Ruler>(ruler: &mut R, probe: JoinProbe, point: &[u32], radius: u64) -> Marked
     ensures metric { R.metric ruler.new ≡ R.metric ruler.old }
     ensures counted { CountsUpTo (R.used ruler.old) (R.used ruler.new) 1 }
-    ensures mark { result.mark ≡ measured_at (search_within (R.M.space (R.metric ruler.old)) probe.entry.rho) probe.entry.need.now point.now radius }
+    ensures mark { result.mark ≡ measured_at (search_within (R.M.space (R.metric ruler.old)) probe.entry.rho)
+        probe.entry.need.now point.now radius }
     ensures apart { result.apart ≡ apart_from (R.M.space (R.metric ruler.old)) probe.entry.need.now point.now }
 {
     let apart = probe.need.apart_from(ruler, point);

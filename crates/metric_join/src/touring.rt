@@ -31,14 +31,13 @@ fn open_page<P: Pages>(
     ensures same { HoldsSame (P.shelf pages.old) (P.shelf pages.new) }
     ensures keeps { P.keeps pages.old pages.new }
     ensures no_fault { OnOk result ((P.shelf pages.new).faults ≡ (P.shelf pages.old).faults) }
-    ensures opened { OnOk result (OpensPage (P.shelf pages.old) (P.shelf pages.new) page (reverse stack.old.items) (reverse stack.new.items)) }
+    ensures opened { OnOk result (OpensPage (P.shelf pages.old) (P.shelf pages.new) page (reverse stack.old.items)
+        (reverse stack.new.items)) }
     ensures cause { IfErr result (HasPageCause (P.shelf pages.old) (P.shelf pages.new) page) }
 {
     let node = pages.node(alloc, page)?;
-    match push_children(stack, node.as_ref()) {
-        Ok(()) => Ok(()),
-        Err(_) => Err(PageFault::Memory),
-    }
+    push_children(stack, node.as_ref())?;
+    Ok(())
 }
 
 /// Walks the live tree by child numbers, each page before those that its node names. After as many pages as the file has, one

@@ -100,7 +100,8 @@ impl JoinWalk {
         ensures rho { self.new.rho ≡ self.old.rho }
         ensures records { OnOk result (self.new.records.items ≡ self.old.records.items ++ record_for waiting.now opening.marks.items ∷ []) }
         ensures hits { OnOk result (self.new.hits.items ≡ self.old.hits.items ++ opening.matches.hits.items) }
-        ensures stack { OnOk result (reverse self.new.stack.items ≡ map (following waiting.now) opening.matches.needs.items ++ reverse self.old.stack.items) }
+        ensures stack { OnOk result (reverse self.new.stack.items ≡
+            map (following waiting.now) opening.matches.needs.items ++ reverse self.old.stack.items) }
     {
         self.records.push(JoinRecord {
             right: waiting.need.opens_right(),

@@ -80,9 +80,7 @@ impl Tour {
             return Err(PageFault::Repeats(page));
         }
         let node = pages.node(alloc, page)?;
-        if push_children(&mut self.stack, node.as_ref()).is_err() {
-            return Err(PageFault::Memory);
-        }
+        push_children(&mut self.stack, node.as_ref())?;
         self.opened += 1;
         Ok(Some((page, node)))
     }
@@ -100,9 +98,7 @@ pub fn count_nodes<P: Pages>(alloc: Global, pages: &mut P, live: &Live) -> Resul
     ensures sound { IfErr result (λ fault. IsTrue (P.shelf pages.old).tells → (s : Space) →
         IsSoundTree s (nodes_of (P.shelf pages.old).read) live.now → IsPassing fault) }
 {
-    let Ok(mut tour) = Tour::begin(alloc, live) else {
-        return Err(PageFault::Memory);
-    };
+    let mut tour = Tour::begin(alloc, live)?;
     let mut count = 0;
     while let Some(_) = tour.next(alloc, pages)? {
         count += 1;

@@ -34,7 +34,14 @@ pub struct Cursor {
 impl Model for Cursor {
     ghost Value = { OpenCursor };
 
-    ghost view = { λ c. record { live = c.live; point = c.point; given = c.given; opened = c.opened; subtrees = c.subtrees; candidates = c.candidates } };
+    ghost view = { λ c. record {
+      live = c.live;
+      point = c.point;
+      given = c.given;
+      opened = c.opened;
+      subtrees = c.subtrees;
+      candidates = c.candidates;
+    } };
 
     // Only opened nodes are counted, and each of them has at most 32 objects.
     ghost invariant = { λ c. (c.opened ≤ c.live.pages) × (c.given + length c.candidates ≤ 32 * c.opened) };
@@ -53,7 +60,8 @@ impl Cursor {
     /// Opens a cursor before the first object. Only its root waits.
     pub fn open(alloc: Global, live: Live, q: Point) -> Result<Self, Memory>
         ensures begun { IfOk result (λ c. c ≡ begun live q) }
-        ensures starts { IfOk result (λ c. (s : Space) (nodes : Nodes) → IsSpace s → IsSoundTree s nodes live → IsTrue (s.fits q) → IsCursorOn s nodes c) }
+        ensures starts { IfOk result (λ c. (s : Space) (nodes : Nodes) → IsSpace s → IsSoundTree s nodes live →
+            IsTrue (s.fits q) → IsCursorOn s nodes c) }
     {
         let mut subtrees = Subtrees::new(alloc);
         subtrees.add(Subtree {
@@ -137,25 +145,20 @@ impl Cursor {
             IsWalked (nodes_of (P.shelf pages.old).read) self.old → IsWalked (nodes_of (P.shelf pages.old).read) self.new) }
         // Each opened node is asked for once. Over all successful steps at most as many are opened as the file has pages.
         ensures opened { IfOk result (λ _. (self.old.opened ≤ self.new.opened) × (self.new.opened ≤ self.old.live.pages)) }
-        ensures work { IfOk result (λ _. (P.shelf pages.new).asked ≡ count_up (P.shelf pages.old).asked (self.new.opened - self.old.opened)) }
+        ensures work { IfOk result (λ _.
+            (P.shelf pages.new).asked ≡ count_up (P.shelf pages.old).asked (self.new.opened - self.old.opened)) }
         ensures asked { CountsUpTo (P.shelf pages.old).asked (P.shelf pages.new).asked (self.old.live.pages - self.old.opened) }
         ensures reads { (P.shelf pages.new).reads ≤ (P.shelf pages.old).reads + (self.old.live.pages - self.old.opened) }
     {
-        let Ok(subtrees) = self.subtrees.copy() else {
-            return Err(PageFault::Memory);
-        };
-        let Ok(candidates) = self.candidates.copy() else {
-            return Err(PageFault::Memory);
-        };
+        let subtrees = self.subtrees.copy()?;
+        let candidates = self.candidates.copy()?;
         let mut walk = Walk::begin(alloc, subtrees, candidates, self.opened, self.given);
         let goal = Goal {
             q: self.point.as_slice(),
             n,
         };
-        match advance(alloc, pages, ruler, &self.live, goal, &mut walk) {
-            Ok(()) => Ok(self.settle(walk)),
-            Err(fault) => Err(fault),
-        }
+        advance(alloc, pages, ruler, &self.live, goal, &mut walk)?;
+        Ok(self.settle(walk))
     }
 
     // Takes over the state of a finished step, and returns what it gives.

@@ -22,7 +22,8 @@ pub fn meet_objects<R: Ruler>(
     candidates: &mut Candidates,
 ) -> Result<(), AllocError>
     ensures metric { R.metric ruler.new ≡ R.metric ruler.old }
-    ensures met { OnOk result (IsPermutation (map (candidate_of (R.M.space (R.metric ruler.old)) q.now) entries.now ++ candidates.old) candidates.new) }
+    ensures met { OnOk result (IsPermutation
+        (map (candidate_of (R.M.space (R.metric ruler.old)) q.now) entries.now ++ candidates.old) candidates.new) }
 {
     for entry in entries {
         let dist = ruler.dist(entry.point.as_slice(), q);
@@ -43,7 +44,8 @@ pub fn queue_subtrees<R: Ruler>(
     subtrees: &mut Subtrees,
 ) -> Result<(), AllocError>
     ensures metric { R.metric ruler.new ≡ R.metric ruler.old }
-    ensures queued { OnOk result (IsPermutation (map (subtree_of (R.M.space (R.metric ruler.old)) q.now) entries.now ++ subtrees.old) subtrees.new) }
+    ensures queued { OnOk result (IsPermutation
+        (map (subtree_of (R.M.space (R.metric ruler.old)) q.now) entries.now ++ subtrees.old) subtrees.new) }
 {
     for entry in entries {
         let dist = ruler.dist(entry.point.as_slice(), q);
@@ -79,14 +81,13 @@ pub fn open_page<P: Pages, R: Ruler>(
     ensures cause { IfErr result (HasPageCause (P.shelf pages.old) (P.shelf pages.new) page) }
 {
     let node = pages.node(alloc, page)?;
-    let taken = match node.as_ref() {
-        Node::Leaf(entries) => { meet_objects(ruler, q, entries.as_slice(), &mut walk.candidates) }
-        Node::Inner { entries, .. } => {
-            queue_subtrees(ruler, q, entries.as_slice(), &mut walk.subtrees)
+    match node.as_ref() {
+        Node::Leaf(entries) => {
+            meet_objects(ruler, q, entries.as_slice(), &mut walk.candidates)?;
         }
-    };
-    match taken {
-        Ok(()) => Ok(()),
-        Err(_) => Err(PageFault::Memory),
+        Node::Inner { entries, .. } => {
+            queue_subtrees(ruler, q, entries.as_slice(), &mut walk.subtrees)?;
+        }
     }
+    Ok(())
 }

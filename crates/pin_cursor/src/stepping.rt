@@ -44,7 +44,8 @@ pub fn advance<P: Pages, R: Ruler>(
     ensures keeps { P.keeps pages.old pages.new }
     ensures way { IfOk result (λ _. IsUnderWay (R.M.space (R.metric ruler.old)) (P.shelf pages.old) (P.shelf pages.new)
         (stage live.now goal.entry.q.now walk.old.given walk.old.opened walk.old.subtrees walk.old.candidates)
-        (stage live.now goal.entry.q.now walk.new.given walk.new.opened walk.new.subtrees walk.new.candidates) walk.new.hits.items walk.new.tags.items) }
+        (stage live.now goal.entry.q.now walk.new.given walk.new.opened walk.new.subtrees walk.new.candidates)
+        walk.new.hits.items walk.new.tags.items) }
     ensures ends { IfOk result (λ _. HasGiven goal.entry.n walk.new.hits.items walk.new.candidates walk.new.subtrees) }
     ensures asked { CountsUpTo (P.shelf pages.old).asked (P.shelf pages.new).asked (live.now.pages - walk.old.opened) }
     ensures reads { (P.shelf pages.new).reads ≤ (P.shelf pages.old).reads + (live.now.pages - walk.old.opened) }
@@ -64,18 +65,13 @@ pub fn advance<P: Pages, R: Ruler>(
             if spent {
                 return Err(PageFault::Repeats(next.page));
             }
-            match open_page(alloc, pages, ruler, goal.q, next.page, walk) {
-                Ok(()) => walk.opened += 1,
-                Err(fault) => return Err(fault),
-            }
+            open_page(alloc, pages, ruler, goal.q, next.page, walk)?;
+            walk.opened += 1;
         } else {
             let Some(next) = walk.candidates.take_first() else {
                 return Ok(());
             };
-            match walk.give(next) {
-                Ok(()) => {}
-                Err(_) => return Err(PageFault::Memory),
-            }
+            walk.give(next)?;
         }
     }
     Ok(())

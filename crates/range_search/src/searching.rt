@@ -30,20 +30,18 @@ fn open_page<P: Pages, R: Ruler>(
     ensures no_fault { OnOk result ((P.shelf pages.new).faults ≡ (P.shelf pages.old).faults) }
     ensures keeps { P.keeps pages.old pages.new }
     ensures opened { OnOk result ((old : Shelf) (used root : ℕ) →
-        IsUnderWay (search_at (R.M.space (R.metric ruler.old)) probe.entry.q.now probe.entry.rho) old (P.shelf pages.old) used (R.used ruler.old) root
-        walk.old.records.items walk.old.hits.items (need ∷ reverse walk.old.stack.items) →
-        IsUnderWay (search_at (R.M.space (R.metric ruler.old)) probe.entry.q.now probe.entry.rho) old (P.shelf pages.new) used (R.used ruler.new) root
-        walk.new.records.items walk.new.hits.items (reverse walk.new.stack.items)) }
+        IsUnderWay (search_at (R.M.space (R.metric ruler.old)) probe.entry.q.now probe.entry.rho) old (P.shelf pages.old)
+        used (R.used ruler.old) root walk.old.records.items walk.old.hits.items (need ∷ reverse walk.old.stack.items) →
+        IsUnderWay (search_at (R.M.space (R.metric ruler.old)) probe.entry.q.now probe.entry.rho) old (P.shelf pages.new)
+        used (R.used ruler.new) root walk.new.records.items walk.new.hits.items (reverse walk.new.stack.items)) }
     ensures longer { OnOk result (length walk.new.records.items ≡ length walk.old.records.items + 1) }
     ensures cause { IfErr result (HasPageCause (P.shelf pages.old) (P.shelf pages.new) need.page) }
     ensures asked { (P.shelf pages.new).asked ≡ next_count (P.shelf pages.old).asked }
     ensures reads { (P.shelf pages.new).reads ≤ (P.shelf pages.old).reads + 1 }
 {
     let node = pages.node(alloc, need.page)?;
-    match walk.take_node(alloc, ruler, probe, need, node.as_ref()) {
-        Ok(()) => Ok(()),
-        Err(_) => Err(PageFault::Memory),
-    }
+    walk.take_node(alloc, ruler, probe, need, node.as_ref())?;
+    Ok(())
 }
 
 // Walks the live tree with the least marks. After as many pages as the file has, a further page is refused without a request.
@@ -67,18 +65,13 @@ fn follow<P: Pages, R: Ruler>(
     ensures asked { CountsUpTo (P.shelf pages.old).asked (P.shelf pages.new).asked live.now.pages }
     ensures reads { (P.shelf pages.new).reads ≤ (P.shelf pages.old).reads + live.now.pages }
 {
-    let Ok(mut walk) = Traversal::begin(alloc, live.root) else {
-        return Err(PageFault::Memory);
-    };
+    let mut walk = Traversal::begin(alloc, live.root)?;
     let mut opened = 0u32;
     while let Some(need) = walk.stack.pop() {
         if opened == live.pages {
             return Err(PageFault::Repeats(need.page));
         }
-        match open_page(alloc, pages, ruler, probe, need, &mut walk) {
-            Ok(()) => {}
-            Err(fault) => return Err(fault),
-        }
+        open_page(alloc, pages, ruler, probe, need, &mut walk)?;
         opened += 1;
     }
     Ok(walk)
@@ -118,20 +111,12 @@ pub fn range<P: Pages, R: Ruler>(
     ensures sound { IfErr result (λ fault. IsTrue (P.shelf pages.old).tells →
         IsSoundTree (R.M.space (R.metric ruler.old)) (nodes_of (P.shelf pages.old).read) live.now → IsPassing fault) }
 {
-    let Ok(point) = Point::new(alloc, q) else {
-        return Err(PageFault::Memory);
-    };
+    let point = Point::new(alloc, q)?;
     let probe = Probe {
         q,
         rho: r.min(BOUND),
     };
-    let walk = match follow(alloc, pages, ruler, probe, live) {
-        Ok(walk) => walk,
-        Err(fault) => return Err(fault),
-    };
+    let walk = follow(alloc, pages, ruler, probe, live)?;
     let query = Query::Range { q: point, r };
-    match Found::of(alloc, live, query, walk) {
-        Ok(found) => Ok(found),
-        Err(_) => Err(PageFault::Memory),
-    }
+    Ok(Found::of(alloc, live, query, walk)?)
 }

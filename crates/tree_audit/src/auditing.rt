@@ -32,7 +32,10 @@ fn root_least(height: u32) -> usize
 
 /// Makes empty visits, with room for the pages and objects of a file.
 pub fn visits_for(alloc: Global, live: &Live) -> Result<Visits, Memory>
-    ensures { IfOk result (λ v. v ≡ record { pages = record { limit = live.now.pages; met = [] }; ids = record { limit = live.now.count; met = [] } }) }
+    ensures { IfOk result (λ v. v ≡ record {
+      pages = record { limit = live.now.pages; met = [] };
+      ids = record { limit = live.now.count; met = [] };
+    }) }
 {
     Ok(Visits {
         pages: Met::new(alloc, live.pages)?,
@@ -62,7 +65,8 @@ pub fn audit<P: Pages, R: Ruler>(
     ensures keeps { P.keeps pages.old pages.new }
     ensures no_fault { OnOk result ((P.shelf pages.new).faults ≡ (P.shelf pages.old).faults) }
     // It is sound exactly where no fault stands.
-    ensures ok { IfOk result (λ a. IsTrue (P.shelf pages.old).tells → audit_fault (R.M.space (R.metric ruler.old)) (P.shelf pages.old).read live.now ≡ None) }
+    ensures ok { IfOk result (λ a. IsTrue (P.shelf pages.old).tells →
+        audit_fault (R.M.space (R.metric ruler.old)) (P.shelf pages.old).read live.now ≡ None) }
     ensures objects { IfOk result (λ a. a.objects ≡ live.now.count) }
     ensures nodes { IfOk result (λ a. IsTrue (P.shelf pages.old).tells →
         a.nodes ≡ length (pages_at (nodes_of (P.shelf pages.old).read) live.now.height live.now.root)) }
@@ -74,10 +78,7 @@ pub fn audit<P: Pages, R: Ruler>(
     ensures all_asked { (P.shelf pages.new).asked ≤ (P.shelf pages.old).asked + max 1 live.now.pages }
     ensures all_reads { (P.shelf pages.new).reads ≤ (P.shelf pages.old).reads + max 1 live.now.pages }
 {
-    let mut visits = match visits_for(alloc, live) {
-        Ok(visits) => visits,
-        Err(_) => return Err(AuditFault::Memory),
-    };
+    let mut visits = visits_for(alloc, live)?;
     let mut path = Vec::new(alloc);
     let root = Spot {
         page: live.root,
@@ -85,9 +86,7 @@ pub fn audit<P: Pages, R: Ruler>(
         least: root_least(live.height),
         dim,
     };
-    if let Err(fault) = walk(alloc, pages, ruler, &mut visits, &mut path, root) {
-        return Err(fault);
-    }
+    walk(alloc, pages, ruler, &mut visits, &mut path, root)?;
     let objects = visits.ids.len();
     if objects != live.count {
         return Err(AuditFault::Count {

@@ -1,4 +1,8 @@
+ghost use Rattle.std.specs.Prelude.{◌≡◌};
+ghost use Rattle.tree_audit.specs.declared.faults.AuditFault.TheVariants.{Memory};
+
 use page_store::PageFault;
+use std::alloc::AllocError;
 use thiserror::Error;
 
 /// Why a tree is not sound. Entries are named by their page and their place in its node, from 0.
@@ -36,4 +40,12 @@ pub enum AuditFault {
     /// Memory ran out for the audit.
     #[error("out of memory")]
     Memory,
+}
+
+impl From<AllocError> for AuditFault {
+    ghost from_gives = { λ _ e. e ≡ Memory };
+
+    fn from(_error: AllocError) -> AuditFault {
+        AuditFault::Memory
+    }
 }

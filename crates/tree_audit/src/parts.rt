@@ -60,10 +60,7 @@ fn walk_entry<P: Pages, R: Ruler>(
     ensures reads { (P.shelf pages.new).reads + length visits.old.pages.met ≤ (P.shelf pages.old).reads + length visits.new.pages.met + 1 }
 {
     let mut path = Vec::new(alloc);
-    let child = match step_down(alloc, ruler, &mut path, root, place, entry) {
-        Ok(child) => child,
-        Err(fault) => return Err(fault),
-    };
+    let child = step_down(alloc, ruler, &mut path, root, place, entry)?;
     walk(alloc, pages, ruler, visits, &mut path, child)
 }
 
@@ -95,19 +92,14 @@ pub fn audit_part<P: Pages, R: Ruler>(
     ensures all_asked { (P.shelf pages.new).asked ≤ (P.shelf pages.old).asked + max 1 live.now.pages }
     ensures all_reads { (P.shelf pages.new).reads ≤ (P.shelf pages.old).reads + max 1 live.now.pages }
 {
-    let mut visits = match visits_for(alloc, live) {
-        Ok(visits) => visits,
-        Err(_) => return Err(AuditFault::Memory),
-    };
+    let mut visits = visits_for(alloc, live)?;
     let root = Spot {
         page: live.root,
         level: live.height,
         least: 0,
         dim,
     };
-    if let Err(fault) = walk_entry(alloc, pages, ruler, &mut visits, &root, place, entry) {
-        return Err(fault);
-    }
+    walk_entry(alloc, pages, ruler, &mut visits, &root, place, entry)?;
     Ok(Part {
         pages: visits.pages.into_numbers(),
         ids: visits.ids.into_numbers(),
@@ -135,7 +127,8 @@ fn note_part(visits: &mut Visits, part: &Part) -> Result<bool, Memory>
     ensures ids_limit { visits.new.ids.limit ≡ visits.old.ids.limit }
     ensures pages { IfOk result (λ all. all ≡ true → visits.new.pages.met ≡ visits.old.pages.met ++ part.now.pages.items) }
     ensures ids { IfOk result (λ all. all ≡ true → visits.new.ids.met ≡ visits.old.ids.met ++ part.now.ids.items) }
-    ensures none { IfOk result (λ all. all ≡ false → AreNew visits.old.pages part.now.pages.items → AreNew visits.old.ids part.now.ids.items → ⊥) }
+    ensures none { IfOk result (λ all. all ≡ false → AreNew visits.old.pages part.now.pages.items →
+        AreNew visits.old.ids part.now.ids.items → ⊥) }
 {
     if !note_all(&mut visits.pages, &part.pages)? {
         return Ok(false);

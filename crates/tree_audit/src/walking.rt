@@ -68,7 +68,8 @@ fn distance_to<R: Ruler>(ruler: &mut R, path: &[Step], i: usize, p: &[u32], stor
     requires i { i < length path.now }
     requires stored { stored ≡ parent_distance (R.M.space (R.metric ruler.old)) (last_point path.now) p.now }
     ensures same { R.metric ruler.new ≡ R.metric ruler.old }
-    ensures value { (step : Step) → step ≡ slice_index_or path.now i step → result ≡ (R.M.space (R.metric ruler.old)).dist p.now step.point }
+    ensures value { (step : Step) → step ≡ slice_index_or path.now i step →
+        result ≡ (R.M.space (R.metric ruler.old)).dist p.now step.point }
 {
     if i + 1 == path.len() {
         stored
@@ -126,16 +127,12 @@ fn audit_object<R: Ruler>(
     if object.parent != parent_of(ruler, path, point) {
         return Err(AuditFault::ParentDistance(page, place));
     }
-    if let Err(fault) = audit_inside(ruler, path, point, object.parent, object.id) {
-        return Err(fault);
-    }
+    audit_inside(ruler, path, point, object.parent, object.id)?;
     if object.id >= ids.limit() || ids.has(object.id) {
         return Err(AuditFault::Id(object.id));
     }
-    match ids.add(object.id) {
-        Ok(()) => Ok(()),
-        Err(_) => Err(AuditFault::Memory),
-    }
+    ids.add(object.id)?;
+    Ok(())
 }
 
 // Audits the objects of a leaf.
@@ -158,9 +155,7 @@ fn audit_objects<R: Ruler>(
         0 objects.now (record { pages = ps; ids = ids.old.met })) v) }
 {
     for i in 0..objects.len() {
-        if let Err(fault) = audit_object(ruler, path, page, i as u32, &objects[i], ids) {
-            return Err(fault);
-        }
+        audit_object(ruler, path, page, i as u32, &objects[i], ids)?;
     }
     Ok(())
 }
@@ -270,13 +265,8 @@ fn arrive<P: Pages>(
     if seen.has(page) {
         return Err(AuditFault::Twice(page));
     }
-    let node = match open_page(alloc, pages, page) {
-        Ok(node) => node,
-        Err(fault) => return Err(fault),
-    };
-    if seen.add(page).is_err() {
-        return Err(AuditFault::Memory);
-    }
+    let node = open_page(alloc, pages, page)?;
+    seen.add(page)?;
     Ok(node)
 }
 
@@ -315,13 +305,8 @@ pub fn step_down<R: Ruler>(
     ensures err { IfErr result (λ v. (rest : Result Seen AuditFault) →
         IsEntryFault (check_entry (R.M.space (R.metric ruler.old)) (last_point path.old.items) at.now.page place entry.now rest) v) }
 {
-    if let Err(fault) = audit_entry(ruler, path.as_slice(), at.page, place, entry) {
-        return Err(fault);
-    }
-    let step = match step_to(alloc, at.page, place, entry) {
-        Ok(step) => step,
-        Err(_) => return Err(AuditFault::Memory),
-    };
+    audit_entry(ruler, path.as_slice(), at.page, place, entry)?;
+    let step = step_to(alloc, at.page, place, entry)?;
     if path.push(step).is_err() {
         return Err(AuditFault::Memory);
     }
@@ -370,17 +355,18 @@ pub fn walk<P: Pages, R: Ruler>(
     ensures err { IfErr result (IsWalkFault (P.shelf pages.old) (P.shelf pages.new)
         (audited_at (R.M.space (R.metric ruler.old)) (P.shelf pages.old).read visits.old.ids.limit at.level at.least path.old.items
         at.page (seen_of visits.old))) }
-    ensures asked { OnOk result ((P.shelf pages.new).asked + length visits.old.pages.met ≤ (P.shelf pages.old).asked + length visits.new.pages.met) }
-    ensures reads { OnOk result ((P.shelf pages.new).reads + length visits.old.pages.met ≤ (P.shelf pages.old).reads + length visits.new.pages.met) }
+    ensures asked { OnOk result ((P.shelf pages.new).asked + length visits.old.pages.met
+        ≤ (P.shelf pages.old).asked + length visits.new.pages.met) }
+    ensures reads { OnOk result ((P.shelf pages.new).reads + length visits.old.pages.met
+        ≤ (P.shelf pages.old).reads + length visits.new.pages.met) }
     ensures fewer { AreFewer visits.new.pages }
     // Besides the pages that were met, at most one is asked for, and read.
-    ensures all_asked { (P.shelf pages.new).asked + length visits.old.pages.met ≤ (P.shelf pages.old).asked + length visits.new.pages.met + 1 }
-    ensures all_reads { (P.shelf pages.new).reads + length visits.old.pages.met ≤ (P.shelf pages.old).reads + length visits.new.pages.met + 1 }
+    ensures all_asked { (P.shelf pages.new).asked + length visits.old.pages.met
+        ≤ (P.shelf pages.old).asked + length visits.new.pages.met + 1 }
+    ensures all_reads { (P.shelf pages.new).reads + length visits.old.pages.met
+        ≤ (P.shelf pages.old).reads + length visits.new.pages.met + 1 }
 {
-    let node = match arrive(alloc, pages, &mut visits.pages, at.page) {
-        Ok(node) => node,
-        Err(fault) => return Err(fault),
-    };
+    let node = arrive(alloc, pages, &mut visits.pages, at.page)?;
     let (level, entries) = match node.as_ref() {
         Node::Leaf(objects) => {
             return audit_leaf(
@@ -401,13 +387,8 @@ pub fn walk<P: Pages, R: Ruler>(
         return Err(AuditFault::Fill(at.page));
     }
     for place in 0..entries.len() {
-        let child = match step_down(alloc, ruler, path, &at, place as u32, &entries[place]) {
-            Ok(child) => child,
-            Err(fault) => return Err(fault),
-        };
-        if let Err(fault) = walk(alloc, pages, ruler, visits, path, child) {
-            return Err(fault);
-        }
+        let child = step_down(alloc, ruler, path, &at, place as u32, &entries[place])?;
+        walk(alloc, pages, ruler, visits, path, child)?;
         let _ = path.pop();
     }
     Ok(())

@@ -109,17 +109,16 @@ fn draw<P: Pages>(
     ensures asked { (P.shelf pages.new).asked ≡ next_count (P.shelf pages.old).asked }
     ensures reads { (P.shelf pages.new).reads ≤ (P.shelf pages.old).reads + 1 }
     ensures no_fault { OnOk result ((P.shelf pages.new).faults ≡ (P.shelf pages.old).faults) }
-    ensures drawn { OnOk result (IsDrawn (P.shelf pages.old) named lines.old.items lines.new.items (reverse coming.old.items) (reverse coming.new.items)) }
+    ensures drawn { OnOk result (IsDrawn (P.shelf pages.old) named lines.old.items lines.new.items (reverse coming.old.items)
+        (reverse coming.new.items)) }
     ensures cause { IfErr result (HasPageCause (P.shelf pages.old) (P.shelf pages.new) named.page) }
 {
     let node = own_node(alloc, pages, named.page)?;
     if lines.push(line_of(named, &node)).is_err() {
         return Err(PageFault::Memory);
     }
-    match put_on_top(coming, into_entries(alloc, node)) {
-        Ok(()) => Ok(()),
-        Err(_) => Err(PageFault::Memory),
-    }
+    put_on_top(coming, into_entries(alloc, node))?;
+    Ok(())
 }
 
 /// Walks the live tree in pre-order by its child numbers. After as many pages as the file has, one more is refused unasked.
@@ -133,7 +132,8 @@ pub fn shape_of<P: Pages>(alloc: Global, pages: &mut P, live: &Live) -> Result<S
     ensures asked { CountsUpTo (P.shelf pages.old).asked (P.shelf pages.new).asked live.now.pages }
     ensures reads { (P.shelf pages.new).reads ≤ (P.shelf pages.old).reads + live.now.pages }
     ensures no_fault { OnOk result ((P.shelf pages.new).faults ≡ (P.shelf pages.old).faults) }
-    ensures lines { IfOk result (λ shape. IsTrue (P.shelf pages.old).tells → (s : Space) → IsSoundTree s (nodes_of (P.shelf pages.old).read) live.now →
+    ensures lines { IfOk result (λ shape. IsTrue (P.shelf pages.old).tells → (s : Space) →
+        IsSoundTree s (nodes_of (P.shelf pages.old).read) live.now →
         shape.lines ≡ tree_lines (nodes_of (P.shelf pages.old).read) live.now) }
     ensures walk { IfOk result (λ shape. IsTrue (P.shelf pages.old).tells →
         DrawsTo (nodes_of (P.shelf pages.old).read) (root_named live.now.root ∷ []) shape.lines []) }
@@ -156,10 +156,7 @@ pub fn shape_of<P: Pages>(alloc: Global, pages: &mut P, live: &Live) -> Result<S
         if nodes == live.pages {
             return Err(PageFault::Repeats(named.page));
         }
-        match draw(alloc, pages, named, &mut lines, &mut coming) {
-            Ok(()) => {}
-            Err(fault) => return Err(fault),
-        }
+        draw(alloc, pages, named, &mut lines, &mut coming)?;
         nodes += 1;
     }
     Ok(Shape {

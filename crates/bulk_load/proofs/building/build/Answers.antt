@@ -16,59 +16,59 @@ pub settle-requires-clause-count : goal.settle-requires-clause-count
 settle-requires-clause-count g c =
     let few = rows_few c.args.head.now (length c.args.rows.now.points) c.requires.head c.requires.few in
     let none = c.requires.empty in
-    let added = c.in-Ok.ensures.added in omega (arith, few, none, added)
+    let added = c.in_ok-tree.ensures.added in omega (arith, few, none, added)
 
 pub settle-requires-clause-few : goal.settle-requires-clause-few
 settle-requires-clause-few g c =
     nodes_low (load_of (g.M.Metric.space c.args.metric) c.args.rows.now.points c.args.tags.now c.fill.result) (g.M.Metric.axioms c.args.metric)
     (lawful_load (g.M.Metric.space c.args.metric) c.args.rows.now.points c.args.tags.now c.fill.result c.args.head.now.dim c.requires.words c.fill.ensures.most c.fill.ensures.least c.requires.fits c.requires.tags)
-    c.requires.some (rows_few c.args.head.now (length c.args.rows.now.points) c.requires.head c.requires.few) (number_at c.args.numbers.now c.args.live.now.pages) c.in-Ok.tree.nodes.items c.in-Ok.ensures.nodes
+    c.requires.some (rows_few c.args.head.now (length c.args.rows.now.points) c.requires.head c.requires.few) (number_at c.args.numbers.now c.args.live.now.pages) c.in_ok-tree.tree.nodes.items c.in_ok-tree.ensures.nodes
 
 pub settle-requires-clause-height : goal.settle-requires-clause-height
 settle-requires-clause-height g c =
     let high = low (load_of (g.M.Metric.space c.args.metric) c.args.rows.now.points c.args.tags.now c.fill.result) (g.M.Metric.axioms c.args.metric)
     (lawful_load (g.M.Metric.space c.args.metric) c.args.rows.now.points c.args.tags.now c.fill.result c.args.head.now.dim c.requires.words c.fill.ensures.most c.fill.ensures.least c.requires.fits c.requires.tags)
     c.requires.some (rows_few c.args.head.now (length c.args.rows.now.points) c.requires.head c.requires.few) in
-    let same = c.in-Ok.ensures.height in omega (arith, high, same)
+    let same = c.in_ok-tree.ensures.height in omega (arith, high, same)
 
 pub settle-requires-clause-root : goal.settle-requires-clause-root
 settle-requires-clause-root g c =
-    root_given (load_of (g.M.Metric.space c.args.metric) c.args.rows.now.points c.args.tags.now c.fill.result) (number_at c.args.numbers.now c.args.live.now.pages) c.in-Ok.tree.nodes.items c.in-Ok.tree.root c.in-Ok.ensures.nodes c.in-Ok.ensures.root
+    root_given (load_of (g.M.Metric.space c.args.metric) c.args.rows.now.points c.args.tags.now c.fill.result) (number_at c.args.numbers.now c.args.live.now.pages) c.in_ok-tree.tree.nodes.items c.in_ok-tree.tree.root c.in_ok-tree.ensures.nodes c.in_ok-tree.ensures.root
 
-pub returns-in-Ok-settle-clause-placement : goal.returns-in-Ok-settle-clause-placement
-returns-in-Ok-settle-clause-placement g c =
-    subst (λ (added : ℕ). IsPlacement c.args.head.now c.args.live.now c.args.numbers.now added c.in-Ok-settle.placed) c.in-Ok.ensures.added
-    (c.in-Ok-settle.ensures.placement c.args.head.now (let most = c.requires.few in let none = c.requires.empty in let added = c.in-Ok.ensures.added in omega (arith, most, none, added))
+pub returns-in-Ok-clause-placement : goal.returns-in-Ok-clause-placement
+returns-in-Ok-clause-placement g c =
+    subst (λ (added : ℕ). IsPlacement c.args.head.now c.args.live.now c.args.numbers.now added c.in-Ok.placed) c.in_ok-tree.ensures.added
+    (c.in-Ok.ensures.placement c.args.head.now (let most = c.requires.few in let none = c.requires.empty in let added = c.in_ok-tree.ensures.added in omega (arith, most, none, added))
     (nodes_writable (load_of (g.M.Metric.space c.args.metric) c.args.rows.now.points c.args.tags.now c.fill.result) (g.M.Metric.axioms c.args.metric)
     (lawful_load (g.M.Metric.space c.args.metric) c.args.rows.now.points c.args.tags.now c.fill.result c.args.head.now.dim c.requires.words c.fill.ensures.most c.fill.ensures.least c.requires.fits c.requires.tags)
-    c.requires.some (rows_few c.args.head.now (length c.args.rows.now.points) c.requires.head c.requires.few) (number_at c.args.numbers.now c.args.live.now.pages) c.in-Ok.tree.nodes.items c.args.head.now.dim c.in-Ok.ensures.nodes c.requires.words))
+    c.requires.some (rows_few c.args.head.now (length c.args.rows.now.points) c.requires.head c.requires.few) (number_at c.args.numbers.now c.args.live.now.pages) c.in_ok-tree.tree.nodes.items c.args.head.now.dim c.in_ok-tree.ensures.nodes c.requires.words))
 
-pub returns-in-Ok-settle-clause-many : goal.returns-in-Ok-settle-clause-many
-returns-in-Ok-settle-clause-many g c =
+pub returns-in-Ok-clause-many : goal.returns-in-Ok-clause-many
+returns-in-Ok-clause-many g c =
     staged_counted (load_of (g.M.Metric.space c.args.metric) c.args.rows.now.points c.args.tags.now c.fill.result) (g.M.Metric.axioms c.args.metric)
     (lawful_load (g.M.Metric.space c.args.metric) c.args.rows.now.points c.args.tags.now c.fill.result c.args.head.now.dim c.requires.words c.fill.ensures.most c.fill.ensures.least c.requires.fits c.requires.tags)
-    (number_at c.args.numbers.now c.args.live.now.pages) c.in-Ok.tree.nodes.items c.in-Ok-settle.placed.staged c.in-Ok.ensures.nodes c.in-Ok-settle.ensures.staged
+    (number_at c.args.numbers.now c.args.live.now.pages) c.in_ok-tree.tree.nodes.items c.in-Ok.placed.staged c.in_ok-tree.ensures.nodes c.in-Ok.ensures.staged
 
-pub returns-in-Ok-settle-clause-apart : goal.returns-in-Ok-settle-clause-apart
-returns-in-Ok-settle-clause-apart g c = λ old sound outside.
-    staged_out old c.args.live.now c.args.numbers.now c.in-Ok.tree.nodes.items c.in-Ok-settle.placed.staged c.in-Ok-settle.ensures.staged outside sound.within
+pub returns-in-Ok-clause-apart : goal.returns-in-Ok-clause-apart
+returns-in-Ok-clause-apart g c = λ old sound outside.
+    staged_out old c.args.live.now c.args.numbers.now c.in_ok-tree.tree.nodes.items c.in-Ok.placed.staged c.in-Ok.ensures.staged outside sound.within
 
-pub returns-in-Ok-settle-clause-by_itself : goal.returns-in-Ok-settle-clause-by_itself
-returns-in-Ok-settle-clause-by_itself g c =
-    by_itself (load_of (g.M.Metric.space c.args.metric) c.args.rows.now.points c.args.tags.now c.fill.result) (number_at c.args.numbers.now c.args.live.now.pages) c.in-Ok.tree.nodes.items c.in-Ok.tree.root c.in-Ok-settle.placed
-    c.in-Ok.ensures.nodes c.in-Ok.ensures.root c.in-Ok-settle.ensures.staged (ap (λ (n : Live). n.root) c.in-Ok-settle.ensures.next)
+pub returns-in-Ok-clause-by_itself : goal.returns-in-Ok-clause-by_itself
+returns-in-Ok-clause-by_itself g c =
+    by_itself (load_of (g.M.Metric.space c.args.metric) c.args.rows.now.points c.args.tags.now c.fill.result) (number_at c.args.numbers.now c.args.live.now.pages) c.in_ok-tree.tree.nodes.items c.in_ok-tree.tree.root c.in-Ok.placed
+    c.in_ok-tree.ensures.nodes c.in_ok-tree.ensures.root c.in-Ok.ensures.staged (ap (λ (n : Live). n.root) c.in-Ok.ensures.next)
 
-pub returns-in-Ok-settle-clause-loaded : goal.returns-in-Ok-settle-clause-loaded
-returns-in-Ok-settle-clause-loaded g c =
+pub returns-in-Ok-clause-loaded : goal.returns-in-Ok-clause-loaded
+returns-in-Ok-clause-loaded g c =
     has_loaded_by (load_of (g.M.Metric.space c.args.metric) c.args.rows.now.points c.args.tags.now c.fill.result) (g.M.Metric.axioms c.args.metric)
     (lawful_load (g.M.Metric.space c.args.metric) c.args.rows.now.points c.args.tags.now c.fill.result c.args.head.now.dim c.requires.words c.fill.ensures.most c.fill.ensures.least c.requires.fits c.requires.tags)
-    c.args.live.now c.args.numbers.now c.in-Ok-settle.placed c.in-Ok.tree.nodes.items c.in-Ok.tree.root c.in-Ok.tree.height c.in-Ok.tree.added c.requires.empty (let l = c.requires.live.low_pages in omega (arith, l)) c.requires.numbers
-    c.in-Ok.ensures.nodes c.in-Ok.ensures.root c.in-Ok.ensures.height c.in-Ok.ensures.added c.in-Ok-settle.ensures.staged c.in-Ok-settle.ensures.next (c.in-Ok-settle.ensures.left ∙ c.in-Ok.ensures.left)
+    c.args.live.now c.args.numbers.now c.in-Ok.placed c.in_ok-tree.tree.nodes.items c.in_ok-tree.tree.root c.in_ok-tree.tree.height c.in_ok-tree.tree.added c.requires.empty (let l = c.requires.live.low_pages in omega (arith, l)) c.requires.numbers
+    c.in_ok-tree.ensures.nodes c.in_ok-tree.ensures.root c.in_ok-tree.ensures.height c.in_ok-tree.ensures.added c.in-Ok.ensures.staged c.in-Ok.ensures.next (c.in-Ok.ensures.left ∙ c.in_ok-tree.ensures.left)
 
 pub returns-in-Err-NoRoom-clause-cause : goal.returns-in-Err-NoRoom-clause-cause
 returns-in-Err-NoRoom-clause-cause g c =
     let counted = nodes_counted (load_of (g.M.Metric.space c.args.metric) c.args.rows.now.points c.args.tags.now c.fill.result) (g.M.Metric.axioms c.args.metric)
     (lawful_load (g.M.Metric.space c.args.metric) c.args.rows.now.points c.args.tags.now c.fill.result c.args.head.now.dim c.requires.words c.fill.ensures.most c.fill.ensures.least c.requires.fits c.requires.tags)
-    (number_at c.args.numbers.now c.args.live.now.pages) c.in-Ok.tree.nodes.items c.in-Ok.ensures.nodes in
-    let cause = subst (HasRoomCause c.args.live.now (length c.in-Ok.tree.nodes.items - length c.args.numbers.now)) c.in-Err-NoRoom.field-0-is c.in-Err-NoRoom.ensures.cause in
+    (number_at c.args.numbers.now c.args.live.now.pages) c.in_ok-tree.tree.nodes.items c.in_ok-tree.ensures.nodes in
+    let cause = subst (HasRoomCause c.args.live.now (length c.in_ok-tree.tree.nodes.items - length c.args.numbers.now)) c.in-Err-NoRoom.field-0-is c.in-Err-NoRoom.ensures.cause in
     (c.if-live-eq-LAST_GENERATION.false, cause.0, cause.1 ∙ ap (λ (k : ℕ). k - length c.args.numbers.now) counted, cause.2)

@@ -1,4 +1,5 @@
 use Rattle.std.proofs.Common.{rules, ◌∙◌, [], ◌∷◌, arith, subst, refl, length-append}
+use Rattle.std.proofs.lemmas.Result.{err_from_is_err_and}
 use Rattle.pin_cursor.specs.Cursor.{hit_of}
 use Rattle.pin_cursor.specs.Steps.{IsOpened}
 use Rattle.pin_cursor.proofs.Ways.{way_begins, way_asked_more, way_opens, way_cause, way_repeats, way_passes, way_room, way_small, way_gives}
@@ -27,32 +28,34 @@ returns-then-spent-clause-sound g c nodes tells sound holds on =
     c.loop-alloc.walk.candidates c.loop-alloc.walk.hits.items c.loop-alloc.walk.tags.items c.loop-alloc.invariant.way c.in-Some.next c.take_within.new.self c.in-Some.ensures.some nodes tells sound holds on
     (search rules)
 
-pub returns-in-Err-clause-asked : goal.returns-in-Err-clause-asked
-returns-in-Err-clause-asked g c =
+pub returns-in_err-open_page-clause-asked : goal.returns-in_err-open_page-clause-asked
+returns-in_err-open_page-clause-asked g c =
     way_asked_more (g.R.M.Metric.space (g.R.Ruler.metric c.args.ruler.now)) (g.met.R.Ruler.axioms c.args.ruler.now) (g.P.Pages.shelf c.args.pages.now) c.args.live.now c.args.goal.q.now c.requires.point
     c.args.walk.now.given c.args.walk.now.opened c.args.walk.now.subtrees c.args.walk.now.candidates (g.P.Pages.shelf c.loop-alloc.pages) c.loop-alloc.walk.given c.loop-alloc.walk.opened c.loop-alloc.walk.subtrees
     c.loop-alloc.walk.candidates c.loop-alloc.walk.hits.items c.loop-alloc.walk.tags.items c.loop-alloc.invariant.way (g.P.Pages.shelf c.open_page.new.pages) (let f = c.loop-alloc.invariant.way.few in omega arith)
     c.open_page.ensures.asked
 
-pub returns-in-Err-clause-cause : goal.returns-in-Err-clause-cause
-returns-in-Err-clause-cause g c =
-    way_cause (g.R.M.Metric.space (g.R.Ruler.metric c.args.ruler.now)) (g.met.R.Ruler.axioms c.args.ruler.now) (g.P.Pages.shelf c.args.pages.now) c.args.live.now c.args.goal.q.now c.requires.point
+pub returns-in_err-open_page-clause-cause : goal.returns-in_err-open_page-clause-cause
+returns-in_err-open_page-clause-cause g c =
+    let p = err_from_is_err_and c.from_residual.result c.from_residual.ensures.1 in
+    rw (p.1, p.2) (way_cause (g.R.M.Metric.space (g.R.Ruler.metric c.args.ruler.now)) (g.met.R.Ruler.axioms c.args.ruler.now) (g.P.Pages.shelf c.args.pages.now) c.args.live.now c.args.goal.q.now c.requires.point
     c.args.walk.now.given c.args.walk.now.opened c.args.walk.now.subtrees c.args.walk.now.candidates (g.P.Pages.shelf c.loop-alloc.pages) c.loop-alloc.walk.given c.loop-alloc.walk.opened c.loop-alloc.walk.subtrees
     c.loop-alloc.walk.candidates c.loop-alloc.walk.hits.items c.loop-alloc.walk.tags.items c.loop-alloc.invariant.way c.in-Some.next c.take_within.new.self c.in-Some.ensures.some
-    (g.P.Pages.shelf c.open_page.new.pages) c.in-Err.fault c.in-Err.ensures.cause
+    (g.P.Pages.shelf c.open_page.new.pages) c.in_err-open_page.field-0.0 c.in_err-open_page.ensures.cause)
 
-pub returns-in-Err-clause-sound : goal.returns-in-Err-clause-sound
-returns-in-Err-clause-sound g c nodes tells sound holds on =
-    way_passes (g.R.M.Metric.space (g.R.Ruler.metric c.args.ruler.now)) (g.met.R.Ruler.axioms c.args.ruler.now) (g.P.Pages.shelf c.args.pages.now) c.args.live.now c.args.goal.q.now c.requires.point
+pub returns-in_err-open_page-clause-sound : goal.returns-in_err-open_page-clause-sound
+returns-in_err-open_page-clause-sound g c =
+    let p = err_from_is_err_and c.from_residual.result c.from_residual.ensures.1 in
+    rw (p.1, p.2) (λ nodes tells sound holds on. way_passes (g.R.M.Metric.space (g.R.Ruler.metric c.args.ruler.now)) (g.met.R.Ruler.axioms c.args.ruler.now) (g.P.Pages.shelf c.args.pages.now) c.args.live.now c.args.goal.q.now c.requires.point
     c.args.walk.now.given c.args.walk.now.opened c.args.walk.now.subtrees c.args.walk.now.candidates (g.P.Pages.shelf c.loop-alloc.pages) c.loop-alloc.walk.given c.loop-alloc.walk.opened c.loop-alloc.walk.subtrees
     c.loop-alloc.walk.candidates c.loop-alloc.walk.hits.items c.loop-alloc.walk.tags.items c.loop-alloc.invariant.way c.in-Some.next c.take_within.new.self c.in-Some.ensures.some nodes tells sound holds on
-    (g.P.Pages.shelf c.open_page.new.pages) c.in-Err.fault c.in-Err.ensures.cause
+    (g.P.Pages.shelf c.open_page.new.pages) c.in_err-open_page.field-0.0 c.in_err-open_page.ensures.cause)
 
 pub loop-alloc-preserved-in-Ok : goal.loop-alloc-preserved-in-Ok
 loop-alloc-preserved-in-Ok g c = record {
   metric = c.open_page.ensures.metric ∙ c.loop-alloc.invariant.metric;
   keeps = g.met.P.Pages.keeps_both c.args.pages.now c.loop-alloc.pages c.open_page.new.pages c.loop-alloc.invariant.keeps c.open_page.ensures.keeps;
-  no_fault = c.in-Ok.ensures.no_fault ∙ c.loop-alloc.invariant.no_fault;
+  no_fault = c.in_ok-open_page.ensures.no_fault ∙ c.loop-alloc.invariant.no_fault;
   long = rw c.open_page.ensures.hits c.loop-alloc.invariant.long;
   way = rw (c.open_page.ensures.given, c.open_page.ensures.opened, c.open_page.ensures.hits, c.open_page.ensures.tags)
       (way_opens (g.R.M.Metric.space (g.R.Ruler.metric c.args.ruler.now)) (g.met.R.Ruler.axioms c.args.ruler.now) (g.P.Pages.shelf c.args.pages.now) c.args.live.now c.args.goal.q.now c.requires.point
@@ -60,7 +63,7 @@ loop-alloc-preserved-in-Ok g c = record {
       c.loop-alloc.walk.candidates c.loop-alloc.walk.hits.items c.loop-alloc.walk.tags.items c.loop-alloc.invariant.way c.in-Some.next c.take_within.new.self c.in-Some.ensures.some
       (g.P.Pages.shelf c.open_page.new.pages) c.open_page.new.walk.candidates c.open_page.new.walk.subtrees
       (subst (λ m. IsOpened (g.R.M.Metric.space m) c.args.goal.q.now (g.P.Pages.shelf c.loop-alloc.pages) c.in-Some.next.page c.loop-alloc.walk.candidates c.open_page.new.walk.candidates c.take_within.new.self
-      c.open_page.new.walk.subtrees) c.loop-alloc.invariant.metric c.in-Ok.ensures.node)
+      c.open_page.new.walk.subtrees) c.loop-alloc.invariant.metric c.in_ok-open_page.ensures.node)
       c.open_page.ensures.same c.open_page.ensures.asked c.open_page.ensures.reads (let f = c.loop-alloc.invariant.way.few in omega arith));
 }
 
@@ -75,8 +78,8 @@ loop-alloc-preserved g c = record {
   metric = c.loop-alloc.invariant.metric;
   keeps = c.loop-alloc.invariant.keeps;
   no_fault = c.loop-alloc.invariant.no_fault;
-  long = rw c.in-Ok-give.ensures.hits (let l = length-append c.loop-alloc.walk.hits.items (hit_of c.in-Some-take_first.next ∷ []) in omega arith);
-  way = rw (c.in-Ok-give.ensures.given, c.give.ensures.opened, c.give.ensures.subtrees, c.in_default.ensures.same, c.give.ensures.candidates, c.in-Ok-give.ensures.hits, c.in-Ok-give.ensures.tags)
+  long = rw c.in_ok-give.ensures.hits (let l = length-append c.loop-alloc.walk.hits.items (hit_of c.in-Some-take_first.next ∷ []) in omega arith);
+  way = rw (c.in_ok-give.ensures.given, c.give.ensures.opened, c.give.ensures.subtrees, c.in_default.ensures.same, c.give.ensures.candidates, c.in_ok-give.ensures.hits, c.in_ok-give.ensures.tags)
       (way_gives (g.R.M.Metric.space (g.R.Ruler.metric c.args.ruler.now)) (g.met.R.Ruler.axioms c.args.ruler.now) (g.P.Pages.shelf c.args.pages.now) c.args.live.now c.args.goal.q.now c.requires.point
       c.args.walk.now.given c.args.walk.now.opened c.args.walk.now.subtrees c.args.walk.now.candidates (g.P.Pages.shelf c.loop-alloc.pages) c.loop-alloc.walk.given c.loop-alloc.walk.opened c.loop-alloc.walk.subtrees
       c.loop-alloc.walk.candidates c.loop-alloc.walk.hits.items c.loop-alloc.walk.tags.items c.loop-alloc.invariant.way c.in-Some-take_first.next c.take_first.new.self c.in-Some-take_first.ensures.some

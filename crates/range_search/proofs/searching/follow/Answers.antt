@@ -12,8 +12,8 @@ loop-need-preserved g c =
     record {
       metric = c.open_page.ensures.metric ∙ c.loop-need.invariant.metric;
       keeps = g.met.P.Pages.keeps_both c.args.pages.now c.loop-need.pages c.open_page.new.pages c.loop-need.invariant.keeps c.open_page.ensures.keeps;
-      no_fault = c.in-Ok-open_page.ensures.no_fault ∙ c.loop-need.invariant.no_fault;
-      count = (let l = c.in-Ok-open_page.ensures.longer in let n = c.loop-need.invariant.count in omega arith);
+      no_fault = c.in_ok-open_page.ensures.no_fault ∙ c.loop-need.invariant.no_fault;
+      count = (let l = c.in_ok-open_page.ensures.longer in let n = c.loop-need.invariant.count in omega arith);
       low = omega arith;
       way = goes_on (search_at (g.R.M.Metric.space (g.R.Ruler.metric c.args.ruler.now)) c.args.probe.q.now c.args.probe.rho)
           (search_at (g.R.M.Metric.space (g.R.Ruler.metric c.loop-need.ruler)) c.args.probe.q.now c.args.probe.rho)
@@ -22,11 +22,11 @@ loop-need-preserved g c =
           (reverse c.loop-need.walk.stack.items) (reverse c.pop.new.self.items) (reverse c.open_page.new.walk.stack.items)
           c.loop-need.walk.records.items c.open_page.new.walk.records.items c.loop-need.walk.hits.items c.open_page.new.walk.hits.items
           (ap (λ m. search_at (g.R.M.Metric.space m) c.args.probe.q.now c.args.probe.rho) c.loop-need.invariant.metric) stack
-          (c.in-Ok-open_page.ensures.opened (g.P.Pages.shelf c.args.pages.now) (g.R.Ruler.used c.args.ruler.now) c.args.live.now.root) c.loop-need.invariant.way;
+          (c.in_ok-open_page.ensures.opened (g.P.Pages.shelf c.args.pages.now) (g.R.Ruler.used c.args.ruler.now) c.args.live.now.root) c.loop-need.invariant.way;
     }
 
-pub returns-in-Err-clause-asked : goal.returns-in-Err-clause-asked
-returns-in-Err-clause-asked g c =
+pub returns-in_err-open_page-clause-asked : goal.returns-in_err-open_page-clause-asked
+returns-in_err-open_page-clause-asked g c =
     let opened : ℕ = length c.loop-need.walk.records.items in
     let count = c.loop-need.invariant.count in
     (suc opened, (omega arith), c.open_page.ensures.asked ∙ ap next_count c.loop-need.invariant.way.asked ∙ count_up_more (g.P.Pages.shelf c.args.pages.now).asked opened)

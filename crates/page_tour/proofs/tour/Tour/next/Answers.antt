@@ -32,16 +32,17 @@ returns-in_err-node-clause-stop g c =
     let p = err_from_is_err_and c.from_residual.result c.from_residual.ensures.1 in
     rw (p.1, p.2) stop
 
-pub returns-then-is_err-clause-stop : goal.returns-then-is_err-clause-stop
-returns-then-is_err-clause-stop g c =
+pub returns-in_err-push_children-clause-stop : goal.returns-in_err-push_children-clause-stop
+returns-in_err-push_children-clause-stop g c =
     let stack : reverse c.self.inside.stack.items ≡ c.in-Some.page ∷ reverse c.pop.new.self.items = grind (arith, common_steps, c.in-Some.ensures.items) in
     let opened = ap (λ (x : Course). x.opened) c.self.view_is in
     let most = ap (λ (x : Course). x.most) c.self.view_is in
     let within = c.self.invariant in
     let other = c.if-self.false in
-    record {
+    let p = err_from_is_err_and c.from_residual-in_err-push_children.result c.from_residual-in_err-push_children.ensures.1 in
+    rw (p.1, p.2) (record {
       page = c.in-Some.page;
       left = reverse c.pop.new.self.items;
       next = ap (λ (x : Course). x.coming) (sym c.self.view_is) ∙ stack;
       why = (omega arith, tt);
-    }
+    })
