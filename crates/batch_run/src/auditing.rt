@@ -69,7 +69,8 @@ fn try_parts<R: Threads + Sync, D: SharedDisk, M: Metric>(
 {
     let work = |i: usize| -> Result<Part, AuditFault>
         requires { (live.now.pages ≤ 2 ^ 24) × (1 ≤ live.now.height) × (length entries.now < 2 ^ 32) × (i < length entries.now) }
-        ensures { (e : InnerEntry) → IfOk result (IsPartOf (M.space metric) live.entry.now (D.state disk.entry.now) i (slice_index_or entries.entry.now i e)) }
+        ensures { (e : InnerEntry) → IfOk result (IsPartOf (M.space metric) live.entry.now (D.state disk.entry.now) i
+            (slice_index_or entries.entry.now i e)) }
     { part_of(alloc, disk, metric, live, i, &entries[i]) };
     share(rt, alloc, entries.len(), workers, &work)
 }

@@ -90,7 +90,8 @@ pub fn batch<R: Threads + Sync, M: Metric>(
 {
     let work = |i: usize| -> Result<Outcome, Memory>
         requires { (live.now.pages ≤ 2 ^ 24) × All (IsReadable (M.space metric).words) commands.now × (i < length commands.now) }
-        ensures { (c : Command) → IfOk result (IsOutcomeOf (M.space metric) live.entry.now image.entry.now (slice_index_or commands.entry.now i c)) }
+        ensures { (c : Command) → IfOk result (IsOutcomeOf (M.space metric) live.entry.now image.entry.now
+            (slice_index_or commands.entry.now i c)) }
     { outcome_on(alloc, image, metric, live, &commands[i]) };
     share_evenly(rt, alloc, commands.len(), workers, &work)
 }

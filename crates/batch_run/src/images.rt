@@ -2,6 +2,7 @@
 
 ghost use Rattle.std.specs.Prelude.{◌≡◌, ◌≤◌, ◌+◌, ◌*◌, ◌<◌, ◌^◌, Err, length, IsTrue, IfOk, IfErr, IfSome, OnOk};
 ghost use Rattle.disk_model.specs.Disk.{IsUnchanged};
+ghost use Rattle.batch_run.specs.declared.images.ImageFault.TheVariants as fault;
 ghost use Rattle.batch_run.specs.Images.{HasBytes, IsImageOf, IsPartRead, HasImageCause};
 
 use crate::Memory;
@@ -9,8 +10,9 @@ use crate::gathering::all_done;
 use disk_model::{Disk, SharedDisk};
 use file_jobs::MOST_WHOLE_PAGES;
 use metric_laws::Listed;
+use outside_io::Failed;
 use page_store::Parts;
-use std::alloc::Global;
+use std::alloc::{AllocError, Global};
 use std::thread::{self, Threads};
 use thiserror::Error;
 use tree_shape::PAGE;
@@ -27,6 +29,22 @@ pub enum ImageFault {
     /// Memory ran out for the bytes.
     #[error("out of memory")]
     Memory,
+}
+
+impl From<AllocError> for ImageFault {
+    ghost from_gives = { λ _ e. e ≡ fault.Memory };
+
+    fn from(_error: AllocError) -> ImageFault {
+        ImageFault::Memory
+    }
+}
+
+impl From<Failed> for ImageFault {
+    ghost from_gives = { λ _ e. e ≡ fault.Disk };
+
+    fn from(_failed: Failed) -> ImageFault {
+        ImageFault::Disk
+    }
 }
 
 /// Reads the first `pages` pages of a file, of 4096 bytes each, in one read. Where the file ends before, the bytes past its end
@@ -46,13 +64,9 @@ pub fn read_image<D: Disk>(alloc: Global, disk: &mut D, pages: u32) -> Result<Ve
     if pages > MOST_WHOLE_PAGES {
         return Err(ImageFault::TooLong);
     }
-    let Ok(mut image) = vec![in alloc; 0u8; pages as usize * 4096] else {
-        return Err(ImageFault::Memory);
-    };
-    match disk.read_at(0, image.as_mut_slice()) {
-        Ok(()) => Ok(image),
-        Err(_) => Err(ImageFault::Disk),
-    }
+    let mut image = vec![in alloc; 0u8; pages as usize * 4096]?;
+    disk.read_at(0, image.as_mut_slice())?;
+    Ok(image)
 }
 
 // Reads `pages` pages from page `from` on, through a reader of its own.
@@ -69,13 +83,9 @@ fn read_part<D: SharedDisk>(
     let Some(mut reader) = disk.reader(alloc) else {
         return Err(ImageFault::Disk);
     };
-    let Ok(mut part) = vec![in alloc; 0u8; pages as usize * 4096] else {
-        return Err(ImageFault::Memory);
-    };
-    match reader.read_at(PAGE * u64::from(from), part.as_mut_slice()) {
-        Ok(()) => Ok(Listed::new(part)),
-        Err(_) => Err(ImageFault::Disk),
-    }
+    let mut part = vec![in alloc; 0u8; pages as usize * 4096]?;
+    reader.read_at(PAGE * u64::from(from), part.as_mut_slice())?;
+    Ok(Listed::new(part))
 }
 
 // Reads a file in parts of `part_pages` pages by `workers` threads. Returns `None` where one of them was not read.
@@ -91,7 +101,8 @@ fn parts_by<R: Threads + Sync, D: SharedDisk>(
     requires some_pages { 1 ≤ part_pages }
     requires some_workers { 1 ≤ workers }
     requires few_workers { workers ≤ 64 }
-    ensures image { IfOk result (λ found. IfSome found (λ parts. IsTrue (D.state disk.now).tells → IsImageOf pages (D.state disk.now).bytes parts)) }
+    ensures image { IfOk result (λ found. IfSome found (λ parts. IsTrue (D.state disk.now).tells →
+        IsImageOf pages (D.state disk.now).bytes parts)) }
     ensures size { IfOk result (λ found. IfSome found (λ parts. length parts ≡ pages * 4096)) }
 {
     let count = pages.div_ceil(part_pages) as usize;
@@ -152,15 +163,10 @@ pub fn read_parts<R: Threads + Sync, D: SharedDisk>(
     }
     if workers > 1 {
         let part_pages = pages.div_ceil(workers as u32).max(1);
-        match parts_by(rt, alloc, disk, pages, part_pages, workers) {
-            Ok(Some(parts)) => return Ok(parts),
-            Ok(None) => {}
-            Err(_) => return Err(ImageFault::Memory),
+        if let Some(parts) = parts_by(rt, alloc, disk, pages, part_pages, workers)? {
+            return Ok(parts);
         }
     }
     let image = read_image(alloc, disk, pages)?;
-    match one_part(alloc, image, pages) {
-        Ok(parts) => Ok(parts),
-        Err(_) => Err(ImageFault::Memory),
-    }
+    Ok(one_part(alloc, image, pages)?)
 }

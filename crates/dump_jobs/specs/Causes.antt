@@ -14,8 +14,8 @@ use Rattle.page_store.specs.Shelf.{Shelf, IsPassing as IsPassingPage}
 use Rattle.page_store.specs.Tours.{Names, NamesInside}
 use Rattle.dump_jobs.specs.declared.fault.DumpFault.{DumpFault}
 use Rattle.dump_jobs.specs.declared.fault.DumpFault.TheVariants as dump
-use Rattle.dump_jobs.specs.declared.fault.Stop.{Stop}
-use Rattle.dump_jobs.specs.declared.fault.Stop.TheVariants as stop
+use Rattle.dump_jobs.specs.declared.fault.DumpStop.{DumpStop}
+use Rattle.dump_jobs.specs.declared.fault.DumpStop.TheVariants as stop
 use Rattle.dump_jobs.specs.Rows.{HasRows, IsOutOfPlace}
 use Rattle.dump_jobs.specs.Scripts.{script_text}
 
@@ -63,7 +63,7 @@ abbrev pub MayPut : Shelf → Live → SinkState → SinkState → Type 0
 MayPut shelf live old new = (new ≡ old) ⊎ ((new.faults ≡ old.faults) × PutsFront shelf live old.written new.written)
 
 -- why the script was not put whole, and what was put; nothing, where the fault is of what the pages hold
-abbrev pub HasStop : Live → Shelf → Shelf → SinkState → SinkState → Stop → Type 0
+abbrev pub HasStop : Live → Shelf → Shelf → SinkState → SinkState → DumpStop → Type 0
 HasStop live old new out0 out1 stop.Sink = PutsFront old live out0.written out1.written × Rose out0.faults out1.faults
 HasStop live old new out0 out1 (stop.Fault fault) =
     MayPut old live out0 out1 × HasCause live old new fault × (IsTrue old.tells → (IsPassing fault → ⊥) → out1 ≡ out0)

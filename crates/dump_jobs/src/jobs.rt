@@ -7,7 +7,7 @@ ghost use Rattle.node_page.specs.Heads.{IsLawfulHead};
 ghost use Rattle.dump_jobs.specs.Causes.{HasStop, IsPassing, PutsScript};
 ghost use Rattle.dump_jobs.specs.Jobs.{Dumps, IsDumpStatus, fault_text, opened_shelf};
 
-use crate::fault::{DumpFault, MEMORY, Stop};
+use crate::fault::{DumpFault, DumpStop};
 use crate::writing::dump_pages;
 use disk_model::Disk;
 use fault_lines::push_numbered;
@@ -28,7 +28,7 @@ fn dump_opened<D: Disk, K: Sink>(
     head: &Head,
     live: &Live,
     out: &mut K,
-) -> Result<(), Stop>
+) -> Result<(), DumpStop>
     requires head { IsLawfulHead head.now }
     requires pages { live.now.pages ≤ 2 ^ 24 }
     ensures same { IsUnchanged (D.state disk.old) (D.state disk.new) }
@@ -39,9 +39,7 @@ fn dump_opened<D: Disk, K: Sink>(
     ensures later { (K.state out.old).faults ≤ (K.state out.new).faults }
 {
     empty_cache_agrees();
-    let Ok(kept) = Kept::new(alloc, KEPT_NODES) else {
-        return Err(Stop::Fault(MEMORY));
-    };
+    let kept = Kept::new(alloc, KEPT_NODES)?;
     let pages = DiskPages::new(disk, head.dim, live.pages);
     let mut pages = Cached::from_parts(pages, kept);
     let dumped = dump_pages(alloc, &mut pages, live, out);
@@ -97,7 +95,7 @@ pub fn dump_index<D: Disk, K: Sink>(alloc: Global, disk: &mut D, out: &mut K) ->
     };
     match dump_opened(alloc, disk, &head, &live, out) {
         Ok(()) => Status(0),
-        Err(Stop::Sink) => Status(4),
-        Err(Stop::Fault(fault)) => end_at_fault(alloc, fault, out),
+        Err(DumpStop::Sink) => Status(4),
+        Err(DumpStop::Fault(fault)) => end_at_fault(alloc, fault, out),
     }
 }

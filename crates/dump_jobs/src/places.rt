@@ -8,7 +8,7 @@ ghost use Rattle.dump_jobs.specs.Causes.{HasCause};
 ghost use Rattle.dump_jobs.specs.Places.{ArePlaces, IsNoted, Notes};
 ghost use Rattle.dump_jobs.specs.Rows.{due, times_among};
 
-use crate::fault::{DumpFault, MEMORY};
+use crate::fault::DumpFault;
 use page_store::Pages;
 use page_store::laws::sound_trees_are_toured;
 use page_tour::Tour;
@@ -124,19 +124,13 @@ fn note_tree<P: Pages>(
     ensures cause { IfErr result (HasCause live.now (P.shelf pages.old) (P.shelf pages.new)) }
 {
     sound_trees_are_toured();
-    let Ok(mut tour) = Tour::begin(alloc, live) else {
-        return Err(MEMORY);
-    };
-    loop {
-        match tour.next(alloc, pages) {
-            Ok(Some((page, node))) => match note_node(numbers, page, node.as_ref()) {
-                Ok(()) => {}
-                Err(id) => return Err(DumpFault::Id(id)),
-            },
-            Ok(None) => return Ok(()),
-            Err(fault) => return Err(DumpFault::Page(fault)),
+    let mut tour = Tour::begin(alloc, live)?;
+    while let Some((page, node)) = tour.next(alloc, pages)? {
+        if let Err(id) = note_node(numbers, page, node.as_ref()) {
+            return Err(DumpFault::Id(id));
         }
     }
+    Ok(())
 }
 
 /// Walks the live tree and returns the place of each object.
@@ -150,13 +144,8 @@ pub fn places_of<P: Pages>(alloc: Global, pages: &mut P, live: &Live) -> Result<
     ensures cause { IfErr result (HasCause live.now (P.shelf pages.old) (P.shelf pages.new)) }
 {
     sound_trees_are_toured();
-    let Ok(mut numbers) = vec![in alloc; 0u32; live.count as usize] else {
-        return Err(MEMORY);
-    };
-    match note_tree(alloc, pages, live, numbers.as_mut_slice()) {
-        Ok(()) => {}
-        Err(fault) => return Err(fault),
-    }
+    let mut numbers = vec![in alloc; 0u32; live.count as usize]?;
+    note_tree(alloc, pages, live, numbers.as_mut_slice())?;
     match missing(numbers.as_slice()) {
         None => Ok(Places { numbers }),
         Some(id) => Err(DumpFault::Id(id)),

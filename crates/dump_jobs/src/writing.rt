@@ -14,7 +14,7 @@ ghost use Rattle.dump_jobs.specs.Places.{ArePlaces};
 ghost use Rattle.dump_jobs.specs.Scripts.{row_line};
 ghost use Rattle.dump_jobs.specs.Writing.{HasReadCause, IsRowOf, IsWriting};
 
-use crate::fault::{DumpFault, MEMORY, Stop};
+use crate::fault::{DumpFault, DumpStop};
 use crate::places::{Places, places_of};
 use crate::rows::{push_head, push_row};
 use outside_io::{Failed, Sink};
@@ -57,17 +57,11 @@ fn push_object<P: Pages>(
         HasReadCause live places.now (P.shelf pages.old) (P.shelf pages.new) fault) }
 {
     let (page, number) = places.of(id);
-    let node = match pages.node(alloc, page) {
-        Ok(node) => node,
-        Err(fault) => return Err(DumpFault::Page(fault)),
-    };
+    let node = pages.node(alloc, page)?;
     let Some(entry) = entry_of(node.as_ref(), number, id) else {
         return Err(DumpFault::Id(id));
     };
-    match push_row(entry, text) {
-        Ok(()) => Ok(()),
-        Err(_) => Err(MEMORY),
-    }
+    Ok(push_row(entry, text)?)
 }
 
 // Puts the text and empties it. Where the output fails, the text stays.
@@ -102,7 +96,7 @@ fn write_rows<P: Pages, K: Sink>(
     live: &Live,
     places: &Places,
     out: &mut K,
-) -> Result<(), Stop>
+) -> Result<(), DumpStop>
     requires some { 1 ≤ live.now.count }
     requires long { length places.now ≡ live.now.count }
     requires are { IsTrue (P.shelf pages.old).tells → ArePlaces (nodes_of (P.shelf pages.old).read) live.now places.now }
@@ -113,23 +107,12 @@ fn write_rows<P: Pages, K: Sink>(
     ensures later { (K.state out.old).faults ≤ (K.state out.new).faults }
 {
     let mut text = Vec::new(alloc);
-    if push_head(live.count, &mut text).is_err() {
-        return Err(Stop::Fault(MEMORY));
-    }
+    push_head(live.count, &mut text)?;
     for id in 0..live.count {
-        match push_object(alloc, pages, places, id, &mut text) {
-            Ok(()) => {}
-            Err(fault) => return Err(Stop::Fault(fault)),
-        }
-        match put_long(&mut text, out) {
-            Ok(()) => {}
-            Err(_) => return Err(Stop::Sink),
-        }
+        push_object(alloc, pages, places, id, &mut text)?;
+        put_long(&mut text, out)?;
     }
-    match put_text(&mut text, out) {
-        Ok(()) => Ok(()),
-        Err(_) => Err(Stop::Sink),
-    }
+    Ok(put_text(&mut text, out)?)
 }
 
 /// Writes the objects of a tree as a script that makes them again. Memory is taken for a number an object and a few pages.
@@ -138,7 +121,7 @@ pub fn dump_pages<P: Pages, K: Sink>(
     pages: &mut P,
     live: &Live,
     out: &mut K,
-) -> Result<(), Stop>
+) -> Result<(), DumpStop>
     requires pages { (P.shelf pages.old).pages ≤ 2 ^ 24 }
     ensures same { HoldsSame (P.shelf pages.old) (P.shelf pages.new) }
     ensures keeps { P.keeps pages.old pages.new }
@@ -146,10 +129,7 @@ pub fn dump_pages<P: Pages, K: Sink>(
     ensures stop { IfErr result (HasStop live.now (P.shelf pages.old) (P.shelf pages.new) (K.state out.old) (K.state out.new)) }
     ensures later { (K.state out.old).faults ≤ (K.state out.new).faults }
 {
-    let places = match places_of(alloc, pages, live) {
-        Ok(places) => places,
-        Err(fault) => return Err(Stop::Fault(fault)),
-    };
+    let places = places_of(alloc, pages, live)?;
     if live.count == 0 {
         return Ok(());
     }

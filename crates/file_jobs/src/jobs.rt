@@ -93,7 +93,8 @@ pub fn audit_opened<D: Disk>(
         → audit_fault (space_of head.now) (reading head.now.dim live.now.pages (D.state disk.old).bytes) live.now ≡ None) }
     ensures objects { IfOk result (λ a. a.objects ≡ live.now.count) }
     ensures nodes { IfOk result (λ a. IsTrue (D.state disk.old).tells
-        → a.nodes ≡ length (pages_at (nodes_of (reading head.now.dim live.now.pages (D.state disk.old).bytes)) live.now.height live.now.root)) }
+        → a.nodes ≡ length (pages_at (nodes_of (reading head.now.dim live.now.pages (D.state disk.old).bytes))
+        live.now.height live.now.root)) }
     ensures err { IfErr result (HasFault (D.state disk.old) (D.state disk.new).faults
         (audit_fault (space_of head.now) (reading head.now.dim live.now.pages (D.state disk.old).bytes) live.now)) }
     ensures later { (D.state disk.old).faults ≤ (D.state disk.new).faults }
@@ -111,7 +112,8 @@ pub fn end_rejected<K: Sink>(alloc: Global, fault: AuditFault, out: &mut K) -> S
     ensures rejected { result.0 ≡ 1 → Appends (K.state out.old).written (K.state out.new).written (rejected_text fault) }
     ensures part { result.0 ≡ 4 → AppendsPrefix (K.state out.old).written (K.state out.new).written (rejected_text fault) }
     ensures kind { (result.0 ≡ 1) ⊎ (result.0 ≡ 4) → IsPassing fault → ⊥ }
-    ensures disk { result.0 ≡ 5 → (fault ≡ AuditFault.Page PageFault.Disk) × Tells (K.state out.old) (K.state out.new) (codes "fault disk\n") }
+    ensures disk { result.0 ≡ 5 → (fault ≡ AuditFault.Page PageFault.Disk)
+        × Tells (K.state out.old) (K.state out.new) (codes "fault disk\n") }
     ensures memory { result.0 ≡ 8 → Tells (K.state out.old) (K.state out.new) (codes "fault memory\n") }
     ensures statuses { (result.0 ≡ 1) ⊎ ((result.0 ≡ 4) ⊎ ((result.0 ≡ 5) ⊎ (result.0 ≡ 8))) }
     ensures later { (K.state out.old).faults ≤ (K.state out.new).faults }
@@ -144,8 +146,10 @@ pub fn end_unopened<K: Sink>(fault: OpenFault, out: &mut K) -> Status
 
 /// Ends an audit of a sound index.
 pub fn end_sound<K: Sink>(alloc: Global, audited: &Audited, out: &mut K) -> Status
-    ensures sound { result.0 ≡ 0 → Appends (K.state out.old).written (K.state out.new).written (sound_text audited.now.objects audited.now.nodes) }
-    ensures part { result.0 ≡ 4 → AppendsPrefix (K.state out.old).written (K.state out.new).written (sound_text audited.now.objects audited.now.nodes) }
+    ensures sound { result.0 ≡ 0 → Appends (K.state out.old).written (K.state out.new).written
+        (sound_text audited.now.objects audited.now.nodes) }
+    ensures part { result.0 ≡ 4 → AppendsPrefix (K.state out.old).written (K.state out.new).written
+        (sound_text audited.now.objects audited.now.nodes) }
     ensures memory { result.0 ≡ 8 → Tells (K.state out.old) (K.state out.new) (codes "fault memory\n") }
     ensures statuses { (result.0 ≡ 0) ⊎ ((result.0 ≡ 4) ⊎ (result.0 ≡ 8)) }
     ensures later { (K.state out.old).faults ≤ (K.state out.new).faults }

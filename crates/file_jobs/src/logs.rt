@@ -18,4 +18,4 @@ pub use lines::{
 };
 pub use putting::put;
 pub use report::Report;
-pub use stop::Stop;
+pub use stop::LogStop;

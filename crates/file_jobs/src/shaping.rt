@@ -34,7 +34,8 @@ pub fn shape_opened<D: Disk>(
     requires pages { live.now.pages ≤ 2 ^ 24 }
     ensures same { IsUnchanged (D.state disk.old) (D.state disk.new) }
     ensures counted { IfOk result (IsCounted live.now) }
-    ensures lines { IfOk result (λ shape. IsTrue (D.state disk.old).tells → AreLinesOf head.now live.now (D.state disk.old).bytes shape.lines) }
+    ensures lines { IfOk result (λ shape. IsTrue (D.state disk.old).tells →
+        AreLinesOf head.now live.now (D.state disk.old).bytes shape.lines) }
     ensures stop { IfErr result (HasStop head.now live.now (D.state disk.old) (D.state disk.new).faults) }
     ensures later { (D.state disk.old).faults ≤ (D.state disk.new).faults }
 {
@@ -45,7 +46,8 @@ pub fn shape_opened<D: Disk>(
 // Writes the lines of a tree and ends.
 fn end_shaped<K: Sink>(alloc: Global, shape: &Shape, out: &mut K) -> Status
     requires { shape.now.nodes ≡ length shape.now.lines }
-    ensures done { result.0 ≡ 0 → Appends (K.state out.old).written (K.state out.new).written (shape_text shape.now.height shape.now.objects shape.now.lines) }
+    ensures done { result.0 ≡ 0 → Appends (K.state out.old).written (K.state out.new).written
+        (shape_text shape.now.height shape.now.objects shape.now.lines) }
     ensures part { result.0 ≡ 4 → AppendsPrefix (K.state out.old).written (K.state out.new).written
         (shape_text shape.now.height shape.now.objects shape.now.lines) }
     ensures memory { result.0 ≡ 8 → Tells (K.state out.old) (K.state out.new) (codes "fault memory\n") }

@@ -1,5 +1,5 @@
 use crate::lines::{push_answers, push_verdict};
-use file_jobs::logs::{Court, Stop};
+use file_jobs::logs::{Court, LogStop};
 use log_model::JoinLog;
 use log_verify::{JoinVerdict, verify_join};
 use metric_laws::Meter;
@@ -107,7 +107,7 @@ impl<P: Pages, Q: Pages> Court for JoinCourt<'_, '_, P, Q> {
         push_answers(log, out)
     }
 
-    fn judge(&mut self, alloc: Global, log: &JoinLog) -> Result<Option<JoinVerdict>, Stop> {
+    fn judge(&mut self, alloc: Global, log: &JoinLog) -> Result<Option<JoinVerdict>, LogStop> {
         let mut ruler = Meter::new(self.space);
         let judged = verify_join(
             alloc,
@@ -120,13 +120,13 @@ impl<P: Pages, Q: Pages> Court for JoinCourt<'_, '_, P, Q> {
         );
         match judged {
             Ok(_) => Ok(None),
-            Err(JoinVerdict::Memory) => Err(Stop::Memory),
+            Err(JoinVerdict::Memory) => Err(LogStop::Memory),
             Err(
                 JoinVerdict::Page {
                     fault: PageFault::Disk,
                     ..
                 },
-            ) => Err(Stop::Disk),
+            ) => Err(LogStop::Disk),
             Err(why) => Ok(Some(why)),
         }
     }

@@ -149,7 +149,8 @@ pub fn join_indexes<D: Disk, E: Disk, K: Sink, T: Sink>(
     ensures joins { Joins radius (D.state index.old) (D.state index.new) (E.state other.old) (E.state other.new) (K.state out.old)
         (K.state out.new) (T.state log_out.old) (T.state log_out.new) result.0 }
     ensures statuses { IsJoinStatus result.0 }
-    ensures output { result.0 ≡ 4 → Rose (K.state out.old).faults (K.state out.new).faults ⊎ Rose (T.state log_out.old).faults (T.state log_out.new).faults }
+    ensures output { result.0 ≡ 4 → Rose (K.state out.old).faults (K.state out.new).faults
+        ⊎ Rose (T.state log_out.old).faults (T.state log_out.new).faults }
     ensures kept { result.0 ≢ 0 → result.0 ≢ 4 → log_out.new ≡ log_out.old }
     ensures counts { ((K.state out.old).faults ≤ (K.state out.new).faults) × ((T.state log_out.old).faults ≤ (T.state log_out.new).faults) }
 {

@@ -42,17 +42,14 @@ pub fn join_opened<D: Disk, E: Disk>(
     ensures lawful { IfOk result (λ joined. IsLawfulJoinLog joined.log) }
     ensures joined { IfOk result (λ joined. IsTrue (D.state index.old).tells → IsTrue (E.state other.old).tells →
         IsJoinOf radius joined.log (tree_of (D.state index.old) trees.now.left) (tree_of (E.state other.old) trees.now.right)) }
-    ensures refused { IfErr result (HasRefusal trees.now (D.state index.old) (D.state index.new).faults (E.state other.old) (E.state other.new).faults) }
+    ensures refused { IfErr result (HasRefusal trees.now (D.state index.old) (D.state index.new).faults
+        (E.state other.old) (E.state other.new).faults) }
 {
     empty_cache_agrees();
     let (left, right) = (&trees.left, &trees.right);
     let mut ruler = Meter::new(space_of(&left.0));
-    let (Ok(left_kept), Ok(right_kept)) = (
-        Kept::new(alloc, KEPT_NODES),
-        Kept::new(alloc, KEPT_NODES),
-    ) else {
-        return Err(JoinFault::Memory);
-    };
+    let left_kept = Kept::new(alloc, KEPT_NODES)?;
+    let right_kept = Kept::new(alloc, KEPT_NODES)?;
     let left_pages = DiskPages::new(index, left.0.dim, left.1.pages);
     let right_pages = DiskPages::new(other, right.0.dim, right.1.pages);
     let mut left_pages = Cached::from_parts(left_pages, left_kept);
@@ -98,7 +95,8 @@ pub fn end_joined<K: Sink, T: Sink>(
     ensures cut { result.0 ≡ 4 → CutsJoin joined.log (K.state out.old) (K.state out.new) (T.state log_out.old) (T.state log_out.new) }
     ensures memory { result.0 ≡ 8 → Tells (K.state out.old) (K.state out.new) (codes "fault memory\n") }
     ensures statuses { (result.0 ≡ 0) ⊎ ((result.0 ≡ 4) ⊎ (result.0 ≡ 8)) }
-    ensures output { result.0 ≡ 4 → Rose (K.state out.old).faults (K.state out.new).faults ⊎ Rose (T.state log_out.old).faults (T.state log_out.new).faults }
+    ensures output { result.0 ≡ 4 → Rose (K.state out.old).faults (K.state out.new).faults
+        ⊎ Rose (T.state log_out.old).faults (T.state log_out.new).faults }
     ensures kept { result.0 ≡ 8 → log_out.new ≡ log_out.old }
     ensures later { (K.state out.old).faults ≤ (K.state out.new).faults }
     ensures log_later { (T.state log_out.old).faults ≤ (T.state log_out.new).faults }

@@ -8,7 +8,7 @@ ghost use Rattle.join_jobs.specs.Jobs.{AreLawful, EitherRose};
 
 use crate::court::JoinCourt;
 use disk_model::Disk;
-use file_jobs::logs::{Report, Stop, judge_bytes, put, put_audit};
+use file_jobs::logs::{LogStop, Report, judge_bytes, put, put_audit};
 use file_jobs::space_of;
 use node_page::Head;
 use outside_io::{Sink, Status};
@@ -57,7 +57,7 @@ fn judge_opened<D: Disk, E: Disk, K: Sink>(
     other: &mut E,
     trees: &Trees,
     out: &mut K,
-) -> Result<Status, Stop>
+) -> Result<Status, LogStop>
     requires lawful { AreLawful trees.now }
     requires one_space { is_one_space trees.now.left.0 trees.now.right.0 ≡ true }
     ensures same { IsUnchanged (D.state index.old) (D.state index.new) }
@@ -71,18 +71,15 @@ fn judge_opened<D: Disk, E: Disk, K: Sink>(
         (tree_of (D.state index.old) trees.now.left) (tree_of (E.state other.old) trees.now.right) docket.now.bytes.now).status) }
     ensures statuses { IfOk result (λ status. (status.0 ≡ 0) ⊎ (status.0 ≡ 1)) }
     ensures later { (K.state out.old).faults ≤ (K.state out.new).faults }
-    ensures output { IsErrOf result Stop.Sink → Rose (K.state out.old).faults (K.state out.new).faults }
-    ensures disk { IsErrOf result Stop.Disk → EitherRose (D.state index.old) (D.state index.new) (E.state other.old) (E.state other.new) }
+    ensures output { IsErrOf result LogStop.Sink → Rose (K.state out.old).faults (K.state out.new).faults }
+    ensures disk { IsErrOf result LogStop.Disk → EitherRose (D.state index.old) (D.state index.new)
+        (E.state other.old) (E.state other.new) }
 {
     empty_cache_agrees();
     let (left, right) = (&trees.left, &trees.right);
     let space = space_of(&left.0);
-    let (Ok(left_kept), Ok(right_kept)) = (
-        Kept::new(alloc, KEPT_NODES),
-        Kept::new(alloc, KEPT_NODES),
-    ) else {
-        return Err(Stop::Memory);
-    };
+    let left_kept = Kept::new(alloc, KEPT_NODES)?;
+    let right_kept = Kept::new(alloc, KEPT_NODES)?;
     let left_pages = DiskPages::new(index, left.0.dim, left.1.pages);
     let right_pages = DiskPages::new(other, right.0.dim, right.1.pages);
     let mut left_pages = Cached::from_parts(left_pages, left_kept);
@@ -109,7 +106,7 @@ fn check_opened<D: Disk, E: Disk, K: Sink>(
     trees: &Trees,
     bytes: &[u8],
     out: &mut K,
-) -> Result<Status, Stop>
+) -> Result<Status, LogStop>
     requires lawful { AreLawful trees.now }
     requires one_space { is_one_space trees.now.left.0 trees.now.right.0 ≡ true }
     ensures same { IsUnchanged (D.state index.old) (D.state index.new) }
@@ -123,8 +120,9 @@ fn check_opened<D: Disk, E: Disk, K: Sink>(
         (tree_of (D.state index.old) trees.now.left) (tree_of (E.state other.old) trees.now.right) bytes.now).status) }
     ensures statuses { IfOk result (λ status. (status.0 ≡ 0) ⊎ (status.0 ≡ 1)) }
     ensures later { (K.state out.old).faults ≤ (K.state out.new).faults }
-    ensures output { IsErrOf result Stop.Sink → Rose (K.state out.old).faults (K.state out.new).faults }
-    ensures disk { IsErrOf result Stop.Disk → EitherRose (D.state index.old) (D.state index.new) (E.state other.old) (E.state other.new) }
+    ensures output { IsErrOf result LogStop.Sink → Rose (K.state out.old).faults (K.state out.new).faults }
+    ensures disk { IsErrOf result LogStop.Disk → EitherRose (D.state index.old) (D.state index.new)
+        (E.state other.old) (E.state other.new) }
 {
     let sound = put_audit(alloc, b"file", index, &trees.left, out)?;
     if !sound {
@@ -147,7 +145,7 @@ pub fn report_on<D: Disk, E: Disk, K: Sink>(
     other: &mut E,
     trees: &Trees,
     out: &mut K,
-) -> Result<Status, Stop>
+) -> Result<Status, LogStop>
     requires { AreLawful trees.now }
     ensures same { IsUnchanged (D.state index.old) (D.state index.new) }
     ensures other_same { IsUnchanged (E.state other.old) (E.state other.new) }
@@ -160,8 +158,9 @@ pub fn report_on<D: Disk, E: Disk, K: Sink>(
         (tree_of (D.state index.old) trees.now.left) (tree_of (E.state other.old) trees.now.right) docket.now.bytes.now).status) }
     ensures statuses { IfOk result (λ status. (status.0 ≡ 0) ⊎ (status.0 ≡ 1)) }
     ensures later { (K.state out.old).faults ≤ (K.state out.new).faults }
-    ensures output { IsErrOf result Stop.Sink → Rose (K.state out.old).faults (K.state out.new).faults }
-    ensures disk { IsErrOf result Stop.Disk → EitherRose (D.state index.old) (D.state index.new) (E.state other.old) (E.state other.new) }
+    ensures output { IsErrOf result LogStop.Sink → Rose (K.state out.old).faults (K.state out.new).faults }
+    ensures disk { IsErrOf result LogStop.Disk → EitherRose (D.state index.old) (D.state index.new)
+        (E.state other.old) (E.state other.new) }
 {
     if !trees.have_one_space() {
         put(out, REJECTED_SPACES)?;

@@ -9,7 +9,7 @@ use Rattle.node_page.specs.declared.head.Head.{Head}
 use Rattle.node_page.specs.Opening.{OpensTo}
 use Rattle.prune_log.specs.Reading.{log_at, frames_at}
 use Rattle.file_jobs.specs.declared.logs.report.Report.{Report}
-use Rattle.file_jobs.specs.declared.logs.stop.Stop.{Stop}
+use Rattle.file_jobs.specs.declared.logs.stop.LogStop.{LogStop}
 use Rattle.file_jobs.specs.Logs.Files.{fault_of}
 use Rattle.file_jobs.specs.Logs.Sayings.{Saying}
 use Rattle.file_jobs.specs.Logs.Jobs.{Puts, Stops, Writes}
@@ -32,7 +32,7 @@ says_all what d0 d1 bytes head live w0 w1 status same opens version either puts 
       subst (λ (file : List ℕ). Writes status (said_of what file bytes head live) w0 w1) same.same_bytes (said_all (said_of what d1.bytes bytes head live) w0 w1 status either (is after) (puts after)),
     )
 
-pub says_some : (what : Report) (d0 d1 : DiskState) (bytes : List ℕ) (head : Head) (live : Live) (w0 w1 w2 : SinkState) (status : ℕ) (why : Stop) → IsUnchanged d0 d1
+pub says_some : (what : Report) (d0 d1 : DiskState) (bytes : List ℕ) (head : Head) (live : Live) (w0 w1 w2 : SinkState) (status : ℕ) (why : LogStop) → IsUnchanged d0 d1
     → (IsTrue d0.tells → OpensTo d0.bytes head live) → head.version ≡ 2 → w0.faults ≤ w1.faults
     → (IsTrue d1.tells → Puts (said_of what d1.bytes bytes head live).texts w0.written w1.written (Some why)) → Stops why w1 w2 status
     → WritesOn what d0 bytes w0 w2 status

@@ -1,4 +1,4 @@
-use file_jobs::logs::{Court, Stop, push_answers, push_verdict};
+use file_jobs::logs::{Court, LogStop, push_answers, push_verdict};
 use log_model::Log;
 use log_verify::{Verdict, verify};
 use metric_laws::Meter;
@@ -82,12 +82,12 @@ impl<P: Pages> Court for LogCourt<'_, P> {
         push_answers(alloc, &log.query, hits, out)
     }
 
-    fn judge(&mut self, alloc: Global, log: &Log) -> Result<Option<Verdict>, Stop> {
+    fn judge(&mut self, alloc: Global, log: &Log) -> Result<Option<Verdict>, LogStop> {
         let mut ruler = Meter::new(self.space);
         match verify(alloc, self.pages, &mut ruler, &self.live, log) {
             Ok(_) => Ok(None),
-            Err(Verdict::Memory) => Err(Stop::Memory),
-            Err(Verdict::Page(PageFault::Disk)) => Err(Stop::Disk),
+            Err(Verdict::Memory) => Err(LogStop::Memory),
+            Err(Verdict::Page(PageFault::Disk)) => Err(LogStop::Disk),
             Err(why) => Ok(Some(why)),
         }
     }

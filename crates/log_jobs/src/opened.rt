@@ -12,7 +12,7 @@ ghost use Rattle.log_jobs.specs.Jobs.{judge_of, most_reads, records_in};
 
 use crate::court::LogCourt;
 use disk_model::Disk;
-use file_jobs::logs::{Report, Stop, judge_bytes, put_audit};
+use file_jobs::logs::{LogStop, Report, judge_bytes, put_audit};
 use file_jobs::space_of;
 use node_page::Head;
 use outside_io::{Sink, Status};
@@ -30,7 +30,7 @@ fn judge_opened<D: Disk, K: Sink>(
     opened: &(Head, Live),
     bytes: &[u8],
     out: &mut K,
-) -> Result<Status, Stop>
+) -> Result<Status, LogStop>
     requires head { IsLawfulHead opened.now.0 }
     requires pages { opened.now.1.pages ≤ 2 ^ 24 }
     ensures same { IsUnchanged (D.state index.old) (D.state index.new) }
@@ -38,19 +38,18 @@ fn judge_opened<D: Disk, K: Sink>(
         Puts (on_logs log_words report (judge_of (D.state index.old).bytes opened.now.0 opened.now.1) (frames_at log_at bytes.now)).texts
         (K.state out.old).written (K.state out.new).written (stop_of result) }
     ensures status { IfOk result (λ status. IsTrue (D.state index.old).tells →
-        status.0 ≡ (on_logs log_words report (judge_of (D.state index.old).bytes opened.now.0 opened.now.1) (frames_at log_at bytes.now)).status) }
+        status.0 ≡ (on_logs log_words report (judge_of (D.state index.old).bytes opened.now.0 opened.now.1)
+        (frames_at log_at bytes.now)).status) }
     ensures statuses { IfOk result (λ status. (status.0 ≡ 0) ⊎ (status.0 ≡ 1)) }
     ensures reads { (D.state index.new).reads ≤ (D.state index.old).reads + records_in bytes.now }
     ensures later { (K.state out.old).faults ≤ (K.state out.new).faults }
-    ensures output { IsErrOf result Stop.Sink → Rose (K.state out.old).faults (K.state out.new).faults }
-    ensures disk { IsErrOf result Stop.Disk → Rose (D.state index.old).faults (D.state index.new).faults }
+    ensures output { IsErrOf result LogStop.Sink → Rose (K.state out.old).faults (K.state out.new).faults }
+    ensures disk { IsErrOf result LogStop.Disk → Rose (D.state index.old).faults (D.state index.new).faults }
 {
     empty_cache_agrees();
     let (head, live) = opened;
     let space = space_of(head);
-    let Ok(kept) = Kept::new(alloc, KEPT_NODES) else {
-        return Err(Stop::Memory);
-    };
+    let kept = Kept::new(alloc, KEPT_NODES)?;
     let pages = DiskPages::new(index, head.dim, live.pages);
     let mut pages = Cached::from_parts(pages, kept);
     let mut court = LogCourt {
@@ -70,7 +69,7 @@ fn check_opened<D: Disk, K: Sink>(
     opened: &(Head, Live),
     bytes: &[u8],
     out: &mut K,
-) -> Result<Status, Stop>
+) -> Result<Status, LogStop>
     requires head { IsLawfulHead opened.now.0 }
     requires pages { opened.now.1.pages ≤ 2 ^ 24 }
     ensures same { IsUnchanged (D.state index.old) (D.state index.new) }
@@ -84,8 +83,8 @@ fn check_opened<D: Disk, K: Sink>(
     ensures statuses { IfOk result (λ status. (status.0 ≡ 0) ⊎ (status.0 ≡ 1)) }
     ensures reads { (D.state index.new).reads ≤ (D.state index.old).reads + (max 1 opened.now.1.pages + records_in bytes.now) }
     ensures later { (K.state out.old).faults ≤ (K.state out.new).faults }
-    ensures output { IsErrOf result Stop.Sink → Rose (K.state out.old).faults (K.state out.new).faults }
-    ensures disk { IsErrOf result Stop.Disk → Rose (D.state index.old).faults (D.state index.new).faults }
+    ensures output { IsErrOf result LogStop.Sink → Rose (K.state out.old).faults (K.state out.new).faults }
+    ensures disk { IsErrOf result LogStop.Disk → Rose (D.state index.old).faults (D.state index.new).faults }
 {
     let sound = put_audit(alloc, b"file", index, opened, out)?;
     if !sound {
@@ -102,7 +101,7 @@ pub fn report_on<D: Disk, K: Sink>(
     opened: &(Head, Live),
     bytes: &[u8],
     out: &mut K,
-) -> Result<Status, Stop>
+) -> Result<Status, LogStop>
     requires head { IsLawfulHead opened.now.0 }
     requires pages { opened.now.1.pages ≤ 2 ^ 24 }
     ensures same { IsUnchanged (D.state index.old) (D.state index.new) }
@@ -116,8 +115,8 @@ pub fn report_on<D: Disk, K: Sink>(
     ensures statuses { IfOk result (λ status. (status.0 ≡ 0) ⊎ (status.0 ≡ 1)) }
     ensures reads { (D.state index.new).reads ≤ (D.state index.old).reads + most_reads report bytes.now (max 1 opened.now.1.pages) }
     ensures later { (K.state out.old).faults ≤ (K.state out.new).faults }
-    ensures output { IsErrOf result Stop.Sink → Rose (K.state out.old).faults (K.state out.new).faults }
-    ensures disk { IsErrOf result Stop.Disk → Rose (D.state index.old).faults (D.state index.new).faults }
+    ensures output { IsErrOf result LogStop.Sink → Rose (K.state out.old).faults (K.state out.new).faults }
+    ensures disk { IsErrOf result LogStop.Disk → Rose (D.state index.old).faults (D.state index.new).faults }
 {
     match report {
         Report::Verdicts => judge_opened(alloc, report, index, opened, bytes, out),

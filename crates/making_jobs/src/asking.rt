@@ -69,7 +69,8 @@ fn search<M: Metric, D: Disk>(
     ensures stands { MayGoOn index.new (D.state disk.new) }
     ensures reads { OnlyReads index.old.file index.new.file (D.state disk.old) (D.state disk.new) }
     ensures rest { index.new ≡ record index.old { file = index.new.file } }
-    ensures searched { HasSearched (M.space index.old.file.metric) index.old.file (query_at t q.now) (D.state disk.old) (D.state disk.new) result }
+    ensures searched { HasSearched (M.space index.old.file.metric) index.old.file (query_at t q.now)
+        (D.state disk.old) (D.state disk.new) result }
     ensures reading { IfErr result IsReading }
     ensures disk { IfErr result (λ fault. fault ≡ IndexFault.Disk → Rose (D.state disk.old).faults (D.state disk.new).faults) }
 {
@@ -137,20 +138,18 @@ fn ask<M: Metric, D: Disk>(
         Err(fault) => return Err(page_fault(fault)),
     };
     let live = index.live();
-    match is_accepted(
+    let accepted = is_accepted(
         alloc,
         disk,
         index.metric(),
         index.head().dim,
         &live,
         &found.log,
-    ) {
-        Ok(accepted) => Ok(Asked {
-            hits: found.hits.as_slice().len() as u64,
-            accepted,
-        }),
-        Err(fault) => Err(fault),
-    }
+    )?;
+    Ok(Asked {
+        hits: found.hits.as_slice().len() as u64,
+        accepted,
+    })
 }
 
 /// Runs eight queries at points of the rows, and has the log of each checked against the file. Query `t`, counted from 0, is at the
@@ -181,13 +180,9 @@ pub fn ask_all<M: Metric, D: Disk>(
     };
     for t in 0..QUERIES {
         let q = rows.point(t * rows.len() / QUERIES);
-        match ask(alloc, index, disk, q, t) {
-            Ok(asked) => {
-                tally.hits += asked.hits;
-                tally.accepted += u64::from(asked.accepted);
-            }
-            Err(fault) => return Err(fault),
-        }
+        let asked = ask(alloc, index, disk, q, t)?;
+        tally.hits += asked.hits;
+        tally.accepted += u64::from(asked.accepted);
     }
     Ok(tally)
 }

@@ -46,7 +46,8 @@ fn open_page<P: Pages>(
 ) -> Result<(), PageFault>
     ensures same { HoldsSame (P.shelf pages.old) (P.shelf pages.new) }
     ensures keeps { P.keeps pages.old pages.new }
-    ensures opened { OnOk result (IsOpened (P.shelf pages.old) page found.old.items found.new.items (reverse coming.old.items) (reverse coming.new.items)) }
+    ensures opened { OnOk result (IsOpened (P.shelf pages.old) page found.old.items found.new.items
+        (reverse coming.old.items) (reverse coming.new.items)) }
     ensures cause { IfErr result (HasPageCause (P.shelf pages.old) (P.shelf pages.new) page) }
 {
     let node = own_node(alloc, pages, page)?;
@@ -65,7 +66,8 @@ pub fn collect<P: Pages>(
 ) -> Result<Vec<LeafEntry>, PageFault>
     ensures same { HoldsSame (P.shelf pages.old) (P.shelf pages.new) }
     ensures keeps { P.keeps pages.old pages.new }
-    ensures found { IfOk result (λ found. IsTrue (P.shelf pages.old).tells → (s : Space) → IsSoundTree s (nodes_of (P.shelf pages.old).read) live.now →
+    ensures found { IfOk result (λ found. IsTrue (P.shelf pages.old).tells → (s : Space) →
+        IsSoundTree s (nodes_of (P.shelf pages.old).read) live.now →
         found.items ≡ objects (nodes_of (P.shelf pages.old).read) live.now) }
     ensures disk { IfErr result (λ fault. fault ≡ PageFault.Disk → Rose (P.shelf pages.old).faults (P.shelf pages.new).faults) }
     ensures sound { IfErr result (λ fault. IsTrue (P.shelf pages.old).tells → (s : Space) →
@@ -80,10 +82,7 @@ pub fn collect<P: Pages>(
         if opened == live.pages {
             return Err(PageFault::Repeats(page));
         }
-        match open_page(alloc, pages, page, &mut found, &mut coming) {
-            Ok(()) => {}
-            Err(fault) => return Err(fault),
-        }
+        open_page(alloc, pages, page, &mut found, &mut coming)?;
         opened += 1;
     }
     Ok(found)

@@ -6,6 +6,7 @@ ghost use Rattle.node_page.specs.Heads.{IsLawfulHead};
 ghost use Rattle.shadow_root.specs.Making.{IsMade, first_live};
 ghost use Rattle.index_core.specs.Index.{MayGoOn};
 ghost use Rattle.file_jobs.specs.Spaces.{space_of};
+ghost use Rattle.making_jobs.specs.declared.filling.FillFault.TheVariants as unfilled;
 ghost use Rattle.making_jobs.specs.Filling.{HasFillCause, HoldsNoneOrAll, IsFilled, fault_of};
 
 use bulk_load::Crew;
@@ -43,6 +44,28 @@ pub enum FillFault {
     Memory,
 }
 
+impl From<OpenFault> for FillFault {
+    ghost from_gives = { λ fault e. e ≡ unfilled.Unopened fault };
+
+    fn from(fault: OpenFault) -> FillFault {
+        FillFault::Unopened(fault)
+    }
+}
+
+impl From<IndexFault> for FillFault {
+    ghost from_gives = { λ fault e. e ≡ fault_of fault };
+
+    fn from(fault: IndexFault) -> FillFault {
+        match fault {
+            IndexFault::Disk | IndexFault::Commit | IndexFault::Stopped => FillFault::Disk,
+            IndexFault::Memory => FillFault::Memory,
+            IndexFault::Damaged(page) => FillFault::Damaged(page),
+            IndexFault::Full | IndexFault::NotEmpty | IndexFault::NoRoom { .. } | IndexFault::Worn =>
+                FillFault::Changed,
+        }
+    }
+}
+
 /// Objects by their ids, from 0 on.
 #[derive(Drop)]
 pub struct Objects {
@@ -50,18 +73,6 @@ pub struct Objects {
     pub rows: Rows,
     /// The objects' tags, as many as there are points.
     pub tags: Vec<u64>,
-}
-
-fn fault_of(fault: IndexFault) -> FillFault
-    ensures { result ≡ fault_of fault }
-{
-    match fault {
-        IndexFault::Disk | IndexFault::Commit | IndexFault::Stopped => FillFault::Disk,
-        IndexFault::Memory => FillFault::Memory,
-        IndexFault::Damaged(page) => FillFault::Damaged(page),
-        IndexFault::Full | IndexFault::NotEmpty | IndexFault::NoRoom { .. } | IndexFault::Worn =>
-            FillFault::Changed,
-    }
 }
 
 // Returns whether the index has this head and this live slot.
@@ -95,7 +106,8 @@ pub fn fill<W: Crew<MixSpace>, D: Disk>(
     requires fits { All (λ p. IsTrue ((space_of head.now).fits p)) objects.now.rows.points }
     requires few { length objects.now.rows.points ≤ head.now.limit }
     requires tags { length objects.now.tags.items ≡ length objects.now.rows.points }
-    ensures filled { IsTrue (D.state disk.old).tells → IfOk result (IsFilled head.now objects.now.rows.points objects.now.tags.items (D.state disk.new)) }
+    ensures filled { IsTrue (D.state disk.old).tells →
+        IfOk result (IsFilled head.now objects.now.rows.points objects.now.tags.items (D.state disk.new)) }
     ensures going { IfOk result (λ index. index.stopped ≡ false) }
     ensures stands { IfOk result (λ index. MayGoOn index (D.state disk.new)) }
     ensures head { IfOk result (λ index. index.file.head ≡ head.now) }
@@ -111,10 +123,7 @@ pub fn fill<W: Crew<MixSpace>, D: Disk>(
     fault_is_not_open();
     one_live_slot();
     heads_have_spaces();
-    let mut index = match Index::open_write(disk, space_of(head)) {
-        Ok(index) => index,
-        Err(fault) => return Err(FillFault::Unopened(fault)),
-    };
+    let mut index = Index::open_write(disk, space_of(head))?;
     if !is_of(&index, head, live) {
         return Err(FillFault::Changed);
     }
@@ -122,8 +131,6 @@ pub fn fill<W: Crew<MixSpace>, D: Disk>(
     if objects.rows.is_empty() {
         return Ok(index);
     }
-    match index.load_tagged(crew, alloc, disk, &objects.rows, &objects.tags) {
-        Ok(_) => Ok(index),
-        Err(fault) => Err(fault_of(fault)),
-    }
+    index.load_tagged(crew, alloc, disk, &objects.rows, &objects.tags)?;
+    Ok(index)
 }

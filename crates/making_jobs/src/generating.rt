@@ -73,7 +73,8 @@ pub fn make_filled<W: Crew<MixSpace>, D: Disk, K: Sink>(
     ensures empty { OnOk result (IsTrue (D.state disk.old).tells → length (D.state disk.old).bytes ≡ 0) }
     ensures filled { IfOk result (λ index. IsTrue (D.state disk.old).tells →
         IsFilled head.now objects.now.rows.points objects.now.tags.items (D.state disk.new) index) }
-    ensures since { OnOk result (IsTrue (D.state disk.old).tells → IsFilledSince head.now objects.now.rows.points objects.now.tags.items (D.state disk.new)) }
+    ensures since { OnOk result (IsTrue (D.state disk.old).tells →
+        IsFilledSince head.now objects.now.rows.points objects.now.tags.items (D.state disk.new)) }
     ensures going { IfOk result (λ index. index.stopped ≡ false) }
     ensures stands { IfOk result (λ index. MayGoOn index (D.state disk.new)) }
     ensures head { IfOk result (λ index. index.file.head ≡ head.now) }
@@ -134,17 +135,15 @@ fn summary_of<M: Metric, D: Disk>(
     requires few { length rows.now.points ≤ 2 ^ 24 }
     requires fits { All (λ p. IsTrue ((M.space index.old.file.metric).fits p)) rows.now.points }
     ensures reads { OnlyReads index.old.file index.new.file (D.state disk.old) (D.state disk.new) }
-    ensures text { IsSoundOn (M.space index.old.file.metric) index.old.file (D.state disk.old) → points_on index.old.file (D.state disk.old) ≡ rows.now.points →
+    ensures text { IsSoundOn (M.space index.old.file.metric) index.old.file (D.state disk.old) →
+        points_on index.old.file (D.state disk.old) ≡ rows.now.points →
         IfOk result (λ text. text.items ≡ summary index.old.file.live.count
         (length (tree_lines (nodes_on index.old.file (D.state disk.old)) index.old.file.live)) index.old.file.live.height
         (hits_of (M.space index.old.file.metric) rows.now.points 8) 8) }
     ensures cause { IfErr result (HasAskCause (IsSoundOn (M.space index.old.file.metric) index.old.file (D.state disk.old))
         (D.state disk.old) (D.state disk.new)) }
 {
-    let tally = match ask_all(alloc, index, disk, rows) {
-        Ok(tally) => tally,
-        Err(fault) => return Err(fault),
-    };
+    let tally = ask_all(alloc, index, disk, rows)?;
     let shape = match index.shape(alloc, disk) {
         Ok(shape) => shape,
         Err(fault) => return Err(page_fault(fault)),

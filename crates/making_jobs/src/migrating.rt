@@ -42,7 +42,8 @@ fn want_empty<D: Disk, K: Sink>(disk: &mut D, out: &mut K) -> Result<(), Status>
     ensures reads { (D.state disk.new).reads ≡ (D.state disk.old).reads }
     ensures empty { OnOk result (IsTrue (D.state disk.old).tells → length (D.state disk.old).bytes ≡ 0) }
     ensures silent { OnOk result (out.new ≡ out.old) }
-    ensures refuses { IfErr result (λ status. RefusesNew (D.state disk.old) (D.state disk.new) (K.state out.old) (K.state out.new) status.0) }
+    ensures refuses { IfErr result (λ status. RefusesNew (D.state disk.old) (D.state disk.new)
+        (K.state out.old) (K.state out.new) status.0) }
     ensures later { (D.state disk.old).faults ≤ (D.state disk.new).faults }
     ensures out_later { (K.state out.old).faults ≤ (K.state out.new).faults }
 {
@@ -62,7 +63,8 @@ fn open_old<D: Disk, K: Sink>(disk: &mut D, out: &mut K) -> Result<(Head, Live),
     ensures pages { IfOk result (λ opened. opened.1.pages ≤ 2 ^ 24) }
     ensures count { IfOk result (λ opened. opened.1.count ≤ opened.0.limit) }
     ensures silent { OnOk result (out.new ≡ out.old) }
-    ensures refuses { IfErr result (λ status. RefusesOld (D.state disk.old) (D.state disk.new) (K.state out.old) (K.state out.new) status.0) }
+    ensures refuses { IfErr result (λ status. RefusesOld (D.state disk.old) (D.state disk.new)
+        (K.state out.old) (K.state out.new) status.0) }
     ensures unwritten { IfErr result (λ status. (status.0 ≡ 5) ⊎ (status.0 ≡ 6)) }
     ensures later { (D.state disk.old).faults ≤ (D.state disk.new).faults }
     ensures out_later { (K.state out.old).faults ≤ (K.state out.new).faults }
@@ -97,18 +99,19 @@ fn audited<P: Pages, M: Metric>(
     ensures fits { IfOk result (λ o. All (λ p. IsTrue ((M.space metric).fits p)) o.rows.points) }
     ensures count { IfOk result (λ o. length o.rows.points ≡ live.now.count) }
     ensures tag_count { IfOk result (λ o. length o.tags.items ≡ length o.rows.points) }
-    ensures sound { OnOk result (IsTrue (P.shelf pages.old).tells → IsSoundTree (M.space metric) (nodes_of (P.shelf pages.old).read) live.now) }
-    ensures points { IfOk result (λ o. IsTrue (P.shelf pages.old).tells → o.rows.points ≡ points_by_id (nodes_of (P.shelf pages.old).read) live.now) }
-    ensures tags { IfOk result (λ o. IsTrue (P.shelf pages.old).tells → o.tags.items ≡ tags_by_id (nodes_of (P.shelf pages.old).read) live.now) }
+    ensures sound { OnOk result (IsTrue (P.shelf pages.old).tells →
+        IsSoundTree (M.space metric) (nodes_of (P.shelf pages.old).read) live.now) }
+    ensures points { IfOk result (λ o. IsTrue (P.shelf pages.old).tells →
+        o.rows.points ≡ points_by_id (nodes_of (P.shelf pages.old).read) live.now) }
+    ensures tags { IfOk result (λ o. IsTrue (P.shelf pages.old).tells →
+        o.tags.items ≡ tags_by_id (nodes_of (P.shelf pages.old).read) live.now) }
     ensures fault { IfErr result (HasOldFault (P.shelf pages.old).tells (P.shelf pages.old).faults (P.shelf pages.new).faults
         (audit_fault (M.space metric) (P.shelf pages.old).read live.now)) }
 {
     audit_faults_are_unsoundness();
     let mut ruler = Meter::new(metric);
-    match audit(alloc, pages, &mut ruler, dim, live) {
-        Ok(_) => objects_of(alloc, pages, metric, live),
-        Err(fault) => Err(fault),
-    }
+    audit(alloc, pages, &mut ruler, dim, live)?;
+    objects_of(alloc, pages, metric, live)
 }
 
 // Audits the live tree of an opened file of version 1, and returns its objects.
@@ -145,21 +148,20 @@ fn read_old<D: Disk, K: Sink>(
     out: &mut K,
 ) -> Result<(Head, Objects), Status>
     ensures same { IsUnchanged (D.state disk.old) (D.state disk.new) }
-    ensures is { IfOk result (λ old. IsTrue (D.state disk.old).tells → IsOldFile old.0 old.1.rows.points old.1.tags.items (D.state disk.old).bytes) }
+    ensures is { IfOk result (λ old. IsTrue (D.state disk.old).tells →
+        IsOldFile old.0 old.1.rows.points old.1.tags.items (D.state disk.old).bytes) }
     ensures head { IfOk result (λ old. IsLawfulHead old.0) }
     ensures fits { IfOk result (λ old. All (λ p. IsTrue ((space_of old.0).fits p)) old.1.rows.points) }
     ensures few { IfOk result (λ old. length old.1.rows.points ≤ old.0.limit) }
     ensures tag_count { IfOk result (λ old. length old.1.tags.items ≡ length old.1.rows.points) }
     ensures silent { OnOk result (out.new ≡ out.old) }
-    ensures refuses { IfErr result (λ status. RefusesOld (D.state disk.old) (D.state disk.new) (K.state out.old) (K.state out.new) status.0) }
+    ensures refuses { IfErr result (λ status. RefusesOld (D.state disk.old) (D.state disk.new)
+        (K.state out.old) (K.state out.new) status.0) }
     ensures rose { IfErr result (λ status. status.0 ≡ 4 → Rose (K.state out.old).faults (K.state out.new).faults) }
     ensures later { (D.state disk.old).faults ≤ (D.state disk.new).faults }
     ensures out_later { (K.state out.old).faults ≤ (K.state out.new).faults }
 {
-    let (head, live) = match open_old(disk, out) {
-        Ok(opened) => opened,
-        Err(status) => return Err(status),
-    };
+    let (head, live) = open_old(disk, out)?;
     match audited_objects(alloc, disk, &head, &live) {
         Ok(objects) => Ok((head, objects)),
         Err(fault) => Err(end_rejected(alloc, fault, out)),
@@ -206,7 +208,8 @@ fn move_objects<D: Disk, K: Sink>(
     requires fits { All (λ p. IsTrue ((space_of head.now).fits p)) objects.now.rows.points }
     requires few { length objects.now.rows.points ≤ head.now.limit }
     requires tags { length objects.now.tags.items ≡ length objects.now.rows.points }
-    ensures fills { Fills (renewed head.now) objects.now.rows.points objects.now.tags.items (λ file text. text ≡ migrated_text (length objects.now.rows.points))
+    ensures fills { Fills (renewed head.now) objects.now.rows.points objects.now.tags.items
+        (λ file text. text ≡ migrated_text (length objects.now.rows.points))
         (D.state index.old) (D.state index.new) (K.state out.old) (K.state out.new) result.0 }
     ensures statuses { IsFillStatus result.0 }
     ensures later { (K.state out.old).faults ≤ (K.state out.new).faults }
@@ -227,7 +230,8 @@ fn migrate<D: Disk, E: Disk, K: Sink>(
     other: &mut E,
     out: &mut K,
 ) -> Status
-    ensures migrates { Migrates (D.state index.old) (D.state index.new) (E.state other.old) (E.state other.new) (K.state out.old) (K.state out.new) result.0 }
+    ensures migrates { Migrates (D.state index.old) (D.state index.new) (E.state other.old) (E.state other.new)
+        (K.state out.old) (K.state out.new) result.0 }
     ensures later { (K.state out.old).faults ≤ (K.state out.new).faults }
     ensures rose { result.0 ≡ 4 → Rose (K.state out.old).faults (K.state out.new).faults }
 {
@@ -252,11 +256,13 @@ pub fn migrate_index<D: Disk, E: Disk, K: Sink>(
     other: &mut E,
     out: &mut K,
 ) -> Status
-    ensures migrates { Migrates (D.state index.old) (D.state index.new) (E.state other.old) (E.state other.new) (K.state out.old) (K.state out.new) result.0 }
+    ensures migrates { Migrates (D.state index.old) (D.state index.new) (E.state other.old) (E.state other.new)
+        (K.state out.old) (K.state out.new) result.0 }
     // Where the new file is empty and the old file is sound, nothing is refused.
     ensures complete { RefusesNothing (D.state index.old) (E.state other.old) result.0 }
     ensures statuses { IsMigrateStatus result.0 }
-    ensures disk { result.0 ≡ 5 → Rose (D.state index.old).faults (D.state index.new).faults ⊎ Rose (E.state other.old).faults (E.state other.new).faults }
+    ensures disk { result.0 ≡ 5 → Rose (D.state index.old).faults (D.state index.new).faults
+        ⊎ Rose (E.state other.old).faults (E.state other.new).faults }
     ensures rose { result.0 ≡ 4 → Rose (K.state out.old).faults (K.state out.new).faults }
     ensures later { (K.state out.old).faults ≤ (K.state out.new).faults }
 {

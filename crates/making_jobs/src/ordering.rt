@@ -56,7 +56,8 @@ fn take_in_order<M: Metric>(
     ensures numbered { OnOk result (AreNumbered 0 entries.now) }
     ensures fits { OnOk result (AreInSpace (M.space metric) entries.now) }
     ensures kind { IfErr result (λ fault. (fault ≡ AuditFault.Memory) ⊎ ((id : ℕ) × (fault ≡ AuditFault.Id id))) }
-    ensures cause { IfErr result (λ fault. AreNumbered 0 entries.now → AreInSpace (M.space metric) entries.now → fault ≡ AuditFault.Memory) }
+    ensures cause { IfErr result (λ fault. AreNumbered 0 entries.now → AreInSpace (M.space metric) entries.now →
+        fault ≡ AuditFault.Memory) }
 {
     let mut objects = Objects {
         rows: Rows::new(alloc, metric.words()),
@@ -87,11 +88,14 @@ pub fn objects_of<P: Pages, M: Metric>(
     ensures fits { IfOk result (λ o. All (λ p. IsTrue ((M.space metric).fits p)) o.rows.points) }
     ensures count { IfOk result (λ o. length o.rows.points ≡ live.now.count) }
     ensures tag_count { IfOk result (λ o. length o.tags.items ≡ length o.rows.points) }
-    ensures points { IfOk result (λ o. IsTrue (P.shelf pages.old).tells → IsSoundTree (M.space metric) (nodes_of (P.shelf pages.old).read) live.now →
+    ensures points { IfOk result (λ o. IsTrue (P.shelf pages.old).tells →
+        IsSoundTree (M.space metric) (nodes_of (P.shelf pages.old).read) live.now →
         o.rows.points ≡ points_by_id (nodes_of (P.shelf pages.old).read) live.now) }
-    ensures tags { IfOk result (λ o. IsTrue (P.shelf pages.old).tells → IsSoundTree (M.space metric) (nodes_of (P.shelf pages.old).read) live.now →
+    ensures tags { IfOk result (λ o. IsTrue (P.shelf pages.old).tells →
+        IsSoundTree (M.space metric) (nodes_of (P.shelf pages.old).read) live.now →
         o.tags.items ≡ tags_by_id (nodes_of (P.shelf pages.old).read) live.now) }
-    ensures cause { IfErr result (HasTakingCause (IsTrue (P.shelf pages.old).tells × IsSoundTree (M.space metric) (nodes_of (P.shelf pages.old).read) live.now)
+    ensures cause { IfErr result (HasTakingCause
+        (IsTrue (P.shelf pages.old).tells × IsSoundTree (M.space metric) (nodes_of (P.shelf pages.old).read) live.now)
         (P.shelf pages.old).faults (P.shelf pages.new).faults) }
 {
     objects_fit();

@@ -98,7 +98,8 @@ pub fn answer_of(came: Result<Outcome, Memory>) -> Result<Answer, u8>
 fn range_answer(alloc: Global, file: &[u8], point: &[u32], radius: u64) -> Result<Answer, u8>
     ensures each { IfOk result (λ a. length a.tags ≡ length a.hits) }
     ensures log { IfOk result (λ a. IsLawfulLog a.log) }
-    ensures answered { IfOk result (λ a. ComesTo file.now (command.Range radius point.now) (outcome.Done (reply.Hits a.hits a.tags) (Some a.log))) }
+    ensures answered { IfOk result (λ a. ComesTo file.now (command.Range radius point.now)
+        (outcome.Done (reply.Hits a.hits a.tags) (Some a.log))) }
     ensures unanswered { IfErr result (HasNoAnswer file.now (command.Range radius point.now)) }
 {
     let (head, live) = open_file(alloc, file)?;
@@ -119,7 +120,8 @@ fn range_answer(alloc: Global, file: &[u8], point: &[u32], radius: u64) -> Resul
 fn nearest_answer(alloc: Global, file: &[u8], point: &[u32], count: u64) -> Result<Answer, u8>
     ensures each { IfOk result (λ a. length a.tags ≡ length a.hits) }
     ensures log { IfOk result (λ a. IsLawfulLog a.log) }
-    ensures answered { IfOk result (λ a. ComesTo file.now (command.Nearest count point.now) (outcome.Done (reply.Hits a.hits a.tags) (Some a.log))) }
+    ensures answered { IfOk result (λ a. ComesTo file.now (command.Nearest count point.now)
+        (outcome.Done (reply.Hits a.hits a.tags) (Some a.log))) }
     ensures unanswered { IfErr result (HasNoAnswer file.now (command.Nearest count point.now)) }
 {
     if count == 0 {

@@ -40,7 +40,8 @@ pub extern "C" fn mtree_session_in(
     log: &mut [u8],
     sizes: &mut SessionSizes,
 ) -> u8
-    ensures { HandsSession (IsSession show_tags script.now (take size room.old)) size room.old room.new text.old text.new log.old log.new sizes.new result }
+    ensures { HandsSession (IsSession show_tags script.now (take size room.old)) size
+        room.old room.new text.old text.new log.old log.new sizes.new result }
 {
     session_in(alloc, room, size, show_tags, script, text, log, sizes)
 }

@@ -150,7 +150,8 @@ fn answer_rows(
     requires some { AsksSome ask }
     requires opened { IsOpened (bytes_in pages.old.inner.image) opened.now.0 opened.now.1 pages.old }
     requires long { length points.now ≡ rows * opened.now.0.dim }
-    ensures answered { IfOk result (λ joined. AnswersRows (bytes_in pages.old.inner.image) ask points.now rows joined.hits.items joined.counts.items) }
+    ensures answered { IfOk result (λ joined. AnswersRows (bytes_in pages.old.inner.image) ask points.now rows
+        joined.hits.items joined.counts.items) }
     ensures unanswered { IfErr result (HasNoAnswers (bytes_in pages.old.inner.image) ask points.now rows) }
 {
     let mut joined = Joined {

@@ -42,13 +42,16 @@ fn hand_plan(
     log: &mut [u8],
     sizes: &mut PlanSizes,
 ) -> u8
-    ensures sizes { sizes.new ≡ plan_sizes (record { plan = ran.now.disk; text = ran.now.text.bytes.items; log = ran.now.log.bytes.items }) }
+    ensures sizes { sizes.new ≡ plan_sizes
+        (record { plan = ran.now.disk; text = ran.now.text.bytes.items; log = ran.now.log.bytes.items }) }
     ensures done { result ≢ 4 → (result ≡ ran.now.status) × StandAtFront ran.now.disk.steps steps.old steps.new
         × StandAtFront ran.now.disk.written written.old written.new × StandAtFront ran.now.text.bytes.items text.old text.new
         × StandAtFront ran.now.log.bytes.items log.old log.new }
     ensures short { result ≡ 4 → ran.now.status ≢ 4 → HasNoRoomForPlan
-        (record { plan = ran.now.disk; text = ran.now.text.bytes.items; log = ran.now.log.bytes.items }) steps.old written.old text.old log.old }
-    ensures same { result ≡ 4 → ran.now.status ≢ 4 → (steps.new ≡ steps.old) × (written.new ≡ written.old) × (text.new ≡ text.old) × (log.new ≡ log.old) }
+        (record { plan = ran.now.disk; text = ran.now.text.bytes.items; log = ran.now.log.bytes.items })
+        steps.old written.old text.old log.old }
+    ensures same { result ≡ 4 → ran.now.status ≢ 4 →
+        (steps.new ≡ steps.old) × (written.new ≡ written.old) × (text.new ≡ text.old) × (log.new ≡ log.old) }
 {
     let planned = ran.disk.steps();
     let bytes = ran.disk.written();

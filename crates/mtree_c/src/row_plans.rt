@@ -94,7 +94,8 @@ pub extern "C" fn mtree_insert_plan(
     sizes: &mut PlanSizes,
 ) -> u8
     ensures plan { AreRows width count tagged rows.now tags.now →
-        HandsPlan (IsAsked (inserts_of (record { words = width; points = rows_of width count rows.now }) (tags_if tagged tags.now)) file.now)
+        HandsPlan (IsAsked (inserts_of (record { words = width; points = rows_of width count rows.now })
+        (tags_if tagged tags.now)) file.now)
         steps.old steps.new written.old written.new text.old text.new log.old log.new sizes.new result }
     ensures no_rows { ¬ AreRows width count tagged rows.now tags.now →
         (result ≡ 2) × (steps.new ≡ steps.old) × (written.new ≡ written.old) × (text.new ≡ text.old) × (log.new ≡ log.old) }

@@ -63,7 +63,8 @@ fn hand_left(
     log: &mut [u8],
     sizes: &mut SessionSizes,
 ) -> u8
-    ensures sizes { sizes.new ≡ record { file = length left.now.file.items; text = length left.now.text.bytes.items; log = length left.now.log.bytes.items } }
+    ensures sizes { sizes.new ≡
+        record { file = length left.now.file.items; text = length left.now.text.bytes.items; log = length left.now.log.bytes.items } }
     ensures done { result ≢ 4 → (result ≡ left.now.status) × StandAtFront left.now.file.items room.old room.new
         × StandAtFront left.now.text.bytes.items text.old text.new × StandAtFront left.now.log.bytes.items log.old log.new }
     ensures short { result ≡ 4 → left.now.status ≢ 4 → (length room.old < length left.now.file.items)
@@ -100,7 +101,8 @@ pub fn session_in(
     log: &mut [u8],
     sizes: &mut SessionSizes,
 ) -> u8
-    ensures { HandsSession (IsSession show_tags script.now (take size room.old)) size room.old room.new text.old text.new log.old log.new sizes.new result }
+    ensures { HandsSession (IsSession show_tags script.now (take size room.old)) size
+        room.old room.new text.old text.new log.old log.new sizes.new result }
 {
     *sizes = NO_SESSION;
     if size > room.len() {

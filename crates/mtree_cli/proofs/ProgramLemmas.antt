@@ -10,7 +10,7 @@ use Rattle.outside_io.specs.Causes.{Rose}
 use Rattle.outside_io.specs.Sinks.{SinkState, Tells}
 use Rattle.job_words.specs.Names.{kind_of}
 use Rattle.metric_mix.specs.MixSpaces.{mix_space}
-use Rattle.plain_scan.specs.declared.session.Stop.TheVariants as stop
+use Rattle.plain_scan.specs.declared.session.ScanStop.TheVariants as stop
 use Rattle.plain_scan.specs.Written.{Writes, reply_texts}
 use Rattle.rows_text.specs.Script.{script}
 use Rattle.answer_texts.specs.Ending.{IsTold}

@@ -38,8 +38,8 @@ use Rattle.mtree_cli.specs.Run.Task.{Scans, Makes, Draws, Measures, Dumps, Shows
 use Rattle.seal_jobs.specs.Seals.{Seals as SealsIndex}
 use Rattle.seal_jobs.specs.Carries.{CarriesLogs}
 use Rattle.seal_jobs.specs.Proofs.{ProvesLogs}
-use Rattle.file_jobs.specs.declared.logs.stop.Stop.{Stop}
-use Rattle.file_jobs.specs.declared.logs.stop.Stop.TheVariants as stop
+use Rattle.file_jobs.specs.declared.logs.stop.LogStop.{LogStop}
+use Rattle.file_jobs.specs.declared.logs.stop.LogStop.TheVariants as stop
 use Rattle.mtree_cli.proofs.ProgramLemmas.{fault_writes, memory_ends}
 
 -- the task of a job of the words
@@ -141,7 +141,7 @@ no_file_refused : (disk other : DiskState) → RefusesNothing disk other 8
 no_file_refused disk other tells told empty head points tags is = (λ e. absurd (omega (arith, e)), λ e. absurd (omega (arith, e)), λ e. absurd (omega (arith, e)))
 
 -- running out of memory is no failed output
-is_no_sink : Stop → Type 0
+is_no_sink : LogStop → Type 0
 is_no_sink stop.Sink = ⊥
 is_no_sink other = Unit {0}
 

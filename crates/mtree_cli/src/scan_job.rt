@@ -15,7 +15,7 @@ use file_jobs::{FAULT_INPUT, FAULT_LONG, FAULT_MEMORY, MOST_INPUT, end_with};
 use job_words::SpaceName;
 use metric_mix::MixSpace;
 use outside_io::{ReadAll, Sink, Source, Status, read_all};
-use plain_scan::{Scan, Stop, run_script};
+use plain_scan::{Scan, ScanStop, run_script};
 use rows_text::read_script;
 use std::alloc::Global;
 
@@ -56,8 +56,8 @@ fn run_bytes<K: Sink>(
     };
     match run_script(alloc, scan, commands, out) {
         Ok(()) => Status(0),
-        Err(Stop::Sink) => Status(4),
-        Err(Stop::Memory) => end_with(out, FAULT_MEMORY, 8),
+        Err(ScanStop::Sink) => Status(4),
+        Err(ScanStop::Memory) => end_with(out, FAULT_MEMORY, 8),
     }
 }
 

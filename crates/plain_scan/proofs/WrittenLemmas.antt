@@ -5,8 +5,8 @@ use Rattle.std.specs.Io.KnownBytes.{Appends, Keeps}
 use Rattle.std.proofs.lemmas.List.{append-nil}
 use Rattle.std.proofs.KnownBytes.{Appends-nil, Appends-trans}
 use Rattle.outside_io.specs.Bytes.{AppendsPrefix}
-use Rattle.plain_scan.specs.declared.session.Stop.{Stop}
-use Rattle.plain_scan.specs.declared.session.Stop.TheVariants as stop
+use Rattle.plain_scan.specs.declared.session.ScanStop.{ScanStop}
+use Rattle.plain_scan.specs.declared.session.ScanStop.TheVariants as stop
 use Rattle.plain_scan.specs.Written.{HasWritten, Writes, Puts, IsFrontOf}
 
 concat_push : (texts : List (List ℕ)) (text : List ℕ) → concat (texts ++ text ∷ []) ≡ concat texts ++ text
@@ -37,7 +37,7 @@ front_appended (Some xs) (Some ys) (Some zs) bs text is (front, others, whole, g
     (front, (others, whole), grown ∙ ap (λ (l : List ℕ). l ++ front) is ∙ append_assoc xs bs front)
 
 -- the session ends with one more reply, in whole or in part
-pub ended : (w0 w1 w2 : Option (List ℕ)) (texts more : List (List ℕ)) (text : List ℕ) (result : Result (Unit {0}) Stop) →
+pub ended : (w0 w1 w2 : Option (List ℕ)) (texts more : List (List ℕ)) (text : List ℕ) (result : Result (Unit {0}) ScanStop) →
     HasWritten w0 w1 texts (text ∷ more) → Puts w1 w2 text result → (result ≡ Ok tt → more ≡ []) → Writes w0 w2 texts result
 ended w0 w1 w2 texts more text (Ok done) so_far puts last =
     let now = written_more w0 w1 w2 texts more text so_far puts in

@@ -6,8 +6,8 @@ use Rattle.outside_io.specs.Bytes.{AppendsPrefix}
 use Rattle.rows_text.specs.declared.command.Command.{Command}
 use Rattle.rows_text.specs.Meaning.{Setting, nothing_yet, replies}
 use Rattle.rows_text.specs.Texts.{text}
-use Rattle.plain_scan.specs.declared.session.Stop.{Stop}
-use Rattle.plain_scan.specs.declared.session.Stop.TheVariants as stop
+use Rattle.plain_scan.specs.declared.session.ScanStop.{ScanStop}
+use Rattle.plain_scan.specs.declared.session.ScanStop.TheVariants as stop
 
 -- the texts of the replies to commands on an empty list
 abbrev pub reply_texts : Setting → Bool → List Command → List (List ℕ)
@@ -23,19 +23,19 @@ first_text [] = []
 first_text (t ∷ texts) = t
 
 -- what a put of a text did, or that memory ran out
-abbrev pub Puts : Option (List ℕ) → Option (List ℕ) → List ℕ → Result (Unit {0}) Stop → Type 0
+abbrev pub Puts : Option (List ℕ) → Option (List ℕ) → List ℕ → Result (Unit {0}) ScanStop → Type 0
 Puts old new text (Ok done) = Appends old new text
 Puts old new text (Err stop.Memory) = Keeps old new
 Puts old new text (Err stop.Sink) = AppendsPrefix old new text
 
 -- what stands after the acknowledged replies when a run ends, where `more` are the texts of the others
-abbrev pub Follows : Result (Unit {0}) Stop → List (List ℕ) → List ℕ → Type 0
+abbrev pub Follows : Result (Unit {0}) ScanStop → List (List ℕ) → List ℕ → Type 0
 Follows (Ok done) more rest = (more ≡ []) × (rest ≡ [])
 Follows (Err stop.Memory) more rest = rest ≡ []
 Follows (Err stop.Sink) more rest = IsFrontOf rest (first_text more)
 
 -- the first of `texts` are written, each whole, and then what follows them
-pub record Writes (old new : Option (List ℕ)) (texts : List (List ℕ)) (result : Result (Unit {0}) Stop) : Type 0 where
+pub record Writes (old new : Option (List ℕ)) (texts : List (List ℕ)) (result : Result (Unit {0}) ScanStop) : Type 0 where
   pub acknowledged : List (List ℕ)
   pub more : List (List ℕ)
   pub rest : List ℕ

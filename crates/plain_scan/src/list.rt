@@ -49,7 +49,8 @@ impl PlainList {
     fn insert(&mut self, limit: u32, p: &[u32], tag: u64) -> Result<Reply, Memory>
         requires words { length p.now ≡ self.old.rows.words }
         requires limit { length self.old.rows.points ≤ limit }
-        ensures ok { IfOk result (λ reply. insert_step limit (state_of self.old) p.now tag ≡ record { reply = reply; state = state_of self.new }) }
+        ensures ok { IfOk result (λ reply. insert_step limit (state_of self.old) p.now tag
+            ≡ record { reply = reply; state = state_of self.new }) }
         ensures tagged { IfOk result TagsAre }
         ensures err { OnErr result (state_of self.new ≡ state_of self.old) }
         ensures words { self.new.rows.words ≡ self.old.rows.words }
@@ -111,7 +112,8 @@ impl PlainList {
         requires points { All (λ p. IsTrue ((M.space metric.now).fits p)) self.old.rows.points }
         requires query { IsTrue ((M.space metric.now).fits q.now) }
         requires numbers { self.old.cursors.next + 1 < 2 ^ 32 }
-        ensures ok { IfOk result (λ reply. cursor_step (M.space metric.now) (state_of self.old) q.now ≡ record { reply = reply; state = state_of self.new }) }
+        ensures ok { IfOk result (λ reply. cursor_step (M.space metric.now) (state_of self.old) q.now
+            ≡ record { reply = reply; state = state_of self.new }) }
         ensures tagged { IfOk result TagsAre }
         ensures err { OnErr result (state_of self.new ≡ state_of self.old) }
         ensures rows { self.new.rows ≡ self.old.rows }

@@ -4,22 +4,39 @@ ghost use Rattle.outside_io.specs.Causes.{Rose};
 ghost use Rattle.rows_text.specs.Meaning.{nothing_yet, replies, step};
 ghost use Rattle.rows_text.specs.Readable.{IsReadable};
 ghost use Rattle.rows_text.specs.Texts.{text};
+ghost use Rattle.plain_scan.specs.declared.session.ScanStop.TheVariants as stop;
 ghost use Rattle.plain_scan.specs.List.{IsListOf, state_of};
 ghost use Rattle.plain_scan.specs.Written.{Puts, Writes, reply_texts};
 
 use crate::list::PlainList;
 use metric_laws::Metric;
-use outside_io::Sink;
+use outside_io::{Failed, Sink};
 use rows_text::{Command, reply_text};
-use std::alloc::Global;
+use std::alloc::{AllocError, Global};
 
 /// Why a run ended before its script did.
 #[derive(Clone, Copy, PartialEq, Eq)]
-pub enum Stop {
+pub enum ScanStop {
     /// Memory ran out.
     Memory,
     /// A reply could not be written.
     Sink,
+}
+
+impl From<AllocError> for ScanStop {
+    ghost from_gives = { λ _ e. e ≡ stop.Memory };
+
+    fn from(_error: AllocError) -> ScanStop {
+        ScanStop::Memory
+    }
+}
+
+impl From<Failed> for ScanStop {
+    ghost from_gives = { λ _ e. e ≡ stop.Sink };
+
+    fn from(_failed: Failed) -> ScanStop {
+        ScanStop::Sink
+    }
 }
 
 /// How a script is run on a plain list.
@@ -40,7 +57,7 @@ fn answer<M: Metric, K: Sink>(
     list: &mut PlainList,
     command: Command,
     out: &mut K,
-) -> Result<(), Stop>
+) -> Result<(), ScanStop>
     requires list { IsListOf (M.space scan.now.metric) scan.now.limit list.old }
     requires limit { scan.now.limit < 2 ^ 32 - 1 }
     requires numbers { list.old.cursors.next + 1 < 2 ^ 32 }
@@ -55,30 +72,23 @@ fn answer<M: Metric, K: Sink>(
     ensures numbers { list.new.cursors.next ≤ list.old.cursors.next + 1 }
     ensures one_put { OnOk result (K.puts out.new ≡ next_count (K.puts out.old)) }
     ensures later { (K.state out.old).faults ≤ (K.state out.new).faults }
-    ensures rose { IsErrOf result Stop.Sink → Rose (K.state out.old).faults (K.state out.new).faults }
+    ensures rose { IsErrOf result ScanStop.Sink → Rose (K.state out.old).faults (K.state out.new).faults }
 {
-    let Ok(reply) = list.step(alloc, &scan.metric, scan.limit, command) else {
-        return Err(Stop::Memory);
-    };
+    let reply = list.step(alloc, &scan.metric, scan.limit, command)?;
     let mut text = Vec::new(alloc);
-    if reply_text(&reply, scan.show_tags, &mut text).is_err() {
-        return Err(Stop::Memory);
-    }
-    match out.put(&text) {
-        Ok(()) => Ok(()),
-        Err(_) => Err(Stop::Sink),
-    }
+    reply_text(&reply, scan.show_tags, &mut text)?;
+    Ok(out.put(&text)?)
 }
 
 /// Carries out each command of a script in turn on an empty list, and writes its reply.
 ///
-/// After [`Stop::Sink`] a front of the next reply may be written. [`Stop::Memory`] comes only where memory runs out.
+/// After [`ScanStop::Sink`] a front of the next reply may be written. [`ScanStop::Memory`] comes only where memory runs out.
 pub fn run_script<M: Metric, K: Sink>(
     alloc: Global,
     scan: &Scan<M>,
     commands: Vec<Command>,
     out: &mut K,
-) -> Result<(), Stop>
+) -> Result<(), ScanStop>
     requires limit { scan.now.limit < 2 ^ 32 - 1 }
     requires few { length commands.items < 2 ^ 32 }
     requires readable { All (IsReadable (M.space scan.now.metric).words) commands.items }
@@ -88,7 +98,7 @@ pub fn run_script<M: Metric, K: Sink>(
     // Each reply goes out whole in one put, so a reader of a pipe never sees a part of one.
     ensures puts { OnOk result (K.puts out.new ≡ count_up (K.puts out.old) (length commands.items)) }
     ensures later { (K.state out.old).faults ≤ (K.state out.new).faults }
-    ensures rose { IsErrOf result Stop.Sink → Rose (K.state out.old).faults (K.state out.new).faults }
+    ensures rose { IsErrOf result ScanStop.Sink → Rose (K.state out.old).faults (K.state out.new).faults }
 {
     let mut list = PlainList::new(alloc, scan.metric.words());
     for command in commands {

@@ -12,8 +12,8 @@ use Rattle.std.proofs.KnownBytes.{Appends-nil, Appends-trans, Consumes-nil, Cons
 use Rattle.outside_io.specs.Bytes.{AppendsPrefix}
 use Rattle.outside_io.specs.Sinks.{SinkState, Tells}
 use Rattle.prune_log.specs.Spelling.{frame_bytes}
-use Rattle.seal_jobs.specs.declared.stop.Stop.{Stop}
-use Rattle.seal_jobs.specs.declared.stop.Stop.TheVariants as stop
+use Rattle.seal_jobs.specs.declared.stop.ProofStop.{ProofStop}
+use Rattle.seal_jobs.specs.declared.stop.ProofStop.TheVariants as stop
 use Rattle.seal_jobs.specs.Proofs.{Shown, IsShown, AreShown, all_accepted, IsEnd, HasShown, PutsFrame, StopsFrame, StopsReading, HasEnded, StopsAfter, HasStopped, room_behind, ProvesLogs}
 
 -- the frames that were taken were shown
@@ -85,7 +85,7 @@ ended root rest line left0 left1 left2 room frame accepted status w0 w1 w2 p too
 }
 
 -- the job stopped behind the frames that were shown
-stopped_behind : (root rest : List ℕ) (left0 left1 left2 : Option (List ℕ)) (room frame : ℕ) (accepted : Bool) (why : Stop) (w0 w1 w2 : Option (List ℕ)) → Progress root left0 left1 room frame accepted w0 w1 → Consumes left1 left2 rest
+stopped_behind : (root rest : List ℕ) (left0 left1 left2 : Option (List ℕ)) (room frame : ℕ) (accepted : Bool) (why : ProofStop) (w0 w1 w2 : Option (List ℕ)) → Progress root left0 left1 room frame accepted w0 w1 → Consumes left1 left2 rest
     → length rest ≤ room + 4096 → (why ≡ stop.Long) ↔ (room < length rest) → StopsAfter root frame rest accepted left2 room why w1 w2 → HasStopped root left0 left2 w0 w2 why
 stopped_behind root rest left0 left1 left2 room frame accepted why w0 w1 w2 p took few long is =
     let bytes = flat_map (λ (f : Shown). frame_bytes f.body) p.shown ++ rest in
@@ -112,7 +112,7 @@ end_stops root rest line left0 left1 left2 room frame accepted status w0 w1 w2 p
     stopped_behind root rest left0 left1 left2 room frame accepted stop.Sink w0 w1 w2 p took (omega (arith, fits)) ((λ e. cc e), λ more. absurd (omega (arith, more, fits))) (line, inr (at_end, (status, is)), put)
 
 -- the next one could not be read
-pub reading_stops : (root : List ℕ) (left0 left1 left2 : Option (List ℕ)) (room frame : ℕ) (accepted : Bool) (why : Stop) (w0 w1 : Option (List ℕ)) → Progress root left0 left1 room frame accepted w0 w1 → StopsReading room left1 left2 why → HasStopped root left0 left2 w0 w1 why
+pub reading_stops : (root : List ℕ) (left0 left1 left2 : Option (List ℕ)) (room frame : ℕ) (accepted : Bool) (why : ProofStop) (w0 w1 : Option (List ℕ)) → Progress root left0 left1 room frame accepted w0 w1 → StopsReading room left1 left2 why → HasStopped root left0 left2 w0 w1 why
 reading_stops root left0 left1 left2 room frame accepted stop.Sink w0 w1 p is = absurd is
 reading_stops root left0 left1 left2 room frame accepted stop.Input w0 w1 p is =
     let few = is.2 in
@@ -125,7 +125,7 @@ reading_stops root left0 left1 left2 room frame accepted stop.Memory w0 w1 p is 
     stopped_behind root is.0 left0 left1 left2 room frame accepted stop.Memory w0 w1 w1 p is.1 (omega (arith, few)) ((λ e. cc e), λ more. absurd (omega (arith, more, few))) refl
 
 -- the next one was read and not shown
-pub frame_stops : (root body : List ℕ) (left0 left1 left2 : Option (List ℕ)) (room frame : ℕ) (accepted : Bool) (why : Stop) (w0 w1 w2 : Option (List ℕ)) → Progress root left0 left1 room frame accepted w0 w1 → Consumes left1 left2 (frame_bytes body)
+pub frame_stops : (root body : List ℕ) (left0 left1 left2 : Option (List ℕ)) (room frame : ℕ) (accepted : Bool) (why : ProofStop) (w0 w1 w2 : Option (List ℕ)) → Progress root left0 left1 room frame accepted w0 w1 → Consumes left1 left2 (frame_bytes body)
     → length (frame_bytes body) ≤ room → StopsFrame root frame body why w1 w2 → HasStopped root left0 left2 w0 w2 why
 frame_stops root body left0 left1 left2 room frame accepted stop.Sink w0 w1 w2 p took fits is =
     stopped_behind root (frame_bytes body) left0 left1 left2 room frame accepted stop.Sink w0 w1 w2 p took (omega (arith, fits)) ((λ e. cc e), λ more. absurd (omega (arith, more, fits)))

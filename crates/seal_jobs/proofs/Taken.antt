@@ -7,8 +7,8 @@ use Rattle.byteorder.specs.Endian.{big_bytes, big_number}
 use Rattle.byteorder.specs.Numbers.{big_number-reads_back, length-bytes_high_first}
 use Rattle.prune_log.specs.Spelling.{frame_bytes}
 use Rattle.seal_jobs.specs.Proofs.{BeginsNoFrame, IsCutFrame, StopsReading, StopsTaking}
-use Rattle.seal_jobs.specs.declared.stop.Stop.{Stop}
-use Rattle.seal_jobs.specs.declared.stop.Stop.TheVariants as stop
+use Rattle.seal_jobs.specs.declared.stop.ProofStop.{ProofStop}
+use Rattle.seal_jobs.specs.declared.stop.ProofStop.TheVariants as stop
 
 field_size : (n : ℕ) → length (big_bytes 8 n) ≡ 8
 field_size n = length-bytes_high_first 8 n
@@ -56,14 +56,14 @@ cut_within room n field part left0 left1 left2 small spelled wide first second f
     )
 
 -- the length field could not be read
-pub field_stops : (room : ℕ) (old new : Option (List ℕ)) (why : Stop) → StopsTaking 8 room old new why → StopsReading room old new why
+pub field_stops : (room : ℕ) (old new : Option (List ℕ)) (why : ProofStop) → StopsTaking 8 room old new why → StopsReading room old new why
 field_stops room old new stop.Sink is = is
 field_stops room old new stop.Memory is = is
 field_stops room old new stop.Input is = (is.0, is.1, is.2, too_short is.0 is.3)
 field_stops room old new stop.Long is = (is.0, is.1, is.2, is.3, too_short (take room is.0) (let more = is.2 in let few = is.4 in omega (arith, length-take room is.0, more, few)))
 
 -- the bytes behind it could not
-pub body_stops : (room n : ℕ) (field : List ℕ) (left0 left1 left2 : Option (List ℕ)) (why : Stop) → n < 2 ^ 64 → field ≡ big_bytes 8 n → 8 ≤ room → Consumes left0 left1 field → StopsTaking n (room - 8) left1 left2 why → StopsReading room left0 left2 why
+pub body_stops : (room n : ℕ) (field : List ℕ) (left0 left1 left2 : Option (List ℕ)) (why : ProofStop) → n < 2 ^ 64 → field ≡ big_bytes 8 n → 8 ≤ room → Consumes left0 left1 field → StopsTaking n (room - 8) left1 left2 why → StopsReading room left0 left2 why
 body_stops room n field left0 left1 left2 stop.Sink fits spelled wide first is = is
 body_stops room n field left0 left1 left2 stop.Memory fits spelled wide first is =
     let eight : length field ≡ 8 = ap length spelled ∙ field_size n in

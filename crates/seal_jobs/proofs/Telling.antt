@@ -19,8 +19,8 @@ use Rattle.node_page.specs.declared.head.Head.{Head}
 use Rattle.log_model.specs.declared.logs.Log.{Log}
 use Rattle.node_page.specs.Opening.{OpensTo}
 use Rattle.prune_log.specs.Reading.{frames_at, log_at}
-use Rattle.file_jobs.specs.declared.logs.stop.Stop.{Stop}
-use Rattle.file_jobs.specs.declared.logs.stop.Stop.TheVariants as stop
+use Rattle.file_jobs.specs.declared.logs.stop.LogStop.{LogStop}
+use Rattle.file_jobs.specs.declared.logs.stop.LogStop.TheVariants as stop
 use Rattle.file_jobs.specs.Logs.Jobs.{Stops as EndsStopped}
 use Rattle.seal_jobs.specs.Carries.{Told, IsTold, AreTold, PutsLog, HasCarried, carried_end, StopsLog, StopsCarrying, Stops, HasHalted, IsCarryStatus, IsDone}
 
@@ -75,13 +75,13 @@ one_more_by d0 d1 head live logs log rest i accepted b l0 l1 l2 o0 o1 o2 same ol
 -- ---- when the job stops
 
 -- nothing of a log was put
-pub nothing_of : (file : List ℕ) (head : Head) (live : Live) (i : ℕ) (log : Log) (why : Stop) (l o : Option (List ℕ)) → why ≢ stop.Sink → StopsLog file head live i log why l l o o
+pub nothing_of : (file : List ℕ) (head : Head) (live : Live) (i : ℕ) (log : Log) (why : LogStop) (l o : Option (List ℕ)) → why ≢ stop.Sink → StopsLog file head live i log why l l o o
 nothing_of file head live i log stop.Sink l o not_sink = absurd (not_sink refl)
 nothing_of file head live i log stop.Disk l o not_sink = (refl, refl)
 nothing_of file head live i log stop.Memory l o not_sink = (refl, refl)
 
 -- it stopped within a log, behind those in front
-pub log_stops : (d0 d1 : DiskState) (head : Head) (live : Live) (logs : List Log) (log : Log) (rest : List Log) (i : ℕ) (accepted : Bool) (why : Stop) (l0 l1 l2 o0 o1 o2 : Option (List ℕ)) → IsUnchanged d0 d1
+pub log_stops : (d0 d1 : DiskState) (head : Head) (live : Live) (logs : List Log) (log : Log) (rest : List Log) (i : ℕ) (accepted : Bool) (why : LogStop) (l0 l1 l2 o0 o1 o2 : Option (List ℕ)) → IsUnchanged d0 d1
     → (IsTrue d0.tells → HasCarried d0.bytes head live logs (log ∷ rest) i accepted l0 l1 o0 o1) → (IsTrue d1.tells → StopsLog d1.bytes head live i log why l1 l2 o1 o2)
     → IsTrue d0.tells → StopsCarrying d0.bytes head live logs why l0 l2 o0 o2
 log_stops d0 d1 head live logs log rest i accepted why l0 l1 l2 o0 o1 o2 same old stops tells = record {
@@ -95,7 +95,7 @@ log_stops d0 d1 head live logs log rest i accepted why l0 l1 l2 o0 o1 o2 same ol
 }
 
 -- the last line was cut
-pub end_stops : (file : List ℕ) (head : Head) (live : Live) (bytes : List ℕ) (logs : List Log) (i : ℕ) (accepted : Bool) (why : Stop) (l0 l1 o0 o1 o2 : Option (List ℕ)) → frames_at log_at bytes ≡ Ok logs → HasCarried file head live logs [] i accepted l0 l1 o0 o1
+pub end_stops : (file : List ℕ) (head : Head) (live : Live) (bytes : List ℕ) (logs : List Log) (i : ℕ) (accepted : Bool) (why : LogStop) (l0 l1 o0 o1 o2 : Option (List ℕ)) → frames_at log_at bytes ≡ Ok logs → HasCarried file head live logs [] i accepted l0 l1 o0 o1
     → why ≡ stop.Sink → AppendsPrefix o1 o2 (carried_end accepted) → Stops file head live bytes why l0 l1 o0 o2
 end_stops file head live bytes logs i accepted why l0 l1 o0 o1 o2 decoded carried is cut = inr (inr (
   logs,
@@ -115,7 +115,7 @@ tells_behind : (s0 s1 s2 : SinkState) (line : List ℕ) → s0.faults ≤ s1.fau
 tells_behind s0 s1 s2 line later told = ⊎_elim (λ whole. inl whole) (λ cut. inr (cut.0, (let rose = cut.1 in omega arith))) told
 
 -- by status
-pub halted : (file bytes : List ℕ) (head : Head) (live : Live) (why : Stop) (l0 l1 : Option (List ℕ)) (s0 s1 s2 : SinkState) (status : ℕ) → OpensTo file head live → Stops file head live bytes why l0 l1 s0.written s1.written → s0.faults ≤ s1.faults
+pub halted : (file bytes : List ℕ) (head : Head) (live : Live) (why : LogStop) (l0 l1 : Option (List ℕ)) (s0 s1 s2 : SinkState) (status : ℕ) → OpensTo file head live → Stops file head live bytes why l0 l1 s0.written s1.written → s0.faults ≤ s1.faults
     → EndsStopped why s1 s2 status → HasHalted file bytes l0 l1 s0 s2 status
 halted file bytes head live stop.Sink l0 l1 s0 s1 s2 status opens stops later ends =
     let four = ends.0 in
@@ -140,7 +140,7 @@ halted file bytes head live stop.Memory l0 l1 s0 s1 s2 status opens stops later 
     }
 
 -- how a job that stopped ends
-pub record EndsAt (why : Stop) (status : ℕ) : Type 0 where
+pub record EndsAt (why : LogStop) (status : ℕ) : Type 0 where
   pub disk : status ≡ 5 → why ≡ stop.Disk
   pub output : status ≡ 4 → why ≡ stop.Sink
   pub statuses : IsCarryStatus status
@@ -148,7 +148,7 @@ pub record EndsAt (why : Stop) (status : ℕ) : Type 0 where
   pub not_six : status ≡ 6 → ⊥
   pub not_seven : status ≡ 7 → ⊥
 
-pub stopped_at : (why : Stop) (s1 s2 : SinkState) (status : ℕ) → EndsStopped why s1 s2 status → EndsAt why status
+pub stopped_at : (why : LogStop) (s1 s2 : SinkState) (status : ℕ) → EndsStopped why s1 s2 status → EndsAt why status
 stopped_at stop.Sink s1 s2 status ends =
     let four = ends.0 in
     record {

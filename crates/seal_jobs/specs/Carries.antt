@@ -22,8 +22,8 @@ use Rattle.seal_log.specs.Digests.{leaf_digests}
 use Rattle.seal_log.specs.Carrying.{Carries}
 use Rattle.file_jobs.specs.Lines.{not_index_text}
 use Rattle.file_jobs.specs.Jobs.{IsNoIndex}
-use Rattle.file_jobs.specs.declared.logs.stop.Stop.{Stop}
-use Rattle.file_jobs.specs.declared.logs.stop.Stop.TheVariants as stop
+use Rattle.file_jobs.specs.declared.logs.stop.LogStop.{LogStop}
+use Rattle.file_jobs.specs.declared.logs.stop.LogStop.TheVariants as stop
 use Rattle.file_jobs.specs.Spaces.{space_of}
 use Rattle.page_store.specs.Files.{IsLarge}
 
@@ -116,7 +116,7 @@ pub record CarriesOn (file bytes : List ℕ) (l0 l1 o0 o1 : Option (List ℕ)) (
 
 -- The job stopped within a log. Nothing of it was put; or, where an output failed, a front of its frame and no line, or its whole
 -- frame and a front of its line.
-abbrev pub StopsLog : List ℕ → Head → Live → ℕ → Log → Stop → Option (List ℕ) → Option (List ℕ) → Option (List ℕ) → Option (List ℕ) → Type 0
+abbrev pub StopsLog : List ℕ → Head → Live → ℕ → Log → LogStop → Option (List ℕ) → Option (List ℕ) → Option (List ℕ) → Option (List ℕ) → Type 0
 StopsLog file head live i log stop.Sink l0 l1 o0 o1 =
     (put : List ℕ) × (line : List ℕ) × (b : Bool) × TellsLog file head live i log put line b
     × ((AppendsPrefix l0 l1 put × (o1 ≡ o0)) ⊎ (Appends l0 l1 put × AppendsPrefix o0 o1 line))
@@ -124,12 +124,12 @@ StopsLog file head live i log stop.Disk l0 l1 o0 o1 = (l1 ≡ l0) × (o1 ≡ o0)
 StopsLog file head live i log stop.Memory l0 l1 o0 o1 = (l1 ≡ l0) × (o1 ≡ o0)
 
 -- the last line was cut
-abbrev pub StopsEnd : Bool → Stop → Option (List ℕ) → Option (List ℕ) → Option (List ℕ) → Option (List ℕ) → Type 0
+abbrev pub StopsEnd : Bool → LogStop → Option (List ℕ) → Option (List ℕ) → Option (List ℕ) → Option (List ℕ) → Type 0
 StopsEnd accepted why l0 l1 o0 o1 = (why ≡ stop.Sink) × (l1 ≡ l0) × AppendsPrefix o0 o1 (carried_end accepted)
 
 -- The frames and the lines of some first logs were put, each whole, and then a part of the next log or of the last line. So a line,
 -- or a front of one, is put only where its frame is put.
-pub record StopsCarrying (file : List ℕ) (head : Head) (live : Live) (logs : List Log) (why : Stop) (l0 l1 o0 o1 : Option (List ℕ)) : Type 0 where
+pub record StopsCarrying (file : List ℕ) (head : Head) (live : Live) (logs : List Log) (why : LogStop) (l0 l1 o0 o1 : Option (List ℕ)) : Type 0 where
   pub rest : List Log
   pub i : ℕ
   pub accepted : Bool
@@ -140,24 +140,24 @@ pub record StopsCarrying (file : List ℕ) (head : Head) (live : Live) (logs : L
       ⊎ ((rest ≡ []) × StopsEnd accepted why frames l1 lines o1)
 
 -- no output failed, and nothing was put
-abbrev pub StopsBefore : Stop → Option (List ℕ) → Option (List ℕ) → Option (List ℕ) → Option (List ℕ) → Type 0
+abbrev pub StopsBefore : LogStop → Option (List ℕ) → Option (List ℕ) → Option (List ℕ) → Option (List ℕ) → Type 0
 StopsBefore why l0 l1 o0 o1 = (why ≢ stop.Sink) × (l1 ≡ l0) × (o1 ≡ o0)
 
 -- the bytes are no logs, and the line that says so was cut
-pub record StopsUndecoded (bytes : List ℕ) (why : Stop) (l0 l1 o0 o1 : Option (List ℕ)) : Type 0 where
+pub record StopsUndecoded (bytes : List ℕ) (why : LogStop) (l0 l1 o0 o1 : Option (List ℕ)) : Type 0 where
   pub fault : LogFault
   pub undecoded : frames_at log_at bytes ≡ Err fault
   pub output : why ≡ stop.Sink
   pub no_frame : l1 ≡ l0
   pub line : AppendsPrefix o0 o1 (undecoded_text fault)
 
-abbrev pub Stops : List ℕ → Head → Live → List ℕ → Stop → Option (List ℕ) → Option (List ℕ) → Option (List ℕ) → Option (List ℕ) → Type 0
+abbrev pub Stops : List ℕ → Head → Live → List ℕ → LogStop → Option (List ℕ) → Option (List ℕ) → Option (List ℕ) → Option (List ℕ) → Type 0
 Stops file head live bytes why l0 l1 o0 o1 =
     StopsBefore why l0 l1 o0 o1
     ⊎ (StopsUndecoded bytes why l0 l1 o0 o1 ⊎ ((logs : List Log) × (frames_at log_at bytes ≡ Ok logs) × StopsCarrying file head live logs why l0 l1 o0 o1))
 
 -- the job stopped before the file was opened, or on the file that opens
-abbrev pub StopsOn : List ℕ → List ℕ → Stop → Option (List ℕ) → Option (List ℕ) → Option (List ℕ) → Option (List ℕ) → Type 0
+abbrev pub StopsOn : List ℕ → List ℕ → LogStop → Option (List ℕ) → Option (List ℕ) → Option (List ℕ) → Option (List ℕ) → Type 0
 StopsOn file bytes why l0 l1 o0 o1 =
     StopsBefore why l0 l1 o0 o1 ⊎ ((head : Head) × (live : Live) × OpensTo file head live × Stops file head live bytes why l0 l1 o0 o1)
 

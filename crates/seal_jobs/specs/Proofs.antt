@@ -11,8 +11,8 @@ use Rattle.file_jobs.specs.Logs.Lines.{answers_text, frame, log_fault_name, reje
 use Rattle.prune_log.specs.Spelling.{frame_bytes}
 use Rattle.seal_jobs.specs.declared.taking.Next.{Next}
 use Rattle.seal_jobs.specs.declared.taking.Next.TheVariants as next
-use Rattle.seal_jobs.specs.declared.stop.Stop.{Stop}
-use Rattle.seal_jobs.specs.declared.stop.Stop.TheVariants as stop
+use Rattle.seal_jobs.specs.declared.stop.ProofStop.{ProofStop}
+use Rattle.seal_jobs.specs.declared.stop.ProofStop.TheVariants as stop
 use Rattle.seal_log.specs.declared.faults.ProofFault.{ProofFault}
 use Rattle.seal_log.specs.declared.faults.ProofFault.TheVariants as fault
 use Rattle.seal_log.specs.Judged.{CarriedLog, IsCarried, SpellsCarried, proof_fault, judged_fault}
@@ -121,7 +121,7 @@ ReadsNext room old new next.End = Consumes old new [] × IsAtEnd new
 ReadsNext room old new next.Cut = (bytes : List ℕ) × Consumes old new bytes × (length bytes ≤ room) × IsCutFrame bytes × IsAtEnd new
 
 -- Up to `most` bytes could not be read.
-abbrev pub StopsTaking : ℕ → ℕ → Option (List ℕ) → Option (List ℕ) → Stop → Type 0
+abbrev pub StopsTaking : ℕ → ℕ → Option (List ℕ) → Option (List ℕ) → ProofStop → Type 0
 StopsTaking most room old new stop.Input = (bytes : List ℕ) × Consumes old new bytes × (length bytes ≤ room) × (length bytes < most)
 StopsTaking most room old new stop.Long = (bytes : List ℕ) × Consumes old new bytes × (room < length bytes)
     × (length bytes ≤ room + 4096) × (length bytes ≤ most)
@@ -130,7 +130,7 @@ StopsTaking most room old new stop.Sink = ⊥
 
 -- No frame could be read. Where the source failed, no whole frame was taken. Where there were too many bytes, no whole frame is
 -- within the room.
-abbrev pub StopsReading : ℕ → Option (List ℕ) → Option (List ℕ) → Stop → Type 0
+abbrev pub StopsReading : ℕ → Option (List ℕ) → Option (List ℕ) → ProofStop → Type 0
 StopsReading room old new stop.Input = (bytes : List ℕ) × Consumes old new bytes × (length bytes ≤ room) × BeginsNoFrame bytes
 StopsReading room old new stop.Long = (bytes : List ℕ) × Consumes old new bytes × (room < length bytes)
     × (length bytes ≤ room + 4096) × BeginsNoFrame (take room bytes)
@@ -142,7 +142,7 @@ abbrev pub PutsFrame : List ℕ → ℕ → List ℕ → Bool → Option (List �
 PutsFrame root i body accepted old new = (text : List ℕ) × TellsFrame root i body text accepted × Appends old new text
 
 -- the text of a frame was not put: nothing was, or a front of it where the output failed
-abbrev pub StopsFrame : List ℕ → ℕ → List ℕ → Stop → Option (List ℕ) → Option (List ℕ) → Type 0
+abbrev pub StopsFrame : List ℕ → ℕ → List ℕ → ProofStop → Option (List ℕ) → Option (List ℕ) → Type 0
 StopsFrame root i body stop.Sink old new = (text : List ℕ) × (b : Bool) × TellsFrame root i body text b × AppendsPrefix old new text
 StopsFrame root i body stop.Memory old new = new ≡ old
 StopsFrame root i body stop.Input old new = ⊥
@@ -161,7 +161,7 @@ pub record HasEnded (root : List ℕ) (left0 left1 old new : Option (List ℕ)) 
   pub written : Appends middle new line
 
 -- what was put after whole texts when the job stopped; `room` is how many bytes more than the shown ones it might have taken
-abbrev pub StopsAfter : List ℕ → ℕ → List ℕ → Bool → Option (List ℕ) → ℕ → Stop → Option (List ℕ) → Option (List ℕ) → Type 0
+abbrev pub StopsAfter : List ℕ → ℕ → List ℕ → Bool → Option (List ℕ) → ℕ → ProofStop → Option (List ℕ) → Option (List ℕ) → Type 0
 StopsAfter root i rest accepted left room stop.Sink middle new = (text : List ℕ) × IsNext root i rest accepted left text × AppendsPrefix middle new text
 StopsAfter root i rest accepted left room stop.Input middle new = BeginsNoFrame rest × (new ≡ middle)
 StopsAfter root i rest accepted left room stop.Long middle new = BeginsNoFrame (take room rest) × (new ≡ middle)
@@ -171,7 +171,7 @@ StopsAfter root i rest accepted left room stop.Memory middle new = new ≡ middl
 abbrev pub room_behind : List ℕ → List ℕ → ℕ
 room_behind bytes rest = 2 ^ 30 + length rest - length bytes
 
-pub record HasStopped (root : List ℕ) (left0 left1 old new : Option (List ℕ)) (why : Stop) : Type 0 where
+pub record HasStopped (root : List ℕ) (left0 left1 old new : Option (List ℕ)) (why : ProofStop) : Type 0 where
   pub bytes : List ℕ
   pub taken : Consumes left0 left1 bytes
   pub few : length bytes ≤ 2 ^ 30 + 4096

@@ -22,7 +22,7 @@ ghost use Rattle.seal_jobs.specs.Carries.{CarriesLogs, CarriesOn, EndsCarried, H
 use crate::opening::open_small;
 use crate::proof_lines::rejected_text;
 use disk_model::Disk;
-use file_jobs::logs::{Stop, end_stopped, push_frame, put, read_logs, undecoded_text};
+use file_jobs::logs::{LogStop, end_stopped, push_frame, put, read_logs, undecoded_text};
 use file_jobs::space_of;
 use log_model::{Log, Record};
 use log_verify::{Verdict, verify};
@@ -45,19 +45,20 @@ fn judge_by<M: Metric, P: Pages>(
     pages: &mut P,
     live: &Live,
     log: &Log,
-) -> Result<Option<Verdict>, Stop>
+) -> Result<Option<Verdict>, LogStop>
     requires { IsLawfulLog log.now }
     ensures same { HoldsSame (P.shelf pages.old) (P.shelf pages.new) }
     ensures keeps { P.keeps pages.old pages.new }
-    ensures told { IfOk result (λ found. IsTrue (P.shelf pages.old).tells → log_fault (M.space metric) (P.shelf pages.old).read live.now log.now ≡ found) }
-    ensures disk { IsErrOf result Stop.Disk → Rose (P.shelf pages.old).faults (P.shelf pages.new).faults }
-    ensures not_sink { IsErrOf result Stop.Sink → ⊥ }
+    ensures told { IfOk result (λ found. IsTrue (P.shelf pages.old).tells →
+        log_fault (M.space metric) (P.shelf pages.old).read live.now log.now ≡ found) }
+    ensures disk { IsErrOf result LogStop.Disk → Rose (P.shelf pages.old).faults (P.shelf pages.new).faults }
+    ensures not_sink { IsErrOf result LogStop.Sink → ⊥ }
 {
     let mut ruler = Meter::new(metric);
     match verify(alloc, pages, &mut ruler, live, log) {
         Ok(_) => Ok(None),
-        Err(Verdict::Memory) => Err(Stop::Memory),
-        Err(Verdict::Page(PageFault::Disk)) => Err(Stop::Disk),
+        Err(Verdict::Memory) => Err(LogStop::Memory),
+        Err(Verdict::Page(PageFault::Disk)) => Err(LogStop::Disk),
         Err(why) => Ok(Some(why)),
     }
 }
@@ -69,16 +70,17 @@ fn judge_log<D: Disk>(
     opened: &(Head, Live),
     kept: Kept,
     log: &Log,
-) -> Result<(Option<Verdict>, Kept), Stop>
+) -> Result<(Option<Verdict>, Kept), LogStop>
     requires head { IsLawfulHead opened.now.0 }
     requires few { opened.now.1.pages ≤ 262144 }
     requires kept { IsKeptOf (D.state index.old) opened.now.0 opened.now.1 kept }
     requires lawful { IsLawfulLog log.now }
     ensures same { IsUnchanged (D.state index.old) (D.state index.new) }
-    ensures told { IfOk result (λ x. IsTrue (D.state index.old).tells → judged (D.state index.old).bytes opened.now.0 opened.now.1 log.now ≡ x.0) }
+    ensures told { IfOk result (λ x. IsTrue (D.state index.old).tells →
+        judged (D.state index.old).bytes opened.now.0 opened.now.1 log.now ≡ x.0) }
     ensures kept { IfOk result (λ x. IsKeptOf (D.state index.new) opened.now.0 opened.now.1 x.1) }
-    ensures disk { IsErrOf result Stop.Disk → Rose (D.state index.old).faults (D.state index.new).faults }
-    ensures not_sink { IsErrOf result Stop.Sink → ⊥ }
+    ensures disk { IsErrOf result LogStop.Disk → Rose (D.state index.old).faults (D.state index.new).faults }
+    ensures not_sink { IsErrOf result LogStop.Sink → ⊥ }
     ensures later { (D.state index.old).faults ≤ (D.state index.new).faults }
 {
     let (head, live) = opened;
@@ -113,19 +115,19 @@ fn carried_frame<D: Disk>(
     index: &mut D,
     tree: &Tree,
     log: &Log,
-) -> Result<Vec<u8>, Stop>
+) -> Result<Vec<u8>, LogStop>
     requires some { 4 ≤ length tree.now }
     requires few { length tree.now ≤ 262144 }
     requires lawful { IsLawfulLog log.now }
     ensures same { IsUnchanged (D.state index.old) (D.state index.new) }
     ensures carries { IfOk result (λ put. IsTrue (D.state index.old).tells → (bytes : List ℕ)
         × Carries (D.state index.old).bytes tree.now log.now bytes × (put.items ≡ frame_bytes bytes)) }
-    ensures disk { IsErrOf result Stop.Disk → Rose (D.state index.old).faults (D.state index.new).faults }
-    ensures not_sink { IsErrOf result Stop.Sink → ⊥ }
+    ensures disk { IsErrOf result LogStop.Disk → Rose (D.state index.old).faults (D.state index.new).faults }
+    ensures not_sink { IsErrOf result LogStop.Sink → ⊥ }
     ensures later { (D.state index.old).faults ≤ (D.state index.new).faults }
 {
     if !are_within(log.records.as_slice(), tree.pages()) {
-        return Err(Stop::Memory);
+        return Err(LogStop::Memory);
     }
     match carry(alloc, index, tree, log) {
         Ok(bytes) => {
@@ -133,8 +135,8 @@ fn carried_frame<D: Disk>(
             frame(&bytes, &mut put)?;
             Ok(put)
         }
-        Err(SealFault::Disk) => Err(Stop::Disk),
-        Err(SealFault::Memory) => Err(Stop::Memory),
+        Err(SealFault::Disk) => Err(LogStop::Disk),
+        Err(SealFault::Memory) => Err(LogStop::Memory),
     }
 }
 
@@ -147,7 +149,7 @@ fn log_texts<D: Disk>(
     number: u64,
     log: &Log,
     found: Option<Verdict>,
-) -> Result<(Vec<u8>, Vec<u8>, bool), Stop>
+) -> Result<(Vec<u8>, Vec<u8>, bool), LogStop>
     requires head { IsLawfulHead opened.now.0 }
     requires some { 4 ≤ opened.now.1.pages }
     requires few { opened.now.1.pages ≤ 262144 }
@@ -158,8 +160,8 @@ fn log_texts<D: Disk>(
     ensures same { IsUnchanged (D.state index.old) (D.state index.new) }
     ensures tells { IfOk result (λ x. IsTrue (D.state index.old).tells →
         TellsLog (D.state index.old).bytes opened.now.0 opened.now.1 number log.now x.0.items x.1.items x.2) }
-    ensures disk { IsErrOf result Stop.Disk → Rose (D.state index.old).faults (D.state index.new).faults }
-    ensures not_sink { IsErrOf result Stop.Sink → ⊥ }
+    ensures disk { IsErrOf result LogStop.Disk → Rose (D.state index.old).faults (D.state index.new).faults }
+    ensures not_sink { IsErrOf result LogStop.Sink → ⊥ }
     ensures later { (D.state index.old).faults ≤ (D.state index.new).faults }
 {
     if let Some(why) = found {
@@ -181,7 +183,7 @@ fn carry_log<D: Disk, K: Sink, L: Sink>(
     log: &Log,
     out: &mut K,
     log_out: &mut L,
-) -> Result<(bool, Kept), Stop>
+) -> Result<(bool, Kept), LogStop>
     requires head { IsLawfulHead opened.now.0 }
     requires some { 4 ≤ opened.now.1.pages }
     requires few { opened.now.1.pages ≤ 262144 }
@@ -193,11 +195,12 @@ fn carry_log<D: Disk, K: Sink, L: Sink>(
     ensures puts { IfOk result (λ x. IsTrue (D.state index.old).tells →
         PutsLog (D.state index.old).bytes opened.now.0 opened.now.1 number log.now x.0
         (L.state log_out.old).written (L.state log_out.new).written (K.state out.old).written (K.state out.new).written) }
-    ensures stops { IfErr result (λ why. IsTrue (D.state index.old).tells → StopsLog (D.state index.old).bytes opened.now.0 opened.now.1 number log.now why
+    ensures stops { IfErr result (λ why. IsTrue (D.state index.old).tells →
+        StopsLog (D.state index.old).bytes opened.now.0 opened.now.1 number log.now why
         (L.state log_out.old).written (L.state log_out.new).written (K.state out.old).written (K.state out.new).written) }
     ensures kept { IfOk result (λ x. IsKeptOf (D.state index.new) opened.now.0 opened.now.1 x.1) }
-    ensures disk { IsErrOf result Stop.Disk → Rose (D.state index.old).faults (D.state index.new).faults }
-    ensures output { IsErrOf result Stop.Sink → Rose (K.state out.old).faults (K.state out.new).faults
+    ensures disk { IsErrOf result LogStop.Disk → Rose (D.state index.old).faults (D.state index.new).faults }
+    ensures output { IsErrOf result LogStop.Sink → Rose (K.state out.old).faults (K.state out.new).faults
         ⊎ Rose (L.state log_out.old).faults (L.state log_out.new).faults }
     ensures later { (D.state index.old).faults ≤ (D.state index.new).faults }
     ensures out_later { (K.state out.old).faults ≤ (K.state out.new).faults }
@@ -205,13 +208,9 @@ fn carry_log<D: Disk, K: Sink, L: Sink>(
 {
     let (found, kept) = judge_log(alloc, index, opened, kept, log)?;
     let (put, line, accepted) = log_texts(alloc, index, opened, tree, number, log, found)?;
-    if log_out.put(&put).is_err() {
-        return Err(Stop::Sink);
-    }
-    match out.put(&line) {
-        Ok(()) => Ok((accepted, kept)),
-        Err(_) => Err(Stop::Sink),
-    }
+    log_out.put(&put)?;
+    out.put(&line)?;
+    Ok((accepted, kept))
 }
 
 // Puts the frames and the lines of logs. Returns whether none has a fault.
@@ -224,7 +223,7 @@ fn carry_all<D: Disk, K: Sink, L: Sink>(
     logs: Vec<Log>,
     out: &mut K,
     log_out: &mut L,
-) -> Result<bool, Stop>
+) -> Result<bool, LogStop>
     requires head { IsLawfulHead opened.now.0 }
     requires some { 4 ≤ opened.now.1.pages }
     requires few { opened.now.1.pages ≤ 262144 }
@@ -236,10 +235,11 @@ fn carry_all<D: Disk, K: Sink, L: Sink>(
     ensures puts { IfOk result (λ accepted. IsTrue (D.state index.old).tells →
         HasCarried (D.state index.old).bytes opened.now.0 opened.now.1 logs.items [] (length logs.items) accepted
         (L.state log_out.old).written (L.state log_out.new).written (K.state out.old).written (K.state out.new).written) }
-    ensures stops { IfErr result (λ why. IsTrue (D.state index.old).tells → StopsCarrying (D.state index.old).bytes opened.now.0 opened.now.1 logs.items why
+    ensures stops { IfErr result (λ why. IsTrue (D.state index.old).tells →
+        StopsCarrying (D.state index.old).bytes opened.now.0 opened.now.1 logs.items why
         (L.state log_out.old).written (L.state log_out.new).written (K.state out.old).written (K.state out.new).written) }
-    ensures disk { IsErrOf result Stop.Disk → Rose (D.state index.old).faults (D.state index.new).faults }
-    ensures output { IsErrOf result Stop.Sink → Rose (K.state out.old).faults (K.state out.new).faults
+    ensures disk { IsErrOf result LogStop.Disk → Rose (D.state index.old).faults (D.state index.new).faults }
+    ensures output { IsErrOf result LogStop.Sink → Rose (K.state out.old).faults (K.state out.new).faults
         ⊎ Rose (L.state log_out.old).faults (L.state log_out.new).faults }
     ensures later { (D.state index.old).faults ≤ (D.state index.new).faults }
     ensures out_later { (K.state out.old).faults ≤ (K.state out.new).faults }
@@ -279,20 +279,22 @@ fn carry_bytes<D: Disk, K: Sink, L: Sink>(
     bytes: &[u8],
     out: &mut K,
     log_out: &mut L,
-) -> Result<Status, Stop>
+) -> Result<Status, LogStop>
     requires head { IsLawfulHead opened.now.0 }
     requires some { 4 ≤ opened.now.1.pages }
     requires few { opened.now.1.pages ≤ 262144 }
     requires size { length tree.now ≡ opened.now.1.pages }
     requires sealed { IsTrue (D.state index.old).tells → tree.now ≡ leaf_digests (D.state index.old).bytes opened.now.1.pages }
     ensures same { IsUnchanged (D.state index.old) (D.state index.new) }
-    ensures ends { IfOk result (λ status. IsTrue (D.state index.old).tells → EndsCarried (D.state index.old).bytes opened.now.0 opened.now.1 bytes.now
+    ensures ends { IfOk result (λ status. IsTrue (D.state index.old).tells →
+        EndsCarried (D.state index.old).bytes opened.now.0 opened.now.1 bytes.now
         (L.state log_out.old).written (L.state log_out.new).written (K.state out.old).written (K.state out.new).written status.0) }
-    ensures stops { IfErr result (λ why. IsTrue (D.state index.old).tells → Stops (D.state index.old).bytes opened.now.0 opened.now.1 bytes.now why
+    ensures stops { IfErr result (λ why. IsTrue (D.state index.old).tells →
+        Stops (D.state index.old).bytes opened.now.0 opened.now.1 bytes.now why
         (L.state log_out.old).written (L.state log_out.new).written (K.state out.old).written (K.state out.new).written) }
     ensures statuses { IfOk result (λ status. IsDone status.0) }
-    ensures disk { IsErrOf result Stop.Disk → Rose (D.state index.old).faults (D.state index.new).faults }
-    ensures output { IsErrOf result Stop.Sink → Rose (K.state out.old).faults (K.state out.new).faults
+    ensures disk { IsErrOf result LogStop.Disk → Rose (D.state index.old).faults (D.state index.new).faults }
+    ensures output { IsErrOf result LogStop.Sink → Rose (K.state out.old).faults (K.state out.new).faults
         ⊎ Rose (L.state log_out.old).faults (L.state log_out.new).faults }
     ensures later { (D.state index.old).faults ≤ (D.state index.new).faults }
     ensures out_later { (K.state out.old).faults ≤ (K.state out.new).faults }
@@ -300,7 +302,7 @@ fn carry_bytes<D: Disk, K: Sink, L: Sink>(
 {
     let logs = match decode_frames(alloc, bytes) {
         Ok(logs) => logs,
-        Err(LogFault::Memory) => return Err(Stop::Memory),
+        Err(LogFault::Memory) => return Err(LogStop::Memory),
         Err(fault) => {
             put(out, undecoded_text(fault))?;
             return Ok(Status(1));
@@ -321,18 +323,20 @@ fn carry_opened<D: Disk, K: Sink, L: Sink>(
     bytes: &[u8],
     out: &mut K,
     log_out: &mut L,
-) -> Result<Status, Stop>
+) -> Result<Status, LogStop>
     requires head { IsLawfulHead opened.now.0 }
     requires some { 4 ≤ opened.now.1.pages }
     requires few { opened.now.1.pages ≤ 262144 }
     ensures same { IsUnchanged (D.state index.old) (D.state index.new) }
-    ensures ends { IfOk result (λ status. IsTrue (D.state index.old).tells → EndsCarried (D.state index.old).bytes opened.now.0 opened.now.1 bytes.now
+    ensures ends { IfOk result (λ status. IsTrue (D.state index.old).tells →
+        EndsCarried (D.state index.old).bytes opened.now.0 opened.now.1 bytes.now
         (L.state log_out.old).written (L.state log_out.new).written (K.state out.old).written (K.state out.new).written status.0) }
-    ensures stops { IfErr result (λ why. IsTrue (D.state index.old).tells → Stops (D.state index.old).bytes opened.now.0 opened.now.1 bytes.now why
+    ensures stops { IfErr result (λ why. IsTrue (D.state index.old).tells →
+        Stops (D.state index.old).bytes opened.now.0 opened.now.1 bytes.now why
         (L.state log_out.old).written (L.state log_out.new).written (K.state out.old).written (K.state out.new).written) }
     ensures statuses { IfOk result (λ status. IsDone status.0) }
-    ensures disk { IsErrOf result Stop.Disk → Rose (D.state index.old).faults (D.state index.new).faults }
-    ensures output { IsErrOf result Stop.Sink → Rose (K.state out.old).faults (K.state out.new).faults
+    ensures disk { IsErrOf result LogStop.Disk → Rose (D.state index.old).faults (D.state index.new).faults }
+    ensures output { IsErrOf result LogStop.Sink → Rose (K.state out.old).faults (K.state out.new).faults
         ⊎ Rose (L.state log_out.old).faults (L.state log_out.new).faults }
     ensures later { (D.state index.old).faults ≤ (D.state index.new).faults }
     ensures out_later { (K.state out.old).faults ≤ (K.state out.new).faults }
@@ -340,8 +344,8 @@ fn carry_opened<D: Disk, K: Sink, L: Sink>(
 {
     match seal(alloc, index, opened.1.pages) {
         Ok(tree) => carry_bytes(alloc, index, opened, &tree, bytes, out, log_out),
-        Err(SealFault::Disk) => Err(Stop::Disk),
-        Err(SealFault::Memory) => Err(Stop::Memory),
+        Err(SealFault::Disk) => Err(LogStop::Disk),
+        Err(SealFault::Memory) => Err(LogStop::Memory),
     }
 }
 
@@ -365,7 +369,8 @@ fn carry_index<D: Disk, K: Sink, L: Sink>(
     ensures kept { (result.0 ≡ 6) ⊎ (result.0 ≡ 7) → log_out.new ≡ log_out.old }
     ensures statuses { IsCarryStatus result.0 }
     ensures disk { result.0 ≡ 5 → Rose (D.state index.old).faults (D.state index.new).faults }
-    ensures output { result.0 ≡ 4 → Rose (K.state out.old).faults (K.state out.new).faults ⊎ Rose (L.state log_out.old).faults (L.state log_out.new).faults }
+    ensures output { result.0 ≡ 4 → Rose (K.state out.old).faults (K.state out.new).faults
+        ⊎ Rose (L.state log_out.old).faults (L.state log_out.new).faults }
     ensures later { (D.state index.old).faults ≤ (D.state index.new).faults }
     ensures out_later { (K.state out.old).faults ≤ (K.state out.new).faults }
     ensures log_later { (L.state log_out.old).faults ≤ (L.state log_out.new).faults }
@@ -401,7 +406,8 @@ pub fn carry_logs<D: Disk, S: Source, K: Sink, L: Sink>(
     ensures statuses { IsCarriedLogsStatus result.0 }
     ensures input { result.0 ≡ 3 → Rose (S.faults log_in.old) (S.faults log_in.new) }
     ensures disk { result.0 ≡ 5 → Rose (D.state index.old).faults (D.state index.new).faults }
-    ensures output { result.0 ≡ 4 → Rose (K.state out.old).faults (K.state out.new).faults ⊎ Rose (L.state log_out.old).faults (L.state log_out.new).faults }
+    ensures output { result.0 ≡ 4 → Rose (K.state out.old).faults (K.state out.new).faults
+        ⊎ Rose (L.state log_out.old).faults (L.state log_out.new).faults }
     ensures counts { (S.faults log_in.old ≤ S.faults log_in.new) × ((K.state out.old).faults ≤ (K.state out.new).faults)
         × ((L.state log_out.old).faults ≤ (L.state log_out.new).faults) }
 {

@@ -25,10 +25,7 @@ pub fn open_small<D: Disk, K: Sink>(disk: &mut D, out: &mut K) -> Result<(Head, 
     ensures later { (D.state disk.old).faults ≤ (D.state disk.new).faults }
     ensures written_later { (K.state out.old).faults ≤ (K.state out.new).faults }
 {
-    let (head, live) = match open_index(disk, out) {
-        Ok(opened) => opened,
-        Err(status) => return Err(status),
-    };
+    let (head, live) = open_index(disk, out)?;
     if live.pages > MOST_WHOLE_PAGES {
         return Err(end_with(out, FAULT_LONG, 7));
     }

@@ -9,7 +9,7 @@ ghost use Rattle.seal_jobs.specs.Laws.{AcceptedShow};
 
 use crate::laws::accepted_show;
 use crate::proof_lines::{end_text, proved_text, rejected_text};
-use crate::stop::Stop;
+use crate::stop::ProofStop;
 use crate::taking::{Next, next_frame};
 use file_jobs::{FAULT_INPUT, FAULT_LONG, FAULT_MEMORY, MOST_LOGS, end_with, space_of};
 use outside_io::{Sink, Source, Status};
@@ -22,10 +22,7 @@ fn judge(alloc: Global, root: &[u8; 32], body: &[u8]) -> Result<Proved, ProofFau
         × (proved.answers ≡ c.log.answers)) }
     ensures fault { IfErr result (λ why. (why ≡ ProofFault.Memory) ⊎ HasFault root.now body.now why) }
 {
-    let carried = match read_proof(alloc, body, root) {
-        Ok(carried) => carried,
-        Err(why) => return Err(why),
-    };
+    let carried = read_proof(alloc, body, root)?;
     let metric = space_of(&carried.head());
     verify_carried(alloc, &carried, metric)
 }
@@ -36,13 +33,13 @@ fn frame_text(
     root: &[u8; 32],
     frame: u64,
     body: &[u8],
-) -> Result<(Vec<u8>, bool), Stop>
+) -> Result<(Vec<u8>, bool), ProofStop>
     ensures tells { IfOk result (λ x. TellsFrame root.now frame body.now x.0.items x.1) }
-    ensures memory { IfErr result (λ why. why ≡ Stop.Memory) }
+    ensures memory { IfErr result (λ why. why ≡ ProofStop.Memory) }
 {
     match judge(alloc, root, body) {
         Ok(proved) => Ok((proved_text(alloc, frame, proved)?, true)),
-        Err(ProofFault::Memory) => Err(Stop::Memory),
+        Err(ProofFault::Memory) => Err(ProofStop::Memory),
         Err(why) => Ok((rejected_text(alloc, frame, why)?, false)),
     }
 }
@@ -54,16 +51,17 @@ fn judge_frame<K: Sink>(
     frame: u64,
     body: &[u8],
     out: &mut K,
-) -> Result<bool, Stop>
-    ensures puts { IfOk result (λ accepted. PutsFrame root.now frame body.now accepted (K.state out.old).written (K.state out.new).written) }
+) -> Result<bool, ProofStop>
+    ensures puts { IfOk result (λ accepted. PutsFrame root.now frame body.now accepted
+        (K.state out.old).written (K.state out.new).written) }
     ensures stops { IfErr result (λ why. StopsFrame root.now frame body.now why (K.state out.old).written (K.state out.new).written) }
     ensures later { (K.state out.old).faults ≤ (K.state out.new).faults }
-    ensures output { IsErrOf result Stop.Sink → Rose (K.state out.old).faults (K.state out.new).faults }
+    ensures output { IsErrOf result ProofStop.Sink → Rose (K.state out.old).faults (K.state out.new).faults }
 {
     let (text, accepted) = frame_text(alloc, root, frame, body)?;
     match out.put(&text) {
         Ok(()) => Ok(accepted),
-        Err(_) => Err(Stop::Sink),
+        Err(_) => Err(ProofStop::Sink),
     }
 }
 
@@ -75,15 +73,16 @@ fn end_status(accepted: bool) -> u8
 }
 
 // Puts the last line. Returns the status.
-fn put_end<K: Sink>(line: &[u8], status: u8, out: &mut K) -> Result<Status, Stop>
+fn put_end<K: Sink>(line: &[u8], status: u8, out: &mut K) -> Result<Status, ProofStop>
     ensures ends { IfOk result (λ ended. (ended.0 ≡ status) × Appends (K.state out.old).written (K.state out.new).written line.now) }
-    ensures stops { IfErr result (λ why. (why ≡ Stop.Sink) × AppendsPrefix (K.state out.old).written (K.state out.new).written line.now) }
+    ensures stops { IfErr result (λ why. (why ≡ ProofStop.Sink)
+        × AppendsPrefix (K.state out.old).written (K.state out.new).written line.now) }
     ensures later { (K.state out.old).faults ≤ (K.state out.new).faults }
-    ensures output { IsErrOf result Stop.Sink → Rose (K.state out.old).faults (K.state out.new).faults }
+    ensures output { IsErrOf result ProofStop.Sink → Rose (K.state out.old).faults (K.state out.new).faults }
 {
     match out.put(line) {
         Ok(()) => Ok(Status(status)),
-        Err(_) => Err(Stop::Sink),
+        Err(_) => Err(ProofStop::Sink),
     }
 }
 
@@ -94,15 +93,16 @@ fn judge_frames<S: Source, K: Sink>(
     log_in: &mut S,
     root: &[u8; 32],
     out: &mut K,
-) -> Result<Status, Stop>
+) -> Result<Status, ProofStop>
     ensures ended { IfOk result (λ status. HasEnded root.now (S.left log_in.old) (S.left log_in.new) (K.state out.old).written
         (K.state out.new).written status.0) }
-    ensures stopped { IfErr result (HasStopped root.now (S.left log_in.old) (S.left log_in.new) (K.state out.old).written (K.state out.new).written) }
+    ensures stopped { IfErr result (HasStopped root.now (S.left log_in.old) (S.left log_in.new)
+        (K.state out.old).written (K.state out.new).written) }
     ensures statuses { IfOk result (λ status. (status.0 ≡ 0) ⊎ (status.0 ≡ 1)) }
     ensures input_later { S.faults log_in.old ≤ S.faults log_in.new }
     ensures later { (K.state out.old).faults ≤ (K.state out.new).faults }
-    ensures input { IsErrOf result Stop.Input → Rose (S.faults log_in.old) (S.faults log_in.new) }
-    ensures output { IsErrOf result Stop.Sink → Rose (K.state out.old).faults (K.state out.new).faults }
+    ensures input { IsErrOf result ProofStop.Input → Rose (S.faults log_in.old) (S.faults log_in.new) }
+    ensures output { IsErrOf result ProofStop.Sink → Rose (K.state out.old).faults (K.state out.new).faults }
 {
     let mut room = MOST_LOGS;
     let mut frame = 0;
@@ -141,9 +141,9 @@ pub fn prove_logs<S: Source, K: Sink>(
     accepted_show();
     match judge_frames(alloc, log_in, root, out) {
         Ok(status) => status,
-        Err(Stop::Sink) => Status(4),
-        Err(Stop::Input) => end_with(out, FAULT_INPUT, 3),
-        Err(Stop::Long) => end_with(out, FAULT_LONG, 7),
-        Err(Stop::Memory) => end_with(out, FAULT_MEMORY, 8),
+        Err(ProofStop::Sink) => Status(4),
+        Err(ProofStop::Input) => end_with(out, FAULT_INPUT, 3),
+        Err(ProofStop::Long) => end_with(out, FAULT_LONG, 7),
+        Err(ProofStop::Memory) => end_with(out, FAULT_MEMORY, 8),
     }
 }

@@ -1,13 +1,13 @@
 // Why a job stopped before its end.
 ghost use Rattle.std.specs.Prelude.{◌≡◌};
-ghost use Rattle.seal_jobs.specs.declared.stop.Stop.TheVariants.{Memory as NoMemory};
+ghost use Rattle.seal_jobs.specs.declared.stop.ProofStop.TheVariants.{Memory as NoMemory};
 
 use std::alloc::AllocError;
 use thiserror::Error;
 
 /// Why a job stopped before its end.
 #[derive(Clone, Copy, Debug, PartialEq, Eq, Error)]
-pub enum Stop {
+pub enum ProofStop {
     /// A text could not be put.
     #[error("the output failed")]
     Sink,
@@ -22,10 +22,10 @@ pub enum Stop {
     Long,
 }
 
-impl From<AllocError> for Stop {
+impl From<AllocError> for ProofStop {
     ghost from_gives = { λ _ e. e ≡ NoMemory };
 
-    fn from(_error: AllocError) -> Stop {
-        Stop::Memory
+    fn from(_error: AllocError) -> ProofStop {
+        ProofStop::Memory
     }
 }

@@ -5,7 +5,7 @@ ghost use Rattle.outside_io.specs.Causes.{Rose};
 ghost use Rattle.byteorder.specs.Endian.{big_bytes};
 ghost use Rattle.seal_jobs.specs.Proofs.{ReadsNext, StopsReading, StopsTaking};
 
-use crate::stop::Stop;
+use crate::stop::ProofStop;
 use byteorder::{BigEndian, ByteOrder};
 use outside_io::Source;
 use std::alloc::Global;
@@ -31,31 +31,29 @@ fn take_up_to<S: Source>(
     source: &mut S,
     most: u64,
     room: u64,
-) -> Result<Vec<u8>, Stop>
+) -> Result<Vec<u8>, ProofStop>
     ensures taken { IfOk result (λ bytes. Consumes (S.left source.old) (S.left source.new) bytes.items) }
     ensures few { IfOk result (λ bytes. length bytes.items ≤ most) }
     ensures within { IfOk result (λ bytes. length bytes.items ≤ room) }
     ensures end { IfOk result (λ bytes. length bytes.items < most → IsAtEnd (S.left source.new)) }
     ensures stops { IfErr result (StopsTaking most room (S.left source.old) (S.left source.new)) }
     ensures later { S.faults source.old ≤ S.faults source.new }
-    ensures input { IsErrOf result Stop.Input → Rose (S.faults source.old) (S.faults source.new) }
+    ensures input { IsErrOf result ProofStop.Input → Rose (S.faults source.old) (S.faults source.new) }
 {
     let mut bytes = Vec::new(alloc);
     let mut buf = [0u8; PIECE];
     'pieces: while (bytes.len() as u64) < most {
         let wanted = (most - bytes.len() as u64).min(PIECE as u64) as usize;
         let Ok(count) = source.take(&mut buf[..wanted]) else {
-            return Err(Stop::Input);
+            return Err(ProofStop::Input);
         };
         if count == 0 {
             return Ok(bytes);
         }
         if count as u64 > room - bytes.len() as u64 {
-            return Err(Stop::Long);
+            return Err(ProofStop::Long);
         }
-        if bytes.extend_from_slice(&buf[..count]).is_err() {
-            return Err(Stop::Memory);
-        }
+        bytes.extend_from_slice(&buf[..count])?;
     }
     Ok(bytes)
 }
@@ -70,11 +68,11 @@ fn number_in(field: &[u8]) -> u64
 }
 
 /// Returns the next frame, where it ends within the next `room` bytes. It asks for no more memory than the bytes that came can fill.
-pub fn next_frame<S: Source>(alloc: Global, source: &mut S, room: u64) -> Result<Next, Stop>
+pub fn next_frame<S: Source>(alloc: Global, source: &mut S, room: u64) -> Result<Next, ProofStop>
     ensures reads { IfOk result (ReadsNext room (S.left source.old) (S.left source.new)) }
     ensures stops { IfErr result (StopsReading room (S.left source.old) (S.left source.new)) }
     ensures later { S.faults source.old ≤ S.faults source.new }
-    ensures input { IsErrOf result Stop.Input → Rose (S.faults source.old) (S.faults source.new) }
+    ensures input { IsErrOf result ProofStop.Input → Rose (S.faults source.old) (S.faults source.new) }
 {
     let size = take_up_to(alloc, source, 8, room)?;
     if size.is_empty() {

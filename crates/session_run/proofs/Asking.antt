@@ -33,8 +33,8 @@ use Rattle.index_core.specs.Files.{OpenFile, IsLawfulFile, OnlyReads, nodes_on, 
 use Rattle.index_core.specs.Index.{OpenIndex, StandsAlone}
 use Rattle.index_core.proofs.Published.{reads_both}
 use Rattle.session_run.specs.declared.answer.Answer.{Answer}
-use Rattle.session_run.specs.declared.stop.Stop.{Stop}
-use Rattle.session_run.specs.declared.stop.Stop.TheVariants as stop
+use Rattle.session_run.specs.declared.stop.SessionStop.{SessionStop}
+use Rattle.session_run.specs.declared.stop.SessionStop.TheVariants as stop
 use Rattle.session_run.specs.Session.{IsDamage, StandsBy, most_read, setting_of, state_on}
 use Rattle.session_run.specs.Steps.{HasStepCause, HasStepped, IsShownAs, answer_of_fault}
 use Rattle.answer_texts.specs.Answered.{if_any}
@@ -66,7 +66,7 @@ fault_cause before after walk fault.Stopped cause rose undamaged = absurd cause
 fault_cause before after walk fault.Commit cause rose undamaged = absurd cause
 
 -- a fault that ends the session gives no answer
-pub fault_ends : (walk : PageFault → Type 0) (why : IndexFault) → HasReadCause walk why → (end : Stop) × (answer_of_fault why ≡ Err end)
+pub fault_ends : (walk : PageFault → Type 0) (why : IndexFault) → HasReadCause walk why → (end : SessionStop) × (answer_of_fault why ≡ Err end)
 fault_ends walk fault.Disk cause = (_, refl)
 fault_ends walk (fault.Damaged f) cause = (_, refl)
 fault_ends walk fault.Memory cause = (_, refl)
@@ -84,7 +84,7 @@ fault_stepped s show old new cursors before after c walk why lawful alone reads 
     let ends = fault_ends walk why cause in
     let is = fault_cause {Sound = IsSoundOn s old.file before} before after walk why cause rose undamaged in
     let stands = blames_stands old.file before after alone.stands.opens reads.same.same_tells why (λ f e. reads.same.same_bytes) blames in
-    subst (λ (r : Result Answer Stop). HasStepped s show old new cursors cursors before after c r) (sym ends.1)
+    subst (λ (r : Result Answer SessionStop). HasStepped s show old new cursors cursors before after c r) (sym ends.1)
     (read_stopped s show old new cursors cursors before after c ends.0 lawful alone reads (rw ends.1 at is) (rw ends.1 at stands))
 
 -- hits have one text, shown with the same tags, or hidden
@@ -140,14 +140,14 @@ query_stepped {M} s show old new file cursors before mid after c asked found a l
 
 -- ---- what was found, with its tags or without
 
-cause_then : {S T : Type 0} (before mid after : DiskState) (why : Stop) → before.faults ≤ mid.faults → (S → T) → HasStepCause T mid after why → HasStepCause S before after why
+cause_then : {S T : Type 0} (before mid after : DiskState) (why : SessionStop) → before.faults ≤ mid.faults → (S → T) → HasStepCause T mid after why → HasStepCause S before after why
 cause_then before mid after stop.Disk later kept rose = rose_before before.faults mid.faults after.faults later rose
 cause_then before mid after (stop.Damaged f) later kept cause = (cause.0, λ sound. cause.1 (kept sound))
 cause_then before mid after stop.Memory later kept cause = tt
 cause_then before mid after stop.Sink later kept cause = absurd cause
 
 pub found_stepped : {M : Type 0} (space : M → Space) (show : Bool) (old new : OpenIndex M) (file : OpenFile M) (cursors : OpenCursors) (before mid after : DiskState) (c : Command) (asked : Query) (found : Found)
-    (result : Result Answer Stop) → IsLawfulFile (space old.file.metric).words old.file → StandsAlone old before → new.stopped ≡ false → OnlyReads old.file file before mid → OnlyReads file new.file mid after →
+    (result : Result Answer SessionStop) → IsLawfulFile (space old.file.metric).words old.file → StandsAlone old before → new.stopped ≡ false → OnlyReads old.file file before mid → OnlyReads file new.file mid after →
     HasSearched (space old.file.metric) old.file asked before mid (Ok found) → IfOk result (IsShownAs (space file.metric) show file found mid) →
     IfErr result (HasStepCause (IsSoundOn (space file.metric) file mid) mid after) → after.reads ≤ mid.reads + (if show then length found.log.records else 0) → IfErr result (StandsBy file.head after) → answered_query (space old.file.metric) c ≡ Some asked →
     step (setting_of (space old.file.metric) old.file) (state_on old.file before cursors) c ≡ record {

@@ -30,8 +30,8 @@ use Rattle.index_core.specs.Writing.{Write, GuardsPages, HasWritten, IsRefused}
 use Rattle.session_run.specs.declared.answer.Answer.{Answer}
 use Rattle.session_run.specs.declared.pinned.PinnedCursor.{PinnedCursor}
 use Rattle.session_run.specs.declared.pinned.PinnedCursors.{PinnedCursors}
-use Rattle.session_run.specs.declared.stop.Stop.{Stop}
-use Rattle.session_run.specs.declared.stop.Stop.TheVariants as stop
+use Rattle.session_run.specs.declared.stop.SessionStop.{SessionStop}
+use Rattle.session_run.specs.declared.stop.SessionStop.TheVariants as stop
 use Rattle.session_run.specs.Pinned.{AllGoThrough, GoesThrough, AreKeptBy, CanGoOn, GoesOn, HoldSame, IsKeptBy, KeepsGuarded, StandFor, StandsFor}
 use Rattle.session_run.specs.Session.{IsAsking, StandsBy, no_cursors, setting_of, state_on}
 use Rattle.session_run.specs.Steps.{HasAdvanced, HasCarriedOut, HasClosed, HasStepCause, HasStepped, IsTaken, plain_answer, written_answer}
@@ -176,14 +176,14 @@ sound_after s show old new opened cursors before after c a told tells taken = (r
 
 -- ---- commands
 
-cause_of : {S T : Type 0} (before after : DiskState) (why : Stop) → (S → T) → HasStepCause T before after why → HasStepCause S before after why
+cause_of : {S T : Type 0} (before after : DiskState) (why : SessionStop) → (S → T) → HasStepCause T before after why → HasStepCause S before after why
 cause_of before after stop.Disk of cause = cause
 cause_of before after (stop.Damaged f) of cause = (cause.0, λ sound. cause.1 (of sound))
 cause_of before after stop.Memory of cause = tt
 cause_of before after stop.Sink of cause = absurd cause
 
 -- a command that leaves the open cursors as they are
-pub carried : {M : Type 0} (s : Space) (show : Bool) (old new : OpenIndex M) (pinned : PinnedCursors) (before after : DiskState) (c : Command) (result : Result Answer Stop) →
+pub carried : {M : Type 0} (s : Space) (show : Bool) (old new : OpenIndex M) (pinned : PinnedCursors) (before after : DiskState) (c : Command) (result : Result Answer SessionStop) →
     ((cursors : OpenCursors) → HasStepped s show old new cursors cursors before after c result) → AreKeptBy s old pinned → OnOk result (KeepsGuarded old new before after) →
     HasCarriedOut s show old new pinned pinned before after c result
 carried s show old new pinned before after c (Ok a) did kept keeps = let any = did no_cursors in record {
@@ -261,7 +261,7 @@ module _ {M : Type 0} (s : Space) (show : Bool) (old new : OpenIndex M) (pinned0
   }
 
   -- a command of cursors that ends the session
-  pub carried_stopped : (why : Stop) → HasStepCause (CanGoOn s old before pinned0) before after why → (AllGoThrough old before pinned0 → StandsBy old.file.head after why) → HasCarriedOut s show old new pinned0 pinned1 before after c (Err why)
+  pub carried_stopped : (why : SessionStop) → HasStepCause (CanGoOn s old before pinned0) before after why → (AllGoThrough old before pinned0 → StandsBy old.file.head after why) → HasCarriedOut s show old new pinned0 pinned1 before after c (Err why)
   carried_stopped why cause stands = record {
     going = tt;
     head = tt;

@@ -32,8 +32,8 @@ use Rattle.file_jobs.specs.Lines.{not_index_text, unopened_name, unopened_text}
 use Rattle.rows_text.specs.declared.command.Command.{Command}
 use Rattle.rows_text.specs.Meaning.{State}
 use Rattle.rows_text.specs.Script.{script}
-use Rattle.session_run.specs.declared.stop.Stop.{Stop}
-use Rattle.session_run.specs.declared.stop.Stop.TheVariants as stop
+use Rattle.session_run.specs.declared.stop.SessionStop.{SessionStop}
+use Rattle.session_run.specs.declared.stop.SessionStop.TheVariants as stop
 use Rattle.session_run.specs.Session.{Grew, HasRun, HasStopCause, HoldsState, IsAsking, IsDamageIn, StandsBy, no_cursors, setting_of, state_on}
 use Rattle.answer_texts.specs.Answered.{commands_of, framed, logs_of, texts_of}
 use Rattle.answer_texts.specs.Asked.{Held, held_in}
@@ -140,7 +140,7 @@ module _ (show : Bool) (asked : ℕ → List Command) (head : Head) (live : Live
 
   module _ (Sound : Type 0) (out2 : SinkState) where
     -- a line is put behind the acknowledged replies
-    lined : (why : Stop) (line : List ℕ) (ran : HasRun (setting_in head) head show commands (state_in head live file) (held_in head.dim live file) disk0 disk1 out0 out1 log0 log1 ack (Some why) left) →
+    lined : (why : SessionStop) (line : List ℕ) (ran : HasRun (setting_in head) head show commands (state_in head live file) (held_in head.dim live file) disk0 disk1 out0 out1 log0 log1 ack (Some why) left) →
         (ran.rest ≡ []) × (ran.log_rest ≡ []) → Tells out1 out2 line → (status : ℕ) →
         ((rest : List ℕ) → IsTold (Rose out0.faults out2.faults) rest line → SessionEnds (Rose out0.faults out2.faults) status head show (state_in head live file) (held_in head.dim live file) ran.turns ran.more rest []) → status ≢ 0 →
         RunsOn (LeavesAll head (state_in head live file) disk0 disk1) show asked head live file disk1 out0 out2 log0 log1 status
@@ -153,7 +153,7 @@ module _ (show : Bool) (asked : ℕ → List Command) (head : Head) (live : Live
         later told (ran.moments, ran.remains) status ends other
 
     -- it was stopped
-    pub stopped_runs : (why : Stop) (status : ℕ) → HasRun (setting_in head) head show commands (state_in head live file) (held_in head.dim live file) disk0 disk1 out0 out1 log0 log1 ack (Some why) left →
+    pub stopped_runs : (why : SessionStop) (status : ℕ) → HasRun (setting_in head) head show commands (state_in head live file) (held_in head.dim live file) disk0 disk1 out0 out1 log0 log1 ack (Some why) left →
         HasEnded why out1 out2 status → HasStopCause Sound disk0 disk1 out0 out1 log0 log1 why → Sound →
         RunsOn (LeavesAll head (state_in head live file) disk0 disk1) show asked head live file disk1 out0 out2 log0 log1 status
     stopped_runs stop.Sink status ran ended cause sound = rw ended.1 (cut_runs ran status ended.0)
@@ -164,7 +164,7 @@ module _ (show : Bool) (asked : ℕ → List Command) (head : Head) (live : Live
     stopped_runs (stop.Damaged fault) status ran ended cause sound = absurd (cause.1 sound)
 
 -- why it ended, on any file
-pub finished : (Sound : Type 0) (head : Head) (disk0 disk1 : DiskState) (out0 out1 out2 log0 log1 : SinkState) (why : Stop) (status : ℕ) → out1.faults ≤ out2.faults → HasEnded why out1 out2 status →
+pub finished : (Sound : Type 0) (head : Head) (disk0 disk1 : DiskState) (out0 out1 out2 log0 log1 : SinkState) (why : SessionStop) (status : ℕ) → out1.faults ≤ out2.faults → HasEnded why out1 out2 status →
     HasStopCause Sound disk0 disk1 out0 out1 log0 log1 why → StandsBy head disk1 why → disk1.tells ≡ disk0.tells → Grew out0 out1 → out0.faults ≤ out1.faults → HasFinished head disk0 disk1 out0 out2 log0 log1 status
 finished Sound head disk0 disk1 out0 out1 out2 log0 log1 stop.Sink status later ended cause stands told grew grown = record {
   lines = none_told status out0 out2 (λ e. omega (arith, ended.0, e)) (λ e. omega (arith, ended.0, e)) (λ e. omega (arith, ended.0, e)) (λ e. omega (arith, ended.0, e));
@@ -244,7 +244,7 @@ module _ {M : Type 0} (show : Bool) (asked : ℕ → List Command) (old new : Op
       done_runs show asked old.file.head old.file.live disk0.bytes disk0 disk1 out0 out1 log0 log1 commands ack (held_on new.file disk1) script_is later (run (tells, sound))
       (is_left new disk1 old.file.head same alone (rw told tells))
 
-  pub opened_stopped : (out2 : SinkState) (why : Stop) (status : ℕ) → (IsSoundOn (space_of old.file.head) old.file disk0 →
+  pub opened_stopped : (out2 : SinkState) (why : SessionStop) (status : ℕ) → (IsSoundOn (space_of old.file.head) old.file disk0 →
       HasRun (setting_of (space_of old.file.head) old.file) old.file.head show commands (state_on old.file disk0 no_cursors) (held_on old.file disk0) disk0 disk1 out0 out1 log0 log1 ack (Some why)
       (held_on new.file disk1)) → HasEnded why out1 out2 status → HasStopCause (IsSoundOn (space_of old.file.head) old.file disk0) disk0 disk1 out0 out1 log0 log1 why →
       IsTrue disk0.tells → IsSoundTree (space_of old.file.head) (nodes_on old.file disk0) old.file.live →
@@ -253,14 +253,14 @@ module _ {M : Type 0} (show : Bool) (asked : ℕ → List Command) (old new : Op
       stopped_runs show asked old.file.head old.file.live disk0.bytes disk0 disk1 out0 out1 log0 log1 commands ack (held_on new.file disk1) script_is later (IsSoundOn (space_of old.file.head) old.file disk0) out2 why status
       (run (tells, sound)) ended cause (tells, sound)
 
-module _ {M : Type 0} (s : Space) (show : Bool) (asked : ℕ → List Command) (old new : OpenIndex M) (disk0 disk1 : DiskState) (out0 out1 log0 log1 : SinkState) (commands : List Command) (ack : ℕ) (ended : Option Stop)
+module _ {M : Type 0} (s : Space) (show : Bool) (asked : ℕ → List Command) (old new : OpenIndex M) (disk0 disk1 : DiskState) (out0 out1 log0 log1 : SinkState) (commands : List Command) (ack : ℕ) (ended : Option SessionStop)
     (same : s ≡ space_of old.file.head) (script_is : commands ≡ asked old.file.head.dim) (later : out0.faults ≤ out1.faults) (told : disk1.tells ≡ disk0.tells)
     (run : IsSoundOn s old.file disk0 →
     HasRun (setting_of s old.file) old.file.head show commands (state_on old.file disk0 no_cursors) (held_on old.file disk0) disk0 disk1 out0 out1 log0 log1 ack ended (held_on new.file disk1)) where
-  run_in : (e : Option Stop) → ended ≡ e → IsSoundOn (space_of old.file.head) old.file disk0 →
+  run_in : (e : Option SessionStop) → ended ≡ e → IsSoundOn (space_of old.file.head) old.file disk0 →
       HasRun (setting_of (space_of old.file.head) old.file) old.file.head show commands (state_on old.file disk0 no_cursors) (held_on old.file disk0) disk0 disk1 out0 out1 log0 log1 ack e (held_on new.file disk1)
   run_in e is =
-      subst (λ (o : Option Stop). IsSoundOn (space_of old.file.head) old.file disk0 →
+      subst (λ (o : Option SessionStop). IsSoundOn (space_of old.file.head) old.file disk0 →
       HasRun (setting_of (space_of old.file.head) old.file) old.file.head show commands (state_on old.file disk0 no_cursors) (held_on old.file disk0) disk0 disk1 out0 out1 log0 log1 ack o (held_on new.file disk1)) is
       (subst (λ (x : Space). IsSoundOn x old.file disk0 →
       HasRun (setting_of x old.file) old.file.head show commands (state_on old.file disk0 no_cursors) (held_on old.file disk0) disk0 disk1 out0 out1 log0 log1 ack ended (held_on new.file disk1)) same run)
@@ -269,7 +269,7 @@ module _ {M : Type 0} (s : Space) (show : Bool) (asked : ℕ → List Command) (
       RunsOn (LeavesAll old.file.head (state_in old.file.head old.file.live disk0.bytes) disk0 disk1) show asked old.file.head old.file.live disk0.bytes disk1 out0 out1 log0 log1 0
   is_done is same_head alone tells sound = opened_done show asked old new disk0 disk1 out0 out1 log0 log1 commands ack script_is later told (run_in None is) same_head alone tells sound
 
-  pub is_stopped : (out2 : SinkState) (why : Stop) (status : ℕ) → ended ≡ Some why → HasEnded why out1 out2 status →
+  pub is_stopped : (out2 : SinkState) (why : SessionStop) (status : ℕ) → ended ≡ Some why → HasEnded why out1 out2 status →
       MatchOption ended (Unit {0}) (HasStopCause (IsSoundOn s old.file disk0) disk0 disk1 out0 out1 log0 log1) → IsTrue disk0.tells → IsSoundTree (space_of old.file.head) (nodes_on old.file disk0) old.file.live →
       RunsOn (LeavesAll old.file.head (state_in old.file.head old.file.live disk0.bytes) disk0 disk1) show asked old.file.head old.file.live disk0.bytes disk1 out0 out2 log0 log1 status
   is_stopped out2 why status is end cause tells sound =
@@ -289,7 +289,7 @@ module _ {M : Type 0} (s : Space) (show : Bool) (asked : ℕ → List Command) (
       ran = run_in None is (tells, sound)
 
 -- a session that was stopped is not done
-pub not_done : (why : Stop) (out0 out1 : SinkState) (status : ℕ) → HasEnded why out0 out1 status → status ≢ 0
+pub not_done : (why : SessionStop) (out0 out1 : SinkState) (status : ℕ) → HasEnded why out0 out1 status → status ≢ 0
 not_done stop.Sink out0 out1 status ended is = omega (arith, ended.0, is)
 not_done stop.Disk out0 out1 status ended is = omega (arith, ended.0, is)
 not_done stop.Memory out0 out1 status ended is = omega (arith, ended.0, is)

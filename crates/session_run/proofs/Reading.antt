@@ -19,7 +19,7 @@ use Rattle.index_core.specs.Index.{OpenIndex, StandsAlone}
 use Rattle.index_core.specs.Writing.{HasObjects}
 use Rattle.index_core.proofs.Published.{holds, has_still}
 use Rattle.session_run.specs.declared.answer.Answer.{Answer}
-use Rattle.session_run.specs.declared.stop.Stop.{Stop}
+use Rattle.session_run.specs.declared.stop.SessionStop.{SessionStop}
 use Rattle.session_run.specs.Session.{HoldsState, IsAsking, StandsBy, most_read, setting_of, state_on}
 use Rattle.session_run.specs.Steps.{HasStepCause, HasStepped, HoldsOne, IsTaken}
 use Rattle.answer_texts.specs.Answered.{if_any}
@@ -98,7 +98,7 @@ read_stepped {M} s show old new opened cursors before after c a lawful alone goi
 }
 
 -- a command that only reads and ends the session
-pub read_stopped : {M : Type 0} (s : Space) (show : Bool) (old new : OpenIndex M) (opened cursors : OpenCursors) (before after : DiskState) (c : Command) (why : Stop) →
+pub read_stopped : {M : Type 0} (s : Space) (show : Bool) (old new : OpenIndex M) (opened cursors : OpenCursors) (before after : DiskState) (c : Command) (why : SessionStop) →
     IsLawfulFile s.words old.file → StandsAlone old before → OnlyReads old.file new.file before after → HasStepCause (IsSoundOn s old.file before) before after why → StandsBy old.file.head after why →
     HasStepped s show old new opened cursors before after c (Err why)
 read_stopped {M} s show old new opened cursors before after c why lawful alone reads cause stands = record {

@@ -25,8 +25,8 @@ use Rattle.index_core.specs.Index.{OpenIndex, StandsAlone}
 use Rattle.index_core.proofs.Published.{holds}
 use Rattle.session_run.specs.declared.pinned.PinnedCursor.{PinnedCursor}
 use Rattle.session_run.specs.declared.pinned.PinnedCursors.{PinnedCursors}
-use Rattle.session_run.specs.declared.stop.Stop.{Stop}
-use Rattle.session_run.specs.declared.stop.Stop.TheVariants as stop
+use Rattle.session_run.specs.declared.stop.SessionStop.{SessionStop}
+use Rattle.session_run.specs.declared.stop.SessionStop.TheVariants as stop
 use Rattle.session_run.specs.Pinned.{GoesOn, StandsFor}
 use Rattle.session_run.specs.Session.{Ends, Grew, HasRun, HasStopCause, HoldsNext, HoldsSome, HoldsState, IsAsking, IsCutShort, most_read, no_cursors, records_in, setting_of, state_on}
 use Rattle.session_run.specs.Steps.{HasTurned, HoldsEither, HoldsOne, IsPartlyPut, IsPut, IsStoppedAt}
@@ -180,7 +180,7 @@ module _ {M : Type 0} (s : Space) (show : Bool) (old : OpenIndex M) (disk0 : Dis
         (subst (λ (h : Head). HoldsState s h (step (record { space = s; limit = h.limit }) (state_on mid.file disk1 cursors) c).state image) same_head now))
 
     -- it ends at a fault
-    pub stopped : (new : OpenIndex M) (disk2 : DiskState) (out2 log2 : SinkState) (why : Stop) → EachImage disk1 disk2 (HoldsEither s mid.file disk1 cursors c) →
+    pub stopped : (new : OpenIndex M) (disk2 : DiskState) (out2 log2 : SinkState) (why : SessionStop) → EachImage disk1 disk2 (HoldsEither s mid.file disk1 cursors c) →
         IsStoppedAt s show mid.file cursors disk1 c out1 out2 log1 log2 why →
         HasRun setting old.file.head show commands state0 file0 disk0 disk2 out0 out2 log0 log2 acknowledged (Some why) (held_on new.file disk2)
     stopped new disk2 out2 log2 why moments at = record {
@@ -218,7 +218,7 @@ module _ {M : Type 0} (s : Space) (show : Bool) (old : OpenIndex M) (disk0 : Dis
           rw (same.1, append-nil (framed (logs_of (answers_of so_far.turns)))) so_far.logged,
         )
 
-        puts : (end : Stop) → why ≡ end → IsStoppedAt s show mid.file cursors disk1 c out1 out2 log1 log2 end → Puts
+        puts : (end : SessionStop) → why ≡ end → IsStoppedAt s show mid.file cursors disk1 c out1 out2 log1 log2 end → Puts
         puts stop.Disk is same = silent (rw is (refl, refl)) same
         puts (stop.Damaged page) is same = silent (rw is (refl, refl)) same
         puts stop.Memory is same = silent (rw is (refl, refl)) same
@@ -262,7 +262,7 @@ module _ {M : Type 0} (s : Space) (show : Bool) (old : OpenIndex M) (disk0 : Dis
   }
 
 -- a fault that ends a session has its cause in the session
-pub cause_since : {Sound Then : Type 0} (disk0 disk1 disk2 : DiskState) (out0 out1 out2 log0 log1 log2 : SinkState) (why : Stop) → disk0.faults ≤ disk1.faults → out0.faults ≤ out1.faults → log0.faults ≤ log1.faults →
+pub cause_since : {Sound Then : Type 0} (disk0 disk1 disk2 : DiskState) (out0 out1 out2 log0 log1 log2 : SinkState) (why : SessionStop) → disk0.faults ≤ disk1.faults → out0.faults ≤ out1.faults → log0.faults ≤ log1.faults →
     (Sound → Then) → HasStopCause Then disk1 disk2 out1 out2 log1 log2 why → HasStopCause Sound disk0 disk2 out0 out2 log0 log2 why
 cause_since disk0 disk1 disk2 out0 out1 out2 log0 log1 log2 stop.Sink later out_later log_later kept cause = elim cause [
   | inl rose ↦ inl (rose_before _ _ _ out_later rose)
@@ -275,7 +275,7 @@ cause_since disk0 disk1 disk2 out0 out1 out2 log0 log1 log2 stop.Memory later ou
 -- ---- for the loop
 
 -- a turn of an index with the same metric
-pub turned_on : {M : Type 0} (space : M → Space) (show : Bool) (old mid new : OpenIndex M) (pinned0 pinned1 : PinnedCursors) (before after : DiskState) (c : Command) (out0 out1 log0 log1 : SinkState) (result : Result (Unit {0}) Stop) →
+pub turned_on : {M : Type 0} (space : M → Space) (show : Bool) (old mid new : OpenIndex M) (pinned0 pinned1 : PinnedCursors) (before after : DiskState) (c : Command) (out0 out1 log0 log1 : SinkState) (result : Result (Unit {0}) SessionStop) →
     mid.file.metric ≡ old.file.metric → HasTurned (space mid.file.metric) show mid new pinned0 pinned1 before after c out0 out1 log0 log1 result →
     HasTurned (space old.file.metric) show mid new pinned0 pinned1 before after c out0 out1 log0 log1 result
 turned_on {M} space show old mid new pinned0 pinned1 before after c out0 out1 log0 log1 result same turned =

@@ -40,7 +40,7 @@ use Rattle.index_core.specs.Pinning.{AreReached, IsPinned}
 use Rattle.index_core.specs.Writing.{GuardsPages}
 use Rattle.session_run.specs.declared.pinned.PinnedCursor.{PinnedCursor}
 use Rattle.session_run.specs.declared.pinned.PinnedCursors.{PinnedCursors}
-use Rattle.session_run.specs.declared.stop.Stop.TheVariants as stop
+use Rattle.session_run.specs.declared.stop.SessionStop.TheVariants as stop
 use Rattle.session_run.specs.Pinned.{GoesThrough, AreKeptBy, AreNumbered, CanGoOn, GoesOn, HoldsTree, IsKeptBy, KeepsGuarded, StandFor, StandsFor}
 use Rattle.session_run.specs.Session.{StandsBy, setting_of, state_on}
 use Rattle.session_run.specs.Steps.{HasAdvanced, HasCarriedOut, HasClosed, HasStepCause, answer_of_fault, plain_answer, stop_of_page}

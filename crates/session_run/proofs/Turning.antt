@@ -19,8 +19,8 @@ use Rattle.answer_texts.specs.Put.{IsCut}
 use Rattle.index_core.specs.Index.{OpenIndex}
 use Rattle.session_run.specs.declared.answer.Answer.{Answer}
 use Rattle.session_run.specs.declared.pinned.PinnedCursors.{PinnedCursors}
-use Rattle.session_run.specs.declared.stop.Stop.{Stop}
-use Rattle.session_run.specs.declared.stop.Stop.TheVariants as stop
+use Rattle.session_run.specs.declared.stop.SessionStop.{SessionStop}
+use Rattle.session_run.specs.declared.stop.SessionStop.TheVariants as stop
 use Rattle.session_run.specs.Pinned.{CanGoOn}
 use Rattle.session_run.specs.Session.{Grew, HasStopCause, HoldsState, setting_of, state_on}
 use Rattle.session_run.specs.Steps.{HasCarriedOut, HasStepCause, HasTurned, HoldsEither, HoldsOne, IsStoppedAt, IsTaken}
@@ -61,7 +61,7 @@ module _ {M : Type 0} (s : Space) (show : Bool) (old new : OpenIndex M) (pinned0
       ])
 
   -- the step itself ended the session
-  pub turned_stopped : (why : Stop) (out log : SinkState) → HasCarriedOut s show old new pinned0 pinned1 before after c (Err why) → HasTurned s show old new pinned0 pinned1 before after c out out log log (Err why)
+  pub turned_stopped : (why : SessionStop) (out log : SinkState) → HasCarriedOut s show old new pinned0 pinned1 before after c (Err why) → HasTurned s show old new pinned0 pinned1 before after c out out log log (Err why)
   turned_stopped why out log did = record {
     going = tt;
     head = tt;
@@ -82,13 +82,13 @@ module _ {M : Type 0} (s : Space) (show : Bool) (old new : OpenIndex M) (pinned0
     moments = did.moments;
   }
     where
-      cause : (why : Stop) → HasStepCause (CanGoOn s old before pinned0) before after why → HasStopCause (CanGoOn s old before pinned0) before after out out log log why
+      cause : (why : SessionStop) → HasStepCause (CanGoOn s old before pinned0) before after why → HasStopCause (CanGoOn s old before pinned0) before after out out log log why
       cause stop.Disk is = is
       cause (stop.Damaged page) is = is
       cause stop.Memory is = tt
       cause stop.Sink is = absurd is
 
-      stopped : (opened : OpenCursors) (why : Stop) → HasStepCause (CanGoOn s old before pinned0) before after why → IsStoppedAt s show old.file opened before c out out log log why
+      stopped : (opened : OpenCursors) (why : SessionStop) → HasStepCause (CanGoOn s old before pinned0) before after why → IsStoppedAt s show old.file opened before c out out log log why
       stopped opened stop.Disk is = (refl, refl)
       stopped opened (stop.Damaged page) is = (refl, refl)
       stopped opened stop.Memory is = (refl, refl)

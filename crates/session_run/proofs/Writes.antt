@@ -20,8 +20,8 @@ use Rattle.index_core.specs.Answers.{IsSoundOn, points_on, tags_on}
 use Rattle.index_core.specs.Files.{IsLawfulFile, OnlyReads}
 use Rattle.index_core.specs.Index.{OpenIndex, StandsAlone}
 use Rattle.index_core.specs.Writing.{Write, HasObjects, HasWritten, IsRefused, answer_to, points_after, tags_after}
-use Rattle.session_run.specs.declared.stop.Stop.{Stop}
-use Rattle.session_run.specs.declared.stop.Stop.TheVariants as stop
+use Rattle.session_run.specs.declared.stop.SessionStop.{SessionStop}
+use Rattle.session_run.specs.declared.stop.SessionStop.TheVariants as stop
 use Rattle.session_run.specs.Session.{IsAsking, StandsBy, setting_of, state_on}
 use Rattle.session_run.specs.Steps.{HasStepCause, HasStepped, HoldsOne, IsTaken, answer_of_fault, plain_answer, written_answer}
 use Rattle.session_run.specs.Turns.{Hinders, IsHindrance, IsNextVersion, IsVersionAfter, held_on, write_of}
@@ -162,7 +162,7 @@ module _ {M : Type 0} (s : Space) (show : Bool) (old new : OpenIndex M) (cursors
   hinders r meant taking = rw (meant, taking (answer_to write old.file.live.count)) refl
 
   -- it ends the session
-  ended : (why : IndexFault) (end : Stop) → why ≢ fault.Commit → HasWritten s write old new before after (Err why) → before.faults ≤ after.faults →
+  ended : (why : IndexFault) (end : SessionStop) → why ≢ fault.Commit → HasWritten s write old new before after (Err why) → before.faults ≤ after.faults →
       HasStepCause (IsSoundOn s old.file before) before after end → StandsBy old.file.head after end → HasStepped s show old new cursors cursors before after c (Err end)
   ended why end other written later cause stands =
       read_stopped s show old new cursors cursors before after c end lawful alone (refused_reads old new before after (written.refused other) later) cause stands

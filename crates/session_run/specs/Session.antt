@@ -24,8 +24,8 @@ use Rattle.index_core.specs.Answers.{points_on, tags_on}
 use Rattle.index_core.specs.Damage.{IsDamageOf}
 use Rattle.index_core.specs.Files.{OpenFile}
 use Rattle.index_core.specs.Writing.{HoldsObjects}
-use Rattle.session_run.specs.declared.stop.Stop.{Stop}
-use Rattle.session_run.specs.declared.stop.Stop.TheVariants as stop
+use Rattle.session_run.specs.declared.stop.SessionStop.{SessionStop}
+use Rattle.session_run.specs.declared.stop.SessionStop.TheVariants as stop
 use Rattle.session_run.specs.Turns.{Turn, AreTurns, IsTurn, answers_of, file_after, state_after}
 
 -- the points of the index's space, and how many objects it may have
@@ -70,7 +70,7 @@ pub record IsCutShort (setting : Setting) (head : Head) (show : Bool) (state : S
 
 -- how a session ends after the acknowledged commands: no command is left; or an output failed in the next command's frame or reply;
 -- or it stopped before any of these was put
-abbrev pub Ends : Setting → Head → Bool → State → Held → List Command → Option Stop → List ℕ → List ℕ → Type 0
+abbrev pub Ends : Setting → Head → Bool → State → Held → List Command → Option SessionStop → List ℕ → List ℕ → Type 0
 Ends setting head show state file more None rest log_rest = (more ≡ []) × (rest ≡ []) × (log_rest ≡ [])
 Ends setting head show state file more (Some stop.Sink) rest log_rest = IsCutShort setting head show state file more rest log_rest
 Ends setting head show state file more (Some why) rest log_rest = (rest ≡ []) × (log_rest ≡ [])
@@ -102,7 +102,7 @@ most_read show logs = if show then 2 * records_in logs else records_in logs
 -- then its reply, whole. At every moment a crash leaves the objects after some of the commands; at the end it leaves those after all
 -- acknowledged ones, or after one command more. Where all commands only ask, at most `most_read` pages were read.
 pub record HasRun (setting : Setting) (head : Head) (show : Bool) (commands : List Command) (state : State) (file : Held)
-    (disk0 disk1 : DiskState) (out0 out1 log0 log1 : SinkState) (acknowledged : ℕ) (stopped : Option Stop) (left : Held) : Type 0 where
+    (disk0 disk1 : DiskState) (out0 out1 log0 log1 : SinkState) (acknowledged : ℕ) (stopped : Option SessionStop) (left : Held) : Type 0 where
   pub turns : List Turn
   pub more : List Command
   pub rest : List ℕ
@@ -137,12 +137,12 @@ pub record IsDamageIn (head : Head) (bytes : List ℕ) (fault : PageFault) : Typ
   pub is : IsDamageOf head.dim bytes live fault
 
 -- the same for a session that stopped, where the disk tells its bytes
-abbrev pub StandsBy : Head → DiskState → Stop → Type 0
+abbrev pub StandsBy : Head → DiskState → SessionStop → Type 0
 StandsBy head disk (stop.Damaged fault) = IsTrue disk.tells → IsDamageIn head disk.bytes fault
 StandsBy head disk _ = Unit {0}
 
 -- Why a session stops: an output failed; the disk failed; a page is damaged, of a file that was not sound; or memory ran out.
-abbrev pub HasStopCause : Type 0 → DiskState → DiskState → SinkState → SinkState → SinkState → SinkState → Stop → Type 0
+abbrev pub HasStopCause : Type 0 → DiskState → DiskState → SinkState → SinkState → SinkState → SinkState → SessionStop → Type 0
 HasStopCause Sound disk0 disk1 out0 out1 log0 log1 stop.Sink = Rose out0.faults out1.faults ⊎ Rose log0.faults log1.faults
 HasStopCause Sound disk0 disk1 out0 out1 log0 log1 stop.Disk = Rose disk0.faults disk1.faults
 HasStopCause Sound disk0 disk1 out0 out1 log0 log1 (stop.Damaged fault) = IsDamage fault × ¬ Sound

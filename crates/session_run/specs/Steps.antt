@@ -27,8 +27,8 @@ use Rattle.index_core.specs.declared.faults.IndexFault.{IndexFault}
 use Rattle.index_core.specs.declared.faults.IndexFault.TheVariants as fault
 use Rattle.session_run.specs.declared.answer.Answer.{Answer}
 use Rattle.session_run.specs.declared.pinned.PinnedCursors.{PinnedCursors}
-use Rattle.session_run.specs.declared.stop.Stop.{Stop}
-use Rattle.session_run.specs.declared.stop.Stop.TheVariants as stop
+use Rattle.session_run.specs.declared.stop.SessionStop.{SessionStop}
+use Rattle.session_run.specs.declared.stop.SessionStop.TheVariants as stop
 use Rattle.session_run.specs.Turns.{Turn, IsTurn, held_on}
 use Rattle.session_run.specs.Pinned.{AllGoThrough, AreKeptBy, CanGoOn, GoesOn, StandFor}
 use Rattle.session_run.specs.Session.{Grew, HasStopCause, HoldsState, IsAsking, IsDamage, StandsBy, most_read, setting_of, state_on}
@@ -38,7 +38,7 @@ abbrev pub plain_answer : Reply → Answer
 plain_answer r = record { reply = r; log = None }
 
 -- maps the index's refusal to a session's: a reply, or its end
-abbrev pub answer_of_fault : IndexFault → Result Answer Stop
+abbrev pub answer_of_fault : IndexFault → Result Answer SessionStop
 answer_of_fault fault.Full = Ok (plain_answer (reply.Refused refusal.Full))
 answer_of_fault fault.NotEmpty = Ok (plain_answer (reply.Refused refusal.NotEmpty))
 answer_of_fault (fault.NoRoom pages needed) = Ok (plain_answer (reply.Refused refusal.NoRoom))
@@ -50,18 +50,18 @@ answer_of_fault (fault.Damaged page) = Err (stop.Damaged page)
 answer_of_fault fault.Memory = Err stop.Memory
 
 -- what a write is answered
-abbrev pub written_answer : (ℕ → Reply) → Result ℕ IndexFault → Result Answer Stop
+abbrev pub written_answer : (ℕ → Reply) → Result ℕ IndexFault → Result Answer SessionStop
 written_answer says (Ok n) = Ok (plain_answer (says n))
 written_answer says (Err why) = answer_of_fault why
 
 -- why the step of a cursor ends the session
-abbrev pub stop_of_page : PageFault → Stop
+abbrev pub stop_of_page : PageFault → SessionStop
 stop_of_page page.Disk = stop.Disk
 stop_of_page page.Memory = stop.Memory
 stop_of_page fault = stop.Damaged fault
 
 -- why a command ends the session
-abbrev pub HasStepCause : Type 0 → DiskState → DiskState → Stop → Type 0
+abbrev pub HasStepCause : Type 0 → DiskState → DiskState → SessionStop → Type 0
 HasStepCause Sound before after stop.Disk = Rose before.faults after.faults
 HasStepCause Sound before after (stop.Damaged page) = IsDamage page × ¬ Sound
 HasStepCause Sound before after stop.Memory = Unit {0}
@@ -93,7 +93,7 @@ pub record IsTaken {M : Type 0} (s : Space) (show : Bool) (old new : OpenFile M)
 -- What one command does to the index. On a sound file it is a turn. Where it ends the session, a crash leaves the objects before or
 -- after.
 pub record HasStepped {M : Type 0} (s : Space) (show : Bool) (old new : OpenIndex M) (opened cursors : OpenCursors)
-    (before after : DiskState) (c : Command) (result : Result Answer Stop) : Type 0 where
+    (before after : DiskState) (c : Command) (result : Result Answer SessionStop) : Type 0 where
   pub going : OnOk result (new.stopped ≡ false)
   pub head : OnOk result (new.file.head ≡ old.file.head)
   pub metric : OnOk result (new.file.metric ≡ old.file.metric)
@@ -109,7 +109,7 @@ pub record HasStepped {M : Type 0} (s : Space) (show : Bool) (old new : OpenInde
 -- What one command does. On a sound file, where the open cursors stand for some, it is a turn on these, and afterwards the open
 -- cursors stand for those after it. Where it ends the session, a crash leaves the objects before or after.
 pub record HasCarriedOut {M : Type 0} (s : Space) (show : Bool) (old new : OpenIndex M) (pinned0 pinned1 : PinnedCursors)
-    (before after : DiskState) (c : Command) (result : Result Answer Stop) : Type 0 where
+    (before after : DiskState) (c : Command) (result : Result Answer SessionStop) : Type 0 where
   pub going : OnOk result (new.stopped ≡ false)
   pub head : OnOk result (new.file.head ≡ old.file.head)
   pub metric : OnOk result (new.file.metric ≡ old.file.metric)
@@ -178,13 +178,13 @@ pub record IsPartlyPut {M : Type 0} (s : Space) (show : Bool) (old : OpenFile M)
 
 -- what the outputs hold after a command at which the session stops
 abbrev pub IsStoppedAt : {M : Type 0} → Space → Bool → OpenFile M → OpenCursors → DiskState → Command → SinkState → SinkState →
-    SinkState → SinkState → Stop → Type 0
+    SinkState → SinkState → SessionStop → Type 0
 IsStoppedAt s show old opened before c out0 out1 log0 log1 stop.Sink = IsPartlyPut s show old opened before c out0 out1 log0 log1
 IsStoppedAt s show old opened before c out0 out1 log0 log1 why = (out1 ≡ out0) × (log1 ≡ log0)
 
 -- What one command does and writes.
 pub record HasTurned {M : Type 0} (s : Space) (show : Bool) (old new : OpenIndex M) (pinned0 pinned1 : PinnedCursors) (before after : DiskState) (c : Command)
-    (out0 out1 log0 log1 : SinkState) (result : Result (Unit {0}) Stop) : Type 0 where
+    (out0 out1 log0 log1 : SinkState) (result : Result (Unit {0}) SessionStop) : Type 0 where
   pub going : OnOk result (new.stopped ≡ false)
   pub head : OnOk result (new.file.head ≡ old.file.head)
   pub metric : OnOk result (new.file.metric ≡ old.file.metric)

@@ -1,7 +1,7 @@
 ghost use Rattle.std.specs.Prelude.{◌≡◌, None};
 ghost use Rattle.session_run.specs.Steps.{answer_of_fault, plain_answer, written_answer};
 
-use crate::stop::Stop;
+use crate::stop::SessionStop;
 use index_core::IndexFault;
 use log_model::Log;
 use rows_text::{Refusal, Reply};
@@ -26,7 +26,7 @@ impl Answer {
 }
 
 /// Maps the index's refusal to a session's: a reply, or its end.
-pub fn answer_of_fault(fault: IndexFault) -> Result<Answer, Stop>
+pub fn answer_of_fault(fault: IndexFault) -> Result<Answer, SessionStop>
     ensures { result ≡ answer_of_fault fault }
 {
     let why = match fault {
@@ -34,15 +34,15 @@ pub fn answer_of_fault(fault: IndexFault) -> Result<Answer, Stop>
         IndexFault::NotEmpty => Refusal::NotEmpty,
         IndexFault::NoRoom { .. } => Refusal::NoRoom,
         IndexFault::Worn => Refusal::Worn,
-        IndexFault::Disk | IndexFault::Commit | IndexFault::Stopped => return Err(Stop::Disk),
-        IndexFault::Damaged(page) => return Err(Stop::Damaged(page)),
-        IndexFault::Memory => return Err(Stop::Memory),
+        IndexFault::Disk | IndexFault::Commit | IndexFault::Stopped => return Err(SessionStop::Disk),
+        IndexFault::Damaged(page) => return Err(SessionStop::Damaged(page)),
+        IndexFault::Memory => return Err(SessionStop::Memory),
     };
     Ok(Answer::plain(Reply::Refused(why)))
 }
 
 /// Returns the answer to an insert.
-pub fn inserted(written: Result<u32, IndexFault>) -> Result<Answer, Stop>
+pub fn inserted(written: Result<u32, IndexFault>) -> Result<Answer, SessionStop>
     ensures { result ≡ written_answer (λ id. Reply.Id id) written }
 {
     match written {
@@ -52,7 +52,7 @@ pub fn inserted(written: Result<u32, IndexFault>) -> Result<Answer, Stop>
 }
 
 /// Returns the answer to a load.
-pub fn loaded(written: Result<u32, IndexFault>) -> Result<Answer, Stop>
+pub fn loaded(written: Result<u32, IndexFault>) -> Result<Answer, SessionStop>
     ensures { result ≡ written_answer (λ count. Reply.Loaded count) written }
 {
     match written {

@@ -9,7 +9,7 @@ ghost use Rattle.session_run.specs.Steps.{HasCarriedOut};
 use crate::answer::{Answer, inserted, loaded};
 use crate::pinned::PinnedCursors;
 use crate::queries::{nearest, range};
-use crate::stop::Stop;
+use crate::stop::SessionStop;
 use bulk_load::Crew;
 use disk_model::Disk;
 use index_core::Index;
@@ -27,7 +27,7 @@ fn execute<W: Crew<M>, M: Metric, D: Disk>(
     disk: &mut D,
     show: bool,
     command: &Command,
-) -> Result<Answer, Stop>
+) -> Result<Answer, SessionStop>
     requires ready { W.ready crew.now }
     requires going { index.old.stopped ≡ false }
     requires stands { MayGoOn index.old (D.state disk.old) }
@@ -54,10 +54,10 @@ fn execute<W: Crew<M>, M: Metric, D: Disk>(
         Command::Count => Ok(Answer::plain(Reply::Count(index.count()))),
         Command::Bad(why) => Ok(Answer::plain(Reply::Refused(*why))),
         Command::Cursor(q) => cursors.open(alloc, index, disk, show, q),
-        Command::Next { cursor, n } => match cursors.advance(alloc, index, disk, *cursor, *n) {
-            Ok(reply) => Ok(Answer::plain(reply)),
-            Err(why) => Err(why),
-        },
+        Command::Next { cursor, n } => {
+            let reply = cursors.advance(alloc, index, disk, *cursor, *n)?;
+            Ok(Answer::plain(reply))
+        }
         Command::Close(cursor) => Ok(Answer::plain(cursors.close(index, *cursor))),
     }
 }
@@ -71,7 +71,7 @@ pub fn step<W: Crew<M>, M: Metric, D: Disk>(
     disk: &mut D,
     show: bool,
     command: &Command,
-) -> Result<Answer, Stop>
+) -> Result<Answer, SessionStop>
     requires ready { W.ready crew.now }
     requires going { index.old.stopped ≡ false }
     requires stands { MayGoOn index.old (D.state disk.old) }

@@ -14,7 +14,7 @@ ghost use Rattle.session_run.specs.Job.{HasEnded, HasFinished, HasRefused, IsCom
 
 use crate::requests::{Requests, ScriptBytes};
 use crate::running::session;
-use crate::stop::Stop;
+use crate::stop::SessionStop;
 use bulk_load::Crew;
 use disk_model::Disk;
 use file_jobs::{
@@ -30,15 +30,15 @@ use page_cache::KEPT_NODES;
 use std::alloc::Global;
 
 // Ends a session that stopped for the reason `why`.
-fn end_stopped<K: Sink>(alloc: Global, why: Stop, out: &mut K) -> Status
+fn end_stopped<K: Sink>(alloc: Global, why: SessionStop, out: &mut K) -> Status
     ensures ended { HasEnded why (K.state out.old) (K.state out.new) result.0 }
     ensures later { (K.state out.old).faults ≤ (K.state out.new).faults }
 {
     match why {
-        Stop::Sink => Status(4),
-        Stop::Disk => end_with(out, FAULT_DISK, 5),
-        Stop::Memory => end_with(out, FAULT_MEMORY, 8),
-        Stop::Damaged(fault) => match damaged_text(alloc, fault) {
+        SessionStop::Sink => Status(4),
+        SessionStop::Disk => end_with(out, FAULT_DISK, 5),
+        SessionStop::Memory => end_with(out, FAULT_MEMORY, 8),
+        SessionStop::Damaged(fault) => match damaged_text(alloc, fault) {
             Ok(text) => end_with(out, &text, 9),
             Err(_) => end_with(out, FAULT_MEMORY, 8),
         },
@@ -107,8 +107,10 @@ pub fn run_requests<W: Crew<MixSpace>, S: Requests, D: Disk, K: Sink, T: Sink>(
     requires many { workers ≤ 64 }
     ensures runs { RunsAsked show_tags (S.commands requests) (D.state index.old) (D.state index.new) (K.state out.old) (K.state out.new)
         (T.state log_out.old) (T.state log_out.new) result.0 }
-    ensures reads { ReadsAsked show_tags (S.commands requests) (D.state index.old) (D.state index.new) (T.state log_out.old) (T.state log_out.new) result.0 }
-    ensures ends { HasRefused (D.state index.old) (D.state index.new) (K.state out.old) (K.state out.new) (T.state log_out.old) (T.state log_out.new) result.0 }
+    ensures reads { ReadsAsked show_tags (S.commands requests) (D.state index.old) (D.state index.new)
+        (T.state log_out.old) (T.state log_out.new) result.0 }
+    ensures ends { HasRefused (D.state index.old) (D.state index.new) (K.state out.old) (K.state out.new)
+        (T.state log_out.old) (T.state log_out.new) result.0 }
     ensures out_later { (K.state out.old).faults ≤ (K.state out.new).faults }
     ensures log_later { (T.state log_out.old).faults ≤ (T.state log_out.new).faults }
 {
@@ -160,13 +162,15 @@ pub fn run_session<W: Crew<MixSpace>, D: Disk, S: Source, K: Sink, T: Sink>(
     ensures statuses { IsSessionStatus result.0 }
     // A failed read or write is reported only where the device's count of faults rose.
     ensures input { result.0 ≡ 3 → Rose (S.faults input.old) (S.faults input.new) }
-    ensures output { result.0 ≡ 4 → Rose (K.state out.old).faults (K.state out.new).faults ⊎ Rose (T.state log_out.old).faults (T.state log_out.new).faults }
+    ensures output { result.0 ≡ 4 → Rose (K.state out.old).faults (K.state out.new).faults
+        ⊎ Rose (T.state log_out.old).faults (T.state log_out.new).faults }
     // Status 7 comes exactly where more than 2 ^ 26 bytes were taken.
     ensures long { TakesUpTo (2 ^ 26) (S.left input.old) (S.left input.new) (result.0 ≡ 7) }
     // With no fault and an input within its limit a session on a sound file is done, unless memory runs out.
     ensures complete { IsComplete (S.left input.old) (D.state index.old)
         (Rose (S.faults input.old) (S.faults input.new) ⊎ (Rose (D.state index.old).faults (D.state index.new).faults
-        ⊎ (Rose (K.state out.old).faults (K.state out.new).faults ⊎ Rose (T.state log_out.old).faults (T.state log_out.new).faults))) result.0 }
+        ⊎ (Rose (K.state out.old).faults (K.state out.new).faults
+        ⊎ Rose (T.state log_out.old).faults (T.state log_out.new).faults))) result.0 }
     // A session that is done has taken all input.
     ensures end { result.0 ≡ 0 → IsAtEnd (S.left input.new) }
     ensures counts { (S.faults input.old ≤ S.faults input.new) × ((K.state out.old).faults ≤ (K.state out.new).faults)

@@ -16,4 +16,4 @@ pub use given_rows::{GivenRows, RowsToInsert, RowsToLoad};
 pub use job::{run_requests, run_session};
 pub use requests::{Requests, ScriptBytes};
 pub use running::{Ended, session};
-pub use stop::Stop;
+pub use stop::SessionStop;

@@ -23,7 +23,7 @@ ghost use Rattle.session_run.specs.Session.{StandsBy};
 ghost use Rattle.session_run.specs.Steps.{HasAdvanced, HasCarriedOut, HasClosed, HasStepCause, stop_of_page};
 
 use crate::answer::{Answer, answer_of_fault};
-use crate::stop::Stop;
+use crate::stop::SessionStop;
 use disk_model::Disk;
 use index_core::{Index, IndexFault};
 use metric_laws::{Meter, Metric, Point};
@@ -79,7 +79,8 @@ fn step_cursor<M: Metric, D: Disk>(
     ensures unchanged { OnErr result (cursor.new ≡ cursor.old) }
     ensures gives { IfOk result (λ stepped. (nodes : Nodes) → IsTrue (D.state disk.old).tells →
         IsSoundTree (M.space index.now.file.metric) nodes cursor.old.live →
-        HoldsTree index.now.file.head.dim nodes cursor.old.live (D.state disk.old).bytes → IsCursorOn (M.space index.now.file.metric) nodes cursor.old →
+        HoldsTree index.now.file.head.dim nodes cursor.old.live (D.state disk.old).bytes →
+        IsCursorOn (M.space index.now.file.metric) nodes cursor.old →
         GivesNext (M.space index.now.file.metric) nodes cursor.old cursor.new n stepped.hits stepped.tags) }
     ensures sound { IfErr result (λ fault. (nodes : Nodes) → IsTrue (D.state disk.old).tells →
         IsSoundTree (M.space index.now.file.metric) nodes cursor.old.live →
@@ -110,32 +111,20 @@ fn pin_tree<M: Metric, D: Disk>(
     ensures rest { index.new ≡ record index.old { file = index.new.file; free = index.new.free } }
     ensures pinned { OnOk result (IsPinned index.old.file.live.generation index.new) }
     ensures guards { OnOk result (IsTrue (D.state disk.old).tells → (tree : List ℕ) →
-        AreReached (nodes_on index.old.file (D.state disk.old)) index.old.file.live.root tree → GuardsPages index.old.file.live.generation tree index.new) }
+        AreReached (nodes_on index.old.file (D.state disk.old)) index.old.file.live.root tree →
+        GuardsPages index.old.file.live.generation tree index.new) }
     ensures guarded { (generation : ℕ) (tree : List ℕ) → GuardsPages generation tree index.old → GuardsPages generation tree index.new }
     ensures cause { IfErr result (HasListCause index.old.file (D.state disk.old) (D.state disk.new).faults) }
     ensures damage { IfErr result (BlamesDamage index.old.file (D.state disk.old)) }
-    ensures undamaged { IfErr result (λ fault. IsSoundOn (M.space index.old.file.metric) index.old.file (D.state disk.old) → BlamesNoPage fault) }
+    ensures undamaged { IfErr result (λ fault. IsSoundOn (M.space index.old.file.metric) index.old.file (D.state disk.old) →
+        BlamesNoPage fault) }
 {
-    let live = match index.pin(alloc, disk) {
-        Ok(live) => live,
-        Err(fault) => return Err(fault),
-    };
+    let live = index.pin(alloc, disk)?;
     if !is_pinned {
         return Ok(());
     }
     index.unpin(live.generation);
     Ok(())
-}
-
-// Maps a page's fault in a cursor's step to the end of the session.
-fn stop_of_page(fault: PageFault) -> Stop
-    ensures { result ≡ stop_of_page fault }
-{
-    match fault {
-        PageFault::Disk => Stop::Disk,
-        PageFault::Memory => Stop::Memory,
-        damage => Stop::Damaged(damage),
-    }
 }
 
 impl PinnedCursors {
@@ -183,7 +172,7 @@ impl PinnedCursors {
         disk: &mut D,
         show: bool,
         q: &Point,
-    ) -> Result<Answer, Stop>
+    ) -> Result<Answer, SessionStop>
         requires going { index.old.stopped ≡ false }
         requires stands { MayGoOn index.old (D.state disk.old) }
         requires point { IsTrue ((M.space index.old.file.metric).fits q.now) }
@@ -199,15 +188,9 @@ impl PinnedCursors {
             return Ok(Answer::plain(Reply::Refused(Refusal::Cursors)));
         }
         let live = index.live();
-        let Ok(point) = Point::new(alloc, q.as_slice()) else {
-            return Err(Stop::Memory);
-        };
-        let Ok(cursor) = Cursor::open(alloc, live, point) else {
-            return Err(Stop::Memory);
-        };
-        let Ok(()) = self.cursors.reserve(1) else {
-            return Err(Stop::Memory);
-        };
+        let point = Point::new(alloc, q.as_slice())?;
+        let cursor = Cursor::open(alloc, live, point)?;
+        self.cursors.reserve(1)?;
         let is_pinned = self.has_tree(live.generation);
         if let Err(fault) = pin_tree(alloc, index, disk, is_pinned) {
             return answer_of_fault(fault);
@@ -226,7 +209,7 @@ impl PinnedCursors {
         disk: &mut D,
         number: u32,
         n: u64,
-    ) -> Result<Reply, Stop>
+    ) -> Result<Reply, SessionStop>
         requires kept { AreKeptBy (M.space index.now.file.metric) index.now self.old }
         requires some { 1 ≤ n }
         ensures same { IsUnchanged (D.state disk.old) (D.state disk.new) }
@@ -239,20 +222,20 @@ impl PinnedCursors {
             HasAdvanced (M.space index.now.file.metric) index.now (D.state disk.new).bytes self.new opened number n reply) }
         ensures cause { IfErr result (HasStepCause (CanGoOn (M.space index.now.file.metric) index.now (D.state disk.old) self.old)
             (D.state disk.old) (D.state disk.new)) }
-        ensures damage { IfErr result (λ why. AllGoThrough index.now (D.state disk.old) self.old → StandsBy index.now.file.head (D.state disk.new) why) }
-        ensures through { OnOk result (AllGoThrough index.now (D.state disk.old) self.old → AllGoThrough index.now (D.state disk.new) self.new) }
+        ensures damage { IfErr result (λ why. AllGoThrough index.now (D.state disk.old) self.old →
+            StandsBy index.now.file.head (D.state disk.new) why) }
+        ensures through { OnOk result (AllGoThrough index.now (D.state disk.old) self.old →
+            AllGoThrough index.now (D.state disk.new) self.new) }
     {
         let Some(place) = self.place_of(number) else {
             return Ok(Reply::Refused(Refusal::NoCursor));
         };
         let pinned = &mut self.cursors[place];
-        match step_cursor(alloc, index, disk, &mut pinned.cursor, n) {
-            Ok(stepped) => Ok(Reply::Next {
-                hits: stepped.hits,
-                tags: stepped.tags,
-            }),
-            Err(fault) => Err(stop_of_page(fault)),
-        }
+        let stepped = step_cursor(alloc, index, disk, &mut pinned.cursor, n)?;
+        Ok(Reply::Next {
+            hits: stepped.hits,
+            tags: stepped.tags,
+        })
     }
 
     // Takes back the pin of the tree of `generation`, unless an open cursor goes through it.
@@ -261,9 +244,11 @@ impl PinnedCursors {
         requires kept { AllByRecursion (IsKeptBy (M.space index.old.file.metric) index.old) self.now.cursors.items }
         ensures only { index.new ≡ record index.old { free = index.new.free } }
         ensures kept { AllByRecursion (IsKeptBy (M.space index.old.file.metric) index.new) self.now.cursors.items }
-        ensures guarded { (other : ℕ) (tree : List ℕ) → IsPinned other index.new → GuardsPages other tree index.old → GuardsPages other tree index.new }
+        ensures guarded { (other : ℕ) (tree : List ℕ) → IsPinned other index.new →
+            GuardsPages other tree index.old → GuardsPages other tree index.new }
         ensures beside { (nodes : Nodes) → LiesBesideTree nodes index.old → LiesBesideTree nodes index.new }
-        ensures pins { (other : ℕ) → pins_among other index.new.free + (if generation == other then 1 else pins_for other self.now.cursors.items) ≡
+        ensures pins { (other : ℕ) →
+            pins_among other index.new.free + (if generation == other then 1 else pins_for other self.now.cursors.items) ≡
             pins_among other index.old.free + pins_for other self.now.cursors.items }
     {
         if self.has_tree(generation) {
@@ -290,7 +275,8 @@ impl PinnedCursors {
         ensures beside { (nodes : Nodes) → LiesBesideTree nodes index.old → LiesBesideTree nodes index.new }
         ensures through { (bytes : List ℕ) → AllByRecursion (GoesThrough index.old bytes) self.old.cursors.items →
             AllByRecursion (GoesThrough index.new bytes) self.new.cursors.items }
-        ensures closed { (bytes : List ℕ) (opened : OpenCursors) → StandFor (M.space index.old.file.metric) index.old bytes self.old opened →
+        ensures closed { (bytes : List ℕ) (opened : OpenCursors) →
+            StandFor (M.space index.old.file.metric) index.old bytes self.old opened →
             HasClosed (M.space index.old.file.metric) index.new bytes self.new opened number result }
     {
         let Some(place) = self.place_of(number) else {

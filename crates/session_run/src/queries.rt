@@ -9,7 +9,7 @@ ghost use Rattle.session_run.specs.Session.{StandsBy};
 ghost use Rattle.session_run.specs.Steps.{HasStepCause, HasStepped, IsShownAs};
 
 use crate::answer::{Answer, answer_of_fault};
-use crate::stop::Stop;
+use crate::stop::SessionStop;
 use disk_model::Disk;
 use index_core::{Index, IndexFault};
 use log_model::Found;
@@ -24,7 +24,7 @@ fn found_answer<M: Metric, D: Disk>(
     disk: &mut D,
     show: bool,
     found: Found,
-) -> Result<Answer, Stop>
+) -> Result<Answer, SessionStop>
     requires going { index.old.stopped ≡ false }
     requires stands { MayGoOn index.old (D.state disk.old) }
     ensures stands { MayGoOn index.new (D.state disk.new) }
@@ -60,7 +60,7 @@ pub fn range<M: Metric, D: Disk>(
     show: bool,
     q: &Point,
     r: u64,
-) -> Result<Answer, Stop>
+) -> Result<Answer, SessionStop>
     requires going { index.old.stopped ≡ false }
     requires stands { MayGoOn index.old (D.state disk.old) }
     requires point { IsTrue ((M.space index.old.file.metric).fits q.now) }
@@ -86,7 +86,7 @@ pub fn nearest<M: Metric, D: Disk>(
     show: bool,
     q: &Point,
     k: u64,
-) -> Result<Answer, Stop>
+) -> Result<Answer, SessionStop>
     requires going { index.old.stopped ≡ false }
     requires stands { MayGoOn index.old (D.state disk.old) }
     requires point { IsTrue ((M.space index.old.file.metric).fits q.now) }

@@ -9,7 +9,7 @@ ghost use Rattle.session_run.specs.Turns.{held_on};
 
 use crate::commands::step;
 use crate::pinned::PinnedCursors;
-use crate::stop::Stop;
+use crate::stop::SessionStop;
 use answer_texts::texts_of;
 use bulk_load::Crew;
 use disk_model::Disk;
@@ -26,7 +26,7 @@ pub struct Ended {
     pub acknowledged: u64,
 
     /// Why it ended before its script did.
-    pub stopped: Option<Stop>,
+    pub stopped: Option<SessionStop>,
 }
 
 // Carries out one command, and writes the frame of its log and its reply.
@@ -40,7 +40,7 @@ fn turn<W: Crew<M>, M: Metric, D: Disk, K: Sink, T: Sink>(
     command: &Command,
     out: &mut K,
     log_out: &mut T,
-) -> Result<(), Stop>
+) -> Result<(), SessionStop>
     requires ready { W.ready crew.now }
     requires going { index.old.stopped ≡ false }
     requires stands { MayGoOn index.old (D.state disk.old) }
@@ -53,17 +53,9 @@ fn turn<W: Crew<M>, M: Metric, D: Disk, K: Sink, T: Sink>(
         (K.state out.old) (K.state out.new) (T.state log_out.old) (T.state log_out.new) result }
 {
     index.is_lawful();
-    let answer = match step(crew, alloc, index, cursors, disk, show, command) {
-        Ok(answer) => answer,
-        Err(why) => return Err(why),
-    };
-    let Ok(texts) = texts_of(alloc, &answer.reply, &answer.log, show) else {
-        return Err(Stop::Memory);
-    };
-    match texts.put(out, log_out) {
-        Ok(()) => Ok(()),
-        Err(_) => Err(Stop::Sink),
-    }
+    let answer = step(crew, alloc, index, cursors, disk, show, command)?;
+    let texts = texts_of(alloc, &answer.reply, &answer.log, show)?;
+    Ok(texts.put(out, log_out)?)
 }
 
 /// Carries out each of `commands` in turn on `index`, and writes its reply to `out`, in one put and after its commit. The log of a
@@ -99,7 +91,8 @@ pub fn session<W: Crew<M>, M: Metric, D: Disk, K: Sink, T: Sink>(
         result.acknowledged result.stopped (held_on index.new.file (D.state disk.new)) }
     ensures going { result.stopped ≡ None → index.new.stopped ≡ false }
     ensures head { result.stopped ≡ None → index.new.file.head ≡ index.old.file.head }
-    ensures cause { MatchOption result.stopped (Unit {0}) (HasStopCause (IsSoundOn (M.space index.old.file.metric) index.old.file (D.state disk.old))
+    ensures cause { MatchOption result.stopped (Unit {0}) (HasStopCause
+        (IsSoundOn (M.space index.old.file.metric) index.old.file (D.state disk.old))
         (D.state disk.old) (D.state disk.new) (K.state out.old) (K.state out.new) (T.state log_out.old) (T.state log_out.new)) }
     // A page that is said to be damaged is one that child numbers lead to, and is damaged.
     ensures damage { MatchOption result.stopped (Unit {0}) (StandsBy index.old.file.head (D.state disk.new)) }

@@ -12,7 +12,7 @@ use page_store::PageFault;
 use prune_log::decode_frames;
 use rows_text::read_script;
 use session_run::laws::turns_are_their_meaning;
-use session_run::{Ended, Stop, session};
+use session_run::{Ended, SessionStop, session};
 use shadow_root::{OpenFault, create};
 use std::alloc::Global;
 use std::process::Abort;
@@ -317,7 +317,7 @@ fn check_broken<R: AllocGlobal + Abort, D: Disk>(rt: &R, disk: &mut D, case: &Br
     let ended = run(rt, disk, MIXED, false, &mut out, &mut log_out);
     holds(
         rt,
-        (ended.acknowledged, ended.stopped) == (case.acknowledged, Some(Stop::Sink)),
+        (ended.acknowledged, ended.stopped) == (case.acknowledged, Some(SessionStop::Sink)),
     );
     holds(rt, out.written() == case.replies.as_bytes());
     holds(rt, count_logs(rt, log_out.written()) == case.logs);
@@ -355,11 +355,11 @@ fn written_after(commands: u64) -> (&'static str, u64) {
 }
 
 // Says where the script ends once `commands` commands are acknowledged.
-fn stop_after(commands: u64) -> Option<Stop> {
+fn stop_after(commands: u64) -> Option<SessionStop> {
     if commands == 6 {
         None
     } else {
-        Some(Stop::Disk)
+        Some(SessionStop::Disk)
     }
 }
 
@@ -499,8 +499,8 @@ fn damaged_file<R: AllocGlobal + Abort>(rt: &R) -> Vec<u8> {
 }
 
 // Says whether a session stopped since page 4 holds no node.
-fn is_bad(stopped: &Option<Stop>) -> bool {
-    matches!(stopped, Some(Stop::Damaged(PageFault::Bad(4, _))))
+fn is_bad(stopped: &Option<SessionStop>) -> bool {
+    matches!(stopped, Some(SessionStop::Damaged(PageFault::Bad(4, _))))
 }
 
 // Checks that a session ends at the first command that comes to the page.

@@ -8,7 +8,7 @@ use Rattle.node_page.specs.declared.head.Head.{Head}
 use Rattle.node_page.specs.Opening.{OpensTo}
 use Rattle.prune_log.specs.Reading.{log_at, frames_at}
 use Rattle.file_jobs.specs.Spaces.{space_of}
-use Rattle.file_jobs.specs.declared.logs.stop.Stop.{Stop}
+use Rattle.file_jobs.specs.declared.logs.stop.LogStop.{LogStop}
 use Rattle.file_jobs.specs.Logs.Files.{read_of}
 use Rattle.file_jobs.specs.Logs.Sayings.{Saying}
 use Rattle.file_jobs.specs.Logs.Jobs.{Puts, Stops, Writes}
@@ -47,6 +47,6 @@ module _ (what : Marks) (d0 d1 d2 : DiskState) (bytes : List ℕ) (head : Head) 
   shows_all w0 w1 status either puts is = said_first status w0 w1 (λ tells. said_all (said_of what d2.bytes bytes head live nodes) w0 w1 status either (is tells) (puts tells))
 
   -- it stopped before
-  pub shows_some : (w0 w1 w2 : SinkState) (status : ℕ) (why : Stop) → w0.faults ≤ w1.faults
+  pub shows_some : (w0 w1 w2 : SinkState) (status : ℕ) (why : LogStop) → w0.faults ≤ w1.faults
       → (IsTrue d2.tells → Puts (said_of what d2.bytes bytes head live nodes).texts w0.written w1.written (Some why)) → Stops why w1 w2 status → WritesShown what d0 bytes w0 w2 status
   shows_some w0 w1 w2 status why later puts ends = said_first status w0 w2 (λ tells. said_some (said_of what d2.bytes bytes head live nodes) w0 w1 w2 status why later (puts tells) ends)

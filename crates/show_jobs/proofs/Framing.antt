@@ -4,7 +4,7 @@ use Rattle.std.specs.Option.{is_none}
 use Rattle.page_store.specs.Reading.{Read}
 use Rattle.page_store.specs.Shelf.{Shelf, HoldsSame}
 use Rattle.log_model.specs.declared.logs.Log.{Log}
-use Rattle.file_jobs.specs.declared.logs.stop.Stop.{Stop}
+use Rattle.file_jobs.specs.declared.logs.stop.LogStop.{LogStop}
 use Rattle.file_jobs.specs.Logs.Sayings.{are_sound}
 use Rattle.file_jobs.specs.Logs.Jobs.{Puts}
 use Rattle.show_jobs.specs.declared.view.View.{View}
@@ -23,7 +23,7 @@ module _ (view : View) (old mid : Shelf) (same : HoldsSame old mid) (i : ℕ) (l
       one_more texts (text_by view old.read i log) (texts_by view old.read (i + 1) logs) w0 w1 w2 before (subst (λ (read : Read). Puts (text_by view read i log ∷ []) w1 w2 None) same.read next)
 
   -- its text was not put whole
-  pub frame_stopped : (texts : List (List ℕ)) (w0 w1 w2 : Option (List ℕ)) (why : Stop) → HasPut texts (texts_by view old.read i (log ∷ logs)) w0 w1 → Puts (text_by view mid.read i log ∷ []) w1 w2 (Some why)
+  pub frame_stopped : (texts : List (List ℕ)) (w0 w1 w2 : Option (List ℕ)) (why : LogStop) → HasPut texts (texts_by view old.read i (log ∷ logs)) w0 w1 → Puts (text_by view mid.read i log ∷ []) w1 w2 (Some why)
       → Puts texts w0 w2 (Some why)
   frame_stopped texts w0 w1 w2 why before next =
       then_put texts (texts_by view old.read i (log ∷ logs)) w0 w1 w2 (Some why) before

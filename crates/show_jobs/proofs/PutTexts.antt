@@ -6,12 +6,12 @@ use Rattle.std.specs.Io.KnownBytes.{Appends}
 use Rattle.std.proofs.lemmas.List.{append-nil}
 use Rattle.std.proofs.lemmas.List.Folds.{concat-append}
 use Rattle.std.proofs.KnownBytes.{Appends-nil, Appends-trans}
-use Rattle.file_jobs.specs.declared.logs.stop.Stop.{Stop}
-use Rattle.file_jobs.specs.declared.logs.stop.Stop.TheVariants as stop
+use Rattle.file_jobs.specs.declared.logs.stop.LogStop.{LogStop}
+use Rattle.file_jobs.specs.declared.logs.stop.LogStop.TheVariants as stop
 use Rattle.file_jobs.specs.Logs.Jobs.{Puts, Follows}
 
 -- nothing is put
-pub none_put : {A : Type 0} (w : Option (List ℕ)) (texts : List (List ℕ)) (why : Stop) → (IsErrOf {T = A} {E = Stop} (Err why) stop.Sink → ⊥) → Puts texts w w (Some why)
+pub none_put : {A : Type 0} (w : Option (List ℕ)) (texts : List (List ℕ)) (why : LogStop) → (IsErrOf {T = A} {E = LogStop} (Err why) stop.Sink → ⊥) → Puts texts w w (Some why)
 none_put w texts stop.Sink other = absurd (other refl)
 none_put w texts stop.Disk other = record { put = []; more = texts; middle = w; whole = refl; written = Appends-nil w; follows = refl }
 none_put w texts stop.Memory other = record { put = []; more = texts; middle = w; whole = refl; written = Appends-nil w; follows = refl }
@@ -29,7 +29,7 @@ pub begun : (texts : List (List ℕ)) (w : Option (List ℕ)) → HasPut texts t
 begun texts w = record { put = []; whole = refl; written = Appends-nil w }
 
 -- the others are put
-pub then_put : (texts more : List (List ℕ)) (w0 w1 w2 : Option (List ℕ)) (why : Option Stop) → HasPut texts more w0 w1 → Puts more w1 w2 why → Puts texts w0 w2 why
+pub then_put : (texts more : List (List ℕ)) (w0 w1 w2 : Option (List ℕ)) (why : Option LogStop) → HasPut texts more w0 w1 → Puts more w1 w2 why → Puts texts w0 w2 why
 then_put texts more w0 w1 w2 why before next = record {
   put = before.put ++ next.put;
   more = next.more;
@@ -57,13 +57,13 @@ one_more texts text more w0 w1 w2 before next =
       written = subst (λ (bs : List ℕ). Appends w0 w2 bs) (sym (concat-append before.put now.put)) (Appends-trans w0 w1 w2 (concat before.put) (concat now.put) before.written now.written);
     }
 
-follows_more : (why : Stop) (more others : List (List ℕ)) (middle new : Option (List ℕ)) → Follows (Some why) more middle new → Follows (Some why) (more ++ others) middle new
+follows_more : (why : LogStop) (more others : List (List ℕ)) (middle new : Option (List ℕ)) → Follows (Some why) more middle new → Follows (Some why) (more ++ others) middle new
 follows_more stop.Sink more others middle new cut = (cut.0, cut.1 ++ others, ap (λ (ts : List (List ℕ)). ts ++ others) cut.2, cut.3)
 follows_more stop.Disk more others middle new same = same
 follows_more stop.Memory more others middle new same = same
 
 -- it stopped among these, before others
-pub stopped_put : (texts others : List (List ℕ)) (w0 w1 : Option (List ℕ)) (why : Stop) → Puts texts w0 w1 (Some why) → Puts (texts ++ others) w0 w1 (Some why)
+pub stopped_put : (texts others : List (List ℕ)) (w0 w1 : Option (List ℕ)) (why : LogStop) → Puts texts w0 w1 (Some why) → Puts (texts ++ others) w0 w1 (Some why)
 stopped_put texts others w0 w1 why puts = record {
   put = puts.put;
   more = puts.more ++ others;
@@ -74,5 +74,5 @@ stopped_put texts others w0 w1 why puts = record {
 }
 
 -- these are put, and then others
-pub both_put : (texts others : List (List ℕ)) (w0 w1 w2 : Option (List ℕ)) (why : Option Stop) → Puts texts w0 w1 None → Puts others w1 w2 why → Puts (texts ++ others) w0 w2 why
+pub both_put : (texts others : List (List ℕ)) (w0 w1 w2 : Option (List ℕ)) (why : Option LogStop) → Puts texts w0 w1 None → Puts others w1 w2 why → Puts (texts ++ others) w0 w2 why
 both_put texts others w0 w1 w2 why first next = then_put (texts ++ others) others w0 w1 w2 why (has_put texts others w0 w1 first) next

@@ -16,7 +16,7 @@ use crate::shown::Walk;
 use crate::texts::frame_text;
 use crate::view::View;
 use crate::walking::show_records;
-use file_jobs::logs::{Report, Stop, put, undecoded_text};
+use file_jobs::logs::{LogStop, Report, put, undecoded_text};
 use log_model::{Log, radius_of};
 use log_verify::{Verdict, verify};
 use metric_laws::{Meter, Metric};
@@ -51,25 +51,25 @@ fn judge<P: Pages>(
     view: &View,
     pages: &mut P,
     log: &Log,
-) -> Result<Option<Verdict>, Stop>
+) -> Result<Option<Verdict>, LogStop>
     requires { IsLawfulLog log.now }
     ensures same { HoldsSame (P.shelf pages.old) (P.shelf pages.new) }
     ensures keeps { P.keeps pages.old pages.new }
     ensures told { IfOk result (λ found. IsTrue (P.shelf pages.old).tells → fault_by view.now (P.shelf pages.old).read log.now ≡ found) }
-    ensures disk { IsErrOf result Stop.Disk → Rose (P.shelf pages.old).faults (P.shelf pages.new).faults }
-    ensures not_sink { IsErrOf result Stop.Sink → ⊥ }
+    ensures disk { IsErrOf result LogStop.Disk → Rose (P.shelf pages.old).faults (P.shelf pages.new).faults }
+    ensures not_sink { IsErrOf result LogStop.Sink → ⊥ }
 {
     let mut ruler = Meter::new(view.space);
     match verify(alloc, pages, &mut ruler, &view.live, log) {
         Ok(_) => Ok(None),
-        Err(Verdict::Memory) => Err(Stop::Memory),
-        Err(Verdict::Page(PageFault::Disk)) => Err(Stop::Disk),
+        Err(Verdict::Memory) => Err(LogStop::Memory),
+        Err(Verdict::Page(PageFault::Disk)) => Err(LogStop::Disk),
         Err(why) => Ok(Some(why)),
     }
 }
 
 // Shows the walk of a log. Nothing is shown where it names another tree, or its point is not one of the space.
-fn show_walk<P: Pages>(alloc: Global, view: &View, pages: &mut P, log: &Log) -> Result<Walk, Stop>
+fn show_walk<P: Pages>(alloc: Global, view: &View, pages: &mut P, log: &Log) -> Result<Walk, LogStop>
     requires { IsLawfulLog log.now }
     ensures same { HoldsSame (P.shelf pages.old) (P.shelf pages.new) }
     ensures keeps { P.keeps pages.old pages.new }
@@ -78,8 +78,8 @@ fn show_walk<P: Pages>(alloc: Global, view: &View, pages: &mut P, log: &Log) -> 
     ensures counts { IfOk result (λ walk. IsTrue (P.shelf pages.old).tells →
         walk.counts ≡ (shown_of (space_in view.now.space) (P.shelf pages.old).read view.now.live log.now).counts) }
     ensures few { IfOk result (λ walk. walk.counts.fars + walk.counts.nears < 2 ^ 64) }
-    ensures disk { IsErrOf result Stop.Disk → Rose (P.shelf pages.old).faults (P.shelf pages.new).faults }
-    ensures not_sink { IsErrOf result Stop.Sink → ⊥ }
+    ensures disk { IsErrOf result LogStop.Disk → Rose (P.shelf pages.old).faults (P.shelf pages.new).faults }
+    ensures not_sink { IsErrOf result LogStop.Sink → ⊥ }
 {
     if !names_tree(view, log) {
         return Ok(Walk::begin(alloc, Vec::new(alloc)));
@@ -100,7 +100,7 @@ fn show_frame<P: Pages, K: Sink>(
     frame: u64,
     log: Log,
     out: &mut K,
-) -> Result<bool, Stop>
+) -> Result<bool, LogStop>
     requires { IsLawfulLog log }
     ensures same { HoldsSame (P.shelf pages.old) (P.shelf pages.new) }
     ensures keeps { P.keeps pages.old pages.new }
@@ -109,8 +109,8 @@ fn show_frame<P: Pages, K: Sink>(
     ensures sound { IfOk result (λ sound. IsTrue (P.shelf pages.old).tells →
         sound ≡ is_none (fault_by view.now (P.shelf pages.old).read log)) }
     ensures later { (K.state out.old).faults ≤ (K.state out.new).faults }
-    ensures output { IsErrOf result Stop.Sink → Rose (K.state out.old).faults (K.state out.new).faults }
-    ensures disk { IsErrOf result Stop.Disk → Rose (P.shelf pages.old).faults (P.shelf pages.new).faults }
+    ensures output { IsErrOf result LogStop.Sink → Rose (K.state out.old).faults (K.state out.new).faults }
+    ensures disk { IsErrOf result LogStop.Disk → Rose (P.shelf pages.old).faults (P.shelf pages.new).faults }
 {
     let fault = judge(alloc, view, pages, &log)?;
     let walk = show_walk(alloc, view, pages, &log)?;
@@ -126,7 +126,7 @@ fn show_frames<P: Pages, K: Sink>(
     pages: &mut P,
     logs: Vec<Log>,
     out: &mut K,
-) -> Result<bool, Stop>
+) -> Result<bool, LogStop>
     requires { All IsLawfulLog logs.items }
     ensures same { HoldsSame (P.shelf pages.old) (P.shelf pages.new) }
     ensures keeps { P.keeps pages.old pages.new }
@@ -135,8 +135,8 @@ fn show_frames<P: Pages, K: Sink>(
     ensures sound { IfOk result (λ sound. IsTrue (P.shelf pages.old).tells →
         sound ≡ are_sound (fault_by view.now (P.shelf pages.old).read) logs.items) }
     ensures later { (K.state out.old).faults ≤ (K.state out.new).faults }
-    ensures output { IsErrOf result Stop.Sink → Rose (K.state out.old).faults (K.state out.new).faults }
-    ensures disk { IsErrOf result Stop.Disk → Rose (P.shelf pages.old).faults (P.shelf pages.new).faults }
+    ensures output { IsErrOf result LogStop.Sink → Rose (K.state out.old).faults (K.state out.new).faults }
+    ensures disk { IsErrOf result LogStop.Disk → Rose (P.shelf pages.old).faults (P.shelf pages.new).faults }
 {
     let mut frame = 0;
     let mut sound = true;
@@ -149,11 +149,11 @@ fn show_frames<P: Pages, K: Sink>(
 }
 
 // Puts what stands above the texts on logs.
-fn put_head<K: Sink>(marks: Marks, out: &mut K) -> Result<(), Stop>
+fn put_head<K: Sink>(marks: Marks, out: &mut K) -> Result<(), LogStop>
     ensures puts { Puts (head_texts marks) (K.state out.old).written (K.state out.new).written (stop_of result) }
     ensures later { (K.state out.old).faults ≤ (K.state out.new).faults }
-    ensures output { IsErrOf result Stop.Sink → Rose (K.state out.old).faults (K.state out.new).faults }
-    ensures not_disk { IsErrOf result Stop.Disk → ⊥ }
+    ensures output { IsErrOf result LogStop.Sink → Rose (K.state out.old).faults (K.state out.new).faults }
+    ensures not_disk { IsErrOf result LogStop.Disk → ⊥ }
 {
     match marks {
         Marks::Each => Ok(()),
@@ -179,7 +179,7 @@ fn show_all<P: Pages, K: Sink>(
     pages: &mut P,
     logs: Vec<Log>,
     out: &mut K,
-) -> Result<bool, Stop>
+) -> Result<bool, LogStop>
     requires { All IsLawfulLog logs.items }
     ensures same { HoldsSame (P.shelf pages.old) (P.shelf pages.new) }
     ensures keeps { P.keeps pages.old pages.new }
@@ -188,8 +188,8 @@ fn show_all<P: Pages, K: Sink>(
     ensures sound { IfOk result (λ sound. IsTrue (P.shelf pages.old).tells →
         sound ≡ are_sound (fault_by view.now (P.shelf pages.old).read) logs.items) }
     ensures later { (K.state out.old).faults ≤ (K.state out.new).faults }
-    ensures output { IsErrOf result Stop.Sink → Rose (K.state out.old).faults (K.state out.new).faults }
-    ensures disk { IsErrOf result Stop.Disk → Rose (P.shelf pages.old).faults (P.shelf pages.new).faults }
+    ensures output { IsErrOf result LogStop.Sink → Rose (K.state out.old).faults (K.state out.new).faults }
+    ensures disk { IsErrOf result LogStop.Disk → Rose (P.shelf pages.old).faults (P.shelf pages.new).faults }
 {
     put_head(view.marks, out)?;
     let sound = show_frames(alloc, view, pages, logs, out)?;
@@ -204,7 +204,7 @@ pub fn show_bytes<P: Pages, K: Sink>(
     pages: &mut P,
     bytes: &[u8],
     out: &mut K,
-) -> Result<Status, Stop>
+) -> Result<Status, LogStop>
     ensures same { HoldsSame (P.shelf pages.old) (P.shelf pages.new) }
     ensures keeps { P.keeps pages.old pages.new }
     ensures puts { IsTrue (P.shelf pages.old).tells →
@@ -214,12 +214,12 @@ pub fn show_bytes<P: Pages, K: Sink>(
         status.0 ≡ (said_by view.now (P.shelf pages.old).read (frames_at log_at bytes.now)).status) }
     ensures statuses { IfOk result (λ status. (status.0 ≡ 0) ⊎ (status.0 ≡ 1)) }
     ensures later { (K.state out.old).faults ≤ (K.state out.new).faults }
-    ensures output { IsErrOf result Stop.Sink → Rose (K.state out.old).faults (K.state out.new).faults }
-    ensures disk { IsErrOf result Stop.Disk → Rose (P.shelf pages.old).faults (P.shelf pages.new).faults }
+    ensures output { IsErrOf result LogStop.Sink → Rose (K.state out.old).faults (K.state out.new).faults }
+    ensures disk { IsErrOf result LogStop.Disk → Rose (P.shelf pages.old).faults (P.shelf pages.new).faults }
 {
     let logs = match decode_frames(alloc, bytes) {
         Ok(logs) => logs,
-        Err(LogFault::Memory) => return Err(Stop::Memory),
+        Err(LogFault::Memory) => return Err(LogStop::Memory),
         Err(fault) => {
             put(out, undecoded_text(fault))?;
             return Ok(Status(1));

@@ -15,7 +15,7 @@ use crate::frames::show_bytes;
 use crate::stops::stop_at;
 use crate::view::View;
 use disk_model::Disk;
-use file_jobs::logs::Stop;
+use file_jobs::logs::LogStop;
 use file_jobs::space_of;
 use node_page::Head;
 use outside_io::{Sink, Status};
@@ -39,12 +39,12 @@ pub struct Docket<'a> {
 }
 
 // Returns the number of the tree's nodes, or `None` where its walk stops at damage.
-fn nodes_in<P: Pages>(alloc: Global, pages: &mut P, live: &Live) -> Result<Option<u32>, Stop>
+fn nodes_in<P: Pages>(alloc: Global, pages: &mut P, live: &Live) -> Result<Option<u32>, LogStop>
     ensures keeps { P.keeps pages.old pages.new }
     ensures later { (P.shelf pages.old).faults ≤ (P.shelf pages.new).faults }
     ensures nodes { IfOk result (λ nodes. IsTrue (P.shelf pages.old).tells → AreNodes (P.shelf pages.old).read live.now nodes) }
-    ensures disk { IsErrOf result Stop.Disk → Rose (P.shelf pages.old).faults (P.shelf pages.new).faults }
-    ensures not_sink { IsErrOf result Stop.Sink → ⊥ }
+    ensures disk { IsErrOf result LogStop.Disk → Rose (P.shelf pages.old).faults (P.shelf pages.new).faults }
+    ensures not_sink { IsErrOf result LogStop.Sink → ⊥ }
 {
     tour_has_one_course();
     match count_nodes(alloc, pages, live) {
@@ -61,15 +61,15 @@ pub fn count_opened<D: Disk>(
     alloc: Global,
     index: &mut D,
     opened: &(Head, Live),
-) -> Result<Option<u32>, Stop>
+) -> Result<Option<u32>, LogStop>
     requires head { IsLawfulHead opened.now.0 }
     requires pages { opened.now.1.pages ≤ 2 ^ 24 }
     ensures same { IsUnchanged (D.state index.old) (D.state index.new) }
     ensures nodes { IfOk result (λ nodes. IsTrue (D.state index.old).tells →
         AreNodes (read_of (D.state index.old).bytes opened.now.0 opened.now.1) opened.now.1 nodes) }
     ensures later { (D.state index.old).faults ≤ (D.state index.new).faults }
-    ensures disk { IsErrOf result Stop.Disk → Rose (D.state index.old).faults (D.state index.new).faults }
-    ensures not_sink { IsErrOf result Stop.Sink → ⊥ }
+    ensures disk { IsErrOf result LogStop.Disk → Rose (D.state index.old).faults (D.state index.new).faults }
+    ensures not_sink { IsErrOf result LogStop.Sink → ⊥ }
 {
     let (head, live) = opened;
     let mut pages = DiskPages::new(index, head.dim, live.pages);
@@ -83,7 +83,7 @@ pub fn show_opened<D: Disk, K: Sink>(
     index: &mut D,
     opened: &(Head, Live),
     out: &mut K,
-) -> Result<Status, Stop>
+) -> Result<Status, LogStop>
     requires head { IsLawfulHead opened.now.0 }
     requires pages { opened.now.1.pages ≤ 2 ^ 24 }
     ensures same { IsUnchanged (D.state index.old) (D.state index.new) }
@@ -96,8 +96,8 @@ pub fn show_opened<D: Disk, K: Sink>(
         opened.now.1 docket.now.nodes (frames_at log_at docket.now.bytes.now)).status) }
     ensures statuses { IfOk result (λ status. (status.0 ≡ 0) ⊎ (status.0 ≡ 1)) }
     ensures later { (K.state out.old).faults ≤ (K.state out.new).faults }
-    ensures output { IsErrOf result Stop.Sink → Rose (K.state out.old).faults (K.state out.new).faults }
-    ensures disk { IsErrOf result Stop.Disk → Rose (D.state index.old).faults (D.state index.new).faults }
+    ensures output { IsErrOf result LogStop.Sink → Rose (K.state out.old).faults (K.state out.new).faults }
+    ensures disk { IsErrOf result LogStop.Disk → Rose (D.state index.old).faults (D.state index.new).faults }
 {
     empty_cache_agrees();
     let (head, live) = opened;
@@ -107,9 +107,7 @@ pub fn show_opened<D: Disk, K: Sink>(
         live: *live,
         nodes: docket.nodes,
     };
-    let Ok(kept) = Kept::new(alloc, KEPT_NODES) else {
-        return Err(Stop::Memory);
-    };
+    let kept = Kept::new(alloc, KEPT_NODES)?;
     let pages = DiskPages::new(index, head.dim, live.pages);
     let mut pages = Cached::from_parts(pages, kept);
     let shown = show_bytes(alloc, &view, &mut pages, docket.bytes, out);

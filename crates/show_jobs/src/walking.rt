@@ -13,7 +13,7 @@ use crate::nodes::show_node;
 use crate::shown::Walk;
 use crate::stops::stop_at;
 use crate::{Coming, Counts};
-use file_jobs::logs::Stop;
+use file_jobs::logs::LogStop;
 use log_model::{Need, Record, entry_count};
 use outside_io::Memory;
 use page_store::{Pages, SharedNode};
@@ -60,13 +60,13 @@ fn node_told<P: Pages>(
     pages: &mut P,
     page: u32,
     told: &Record,
-) -> Result<Option<SharedNode>, Stop>
+) -> Result<Option<SharedNode>, LogStop>
     ensures same { HoldsSame (P.shelf pages.old) (P.shelf pages.new) }
     ensures keeps { P.keeps pages.old pages.new }
     ensures node { IfOk result (λ found. IsTrue (P.shelf pages.old).tells → found ≡ node_told (P.shelf pages.old).read page told.now) }
     ensures long { IfOk result (λ found. IfSome found (λ node. length told.now.marks ≡ entry_count node)) }
-    ensures disk { IsErrOf result Stop.Disk → Rose (P.shelf pages.old).faults (P.shelf pages.new).faults }
-    ensures not_sink { IsErrOf result Stop.Sink → ⊥ }
+    ensures disk { IsErrOf result LogStop.Disk → Rose (P.shelf pages.old).faults (P.shelf pages.new).faults }
+    ensures not_sink { IsErrOf result LogStop.Sink → ⊥ }
 {
     if told.page != page {
         return Ok(None);
@@ -91,7 +91,7 @@ fn show_record<P: Pages>(
     gauge: Gauge,
     told: &Record,
     walk: &mut Walk,
-) -> Result<(), Stop>
+) -> Result<(), LogStop>
     requires deep { AreUpTo (2 ^ 32 - 2) (reverse walk.old.stack.items) }
     requires small { AreSmall (with_marks told.now.marks walk.old.counts) }
     ensures same { HoldsSame (P.shelf pages.old) (P.shelf pages.new) }
@@ -102,8 +102,8 @@ fn show_record<P: Pages>(
     ensures depths { OnOk result ((depth : ℕ) → AreUpTo depth (reverse walk.old.stack.items) →
         AreUpTo (depth + 1) (reverse walk.new.stack.items)) }
     ensures counts { OnOk result ((walk.new.counts ≡ walk.old.counts) ⊎ (walk.new.counts ≡ with_marks told.now.marks walk.old.counts)) }
-    ensures disk { IsErrOf result Stop.Disk → Rose (P.shelf pages.old).faults (P.shelf pages.new).faults }
-    ensures not_sink { IsErrOf result Stop.Sink → ⊥ }
+    ensures disk { IsErrOf result LogStop.Disk → Rose (P.shelf pages.old).faults (P.shelf pages.new).faults }
+    ensures not_sink { IsErrOf result LogStop.Sink → ⊥ }
 {
     let Some(coming) = walk.stack.pop() else {
         return Ok(());
@@ -123,7 +123,7 @@ pub fn show_records<P: Pages>(
     gauge: Gauge,
     root: u32,
     records: &[Record],
-) -> Result<Walk, Stop>
+) -> Result<Walk, LogStop>
     requires few { length records.now < 2 ^ 32 }
     requires marks { AllByRecursion (λ r. length r.marks ≤ 32) records.now }
     ensures same { HoldsSame (P.shelf pages.old) (P.shelf pages.new) }
@@ -133,8 +133,8 @@ pub fn show_records<P: Pages>(
     ensures counts { IfOk result (λ walk. IsTrue (P.shelf pages.old).tells → walk.counts ≡
         (shown (search_by gauge.entry) (P.shelf pages.old).read (root_coming root ∷ []) records.now).counts) }
     ensures few { IfOk result (λ walk. walk.counts.fars + walk.counts.nears < 2 ^ 64) }
-    ensures disk { IsErrOf result Stop.Disk → Rose (P.shelf pages.old).faults (P.shelf pages.new).faults }
-    ensures not_sink { IsErrOf result Stop.Sink → ⊥ }
+    ensures disk { IsErrOf result LogStop.Disk → Rose (P.shelf pages.old).faults (P.shelf pages.new).faults }
+    ensures not_sink { IsErrOf result LogStop.Sink → ⊥ }
 {
     let mut walk = begin_at(alloc, root)?;
     for told in records {

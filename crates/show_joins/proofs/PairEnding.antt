@@ -6,7 +6,7 @@ use Rattle.outside_io.proofs.Published.{rose_before}
 use Rattle.disk_model.specs.Disk.{DiskState, IsUnchanged}
 use Rattle.tree_shape.specs.declared.live.Live.{Live}
 use Rattle.node_page.specs.declared.head.Head.{Head}
-use Rattle.file_jobs.specs.declared.logs.stop.Stop.{Stop}
+use Rattle.file_jobs.specs.declared.logs.stop.LogStop.{LogStop}
 use Rattle.file_jobs.specs.Logs.Jobs.{Puts, Stops, Writes}
 use Rattle.file_jobs.proofs.Published.{said_all, said_some}
 use Rattle.join_jobs.specs.Trees.{IsOpened, Tree, is_one_space, read_of, tree_of}
@@ -63,6 +63,6 @@ module _ (what : Marks) (d0 d1 d2 e0 e1 e2 : DiskState) (bytes : List ℕ) (l r 
   shows_all w0 w1 status either puts is = said_first status w0 w1 (λ t u. said_all (said_on what (tree_of d2 l) (tree_of e2 r) nodes bytes) w0 w1 status either (is t u) (puts t u))
 
   -- it stopped before
-  pub shows_some : (w0 w1 w2 : SinkState) (status : ℕ) (why : Stop) → w0.faults ≤ w1.faults
+  pub shows_some : (w0 w1 w2 : SinkState) (status : ℕ) (why : LogStop) → w0.faults ≤ w1.faults
       → (IsTrue d2.tells → IsTrue e2.tells → Puts (said_on what (tree_of d2 l) (tree_of e2 r) nodes bytes).texts w0.written w1.written (Some why)) → Stops why w1 w2 status → WritesShown what d0 e0 bytes w0 w2 status
   shows_some w0 w1 w2 status why later puts ends = said_first status w0 w2 (λ t u. said_some (said_on what (tree_of d2 l) (tree_of e2 r) nodes bytes) w0 w1 w2 status why later (puts t u) ends)

@@ -4,7 +4,7 @@ use Rattle.std.specs.Option.{is_none}
 use Rattle.page_store.specs.Reading.{Read}
 use Rattle.page_store.specs.Shelf.{Shelf}
 use Rattle.log_model.specs.declared.logs.JoinLog.{JoinLog}
-use Rattle.file_jobs.specs.declared.logs.stop.Stop.{Stop}
+use Rattle.file_jobs.specs.declared.logs.stop.LogStop.{LogStop}
 use Rattle.file_jobs.specs.Logs.Sayings.{are_sound}
 use Rattle.file_jobs.specs.Logs.Jobs.{Puts}
 use Rattle.show_jobs.proofs.Published.{HasPut, one_more, then_put, stopped_put}
@@ -27,7 +27,7 @@ module _ (view : JoinView) (l lm r rm : Shelf) (same : HoldBoth l lm r rm) (i : 
       one_more texts (text_by view l.read r.read i log) (texts_by view l.read r.read (i + 1) logs) w0 w1 w2 before (earlier (λ a b. Puts (text_by view a b i log ∷ []) w1 w2 None) next)
 
   -- its text was not put whole
-  pub frame_stopped : (texts : List (List ℕ)) (w0 w1 w2 : Option (List ℕ)) (why : Stop) → HasPut texts (texts_by view l.read r.read i (log ∷ logs)) w0 w1 → Puts (text_by view lm.read rm.read i log ∷ []) w1 w2 (Some why)
+  pub frame_stopped : (texts : List (List ℕ)) (w0 w1 w2 : Option (List ℕ)) (why : LogStop) → HasPut texts (texts_by view l.read r.read i (log ∷ logs)) w0 w1 → Puts (text_by view lm.read rm.read i log ∷ []) w1 w2 (Some why)
       → Puts texts w0 w2 (Some why)
   frame_stopped texts w0 w1 w2 why before next =
       then_put texts (texts_by view l.read r.read i (log ∷ logs)) w0 w1 w2 (Some why) before

@@ -16,7 +16,7 @@ use crate::shown::PairWalk;
 use crate::texts::frame_text;
 use crate::view::JoinView;
 use crate::walking::show_records;
-use file_jobs::logs::{Stop, put, undecoded_text};
+use file_jobs::logs::{LogStop, put, undecoded_text};
 use log_model::JoinLog;
 use log_verify::{JoinVerdict, verify_join};
 use metric_laws::{BOUND, Meter};
@@ -39,15 +39,15 @@ fn judge<P: Pages, Q: Pages>(
     left: &mut P,
     right: &mut Q,
     log: &JoinLog,
-) -> Result<Option<JoinVerdict>, Stop>
+) -> Result<Option<JoinVerdict>, LogStop>
     requires { IsLawfulJoinLog log.now }
     ensures same { HoldBoth (P.shelf left.old) (P.shelf left.new) (Q.shelf right.old) (Q.shelf right.new) }
     ensures left_keeps { P.keeps left.old left.new }
     ensures right_keeps { Q.keeps right.old right.new }
     ensures told { IfOk result (λ found. IsTrue (P.shelf left.old).tells → IsTrue (Q.shelf right.old).tells →
         fault_by view.now (P.shelf left.old).read (Q.shelf right.old).read log.now ≡ found) }
-    ensures disk { IsErrOf result Stop.Disk → OneRose (P.shelf left.old) (P.shelf left.new) (Q.shelf right.old) (Q.shelf right.new) }
-    ensures not_sink { IsErrOf result Stop.Sink → ⊥ }
+    ensures disk { IsErrOf result LogStop.Disk → OneRose (P.shelf left.old) (P.shelf left.new) (Q.shelf right.old) (Q.shelf right.new) }
+    ensures not_sink { IsErrOf result LogStop.Sink → ⊥ }
 {
     let mut ruler = Meter::new(view.space);
     match verify_join(
@@ -60,13 +60,13 @@ fn judge<P: Pages, Q: Pages>(
         log,
     ) {
         Ok(_) => Ok(None),
-        Err(JoinVerdict::Memory) => Err(Stop::Memory),
+        Err(JoinVerdict::Memory) => Err(LogStop::Memory),
         Err(
             JoinVerdict::Page {
                 fault: PageFault::Disk,
                 ..
             },
-        ) => Err(Stop::Disk),
+        ) => Err(LogStop::Disk),
         Err(why) => Ok(Some(why)),
     }
 }
@@ -78,15 +78,15 @@ fn show_walk<P: Pages, Q: Pages>(
     left: &mut P,
     right: &mut Q,
     log: &JoinLog,
-) -> Result<PairWalk, Stop>
+) -> Result<PairWalk, LogStop>
     requires { IsLawfulJoinLog log.now }
     ensures same { HoldBoth (P.shelf left.old) (P.shelf left.new) (Q.shelf right.old) (Q.shelf right.new) }
     ensures left_keeps { P.keeps left.old left.new }
     ensures right_keeps { Q.keeps right.old right.new }
     ensures shown { IfOk result (λ walk. IsTrue (P.shelf left.old).tells → IsTrue (Q.shelf right.old).tells → walk_shown walk ≡
         shown_of (space_in view.now.space) (P.shelf left.old).read (Q.shelf right.old).read view.now.left view.now.right log.now) }
-    ensures disk { IsErrOf result Stop.Disk → OneRose (P.shelf left.old) (P.shelf left.new) (Q.shelf right.old) (Q.shelf right.new) }
-    ensures not_sink { IsErrOf result Stop.Sink → ⊥ }
+    ensures disk { IsErrOf result LogStop.Disk → OneRose (P.shelf left.old) (P.shelf left.new) (Q.shelf right.old) (Q.shelf right.new) }
+    ensures not_sink { IsErrOf result LogStop.Sink → ⊥ }
 {
     if !names(log.left, &view.left) || !names(log.right, &view.right) {
         return Ok(PairWalk::begin(view.alloc, Vec::new(view.alloc)));
@@ -98,7 +98,7 @@ fn show_walk<P: Pages, Q: Pages>(
     };
     let records = log.records.as_slice();
     if u32::try_from(records.len()).is_err() {
-        return Err(Stop::Memory);
+        return Err(LogStop::Memory);
     }
     let begun = PairWalk::begin_at(view.alloc, &view.left, &view.right)?;
     show_records(search, left, right, begun, records)
@@ -112,7 +112,7 @@ fn show_frame<P: Pages, Q: Pages, K: Sink>(
     frame: u64,
     log: JoinLog,
     out: &mut K,
-) -> Result<bool, Stop>
+) -> Result<bool, LogStop>
     requires { IsLawfulJoinLog log }
     ensures same { HoldBoth (P.shelf left.old) (P.shelf left.new) (Q.shelf right.old) (Q.shelf right.new) }
     ensures left_keeps { P.keeps left.old left.new }
@@ -123,8 +123,8 @@ fn show_frame<P: Pages, Q: Pages, K: Sink>(
     ensures sound { IfOk result (λ sound. IsTrue (P.shelf left.old).tells → IsTrue (Q.shelf right.old).tells →
         sound ≡ is_none (fault_by view.now (P.shelf left.old).read (Q.shelf right.old).read log)) }
     ensures later { (K.state out.old).faults ≤ (K.state out.new).faults }
-    ensures output { IsErrOf result Stop.Sink → Rose (K.state out.old).faults (K.state out.new).faults }
-    ensures disk { IsErrOf result Stop.Disk → OneRose (P.shelf left.old) (P.shelf left.new) (Q.shelf right.old) (Q.shelf right.new) }
+    ensures output { IsErrOf result LogStop.Sink → Rose (K.state out.old).faults (K.state out.new).faults }
+    ensures disk { IsErrOf result LogStop.Disk → OneRose (P.shelf left.old) (P.shelf left.new) (Q.shelf right.old) (Q.shelf right.new) }
 {
     let fault = judge(view, left, right, &log)?;
     let walk = show_walk(view, left, right, &log)?;
@@ -140,7 +140,7 @@ fn show_frames<P: Pages, Q: Pages, K: Sink>(
     right: &mut Q,
     logs: Vec<JoinLog>,
     out: &mut K,
-) -> Result<bool, Stop>
+) -> Result<bool, LogStop>
     requires { All IsLawfulJoinLog logs.items }
     ensures same { HoldBoth (P.shelf left.old) (P.shelf left.new) (Q.shelf right.old) (Q.shelf right.new) }
     ensures left_keeps { P.keeps left.old left.new }
@@ -151,8 +151,8 @@ fn show_frames<P: Pages, Q: Pages, K: Sink>(
     ensures sound { IfOk result (λ sound. IsTrue (P.shelf left.old).tells → IsTrue (Q.shelf right.old).tells →
         sound ≡ are_sound (fault_by view.now (P.shelf left.old).read (Q.shelf right.old).read) logs.items) }
     ensures later { (K.state out.old).faults ≤ (K.state out.new).faults }
-    ensures output { IsErrOf result Stop.Sink → Rose (K.state out.old).faults (K.state out.new).faults }
-    ensures disk { IsErrOf result Stop.Disk → OneRose (P.shelf left.old) (P.shelf left.new) (Q.shelf right.old) (Q.shelf right.new) }
+    ensures output { IsErrOf result LogStop.Sink → Rose (K.state out.old).faults (K.state out.new).faults }
+    ensures disk { IsErrOf result LogStop.Disk → OneRose (P.shelf left.old) (P.shelf left.new) (Q.shelf right.old) (Q.shelf right.new) }
 {
     let mut frame = 0;
     let mut sound = true;
@@ -165,11 +165,11 @@ fn show_frames<P: Pages, Q: Pages, K: Sink>(
 }
 
 // Puts what stands above the texts on logs.
-fn put_head<K: Sink>(marks: Marks, out: &mut K) -> Result<(), Stop>
+fn put_head<K: Sink>(marks: Marks, out: &mut K) -> Result<(), LogStop>
     ensures puts { Puts (head_texts marks) (K.state out.old).written (K.state out.new).written (stop_of result) }
     ensures later { (K.state out.old).faults ≤ (K.state out.new).faults }
-    ensures output { IsErrOf result Stop.Sink → Rose (K.state out.old).faults (K.state out.new).faults }
-    ensures not_disk { IsErrOf result Stop.Disk → ⊥ }
+    ensures output { IsErrOf result LogStop.Sink → Rose (K.state out.old).faults (K.state out.new).faults }
+    ensures not_disk { IsErrOf result LogStop.Disk → ⊥ }
 {
     match marks {
         Marks::Each => Ok(()),
@@ -187,7 +187,7 @@ fn show_all<P: Pages, Q: Pages, K: Sink>(
     right: &mut Q,
     logs: Vec<JoinLog>,
     out: &mut K,
-) -> Result<bool, Stop>
+) -> Result<bool, LogStop>
     requires { All IsLawfulJoinLog logs.items }
     ensures same { HoldBoth (P.shelf left.old) (P.shelf left.new) (Q.shelf right.old) (Q.shelf right.new) }
     ensures left_keeps { P.keeps left.old left.new }
@@ -198,8 +198,8 @@ fn show_all<P: Pages, Q: Pages, K: Sink>(
     ensures sound { IfOk result (λ sound. IsTrue (P.shelf left.old).tells → IsTrue (Q.shelf right.old).tells →
         sound ≡ are_sound (fault_by view.now (P.shelf left.old).read (Q.shelf right.old).read) logs.items) }
     ensures later { (K.state out.old).faults ≤ (K.state out.new).faults }
-    ensures output { IsErrOf result Stop.Sink → Rose (K.state out.old).faults (K.state out.new).faults }
-    ensures disk { IsErrOf result Stop.Disk → OneRose (P.shelf left.old) (P.shelf left.new) (Q.shelf right.old) (Q.shelf right.new) }
+    ensures output { IsErrOf result LogStop.Sink → Rose (K.state out.old).faults (K.state out.new).faults }
+    ensures disk { IsErrOf result LogStop.Disk → OneRose (P.shelf left.old) (P.shelf left.new) (Q.shelf right.old) (Q.shelf right.new) }
 {
     put_head(view.marks, out)?;
     let sound = show_frames(view, left, right, logs, out)?;
@@ -214,7 +214,7 @@ pub fn show_bytes<P: Pages, Q: Pages, K: Sink>(
     right: &mut Q,
     bytes: &[u8],
     out: &mut K,
-) -> Result<Status, Stop>
+) -> Result<Status, LogStop>
     ensures same { HoldBoth (P.shelf left.old) (P.shelf left.new) (Q.shelf right.old) (Q.shelf right.new) }
     ensures left_keeps { P.keeps left.old left.new }
     ensures right_keeps { Q.keeps right.old right.new }
@@ -225,12 +225,12 @@ pub fn show_bytes<P: Pages, Q: Pages, K: Sink>(
         status.0 ≡ (said_by view.now (P.shelf left.old).read (Q.shelf right.old).read (frames_at join_log_at bytes.now)).status) }
     ensures statuses { IfOk result (λ status. (status.0 ≡ 0) ⊎ (status.0 ≡ 1)) }
     ensures later { (K.state out.old).faults ≤ (K.state out.new).faults }
-    ensures output { IsErrOf result Stop.Sink → Rose (K.state out.old).faults (K.state out.new).faults }
-    ensures disk { IsErrOf result Stop.Disk → OneRose (P.shelf left.old) (P.shelf left.new) (Q.shelf right.old) (Q.shelf right.new) }
+    ensures output { IsErrOf result LogStop.Sink → Rose (K.state out.old).faults (K.state out.new).faults }
+    ensures disk { IsErrOf result LogStop.Disk → OneRose (P.shelf left.old) (P.shelf left.new) (Q.shelf right.old) (Q.shelf right.new) }
 {
     let logs = match decode_join_frames(view.alloc, bytes) {
         Ok(logs) => logs,
-        Err(LogFault::Memory) => return Err(Stop::Memory),
+        Err(LogFault::Memory) => return Err(LogStop::Memory),
         Err(fault) => {
             put(out, undecoded_text(fault))?;
             return Ok(Status(1));

@@ -11,7 +11,7 @@ ghost use Rattle.show_joins.specs.Jobs.{said_on, showing_trees};
 use crate::frames::show_bytes;
 use crate::view::JoinView;
 use disk_model::Disk;
-use file_jobs::logs::{Stop, put};
+use file_jobs::logs::{LogStop, put};
 use file_jobs::space_of;
 use join_jobs::{REJECTED_SPACES, Trees};
 use outside_io::{Sink, Status};
@@ -38,7 +38,7 @@ pub fn count_both<D: Disk, E: Disk>(
     index: &mut D,
     other: &mut E,
     trees: &Trees,
-) -> Result<(Option<u32>, Option<u32>), Stop>
+) -> Result<(Option<u32>, Option<u32>), LogStop>
     requires { AreLawful trees.now }
     ensures same { IsUnchanged (D.state index.old) (D.state index.new) }
     ensures other_same { IsUnchanged (E.state other.old) (E.state other.new) }
@@ -48,8 +48,9 @@ pub fn count_both<D: Disk, E: Disk>(
         AreNodes (read_of (tree_of (E.state other.old) trees.now.right)) trees.now.right.1 nodes.1) }
     ensures later { (D.state index.old).faults ≤ (D.state index.new).faults }
     ensures other_later { (E.state other.old).faults ≤ (E.state other.new).faults }
-    ensures disk { IsErrOf result Stop.Disk → EitherRose (D.state index.old) (D.state index.new) (E.state other.old) (E.state other.new) }
-    ensures not_sink { IsErrOf result Stop.Sink → ⊥ }
+    ensures disk { IsErrOf result LogStop.Disk → EitherRose (D.state index.old) (D.state index.new)
+        (E.state other.old) (E.state other.new) }
+    ensures not_sink { IsErrOf result LogStop.Sink → ⊥ }
 {
     if !trees.have_one_space() {
         return Ok((None, None));
@@ -67,7 +68,7 @@ fn show_opened<D: Disk, E: Disk, K: Sink>(
     other: &mut E,
     trees: &Trees,
     out: &mut K,
-) -> Result<Status, Stop>
+) -> Result<Status, LogStop>
     requires lawful { AreLawful trees.now }
     requires one_space { is_one_space trees.now.left.0 trees.now.right.0 ≡ true }
     ensures same { IsUnchanged (D.state index.old) (D.state index.new) }
@@ -81,8 +82,9 @@ fn show_opened<D: Disk, E: Disk, K: Sink>(
         (tree_of (E.state other.old) trees.now.right) docket.now.nodes docket.now.bytes.now).status) }
     ensures statuses { IfOk result (λ status. (status.0 ≡ 0) ⊎ (status.0 ≡ 1)) }
     ensures later { (K.state out.old).faults ≤ (K.state out.new).faults }
-    ensures output { IsErrOf result Stop.Sink → Rose (K.state out.old).faults (K.state out.new).faults }
-    ensures disk { IsErrOf result Stop.Disk → EitherRose (D.state index.old) (D.state index.new) (E.state other.old) (E.state other.new) }
+    ensures output { IsErrOf result LogStop.Sink → Rose (K.state out.old).faults (K.state out.new).faults }
+    ensures disk { IsErrOf result LogStop.Disk → EitherRose (D.state index.old) (D.state index.new)
+        (E.state other.old) (E.state other.new) }
 {
     empty_cache_agrees();
     let (left, right) = (&trees.left, &trees.right);
@@ -94,12 +96,8 @@ fn show_opened<D: Disk, E: Disk, K: Sink>(
         right: right.1,
         nodes: docket.nodes,
     };
-    let (Ok(left_kept), Ok(right_kept)) = (
-        Kept::new(alloc, KEPT_NODES),
-        Kept::new(alloc, KEPT_NODES),
-    ) else {
-        return Err(Stop::Memory);
-    };
+    let left_kept = Kept::new(alloc, KEPT_NODES)?;
+    let right_kept = Kept::new(alloc, KEPT_NODES)?;
     let left_pages = DiskPages::new(index, left.0.dim, left.1.pages);
     let right_pages = DiskPages::new(other, right.0.dim, right.1.pages);
     let mut left_pages = Cached::from_parts(left_pages, left_kept);
@@ -118,7 +116,7 @@ pub fn show_trees<D: Disk, E: Disk, K: Sink>(
     other: &mut E,
     trees: &Trees,
     out: &mut K,
-) -> Result<Status, Stop>
+) -> Result<Status, LogStop>
     requires { AreLawful trees.now }
     ensures same { IsUnchanged (D.state index.old) (D.state index.new) }
     ensures other_same { IsUnchanged (E.state other.old) (E.state other.new) }
@@ -131,8 +129,9 @@ pub fn show_trees<D: Disk, E: Disk, K: Sink>(
         (tree_of (E.state other.old) trees.now.right) docket.now.nodes docket.now.bytes.now).status) }
     ensures statuses { IfOk result (λ status. (status.0 ≡ 0) ⊎ (status.0 ≡ 1)) }
     ensures later { (K.state out.old).faults ≤ (K.state out.new).faults }
-    ensures output { IsErrOf result Stop.Sink → Rose (K.state out.old).faults (K.state out.new).faults }
-    ensures disk { IsErrOf result Stop.Disk → EitherRose (D.state index.old) (D.state index.new) (E.state other.old) (E.state other.new) }
+    ensures output { IsErrOf result LogStop.Sink → Rose (K.state out.old).faults (K.state out.new).faults }
+    ensures disk { IsErrOf result LogStop.Disk → EitherRose (D.state index.old) (D.state index.new)
+        (E.state other.old) (E.state other.new) }
 {
     if !trees.have_one_space() {
         put(out, REJECTED_SPACES)?;

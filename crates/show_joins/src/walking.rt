@@ -17,7 +17,7 @@ use crate::PairComing;
 use crate::entries::{PairGauge, PairSearch};
 use crate::nodes::show_node;
 use crate::shown::PairWalk;
-use file_jobs::logs::Stop;
+use file_jobs::logs::LogStop;
 use log_model::{JoinNeed, JoinRecord, Mark, Matches, entry_count};
 use outside_io::Memory;
 use page_store::{Pages, SharedNode};
@@ -77,13 +77,13 @@ fn node_marked<P: Pages>(
     pages: &mut P,
     page: u32,
     marks: &[Mark],
-) -> Result<Option<SharedNode>, Stop>
+) -> Result<Option<SharedNode>, LogStop>
     ensures same { HoldsSame (P.shelf pages.old) (P.shelf pages.new) }
     ensures keeps { P.keeps pages.old pages.new }
     ensures node { IfOk result (λ found. IsTrue (P.shelf pages.old).tells → found ≡ node_marked marks.now ((P.shelf pages.old).read page)) }
     ensures long { IfOk result (λ found. IfSome found (λ node. length marks.now ≡ entry_count node)) }
-    ensures disk { IsErrOf result Stop.Disk → Rose (P.shelf pages.old).faults (P.shelf pages.new).faults }
-    ensures not_sink { IsErrOf result Stop.Sink → ⊥ }
+    ensures disk { IsErrOf result LogStop.Disk → Rose (P.shelf pages.old).faults (P.shelf pages.new).faults }
+    ensures not_sink { IsErrOf result LogStop.Sink → ⊥ }
 {
     let shared = match pages.node(alloc, page) {
         Ok(shared) => shared,
@@ -105,15 +105,15 @@ fn node_told<P: Pages, Q: Pages>(
     right: &mut Q,
     need: &JoinNeed,
     told: &JoinRecord,
-) -> Result<Option<SharedNode>, Stop>
+) -> Result<Option<SharedNode>, LogStop>
     ensures same { HoldBoth (P.shelf left.old) (P.shelf left.new) (Q.shelf right.old) (Q.shelf right.new) }
     ensures left_keeps { P.keeps left.old left.new }
     ensures right_keeps { Q.keeps right.old right.new }
     ensures node { IfOk result (λ found. IsTrue (P.shelf left.old).tells → IsTrue (Q.shelf right.old).tells →
         found ≡ node_told (P.shelf left.old).read (Q.shelf right.old).read need.now told.now) }
     ensures long { IfOk result (λ found. IfSome found (λ node. length told.now.marks ≡ entry_count node)) }
-    ensures disk { IsErrOf result Stop.Disk → OneRose (P.shelf left.old) (P.shelf left.new) (Q.shelf right.old) (Q.shelf right.new) }
-    ensures not_sink { IsErrOf result Stop.Sink → ⊥ }
+    ensures disk { IsErrOf result LogStop.Disk → OneRose (P.shelf left.old) (P.shelf left.new) (Q.shelf right.old) (Q.shelf right.new) }
+    ensures not_sink { IsErrOf result LogStop.Sink → ⊥ }
 {
     if !is_of(need, told) {
         return Ok(None);
@@ -134,7 +134,7 @@ fn show_record<P: Pages, Q: Pages>(
     right: &mut Q,
     told: &JoinRecord,
     walk: &mut PairWalk,
-) -> Result<(), Stop>
+) -> Result<(), LogStop>
     requires deep { AreUpTo (2 ^ 32 - 2) (reverse walk.old.stack.items) }
     requires short { length told.now.marks ≤ 32 }
     requires small { AreSmall (with_marks told.now.marks walk.old.counts) }
@@ -151,8 +151,8 @@ fn show_record<P: Pages, Q: Pages>(
         AreUpTo (depth + 1) (reverse walk.new.stack.items)) }
     ensures counts { OnOk result ((walk.new.counts ≡ walk.old.counts) ⊎ (walk.new.counts ≡ with_marks told.now.marks walk.old.counts)) }
     ensures measured { OnOk result (walk.new.measured ≤ walk.old.measured + 64) }
-    ensures disk { IsErrOf result Stop.Disk → OneRose (P.shelf left.old) (P.shelf left.new) (Q.shelf right.old) (Q.shelf right.new) }
-    ensures not_sink { IsErrOf result Stop.Sink → ⊥ }
+    ensures disk { IsErrOf result LogStop.Disk → OneRose (P.shelf left.old) (P.shelf left.new) (Q.shelf right.old) (Q.shelf right.new) }
+    ensures not_sink { IsErrOf result LogStop.Sink → ⊥ }
 {
     let Some(coming) = walk.stack.pop() else {
         return Ok(());
@@ -176,7 +176,7 @@ pub fn show_records<P: Pages, Q: Pages>(
     right: &mut Q,
     begun: PairWalk,
     records: &[JoinRecord],
-) -> Result<PairWalk, Stop>
+) -> Result<PairWalk, LogStop>
     requires few { length records.now < 2 ^ 32 }
     requires marks { AllByRecursion (λ r. length r.marks ≤ 32) records.now }
     requires lines { begun.lines.items ≡ [] }
@@ -189,8 +189,8 @@ pub fn show_records<P: Pages, Q: Pages>(
     ensures shown { IfOk result (λ walk. IsTrue (P.shelf left.old).tells → IsTrue (Q.shelf right.old).tells →
         walk_shown walk ≡ shown (search_by search) (P.shelf left.old).read (Q.shelf right.old).read
         (reverse begun.stack.items) records.now) }
-    ensures disk { IsErrOf result Stop.Disk → OneRose (P.shelf left.old) (P.shelf left.new) (Q.shelf right.old) (Q.shelf right.new) }
-    ensures not_sink { IsErrOf result Stop.Sink → ⊥ }
+    ensures disk { IsErrOf result LogStop.Disk → OneRose (P.shelf left.old) (P.shelf left.new) (Q.shelf right.old) (Q.shelf right.new) }
+    ensures not_sink { IsErrOf result LogStop.Sink → ⊥ }
 {
     let mut walk = begun;
     for told in records {

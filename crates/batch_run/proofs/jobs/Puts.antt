@@ -11,8 +11,8 @@ use Rattle.metric_laws.proofs.Published.{all_append}
 use Rattle.answer_texts.specs.Put.{IsCut}
 use Rattle.answer_texts.proofs.Published.{cut_behind}
 use Rattle.batch_run.specs.declared.jobs.piles.Prepared.{Prepared}
-use Rattle.batch_run.specs.declared.jobs.stop.Stop.{Stop}
-use Rattle.batch_run.specs.declared.jobs.stop.Stop.TheVariants as stop
+use Rattle.batch_run.specs.declared.jobs.stop.BatchStop.{BatchStop}
+use Rattle.batch_run.specs.declared.jobs.stop.BatchStop.TheVariants as stop
 use Rattle.batch_run.specs.Jobs.Putting.{ArePut, Follows, IsDone, IsPut, all_logged, all_said, logged, said}
 use Rattle.outside_io.proofs.Published.{rose_before}
 
@@ -52,7 +52,7 @@ module _ (ps : List Prepared) (o : Prepared) (out0 out1 out2 log0 log1 log2 : Si
 
   module _ (all others : List Prepared) (whole : all ≡ ps ++ o ∷ others) where
     -- nothing was put of it
-    silent : (why : Stop) → Follows (o ∷ others) [] [] (Err why) → out2 ≡ out1 → log2 ≡ log1 → ArePut all out0 out2 log0 log2 (Err why)
+    silent : (why : BatchStop) → Follows (o ∷ others) [] [] (Err why) → out2 ≡ out1 → log2 ≡ log1 → ArePut all out0 out2 log0 log2 (Err why)
     silent why follows out_same log_same = record {
       put = ps;
       left = o ∷ others;
@@ -80,7 +80,7 @@ module _ (ps : List Prepared) (o : Prepared) (out0 out1 out2 log0 log1 log2 : Si
           framed = behind.logged;
         }
 
-    pub stopped : (why : Stop) → IsPut o out1 out2 log1 log2 (Err why) → ArePut all out0 out2 log0 log2 (Err why)
+    pub stopped : (why : BatchStop) → IsPut o out1 out2 log1 log2 (Err why) → ArePut all out0 out2 log0 log2 (Err why)
     stopped (stop.Damaged fault) put = silent (stop.Damaged fault) ((others, ap (λ (p : Prepared). p ∷ others) put.0), refl, refl) put.1 put.2
     stopped stop.Sink put = cut put.0 put.1
 

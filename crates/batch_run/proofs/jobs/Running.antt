@@ -27,8 +27,8 @@ use Rattle.image_answers.specs.Outcomes.{HasDamage, IsOutcomeOf, IsTold as IsAns
 use Rattle.batch_run.specs.declared.jobs.piles.Prepared.{Prepared}
 use Rattle.batch_run.specs.declared.jobs.piles.Prepared.TheVariants as prepared
 use Rattle.batch_run.specs.Jobs.Preparing.{IsPrepared, IsPreparedFor}
-use Rattle.batch_run.specs.declared.jobs.stop.Stop.{Stop}
-use Rattle.batch_run.specs.declared.jobs.stop.Stop.TheVariants as stop
+use Rattle.batch_run.specs.declared.jobs.stop.BatchStop.{BatchStop}
+use Rattle.batch_run.specs.declared.jobs.stop.BatchStop.TheVariants as stop
 use Rattle.batch_run.specs.Jobs.Putting.{ArePut, HasEnded, all_logged, all_said, logged, said}
 use Rattle.batch_run.specs.Jobs.Batches.{HasFinished, IsCutShort, RunsOn}
 
@@ -107,7 +107,7 @@ module _ (s : Space) (live : Live) (image : List ℕ) (show : Bool) where
         }
 
     module _ (sound : Sound) (commands : List Command) (all : List Prepared) (script_is : commands ≡ script s.words bytes) (zipped : AllZip (IsPreparedFor s live image show) commands all) (out1 log1 : SinkState) where
-      module _ (result : Result (Unit {0}) Stop) (put : ArePut all out0 out1 log0 log1 result) where
+      module _ (result : Result (Unit {0}) BatchStop) (put : ArePut all out0 out1 log0 log1 result) where
         pub parts : (front : List Command) × (more : List Command) × (commands ≡ front ++ more) × AllZip (IsPreparedFor s live image show) front put.put × AllZip (IsPreparedFor s live image show) more put.left
         parts = zipped_split (IsPreparedFor s live image show) commands put.put put.left (subst (λ (ps : List Prepared). AllZip (IsPreparedFor s live image show) commands ps) put.whole zipped)
 
@@ -189,7 +189,7 @@ module _ (s : Space) (live : Live) (image : List ℕ) (show : Bool) where
       no_damage c (outcome.Done r log) fault is ready = absurd ready
       no_damage c (outcome.Damaged named) fault is ready = absurd (is.meant sound)
 
-      pub stopped : (why : Stop) (status : ℕ) (out2 : SinkState) → ArePut all out0 out1 log0 log1 (Err why) → out0.faults ≤ out1.faults → HasEnded why out1 out2 status → RunsOn show bytes s held out0 out2 log0 log1 status
+      pub stopped : (why : BatchStop) (status : ℕ) (out2 : SinkState) → ArePut all out0 out1 log0 log1 (Err why) → out0.faults ≤ out1.faults → HasEnded why out1 out2 status → RunsOn show bytes s held out0 out2 log0 log1 status
       stopped stop.Sink status out2 put later ended = subst (λ (o : SinkState). RunsOn show bytes s held out0 o log0 log1 status) (sym ended.1) (cut_short status put ended.0)
       stopped (stop.Damaged fault) status out2 put later ended =
           let p = parts (Err (stop.Damaged fault)) put in
@@ -217,7 +217,7 @@ module _ (s : Space) (live : Live) (image : List ℕ) (show : Bool) where
       at [] zip = absurd zip
       at (c ∷ ds) zip = damage_by c zip.0.0 fault zip.0.1 zip.0.2
 
-  pub finished : (commands : List Command) (all : List Prepared) (out0 out1 out2 log0 log1 : SinkState) (why : Stop) (status : ℕ) → AllZip (IsPreparedFor s live image show) commands all →
+  pub finished : (commands : List Command) (all : List Prepared) (out0 out1 out2 log0 log1 : SinkState) (why : BatchStop) (status : ℕ) → AllZip (IsPreparedFor s live image show) commands all →
       ArePut all out0 out1 log0 log1 (Err why) → out0.faults ≤ out1.faults → out1.faults ≤ out2.faults → HasEnded why out1 out2 status →
       (why ≡ stop.Sink → Rose out0.faults out1.faults ⊎ Rose log0.faults log1.faults) → HasFinished s live image out0 out2 log0 log1 status
   finished commands all out0 out1 out2 log0 log1 stop.Sink status zipped put grown later ended rose = record {

@@ -37,7 +37,8 @@ fn audit_by<R: Threads + Sync, D: SharedDisk>(
         → audit_fault (space_of head.now) (reading head.now.dim live.now.pages (D.state disk.old).bytes) live.now ≡ None) }
     ensures objects { IfOk result (λ a. a.objects ≡ live.now.count) }
     ensures nodes { IfOk result (λ a. IsTrue (D.state disk.old).tells
-        → a.nodes ≡ length (pages_at (nodes_of (reading head.now.dim live.now.pages (D.state disk.old).bytes)) live.now.height live.now.root)) }
+        → a.nodes ≡ length (pages_at (nodes_of (reading head.now.dim live.now.pages (D.state disk.old).bytes))
+        live.now.height live.now.root)) }
     ensures err { IfErr result (HasFault (D.state disk.old) (D.state disk.new).faults
         (audit_fault (space_of head.now) (reading head.now.dim live.now.pages (D.state disk.old).bytes) live.now)) }
     ensures later { (D.state disk.old).faults ≤ (D.state disk.new).faults }

@@ -15,7 +15,7 @@ ghost use Rattle.batch_run.specs.Jobs.Putting.{HasEnded};
 use crate::dealing::Deal;
 use crate::jobs::preparing::{in_turn, prepare_all};
 use crate::jobs::putting::put_all;
-use crate::jobs::stop::Stop;
+use crate::jobs::stop::BatchStop;
 use crate::laws::images_hold_the_file;
 use crate::{ImageFault, read_parts};
 use disk_model::SharedDisk;
@@ -34,13 +34,13 @@ use std::thread::Threads;
 use tree_shape::Live;
 
 // Ends a batch that stopped for the reason `why`.
-fn end_stopped<K: Sink>(alloc: Global, why: Stop, out: &mut K) -> Status
+fn end_stopped<K: Sink>(alloc: Global, why: BatchStop, out: &mut K) -> Status
     ensures ended { HasEnded why (K.state out.old) (K.state out.new) result.0 }
     ensures later { (K.state out.old).faults ≤ (K.state out.new).faults }
 {
     match why {
-        Stop::Sink => Status(4),
-        Stop::Damaged(fault) => end_at_page(alloc, fault, out),
+        BatchStop::Sink => Status(4),
+        BatchStop::Damaged(fault) => end_at_page(alloc, fault, out),
     }
 }
 
@@ -74,8 +74,8 @@ fn run_on_image<R: Threads + Sync, K: Sink, T: Sink>(
     ensures runs { IsSoundTree (space_of head.now) (nodes_in head.now.dim live.now (bytes_in image.entry)) live.now →
         RunsOn task.now.show_tags task.now.bytes.now (space_of head.now) (held_in head.now.dim live.now (bytes_in image.entry))
         (K.state out.old) (K.state out.new) (T.state log_out.old) (T.state log_out.new) result.0 }
-    ensures finished { HasFinished (space_of head.now) live.now (bytes_in image.entry) (K.state out.old) (K.state out.new) (T.state log_out.old)
-        (T.state log_out.new) result.0 }
+    ensures finished { HasFinished (space_of head.now) live.now (bytes_in image.entry) (K.state out.old) (K.state out.new)
+        (T.state log_out.old) (T.state log_out.new) result.0 }
     ensures later { (K.state out.old).faults ≤ (K.state out.new).faults }
     ensures log_later { (T.state log_out.old).faults ≤ (T.state log_out.new).faults }
 {
@@ -176,7 +176,8 @@ pub fn run_batch<R: Threads + Sync, D: SharedDisk, S: Source, K: Sink, T: Sink>(
     ensures statuses { IsBatchStatus result.0 }
     // A failed read or write is told only where the object's count of faults rose.
     ensures input { result.0 ≡ 3 → Rose (S.faults input.old) (S.faults input.new) }
-    ensures output { result.0 ≡ 4 → Rose (K.state out.old).faults (K.state out.new).faults ⊎ Rose (T.state log_out.old).faults (T.state log_out.new).faults }
+    ensures output { result.0 ≡ 4 → Rose (K.state out.old).faults (K.state out.new).faults
+        ⊎ Rose (T.state log_out.old).faults (T.state log_out.new).faults }
     ensures long { IsTooLong (S.left input.old) (S.left input.new) (D.state index.old) result.0 }
     // A batch that is done has taken all input.
     ensures end { result.0 ≡ 0 → IsAtEnd (S.left input.new) }

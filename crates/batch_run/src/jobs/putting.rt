@@ -5,7 +5,7 @@ ghost use Rattle.outside_io.specs.Causes.{Rose};
 ghost use Rattle.batch_run.specs.Jobs.Putting.{ArePut, IsPut};
 
 use crate::jobs::piles::Prepared;
-use crate::jobs::stop::Stop;
+use crate::jobs::stop::BatchStop;
 use answer_texts::put_texts;
 use outside_io::Sink;
 
@@ -14,19 +14,16 @@ fn put_one<K: Sink, T: Sink>(
     prepared: &Prepared<'_>,
     out: &mut K,
     log_out: &mut T,
-) -> Result<(), Stop>
+) -> Result<(), BatchStop>
     ensures put { IsPut prepared.now (K.state out.old) (K.state out.new) (T.state log_out.old) (T.state log_out.new) result }
-    ensures rose { IsErrOf result Stop.Sink → Rose (K.state out.old).faults (K.state out.new).faults
+    ensures rose { IsErrOf result BatchStop.Sink → Rose (K.state out.old).faults (K.state out.new).faults
         ⊎ Rose (T.state log_out.old).faults (T.state log_out.new).faults }
     ensures later { (K.state out.old).faults ≤ (K.state out.new).faults }
     ensures log_later { (T.state log_out.old).faults ≤ (T.state log_out.new).faults }
 {
     match prepared {
-        Prepared::Damaged(fault) => Err(Stop::Damaged(*fault)),
-        Prepared::Said { reply, frame } => match put_texts(reply, frame, out, log_out) {
-            Ok(()) => Ok(()),
-            Err(_) => Err(Stop::Sink),
-        },
+        Prepared::Damaged(fault) => Err(BatchStop::Damaged(*fault)),
+        Prepared::Said { reply, frame } => Ok(put_texts(reply, frame, out, log_out)?),
     }
 }
 
@@ -36,17 +33,15 @@ pub fn put_all<K: Sink, T: Sink>(
     prepared: &[Prepared<'_>],
     out: &mut K,
     log_out: &mut T,
-) -> Result<(), Stop>
+) -> Result<(), BatchStop>
     ensures put { ArePut prepared.now (K.state out.old) (K.state out.new) (T.state log_out.old) (T.state log_out.new) result }
-    ensures rose { IsErrOf result Stop.Sink → Rose (K.state out.old).faults (K.state out.new).faults
+    ensures rose { IsErrOf result BatchStop.Sink → Rose (K.state out.old).faults (K.state out.new).faults
         ⊎ Rose (T.state log_out.old).faults (T.state log_out.new).faults }
     ensures later { (K.state out.old).faults ≤ (K.state out.new).faults }
     ensures log_later { (T.state log_out.old).faults ≤ (T.state log_out.new).faults }
 {
     for one in prepared {
-        if let Err(why) = put_one(one, out, log_out) {
-            return Err(why);
-        }
+        put_one(one, out, log_out)?;
     }
     Ok(())
 }

@@ -5,8 +5,8 @@ use Rattle.outside_io.specs.Bytes.{AppendsPrefix}
 use Rattle.outside_io.specs.Sinks.{SinkState, Tells}
 use Rattle.std.specs.Io.KnownBytes.{Appends}
 use Rattle.file_jobs.specs.Lines.{not_index_text}
-use Rattle.file_jobs.specs.declared.logs.stop.Stop.{Stop}
-use Rattle.file_jobs.specs.declared.logs.stop.Stop.TheVariants as stop
+use Rattle.file_jobs.specs.declared.logs.stop.LogStop.{LogStop}
+use Rattle.file_jobs.specs.declared.logs.stop.LogStop.TheVariants as stop
 use Rattle.file_jobs.specs.Logs.Sayings.{Saying}
 use Rattle.file_jobs.specs.Logs.Jobs.{Puts, Writes, Stops, IsCut, JudgesBytes, IsJudgeStatus, TakesLogs, EndsUnread, ReadsLogs}
 use Rattle.outside_io.proofs.Published.{rose_before}
@@ -51,7 +51,7 @@ tells_from w0 w1 w2 middle line is later told =
     (λ cut. inr (subst (λ (w : Option (List ℕ)). AppendsPrefix w w2.written line) is cut.0, rose_before w0.faults w1.faults w2.faults later cut.1)) told
 
 -- it stopped before
-pub said_some : (said : Saying) (w0 w1 w2 : SinkState) (status : ℕ) (why : Stop) → w0.faults ≤ w1.faults → Puts said.texts w0.written w1.written (Some why) → Stops why w1 w2 status → Writes status said w0 w2
+pub said_some : (said : Saying) (w0 w1 w2 : SinkState) (status : ℕ) (why : LogStop) → w0.faults ≤ w1.faults → Puts said.texts w0.written w1.written (Some why) → Stops why w1 w2 status → Writes status said w0 w2
 said_some said w0 w1 w2 status stop.Sink later puts ends = record {
   put = puts.put;
   more = puts.more;
@@ -107,7 +107,7 @@ module _ (Unchanged Says Failed : Type 0) (IsNoIndex : List ℕ → Type 0) (unc
   }
 
   -- it stopped before
-  pub judged_some : (why : Stop) (w0 w1 w2 : SinkState) (status : ℕ) → Stops why w1 w2 status → Says → (why ≡ stop.Disk → Failed) → JudgesBytes Unchanged Says Failed IsNoIndex w0 w2 status
+  pub judged_some : (why : LogStop) (w0 w1 w2 : SinkState) (status : ℕ) → Stops why w1 w2 status → Says → (why ≡ stop.Disk → Failed) → JudgesBytes Unchanged Says Failed IsNoIndex w0 w2 status
   judged_some stop.Sink w0 w1 w2 status ends says failed = record {
     unchanged = unchanged;
     done = λ _. says;

@@ -2,7 +2,7 @@
 use Rattle.std.proofs.Common.{◌≡◌, ℕ, ◌+◌, ◌&&◌, Bool, true, false, List, [], ◌∷◌, Option, Some, None, refl, sym, subst, ◌∙◌, ap}
 use Rattle.std.specs.Option.{is_none}
 use Rattle.file_jobs.specs.declared.logs.report.Report.{Report}
-use Rattle.file_jobs.specs.declared.logs.stop.Stop.{Stop}
+use Rattle.file_jobs.specs.declared.logs.stop.LogStop.{LogStop}
 use Rattle.file_jobs.specs.Logs.Sayings.{Words, frame_text, frame_texts, are_sound}
 use Rattle.file_jobs.specs.Logs.Jobs.{Puts}
 use Rattle.file_jobs.proofs.logs.Puts.{HasPut, one_more, then_put, stopped_put}
@@ -16,7 +16,7 @@ frame_put {L} {V} words what first now i log logs texts w0 w1 w2 same before nex
     (subst (λ (judge : L → Option V). Puts (frame_text words what i log (judge log) ∷ []) w1 w2 None) same next)
 
 -- its text was not put whole
-pub frame_stopped : {L V : Type 0} (words : Words L V) (what : Report) (first now : L → Option V) (i : ℕ) (log : L) (logs : List L) (texts : List (List ℕ)) (w0 w1 w2 : Option (List ℕ)) (why : Stop) → now ≡ first
+pub frame_stopped : {L V : Type 0} (words : Words L V) (what : Report) (first now : L → Option V) (i : ℕ) (log : L) (logs : List L) (texts : List (List ℕ)) (w0 w1 w2 : Option (List ℕ)) (why : LogStop) → now ≡ first
     → HasPut texts (frame_texts words what first i (log ∷ logs)) w0 w1 → Puts (frame_text words what i log (now log) ∷ []) w1 w2 (Some why)
     → Puts texts w0 w2 (Some why)
 frame_stopped {L} {V} words what first now i log logs texts w0 w1 w2 why same before next =

@@ -5,14 +5,14 @@ use Rattle.std.specs.Io.KnownBytes.{Appends, Consumes, IsAtEnd}
 use Rattle.outside_io.specs.Bytes.{AppendsPrefix}
 use Rattle.outside_io.specs.Sinks.{SinkState, Tells}
 use Rattle.file_jobs.specs.Lines.{not_index_text}
-use Rattle.file_jobs.specs.declared.logs.stop.Stop.{Stop}
-use Rattle.file_jobs.specs.declared.logs.stop.Stop.TheVariants as stop
+use Rattle.file_jobs.specs.declared.logs.stop.LogStop.{LogStop}
+use Rattle.file_jobs.specs.declared.logs.stop.LogStop.TheVariants as stop
 use Rattle.file_jobs.specs.Logs.Sayings.{Saying}
 
 -- ---- what was put
 
 -- the stop of a call that stopped
-abbrev pub stop_of : {A : Type 0} → Result A Stop → Option Stop
+abbrev pub stop_of : {A : Type 0} → Result A LogStop → Option LogStop
 stop_of (Ok done) = None
 stop_of (Err why) = Some why
 
@@ -21,14 +21,14 @@ abbrev pub IsCut : List (List ℕ) → Option (List ℕ) → Option (List ℕ) �
 IsCut more middle new = (text : List ℕ) × (others : List (List ℕ)) × (more ≡ text ∷ others) × AppendsPrefix middle new text
 
 -- what was put after whole texts, where `more` are the others: nothing, or a front of the next text where out failed
-abbrev pub Follows : Option Stop → List (List ℕ) → Option (List ℕ) → Option (List ℕ) → Type 0
+abbrev pub Follows : Option LogStop → List (List ℕ) → Option (List ℕ) → Option (List ℕ) → Type 0
 Follows None more middle new = (more ≡ []) × (new ≡ middle)
 Follows (Some stop.Sink) more middle new = IsCut more middle new
 Follows (Some stop.Disk) more middle new = new ≡ middle
 Follows (Some stop.Memory) more middle new = new ≡ middle
 
 -- some of `texts` were put, each whole, and then what follows them
-pub record Puts (texts : List (List ℕ)) (old new : Option (List ℕ)) (why : Option Stop) : Type 0 where
+pub record Puts (texts : List (List ℕ)) (old new : Option (List ℕ)) (why : Option LogStop) : Type 0 where
   pub put : List (List ℕ)
   pub more : List (List ℕ)
   pub middle : Option (List ℕ)
@@ -39,7 +39,7 @@ pub record Puts (texts : List (List ℕ)) (old new : Option (List ℕ)) (why : O
 -- ---- by status
 
 -- what a stop puts, and its status
-abbrev pub Stops : Stop → SinkState → SinkState → ℕ → Type 0
+abbrev pub Stops : LogStop → SinkState → SinkState → ℕ → Type 0
 Stops stop.Sink old new status = (status ≡ 4) × (new ≡ old)
 Stops stop.Disk old new status = (status ≡ 5) × Tells old new (codes "fault disk\n")
 Stops stop.Memory old new status = (status ≡ 8) × Tells old new (codes "fault memory\n")

@@ -10,7 +10,7 @@ ghost use Rattle.file_jobs.specs.Logs.Sayings.{file_text};
 
 use crate::audit_opened;
 use crate::logs::putting::{file_text, put};
-use crate::logs::stop::Stop;
+use crate::logs::stop::LogStop;
 use disk_model::Disk;
 use node_page::Head;
 use outside_io::Sink;
@@ -24,20 +24,21 @@ fn audit_file<D: Disk>(
     alloc: Global,
     disk: &mut D,
     opened: &(Head, Live),
-) -> Result<Option<AuditFault>, Stop>
+) -> Result<Option<AuditFault>, LogStop>
     requires head { IsLawfulHead opened.now.0 }
     requires pages { opened.now.1.pages ≤ 2 ^ 24 }
     ensures same { IsUnchanged (D.state disk.old) (D.state disk.new) }
-    ensures told { IfOk result (λ found. IsTrue (D.state disk.old).tells → fault_of (D.state disk.old).bytes opened.now.0 opened.now.1 ≡ found) }
-    ensures disk { IsErrOf result Stop.Disk → Rose (D.state disk.old).faults (D.state disk.new).faults }
-    ensures not_sink { IsErrOf result Stop.Sink → ⊥ }
+    ensures told { IfOk result (λ found. IsTrue (D.state disk.old).tells →
+        fault_of (D.state disk.old).bytes opened.now.0 opened.now.1 ≡ found) }
+    ensures disk { IsErrOf result LogStop.Disk → Rose (D.state disk.old).faults (D.state disk.new).faults }
+    ensures not_sink { IsErrOf result LogStop.Sink → ⊥ }
     ensures later { (D.state disk.old).faults ≤ (D.state disk.new).faults }
     ensures reads { (D.state disk.new).reads ≤ (D.state disk.old).reads + max 1 opened.now.1.pages }
 {
     match audit_opened(alloc, disk, &opened.0, &opened.1) {
         Ok(_) => Ok(None),
-        Err(AuditFault::Memory) => Err(Stop::Memory),
-        Err(AuditFault::Page(PageFault::Disk)) => Err(Stop::Disk),
+        Err(AuditFault::Memory) => Err(LogStop::Memory),
+        Err(AuditFault::Page(PageFault::Disk)) => Err(LogStop::Disk),
         Err(why) => Ok(Some(why)),
     }
 }
@@ -49,7 +50,7 @@ pub fn put_audit<D: Disk, K: Sink>(
     disk: &mut D,
     opened: &(Head, Live),
     out: &mut K,
-) -> Result<bool, Stop>
+) -> Result<bool, LogStop>
     requires head { IsLawfulHead opened.now.0 }
     requires pages { opened.now.1.pages ≤ 2 ^ 24 }
     ensures same { IsUnchanged (D.state disk.old) (D.state disk.new) }
@@ -61,8 +62,8 @@ pub fn put_audit<D: Disk, K: Sink>(
     ensures later { (D.state disk.old).faults ≤ (D.state disk.new).faults }
     ensures reads { (D.state disk.new).reads ≤ (D.state disk.old).reads + max 1 opened.now.1.pages }
     ensures written_later { (K.state out.old).faults ≤ (K.state out.new).faults }
-    ensures output { IsErrOf result Stop.Sink → Rose (K.state out.old).faults (K.state out.new).faults }
-    ensures disk { IsErrOf result Stop.Disk → Rose (D.state disk.old).faults (D.state disk.new).faults }
+    ensures output { IsErrOf result LogStop.Sink → Rose (K.state out.old).faults (K.state out.new).faults }
+    ensures disk { IsErrOf result LogStop.Disk → Rose (D.state disk.old).faults (D.state disk.new).faults }
 {
     let fault = audit_file(alloc, disk, opened)?;
     let text = file_text(alloc, name, fault)?;

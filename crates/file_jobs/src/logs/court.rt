@@ -3,7 +3,7 @@ ghost use Rattle.prune_log.specs.Reading.{Gives};
 ghost use Rattle.prune_log.specs.declared.fault.LogFault.{LogFault};
 ghost use Rattle.file_jobs.specs.Logs.Sayings.{Words};
 
-use crate::logs::stop::Stop;
+use crate::logs::stop::LogStop;
 use outside_io::Memory;
 use prune_log::LogFault;
 use std::alloc::Global;
@@ -56,15 +56,15 @@ pub trait Court {
         ensures { OnOk result (out.new.items ≡ out.old.items ++ words.answers log) };
 
     /// Returns the first fault of `log`, if it has one.
-    fn judge(&mut self, alloc: Global, log: &Self::Log) -> Result<Option<Self::Verdict>, Stop>
+    fn judge(&mut self, alloc: Global, log: &Self::Log) -> Result<Option<Self::Verdict>, LogStop>
         requires { is_lawful log.now }
         ensures told { IfOk result (λ found. tells self.old → judges self.old log.now ≡ found) }
         ensures tells { tells self.old → tells self.new }
         ensures judges { judges self.new ≡ judges self.old }
         ensures keeps { keeps self.old self.new }
         ensures few { read_count self.new ≤ read_count self.old + most_reads log.now }
-        ensures disk { IsErrOf result Stop.Disk → failed self.old self.new }
-        ensures not_sink { IsErrOf result Stop.Sink → ⊥ };
+        ensures disk { IsErrOf result LogStop.Disk → failed self.old self.new }
+        ensures not_sink { IsErrOf result LogStop.Sink → ⊥ };
 
     /// Shows that no call keeps everything.
     ghost keeps_none: { (c : Self) → keeps c c };

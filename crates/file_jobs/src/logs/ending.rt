@@ -3,7 +3,7 @@ ghost use Rattle.std.specs.Prelude.{◌≡◌, ◌≤◌, IfOk, IfErr, OnOk};
 ghost use Rattle.outside_io.specs.Causes.{Rose};
 ghost use Rattle.file_jobs.specs.Logs.Jobs.{EndsUnread, Stops, TakesLogs};
 
-use crate::logs::stop::Stop;
+use crate::logs::stop::LogStop;
 use crate::{FAULT_DISK, FAULT_INPUT, FAULT_LONG, FAULT_MEMORY, MOST_LOGS, end_with};
 use outside_io::{ReadAll, Sink, Source, Status, read_all};
 use std::alloc::Global;
@@ -32,13 +32,13 @@ pub fn read_logs<S: Source, K: Sink>(
 }
 
 /// Ends a job that stopped for the reason `why`.
-pub fn end_stopped<K: Sink>(why: Stop, out: &mut K) -> Status
+pub fn end_stopped<K: Sink>(why: LogStop, out: &mut K) -> Status
     ensures ends { Stops why (K.state out.old) (K.state out.new) result.0 }
     ensures later { (K.state out.old).faults ≤ (K.state out.new).faults }
 {
     match why {
-        Stop::Sink => Status(4),
-        Stop::Disk => end_with(out, FAULT_DISK, 5),
-        Stop::Memory => end_with(out, FAULT_MEMORY, 8),
+        LogStop::Sink => Status(4),
+        LogStop::Disk => end_with(out, FAULT_DISK, 5),
+        LogStop::Memory => end_with(out, FAULT_MEMORY, 8),
     }
 }

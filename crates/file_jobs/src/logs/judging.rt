@@ -8,7 +8,7 @@ ghost use Rattle.file_jobs.specs.Logs.Sayings.{are_sound, frame_text, frame_text
 
 use crate::logs::lines::{push_frame, undecoded_text};
 use crate::logs::putting::{end_text, put};
-use crate::logs::stop::Stop;
+use crate::logs::stop::LogStop;
 use crate::logs::{Court, Report};
 use outside_io::{Memory, Sink, Status};
 use prune_log::LogFault;
@@ -49,7 +49,7 @@ fn judge_frame<C: Court, K: Sink>(
     frame: u64,
     log: C::Log,
     out: &mut K,
-) -> Result<bool, Stop>
+) -> Result<bool, LogStop>
     requires { C.is_lawful log }
     ensures puts { C.tells court.old → Puts (frame_text C.words report frame log (C.judges court.old log) ∷ [])
         (K.state out.old).written (K.state out.new).written (stop_of result) }
@@ -59,8 +59,8 @@ fn judge_frame<C: Court, K: Sink>(
     ensures keeps { C.keeps court.old court.new }
     ensures few { C.read_count court.new ≤ C.read_count court.old + C.most_reads log }
     ensures later { (K.state out.old).faults ≤ (K.state out.new).faults }
-    ensures output { IsErrOf result Stop.Sink → Rose (K.state out.old).faults (K.state out.new).faults }
-    ensures disk { IsErrOf result Stop.Disk → C.failed court.old court.new }
+    ensures output { IsErrOf result LogStop.Sink → Rose (K.state out.old).faults (K.state out.new).faults }
+    ensures disk { IsErrOf result LogStop.Disk → C.failed court.old court.new }
 {
     let fault = court.judge(alloc, &log)?;
     let text = frame_text::<C>(alloc, report, frame, log, fault)?;
@@ -75,7 +75,7 @@ fn judge_frames<C: Court, K: Sink>(
     court: &mut C,
     logs: Vec<C::Log>,
     out: &mut K,
-) -> Result<bool, Stop>
+) -> Result<bool, LogStop>
     requires { All C.is_lawful logs.items }
     ensures puts { C.tells court.old → Puts (frame_texts C.words report (C.judges court.old) 0 logs.items)
         (K.state out.old).written (K.state out.new).written (stop_of result) }
@@ -83,8 +83,8 @@ fn judge_frames<C: Court, K: Sink>(
     ensures keeps { C.keeps court.old court.new }
     ensures few { C.read_count court.new ≤ C.read_count court.old + sum_by C.most_reads logs.items }
     ensures later { (K.state out.old).faults ≤ (K.state out.new).faults }
-    ensures output { IsErrOf result Stop.Sink → Rose (K.state out.old).faults (K.state out.new).faults }
-    ensures disk { IsErrOf result Stop.Disk → C.failed court.old court.new }
+    ensures output { IsErrOf result LogStop.Sink → Rose (K.state out.old).faults (K.state out.new).faults }
+    ensures disk { IsErrOf result LogStop.Disk → C.failed court.old court.new }
 {
     let mut frame = 0;
     let mut sound = true;
@@ -103,7 +103,7 @@ pub fn judge_bytes<C: Court, K: Sink>(
     court: &mut C,
     bytes: &[u8],
     out: &mut K,
-) -> Result<Status, Stop>
+) -> Result<Status, LogStop>
     ensures puts { C.tells court.old → Puts (on_logs C.words report (C.judges court.old) (C.reads bytes.now)).texts
         (K.state out.old).written (K.state out.new).written (stop_of result) }
     ensures status { IfOk result (λ status. C.tells court.old →
@@ -112,12 +112,12 @@ pub fn judge_bytes<C: Court, K: Sink>(
     ensures keeps { C.keeps court.old court.new }
     ensures few { C.read_count court.new ≤ C.read_count court.old + reads_of C.most_reads (C.reads bytes.now) }
     ensures later { (K.state out.old).faults ≤ (K.state out.new).faults }
-    ensures output { IsErrOf result Stop.Sink → Rose (K.state out.old).faults (K.state out.new).faults }
-    ensures disk { IsErrOf result Stop.Disk → C.failed court.old court.new }
+    ensures output { IsErrOf result LogStop.Sink → Rose (K.state out.old).faults (K.state out.new).faults }
+    ensures disk { IsErrOf result LogStop.Disk → C.failed court.old court.new }
 {
     let logs = match C::read_frames(alloc, bytes) {
         Ok(logs) => logs,
-        Err(LogFault::Memory) => return Err(Stop::Memory),
+        Err(LogFault::Memory) => return Err(LogStop::Memory),
         Err(fault) => {
             put(out, undecoded_text(fault))?;
             return Ok(Status(1));

@@ -7,25 +7,22 @@ ghost use Rattle.file_jobs.specs.Logs.Jobs.{Puts, stop_of};
 ghost use Rattle.file_jobs.specs.Logs.Sayings.{end_text, file_text};
 
 use crate::logs::Report;
-use crate::logs::stop::Stop;
+use crate::logs::stop::LogStop;
 use crate::rejected_text;
 use outside_io::{Memory, Sink};
 use std::alloc::Global;
 use tree_audit::AuditFault;
 
 /// Puts a text.
-pub fn put<K: Sink>(out: &mut K, text: &[u8]) -> Result<(), Stop>
+pub fn put<K: Sink>(out: &mut K, text: &[u8]) -> Result<(), LogStop>
     ensures whole { OnOk result (Appends (K.state out.old).written (K.state out.new).written text.now) }
-    ensures cut { IfErr result (λ why. (why ≡ Stop.Sink) × AppendsPrefix (K.state out.old).written (K.state out.new).written text.now) }
+    ensures cut { IfErr result (λ why. (why ≡ LogStop.Sink) × AppendsPrefix (K.state out.old).written (K.state out.new).written text.now) }
     ensures puts { Puts (text.now ∷ []) (K.state out.old).written (K.state out.new).written (stop_of result) }
     ensures later { (K.state out.old).faults ≤ (K.state out.new).faults }
-    ensures output { IsErrOf result Stop.Sink → Rose (K.state out.old).faults (K.state out.new).faults }
-    ensures not_disk { IsErrOf result Stop.Disk → ⊥ }
+    ensures output { IsErrOf result LogStop.Sink → Rose (K.state out.old).faults (K.state out.new).faults }
+    ensures not_disk { IsErrOf result LogStop.Disk → ⊥ }
 {
-    match out.put(text) {
-        Ok(()) => Ok(()),
-        Err(_) => Err(Stop::Sink),
-    }
+    Ok(out.put(text)?)
 }
 
 /// Returns the line after all frames.

@@ -1,13 +1,14 @@
 // Why a job stopped before its end.
 ghost use Rattle.std.specs.Prelude.{◌≡◌};
-ghost use Rattle.file_jobs.specs.declared.logs.stop.Stop.TheVariants.{Memory as NoMemory};
+ghost use Rattle.file_jobs.specs.declared.logs.stop.LogStop.TheVariants as stop;
 
+use outside_io::Failed;
 use std::alloc::AllocError;
 use thiserror::Error;
 
 /// Why a job stopped before its end.
 #[derive(Clone, Copy, Debug, PartialEq, Eq, Error)]
-pub enum Stop {
+pub enum LogStop {
     /// A text could not be put.
     #[error("the output failed")]
     Sink,
@@ -19,10 +20,18 @@ pub enum Stop {
     Memory,
 }
 
-impl From<AllocError> for Stop {
-    ghost from_gives = { λ _ e. e ≡ NoMemory };
+impl From<AllocError> for LogStop {
+    ghost from_gives = { λ _ e. e ≡ stop.Memory };
 
-    fn from(_error: AllocError) -> Stop {
-        Stop::Memory
+    fn from(_error: AllocError) -> LogStop {
+        LogStop::Memory
+    }
+}
+
+impl From<Failed> for LogStop {
+    ghost from_gives = { λ _ e. e ≡ stop.Sink };
+
+    fn from(_failed: Failed) -> LogStop {
+        LogStop::Sink
     }
 }

@@ -6,7 +6,7 @@ use Rattle.outside_io.proofs.Published.{rose_before}
 use Rattle.file_jobs.proofs.Published.{none_of_three}
 use Rattle.dump_jobs.specs.Causes.{HasStop}
 use Rattle.dump_jobs.specs.Jobs.{fault_text, opened_shelf}
-use Rattle.dump_jobs.specs.declared.fault.Stop.TheVariants as stop
+use Rattle.dump_jobs.specs.declared.fault.DumpStop.TheVariants as stop
 use Rattle.dump_jobs.proofs.Opened.{damage_before, damaged_unsound, disk_rose, line_follows}
 use Rattle.dump_jobs.proofs.jobs.dump_index.Goals as goal
 

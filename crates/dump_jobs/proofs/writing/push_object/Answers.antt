@@ -4,15 +4,15 @@ use Rattle.page_store.specs.Shelf.{IsNodeOf}
 use Rattle.dump_jobs.proofs.Reading.{row_read}
 use Rattle.dump_jobs.proofs.writing.push_object.Goals as goal
 
-pub returns-in-Ok-push_row-clause-row : goal.returns-in-Ok-push_row-clause-row
-returns-in-Ok-push_row-clause-row g c =
+pub returns-clause-row : goal.returns-clause-row
+returns-clause-row g c =
     let shelf = g.P.Pages.shelf c.args.pages.now in
     let told = c.in-Some.ensures.some in
     let e = c.in-Some.entry.now in
     let node = c.as_ref.result.now in
-    let is = subst (λ (n : Node). IsNodeOf shelf c.of-page.result.0 n) (sym c.as_ref.ensures) c.in-Ok.ensures.ok in (
+    let is = subst (λ (n : Node). IsNodeOf shelf c.of-page.result.0 n) (sym c.as_ref.ensures) c.in_ok-node.ensures.ok in (
       (e.tag, e.point),
-      c.in-Ok-push_row.ensures,
+      c.in_ok-push_row.ensures,
       λ live low.
           row_read shelf c.args.places.now c.args.id c.of-page.result.0 c.of-page.result.1 c.of-page.ensures.page c.of-page.ensures.number node e is told.1 live low,
     )

@@ -4,17 +4,17 @@ use Rattle.making_jobs.specs.declared.filling.Objects.{Objects}
 use Rattle.making_jobs.proofs.OldFiles.{if_still, still_taking}
 use Rattle.making_jobs.proofs.migrating.audited.Goals as goal
 
-pub returns-in-Ok-clause-points : goal.returns-in-Ok-clause-points
-returns-in-Ok-clause-points g c =
+pub returns-clause-points : goal.returns-clause-points
+returns-clause-points g c =
     if_still c.audit_faults_are_unsoundness.ensures (g.M.Metric.space c.args.metric) (g.P.Pages.shelf c.args.pages.now) (g.P.Pages.shelf c.audit.new.pages) c.args.live.now c.requires.within
-    (rw c.new-ruler.ensures.metric at c.in-Ok.ensures.ok) c.audit.ensures.same (λ (o : Objects) (nodes : Nodes). o.rows.points ≡ points_by_id nodes c.args.live.now) c.objects_of.result c.objects_of.ensures.points
+    (rw c.new-ruler.ensures.metric at c.in_ok-audit.ensures.ok) c.audit.ensures.same (λ (o : Objects) (nodes : Nodes). o.rows.points ≡ points_by_id nodes c.args.live.now) c.objects_of.result c.objects_of.ensures.points
 
-pub returns-in-Ok-clause-tags : goal.returns-in-Ok-clause-tags
-returns-in-Ok-clause-tags g c =
+pub returns-clause-tags : goal.returns-clause-tags
+returns-clause-tags g c =
     if_still c.audit_faults_are_unsoundness.ensures (g.M.Metric.space c.args.metric) (g.P.Pages.shelf c.args.pages.now) (g.P.Pages.shelf c.audit.new.pages) c.args.live.now c.requires.within
-    (rw c.new-ruler.ensures.metric at c.in-Ok.ensures.ok) c.audit.ensures.same (λ (o : Objects) (nodes : Nodes). o.tags.items ≡ tags_by_id nodes c.args.live.now) c.objects_of.result c.objects_of.ensures.tags
+    (rw c.new-ruler.ensures.metric at c.in_ok-audit.ensures.ok) c.audit.ensures.same (λ (o : Objects) (nodes : Nodes). o.tags.items ≡ tags_by_id nodes c.args.live.now) c.objects_of.result c.objects_of.ensures.tags
 
-pub returns-in-Ok-clause-fault : goal.returns-in-Ok-clause-fault
-returns-in-Ok-clause-fault g c =
+pub returns-clause-fault : goal.returns-clause-fault
+returns-clause-fault g c =
     still_taking c.audit_faults_are_unsoundness.ensures (g.M.Metric.space c.args.metric) (g.P.Pages.shelf c.args.pages.now) (g.P.Pages.shelf c.audit.new.pages) c.args.live.now c.requires.within
-    (rw c.new-ruler.ensures.metric at c.in-Ok.ensures.ok) c.audit.ensures.same _ _ c.objects_of.result c.objects_of.ensures.cause
+    (rw c.new-ruler.ensures.metric at c.in_ok-audit.ensures.ok) c.audit.ensures.same _ _ c.objects_of.result c.objects_of.ensures.cause

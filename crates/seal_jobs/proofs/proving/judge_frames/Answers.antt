@@ -4,8 +4,8 @@ use Rattle.std.proofs.lemmas.Result.{IfOk-weaker, IfErr-weaker, err_from_is_err_
 use Rattle.std.specs.Io.KnownBytes.{Appends}
 use Rattle.outside_io.specs.Bytes.{AppendsPrefix}
 use Rattle.outside_io.specs.declared.status.Status.{Status}
-use Rattle.seal_jobs.specs.declared.stop.Stop.{Stop}
-use Rattle.seal_jobs.specs.declared.stop.Stop.TheVariants as stop
+use Rattle.seal_jobs.specs.declared.stop.ProofStop.{ProofStop}
+use Rattle.seal_jobs.specs.declared.stop.ProofStop.TheVariants as stop
 use Rattle.prune_log.specs.Spelling.{frame_bytes}
 use Rattle.seal_jobs.specs.Proofs.{HasEnded, HasStopped}
 use Rattle.seal_jobs.proofs.Frames.{Progress, one_more, ended, end_stops, reading_stops, frame_stops}
@@ -35,9 +35,9 @@ returns-in-End-clause-stopped g c =
     let w1 = (g.K.Sink.state c.frames.out).written in
     let w2 = (g.K.Sink.state c.put_end.new.out).written in
     let reads = rw c.in-End.is at c.in_ok-body.ensures.reads in
-    IfErr-weaker c.put_end.result (λ (why : Stop). (why ≡ stop.Sink) × AppendsPrefix w1 w2 c.end_text.result.now)
-    (λ (why : Stop). HasStopped c.args.root.now left0 left2 w0 w2 why)
-    (λ (why : Stop) is. subst (λ (s : Stop). HasStopped c.args.root.now left0 left2 w0 w2 s) (sym is.0)
+    IfErr-weaker c.put_end.result (λ (why : ProofStop). (why ≡ stop.Sink) × AppendsPrefix w1 w2 c.end_text.result.now)
+    (λ (why : ProofStop). HasStopped c.args.root.now left0 left2 w0 w2 why)
+    (λ (why : ProofStop) is. subst (λ (s : ProofStop). HasStopped c.args.root.now left0 left2 w0 w2 s) (sym is.0)
     (end_stops c.args.root.now [] c.end_text.result.now left0 left1 left2 c.frames.room c.frames.frame c.frames.accepted c.end_status.result w0 w1 w2 c.frames.invariant.shown reads.0 (omega arith) reads.1
     (inl (refl, c.end_text.ensures, c.end_status.ensures)) is.1))
     c.put_end.ensures.stops
@@ -66,9 +66,9 @@ returns-in-Cut-clause-stopped g c =
     let w1 = (g.K.Sink.state c.frames.out).written in
     let w2 = (g.K.Sink.state c.put_end-in-Cut.new.out).written in
     let reads = rw c.in-Cut.is at c.in_ok-body.ensures.reads in
-    IfErr-weaker c.put_end-in-Cut.result (λ (why : Stop). (why ≡ stop.Sink) × AppendsPrefix w1 w2 (codes "log rejected cut\n"))
-    (λ (why : Stop). HasStopped c.args.root.now left0 left2 w0 w2 why)
-    (λ (why : Stop) is. subst (λ (s : Stop). HasStopped c.args.root.now left0 left2 w0 w2 s) (sym is.0)
+    IfErr-weaker c.put_end-in-Cut.result (λ (why : ProofStop). (why ≡ stop.Sink) × AppendsPrefix w1 w2 (codes "log rejected cut\n"))
+    (λ (why : ProofStop). HasStopped c.args.root.now left0 left2 w0 w2 why)
+    (λ (why : ProofStop) is. subst (λ (s : ProofStop). HasStopped c.args.root.now left0 left2 w0 w2 s) (sym is.0)
     (end_stops c.args.root.now reads.0 (codes "log rejected cut\n") left0 left1 left2 c.frames.room c.frames.frame c.frames.accepted 1 w0 w1 w2 c.frames.invariant.shown reads.1 reads.2 reads.4
     (inr (reads.3, refl, refl)) is.1))
     c.put_end-in-Cut.ensures.stops

@@ -1,5 +1,6 @@
 use Rattle.std.proofs.Common.{◌++◌, ℕ, take, arith, length-append, length-take}
 use Rattle.std.proofs.KnownBytes.{Consumes-trans}
+use Rattle.std.proofs.lemmas.Result.{err_from_is_err_and}
 use Rattle.seal_jobs.proofs.taking.take_up_to.Goals as goal
 
 pub returns-then-count-room-clause-stops : goal.returns-then-count-room-clause-stops
@@ -14,11 +15,13 @@ returns-then-count-room-clause-stops g c =
       omega (arith, length-append {A = ℕ}, length-take {A = ℕ}, c.in-Ok.ensures.bound),
     )
 
-pub returns-then-is_err-clause-stops : goal.returns-then-is_err-clause-stops
-returns-then-is_err-clause-stops g c =
-    let fits = c.if-count-room.false in
+pub returns-in_err-extend_from_slice-clause-stops : goal.returns-in_err-extend_from_slice-clause-stops
+returns-in_err-extend_from_slice-clause-stops g c =
+    let p = err_from_is_err_and c.from_residual.result c.from_residual.ensures.1 in
+    rw (p.1, p.2)
+    (let fits = c.if-count-room.false in
     let within = c.pieces.invariant.within in (
       c.pieces.bytes.items ++ take c.in-Ok.count c.take.new.buf,
       Consumes-trans _ _ _ _ _ c.pieces.invariant.taken c.in-Ok.ensures.bytes.0,
       omega (arith, length-append {A = ℕ}, length-take {A = ℕ}, c.in-Ok.ensures.bound),
-    )
+    ))

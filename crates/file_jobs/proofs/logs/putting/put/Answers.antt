@@ -1,8 +1,11 @@
+use Rattle.std.proofs.lemmas.Result.{err_from_is_err_and}
 use Rattle.file_jobs.proofs.logs.Puts.{whole_put, cut_put}
 use Rattle.file_jobs.proofs.logs.putting.put.Goals as goal
 
-pub returns-in-Ok-clause-puts : goal.returns-in-Ok-clause-puts
-returns-in-Ok-clause-puts g c = whole_put _ _ c.args.text.now c.in-Ok.ensures.ok
+pub returns-clause-puts : goal.returns-clause-puts
+returns-clause-puts g c = whole_put _ _ c.args.text.now c.in_ok-put.ensures.ok
 
-pub returns-in-Err-clause-puts : goal.returns-in-Err-clause-puts
-returns-in-Err-clause-puts g c = cut_put _ _ c.args.text.now c.in-Err.ensures.err
+pub returns-in_err-put-clause-puts : goal.returns-in_err-put-clause-puts
+returns-in_err-put-clause-puts g c =
+    let p = err_from_is_err_and c.from_residual.result c.from_residual.ensures.1 in
+    rw (p.1, p.2) (cut_put _ _ c.args.text.now c.in_err-put.ensures.err)

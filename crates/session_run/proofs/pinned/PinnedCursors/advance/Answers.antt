@@ -3,6 +3,7 @@ use Rattle.std.specs.Prelude.{◌==◌, IsTrue, set}
 use Rattle.std.specs.List.{AllByRecursion}
 use Rattle.std.specs.Vec.{with_item}
 use Rattle.std.proofs.lemmas.List.Quantifiers.{position-Some}
+use Rattle.std.proofs.lemmas.Result.{err_from_is_err_and}
 use Rattle.session_run.specs.declared.pinned.PinnedCursor.{PinnedCursor}
 use Rattle.session_run.specs.Pinned.{GoesThrough}
 use Rattle.session_run.proofs.Pins.{same_of}
@@ -14,47 +15,51 @@ use Rattle.session_run.proofs.pinned.PinnedCursors.advance.Goals as goal
 pub returns-in_default-clause-advanced : goal.returns-in_default-clause-advanced
 returns-in_default-clause-advanced g c = λ opened tells stand. unnamed_by (g.M.Metric.space c.args.index.now.file.metric) c.args.index.now (g.D.Disk.state c.args.disk.now).bytes c.args.self.now opened c.args.number c.args.n (sym c.place_of.ensures ∙ c.in_default.is) stand
 
-pub returns-in-Ok-clause-kept : goal.returns-in-Ok-clause-kept
-returns-in-Ok-clause-kept g c =
+pub returns-clause-kept : goal.returns-clause-kept
+returns-clause-kept g c =
     let found = position-Some (λ (x : PinnedCursor). x.number == c.args.number) c.args.self.now.cursors.items c.in-Some.place c.index_mut-pinned.result.now (sym c.place_of.ensures ∙ c.in-Some.is) in
     kept_set (g.M.Metric.space c.args.index.now.file.metric) c.args.index.now (g.D.Disk.state c.args.disk.now) (g.D.Disk.state c.step_cursor.new.disk) c.args.self.now (record { cursors = with_item c.args.self.now.cursors c.in-Some.place (record { number = c.index_mut-pinned.result.now.number; cursor = c.step_cursor.new.cursor }); next = c.args.self.now.next }) c.args.number c.args.n c.in-Some.place c.index_mut-pinned.result.now c.step_cursor.new.cursor c.requires.kept found.0 (same_of _ _ found.1) (λ i. set c.args.self.now.cursors.items c.in-Some.place (record { number = (c.index_mut-pinned.ensures.value i).number; cursor = c.step_cursor.new.cursor })) refl
     (subst (λ (p : PinnedCursor). c.step_cursor.new.cursor.live ≡ p.cursor.live) c.index_mut-pinned.ensures.value c.step_cursor.ensures.live)
     (subst (λ (p : PinnedCursor). c.step_cursor.new.cursor.point ≡ p.cursor.point) c.index_mut-pinned.ensures.value c.step_cursor.ensures.point)
 
-pub returns-in-Ok-clause-advanced : goal.returns-in-Ok-clause-advanced
-returns-in-Ok-clause-advanced g c = λ opened tells stand.
+pub returns-clause-advanced : goal.returns-clause-advanced
+returns-clause-advanced g c = λ opened tells stand.
     let found = position-Some (λ (x : PinnedCursor). x.number == c.args.number) c.args.self.now.cursors.items c.in-Some.place c.index_mut-pinned.result.now (sym c.place_of.ensures ∙ c.in-Some.is) in
-    advanced_by (g.M.Metric.space c.args.index.now.file.metric) c.args.index.now (g.D.Disk.state c.args.disk.now) (g.D.Disk.state c.step_cursor.new.disk) c.args.self.now (record { cursors = with_item c.args.self.now.cursors c.in-Some.place (record { number = c.index_mut-pinned.result.now.number; cursor = c.step_cursor.new.cursor }); next = c.args.self.now.next }) c.args.number c.args.n c.in-Some.place c.index_mut-pinned.result.now c.step_cursor.new.cursor c.requires.kept found.0 (same_of _ _ found.1) opened c.in-Ok.stepped.hits c.in-Ok.stepped.tags c.step_cursor.ensures.same c.step_cursor.ensures.later tells stand (λ i. set c.args.self.now.cursors.items c.in-Some.place (record { number = (c.index_mut-pinned.ensures.value i).number; cursor = c.step_cursor.new.cursor })) refl
-    (subst (λ (p : PinnedCursor). IsStep (g.M.Metric.space c.args.index.now.file.metric) c.args.index.now.file.head.dim (g.D.Disk.state c.args.disk.now) p.cursor c.step_cursor.new.cursor c.args.n c.in-Ok.stepped.hits c.in-Ok.stepped.tags) c.index_mut-pinned.ensures.value (record {
+    advanced_by (g.M.Metric.space c.args.index.now.file.metric) c.args.index.now (g.D.Disk.state c.args.disk.now) (g.D.Disk.state c.step_cursor.new.disk) c.args.self.now (record { cursors = with_item c.args.self.now.cursors c.in-Some.place (record { number = c.index_mut-pinned.result.now.number; cursor = c.step_cursor.new.cursor }); next = c.args.self.now.next }) c.args.number c.args.n c.in-Some.place c.index_mut-pinned.result.now c.step_cursor.new.cursor c.requires.kept found.0 (same_of _ _ found.1) opened c.in_ok-stepped.stepped.hits c.in_ok-stepped.stepped.tags c.step_cursor.ensures.same c.step_cursor.ensures.later tells stand (λ i. set c.args.self.now.cursors.items c.in-Some.place (record { number = (c.index_mut-pinned.ensures.value i).number; cursor = c.step_cursor.new.cursor })) refl
+    (subst (λ (p : PinnedCursor). IsStep (g.M.Metric.space c.args.index.now.file.metric) c.args.index.now.file.head.dim (g.D.Disk.state c.args.disk.now) p.cursor c.step_cursor.new.cursor c.args.n c.in_ok-stepped.stepped.hits c.in_ok-stepped.stepped.tags) c.index_mut-pinned.ensures.value (record {
       live = c.step_cursor.ensures.live;
       point = c.step_cursor.ensures.point;
-      given = c.in-Ok.ensures.given;
-      gives = c.in-Ok.ensures.gives;
+      given = c.in_ok-stepped.ensures.given;
+      gives = c.in_ok-stepped.ensures.gives;
     }))
 
-pub returns-in-Err-clause-cause : goal.returns-in-Err-clause-cause
-returns-in-Err-clause-cause g c = rw c.stop_of_page.ensures
-    (let found = position-Some (λ (x : PinnedCursor). x.number == c.args.number) c.args.self.now.cursors.items c.in-Some.place c.index_mut-pinned.result.now (sym c.place_of.ensures ∙ c.in-Some.is) in
-    step_cause (g.M.Metric.space c.args.index.now.file.metric) c.args.index.now (g.D.Disk.state c.args.disk.now) (g.D.Disk.state c.step_cursor.new.disk) c.args.self.now (record { cursors = with_item c.args.self.now.cursors c.in-Some.place (record { number = c.index_mut-pinned.result.now.number; cursor = c.step_cursor.new.cursor }); next = c.args.self.now.next }) c.args.number c.args.n c.in-Some.place c.index_mut-pinned.result.now c.step_cursor.new.cursor c.requires.kept found.0 (same_of _ _ found.1) c.in-Err.fault
-    (subst (λ (p : PinnedCursor). IsRefusal (g.M.Metric.space c.args.index.now.file.metric) c.args.index.now.file.head.dim (g.D.Disk.state c.args.disk.now) (g.D.Disk.state c.step_cursor.new.disk) p.cursor c.in-Err.fault) c.index_mut-pinned.ensures.value (record {
-      asked = c.in-Err.ensures.cause.0;
-      cause = c.in-Err.ensures.cause.1;
-      sound = c.in-Err.ensures.sound;
-    })))
+pub returns-in_err-stepped-clause-cause : goal.returns-in_err-stepped-clause-cause
+returns-in_err-stepped-clause-cause g c =
+    let p = err_from_is_err_and c.from_residual.result c.from_residual.ensures.1 in
+    rw (p.1, p.2)
+    ((let found = position-Some (λ (x : PinnedCursor). x.number == c.args.number) c.args.self.now.cursors.items c.in-Some.place c.index_mut-pinned.result.now (sym c.place_of.ensures ∙ c.in-Some.is) in
+    step_cause (g.M.Metric.space c.args.index.now.file.metric) c.args.index.now (g.D.Disk.state c.args.disk.now) (g.D.Disk.state c.step_cursor.new.disk) c.args.self.now (record { cursors = with_item c.args.self.now.cursors c.in-Some.place (record { number = c.index_mut-pinned.result.now.number; cursor = c.step_cursor.new.cursor }); next = c.args.self.now.next }) c.args.number c.args.n c.in-Some.place c.index_mut-pinned.result.now c.step_cursor.new.cursor c.requires.kept found.0 (same_of _ _ found.1) c.in_err-stepped.field-0.0
+    (subst (λ (p : PinnedCursor). IsRefusal (g.M.Metric.space c.args.index.now.file.metric) c.args.index.now.file.head.dim (g.D.Disk.state c.args.disk.now) (g.D.Disk.state c.step_cursor.new.disk) p.cursor c.in_err-stepped.field-0.0) c.index_mut-pinned.ensures.value (record {
+      asked = c.in_err-stepped.ensures.cause.0;
+      cause = c.in_err-stepped.ensures.cause.1;
+      sound = c.in_err-stepped.ensures.sound;
+    }))))
 
-pub returns-in-Err-clause-damage : goal.returns-in-Err-clause-damage
-returns-in-Err-clause-damage g c = λ through. rw c.stop_of_page.ensures
-    (let found = position-Some (λ (x : PinnedCursor). x.number == c.args.number) c.args.self.now.cursors.items c.in-Some.place c.index_mut-pinned.result.now (sym c.place_of.ensures ∙ c.in-Some.is) in
-    step_stands (g.M.Metric.space c.args.index.now.file.metric) c.args.index.now (g.D.Disk.state c.args.disk.now) (g.D.Disk.state c.step_cursor.new.disk) c.index_mut-pinned.result.now c.in-Err.fault c.step_cursor.ensures.same (record {
-      asked = c.in-Err.ensures.cause.0;
-      cause = c.in-Err.ensures.cause.1;
-      sound = c.in-Err.ensures.sound;
+pub returns-in_err-stepped-clause-damage : goal.returns-in_err-stepped-clause-damage
+returns-in_err-stepped-clause-damage g c =
+    let p = err_from_is_err_and c.from_residual.result c.from_residual.ensures.1 in
+    rw (p.1, p.2)
+    (λ through. (let found = position-Some (λ (x : PinnedCursor). x.number == c.args.number) c.args.self.now.cursors.items c.in-Some.place c.index_mut-pinned.result.now (sym c.place_of.ensures ∙ c.in-Some.is) in
+    step_stands (g.M.Metric.space c.args.index.now.file.metric) c.args.index.now (g.D.Disk.state c.args.disk.now) (g.D.Disk.state c.step_cursor.new.disk) c.index_mut-pinned.result.now c.in_err-stepped.field-0.0 c.step_cursor.ensures.same (record {
+      asked = c.in_err-stepped.ensures.cause.0;
+      cause = c.in_err-stepped.ensures.cause.1;
+      sound = c.in_err-stepped.ensures.sound;
     })
     (λ tells. subst (GoesThrough c.args.index.now (g.D.Disk.state c.args.disk.now).bytes) (sym c.index_mut-pinned.ensures.value)
-    (all_at (GoesThrough c.args.index.now (g.D.Disk.state c.args.disk.now).bytes) c.args.self.now.cursors.items c.in-Some.place c.index_mut-pinned.result.now found.0 (through tells))))
+    (all_at (GoesThrough c.args.index.now (g.D.Disk.state c.args.disk.now).bytes) c.args.self.now.cursors.items c.in-Some.place c.index_mut-pinned.result.now found.0 (through tells)))))
 
-pub returns-in-Ok-clause-through : goal.returns-in-Ok-clause-through
-returns-in-Ok-clause-through g c = λ through tells.
+pub returns-clause-through : goal.returns-clause-through
+returns-clause-through g c = λ through tells.
     let found = position-Some (λ (x : PinnedCursor). x.number == c.args.number) c.args.self.now.cursors.items c.in-Some.place c.index_mut-pinned.result.now (sym c.place_of.ensures ∙ c.in-Some.is) in
     let now : IsTrue (g.D.Disk.state c.args.disk.now).tells = subst IsTrue c.step_cursor.ensures.same.same_tells tells in
     let goes = subst (GoesThrough c.args.index.now (g.D.Disk.state c.args.disk.now).bytes) (sym c.index_mut-pinned.ensures.value)
@@ -62,4 +67,4 @@ returns-in-Ok-clause-through g c = λ through tells.
     subst (λ (bytes : List ℕ). AllByRecursion (GoesThrough c.args.index.now bytes) (set c.args.self.now.cursors.items c.in-Some.place (record { number = c.index_mut-pinned.result.now.number; cursor = c.step_cursor.new.cursor })))
     (sym c.step_cursor.ensures.same.same_bytes)
     (all_set (GoesThrough c.args.index.now (g.D.Disk.state c.args.disk.now).bytes) c.args.self.now.cursors.items c.in-Some.place (record { number = c.index_mut-pinned.result.now.number; cursor = c.step_cursor.new.cursor })
-    (goes_on c.args.index.now (g.D.Disk.state c.args.disk.now).bytes c.index_mut-pinned.result.now goes c.step_cursor.new.cursor c.step_cursor.ensures.live (c.in-Ok.ensures.walks now goes.walked)) (through now))
+    (goes_on c.args.index.now (g.D.Disk.state c.args.disk.now).bytes c.index_mut-pinned.result.now goes c.step_cursor.new.cursor c.step_cursor.ensures.live (c.in_ok-stepped.ensures.walks now goes.walked)) (through now))
