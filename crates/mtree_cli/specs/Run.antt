@@ -165,7 +165,7 @@ task_of None = NoTask
 
 -- What a task takes and puts. Every task writes to out.
 pub record Uses : Type 0 where
-  -- it takes the index, the other index, the script of the input, logs
+  -- what it takes: the index, the other index, the script of the input, logs
   pub index : Bool
   pub other : Bool
   pub input : Bool
