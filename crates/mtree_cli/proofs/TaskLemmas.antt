@@ -1,5 +1,5 @@
 -- What holds for each task where memory ran out before the run began.
-use Rattle.std.proofs.Common.{◌≡◌, ◌≢◌, ◌⊎◌, inl, inr, ⊎_elim, ℕ, ◌≤◌, ◌%◌, ◌<◌, ◌+◌, ◌^◌, length, List, [], Option, Some, true, IsTrue, refl, sym, ◌∙◌, ap, subst, arith}
+use Rattle.std.proofs.Common.{◌≡◌, ◌≢◌, ◌⊎◌, inl, inr, ⊎_elim, ℕ, ◌≤◌, ◌%◌, ◌<◌, ◌+◌, ◌^◌, length, List, [], Option, Some, Bool, true, false, IsTrue, refl, sym, ◌∙◌, ap, subst, arith}
 use Rattle.std.specs.Prelude.{codes, ◌↔◌}
 use Rattle.std.specs.Io.KnownBytes.{Consumes}
 use Rattle.std.proofs.KnownBytes.{Appends-nil, Consumes-nil}
@@ -26,16 +26,15 @@ use Rattle.show_jobs.specs.declared.report.Marks.{Marks}
 use Rattle.show_jobs.specs.Jobs.{ShowsLogs}
 use Rattle.show_joins.specs.Jobs.{ShowsLogs as ShowsJoinLogs}
 use Rattle.session_run.proofs.Published.{always, memory_session}
-use Rattle.mtree_cli.specs.Run.{Task, Scene, Does, IsStatusOf, TakesWithin, scan_texts, task_of}
+use Rattle.mtree_cli.specs.Run.{Task, Uses, Scene, Does, HasTooManyPages, IsStatusOf, TakesWithin, nothing, scan_texts, task_of, uses, uses_of}
 use Rattle.std.proofs.lemmas.Bool.{true≢false}
-use Rattle.page_store.specs.Files.{IsLarge}
 use Rattle.batch_run.specs.Jobs.Batches.{IsTooLong}
 use Rattle.batch_run.proofs.Published.{out_of_memory}
 use Rattle.making_jobs.specs.Jobs.{IsSummary, ids_of, points_of}
 use Rattle.making_jobs.proofs.Published.{no_memory, migrates_no_memory}
 use Rattle.making_jobs.specs.Migrating.{RefusesNothing}
-use Rattle.mtree_cli.specs.Run.Task.{Scans, Makes, Draws, Measures, Dumps, Shows, ShowsJoins, Sessions, Generates, Migrates, Batches, Judges, Seals, Carries, Reports, JoinsWithin, ReportsJoins, Proves, Nothing}
-use Rattle.seal_jobs.specs.Seals.{Seals as SealsIndex}
+use Rattle.mtree_cli.specs.Run.Task.{Scan, Create, Session, Shape, Stats, Dump, Show, ShowJoins, Audit, VerifyOrCheck, VerifyOrCheckJoins, Join, Gen, Migrate, Batch, Seal, ProofByIndex, ProofByDigest, NoTask}
+use Rattle.seal_jobs.specs.Seals.{Seals}
 use Rattle.seal_jobs.specs.Carries.{CarriesLogs}
 use Rattle.seal_jobs.specs.Proofs.{ProvesLogs}
 use Rattle.file_jobs.specs.declared.logs.stop.LogStop.{LogStop}
@@ -45,6 +44,11 @@ use Rattle.mtree_cli.proofs.ProgramLemmas.{fault_writes, memory_ends}
 -- the task of a job of the words
 pub task_is : (words : List (List ℕ)) (found named : Job (Bor (List ℕ))) → job_of words ≡ Some (texts_in found) → found ≡ named → task_of (job_of words) ≡ task_of (Some (texts_in named))
 task_is words found named is same = ap task_of (is ∙ ap (λ (f : Job (Bor (List ℕ))). Some (texts_in f)) same)
+
+-- what the task of the job uses is not left alone
+pub is_used : (part : Uses → Bool) (words : List (List ℕ)) (found named : Job (Bor (List ℕ))) → job_of words ≡ Some (texts_in found) → found ≡ named
+    → part (uses (task_of (Some (texts_in named)))) ≡ true → part (uses_of words) ≢ false
+is_used part words found named is same yes no = true≢false (sym yes ∙ sym (ap (λ (t : Task). part (uses t)) (task_is words found named is same)) ∙ no)
 
 -- no call was made
 pub unchanged : (disk : DiskState) → IsUnchanged disk disk
@@ -154,8 +158,8 @@ abbrev pub scene : DiskState → DiskState → Option (List ℕ) → SinkState �
 scene disk other left log_out out = record { index = disk; other = other; left = left; out = out; log_out = log_out }
 
 pub does_at_memory : (task : Task) (disk other : DiskState) (input left : Option (List ℕ)) (v o0 o1 : SinkState) → Tells o0 o1 (codes "fault memory\n") → Does task (scene disk other left v o0) (scene disk other left v o1) input 8
-does_at_memory (Scans asked) disk other input left v o0 o1 line = always _ _ (λ bytes. fault_writes o0 o1 (scan_texts asked bytes) 8 _ line (λ front part. memory_ends (Rose o0.faults o1.faults) 8 [] _ front refl part))
-does_at_memory (Makes head) disk other input left v o0 o1 line = record {
+does_at_memory (Scan asked) disk other input left v o0 o1 line = always _ _ (λ bytes. fault_writes o0 o1 (scan_texts asked bytes) 8 _ line (λ front part. memory_ends (Rose o0.faults o1.faults) 8 [] _ front refl part))
+does_at_memory (Create head) disk other input left v o0 o1 line = record {
   made = λ is. ⊎_elim (λ e. absurd (omega arith)) (λ e. absurd (omega arith)) is;
   done = λ is. absurd (omega arith);
   part = λ is. absurd (omega arith);
@@ -163,11 +167,8 @@ does_at_memory (Makes head) disk other input left v o0 o1 line = record {
   not_empty = λ is. absurd (omega arith);
   memory = λ is. (unchanged disk, line);
 }
-does_at_memory (Sessions show) disk other input left v o0 o1 line = memory_session show input disk o0 o1 v 8 refl line
-does_at_memory (Generates asked) disk other input left v o0 o1 line = no_memory asked.head (points_of asked) (ids_of asked) (IsSummary asked) disk o0 o1 8 refl line
-does_at_memory Migrates disk other input left v o0 o1 line = (migrates_no_memory disk other o0 o1 8 refl line, no_file_refused disk other)
-does_at_memory (Batches show) disk other input left v o0 o1 line = out_of_memory show input disk o0 o1 v 8 refl line
-does_at_memory Draws disk other input left v o0 o1 line = record {
+does_at_memory (Session show) disk other input left v o0 o1 line = memory_session show input disk o0 o1 v 8 refl line
+does_at_memory Shape disk other input left v o0 o1 line = record {
   unchanged = unchanged disk;
   done = λ is. absurd (omega arith);
   part = λ is. absurd (omega arith);
@@ -177,7 +178,7 @@ does_at_memory Draws disk other input left v o0 o1 line = record {
   damaged = λ is. absurd (omega arith);
   sound = λ tells head live sound. (λ is. absurd (omega arith), λ is. absurd (omega arith));
 }
-does_at_memory Measures disk other input left v o0 o1 line = record {
+does_at_memory Stats disk other input left v o0 o1 line = record {
   unchanged = unchanged disk;
   done = λ is. absurd (omega arith);
   part = λ is. absurd (omega arith);
@@ -187,7 +188,7 @@ does_at_memory Measures disk other input left v o0 o1 line = record {
   damaged = λ is. absurd (omega arith);
   sound = λ tells head live sound. (λ is. absurd (omega arith), λ is. absurd (omega arith));
 }
-does_at_memory Dumps disk other input left v o0 o1 line = record {
+does_at_memory Dump disk other input left v o0 o1 line = record {
   unchanged = unchanged disk;
   done = λ is. absurd (omega arith);
   part = λ is. absurd (omega arith);
@@ -197,9 +198,9 @@ does_at_memory Dumps disk other input left v o0 o1 line = record {
   damaged = λ is. absurd (omega arith);
   sound = λ tells head live sound. (λ is. absurd (omega arith), λ is. absurd (omega arith));
 }
-does_at_memory (Shows what) disk other input left v o0 o1 line = no_logs_shown what disk left o0 o1 line
-does_at_memory (ShowsJoins what) disk other input left v o0 o1 line = no_join_logs_shown what disk other left o0 o1 line
-does_at_memory Judges disk other input left v o0 o1 line = record {
+does_at_memory (Show what) disk other input left v o0 o1 line = no_logs_shown what disk left o0 o1 line
+does_at_memory (ShowJoins what) disk other input left v o0 o1 line = no_join_logs_shown what disk other left o0 o1 line
+does_at_memory Audit disk other input left v o0 o1 line = record {
   unchanged = unchanged disk;
   sound = λ is. absurd (omega arith);
   rejected = λ is. absurd (omega arith);
@@ -208,8 +209,9 @@ does_at_memory Judges disk other input left v o0 o1 line = record {
   not_index = λ is. absurd (omega arith);
   memory = λ is. line;
 }
-does_at_memory (Reports what) disk other input left v o0 o1 line = no_logs_judged what disk left o0 o1 line
-does_at_memory (JoinsWithin radius) disk other input left v o0 o1 line = record {
+does_at_memory (VerifyOrCheck what) disk other input left v o0 o1 line = no_logs_judged what disk left o0 o1 line
+does_at_memory (VerifyOrCheckJoins what) disk other input left v o0 o1 line = no_join_logs_judged what disk other left o0 o1 line
+does_at_memory (Join radius) disk other input left v o0 o1 line = record {
   unchanged = (unchanged disk, unchanged other);
   done = λ is. absurd (omega arith);
   spaces = λ is. absurd (omega arith);
@@ -219,8 +221,10 @@ does_at_memory (JoinsWithin radius) disk other input left v o0 o1 line = record 
   memory = λ is. line;
   damaged = λ is. absurd (omega arith);
 }
-does_at_memory (ReportsJoins what) disk other input left v o0 o1 line = no_join_logs_judged what disk other left o0 o1 line
-does_at_memory Seals disk other input left v o0 o1 line = record {
+does_at_memory (Gen asked) disk other input left v o0 o1 line = no_memory asked.head (points_of asked) (ids_of asked) (IsSummary asked) disk o0 o1 8 refl line
+does_at_memory Migrate disk other input left v o0 o1 line = (migrates_no_memory disk other o0 o1 8 refl line, no_file_refused disk other)
+does_at_memory (Batch show) disk other input left v o0 o1 line = out_of_memory show input disk o0 o1 v 8 refl line
+does_at_memory Seal disk other input left v o0 o1 line = record {
   unchanged = unchanged disk;
   sealed = λ is. absurd (omega arith);
   rejected = λ is. absurd (omega arith);
@@ -231,7 +235,7 @@ does_at_memory Seals disk other input left v o0 o1 line = record {
   memory = λ is. line;
   large = λ is. ⊎_elim (λ e. absurd (omega arith)) (λ rest. ⊎_elim (λ e. absurd (omega arith)) (λ e. absurd (omega arith)) rest) is;
 }
-does_at_memory Carries disk other input left v o0 o1 line = record {
+does_at_memory ProofByIndex disk other input left v o0 o1 line = record {
   bytes = [];
   taken = Consumes-nil left;
   few = omega arith;
@@ -249,7 +253,7 @@ does_at_memory Carries disk other input left v o0 o1 line = record {
   not_index = λ is. absurd (omega arith);
   long = λ is. absurd (omega arith);
 }
-does_at_memory (Proves root) disk other input left v o0 o1 line = record {
+does_at_memory (ProofByDigest root) disk other input left v o0 o1 line = record {
   bytes = [];
   taken = Consumes-nil left;
   few = omega arith;
@@ -262,31 +266,31 @@ does_at_memory (Proves root) disk other input left v o0 o1 line = record {
   long_line = λ is. absurd (omega arith);
   memory_line = λ is. line;
 }
-does_at_memory Nothing disk other input left v o0 o1 line = inr (inr (refl, line))
+does_at_memory NoTask disk other input left v o0 o1 line = inr (inr (refl, line))
 
 pub memory_does : (task : Task) (disk other : DiskState) (input left : Option (List ℕ)) (v o0 o1 : SinkState) (status : ℕ) → status ≡ 8 → Tells o0 o1 (codes "fault memory\n") → Does task (scene disk other left v o0) (scene disk other left v o1) input status
 memory_does task disk other input left v o0 o1 status is line = subst (Does task (scene disk other left v o0) (scene disk other left v o1) input) (sym is) (does_at_memory task disk other input left v o0 o1 line)
 
 status_eight : (task : Task) → IsStatusOf task 8
-status_eight (Scans asked) = inr (inr (inr (inr refl)))
-status_eight (Makes head) = inr (inr (inr (inr refl)))
-status_eight (Sessions show) = inr (inr (inr (inr (inr (inr (inl refl))))))
-status_eight (Generates asked) = inr (inr (inr (inr (inl refl))))
-status_eight Migrates = inr (inr (inr (inr (inr (inl refl)))))
-status_eight (Batches show) = inr (inr (inr (inr (inr (inr (inl refl))))))
-status_eight Draws = inr (inr (inr (inr (inl refl))))
-status_eight Measures = inr (inr (inr (inr (inl refl))))
-status_eight Dumps = inr (inr (inr (inr (inl refl))))
-status_eight (Shows what) = inr (inr (inr (inr (inr (inr (inr refl))))))
-status_eight (ShowsJoins what) = inr (inr (inr (inr (inr (inr (inr refl))))))
-status_eight Judges = inr (inr (inr (inr (inr refl))))
-status_eight (Reports what) = inr (inr (inr (inr (inr (inr (inr refl))))))
-status_eight (JoinsWithin radius) = inr (inr (inr (inr (inr (inl refl)))))
-status_eight (ReportsJoins what) = inr (inr (inr (inr (inr (inr (inr refl))))))
-status_eight Seals = inr (inr (inr (inr (inr (inr refl)))))
-status_eight Carries = inr (inr (inr (inr (inr (inr (inr refl))))))
-status_eight (Proves root) = inr (inr (inr (inr (inr refl))))
-status_eight Nothing = inr (inr refl)
+status_eight (Scan asked) = inr (inr (inr (inr refl)))
+status_eight (Create head) = inr (inr (inr (inr refl)))
+status_eight (Session show) = inr (inr (inr (inr (inr (inr (inl refl))))))
+status_eight Shape = inr (inr (inr (inr (inl refl))))
+status_eight Stats = inr (inr (inr (inr (inl refl))))
+status_eight Dump = inr (inr (inr (inr (inl refl))))
+status_eight (Show what) = inr (inr (inr (inr (inr (inr (inr refl))))))
+status_eight (ShowJoins what) = inr (inr (inr (inr (inr (inr (inr refl))))))
+status_eight Audit = inr (inr (inr (inr (inr refl))))
+status_eight (VerifyOrCheck what) = inr (inr (inr (inr (inr (inr (inr refl))))))
+status_eight (VerifyOrCheckJoins what) = inr (inr (inr (inr (inr (inr (inr refl))))))
+status_eight (Join radius) = inr (inr (inr (inr (inr (inl refl)))))
+status_eight (Gen asked) = inr (inr (inr (inr (inl refl))))
+status_eight Migrate = inr (inr (inr (inr (inr (inl refl)))))
+status_eight (Batch show) = inr (inr (inr (inr (inr (inr (inl refl))))))
+status_eight Seal = inr (inr (inr (inr (inr (inr refl)))))
+status_eight ProofByIndex = inr (inr (inr (inr (inr (inr (inr refl))))))
+status_eight (ProofByDigest root) = inr (inr (inr (inr (inr refl))))
+status_eight NoTask = inr (inr refl)
 
 pub memory_status : (task : Task) (status : ℕ) → status ≡ 8 → IsStatusOf task status
 memory_status task status is = subst (IsStatusOf task) (sym is) (status_eight task)
@@ -317,7 +321,11 @@ input_taken Large input0 input1 left status took = record {
   only = λ is. inl (took.long.0 is);
 }
 
-pub batch_taken : (input0 input1 left : Option (List ℕ)) (disk : DiskState) (status : ℕ) → IsTooLong input0 input1 disk status → TakesWithin (IsTrue disk.tells → IsLarge disk.bytes) input0 input1 left left status
+-- the index is too large for a task that reads all of it
+abbrev pub IsTooLarge : DiskState → Type 0
+IsTooLarge disk = HasTooManyPages (record nothing { reads_all = true }) disk
+
+pub batch_taken : (input0 input1 left : Option (List ℕ)) (disk : DiskState) (status : ℕ) → IsTooLong input0 input1 disk status → TakesWithin (IsTooLarge disk) input0 input1 left left status
 batch_taken input0 input1 left disk status took = record {
   script_bytes = took.bytes;
   log_bytes = [];
@@ -326,7 +334,7 @@ batch_taken input0 input1 left disk status took = record {
   few = took.few;
   few_logs = omega arith;
   long = λ long. ⊎_elim (λ l. took.long l) (λ l. absurd (omega arith)) long;
-  only = λ is. ⊎_elim (λ l. inl l) (λ l. inr (inr l)) (took.only is);
+  only = λ is. ⊎_elim (λ l. inl l) (λ l. inr (inr (refl, l))) (took.only is);
 }
 
 -- logs alone were taken
@@ -356,7 +364,7 @@ pub join_logs_taken : (Large : Type 0) (input left0 left1 : Option (List ℕ)) (
     → TakesWithin Large input input left0 left1 status
 join_logs_taken Large input left0 left1 what d0 d1 e0 e1 o0 o1 status told = within_logs Large input left0 left1 status told.bytes told.taken told.few told.long
 
-pub seal_taken : (input left : Option (List ℕ)) (d0 d1 : DiskState) (o0 o1 : SinkState) (status : ℕ) → SealsIndex d0 d1 o0 o1 status → TakesWithin (IsTrue d0.tells → IsLarge d0.bytes) input input left left status
+pub seal_taken : (input left : Option (List ℕ)) (d0 d1 : DiskState) (o0 o1 : SinkState) (status : ℕ) → Seals d0 d1 o0 o1 status → TakesWithin (IsTooLarge d0) input input left left status
 seal_taken input left d0 d1 o0 o1 status told = record {
   script_bytes = [];
   log_bytes = [];
@@ -365,11 +373,11 @@ seal_taken input left d0 d1 o0 o1 status told = record {
   few = omega arith;
   few_logs = omega arith;
   long = λ long. ⊎_elim (λ l. absurd (omega arith)) (λ l. absurd (omega arith)) long;
-  only = λ is. inr (inr ((told.long is).1));
+  only = λ is. inr (inr (refl, (told.long is).1));
 }
 
 pub carried_taken : (input left0 left1 l0 l1 : Option (List ℕ)) (d0 d1 : DiskState) (o0 o1 : SinkState) (status : ℕ) → CarriesLogs d0 d1 left0 left1 l0 l1 o0 o1 status
-    → TakesWithin (IsTrue d0.tells → IsLarge d0.bytes) input input left0 left1 status
+    → TakesWithin (IsTooLarge d0) input input left0 left1 status
 carried_taken input left0 left1 l0 l1 d0 d1 o0 o1 status told = record {
   script_bytes = [];
   log_bytes = told.bytes;
@@ -378,7 +386,7 @@ carried_taken input left0 left1 l0 l1 d0 d1 o0 o1 status told = record {
   few = omega arith;
   few_logs = told.few;
   long = λ either. ⊎_elim (λ l. absurd (omega arith)) (λ l. told.too_many l) either;
-  only = λ is. inr ((told.long is).1);
+  only = λ is. inr (⊎_elim (λ l. inl l) (λ l. inr (refl, l)) ((told.long is).1));
 }
 
 pub proofs_taken : (Large : Type 0) (input left0 left1 : Option (List ℕ)) (root : List ℕ) (o0 o1 : SinkState) (status : ℕ) → ProvesLogs root left0 left1 o0 o1 status → TakesWithin Large input input left0 left1 status

@@ -14,7 +14,7 @@ use Rattle.node_page.specs.declared.head.Head.{Head}
 use Rattle.file_jobs.specs.Jobs.{Creates, Audits, IsAuditStatus}
 use Rattle.file_jobs.specs.Shapes.{Shapes, IsShapeStatus}
 use Rattle.stats_jobs.specs.Jobs.{Stats as TellsStats}
-use Rattle.dump_jobs.specs.Jobs.{Dumps as DumpsIndex, IsDumpStatus}
+use Rattle.dump_jobs.specs.Jobs.{Dumps, IsDumpStatus}
 use Rattle.show_jobs.specs.declared.report.Marks.{Marks}
 use Rattle.show_jobs.specs.declared.report.Marks.TheVariants as marks
 use Rattle.show_jobs.specs.Jobs.{ShowsLogs}
@@ -33,11 +33,11 @@ use Rattle.session_run.specs.Job.{RunsSession, IsSessionStatus}
 use Rattle.rows_text.specs.Meaning.{Setting}
 use Rattle.rows_text.specs.Script.{script}
 use Rattle.making_jobs.specs.declared.generating.Generation.{Generation}
-use Rattle.making_jobs.specs.Jobs.{Generates as GeneratesIndex, IsFillStatus}
-use Rattle.making_jobs.specs.Migrating.{Migrates as MigratesIndex, IsMigrateStatus, RefusesNothing}
+use Rattle.making_jobs.specs.Jobs.{Generates, IsFillStatus}
+use Rattle.making_jobs.specs.Migrating.{Migrates, IsMigrateStatus, RefusesNothing}
 use Rattle.page_store.specs.Files.{IsLarge}
 use Rattle.batch_run.specs.Jobs.Batches.{IsBatchStatus, RunsBatch}
-use Rattle.seal_jobs.specs.Seals.{Seals as SealsIndex, IsSealStatus}
+use Rattle.seal_jobs.specs.Seals.{Seals, IsSealStatus}
 use Rattle.seal_jobs.specs.Carries.{CarriesLogs, IsCarriedLogsStatus}
 use Rattle.seal_jobs.specs.Proofs.{ProvesLogs, IsProofStatus}
 
@@ -109,27 +109,28 @@ new_head space policies limit = record {
 abbrev pub most_objects : ℕ
 most_objects = 16777216
 
--- what a run has to do; no task where the words have no job
+-- What a run has to do: a command with its values, or no task where the words have no job. `show`, `verify` and `check` are two tasks
+-- each: on the logs of queries, and on the logs of joins. `proof` is one task by an index and one by a digest.
 pub data Task : Type 0 where
-  Scans : Asked → Task
-  Makes : Head → Task
-  Draws : Task
-  Measures : Task
-  Dumps : Task
-  Shows : Marks → Task
-  ShowsJoins : Marks → Task
-  Sessions : Bool → Task
-  Generates : Generation → Task
-  Migrates : Task
-  Batches : Bool → Task
-  Judges : Task
-  Seals : Task
-  Carries : Task
-  Reports : Report → Task
-  JoinsWithin : ℕ → Task
-  ReportsJoins : Report → Task
-  Proves : List ℕ → Task
-  Nothing : Task
+  Scan : Asked → Task
+  Create : Head → Task
+  Session : Bool → Task
+  Shape : Task
+  Stats : Task
+  Dump : Task
+  Show : Marks → Task
+  ShowJoins : Marks → Task
+  Audit : Task
+  VerifyOrCheck : Report → Task
+  VerifyOrCheckJoins : Report → Task
+  Join : ℕ → Task
+  Gen : Generation → Task
+  Migrate : Task
+  Batch : Bool → Task
+  Seal : Task
+  ProofByIndex : Task
+  ProofByDigest : List ℕ → Task
+  NoTask : Task
 
 -- what `--marks` asks for
 abbrev pub marks_of : Bool → Marks
@@ -137,28 +138,90 @@ marks_of true = marks.Count
 marks_of false = marks.Each
 
 abbrev pub task_of : Option (Job (List ℕ)) → Task
-task_of (Some (job.Scan space limit show)) = Scans (record { space = space; limit = limit; show = show })
-task_of (Some (job.Create index space policies limit)) = Makes (new_head space policies limit)
-task_of (Some (job.Shape index)) = Draws
-task_of (Some (job.Stats index)) = Measures
-task_of (Some (job.Dump index)) = Dumps
-task_of (Some (job.Show index log None counts)) = Shows (marks_of counts)
-task_of (Some (job.Show index log (Some other) counts)) = ShowsJoins (marks_of counts)
-task_of (Some (job.Session index log workers show)) = Sessions show
+task_of (Some (job.Scan space limit show)) = Scan (record { space = space; limit = limit; show = show })
+task_of (Some (job.Create index space policies limit)) = Create (new_head space policies limit)
+task_of (Some (job.Session index log workers show)) = Session show
+task_of (Some (job.Shape index)) = Shape
+task_of (Some (job.Stats index)) = Stats
+task_of (Some (job.Dump index)) = Dump
+task_of (Some (job.Show index log None counts)) = Show (marks_of counts)
+task_of (Some (job.Show index log (Some other) counts)) = ShowJoins (marks_of counts)
+task_of (Some (job.Audit index workers)) = Audit
+task_of (Some (job.Verify index log None)) = VerifyOrCheck report.Verdicts
+task_of (Some (job.Verify index log (Some other))) = VerifyOrCheckJoins report.Verdicts
+task_of (Some (job.Check index log None)) = VerifyOrCheck report.Answers
+task_of (Some (job.Check index log (Some other))) = VerifyOrCheckJoins report.Answers
+task_of (Some (job.Join index other radius log)) = Join radius
 task_of (Some (job.Gen index space count seed policies workers)) =
-    Generates (record { head = new_head space policies most_objects; count = count; seed = seed; workers = workers })
-task_of (Some (job.Migrate index other)) = Migrates
-task_of (Some (job.Batch index workers log show)) = Batches show
-task_of (Some (job.Audit index workers)) = Judges
-task_of (Some (job.Seal index)) = Seals
-task_of (Some (job.Carry index log proof)) = Carries
-task_of (Some (job.Prove log root)) = Proves root
-task_of (Some (job.Verify index log None)) = Reports report.Verdicts
-task_of (Some (job.Check index log None)) = Reports report.Answers
-task_of (Some (job.Join index other radius log)) = JoinsWithin radius
-task_of (Some (job.Verify index log (Some other))) = ReportsJoins report.Verdicts
-task_of (Some (job.Check index log (Some other))) = ReportsJoins report.Answers
-task_of None = Nothing
+    Gen (record { head = new_head space policies most_objects; count = count; seed = seed; workers = workers })
+task_of (Some (job.Migrate index other)) = Migrate
+task_of (Some (job.Batch index workers log show)) = Batch show
+task_of (Some (job.Seal index)) = Seal
+task_of (Some (job.Carry index log proof)) = ProofByIndex
+task_of (Some (job.Prove log root)) = ProofByDigest root
+task_of None = NoTask
+
+-- ---- what each task takes and puts
+
+-- What a task takes and puts. Every task writes to out.
+pub record Uses : Type 0 where
+  -- what it takes: the index, the other index, the script of the input, logs
+  pub index : Bool
+  pub other : Bool
+  pub input : Bool
+  pub log_in : Bool
+  -- it puts logs
+  pub log_out : Bool
+  -- it may have changed the index when memory runs out
+  pub changes_early : Bool
+  -- it may have put logs when it fails
+  pub puts_early : Bool
+  -- it reads all pages of the index into memory
+  pub reads_all : Bool
+
+abbrev pub nothing : Uses
+nothing = record {
+  index = false;
+  other = false;
+  input = false;
+  log_in = false;
+  log_out = false;
+  changes_early = false;
+  puts_early = false;
+  reads_all = false;
+}
+
+-- The table of the tasks. What a line does not name is false.
+abbrev pub uses : Task → Uses
+uses (Scan asked) = record nothing { input = true }
+uses (Create head) = record nothing { index = true }
+uses (Session show) = record nothing { index = true; input = true; log_out = true; changes_early = true; puts_early = true }
+uses Shape = record nothing { index = true }
+uses Stats = record nothing { index = true }
+uses Dump = record nothing { index = true }
+uses (Show what) = record nothing { index = true; log_in = true }
+uses (ShowJoins what) = record nothing { index = true; other = true; log_in = true }
+uses Audit = record nothing { index = true }
+uses (VerifyOrCheck what) = record nothing { index = true; log_in = true }
+uses (VerifyOrCheckJoins what) = record nothing { index = true; other = true; log_in = true }
+uses (Join radius) = record nothing { index = true; other = true; log_out = true }
+uses (Gen asked) = record nothing { index = true; changes_early = true }
+uses Migrate = record nothing { index = true; other = true; changes_early = true }
+uses (Batch show) = record nothing { index = true; input = true; log_out = true; puts_early = true; reads_all = true }
+uses Seal = record nothing { index = true; reads_all = true }
+uses ProofByIndex = record nothing { index = true; log_in = true; log_out = true; puts_early = true; reads_all = true }
+uses (ProofByDigest root) = record nothing { log_in = true }
+uses NoTask = nothing
+
+-- what the task of the words takes and puts
+abbrev pub uses_of : List (List ℕ) → Uses
+uses_of words = uses (task_of (job_of words))
+
+-- a task that uses this reads all pages of the index into memory, and the index has too many for that
+abbrev pub HasTooManyPages : Uses → DiskState → Type 0
+HasTooManyPages used disk = (used.reads_all ≡ true) × (IsTrue disk.tells → IsLarge disk.bytes)
+
+-- ---- what each task does
 
 -- what a run finds or leaves: the index and the other index, what is left to read of the logs, and what was put to out and to the
 -- log's output
@@ -171,141 +234,25 @@ pub record Scene : Type 1 where
 
 -- what a run does to what it found; `input` is what was left to read
 abbrev pub Does : Task → Scene → Scene → Option (List ℕ) → ℕ → Type 0
-Does (Scans asked) a b input status = IfSome input (λ bytes. WritesScan a.out b.out (scan_texts asked bytes) status)
-Does (Makes head) a b input status = Creates head a.index b.index a.out b.out status
-Does (Sessions show) a b input status = RunsSession show input a.index b.index a.out b.out a.log_out b.log_out status
-Does (Generates asked) a b input status = GeneratesIndex asked a.index b.index a.out b.out status
-Does Migrates a b input status = MigratesIndex a.index b.index a.other b.other a.out b.out status × RefusesNothing a.index a.other status
-Does (Batches show) a b input status = RunsBatch show input a.index b.index a.out b.out a.log_out b.log_out status
-Does Draws a b input status = Shapes a.index b.index a.out b.out status
-Does Measures a b input status = TellsStats a.index b.index a.out b.out status
-Does Dumps a b input status = DumpsIndex a.index b.index a.out b.out status
-Does (Shows what) a b input status = ShowsLogs what a.index b.index a.left b.left a.out b.out status
-Does (ShowsJoins what) a b input status = ShowsJoinLogs what a.index b.index a.other b.other a.left b.left a.out b.out status
-Does Judges a b input status = Audits a.index b.index a.out b.out status
-Does (Reports what) a b input status = JudgesLogs what a.index b.index a.left b.left a.out b.out status
-Does (JoinsWithin radius) a b input status = Joins radius a.index b.index a.other b.other a.out b.out a.log_out b.log_out status
-Does (ReportsJoins what) a b input status = JudgesJoinLogs what a.index b.index a.other b.other a.left b.left a.out b.out status
-Does Seals a b input status = SealsIndex a.index b.index a.out b.out status
-Does Carries a b input status = CarriesLogs a.index b.index a.left b.left a.log_out.written b.log_out.written a.out b.out status
-Does (Proves root) a b input status = ProvesLogs root a.left b.left a.out b.out status
-Does Nothing a b input status = WritesUsage a.out b.out status
-
--- the task takes no index
-abbrev pub TakesNoIndex : Task → Type 0
-TakesNoIndex (Scans asked) = Unit {0}
-TakesNoIndex (Makes head) = ⊥
-TakesNoIndex (Sessions show) = ⊥
-TakesNoIndex (Generates asked) = ⊥
-TakesNoIndex Migrates = ⊥
-TakesNoIndex (Batches show) = ⊥
-TakesNoIndex Draws = ⊥
-TakesNoIndex Measures = ⊥
-TakesNoIndex Dumps = ⊥
-TakesNoIndex (Shows what) = ⊥
-TakesNoIndex (ShowsJoins what) = ⊥
-TakesNoIndex Judges = ⊥
-TakesNoIndex (Reports what) = ⊥
-TakesNoIndex (JoinsWithin radius) = ⊥
-TakesNoIndex (ReportsJoins what) = ⊥
-TakesNoIndex Seals = ⊥
-TakesNoIndex Carries = ⊥
-TakesNoIndex (Proves root) = Unit {0}
-TakesNoIndex Nothing = Unit {0}
-
--- the task takes no logs
-abbrev pub TakesNoLog : Task → Type 0
-TakesNoLog (Scans asked) = Unit {0}
-TakesNoLog (Makes head) = Unit {0}
-TakesNoLog (Sessions show) = Unit {0}
-TakesNoLog (Generates asked) = Unit {0}
-TakesNoLog Migrates = Unit {0}
-TakesNoLog (Batches show) = Unit {0}
-TakesNoLog Draws = Unit {0}
-TakesNoLog Measures = Unit {0}
-TakesNoLog Dumps = Unit {0}
-TakesNoLog (Shows what) = ⊥
-TakesNoLog (ShowsJoins what) = ⊥
-TakesNoLog Judges = Unit {0}
-TakesNoLog (Reports what) = ⊥
-TakesNoLog (JoinsWithin radius) = Unit {0}
-TakesNoLog (ReportsJoins what) = ⊥
-TakesNoLog Seals = Unit {0}
-TakesNoLog Carries = ⊥
-TakesNoLog (Proves root) = ⊥
-TakesNoLog Nothing = Unit {0}
-
--- the task takes no other index
-abbrev pub TakesNoOther : Task → Type 0
-TakesNoOther (Scans asked) = Unit {0}
-TakesNoOther (Makes head) = Unit {0}
-TakesNoOther (Sessions show) = Unit {0}
-TakesNoOther (Generates asked) = Unit {0}
-TakesNoOther Migrates = ⊥
-TakesNoOther (Batches show) = Unit {0}
-TakesNoOther Draws = Unit {0}
-TakesNoOther Measures = Unit {0}
-TakesNoOther Dumps = Unit {0}
-TakesNoOther (Shows what) = Unit {0}
-TakesNoOther (ShowsJoins what) = ⊥
-TakesNoOther Judges = Unit {0}
-TakesNoOther (Reports what) = Unit {0}
-TakesNoOther (JoinsWithin radius) = ⊥
-TakesNoOther (ReportsJoins what) = ⊥
-TakesNoOther Seals = Unit {0}
-TakesNoOther Carries = Unit {0}
-TakesNoOther (Proves root) = Unit {0}
-TakesNoOther Nothing = Unit {0}
-
--- the task puts no logs
-abbrev pub PutsNoLog : Task → Type 0
-PutsNoLog (Scans asked) = Unit {0}
-PutsNoLog (Makes head) = Unit {0}
-PutsNoLog (Sessions show) = ⊥
-PutsNoLog (Generates asked) = Unit {0}
-PutsNoLog Migrates = Unit {0}
-PutsNoLog (Batches show) = ⊥
-PutsNoLog Draws = Unit {0}
-PutsNoLog Measures = Unit {0}
-PutsNoLog Dumps = Unit {0}
-PutsNoLog (Shows what) = Unit {0}
-PutsNoLog (ShowsJoins what) = Unit {0}
-PutsNoLog Judges = Unit {0}
-PutsNoLog (Reports what) = Unit {0}
-PutsNoLog (JoinsWithin radius) = ⊥
-PutsNoLog (ReportsJoins what) = Unit {0}
-PutsNoLog Seals = Unit {0}
-PutsNoLog Carries = ⊥
-PutsNoLog (Proves root) = Unit {0}
-PutsNoLog Nothing = Unit {0}
-
--- the task takes no input
-abbrev pub TakesNoInput : Task → Type 0
-TakesNoInput (Scans asked) = ⊥
-TakesNoInput (Sessions show) = ⊥
-TakesNoInput (Batches show) = ⊥
-TakesNoInput other = Unit {0}
-
--- the task leaves the index as it is when memory runs out
-abbrev pub LeavesAtMemory : Task → Type 0
-LeavesAtMemory (Sessions show) = ⊥
-LeavesAtMemory (Generates asked) = ⊥
-LeavesAtMemory Migrates = ⊥
-LeavesAtMemory other = Unit {0}
-
--- the task puts its log last, if it puts one
-abbrev pub PutsLogLast : Task → Type 0
-PutsLogLast (Sessions show) = ⊥
-PutsLogLast (Batches show) = ⊥
-PutsLogLast Carries = ⊥
-PutsLogLast other = Unit {0}
-
--- the index has more pages than the task reads into memory
-abbrev pub HasTooManyPages : Task → DiskState → Type 0
-HasTooManyPages (Batches show) disk = IsTrue disk.tells → IsLarge disk.bytes
-HasTooManyPages Seals disk = IsTrue disk.tells → IsLarge disk.bytes
-HasTooManyPages Carries disk = IsTrue disk.tells → IsLarge disk.bytes
-HasTooManyPages other disk = ⊥
+Does (Scan asked) a b input status = IfSome input (λ bytes. WritesScan a.out b.out (scan_texts asked bytes) status)
+Does (Create head) a b input status = Creates head a.index b.index a.out b.out status
+Does (Session show) a b input status = RunsSession show input a.index b.index a.out b.out a.log_out b.log_out status
+Does Shape a b input status = Shapes a.index b.index a.out b.out status
+Does Stats a b input status = TellsStats a.index b.index a.out b.out status
+Does Dump a b input status = Dumps a.index b.index a.out b.out status
+Does (Show what) a b input status = ShowsLogs what a.index b.index a.left b.left a.out b.out status
+Does (ShowJoins what) a b input status = ShowsJoinLogs what a.index b.index a.other b.other a.left b.left a.out b.out status
+Does Audit a b input status = Audits a.index b.index a.out b.out status
+Does (VerifyOrCheck what) a b input status = JudgesLogs what a.index b.index a.left b.left a.out b.out status
+Does (VerifyOrCheckJoins what) a b input status = JudgesJoinLogs what a.index b.index a.other b.other a.left b.left a.out b.out status
+Does (Join radius) a b input status = Joins radius a.index b.index a.other b.other a.out b.out a.log_out b.log_out status
+Does (Gen asked) a b input status = Generates asked a.index b.index a.out b.out status
+Does Migrate a b input status = Migrates a.index b.index a.other b.other a.out b.out status × RefusesNothing a.index a.other status
+Does (Batch show) a b input status = RunsBatch show input a.index b.index a.out b.out a.log_out b.log_out status
+Does Seal a b input status = Seals a.index b.index a.out b.out status
+Does ProofByIndex a b input status = CarriesLogs a.index b.index a.left b.left a.log_out.written b.log_out.written a.out b.out status
+Does (ProofByDigest root) a b input status = ProvesLogs root a.left b.left a.out b.out status
+Does NoTask a b input status = WritesUsage a.out b.out status
 
 -- The run took at most 2 ^ 26 bytes of input and a buffer more, and at most 2 ^ 30 bytes of logs and a buffer more. Where it took
 -- more than 2 ^ 26 or 2 ^ 30, the status is 7. It is 7 only there, or where the index has too many pages.
@@ -325,22 +272,22 @@ IsScanStatus n = (n ≡ 0) ⊎ ((n ≡ 3) ⊎ ((n ≡ 4) ⊎ ((n ≡ 7) ⊎ (n �
 
 -- the statuses with which a task may end
 abbrev pub IsStatusOf : Task → ℕ → Type 0
-IsStatusOf (Scans asked) n = IsScanStatus n
-IsStatusOf (Makes head) n = (n ≡ 0) ⊎ ((n ≡ 4) ⊎ ((n ≡ 5) ⊎ ((n ≡ 6) ⊎ (n ≡ 8))))
-IsStatusOf (Sessions show) n = IsSessionStatus n
-IsStatusOf (Generates asked) n = IsFillStatus n
-IsStatusOf Migrates n = IsMigrateStatus n
-IsStatusOf (Batches show) n = IsBatchStatus n
-IsStatusOf Draws n = IsShapeStatus n
-IsStatusOf Measures n = IsShapeStatus n
-IsStatusOf Dumps n = IsDumpStatus n
-IsStatusOf (Shows what) n = IsLogStatus n
-IsStatusOf (ShowsJoins what) n = IsLogStatus n
-IsStatusOf Judges n = IsAuditStatus n
-IsStatusOf (Reports what) n = IsLogStatus n
-IsStatusOf (JoinsWithin radius) n = IsJoinStatus n
-IsStatusOf (ReportsJoins what) n = IsLogStatus n
-IsStatusOf Seals n = IsSealStatus n
-IsStatusOf Carries n = IsCarriedLogsStatus n
-IsStatusOf (Proves root) n = IsProofStatus n
-IsStatusOf Nothing n = (n ≡ 2) ⊎ ((n ≡ 4) ⊎ (n ≡ 8))
+IsStatusOf (Scan asked) n = IsScanStatus n
+IsStatusOf (Create head) n = (n ≡ 0) ⊎ ((n ≡ 4) ⊎ ((n ≡ 5) ⊎ ((n ≡ 6) ⊎ (n ≡ 8))))
+IsStatusOf (Session show) n = IsSessionStatus n
+IsStatusOf Shape n = IsShapeStatus n
+IsStatusOf Stats n = IsShapeStatus n
+IsStatusOf Dump n = IsDumpStatus n
+IsStatusOf (Show what) n = IsLogStatus n
+IsStatusOf (ShowJoins what) n = IsLogStatus n
+IsStatusOf Audit n = IsAuditStatus n
+IsStatusOf (VerifyOrCheck what) n = IsLogStatus n
+IsStatusOf (VerifyOrCheckJoins what) n = IsLogStatus n
+IsStatusOf (Join radius) n = IsJoinStatus n
+IsStatusOf (Gen asked) n = IsFillStatus n
+IsStatusOf Migrate n = IsMigrateStatus n
+IsStatusOf (Batch show) n = IsBatchStatus n
+IsStatusOf Seal n = IsSealStatus n
+IsStatusOf ProofByIndex n = IsCarriedLogsStatus n
+IsStatusOf (ProofByDigest root) n = IsProofStatus n
+IsStatusOf NoTask n = (n ≡ 2) ⊎ ((n ≡ 4) ⊎ (n ≡ 8))

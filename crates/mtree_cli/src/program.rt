@@ -14,7 +14,7 @@ ghost use Rattle.session_run.specs.Laws.{TurnsAreTheirMeaning};
 ghost use Rattle.seal_jobs.specs.Laws.{AcceptedShow};
 ghost use Rattle.seal_log.specs.Laws.{CarriedLogsAreAccepted};
 ghost use Rattle.session_run.specs.Job.{IsComplete};
-ghost use Rattle.mtree_cli.specs.Run.{Asked, Does, HasTooManyPages, IsScan, IsSession, IsStatusOf, LeavesAtMemory, PutsLogLast, PutsNoLog, TakesNoIndex, TakesNoInput, TakesNoLog, TakesNoOther, TakesWithin, marks_of, new_head, task_of};
+ghost use Rattle.mtree_cli.specs.Run.{Asked, Does, HasTooManyPages, IsScan, IsSession, IsStatusOf, TakesWithin, marks_of, new_head, task_of, uses_of};
 
 use crate::scan_job::run_scan;
 use batch_run::jobs::{audit_index_by, run_batch};
@@ -99,8 +99,10 @@ pub fn run<R: Threads + Sync, D: SharedDisk, E: Disk, S: Source, L: Source, K: S
 ) -> Status
     // What the job of the words does to the files, and what it writes. Words without a job give the usage line.
     ensures does { Does (task_of (job_of (texts_of words.now)))
-        (record { index = D.state index.old; other = E.state other.old; left = L.left log_in.old; out = K.state out.old; log_out = T.state log_out.old })
-        (record { index = D.state index.new; other = E.state other.new; left = L.left log_in.new; out = K.state out.new; log_out = T.state log_out.new })
+        (record { index = D.state index.old; other = E.state other.old; left = L.left log_in.old; out = K.state out.old;
+            log_out = T.state log_out.old })
+        (record { index = D.state index.new; other = E.state other.new; left = L.left log_in.new; out = K.state out.new;
+            log_out = T.state log_out.new })
         (S.left input.old) result.0 }
 
     // What `check` says of a file and of its logs is true: no fault means soundness, and a complete log has the plain scan's
@@ -121,29 +123,33 @@ pub fn run<R: Threads + Sync, D: SharedDisk, E: Disk, S: Source, L: Source, K: S
     // These are the only statuses.
     ensures statuses { IsStatusOf (task_of (job_of (texts_of words.now))) result.0 }
 
-    // When memory runs out, the index stays as it is, except after a session or a load that changed it. No run changes the other
-    // index. A job that needs no script, no index, no logs, no other index or no log output does not touch it.
-    ensures memory { LeavesAtMemory (task_of (job_of (texts_of words.now))) → result.0 ≡ 8 → IsUnchanged (D.state index.old) (D.state index.new) }
+    // The table `uses` says what each job takes and puts. When memory runs out, the index stays as it is, except after a session or a
+    // load that changed it. No run changes the other index. A job that needs no script, no index, no logs, no other index or no log
+    // output does not touch it.
+    ensures memory { (uses_of (texts_of words.now)).changes_early ≡ false → result.0 ≡ 8 →
+        IsUnchanged (D.state index.old) (D.state index.new) }
     ensures other_same { IsUnchanged (E.state other.old) (E.state other.new) }
-    ensures index { TakesNoIndex (task_of (job_of (texts_of words.now))) → index.new ≡ index.old }
-    ensures untouched { TakesNoInput (task_of (job_of (texts_of words.now))) → input.new ≡ input.old }
-    ensures log_untouched { TakesNoLog (task_of (job_of (texts_of words.now))) → log_in.new ≡ log_in.old }
-    ensures other { TakesNoOther (task_of (job_of (texts_of words.now))) → other.new ≡ other.old }
-    ensures log_out { PutsNoLog (task_of (job_of (texts_of words.now))) → log_out.new ≡ log_out.old }
-    ensures kept { PutsLogLast (task_of (job_of (texts_of words.now))) → result.0 ≢ 0 → result.0 ≢ 4 → log_out.new ≡ log_out.old }
+    ensures index { (uses_of (texts_of words.now)).index ≡ false → index.new ≡ index.old }
+    ensures untouched { (uses_of (texts_of words.now)).input ≡ false → input.new ≡ input.old }
+    ensures log_untouched { (uses_of (texts_of words.now)).log_in ≡ false → log_in.new ≡ log_in.old }
+    ensures other { (uses_of (texts_of words.now)).other ≡ false → other.new ≡ other.old }
+    ensures log_out { (uses_of (texts_of words.now)).log_out ≡ false → log_out.new ≡ log_out.old }
+    ensures kept { (uses_of (texts_of words.now)).puts_early ≡ false → result.0 ≢ 0 → result.0 ≢ 4 → log_out.new ≡ log_out.old }
 
     // A failed read or write is reported only where the device's count of faults rose.
     ensures input { result.0 ≡ 3 → Rose (S.faults input.old) (S.faults input.new) ⊎ Rose (L.faults log_in.old) (L.faults log_in.new) }
-    ensures output { PutsNoLog (task_of (job_of (texts_of words.now))) → result.0 ≡ 4 → Rose (K.state out.old).faults (K.state out.new).faults }
+    ensures output { (uses_of (texts_of words.now)).log_out ≡ false → result.0 ≡ 4 →
+        Rose (K.state out.old).faults (K.state out.new).faults }
     ensures either_output { result.0 ≡ 4 → Rose (K.state out.old).faults (K.state out.new).faults
         ⊎ Rose (T.state log_out.old).faults (T.state log_out.new).faults }
-    ensures disk { TakesNoOther (task_of (job_of (texts_of words.now))) → result.0 ≡ 5 → Rose (D.state index.old).faults (D.state index.new).faults }
+    ensures disk { (uses_of (texts_of words.now)).other ≡ false → result.0 ≡ 5 →
+        Rose (D.state index.old).faults (D.state index.new).faults }
     ensures either_disk { result.0 ≡ 5 → Rose (D.state index.old).faults (D.state index.new).faults
         ⊎ Rose (E.state other.old).faults (E.state other.new).faults }
 
     // A run takes at most 2 ^ 26 bytes of input and 2 ^ 30 of logs, and a buffer more of each. Status 7 comes where it took more
     // than that, and otherwise only where the index has too many pages.
-    ensures long { TakesWithin (HasTooManyPages (task_of (job_of (texts_of words.now))) (D.state index.old)) (S.left input.old)
+    ensures long { TakesWithin (HasTooManyPages (uses_of (texts_of words.now)) (D.state index.old)) (S.left input.old)
         (S.left input.new) (L.left log_in.old) (L.left log_in.new) result.0 }
 
     // A scan that is done has taken all input.
@@ -151,11 +157,13 @@ pub fn run<R: Threads + Sync, D: SharedDisk, E: Disk, S: Source, L: Source, K: S
 
     // With no fault and an input within its limit a scan is done, unless memory runs out.
     ensures complete { (asked : Asked) → IsScan (texts_of words.now) asked → IfSome (S.left input.old) (λ bytes. length bytes ≤ 2 ^ 26 →
-        ¬ Rose (S.faults input.old) (S.faults input.new) → ¬ Rose (K.state out.old).faults (K.state out.new).faults → (result.0 ≡ 0) ⊎ (result.0 ≡ 8)) }
+        ¬ Rose (S.faults input.old) (S.faults input.new) → ¬ Rose (K.state out.old).faults (K.state out.new).faults →
+        (result.0 ≡ 0) ⊎ (result.0 ≡ 8)) }
     // The same holds for a session on a sound file, where its index and the log's output did not fail either.
     ensures complete_session { IsSession (texts_of words.now) → IsComplete (S.left input.old) (D.state index.old)
         (Rose (S.faults input.old) (S.faults input.new) ⊎ (Rose (D.state index.old).faults (D.state index.new).faults
-        ⊎ (Rose (K.state out.old).faults (K.state out.new).faults ⊎ Rose (T.state log_out.old).faults (T.state log_out.new).faults))) result.0 }
+        ⊎ (Rose (K.state out.old).faults (K.state out.new).faults
+        ⊎ Rose (T.state log_out.old).faults (T.state log_out.new).faults))) result.0 }
     ensures counts { (S.faults input.old ≤ S.faults input.new) × (L.faults log_in.old ≤ L.faults log_in.new)
         × ((K.state out.old).faults ≤ (K.state out.new).faults) × ((T.state log_out.old).faults ≤ (T.state log_out.new).faults) }
 {

@@ -3,8 +3,8 @@ use Rattle.job_words.specs.Words.{texts_of}
 use Rattle.job_words.specs.Jobs.{job_of}
 use Rattle.job_words.specs.declared.job.Job.TheVariants as job
 use Rattle.file_jobs.specs.declared.logs.report.Report.TheVariants.{Verdicts, Answers}
-use Rattle.mtree_cli.specs.Run.{Does, HasTooManyPages, LeavesAtMemory, PutsLogLast, Task, TakesNoInput, TakesWithin, task_of}
-use Rattle.mtree_cli.proofs.TaskLemmas.{scene, task_is, unchanged, memory_does, memory_status, nothing_taken, input_taken, batch_taken, seal_taken, carried_taken, proofs_taken, logs_taken, logs_rose, join_logs_taken, join_logs_rose, join_rose, shown_taken, shown_rose, shown_joins_taken, shown_joins_rose}
+use Rattle.mtree_cli.specs.Run.{Does, HasTooManyPages, Task, TakesWithin, task_of, uses}
+use Rattle.mtree_cli.proofs.TaskLemmas.{scene, task_is, is_used, unchanged, memory_does, memory_status, nothing_taken, input_taken, batch_taken, seal_taken, carried_taken, proofs_taken, logs_taken, logs_rose, join_logs_taken, join_logs_rose, join_rose, shown_taken, shown_rose, shown_joins_taken, shown_joins_rose}
 use Rattle.mtree_cli.proofs.program.run.Goals as goal
 
 pub returns-in-Ok-Scan-clause-does : goal.returns-in-Ok-Scan-clause-does
@@ -18,7 +18,7 @@ returns-in-Ok-Scan-clause-memory g c = λ no is. unchanged (g.D.Disk.state c.arg
 
 pub returns-in-Ok-Scan-clause-untouched : goal.returns-in-Ok-Scan-clause-untouched
 returns-in-Ok-Scan-clause-untouched g c = λ no.
-    absurd (subst TakesNoInput (task_is (texts_of c.args.words.now) c.in-Ok-Scan.field-0 (job.Scan c.in-Ok-Scan.space c.in-Ok-Scan.limit c.in-Ok-Scan.show_tags) c.in-Ok-Scan.ensures.job c.in-Ok-Scan.field-0-is) no)
+    absurd (is_used (λ used. used.input) (texts_of c.args.words.now) c.in-Ok-Scan.field-0 (job.Scan c.in-Ok-Scan.space c.in-Ok-Scan.limit c.in-Ok-Scan.show_tags) c.in-Ok-Scan.ensures.job c.in-Ok-Scan.field-0-is refl no)
 
 pub returns-in-Ok-Create-clause-long : goal.returns-in-Ok-Create-clause-long
 returns-in-Ok-Create-clause-long g c = nothing_taken _ (g.S.Source.left c.args.input.now) (g.L.Source.left c.args.log_in.now) c.create_index.result.0 (grind (arith))
@@ -172,14 +172,14 @@ returns-in-Ok-Session-clause-does g c =
 
 pub returns-in-Ok-Session-clause-memory : goal.returns-in-Ok-Session-clause-memory
 returns-in-Ok-Session-clause-memory g c = λ no is.
-    absurd (subst LeavesAtMemory (task_is (texts_of c.args.words.now) c.in-Ok-Session.field-0 (job.Session c.in-Ok-Session.field-0-0 c.in-Ok-Session.field-0-1 c.in-Ok-Session.workers c.in-Ok-Session.show_tags) c.in-Ok-Session.ensures.job c.in-Ok-Session.field-0-is) no)
+    absurd (is_used (λ used. used.changes_early) (texts_of c.args.words.now) c.in-Ok-Session.field-0 (job.Session c.in-Ok-Session.field-0-0 c.in-Ok-Session.field-0-1 c.in-Ok-Session.workers c.in-Ok-Session.show_tags) c.in-Ok-Session.ensures.job c.in-Ok-Session.field-0-is refl no)
 
 pub returns-in-Ok-Session-clause-kept : goal.returns-in-Ok-Session-clause-kept
 returns-in-Ok-Session-clause-kept g c = λ no a b.
-    absurd (subst PutsLogLast (task_is (texts_of c.args.words.now) c.in-Ok-Session.field-0 (job.Session c.in-Ok-Session.field-0-0 c.in-Ok-Session.field-0-1 c.in-Ok-Session.workers c.in-Ok-Session.show_tags) c.in-Ok-Session.ensures.job c.in-Ok-Session.field-0-is) no)
+    absurd (is_used (λ used. used.puts_early) (texts_of c.args.words.now) c.in-Ok-Session.field-0 (job.Session c.in-Ok-Session.field-0-0 c.in-Ok-Session.field-0-1 c.in-Ok-Session.workers c.in-Ok-Session.show_tags) c.in-Ok-Session.ensures.job c.in-Ok-Session.field-0-is refl no)
 
 pub returns-in-Ok-Session-clause-untouched : goal.returns-in-Ok-Session-clause-untouched
-returns-in-Ok-Session-clause-untouched g c = λ no. absurd (subst TakesNoInput (task_is (texts_of c.args.words.now) c.in-Ok-Session.field-0 (job.Session c.in-Ok-Session.field-0-0 c.in-Ok-Session.field-0-1 c.in-Ok-Session.workers c.in-Ok-Session.show_tags) c.in-Ok-Session.ensures.job c.in-Ok-Session.field-0-is) no)
+returns-in-Ok-Session-clause-untouched g c = λ no. absurd (is_used (λ used. used.input) (texts_of c.args.words.now) c.in-Ok-Session.field-0 (job.Session c.in-Ok-Session.field-0-0 c.in-Ok-Session.field-0-1 c.in-Ok-Session.workers c.in-Ok-Session.show_tags) c.in-Ok-Session.ensures.job c.in-Ok-Session.field-0-is refl no)
 
 pub returns-in-Ok-Session-clause-long : goal.returns-in-Ok-Session-clause-long
 returns-in-Ok-Session-clause-long g c = input_taken _ _ _ (g.L.Source.left c.args.log_in.now) c.run_session.result.0 c.run_session.ensures.long
@@ -197,7 +197,7 @@ returns-in-Ok-Gen-clause-does g c =
     subst P (sym (task_is (texts_of c.args.words.now) c.in-Ok-Gen.field-0 (job.Gen c.in-Ok-Gen.field-0-0 c.in-Ok-Gen.space c.in-Ok-Gen.count c.in-Ok-Gen.seed c.in-Ok-Gen.policies c.in-Ok-Gen.workers) c.in-Ok-Gen.ensures.job c.in-Ok-Gen.field-0-is)) (rw c.new_head-in-Ok-Gen.ensures.head at c.generate_index.ensures.generates)
 
 pub returns-in-Ok-Gen-clause-memory : goal.returns-in-Ok-Gen-clause-memory
-returns-in-Ok-Gen-clause-memory g c = λ no is. absurd (subst LeavesAtMemory (task_is (texts_of c.args.words.now) c.in-Ok-Gen.field-0 (job.Gen c.in-Ok-Gen.field-0-0 c.in-Ok-Gen.space c.in-Ok-Gen.count c.in-Ok-Gen.seed c.in-Ok-Gen.policies c.in-Ok-Gen.workers) c.in-Ok-Gen.ensures.job c.in-Ok-Gen.field-0-is) no)
+returns-in-Ok-Gen-clause-memory g c = λ no is. absurd (is_used (λ used. used.changes_early) (texts_of c.args.words.now) c.in-Ok-Gen.field-0 (job.Gen c.in-Ok-Gen.field-0-0 c.in-Ok-Gen.space c.in-Ok-Gen.count c.in-Ok-Gen.seed c.in-Ok-Gen.policies c.in-Ok-Gen.workers) c.in-Ok-Gen.ensures.job c.in-Ok-Gen.field-0-is refl no)
 
 pub returns-in-Ok-Gen-clause-long : goal.returns-in-Ok-Gen-clause-long
 returns-in-Ok-Gen-clause-long g c = nothing_taken _ (g.S.Source.left c.args.input.now) (g.L.Source.left c.args.log_in.now) c.generate_index.result.0 (grind (arith))
@@ -215,7 +215,7 @@ returns-in-Ok-Migrate-clause-does g c =
     subst P (sym (task_is (texts_of c.args.words.now) c.in-Ok-Migrate.field-0 (job.Migrate c.in-Ok-Migrate.field-0-0 c.in-Ok-Migrate.field-0-1) c.in-Ok-Migrate.ensures.job c.in-Ok-Migrate.field-0-is)) (c.migrate_index.ensures.migrates, c.migrate_index.ensures.complete)
 
 pub returns-in-Ok-Migrate-clause-memory : goal.returns-in-Ok-Migrate-clause-memory
-returns-in-Ok-Migrate-clause-memory g c = λ no is. absurd (subst LeavesAtMemory (task_is (texts_of c.args.words.now) c.in-Ok-Migrate.field-0 (job.Migrate c.in-Ok-Migrate.field-0-0 c.in-Ok-Migrate.field-0-1) c.in-Ok-Migrate.ensures.job c.in-Ok-Migrate.field-0-is) no)
+returns-in-Ok-Migrate-clause-memory g c = λ no is. absurd (is_used (λ used. used.changes_early) (texts_of c.args.words.now) c.in-Ok-Migrate.field-0 (job.Migrate c.in-Ok-Migrate.field-0-0 c.in-Ok-Migrate.field-0-1) c.in-Ok-Migrate.ensures.job c.in-Ok-Migrate.field-0-is refl no)
 
 pub returns-in-Ok-Migrate-clause-long : goal.returns-in-Ok-Migrate-clause-long
 returns-in-Ok-Migrate-clause-long g c = nothing_taken _ (g.S.Source.left c.args.input.now) (g.L.Source.left c.args.log_in.now) c.migrate_index.result.0 (grind (arith))
@@ -233,14 +233,14 @@ pub returns-in-Ok-Batch-clause-memory : goal.returns-in-Ok-Batch-clause-memory
 returns-in-Ok-Batch-clause-memory g c = λ no is. c.run_batch.ensures.runs.unchanged
 
 pub returns-in-Ok-Batch-clause-kept : goal.returns-in-Ok-Batch-clause-kept
-returns-in-Ok-Batch-clause-kept g c = λ no a b. absurd (subst PutsLogLast (task_is (texts_of c.args.words.now) c.in-Ok-Batch.field-0 (job.Batch c.in-Ok-Batch.field-0-0 c.in-Ok-Batch.workers c.in-Ok-Batch.field-0-2 c.in-Ok-Batch.show_tags) c.in-Ok-Batch.ensures.job c.in-Ok-Batch.field-0-is) no)
+returns-in-Ok-Batch-clause-kept g c = λ no a b. absurd (is_used (λ used. used.puts_early) (texts_of c.args.words.now) c.in-Ok-Batch.field-0 (job.Batch c.in-Ok-Batch.field-0-0 c.in-Ok-Batch.workers c.in-Ok-Batch.field-0-2 c.in-Ok-Batch.show_tags) c.in-Ok-Batch.ensures.job c.in-Ok-Batch.field-0-is refl no)
 
 pub returns-in-Ok-Batch-clause-untouched : goal.returns-in-Ok-Batch-clause-untouched
-returns-in-Ok-Batch-clause-untouched g c = λ no. absurd (subst TakesNoInput (task_is (texts_of c.args.words.now) c.in-Ok-Batch.field-0 (job.Batch c.in-Ok-Batch.field-0-0 c.in-Ok-Batch.workers c.in-Ok-Batch.field-0-2 c.in-Ok-Batch.show_tags) c.in-Ok-Batch.ensures.job c.in-Ok-Batch.field-0-is) no)
+returns-in-Ok-Batch-clause-untouched g c = λ no. absurd (is_used (λ used. used.input) (texts_of c.args.words.now) c.in-Ok-Batch.field-0 (job.Batch c.in-Ok-Batch.field-0-0 c.in-Ok-Batch.workers c.in-Ok-Batch.field-0-2 c.in-Ok-Batch.show_tags) c.in-Ok-Batch.ensures.job c.in-Ok-Batch.field-0-is refl no)
 
 pub returns-in-Ok-Batch-clause-long : goal.returns-in-Ok-Batch-clause-long
 returns-in-Ok-Batch-clause-long g c =
-    let P : Task → Type 0 = λ t. TakesWithin (HasTooManyPages t (g.D.Disk.state c.args.index.now)) (g.S.Source.left c.args.input.now) (g.S.Source.left c.run_batch.new.input) (g.L.Source.left c.args.log_in.now) (g.L.Source.left c.args.log_in.now) c.run_batch.result.0 in
+    let P : Task → Type 0 = λ t. TakesWithin (HasTooManyPages (uses t) (g.D.Disk.state c.args.index.now)) (g.S.Source.left c.args.input.now) (g.S.Source.left c.run_batch.new.input) (g.L.Source.left c.args.log_in.now) (g.L.Source.left c.args.log_in.now) c.run_batch.result.0 in
     subst P (sym (task_is (texts_of c.args.words.now) c.in-Ok-Batch.field-0 (job.Batch c.in-Ok-Batch.field-0-0 c.in-Ok-Batch.workers c.in-Ok-Batch.field-0-2 c.in-Ok-Batch.show_tags) c.in-Ok-Batch.ensures.job c.in-Ok-Batch.field-0-is)) (batch_taken (g.S.Source.left c.args.input.now) (g.S.Source.left c.run_batch.new.input) (g.L.Source.left c.args.log_in.now) (g.D.Disk.state c.args.index.now) c.run_batch.result.0 c.run_batch.ensures.long)
 
 pub returns-in-Ok-Batch-clause-other_same : goal.returns-in-Ok-Batch-clause-other_same
@@ -254,7 +254,7 @@ returns-in-Ok-Seal-clause-memory g c = λ no is. c.seal_index.ensures.seals.unch
 
 pub returns-in-Ok-Seal-clause-long : goal.returns-in-Ok-Seal-clause-long
 returns-in-Ok-Seal-clause-long g c =
-    let P : Task → Type 0 = λ t. TakesWithin (HasTooManyPages t (g.D.Disk.state c.args.index.now)) (g.S.Source.left c.args.input.now) (g.S.Source.left c.args.input.now) (g.L.Source.left c.args.log_in.now) (g.L.Source.left c.args.log_in.now) c.seal_index.result.0 in
+    let P : Task → Type 0 = λ t. TakesWithin (HasTooManyPages (uses t) (g.D.Disk.state c.args.index.now)) (g.S.Source.left c.args.input.now) (g.S.Source.left c.args.input.now) (g.L.Source.left c.args.log_in.now) (g.L.Source.left c.args.log_in.now) c.seal_index.result.0 in
     subst P (sym (task_is (texts_of c.args.words.now) c.in-Ok-Seal.field-0 (job.Seal c.in-Ok-Seal.field-0-0) c.in-Ok-Seal.ensures.job c.in-Ok-Seal.field-0-is)) (seal_taken (g.S.Source.left c.args.input.now) (g.L.Source.left c.args.log_in.now) _ _ _ _ c.seal_index.result.0 c.seal_index.ensures.seals)
 
 pub returns-in-Ok-Seal-clause-other_same : goal.returns-in-Ok-Seal-clause-other_same
@@ -283,7 +283,7 @@ returns-in-Ok-Carry-clause-memory g c = λ no is. c.carry_logs.ensures.carries.u
 
 pub returns-in-Ok-Carry-clause-long : goal.returns-in-Ok-Carry-clause-long
 returns-in-Ok-Carry-clause-long g c =
-    let P : Task → Type 0 = λ t. TakesWithin (HasTooManyPages t (g.D.Disk.state c.args.index.now)) (g.S.Source.left c.args.input.now) (g.S.Source.left c.args.input.now) (g.L.Source.left c.args.log_in.now) (g.L.Source.left c.carry_logs.new.log_in) c.carry_logs.result.0 in
+    let P : Task → Type 0 = λ t. TakesWithin (HasTooManyPages (uses t) (g.D.Disk.state c.args.index.now)) (g.S.Source.left c.args.input.now) (g.S.Source.left c.args.input.now) (g.L.Source.left c.args.log_in.now) (g.L.Source.left c.carry_logs.new.log_in) c.carry_logs.result.0 in
     subst P (sym (task_is (texts_of c.args.words.now) c.in-Ok-Carry.field-0 (job.Carry c.in-Ok-Carry.field-0-0 c.in-Ok-Carry.field-0-1 c.in-Ok-Carry.field-0-2) c.in-Ok-Carry.ensures.job c.in-Ok-Carry.field-0-is)) (carried_taken (g.S.Source.left c.args.input.now) _ _ _ _ _ _ _ _ c.carry_logs.result.0 c.carry_logs.ensures.carries)
 
 pub returns-in-Ok-Carry-clause-other_same : goal.returns-in-Ok-Carry-clause-other_same
@@ -293,4 +293,4 @@ pub returns-in-Ok-Carry-clause-either_disk : goal.returns-in-Ok-Carry-clause-eit
 returns-in-Ok-Carry-clause-either_disk g c = λ is. inl (c.carry_logs.ensures.disk is)
 
 pub returns-in-Ok-Carry-clause-kept : goal.returns-in-Ok-Carry-clause-kept
-returns-in-Ok-Carry-clause-kept g c = λ no a b. absurd (subst PutsLogLast (task_is (texts_of c.args.words.now) c.in-Ok-Carry.field-0 (job.Carry c.in-Ok-Carry.field-0-0 c.in-Ok-Carry.field-0-1 c.in-Ok-Carry.field-0-2) c.in-Ok-Carry.ensures.job c.in-Ok-Carry.field-0-is) no)
+returns-in-Ok-Carry-clause-kept g c = λ no a b. absurd (is_used (λ used. used.puts_early) (texts_of c.args.words.now) c.in-Ok-Carry.field-0 (job.Carry c.in-Ok-Carry.field-0-0 c.in-Ok-Carry.field-0-1 c.in-Ok-Carry.field-0-2) c.in-Ok-Carry.ensures.job c.in-Ok-Carry.field-0-is refl no)
