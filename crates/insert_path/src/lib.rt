@@ -1,4 +1,4 @@
-//! Insertion of an object into a tree on pages (VLDB 1997, section 3.2): the descent by the choice of subtrees, and the new
+//! Insertion of an object into a tree on pages (VLDB 1997, section 3.3): the descent by the choice of subtrees, and the new
 //! nodes on the way back.
 #![tactic(auto)]
 

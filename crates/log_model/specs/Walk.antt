@@ -1,4 +1,4 @@
--- The walk of a query through a tree, and its marks (VLDB 1997, section 4.1).
+-- The walk of a query through a tree, and its marks (VLDB 1997, section 3.2).
 use Rattle.std.specs.Prelude.{◌≡◌, ℕ, Bool, true, false, List, [], ◌∷◌, ◌++◌, map, Option, Some, None, IsTrue, if◌then◌else◌, nat_le}
 use Rattle.std.specs.List.{AllZip}
 use Rattle.metric_laws.specs.Space.{Space}

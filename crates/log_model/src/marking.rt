@@ -19,7 +19,7 @@ pub struct Probe<'a> {
     pub rho: u64,
 }
 
-/// Returns whether the parent test (VLDB 1997, section 4.1) rules out an entry. `above` is the distance of the query to the routing
+/// Returns whether the parent test (VLDB 1997, section 3.2) rules out an entry. `above` is the distance of the query to the routing
 /// object above. An entry of the root has none, and is never ruled out by this test.
 pub fn is_ruled_out(above: Option<u64>, stored: u64, rho: u64, radius: u64) -> bool
     ensures { result ≡ parent_skips above stored rho radius }

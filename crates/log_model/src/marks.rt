@@ -3,7 +3,7 @@ use metric_laws::Listed;
 /// What a search decided about an entry of a node.
 #[derive(Clone, Copy, PartialEq, Eq)]
 pub enum Mark {
-    /// Ruled out by the parent test, from stored distances to the routing object above (VLDB 1997, section 4.1).
+    /// Ruled out by the parent test, from stored distances to the routing object above (VLDB 1997, section 3.2).
     Skip,
     /// Ruled out by the centre test, from the computed distance to the entry.
     Far,

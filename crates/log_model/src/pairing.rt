@@ -234,7 +234,7 @@ pub fn is_far(apart: Option<u64>, rho: u64, ra: u64, rb: u64) -> bool
     }
 }
 
-/// Returns whether the parent test (VLDB 1997, section 4.1) rules out an entry and the other item. `ra` and `rb` are their radii,
+/// Returns whether the parent test (VLDB 1997, section 3.2) rules out an entry and the other item. `ra` and `rb` are their radii,
 /// `apart` is the distance between the centres of the opened item and the other item, and `stored` is the entry's parent distance.
 /// With no distance, as beside a root, the test rules nothing out.
 pub fn is_skipped(apart: Option<u64>, stored: u64, rho: u64, ra: u64, rb: u64) -> bool

@@ -19,7 +19,7 @@ use tree_shape::Live;
 
 /// Accepts a log exactly where it is sound on the live tree, whatever the pages hold. A sound log names the live generation and
 /// root, and its point fits. The walk from the root takes all its records, and each record has one allowed mark for each entry of
-/// its page. Its answers are those that the records name (VLDB 1997, section 4).
+/// its page. Its answers are those that the records name (VLDB 1997, section 3.2).
 ///
 /// Otherwise it returns the first fault: the state; the point; then record by record the page, the number of marks and the marks;
 /// then a record that is left over; then the first answer that differs.

@@ -46,7 +46,7 @@ fn joined_of(alloc: Global, ll: &Live, lr: &Live, r: u64, walk: JoinWalk) -> Res
 /// two items the one of greater rank is opened, the left one at a tie. Each of its entries is skipped where stored distances rule
 /// it out, left out where its own distance does, and else paired with the other item. The rank of a root is its height plus 1,
 /// that of another node the level that its parent states, and that of an object 0. The tests are those of a query (VLDB 1997,
-/// section 4.1), with the other item's centre as the query's point and its radius added.
+/// section 3.2), with the other item's centre as the query's point and its radius added.
 ///
 /// `Left` and `Right` hold why a page of that side gave no node. A page that holds no node is `Bad`. A page below 3 or not below
 /// the number of pages is `Outside`. One page more is `Repeats` where the first walk of a tree has opened as many nodes as the

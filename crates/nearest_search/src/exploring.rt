@@ -28,7 +28,7 @@ pub struct Explored {
 }
 
 /// Opens subtrees by least possible distance until none is within the radius of the k least distances (VLDB 1997,
-/// section 4.2).
+/// section 3.2).
 pub fn explore<P: Pages, R: Ruler>(
     alloc: Global,
     pages: &mut P,

@@ -1,4 +1,4 @@
-/// A subtree that is not opened yet. Those that may hold the nearest objects come first (VLDB 1997, section 4.2), then those of
+/// A subtree that is not opened yet. Those that may hold the nearest objects come first (VLDB 1997, section 3.2), then those of
 /// lower pages.
 #[derive(Clone, Copy, PartialEq, Eq, PartialOrd, Ord)]
 pub struct Pending {

@@ -17,7 +17,7 @@ use scan_model::Query;
 use std::alloc::Global;
 use tree_shape::Live;
 
-/// Finds the `k` objects nearest to `q`, by distance, then by id (VLDB 1997, section 4.2), and the log that shows it. Subtrees are
+/// Finds the `k` objects nearest to `q`, by distance, then by id (VLDB 1997, section 3.2), and the log that shows it. Subtrees are
 /// opened by their least possible distance, also those as far as the `k`-th object. The log is that of a range search at the
 /// `k`-th object's distance.
 ///

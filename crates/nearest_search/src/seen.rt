@@ -54,7 +54,7 @@ impl Sight {
     }
 }
 
-/// Returns the radius below which the parent test rules an entry out (VLDB 1997, section 4.1): no object of the entry is nearer. It is
+/// Returns the radius below which the parent test rules an entry out (VLDB 1997, section 3.2): no object of the entry is nearer. It is
 /// 0 where no routing point stands above.
 pub fn skip_of(above: Option<u64>, stored: u64, radius: u64) -> u64
     ensures { result ≡ skip_of above stored radius }

@@ -14,9 +14,9 @@ pub struct Head {
     /// The number of coordinates of a point, 1 to 64.
     pub dim: u8,
     /// How a split chooses its routing points: 1 by the least sum of the radii, 2 by the least greater radius
-    /// (VLDB 1997, section 4.2).
+    /// (VLDB 1997, section 4.1).
     pub promote: u8,
-    /// How a split shares out the entries: 1 to the nearer routing point, 2 in turn (VLDB 1997, section 4.3).
+    /// How a split shares out the entries: 1 to the nearer routing point, 2 in turn (VLDB 1997, section 4.2).
     pub split: u8,
     /// The most objects of the index, 1 to 2^24.
     pub limit: u32,

@@ -24,7 +24,7 @@ pub struct Goal<'a> {
 }
 
 /// Gives the next hits: as many as are wanted, or all that are left. A subtree is opened before a candidate at the same distance as
-/// the subtree's lower bound is given, since it may hold an object with a lower id (VLDB 1997, section 4.2).
+/// the subtree's lower bound is given, since it may hold an object with a lower id (VLDB 1997, section 3.2).
 pub fn advance<P: Pages, R: Ruler>(
     alloc: Global,
     pages: &mut P,

@@ -300,7 +300,7 @@ fn places_on(alloc: Global, on: Side, sides: &[Side]) -> Result<Vec<usize>, Memo
 }
 
 /// Deals the entries of a node into two groups around the promoted entries `a` and `b`: by the generalized hyperplane
-/// where `split` is 1, else balanced (VLDB 1997, section 4.3). Each group has at least `least` entries. Returns the places of
+/// where `split` is 1, else balanced (VLDB 1997, section 4.2). Each group has at least `least` entries. Returns the places of
 /// the two groups, each in ascending order.
 pub fn partition(
     alloc: Global,

@@ -14,9 +14,9 @@ use tree_growth::Side;
 #[derive(Clone, Copy, PartialEq, Eq)]
 pub struct Policy {
     /// How the two entries are promoted: 1 by the least sum of the radii, m_RAD, else by the least greater radius, mM_RAD
-    /// (VLDB 1997, section 4.2).
+    /// (VLDB 1997, section 4.1).
     pub promote: u8,
-    /// How the entries are dealt: 1 by the generalized hyperplane, else balanced (VLDB 1997, section 4.3).
+    /// How the entries are dealt: 1 by the generalized hyperplane, else balanced (VLDB 1997, section 4.2).
     pub split: u8,
 }
 

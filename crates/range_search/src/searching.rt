@@ -77,7 +77,7 @@ fn follow<P: Pages, R: Ruler>(
     Ok(walk)
 }
 
-/// Returns all objects within `r` of `q`, by distance, then by id (VLDB 1997, section 4.1), and the log that shows it. The live tree
+/// Returns all objects within `r` of `q`, by distance, then by id (VLDB 1997, section 3.2), and the log that shows it. The live tree
 /// is walked from its root. A subtree or an object is skipped where the distances to the routing object above rule it out, and left
 /// out where its own distance does.
 ///

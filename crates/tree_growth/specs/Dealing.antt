@@ -1,4 +1,4 @@
--- How a node with one entry too many is split (VLDB 1997, section 3.3).
+-- How a node with one entry too many is split (VLDB 1997, section 4).
 use Rattle.std.specs.Prelude.{ℕ, zero, suc, ◌+◌, ◌-◌, ◌*◌, ◌<◌, max, Bool, true, false, not, List, [], ◌∷◌, length, map, filter, Option, Some, None, if◌then◌else◌, nat_lt, nat_le, ◌==◌, ◌&&◌, slice_index_or, slice_set, slice_range, count_by}
 use Rattle.std.specs.List.{flat_map, range_with_len}
 use Rattle.metric_laws.specs.Space.{Space}

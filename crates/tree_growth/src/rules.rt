@@ -1,6 +1,6 @@
 use metric_laws::Listed;
 
-/// The group of an entry while a node is split (VLDB 1997, section 3.3).
+/// The group of an entry while a node is split (VLDB 1997, section 4.2).
 #[derive(Clone, Copy, PartialEq, Eq)]
 pub enum Side {
     /// The group of the first promoted point.
@@ -11,7 +11,7 @@ pub enum Side {
     Open,
 }
 
-/// An entry of an inner node as a new point sees it (VLDB 1997, section 3.2).
+/// An entry of an inner node as a new point sees it (VLDB 1997, section 3.3).
 #[derive(Clone, Copy, PartialEq, Eq)]
 pub struct Aim {
     /// The entry's place in its node, from 0.
