@@ -60,8 +60,10 @@ impl From<IndexFault> for FillFault {
             IndexFault::Disk | IndexFault::Commit | IndexFault::Stopped => FillFault::Disk,
             IndexFault::Memory => FillFault::Memory,
             IndexFault::Damaged(page) => FillFault::Damaged(page),
-            IndexFault::Full | IndexFault::NotEmpty | IndexFault::NoRoom { .. } | IndexFault::Worn =>
-                FillFault::Changed,
+            IndexFault::Full
+            | IndexFault::NotEmpty
+            | IndexFault::NoRoom { .. }
+            | IndexFault::Worn => FillFault::Changed,
         }
     }
 }

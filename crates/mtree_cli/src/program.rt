@@ -99,10 +99,20 @@ pub fn run<R: Threads + Sync, D: SharedDisk, E: Disk, S: Source, L: Source, K: S
 ) -> Status
     // What the job of the words does to the files, and what it writes. Words without a job give the usage line.
     ensures does { Does (task_of (job_of (texts_of words.now)))
-        (record { index = D.state index.old; other = E.state other.old; left = L.left log_in.old; out = K.state out.old;
-            log_out = T.state log_out.old })
-        (record { index = D.state index.new; other = E.state other.new; left = L.left log_in.new; out = K.state out.new;
-            log_out = T.state log_out.new })
+        (record {
+          index = D.state index.old;
+          other = E.state other.old;
+          left = L.left log_in.old;
+          out = K.state out.old;
+          log_out = T.state log_out.old;
+        })
+        (record {
+          index = D.state index.new;
+          other = E.state other.new;
+          left = L.left log_in.new;
+          out = K.state out.new;
+          log_out = T.state log_out.new;
+        })
         (S.left input.old) result.0 }
 
     // What `check` says of a file and of its logs is true: no fault means soundness, and a complete log has the plain scan's

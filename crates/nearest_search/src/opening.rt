@@ -154,10 +154,18 @@ pub fn open_page<P: Pages, R: Ruler>(
     ensures count { machine.new.best.k ≡ machine.old.best.k }
     ensures opened { OnOk result (IsOpened (search_at (R.M.space (R.metric ruler.old)) probe.entry.q.now probe.entry.rho)
         (P.shelf pages.old) machine.old.best.k next
-        (record { queue = machine.old.frontier; best = heap_items machine.old.best.heap; kept = kept_seen machine.old.kept;
-        used = R.used ruler.old })
-        (record { queue = machine.new.frontier; best = heap_items machine.new.best.heap; kept = kept_seen machine.new.kept;
-        used = R.used ruler.new })) }
+        (record {
+          queue = machine.old.frontier;
+          best = heap_items machine.old.best.heap;
+          kept = kept_seen machine.old.kept;
+          used = R.used ruler.old;
+        })
+        (record {
+          queue = machine.new.frontier;
+          best = heap_items machine.new.best.heap;
+          kept = kept_seen machine.new.kept;
+          used = R.used ruler.new;
+        })) }
     ensures cause { IfErr result (HasPageCause (P.shelf pages.old) (P.shelf pages.new) next.page) }
 {
     let node = pages.node(alloc, next.page)?;

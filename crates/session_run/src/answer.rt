@@ -34,7 +34,9 @@ pub fn answer_of_fault(fault: IndexFault) -> Result<Answer, SessionStop>
         IndexFault::NotEmpty => Refusal::NotEmpty,
         IndexFault::NoRoom { .. } => Refusal::NoRoom,
         IndexFault::Worn => Refusal::Worn,
-        IndexFault::Disk | IndexFault::Commit | IndexFault::Stopped => return Err(SessionStop::Disk),
+        IndexFault::Disk | IndexFault::Commit | IndexFault::Stopped => return Err(
+            SessionStop::Disk,
+        ),
         IndexFault::Damaged(page) => return Err(SessionStop::Damaged(page)),
         IndexFault::Memory => return Err(SessionStop::Memory),
     };

@@ -69,7 +69,12 @@ fn judge<P: Pages>(
 }
 
 // Shows the walk of a log. Nothing is shown where it names another tree, or its point is not one of the space.
-fn show_walk<P: Pages>(alloc: Global, view: &View, pages: &mut P, log: &Log) -> Result<Walk, LogStop>
+fn show_walk<P: Pages>(
+    alloc: Global,
+    view: &View,
+    pages: &mut P,
+    log: &Log,
+) -> Result<Walk, LogStop>
     requires { IsLawfulLog log.now }
     ensures same { HoldsSame (P.shelf pages.old) (P.shelf pages.new) }
     ensures keeps { P.keeps pages.old pages.new }

@@ -11,9 +11,9 @@ pub loop-place-preserved : goal.loop-place-preserved
 loop-place-preserved c = (
   c.push_reserved.ensures.capacity ∙ c.loop-place.invariant.0,
   c.push_reserved.ensures.items
-  ∙ ap (λ (ns : List ℕ). ns ++ c.get_u32.result ∷ []) c.loop-place.invariant.1
-  ∙ ap (λ (n : ℕ). firsts (λ (j : ℕ). number_at (c.args.at + 4 * j) 4 c.args.page.now) c.loop-place.place ++ n ∷ []) c.get_u32.ensures
-  ∙ sym (firsts_more (λ (j : ℕ). number_at (c.args.at + 4 * j) 4 c.args.page.now) c.loop-place.place),
+      ∙ ap (λ (ns : List ℕ). ns ++ c.get_u32.result ∷ []) c.loop-place.invariant.1
+      ∙ ap (λ (n : ℕ). firsts (λ (j : ℕ). number_at (c.args.at + 4 * j) 4 c.args.page.now) c.loop-place.place ++ n ∷ []) c.get_u32.ensures
+      ∙ sym (firsts_more (λ (j : ℕ). number_at (c.args.at + 4 * j) 4 c.args.page.now) c.loop-place.place),
 )
 
 pub push_reserved-requires : goal.push_reserved-requires
