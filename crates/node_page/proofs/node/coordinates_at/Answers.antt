@@ -5,7 +5,7 @@ use Rattle.node_page.proofs.Listing.{firsts_none, firsts_more, length-firsts}
 use Rattle.node_page.proofs.node.coordinates_at.Goals as goal
 
 pub loop-place-init : goal.loop-place-init
-loop-place-init c = (c.new.ensures.capacity, c.new.ensures.items ∙ sym (firsts_none (λ (j : ℕ). number_at (c.args.at + 4 * j) 4 c.args.page.now)))
+loop-place-init c = (c.new-coordinates.ensures.capacity, c.new-coordinates.ensures.items ∙ sym (firsts_none (λ (j : ℕ). number_at (c.args.at + 4 * j) 4 c.args.page.now)))
 
 pub loop-place-preserved : goal.loop-place-preserved
 loop-place-preserved c = (

@@ -1,4 +1,4 @@
-use Rattle.std.proofs.Common.{◌≡◌, ℕ, ◌+◌, ◌*◌}
+use Rattle.std.proofs.Common.{◌≡◌, ◌+◌, ◌*◌}
 use Rattle.node_page.specs.Bytes.{number_at}
 use Rattle.node_page.specs.Nodes.{firsts}
 use Rattle.node_page.proofs.node.coordinates_at.Given as goal

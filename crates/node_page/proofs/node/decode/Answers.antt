@@ -14,13 +14,13 @@ returns-in-Some-clause-memory c memory = absurd (never_memory c.args.version c.a
 pub node_in-requires-clause-most : goal.node_in-requires-clause-most
 node_in-requires-clause-most c = few_by_none c.args.version c.args.dim c.args.page.now (sym c.fault_of.ensures ∙ c.in_default.is)
 
-pub returns-in-Ok-clause-ok : goal.returns-in-Ok-clause-ok
-returns-in-Ok-clause-ok c = subst (SpellsIn c.args.version c.args.dim c.args.page.now) (sym c.in-Ok.ensures) (spells_by_none c.args.version c.args.dim c.args.page.now (sym c.fault_of.ensures ∙ c.in_default.is))
+pub returns-clause-ok : goal.returns-clause-ok
+returns-clause-ok c = subst (SpellsIn c.args.version c.args.dim c.args.page.now) (sym c.in_ok-node_in.ensures) (spells_by_none c.args.version c.args.dim c.args.page.now (sym c.fault_of.ensures ∙ c.in_default.is))
 
-pub returns-in-Ok-clause-only : goal.returns-in-Ok-clause-only
-returns-in-Ok-clause-only c node spells = inl (ap Ok (c.in-Ok.ensures ∙ node_is c.args.version c.args.dim c.args.page.now node spells))
+pub returns-clause-only : goal.returns-clause-only
+returns-clause-only c node spells = inl (ap Ok (c.in_ok-node_in.ensures ∙ node_is c.args.version c.args.dim c.args.page.now node spells))
 
-pub returns-in-Ok-clause-lawful : goal.returns-in-Ok-clause-lawful
-returns-in-Ok-clause-lawful c =
-    lawful_by_spells c.args.version c.args.dim c.args.page.now c.in-Ok.node
-    (subst (SpellsIn c.args.version c.args.dim c.args.page.now) (sym c.in-Ok.ensures) (spells_by_none c.args.version c.args.dim c.args.page.now (sym c.fault_of.ensures ∙ c.in_default.is)))
+pub returns-clause-lawful : goal.returns-clause-lawful
+returns-clause-lawful c =
+    lawful_by_spells c.args.version c.args.dim c.args.page.now c.in_ok-node_in.field-0
+    (subst (SpellsIn c.args.version c.args.dim c.args.page.now) (sym c.in_ok-node_in.ensures) (spells_by_none c.args.version c.args.dim c.args.page.now (sym c.fault_of.ensures ∙ c.in_default.is)))
