@@ -6,7 +6,7 @@ use Rattle.page_store.proofs.settling.settle.Goals as goal
 pub returns-clause-placement : goal.returns-clause-placement
 returns-clause-placement c = λ head count writable.
     is_placement head c.args.live.now c.args.numbering.now.numbers.now c.args.tree.nodes.items c.args.tree.root c.args.tree.height c.args.tree.added _
-    (rw (sym c.requires.first) c.in-Ok.ensures) (rw (c.other_side.ensures, needed) refl)
+    (rw (sym c.requires.first) c.in_ok-staged.ensures) (rw (c.other_side.ensures, needed) refl)
     c.requires.low_pages (let w = c.if-needed-live.false in omega (arith, w, needed)) count c.requires.generation (subst (λ (k : ℕ). AreNumbers k c.args.numbering.now.numbers.now) c.requires.first c.requires.numbers)
     (rw (sym c.requires.first) c.requires.root) c.requires.height writable
   where
