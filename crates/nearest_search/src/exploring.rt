@@ -47,8 +47,12 @@ pub fn explore<P: Pages, R: Ruler>(
     ensures keeps { P.keeps pages.old pages.new }
     ensures ok { IfOk result (λ e. IsExplored (R.M.space (R.metric ruler.old)) (P.shelf pages.old)
         (P.shelf pages.new) live.now q.now machine.old.best.k
-        (record { queue = machine.new.frontier; best = heap_items machine.new.best.heap; kept = kept_seen machine.new.kept;
-        used = R.used ruler.new }) e.rho e.opened
+        (record {
+          queue = machine.new.frontier;
+          best = heap_items machine.new.best.heap;
+          kept = kept_seen machine.new.kept;
+          used = R.used ruler.new;
+        }) e.rho e.opened
         (R.used ruler.old)) }
     ensures cause { IfErr result (HasNearestCause live.now (P.shelf pages.old) (P.shelf pages.new)) }
     ensures asked { CountsUpTo (P.shelf pages.old).asked (P.shelf pages.new).asked live.now.pages }
