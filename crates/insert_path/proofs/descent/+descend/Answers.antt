@@ -39,15 +39,15 @@ pub back_at-requires-clause-small : goal.back_at-requires-clause-small
 back_at-requires-clause-small g t c κs within =
     small_descends _ (g.P.Pages.shelf c.own_node.new.pages) (c.args.spot.now.level - 1) c.index-child.result.now.child (above_of false c.as_slice.result.now) c.push.new.self.items c.args.written.now.nodes.items c.descend.new.written.left.items c.descend.new.written.nodes.items c.in_ok-grew-in-Inner.grew c.in_ok-grew-in-Inner.ensures.descends
 
-pub returns-in-Leaf-clause-descends : goal.returns-in-Leaf-clause-descends
-returns-in-Leaf-clause-descends g t c =
+pub returns-in_ok-at_leaf-in-Leaf-clause-descends : goal.returns-in_ok-at_leaf-in-Leaf-clause-descends
+returns-in_ok-at_leaf-in-Leaf-clause-descends g t c =
     leaf_step c.args.task.now.policy c.args.task.now.bounds (number_at c.args.task.now.numbering.numbers.now c.args.task.now.numbering.first) (record { id = c.args.task.now.object.id; tag = c.args.task.now.object.tag; point = c.args.task.now.object.point.now })
     (g.R.M.Metric.space (g.R.Ruler.metric c.args.ruler.now)) (g.P.Pages.shelf c.args.pages.now) c.args.spot.now.level c.args.spot.now.page (above_of c.args.spot.now.root c.args.spot.now.above.now)
     c.in_ok-node.node c.in-Leaf.entries c.into_vec-entries.result.items c.args.written.now.left.items _ c.args.written.now.nodes.items _ _
     c.if-spot-ne0.false c.in_ok-node.ensures.ok c.in-Leaf.is c.into_vec-entries.ensures (search rules) c.in_ok-at_leaf-in-Leaf.ensures.staged c.in_ok-at_leaf-in-Leaf.ensures.within
 
-pub returns-clause-descends : goal.returns-clause-descends
-returns-clause-descends g t c =
+pub returns-in_ok-back_at-in-Inner-clause-descends : goal.returns-in_ok-back_at-in-Inner-clause-descends
+returns-in_ok-back_at-in-Inner-clause-descends g t c =
     inner_step c.args.task.now.policy c.args.task.now.bounds (number_at c.args.task.now.numbering.numbers.now c.args.task.now.numbering.first) (record { id = c.args.task.now.object.id; tag = c.args.task.now.object.tag; point = c.args.task.now.object.point.now })
     (g.R.M.Metric.space (g.R.Ruler.metric c.args.ruler.now)) (g.R.M.Metric.space (g.R.Ruler.metric c.choose-place.new.ruler)) (g.R.M.Metric.space (g.R.Ruler.metric c.descend.new.ruler))
     (g.P.Pages.shelf c.args.pages.now) (g.P.Pages.shelf c.own_node.new.pages)
