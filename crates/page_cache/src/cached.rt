@@ -132,11 +132,14 @@ impl<P: Pages> Pages for Cached<P> {
         ensures kept { MatchResult result (IsUsed self.old.kept self.new.kept page) (λ _. self.new.kept ≡ self.old.kept) }
     {
         self.asked = self.asked.saturating_add(1);
-        if let Some(node) = self.kept.share_of(page)? {
-            return Ok(node);
+        match self.kept.share_of(page) {
+            Ok(Some(node)) => Ok(node),
+            Ok(None) => {
+                let node = self.inner.node(alloc, page)?;
+                self.kept.keep(page, &node);
+                Ok(node)
+            }
+            Err(_) => Err(PageFault::Memory),
         }
-        let node = self.inner.node(alloc, page)?;
-        self.kept.keep(page, &node);
-        Ok(node)
     }
 }

@@ -51,8 +51,8 @@ returns-in_err-open_page-clause-sound g c =
     c.loop-alloc.walk.candidates c.loop-alloc.walk.hits.items c.loop-alloc.walk.tags.items c.loop-alloc.invariant.way c.in-Some.next c.take_within.new.self c.in-Some.ensures.some nodes tells sound holds on
     (g.P.Pages.shelf c.open_page.new.pages) c.in_err-open_page.field-0.0 c.in_err-open_page.ensures.cause)
 
-pub loop-alloc-preserved-in-Ok : goal.loop-alloc-preserved-in-Ok
-loop-alloc-preserved-in-Ok g c = record {
+pub loop-alloc-preserved-in-Some : goal.loop-alloc-preserved-in-Some
+loop-alloc-preserved-in-Some g c = record {
   metric = c.open_page.ensures.metric ∙ c.loop-alloc.invariant.metric;
   keeps = g.met.P.Pages.keeps_both c.args.pages.now c.loop-alloc.pages c.open_page.new.pages c.loop-alloc.invariant.keeps c.open_page.ensures.keeps;
   no_fault = c.in_ok-open_page.ensures.no_fault ∙ c.loop-alloc.invariant.no_fault;
