@@ -125,12 +125,16 @@ fn note_tree<P: Pages>(
 {
     sound_trees_are_toured();
     let mut tour = Tour::begin(alloc, live)?;
-    while let Some((page, node)) = tour.next(alloc, pages)? {
-        if let Err(id) = note_node(numbers, page, node.as_ref()) {
-            return Err(DumpFault::Id(id));
+    loop {
+        match tour.next(alloc, pages) {
+            Ok(Some((page, node))) => match note_node(numbers, page, node.as_ref()) {
+                Ok(()) => {}
+                Err(id) => return Err(DumpFault::Id(id)),
+            },
+            Ok(None) => return Ok(()),
+            Err(fault) => return Err(DumpFault::Page(fault)),
         }
     }
-    Ok(())
 }
 
 /// Walks the live tree and returns the place of each object.

@@ -49,7 +49,9 @@ fn judge_opened<D: Disk, K: Sink>(
     empty_cache_agrees();
     let (head, live) = opened;
     let space = space_of(head);
-    let kept = Kept::new(alloc, KEPT_NODES)?;
+    let Ok(kept) = Kept::new(alloc, KEPT_NODES) else {
+        return Err(LogStop::Memory);
+    };
     let pages = DiskPages::new(index, head.dim, live.pages);
     let mut pages = Cached::from_parts(pages, kept);
     let mut court = LogCourt {

@@ -208,9 +208,13 @@ fn carry_log<D: Disk, K: Sink, L: Sink>(
 {
     let (found, kept) = judge_log(alloc, index, opened, kept, log)?;
     let (put, line, accepted) = log_texts(alloc, index, opened, tree, number, log, found)?;
-    log_out.put(&put)?;
-    out.put(&line)?;
-    Ok((accepted, kept))
+    if log_out.put(&put).is_err() {
+        return Err(LogStop::Sink);
+    }
+    match out.put(&line) {
+        Ok(()) => Ok((accepted, kept)),
+        Err(_) => Err(LogStop::Sink),
+    }
 }
 
 // Puts the frames and the lines of logs. Returns whether none has a fault.

@@ -107,7 +107,9 @@ pub fn show_opened<D: Disk, K: Sink>(
         live: *live,
         nodes: docket.nodes,
     };
-    let kept = Kept::new(alloc, KEPT_NODES)?;
+    let Ok(kept) = Kept::new(alloc, KEPT_NODES) else {
+        return Err(LogStop::Memory);
+    };
     let pages = DiskPages::new(index, head.dim, live.pages);
     let mut pages = Cached::from_parts(pages, kept);
     let shown = show_bytes(alloc, &view, &mut pages, docket.bytes, out);

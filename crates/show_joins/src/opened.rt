@@ -96,8 +96,12 @@ fn show_opened<D: Disk, E: Disk, K: Sink>(
         right: right.1,
         nodes: docket.nodes,
     };
-    let left_kept = Kept::new(alloc, KEPT_NODES)?;
-    let right_kept = Kept::new(alloc, KEPT_NODES)?;
+    let (Ok(left_kept), Ok(right_kept)) = (
+        Kept::new(alloc, KEPT_NODES),
+        Kept::new(alloc, KEPT_NODES),
+    ) else {
+        return Err(LogStop::Memory);
+    };
     let left_pages = DiskPages::new(index, left.0.dim, left.1.pages);
     let right_pages = DiskPages::new(other, right.0.dim, right.1.pages);
     let mut left_pages = Cached::from_parts(left_pages, left_kept);
