@@ -54,7 +54,7 @@ loop-page-preserved g c =
         λ tells.
             let there = told_then old now page node way.1.same is tells in
             notes_more (nodes_of old.read) c.note_node.new.numbers way.0 page node there
-            (c.in-Ok-note_node.ensures.noted (nodes_of old.read) (objects_on (nodes_of old.read) way.0) there (way.2 tells)),
+            (c.in-Ok.ensures.noted (nodes_of old.read) (objects_on (nodes_of old.read) way.0) there (way.2 tells)),
       );
     }
 
