@@ -54,10 +54,10 @@ fn execute<W: Crew<M>, M: Metric, D: Disk>(
         Command::Count => Ok(Answer::plain(Reply::Count(index.count()))),
         Command::Bad(why) => Ok(Answer::plain(Reply::Refused(*why))),
         Command::Cursor(q) => cursors.open(alloc, index, disk, show, q),
-        Command::Next { cursor, n } => {
-            let reply = cursors.advance(alloc, index, disk, *cursor, *n)?;
-            Ok(Answer::plain(reply))
-        }
+        Command::Next { cursor, n } => match cursors.advance(alloc, index, disk, *cursor, *n) {
+            Ok(reply) => Ok(Answer::plain(reply)),
+            Err(why) => Err(why),
+        },
         Command::Close(cursor) => Ok(Answer::plain(cursors.close(index, *cursor))),
     }
 }

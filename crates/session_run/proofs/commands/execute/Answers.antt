@@ -5,7 +5,6 @@ use Rattle.index_core.specs.Index.{OpenIndex}
 use Rattle.index_core.specs.Writing.{Inserts, Loads}
 use Rattle.index_core.specs.Loading.{ids}
 use Rattle.std.proofs.Common.{length}
-use Rattle.std.proofs.lemmas.Result.{err_from_is_err_and}
 use Rattle.session_run.specs.Steps.{plain_answer, written_answer}
 use Rattle.session_run.proofs.Carrying.{any_ok, carried, carried_stopped, close_carried, free_reads, keeps_none, keeps_reading, keeps_written, next_carried}
 use Rattle.session_run.proofs.Inserts.{inserted_stepped, tag_inserted_stepped}
@@ -77,18 +76,16 @@ returns-in-Bad-clause-done g c = rw c.plain-in-Bad.ensures
 pub returns-in-Cursor-clause-done : goal.returns-in-Cursor-clause-done
 returns-in-Cursor-clause-done g c = rw c.in-Cursor.is c.«open».ensures.done
 
-pub returns-in-Next-clause-done : goal.returns-in-Next-clause-done
-returns-in-Next-clause-done g c = rw c.plain-in-Next.ensures
+pub returns-in-Ok-clause-done : goal.returns-in-Ok-clause-done
+returns-in-Ok-clause-done g c = rw c.plain-in-Ok.ensures
     (next_carried (g.M.Metric.space c.args.index.now.file.metric) c.args.show c.args.index.now c.args.index.now c.args.cursors.now c.advance.new.self (g.D.Disk.state c.args.disk.now) (g.D.Disk.state c.advance.new.disk) c.args.command.now
-    c.is_lawful.ensures (c.requires.stands c.requires.going) c.requires.going c.requires.points c.in-Next.cursor c.in-Next.n c.in_ok-reply.reply
-    (reads_only c.args.index.now.file (g.D.Disk.state c.args.disk.now) (g.D.Disk.state c.advance.new.disk) c.advance.ensures.same c.advance.ensures.later) c.in-Next.is c.advance.ensures.next c.advance.ensures.kept c.in_ok-reply.ensures.tagged c.in_ok-reply.ensures.advanced c.in_ok-reply.ensures.through)
+    c.is_lawful.ensures (c.requires.stands c.requires.going) c.requires.going c.requires.points c.in-Next.cursor c.in-Next.n c.in-Ok.reply
+    (reads_only c.args.index.now.file (g.D.Disk.state c.args.disk.now) (g.D.Disk.state c.advance.new.disk) c.advance.ensures.same c.advance.ensures.later) c.in-Next.is c.advance.ensures.next c.advance.ensures.kept c.in-Ok.ensures.tagged c.in-Ok.ensures.advanced c.in-Ok.ensures.through)
 
-pub returns-in_err-reply-clause-done : goal.returns-in_err-reply-clause-done
-returns-in_err-reply-clause-done g c =
-    let p = err_from_is_err_and c.from_residual.result c.from_residual.ensures.1 in
-    rw (p.1, p.2)
-    (carried_stopped (g.M.Metric.space c.args.index.now.file.metric) c.args.show c.args.index.now c.args.index.now c.args.cursors.now c.advance.new.self (g.D.Disk.state c.args.disk.now) (g.D.Disk.state c.advance.new.disk) c.args.command.now
-    c.is_lawful.ensures (c.requires.stands c.requires.going) (reads_only c.args.index.now.file (g.D.Disk.state c.args.disk.now) (g.D.Disk.state c.advance.new.disk) c.advance.ensures.same c.advance.ensures.later) c.in_err-reply.field-0.0 c.in_err-reply.ensures.cause c.in_err-reply.ensures.damage)
+pub returns-in-Err-clause-done : goal.returns-in-Err-clause-done
+returns-in-Err-clause-done g c =
+    carried_stopped (g.M.Metric.space c.args.index.now.file.metric) c.args.show c.args.index.now c.args.index.now c.args.cursors.now c.advance.new.self (g.D.Disk.state c.args.disk.now) (g.D.Disk.state c.advance.new.disk) c.args.command.now
+    c.is_lawful.ensures (c.requires.stands c.requires.going) (reads_only c.args.index.now.file (g.D.Disk.state c.args.disk.now) (g.D.Disk.state c.advance.new.disk) c.advance.ensures.same c.advance.ensures.later) c.in-Err.why c.in-Err.ensures.cause c.in-Err.ensures.damage
 
 pub returns-in-Close-clause-done : goal.returns-in-Close-clause-done
 returns-in-Close-clause-done g c = rw c.plain-in-Close.ensures

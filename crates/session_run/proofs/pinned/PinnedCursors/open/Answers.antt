@@ -56,5 +56,5 @@ returns-clause-done g c = rw c.plain-2.ensures
     (record { number = c.args.self.now.next; cursor = c.in_ok-cursor.cursor }) c.live-live.result c.in_ok-point.point c.is_lawful.ensures (c.requires.stands c.requires.going)
     (c.pin_tree.ensures.stands (ap (λ (i : OpenIndex g.row.M.Denot). i.stopped) c.pin_tree.ensures.rest ∙ c.requires.going))
     (ap (λ (i : OpenIndex g.row.M.Denot). i.stopped) c.pin_tree.ensures.rest ∙ c.requires.going) (g.M.Metric.axioms c.args.index.now.file.metric) c.requires.point c.pin_tree.ensures.reads c.pin_tree.ensures.guarded
-    c.in_default-pin_tree.ensures.pinned c.sound_trees_are_whole.ensures c.in_default-pin_tree.ensures.guards c.live-live.ensures (c.in_ok-point.ensures ∙ c.as_slice.ensures) c.in_ok-cursor.ensures.begun c.in_ok-cursor.ensures.starts
+    c.in_default.ensures.pinned c.sound_trees_are_whole.ensures c.in_default.ensures.guards c.live-live.ensures (c.in_ok-point.ensures ∙ c.as_slice.ensures) c.in_ok-cursor.ensures.begun c.in_ok-cursor.ensures.starts
     refl (c.push_reserved.ensures.items ∙ ap (λ (l : List PinnedCursor). l ++ (record { number = c.args.self.now.next; cursor = c.in_ok-cursor.cursor }) ∷ []) c.reserve.ensures.items) refl c.requires.kept (not_full _ (sym c.is_full.ensures ∙ c.if-is_full.false)))
