@@ -48,7 +48,7 @@ task_is words found named is same = ap task_of (is ∙ ap (λ (f : Job (Bor (Lis
 -- what the task of the job uses is not left alone
 pub is_used : (part : Uses → Bool) (words : List (List ℕ)) (found named : Job (Bor (List ℕ))) → job_of words ≡ Some (texts_in found) → found ≡ named
     → part (uses (task_of (Some (texts_in named)))) ≡ true → part (uses_of words) ≢ false
-is_used part words found named is same yes no = true≢false (sym yes ∙ sym (ap (λ (t : Task). part (uses t)) (task_is words found named is same)) ∙ no)
+is_used part words found named is same used free = true≢false (sym used ∙ sym (ap (λ (t : Task). part (uses t)) (task_is words found named is same)) ∙ free)
 
 -- no call was made
 pub unchanged : (disk : DiskState) → IsUnchanged disk disk

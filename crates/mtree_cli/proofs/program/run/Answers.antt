@@ -1,4 +1,4 @@
-use Rattle.std.proofs.Common.{inl, sym, subst, arith}
+use Rattle.std.proofs.Common.{refl, inl, sym, subst, arith}
 use Rattle.job_words.specs.Words.{texts_of}
 use Rattle.job_words.specs.Jobs.{job_of}
 use Rattle.job_words.specs.declared.job.Job.TheVariants as job
