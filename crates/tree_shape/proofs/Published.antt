@@ -12,3 +12,5 @@ pub use Rattle.tree_shape.proofs.Height.{three_at_least, flat_long, power_rises,
 pub use Rattle.tree_shape.proofs.Reading.{same_objects}
 -- A sound tree on pages is sound without them.
 pub use Rattle.tree_shape.proofs.Bare.{all_mapped, sound_without_pages}
+-- Lists of f 0, f 1 and so on.
+pub use Rattle.tree_shape.proofs.Firsts.{firsts_more, firsts_none, length-firsts, place-firsts, firsts_by, firsts_same}

@@ -1,3 +1,5 @@
+pub mod Flat
+pub mod Entries
 pub mod Fill
 pub mod Tree
 pub mod Laws

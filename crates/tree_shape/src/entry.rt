@@ -1,4 +1,5 @@
-use metric_laws::{Listed, Point};
+use crate::{InnerEntries, LeafEntries};
+use metric_laws::Point;
 
 /// An object in a leaf (VLDB 1997, section 3.1).
 #[derive(Drop)]
@@ -30,10 +31,10 @@ pub struct InnerEntry {
 #[derive(Drop)]
 pub enum Node {
     /// A node of level 0.
-    Leaf(Listed<LeafEntry>),
+    Leaf(LeafEntries),
     /// A node of level 1 to 14.
     Inner {
         level: u8,
-        entries: Listed<InnerEntry>,
+        entries: InnerEntries,
     },
 }
