@@ -9,13 +9,13 @@ use Rattle.log_verify.proofs.checking.check_inner.Goals as goal
 
 pub returns-then-not-checked-clause-few_counted : goal.returns-then-not-checked-clause-few_counted
 returns-then-not-checked-clause-few_counted g c =
-    let low : c.loop-i.i < length c.args.marks.now = omega (arith, c.requires.long, c.len.ensures, c.loop-i-test.true) in
+    let low : c.loop-i.i < length c.args.marks.now = omega (arith, c.requires.long, c.len-i-end.ensures, c.loop-i-test.true) in
     so_far_counted _ _ c.args.marks.now (c.loop-i.i + 1)
     (next_counted _ _ _ c.args.marks.now c.loop-i.i (get_or c.args.marks.now c.loop-i.i Skip) low (mark_is c.args.marks.now c.loop-i.i low) c.loop-i.invariant.counted c.check_subtree-checked.ensures.counted)
 
 pub returns-in_err-push_near-clause-few_counted : goal.returns-in_err-push_near-clause-few_counted
 returns-in_err-push_near-clause-few_counted g c =
-    let low : c.loop-i.i < length c.args.marks.now = omega (arith, c.requires.long, c.len.ensures, c.loop-i-test.true) in
+    let low : c.loop-i.i < length c.args.marks.now = omega (arith, c.requires.long, c.len-i-end.ensures, c.loop-i-test.true) in
     so_far_counted _ _ c.args.marks.now (c.loop-i.i + 1)
     (next_counted _ _ _ c.args.marks.now c.loop-i.i (get_or c.args.marks.now c.loop-i.i Skip) low (mark_is c.args.marks.now c.loop-i.i low) c.loop-i.invariant.counted c.check_subtree-checked.ensures.counted)
 
@@ -23,8 +23,8 @@ pub loop-i-preserved : goal.loop-i-preserved
 loop-i-preserved g c =
     let f : Search = search_at (g.R.M.Metric.space (g.R.Ruler.metric c.args.ruler.now)) c.args.probe.q.now c.args.probe.rho in
     let e : InnerEntry = inner_of c.at-entry.result in
-    let below : c.loop-i.i < length c.args.entries.now = omega (arith, c.len.ensures, c.loop-i-test.true) in
-    let low : c.loop-i.i < length c.args.marks.now = omega (arith, c.requires.long, c.len.ensures, c.loop-i-test.true) in
+    let below : c.loop-i.i < length c.args.entries.now = omega (arith, c.len-i-end.ensures, c.loop-i-test.true) in
+    let low : c.loop-i.i < length c.args.marks.now = omega (arith, c.requires.long, c.len-i-end.ensures, c.loop-i-test.true) in
     let here : search_at (g.R.M.Metric.space (g.R.Ruler.metric c.loop-i.ruler)) c.args.probe.q.now c.args.probe.rho ≡ f =
     ap (λ m. search_at (g.R.M.Metric.space m) c.args.probe.q.now c.args.probe.rho) c.loop-i.invariant.metric in
     let fine : allows_subtree f c.args.above e (get_or c.args.marks.now c.loop-i.i Skip) ≡ true =

@@ -17,9 +17,9 @@ loop-i-preserved g c =
     let s : Space = (g.R.M.Metric.space (g.R.Ruler.metric c.args.ruler.now)) in
     let n : JoinNeed = c.args.probe.need.now in
     let e : LeafEntry = leaf_of c.at-entry.result in
-    let below : c.loop-i.i < length c.args.entries.now = omega (arith, c.len.ensures, c.loop-i-test.true) in
+    let below : c.loop-i.i < length c.args.entries.now = omega (arith, c.len-i-end.ensures, c.loop-i-test.true) in
     let mark : Mark = get_or c.args.marks.now c.loop-i.i Skip in
-    let low : c.loop-i.i < length c.args.marks.now = omega (arith, c.requires.long, c.len.ensures, c.loop-i-test.true) in
+    let low : c.loop-i.i < length c.args.marks.now = omega (arith, c.requires.long, c.len-i-end.ensures, c.loop-i-test.true) in
     let here : g.R.M.Metric.space (g.R.Ruler.metric c.loop-i.ruler) ≡ s = ap (λ m. g.R.M.Metric.space m) c.loop-i.invariant.metric in
     let fine : allows_entry (search_within s c.args.probe.rho) n (object_entry e) mark ≡ true =
     subst (λ (t : Space). allows_entry (search_within t c.args.probe.rho) n (object_entry e) mark ≡ true) here (sym c.check_object-checked.ensures.allowed ∙ not_false c.check_object-checked.result.allowed c.if-not-checked.false) in
@@ -35,13 +35,13 @@ loop-i-preserved g c =
 
 pub returns-then-not-checked-clause-few_counted : goal.returns-then-not-checked-clause-few_counted
 returns-then-not-checked-clause-few_counted g c =
-    let low : c.loop-i.i < length c.args.marks.now = omega (arith, c.requires.long, c.len.ensures, c.loop-i-test.true) in
+    let low : c.loop-i.i < length c.args.marks.now = omega (arith, c.requires.long, c.len-i-end.ensures, c.loop-i-test.true) in
     marks_upto _ _ c.args.marks.now (c.loop-i.i + 1)
     (next_upto _ _ _ c.args.marks.now c.loop-i.i (get_or c.args.marks.now c.loop-i.i Skip) low (mark_is c.args.marks.now c.loop-i.i low) c.loop-i.invariant.counted c.check_object-checked.ensures.counted)
 
 pub returns-in_err-name_object-clause-few_counted : goal.returns-in_err-name_object-clause-few_counted
 returns-in_err-name_object-clause-few_counted g c =
-    let low : c.loop-i.i < length c.args.marks.now = omega (arith, c.requires.long, c.len.ensures, c.loop-i-test.true) in
+    let low : c.loop-i.i < length c.args.marks.now = omega (arith, c.requires.long, c.len-i-end.ensures, c.loop-i-test.true) in
     marks_upto _ _ c.args.marks.now (c.loop-i.i + 1)
     (next_upto _ _ _ c.args.marks.now c.loop-i.i (get_or c.args.marks.now c.loop-i.i Skip) low (mark_is c.args.marks.now c.loop-i.i low) c.loop-i.invariant.counted c.check_object-checked.ensures.counted)
 

@@ -15,7 +15,7 @@ use Rattle.nearest_search.proofs.opening.queue_inner.Goals as goal
 pub loop-index-preserved-then-not-is_near : goal.loop-index-preserved-then-not-is_near
 loop-index-preserved-then-not-is_near g c =
     let s : Space = g.R.M.Metric.space (g.R.Ruler.metric c.args.ruler.now) in
-    let low : c.loop-index.index < length c.args.entries.now = omega (arith, c.len.ensures, c.loop-index-test.true) in
+    let low : c.loop-index.index < length c.args.entries.now = omega (arith, c.len-index-end.ensures, c.loop-index-test.true) in
     let f : Search = search_at s c.args.probe.q.now c.args.probe.rho in
     let sight : c.look-sight.result ≡ subtree_sight f c.args.above (inner_of c.at-entry.result) = cc (c.look-sight.ensures.sight, c.skip_of-skip.ensures, c.loop-index.invariant.metric) in
     let far : is_near (mark_at c.args.probe.rho (subtree_sight f c.args.above (inner_of c.at-entry.result))) ≡ false = cc (sight, c.is_near.ensures, c.if-not-is_near.true) in
@@ -31,7 +31,7 @@ loop-index-preserved-then-not-is_near g c =
 pub loop-index-preserved : goal.loop-index-preserved
 loop-index-preserved g c =
     let s : Space = g.R.M.Metric.space (g.R.Ruler.metric c.args.ruler.now) in
-    let low : c.loop-index.index < length c.args.entries.now = omega (arith, c.len.ensures, c.loop-index-test.true) in
+    let low : c.loop-index.index < length c.args.entries.now = omega (arith, c.len-index-end.ensures, c.loop-index-test.true) in
     let f : Search = search_at s c.args.probe.q.now c.args.probe.rho in
     let sight : c.look-sight.result ≡ subtree_sight f c.args.above (inner_of c.at-entry.result) = cc (c.look-sight.ensures.sight, c.skip_of-skip.ensures, c.loop-index.invariant.metric) in
     let near : is_near (mark_at c.args.probe.rho (subtree_sight f c.args.above (inner_of c.at-entry.result))) ≡ true = cc (sight, c.is_near.ensures, c.if-not-is_near.false) in

@@ -12,7 +12,7 @@ pub loop-index-preserved : goal.loop-index-preserved
 loop-index-preserved g c =
     let s : Space = g.R.M.Metric.space (g.R.Ruler.metric c.args.ruler.now) in
     let e : LeafEntry = leaf_of c.at-entry.result in
-    let below : c.loop-index.index < length c.args.entries.now = omega (arith, c.len.ensures, c.loop-index-test.true) in
+    let below : c.loop-index.index < length c.args.entries.now = omega (arith, c.len-index-end.ensures, c.loop-index-test.true) in
     let dist : c.dist-dist.result ≡ s.dist e.point c.args.q.now = cc (c.dist-dist.ensures.value, c.loop-index.invariant.metric) in
     let x : ◌≡◌ {A = Candidate} (record { dist = c.dist-dist.result; id = e.id; tag = e.tag }) (candidate_of s c.args.q.now e) = (λ i. record { dist = dist i; id = e.id; tag = e.tag }) in
     let next = map-drop (candidate_of s c.args.q.now) c.args.entries.now c.loop-index.index e below c.at-entry.ensures in

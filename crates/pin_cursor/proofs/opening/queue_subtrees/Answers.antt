@@ -12,7 +12,7 @@ pub loop-index-preserved : goal.loop-index-preserved
 loop-index-preserved g c =
     let s : Space = g.R.M.Metric.space (g.R.Ruler.metric c.args.ruler.now) in
     let e : InnerEntry = inner_of c.at-entry.result in
-    let below : c.loop-index.index < length c.args.entries.now = omega (arith, c.len.ensures, c.loop-index-test.true) in
+    let below : c.loop-index.index < length c.args.entries.now = omega (arith, c.len-index-end.ensures, c.loop-index-test.true) in
     let dist : c.dist-dist.result ≡ s.dist e.point c.args.q.now = cc (c.dist-dist.ensures.value, c.loop-index.invariant.metric) in
     let low : c.saturating_sub.result ≡ s.dist e.point c.args.q.now - e.radius = cc (dist, c.saturating_sub.ensures) in
     let x : ◌≡◌ {A = Subtree} (record { low = c.saturating_sub.result; page = e.child }) (subtree_of s c.args.q.now e) = (λ i. record { low = low i; page = e.child }) in
