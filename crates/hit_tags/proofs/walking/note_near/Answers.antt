@@ -5,6 +5,7 @@ use Rattle.tree_shape.specs.Entries.{leaf_of}
 use Rattle.log_model.specs.Walk.{near_ones}
 use Rattle.hit_tags.specs.Wanted.{TakesIn}
 use Rattle.hit_tags.proofs.Taking.{takes_none, takes_both, entry_at, near_at, near_past}
+use Rattle.hit_tags.proofs.walking.note_near.Goals.{then-eq, else-eq}
 use Rattle.hit_tags.proofs.walking.note_near.Goals as goal
 
 pub loop-index-init : goal.loop-index-init
@@ -14,34 +15,33 @@ loop-index-init c = record {
   left = refl;
 }
 
-pub loop-index-preserved-then-eq : goal.loop-index-preserved-then-eq
-loop-index-preserved-then-eq c =
-    let low : c.loop-index.index < length c.args.entries.now = omega (arith, c.len.ensures, c.min.ensures, c.loop-index-test.true) in
-    let mark : c.loop-index.index < length c.args.marks.now = omega (arith, c.min.ensures, c.loop-index-test.true) in
-    let e : LeafEntry = leaf_of c.at.result in
-    let one = near_at c.args.entries.now c.args.marks.now c.loop-index.index e _ low mark c.at.ensures (sym c.if-eq.true ∙ c.eq.ensures) in
-    record {
-      objects = c.loop-index.invariant.objects ++ e ∷ [];
-      taken = takes_both c.args.wanted.now c.loop-index.wanted c.note.new.self c.loop-index.invariant.objects (e ∷ []) c.loop-index.invariant.taken c.note.ensures;
-      left = append_assoc c.loop-index.invariant.objects (e ∷ []) (near_ones (drop (c.loop-index.index + 1) c.args.entries.now) (drop (c.loop-index.index + 1) c.args.marks.now))
-          ∙ ap (λ (os : List LeafEntry). c.loop-index.invariant.objects ++ os) (sym one) ∙ c.loop-index.invariant.left;
-    }
-
 pub loop-index-preserved : goal.loop-index-preserved
 loop-index-preserved c =
-    let low : c.loop-index.index < length c.args.entries.now = omega (arith, c.len.ensures, c.min.ensures, c.loop-index-test.true) in
-    let mark : c.loop-index.index < length c.args.marks.now = omega (arith, c.min.ensures, c.loop-index-test.true) in
-    let e = entry_at c.args.entries.now c.loop-index.index low in
-    let one = near_at c.args.entries.now c.args.marks.now c.loop-index.index e.0 _ low mark e.1 (sym c.if-eq.false ∙ c.eq.ensures) in
-    record {
-      objects = c.loop-index.invariant.objects;
-      taken = c.loop-index.invariant.taken;
-      left = ap (λ (os : List LeafEntry). c.loop-index.invariant.objects ++ os) (sym one) ∙ c.loop-index.invariant.left;
-    }
+    let low : c.loop-index.index < length c.args.entries.now = omega (arith, c.len.ensures, c.min-index-end.ensures, c.loop-index-test.true) in
+    let mark : c.loop-index.index < length c.args.marks.now = omega (arith, c.min-index-end.ensures, c.loop-index-test.true) in
+    elim c.if-eq.branch [
+      | then-eq w ↦
+          let e : LeafEntry = leaf_of w.at.result in
+          let one = near_at c.args.entries.now c.args.marks.now c.loop-index.index e _ low mark w.at.ensures (sym w.if-eq.true ∙ c.eq.ensures) in
+          record {
+            objects = c.loop-index.invariant.objects ++ e ∷ [];
+            taken = rw w.wanted-is (takes_both c.args.wanted.now c.loop-index.wanted w.note.new.self c.loop-index.invariant.objects (e ∷ []) c.loop-index.invariant.taken w.note.ensures);
+            left = append_assoc c.loop-index.invariant.objects (e ∷ []) (near_ones (drop (c.loop-index.index + 1) c.args.entries.now) (drop (c.loop-index.index + 1) c.args.marks.now))
+                ∙ ap (λ (os : List LeafEntry). c.loop-index.invariant.objects ++ os) (sym one) ∙ c.loop-index.invariant.left;
+          }
+      | else-eq w ↦
+          let e = entry_at c.args.entries.now c.loop-index.index low in
+          let one = near_at c.args.entries.now c.args.marks.now c.loop-index.index e.0 _ low mark e.1 (sym w.if-eq.false ∙ c.eq.ensures) in
+          record {
+            objects = c.loop-index.invariant.objects;
+            taken = rw w.wanted-is c.loop-index.invariant.taken;
+            left = ap (λ (os : List LeafEntry). c.loop-index.invariant.objects ++ os) (sym one) ∙ c.loop-index.invariant.left;
+          }
+    ]
 
 pub returns : goal.returns
 returns c =
     let rest : near_ones (drop c.loop-index.index c.args.entries.now) (drop c.loop-index.index c.args.marks.now) ≡ [] =
-    near_past c.args.entries.now c.args.marks.now c.loop-index.index (omega (arith, c.len.ensures, c.min.ensures, c.loop-index-test.false)) in
+    near_past c.args.entries.now c.args.marks.now c.loop-index.index (omega (arith, c.len.ensures, c.min-index-end.ensures, c.loop-index-test.false)) in
     subst (λ (os : List LeafEntry). TakesIn c.args.wanted.now os c.loop-index.wanted)
     (sym (append-nil c.loop-index.invariant.objects) ∙ ap (λ (os : List LeafEntry). c.loop-index.invariant.objects ++ os) (sym rest) ∙ c.loop-index.invariant.left) c.loop-index.invariant.taken
