@@ -1,5 +1,5 @@
 -- What is held of the ids, and the marks of one entry.
-use Rattle.std.proofs.Common.{◌≡◌, ℕ, zero, suc, take, ◌+◌, ◌-◌, ◌<◌, ◌≤◌, Bool, true, false, cond, List, [], ◌∷◌, ◌++◌, map, length, drop, get_or, Option, Some, None, refl, sym, ap, ◌∙◌, arith, drop-cons, append_assoc}
+use Rattle.std.proofs.Common.{◌≡◌, ℕ, zero, suc, take, min, ◌+◌, ◌-◌, ◌<◌, ◌≤◌, add-one, Bool, true, false, cond, List, [], ◌∷◌, ◌++◌, map, length, drop, get_or, Option, Some, None, refl, sym, ap, ◌∙◌, arith, drop-cons, append_assoc}
 use Rattle.std.specs.Prelude.{if◌then◌else◌, ◌==◌}
 use Rattle.std.specs.Option.{option_or}
 use Rattle.std.specs.Ordering.{nat_cmp}
@@ -73,14 +73,20 @@ near_if e es Skip marks b is = rw is refl
 near_if e es Far marks b is = rw is refl
 near_if e es Near marks b is = rw is refl
 
+-- the entry at a place, and its mark
+pub near_at : {X : Type 0} (es : List X) (marks : List Mark) (i : ℕ) (e : X) (b : Bool) → i < length es → i < length marks → e ≡ get_or es i e → b ≡ sameb the_type (get_or marks i Skip) Near →
+    near_ones (drop i es) (drop i marks) ≡ (if b then e ∷ near_ones (drop (i + 1) es) (drop (i + 1) marks) else near_ones (drop (i + 1) es) (drop (i + 1) marks))
+near_at es marks i e b low mark is near =
+    rw (add-one, drop-cons es i e low, drop-cons marks i Skip mark, ← is) (near_if e (drop (suc i) es) (get_or marks i Skip) (drop (suc i) marks) b near)
+
 -- the entry before these, and its mark
 pub near_drop : {X : Type 0} (es : List X) (marks : List Mark) (i : ℕ) (e : X) (b : Bool) → length marks ≡ length es → 0 < i → i ≤ length es → e ≡ get_or es (i - 1) e → b ≡ sameb the_type (get_or marks (i - 1) Skip) Near →
     near_ones (drop (i - 1) es) (drop (i - 1) marks) ≡ (if b then e ∷ near_ones (drop i es) (drop i marks) else near_ones (drop i es) (drop i marks))
 near_drop es marks i e b long some low is near =
     let one : i - 1 < length es = omega arith in
     let mark : i - 1 < length marks = omega arith in
-    let next : suc (i - 1) ≡ i = omega arith in
-    rw (drop-cons es (i - 1) e one, drop-cons marks (i - 1) Skip mark, next, ← is) (near_if e (drop i es) (get_or marks (i - 1) Skip) (drop i marks) b near)
+    let next : i - 1 + 1 ≡ i = omega arith in
+    rw next at (near_at es marks (i - 1) e b one mark is near)
 
 -- the entry at a place
 pub entry_at : {X : Type 0} (es : List X) (i : ℕ) → i < length es → (e : X) × (e ≡ get_or es i e)
@@ -88,14 +94,18 @@ entry_at [] i low = absurd (let f : ⊥ = omega arith in f)
 entry_at (x ∷ xs) zero low = (x, refl)
 entry_at (x ∷ xs) (suc i) low = entry_at xs i (omega arith)
 
-pub none_near : {X : Type 0} (es : List X) (marks : List Mark) → length es ≡ 0 → near_ones es marks ≡ []
-none_near [] marks none = refl
-none_near (e ∷ es) marks none = absurd (let f : ⊥ = omega arith in f)
-
-pub near_none : {X : Type 0} (es : List X) (marks : List Mark) → length marks ≡ 0 → near_ones es marks ≡ []
-near_none [] [] none = refl
-near_none (e ∷ es) [] none = refl
-near_none es (m ∷ marks) none = absurd (let f : ⊥ = omega arith in f)
+-- past the shorter list, nothing is marked
+pub near_past : {X : Type 0} (es : List X) (marks : List Mark) (i : ℕ) → min (length es) (length marks) ≤ i → near_ones (drop i es) (drop i marks) ≡ []
+near_past [] marks zero past = refl
+near_past [] marks (suc i) past = refl
+near_past (e ∷ es) [] zero past = refl
+near_past (e ∷ es) [] (suc i) past = no_marks (drop i es)
+  where
+    no_marks : {X : Type 0} (xs : List X) → near_ones xs [] ≡ []
+    no_marks [] = refl
+    no_marks (x ∷ xs) = refl
+near_past (e ∷ es) (m ∷ marks) zero past = absurd (let f : ⊥ = omega (arith, past) in f)
+near_past (e ∷ es) (m ∷ marks) (suc i) past = near_past es marks i (omega (arith, past))
 
 -- ---- the ids that are wanted
 

@@ -19,7 +19,7 @@ use log_model::{Mark, Record, entry_count};
 use page_store::{PageFault, Pages};
 use scan_model::Hit;
 use std::alloc::Global;
-use tree_shape::{InnerEntry, LeafEntry, Node};
+use tree_shape::{InnerEntries, LeafEntries, Node};
 
 /// A walk from the root, in progress.
 #[derive(Drop)]
@@ -31,24 +31,24 @@ pub struct Walk {
 }
 
 // Notes the objects that are marked Near.
-fn note_near(wanted: &mut Wanted, entries: &[LeafEntry], marks: &[Mark])
+fn note_near(wanted: &mut Wanted, entries: &LeafEntries, marks: &[Mark])
     ensures { TakesIn wanted.old (near_ones entries.now marks.now) wanted.new }
 {
-    for (entry, mark) in entries.iter().zip(marks) {
-        if *mark == Mark::Near {
-            wanted.note(entry);
+    for index in 0..entries.len().min(marks.len()) {
+        if marks[index] == Mark::Near {
+            wanted.note(entries.at(index));
         }
     }
 }
 
 // Puts the pages of the subtrees that are marked Near on the stack, so that the first of them is on top.
-fn push_near(stack: &mut Vec<u32>, entries: &[InnerEntry], marks: &[Mark]) -> Result<(), Memory>
+fn push_near(stack: &mut Vec<u32>, entries: &InnerEntries, marks: &[Mark]) -> Result<(), Memory>
     requires { length marks.now ≡ length entries.now }
     ensures { OnOk result (reverse stack.new.items ≡ map (λ e. e.child) (near_ones entries.now marks.now) ++ reverse stack.old.items) }
 {
     for i in (0..entries.len()).rev() {
         if marks[i] == Mark::Near {
-            stack.push(entries[i].child)?;
+            stack.push(entries.at(i).child)?;
         }
     }
     Ok(())
@@ -88,8 +88,8 @@ impl Walk {
         ensures pages { OnOk result (reverse self.new.stack.items ≡ near_pages node.now marks.now ++ reverse self.old.stack.items) }
     {
         match node {
-            Node::Leaf(entries) => note_near(&mut self.wanted, entries.as_slice(), marks),
-            Node::Inner { entries, .. } => push_near(&mut self.stack, entries.as_slice(), marks)?,
+            Node::Leaf(entries) => note_near(&mut self.wanted, entries, marks),
+            Node::Inner { entries, .. } => push_near(&mut self.stack, entries, marks)?,
         }
         Ok(())
     }

@@ -1,5 +1,6 @@
 ghost use Rattle.std.specs.Prelude.{◌≡◌, ◌∷◌, [], map, Some, None, IfOk};
 ghost use Rattle.std.specs.List.{AllByRecursion};
+ghost use Rattle.tree_shape.specs.Entries.{leaf_of};
 ghost use Rattle.hit_tags.specs.Wanted.{Tagging, held, tag_held, TakesIn};
 
 use crate::Memory;
@@ -7,7 +8,7 @@ use scan_model::Hit;
 use std::alloc::Global;
 use std::collections::BTreeMap;
 use std::marker::Model;
-use tree_shape::LeafEntry;
+use tree_shape::LeafRef;
 
 /// The ids of the hits, each with the tag of the first object with this id, once one was met.
 #[derive(Drop)]
@@ -34,8 +35,8 @@ impl Wanted {
     }
 
     /// Notes an object that was met.
-    pub fn note(&mut self, object: &LeafEntry)
-        ensures { TakesIn self.old (object.now ∷ []) self.new }
+    pub fn note(&mut self, object: LeafRef)
+        ensures { TakesIn self.old (leaf_of object.entry ∷ []) self.new }
     {
         if let Some(tag) = self.tags.get_mut(&object.id) {
             *tag = tag.or(Some(object.tag));

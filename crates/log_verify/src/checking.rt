@@ -2,6 +2,7 @@
 ghost use Rattle.std.specs.Prelude.{◌≡◌, ◌++◌, ◌+◌, ◌≤◌, ◌<◌, ◌^◌, [], ◌∷◌, map, length, IfOk, IfNone, OnOk};
 ghost use Rattle.log_model.specs.declared.marks.Mark.TheVariants.{Near};
 ghost use Rattle.metric_laws.specs.Counts.{count_up, CountsUpTo};
+ghost use Rattle.tree_shape.specs.Entries.{leaf_of, inner_of};
 ghost use Rattle.log_model.specs.Counts.{measured_by};
 ghost use Rattle.log_model.specs.Walk.{search_at, away, allows_object, allows_subtree, near_ones, hit_of, need_of};
 ghost use Rattle.log_verify.specs.Judged.{first_wrong};
@@ -9,7 +10,7 @@ ghost use Rattle.log_verify.specs.Judged.{first_wrong};
 use log_model::{Mark, Memory, Need, Probe, is_ruled_out};
 use metric_laws::{Ruler, centre_test};
 use scan_model::Hit;
-use tree_shape::{InnerEntry, LeafEntry};
+use tree_shape::{InnerEntries, InnerRef, LeafEntries, LeafRef};
 
 // The result for an entry and its mark.
 #[derive(Clone, Copy)]
@@ -25,15 +26,15 @@ fn check_object<R: Ruler>(
     ruler: &mut R,
     probe: Probe,
     above: Option<u64>,
-    entry: &LeafEntry,
+    entry: LeafRef,
     mark: Mark,
 ) -> Checked
     ensures metric { R.metric ruler.new ≡ R.metric ruler.old }
     ensures counted { R.used ruler.new ≡ count_up (R.used ruler.old) (measured_by (mark ∷ [])) }
     ensures allowed { result.allowed ≡
-        allows_object (search_at (R.M.space (R.metric ruler.old)) probe.entry.q.now probe.entry.rho) above entry.now mark }
+        allows_object (search_at (R.M.space (R.metric ruler.old)) probe.entry.q.now probe.entry.rho) above (leaf_of entry.entry) mark }
     ensures dist { mark ≡ Near →
-        result.dist ≡ away (search_at (R.M.space (R.metric ruler.old)) probe.entry.q.now probe.entry.rho) entry.now.point }
+        result.dist ≡ away (search_at (R.M.space (R.metric ruler.old)) probe.entry.q.now probe.entry.rho) (leaf_of entry.entry).point }
 {
     match mark {
         Mark::Skip => Checked {
@@ -41,11 +42,11 @@ fn check_object<R: Ruler>(
             dist: 0,
         },
         Mark::Far => Checked {
-            allowed: centre_test(ruler.dist(entry.point.as_slice(), probe.q), probe.rho, 0),
+            allowed: centre_test(ruler.dist(entry.point, probe.q), probe.rho, 0),
             dist: 0,
         },
         Mark::Near => {
-            let dist = ruler.dist(entry.point.as_slice(), probe.q);
+            let dist = ruler.dist(entry.point, probe.q);
             Checked {
                 allowed: dist <= probe.rho,
                 dist,
@@ -59,15 +60,15 @@ fn check_subtree<R: Ruler>(
     ruler: &mut R,
     probe: Probe,
     above: Option<u64>,
-    entry: &InnerEntry,
+    entry: InnerRef,
     mark: Mark,
 ) -> Checked
     ensures metric { R.metric ruler.new ≡ R.metric ruler.old }
     ensures counted { R.used ruler.new ≡ count_up (R.used ruler.old) (measured_by (mark ∷ [])) }
     ensures allowed { result.allowed ≡
-        allows_subtree (search_at (R.M.space (R.metric ruler.old)) probe.entry.q.now probe.entry.rho) above entry.now mark }
+        allows_subtree (search_at (R.M.space (R.metric ruler.old)) probe.entry.q.now probe.entry.rho) above (inner_of entry.entry) mark }
     ensures dist { mark ≡ Near →
-        result.dist ≡ away (search_at (R.M.space (R.metric ruler.old)) probe.entry.q.now probe.entry.rho) entry.now.point }
+        result.dist ≡ away (search_at (R.M.space (R.metric ruler.old)) probe.entry.q.now probe.entry.rho) (inner_of entry.entry).point }
 {
     match mark {
         Mark::Skip => Checked {
@@ -75,16 +76,12 @@ fn check_subtree<R: Ruler>(
             dist: 0,
         },
         Mark::Far => Checked {
-            allowed: centre_test(
-                ruler.dist(entry.point.as_slice(), probe.q),
-                probe.rho,
-                entry.radius,
-            ),
+            allowed: centre_test(ruler.dist(entry.point, probe.q), probe.rho, entry.radius),
             dist: 0,
         },
         Mark::Near => Checked {
             allowed: true,
-            dist: ruler.dist(entry.point.as_slice(), probe.q),
+            dist: ruler.dist(entry.point, probe.q),
         },
     }
 }
@@ -105,7 +102,7 @@ pub fn check_leaf<R: Ruler>(
     ruler: &mut R,
     probe: Probe,
     above: Option<u64>,
-    entries: &[LeafEntry],
+    entries: &LeafEntries,
     marks: &[Mark],
     hits: &mut Vec<Hit>,
 ) -> Result<Option<u32>, Memory>
@@ -123,7 +120,7 @@ pub fn check_leaf<R: Ruler>(
     ensures few_counted { CountsUpTo (R.used ruler.old) (R.used ruler.new) (measured_by marks.now) }
 {
     for i in 0..entries.len() {
-        let entry = &entries[i];
+        let entry = entries.at(i);
         let checked = check_object(ruler, probe, above, entry, marks[i]);
         if !checked.allowed {
             return Ok(Some(i as u32));
@@ -143,7 +140,7 @@ pub fn check_inner<R: Ruler>(
     ruler: &mut R,
     probe: Probe,
     above: Option<u64>,
-    entries: &[InnerEntry],
+    entries: &InnerEntries,
     marks: &[Mark],
     needs: &mut Vec<Need>,
 ) -> Result<Option<u32>, Memory>
@@ -161,7 +158,7 @@ pub fn check_inner<R: Ruler>(
     ensures few_counted { CountsUpTo (R.used ruler.old) (R.used ruler.new) (measured_by marks.now) }
 {
     for i in 0..entries.len() {
-        let entry = &entries[i];
+        let entry = entries.at(i);
         let checked = check_subtree(ruler, probe, above, entry, marks[i]);
         if !checked.allowed {
             return Ok(Some(i as u32));

@@ -2,6 +2,7 @@
 ghost use Rattle.std.specs.Prelude.{◌≡◌, ◌++◌, ◌<◌, ◌^◌, [], ◌∷◌, length, OnOk, IfOk, IfNone};
 ghost use Rattle.log_model.specs.declared.marks.Mark.TheVariants.{Near};
 ghost use Rattle.metric_laws.specs.Counts.{CountsUpTo};
+ghost use Rattle.tree_shape.specs.Entries.{leaf_of, inner_of};
 ghost use Rattle.log_model.specs.Counts.{entry_count, measured_by};
 ghost use Rattle.log_model.specs.Walk.{near_ones};
 ghost use Rattle.log_model.specs.JoinWalk.{allows_entry, object_entry, subtree_entry, join_hits, join_needs, within_apart};
@@ -12,7 +13,7 @@ ghost use Rattle.log_verify.specs.JoinSteps.{object_pair, subtree_pair};
 use log_model::{JoinProbe, Mark, Matches, Memory, is_far, is_skipped};
 use metric_laws::Ruler;
 use std::alloc::Global;
-use tree_shape::{InnerEntry, LeafEntry, Node};
+use tree_shape::{InnerEntries, InnerRef, LeafEntries, LeafRef, Node};
 
 // The result for an entry and its mark.
 #[derive(Clone, Copy)]
@@ -48,13 +49,13 @@ fn apart_from<R: Ruler>(ruler: &mut R, probe: JoinProbe, point: &[u32]) -> Optio
 fn check_object<R: Ruler>(
     ruler: &mut R,
     probe: JoinProbe,
-    entry: &LeafEntry,
+    entry: LeafRef,
     mark: Mark,
 ) -> JoinChecked
     ensures metric { R.metric ruler.new ≡ R.metric ruler.old }
     ensures allowed { result.allowed ≡ allows_entry (search_within (R.M.space (R.metric ruler.old)) probe.entry.rho) probe.entry.need.now
-        (object_entry entry.now) mark }
-    ensures apart { mark ≡ Near → result.apart ≡ (object_pair (R.M.space (R.metric ruler.old)) probe.entry.need.now entry.now).apart }
+        (object_entry (leaf_of entry.entry)) mark }
+    ensures apart { mark ≡ Near → result.apart ≡ (object_pair (R.M.space (R.metric ruler.old)) probe.entry.need.now (leaf_of entry.entry)).apart }
     ensures counted { CountsUpTo (R.used ruler.old) (R.used ruler.new) (measured_by (mark ∷ [])) }
 {
     match mark {
@@ -64,7 +65,7 @@ fn check_object<R: Ruler>(
         },
         Mark::Far => JoinChecked {
             allowed: is_far(
-                apart_from(ruler, probe, entry.point.as_slice()),
+                apart_from(ruler, probe, entry.point),
                 probe.rho,
                 0,
                 probe.reach,
@@ -72,7 +73,7 @@ fn check_object<R: Ruler>(
             apart: None,
         },
         Mark::Near => {
-            let apart = apart_from(ruler, probe, entry.point.as_slice());
+            let apart = apart_from(ruler, probe, entry.point);
             JoinChecked {
                 allowed: !probe.need.other().is_object() || is_within(apart, probe.rho),
                 apart,
@@ -86,14 +87,14 @@ fn check_subtree<R: Ruler>(
     ruler: &mut R,
     probe: JoinProbe,
     level: u8,
-    entry: &InnerEntry,
+    entry: InnerRef,
     mark: Mark,
 ) -> JoinChecked
     ensures metric { R.metric ruler.new ≡ R.metric ruler.old }
     ensures allowed { result.allowed ≡ allows_entry (search_within (R.M.space (R.metric ruler.old)) probe.entry.rho) probe.entry.need.now
-        (subtree_entry level entry.now) mark }
+        (subtree_entry level (inner_of entry.entry)) mark }
     ensures apart { mark ≡ Near →
-        result.apart ≡ (subtree_pair (R.M.space (R.metric ruler.old)) probe.entry.need.now level entry.now).apart }
+        result.apart ≡ (subtree_pair (R.M.space (R.metric ruler.old)) probe.entry.need.now level (inner_of entry.entry)).apart }
     ensures counted { CountsUpTo (R.used ruler.old) (R.used ruler.new) (measured_by (mark ∷ [])) }
 {
     match mark {
@@ -109,7 +110,7 @@ fn check_subtree<R: Ruler>(
         },
         Mark::Far => JoinChecked {
             allowed: is_far(
-                apart_from(ruler, probe, entry.point.as_slice()),
+                apart_from(ruler, probe, entry.point),
                 probe.rho,
                 entry.radius,
                 probe.reach,
@@ -118,7 +119,7 @@ fn check_subtree<R: Ruler>(
         },
         Mark::Near => JoinChecked {
             allowed: true,
-            apart: apart_from(ruler, probe, entry.point.as_slice()),
+            apart: apart_from(ruler, probe, entry.point),
         },
     }
 }
@@ -127,14 +128,14 @@ fn check_subtree<R: Ruler>(
 fn name_object(
     probe: JoinProbe,
     named: &mut Matches,
-    entry: &LeafEntry,
+    entry: LeafRef,
     mark: Mark,
     apart: Option<u64>,
 ) -> Result<(), Memory>
     ensures hits { OnOk result (named.new.hits.items ≡ named.old.hits.items ++ hits_among
-        (near_ones (paired probe.entry.need.now (object_entry entry.now).item apart ∷ []) (mark ∷ []))) }
+        (near_ones (paired probe.entry.need.now (object_entry (leaf_of entry.entry)).item apart ∷ []) (mark ∷ []))) }
     ensures needs { OnOk result (named.new.needs.items ≡ named.old.needs.items ++ needs_among
-        (near_ones (paired probe.entry.need.now (object_entry entry.now).item apart ∷ []) (mark ∷ []))) }
+        (near_ones (paired probe.entry.need.now (object_entry (leaf_of entry.entry)).item apart ∷ []) (mark ∷ []))) }
 {
     match mark {
         Mark::Near => named.add_object(probe, entry, apart),
@@ -147,14 +148,14 @@ fn name_subtree(
     probe: JoinProbe,
     named: &mut Matches,
     level: u8,
-    entry: &InnerEntry,
+    entry: InnerRef,
     mark: Mark,
     apart: Option<u64>,
 ) -> Result<(), Memory>
     ensures hits { OnOk result (named.new.hits.items ≡ named.old.hits.items ++ hits_among
-        (near_ones (paired probe.entry.need.now (subtree_entry level entry.now).item apart ∷ []) (mark ∷ []))) }
+        (near_ones (paired probe.entry.need.now (subtree_entry level (inner_of entry.entry)).item apart ∷ []) (mark ∷ []))) }
     ensures needs { OnOk result (named.new.needs.items ≡ named.old.needs.items ++ needs_among
-        (near_ones (paired probe.entry.need.now (subtree_entry level entry.now).item apart ∷ []) (mark ∷ []))) }
+        (near_ones (paired probe.entry.need.now (subtree_entry level (inner_of entry.entry)).item apart ∷ []) (mark ∷ []))) }
 {
     match mark {
         Mark::Near => named.add_subtree(probe, level, entry, apart),
@@ -166,7 +167,7 @@ fn name_subtree(
 fn check_leaf<R: Ruler>(
     ruler: &mut R,
     probe: JoinProbe,
-    entries: &[LeafEntry],
+    entries: &LeafEntries,
     marks: &[Mark],
     named: &mut Matches,
 ) -> Result<Option<u32>, Memory>
@@ -185,7 +186,7 @@ fn check_leaf<R: Ruler>(
     ensures few_counted { CountsUpTo (R.used ruler.old) (R.used ruler.new) (measured_by marks.now) }
 {
     for i in 0..entries.len() {
-        let entry = &entries[i];
+        let entry = entries.at(i);
         let checked = check_object(ruler, probe, entry, marks[i]);
         if !checked.allowed {
             return Ok(Some(i as u32));
@@ -200,7 +201,7 @@ fn check_inner<R: Ruler>(
     ruler: &mut R,
     probe: JoinProbe,
     level: u8,
-    entries: &[InnerEntry],
+    entries: &InnerEntries,
     marks: &[Mark],
     named: &mut Matches,
 ) -> Result<Option<u32>, Memory>
@@ -221,7 +222,7 @@ fn check_inner<R: Ruler>(
     ensures few_counted { CountsUpTo (R.used ruler.old) (R.used ruler.new) (measured_by marks.now) }
 {
     for i in 0..entries.len() {
-        let entry = &entries[i];
+        let entry = entries.at(i);
         let checked = check_subtree(ruler, probe, level, entry, marks[i]);
         if !checked.allowed {
             return Ok(Some(i as u32));
@@ -255,9 +256,9 @@ pub fn check_node<R: Ruler>(
     ensures few_counted { CountsUpTo (R.used ruler.old) (R.used ruler.new) (measured_by marks.now) }
 {
     match node {
-        Node::Leaf(entries) => check_leaf(ruler, probe, entries.as_slice(), marks, named),
+        Node::Leaf(entries) => check_leaf(ruler, probe, entries, marks, named),
         Node::Inner { level, entries } => {
-            check_inner(ruler, probe, *level, entries.as_slice(), marks, named)
+            check_inner(ruler, probe, *level, entries, marks, named)
         }
     }
 }

@@ -104,24 +104,10 @@ fn check_node<R: Ruler>(
     ensures few_counted { CountsUpTo (R.used ruler.old) (R.used ruler.new) (measured_by marks.now) }
 {
     match node {
-        Node::Leaf(entries) => check_leaf(
-            ruler,
-            probe,
-            above,
-            entries.as_slice(),
-            marks,
-            &mut walk.hits,
-        ),
+        Node::Leaf(entries) => check_leaf(ruler, probe, above, entries, marks, &mut walk.hits),
         Node::Inner { entries, .. } => {
             walk.needs.clear();
-            let wrong = check_inner(
-                ruler,
-                probe,
-                above,
-                entries.as_slice(),
-                marks,
-                &mut walk.needs,
-            )?;
+            let wrong = check_inner(ruler, probe, above, entries, marks, &mut walk.needs)?;
             put_on_top(&mut walk.stack, &mut walk.needs)?;
             Ok(wrong)
         }

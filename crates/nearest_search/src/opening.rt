@@ -21,14 +21,14 @@ use log_model::Probe;
 use metric_laws::Ruler;
 use page_store::{PageFault, Pages};
 use std::alloc::{AllocError, Global};
-use tree_shape::{InnerEntry, LeafEntry, Node};
+use tree_shape::{InnerEntries, LeafEntries, Node};
 
 /// Takes in the distances of a leaf's objects.
 pub fn note_leaf<R: Ruler>(
     ruler: &mut R,
     probe: Probe,
     above: Option<u64>,
-    entries: &[LeafEntry],
+    entries: &LeafEntries,
     best: &mut Best,
     seen: &mut Vec<Sight>,
 ) -> Result<(), AllocError>
@@ -40,9 +40,10 @@ pub fn note_leaf<R: Ruler>(
     ensures seen { OnOk result (seen.new.items ≡ seen.old.items
         ++ map (object_sight (search_at (R.M.space (R.metric ruler.old)) probe.entry.q.now probe.entry.rho) above) entries.now) }
 {
-    for entry in entries {
+    for index in 0..entries.len() {
+        let entry = entries.at(index);
         let skip = skip_of(above, entry.parent, 0);
-        let sight = look(ruler, probe, entry.point.as_slice(), entry.id, 0, skip);
+        let sight = look(ruler, probe, entry.point, entry.id, 0, skip);
         seen.push(sight)?;
         if !sight.is_near(probe.rho) {
             continue;
@@ -57,7 +58,7 @@ pub fn queue_inner<R: Ruler>(
     ruler: &mut R,
     probe: Probe,
     above: Option<u64>,
-    entries: &[InnerEntry],
+    entries: &InnerEntries,
     frontier: &mut Frontier,
     seen: &mut Vec<Sight>,
 ) -> Result<(), AllocError>
@@ -69,16 +70,10 @@ pub fn queue_inner<R: Ruler>(
     ensures seen { OnOk result (seen.new.items ≡ seen.old.items
         ++ map (subtree_sight (search_at (R.M.space (R.metric ruler.old)) probe.entry.q.now probe.entry.rho) above) entries.now) }
 {
-    for entry in entries {
+    for index in 0..entries.len() {
+        let entry = entries.at(index);
         let skip = skip_of(above, entry.parent, entry.radius);
-        let sight = look(
-            ruler,
-            probe,
-            entry.point.as_slice(),
-            entry.child,
-            entry.radius,
-            skip,
-        );
+        let sight = look(ruler, probe, entry.point, entry.child, entry.radius, skip);
         seen.push(sight)?;
         if !sight.is_near(probe.rho) {
             continue;
@@ -114,13 +109,11 @@ fn see_node<R: Ruler>(
 {
     match node {
         Node::Leaf(entries) => {
-            let entries = entries.as_slice();
             let mut seen = Vec::with_capacity(alloc, entries.len())?;
             note_leaf(ruler, probe, above, entries, &mut machine.best, &mut seen)?;
             Ok(Seen::Objects(seen))
         }
         Node::Inner { entries, .. } => {
-            let entries = entries.as_slice();
             let mut seen = Vec::with_capacity(alloc, entries.len())?;
             queue_inner(
                 ruler,

@@ -12,21 +12,22 @@ use crate::walk::Walk;
 use metric_laws::Ruler;
 use page_store::{PageFault, Pages};
 use std::alloc::{AllocError, Global};
-use tree_shape::{InnerEntry, LeafEntry, Node};
+use tree_shape::{InnerEntries, LeafEntries, Node};
 
 /// Adds a leaf's objects to the candidates.
 pub fn meet_objects<R: Ruler>(
     ruler: &mut R,
     q: &[u32],
-    entries: &[LeafEntry],
+    entries: &LeafEntries,
     candidates: &mut Candidates,
 ) -> Result<(), AllocError>
     ensures metric { R.metric ruler.new ≡ R.metric ruler.old }
     ensures met { OnOk result (IsPermutation
         (map (candidate_of (R.M.space (R.metric ruler.old)) q.now) entries.now ++ candidates.old) candidates.new) }
 {
-    for entry in entries {
-        let dist = ruler.dist(entry.point.as_slice(), q);
+    for index in 0..entries.len() {
+        let entry = entries.at(index);
+        let dist = ruler.dist(entry.point, q);
         candidates.add(Candidate {
             dist,
             id: entry.id,
@@ -40,15 +41,16 @@ pub fn meet_objects<R: Ruler>(
 pub fn queue_subtrees<R: Ruler>(
     ruler: &mut R,
     q: &[u32],
-    entries: &[InnerEntry],
+    entries: &InnerEntries,
     subtrees: &mut Subtrees,
 ) -> Result<(), AllocError>
     ensures metric { R.metric ruler.new ≡ R.metric ruler.old }
     ensures queued { OnOk result (IsPermutation
         (map (subtree_of (R.M.space (R.metric ruler.old)) q.now) entries.now ++ subtrees.old) subtrees.new) }
 {
-    for entry in entries {
-        let dist = ruler.dist(entry.point.as_slice(), q);
+    for index in 0..entries.len() {
+        let entry = entries.at(index);
+        let dist = ruler.dist(entry.point, q);
         subtrees.add(Subtree {
             low: dist.saturating_sub(entry.radius),
             page: entry.child,
@@ -83,10 +85,10 @@ pub fn open_page<P: Pages, R: Ruler>(
     let node = pages.node(alloc, page)?;
     match node.as_ref() {
         Node::Leaf(entries) => {
-            meet_objects(ruler, q, entries.as_slice(), &mut walk.candidates)?;
+            meet_objects(ruler, q, entries, &mut walk.candidates)?;
         }
         Node::Inner { entries, .. } => {
-            queue_subtrees(ruler, q, entries.as_slice(), &mut walk.subtrees)?;
+            queue_subtrees(ruler, q, entries, &mut walk.subtrees)?;
         }
     }
     Ok(())

@@ -6,12 +6,12 @@ use Rattle.nearest_search.specs.Seeing.{subtree_sight}
 use Rattle.nearest_search.proofs.opening.queue_inner.Given as goal
 
 -- what is queued so far, and what the rest will queue
-abbrev pub invariant-loop-entry : goal.invariant-loop-entry
-invariant-loop-entry g l = record {
+abbrev pub invariant-loop-index : goal.invariant-loop-index
+invariant-loop-index g l = record {
   metric : g.R.Ruler.metric l.ruler ≡ g.R.Ruler.metric l.fn.ruler;
-  used : g.R.Ruler.used l.ruler ≤ g.R.Ruler.used l.fn.ruler + l.entry-index;
+  used : g.R.Ruler.used l.ruler ≤ g.R.Ruler.used l.fn.ruler + l.index;
   queued : IsPermutation (inner_pendings (search_at (g.R.M.Metric.space (g.R.Ruler.metric l.fn.ruler)) l.probe.q.now l.probe.rho) l.above l.entries ++ l.fn.frontier)
-      (inner_pendings (search_at (g.R.M.Metric.space (g.R.Ruler.metric l.fn.ruler)) l.probe.q.now l.probe.rho) l.above (drop l.entry-index l.entries) ++ l.frontier);
-  seen : l.seen.items ++ map (subtree_sight (search_at (g.R.M.Metric.space (g.R.Ruler.metric l.fn.ruler)) l.probe.q.now l.probe.rho) l.above) (drop l.entry-index l.entries)
+      (inner_pendings (search_at (g.R.M.Metric.space (g.R.Ruler.metric l.fn.ruler)) l.probe.q.now l.probe.rho) l.above (drop l.index l.entries) ++ l.frontier);
+  seen : l.seen.items ++ map (subtree_sight (search_at (g.R.M.Metric.space (g.R.Ruler.metric l.fn.ruler)) l.probe.q.now l.probe.rho) l.above) (drop l.index l.entries)
       ≡ l.fn.seen.items ++ map (subtree_sight (search_at (g.R.M.Metric.space (g.R.Ruler.metric l.fn.ruler)) l.probe.q.now l.probe.rho) l.above) l.entries;
 }

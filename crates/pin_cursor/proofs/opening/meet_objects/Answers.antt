@@ -1,22 +1,25 @@
-use Rattle.std.proofs.Common.{◌≡◌, ◌∙◌, ◌∷◌, ◌++◌, ◌+◌, List, drop, arith, subst}
+use Rattle.std.proofs.Common.{◌≡◌, ◌<◌, length, ◌∙◌, ◌∷◌, ◌++◌, ◌+◌, List, drop, arith, subst}
 use Rattle.std.specs.Prelude.{map, IsPermutation}
 use Rattle.metric_laws.specs.Space.{Space}
+use Rattle.tree_shape.specs.declared.entry.LeafEntry.{LeafEntry}
+use Rattle.tree_shape.specs.Entries.{leaf_of}
 use Rattle.pin_cursor.specs.declared.waiting.Candidate.{Candidate}
 use Rattle.pin_cursor.specs.Cursor.{candidate_of}
 use Rattle.pin_cursor.proofs.Lists.{moved_one, map-drop}
 use Rattle.pin_cursor.proofs.opening.meet_objects.Goals as goal
 
-pub loop-entry-preserved : goal.loop-entry-preserved
-loop-entry-preserved g c =
+pub loop-index-preserved : goal.loop-index-preserved
+loop-index-preserved g c =
     let s : Space = g.R.M.Metric.space (g.R.Ruler.metric c.args.ruler.now) in
-    let e = c.entry-item.result in
-    let dist : c.dist-dist.result ≡ s.dist e.point c.args.q.now = cc (c.dist-dist.ensures.value, c.as_slice.ensures, c.loop-entry.invariant.metric) in
+    let e : LeafEntry = leaf_of c.at-entry.result in
+    let below : c.loop-index.index < length c.args.entries.now = omega (arith, c.len-index-end.ensures, c.loop-index-test.true) in
+    let dist : c.dist-dist.result ≡ s.dist e.point c.args.q.now = cc (c.dist-dist.ensures.value, c.loop-index.invariant.metric) in
     let x : ◌≡◌ {A = Candidate} (record { dist = c.dist-dist.result; id = e.id; tag = e.tag }) (candidate_of s c.args.q.now e) = (λ i. record { dist = dist i; id = e.id; tag = e.tag }) in
-    let next = map-drop (candidate_of s c.args.q.now) c.args.entries.now c.loop-entry.entry-index e (omega arith) c.entry-item.is in
+    let next = map-drop (candidate_of s c.args.q.now) c.args.entries.now c.loop-index.index e below c.at-entry.ensures in
     record {
-      metric = c.dist-dist.ensures.same ∙ c.loop-entry.invariant.metric;
-      met = moved_one (map (candidate_of s c.args.q.now) c.args.entries.now ++ c.args.candidates.now) (map (candidate_of s c.args.q.now) (drop (c.loop-entry.entry-index + 1) c.args.entries.now))
-          c.loop-entry.candidates c.add.new.self (candidate_of s c.args.q.now e)
-          (subst (λ (ps : List Candidate). IsPermutation (map (candidate_of s c.args.q.now) c.args.entries.now ++ c.args.candidates.now) (ps ++ c.loop-entry.candidates)) next c.loop-entry.invariant.met)
-          (subst (λ (y : Candidate). IsPermutation (y ∷ c.loop-entry.candidates) c.add.new.self) x c.in_ok-add.ensures);
+      metric = c.dist-dist.ensures.same ∙ c.loop-index.invariant.metric;
+      met = moved_one (map (candidate_of s c.args.q.now) c.args.entries.now ++ c.args.candidates.now) (map (candidate_of s c.args.q.now) (drop (c.loop-index.index + 1) c.args.entries.now))
+          c.loop-index.candidates c.add.new.self (candidate_of s c.args.q.now e)
+          (subst (λ (ps : List Candidate). IsPermutation (map (candidate_of s c.args.q.now) c.args.entries.now ++ c.args.candidates.now) (ps ++ c.loop-index.candidates)) next c.loop-index.invariant.met)
+          (subst (λ (y : Candidate). IsPermutation (y ∷ c.loop-index.candidates) c.add.new.self) x c.in_ok-add.ensures);
     }
