@@ -1,6 +1,7 @@
 //! The audit of a file by several threads.
 
 ghost use Rattle.std.specs.Prelude.{◌≡◌, ◌≤◌, ◌<◌, ◌+◌, ◌^◌, length, slice_index_or, IsTrue, IfOk, IfErr, IfSome};
+ghost use Rattle.tree_shape.specs.declared.entry.InnerEntry.{InnerEntry as TheEntry};
 ghost use Rattle.tree_shape.specs.Entries.{inner_of};
 ghost use Rattle.tree_shape.specs.Fill.{IsFilled, root_least};
 ghost use Rattle.batch_run.specs.Audits.{AreNumbersOf, AreNumbersOn, AreTried, IsFaultOf, IsPartOf};
@@ -17,7 +18,7 @@ use std::alloc::Global;
 use std::thread::Threads;
 use tree_audit::laws::parts_make_the_whole;
 use tree_audit::{AuditFault, Audited, Part, audit, audit_part, join_parts};
-use tree_shape::{InnerEntries, InnerEntry, InnerRef, Live, Node, fill};
+use tree_shape::{InnerEntries, InnerRef, Live, Node, fill};
 
 // Audits the entry of the root at `place` and the subtree below it, through a reader of its own, as if nothing was met
 // before. Where the disk gives no reader, fails as if the disk failed.
@@ -70,7 +71,7 @@ fn try_parts<R: Threads + Sync, D: SharedDisk, M: Metric>(
 {
     let work = |i: usize| -> Result<Part, AuditFault>
         requires { (live.now.pages ≤ 2 ^ 24) × (1 ≤ live.now.height) × (length entries.now < 2 ^ 32) × (i < length entries.now) }
-        ensures { (e : InnerEntry) → IfOk result (IsPartOf (M.space metric) live.entry.now (D.state disk.entry.now) i
+        ensures { (e : TheEntry) → IfOk result (IsPartOf (M.space metric) live.entry.now (D.state disk.entry.now) i
             (slice_index_or entries.entry.now i e)) }
     { part_of(alloc, disk, metric, live, i, entries.at(i)) };
     share(rt, alloc, entries.len(), workers, &work)
