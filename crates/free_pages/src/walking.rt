@@ -25,8 +25,8 @@ pub struct Walk {
 fn put_on_top(coming: &mut Vec<u32>, entries: &InnerEntries) -> Result<(), Memory>
     ensures { OnOk result (reverse coming.new.items ≡ map (λ e. e.child) entries.now ++ reverse coming.old.items) }
 {
-    for done in 0..entries.len() {
-        coming.push(entries.at(entries.len() - 1 - done).child)?;
+    for index in (0..entries.len()).rev() {
+        coming.push(entries.at(index).child)?;
     }
     Ok(())
 }
