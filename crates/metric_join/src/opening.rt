@@ -118,7 +118,8 @@ fn measure_subtree<R: Ruler>(
     entry: InnerRef,
     opening: &mut Opening,
 ) -> Result<(), Memory>
-    requires { far_stored probe.need.now.apart (inner_of entry).parent probe.rho ((inner_of entry).radius + radius_of (other probe.need.now)) ≡ false }
+    requires { far_stored probe.need.now.apart (inner_of entry).parent probe.rho
+        ((inner_of entry).radius + radius_of (other probe.need.now)) ≡ false }
     ensures metric { R.metric ruler.new ≡ R.metric ruler.old }
     ensures counted { OnOk result (CountsMarks (R.used ruler.old) (R.used ruler.new) opening.old.marks.items opening.new.marks.items) }
     ensures taken { OnOk result (TakesEntries (search_within (R.M.space (R.metric ruler.old)) probe.entry.rho) probe.entry.need.now

@@ -304,7 +304,8 @@ pub fn step_down<R: Ruler>(
     ensures ok { OnOk result ((rest : Result Seen AuditFault) →
         check_entry (R.M.space (R.metric ruler.old)) (last_point path.old.items) at.now.page place (inner_of entry.entry) rest ≡ rest) }
     ensures err { IfErr result (λ v. (rest : Result Seen AuditFault) →
-        IsEntryFault (check_entry (R.M.space (R.metric ruler.old)) (last_point path.old.items) at.now.page place (inner_of entry.entry) rest) v) }
+        IsEntryFault (check_entry (R.M.space (R.metric ruler.old)) (last_point path.old.items) at.now.page place
+        (inner_of entry.entry) rest) v) }
 {
     audit_entry(ruler, path.as_slice(), at.page, place, entry)?;
     let step = step_to(alloc, at.page, place, entry)?;
@@ -370,13 +371,7 @@ pub fn walk<P: Pages, R: Ruler>(
     let node = arrive(alloc, pages, &mut visits.pages, at.page)?;
     let (level, entries) = match node.as_ref() {
         Node::Leaf(objects) => {
-            return audit_leaf(
-                ruler,
-                path.as_slice(),
-                &at,
-                objects,
-                &mut visits.ids,
-            );
+            return audit_leaf(ruler, path.as_slice(), &at, objects, &mut visits.ids);
         }
         Node::Inner { level, entries } => (*level, entries),
     };
