@@ -89,7 +89,7 @@ returns-in_err-child-clause-err g t c =
     let seen = seen_of c.loop-place.visits in
     let entries = c.in-Inner.entries in
     let here : drop c.loop-place.place entries ≡ entry ∷ drop (suc c.loop-place.place) entries =
-    drop-cons entries c.loop-place.place entry (omega (arith, c.len-2.ensures)) ∙ ap (λ (e : InnerEntry). e ∷ drop (suc c.loop-place.place) entries) (sym c.at.ensures) in
+    drop-cons entries c.loop-place.place entry (omega (arith, c.len-place-end.ensures)) ∙ ap (λ (e : InnerEntry). e ∷ drop (suc c.loop-place.place) entries) (sym c.at.ensures) in
     let rest : Seen → Result Seen AuditFault = λ after. each_entry check (c.loop-place.place + 1) (drop (suc c.loop-place.place) entries) after in
     rw (p.1, p.2) (walk_same (g.P.Pages.shelf c.args.pages.now) (g.P.Pages.shelf c.loop-place.pages) (and_then (check c.loop-place.place entry seen) rest) _ c.in_err-child.field-0.0
     (λ tells. ap (λ (xs : List InnerEntry). each_entry check c.loop-place.place xs seen) (sym here) ∙ i.left tells)
@@ -109,7 +109,7 @@ returns-in_err-walk-clause-err g t c =
     let seen = seen_of c.loop-place.visits in
     let entries = c.in-Inner.entries in
     let here : drop c.loop-place.place entries ≡ entry ∷ drop (suc c.loop-place.place) entries =
-    drop-cons entries c.loop-place.place entry (omega (arith, c.len-2.ensures)) ∙ ap (λ (e : InnerEntry). e ∷ drop (suc c.loop-place.place) entries) (sym c.at.ensures) in
+    drop-cons entries c.loop-place.place entry (omega (arith, c.len-place-end.ensures)) ∙ ap (λ (e : InnerEntry). e ∷ drop (suc c.loop-place.place) entries) (sym c.at.ensures) in
     let rest : Seen → Result Seen AuditFault = λ after. each_entry check (c.loop-place.place + 1) (drop (suc c.loop-place.place) entries) after in
     let child = audited_at s read c.args.visits.now.ids.limit (at.level - 1) (least_for s.words) (c.args.path.now.items ++ step at.page c.loop-place.place entry ∷ []) entry.child seen in
     let passes : check c.loop-place.place entry seen ≡ child = rw (← i.metric, ← i.path) (c.in_ok-child.ensures.ok _) in

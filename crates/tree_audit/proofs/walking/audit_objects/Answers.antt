@@ -14,7 +14,7 @@ returns-in_err-audit_object-clause-err g c =
     let object = leaf_of c.at.result in
     let check = check_object s c.args.ids.now.limit (last_point c.args.path.now) c.args.path.now c.args.page in
     let here : drop c.loop-i.i c.args.objects.now ≡ object ∷ drop (suc c.loop-i.i) c.args.objects.now =
-    drop-cons c.args.objects.now c.loop-i.i object (omega (arith, c.len.ensures)) ∙ ap (λ (o : LeafEntry). o ∷ drop (suc c.loop-i.i) c.args.objects.now) (sym c.at.ensures) in
+    drop-cons c.args.objects.now c.loop-i.i object (omega (arith, c.len-i-end.ensures)) ∙ ap (λ (o : LeafEntry). o ∷ drop (suc c.loop-i.i) c.args.objects.now) (sym c.at.ensures) in
     rw (p.1, p.2) (λ ps. told_same _ _ c.in_err-audit_object.field-0.0
     (ap (λ (xs : List LeafEntry). each_entry check c.loop-i.i xs (record { pages = ps; ids = c.loop-i.ids.met })) (sym here) ∙ c.loop-i.invariant.left ps)
     (and_then_fault (check c.loop-i.i object (record { pages = ps; ids = c.loop-i.ids.met })) _ c.in_err-audit_object.field-0.0 (rw (← c.loop-i.invariant.same, ← c.loop-i.invariant.limit) (c.in_err-audit_object.ensures.err ps))))
