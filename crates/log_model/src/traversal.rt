@@ -94,14 +94,7 @@ impl Traversal {
             )?,
             Node::Inner { entries, .. } => {
                 let mut needs = Vec::new(alloc);
-                mark_inner(
-                    ruler,
-                    probe,
-                    need.above,
-                    entries,
-                    &mut marks,
-                    &mut needs,
-                )?;
+                mark_inner(ruler, probe, need.above, entries, &mut marks, &mut needs)?;
                 put_on_top(&mut self.stack, &mut needs)?;
             }
         }

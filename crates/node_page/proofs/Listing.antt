@@ -1,13 +1,12 @@
 -- Entries one after the other.
-use Rattle.std.proofs.Common.{◌≡◌, inl, inr, ℕ, zero, suc, ◌+◌, ◌*◌, ◌/◌, ◌<◌, ◌≤◌, ◌&&◌, ◌||◌, nat_le, nat_lt, Result, Ok, Err, IfOk, Bool, true, false, List, [], ◌∷◌, ◌++◌, length, take, get_or, refl, sym, ◌∙◌, ap, arith, length-append, mul-le-mul_left}
+use Rattle.std.proofs.Common.{◌≡◌, inl, inr, ℕ, zero, suc, ◌+◌, ◌*◌, ◌/◌, ◌<◌, ◌≤◌, ◌&&◌, ◌||◌, nat_le, nat_lt, Result, Ok, Err, IfOk, Bool, true, false, refl, ◌∙◌, ap, arith, mul-le-mul_left}
 use Rattle.std.proofs.lemmas.Bool.{cases_lt, leb-true}
-use Rattle.std.proofs.lemmas.List.{ext_get_or, length-take-le, get_or-take, get_or_append_left, get_or-append-add}
 use Rattle.std.proofs.Math.Nat.{mul-div-le}
 pub use Rattle.tree_shape.proofs.Published.{firsts_more, firsts_none, length-firsts, place-firsts, firsts_by, firsts_same}
 use Rattle.tree_shape.specs.Fill.{most_for}
 use Rattle.node_page.specs.declared.node.Version.{Version}
 use Rattle.node_page.specs.declared.node.Version.TheVariants.{First, Second}
-use Rattle.node_page.specs.Nodes.{firsts, all_of, parent_place, place_of, place_in, is_count}
+use Rattle.node_page.specs.Nodes.{all_of, parent_place, place_of, place_in, is_count}
 
 -- one more that holds
 pub all_more : (f : ℕ → Bool) (n : ℕ) → all_of f n ≡ true → f n ≡ true → all_of f (n + 1) ≡ true

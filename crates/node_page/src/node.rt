@@ -57,10 +57,7 @@ const ENTRIES: usize = 16;
 /// The bytes of a distance.
 const DISTANCE: usize = 8;
 
-/// The numbers of four bytes of an entry before its coordinates.
-const BEFORE: usize = 5;
-
-/// The same of a leaf entry of the first version, which has no tag.
+/// The numbers of four bytes of a leaf entry of the first version before its coordinates.
 const OLD_BEFORE: usize = 3;
 
 // Returns the number of bytes of an entry before its parent distance. The coordinates follow that.
@@ -203,7 +200,7 @@ fn flat_entries(
     ensures leaves { IfOk result (λ flat. flat_leaves flat ≡ firsts (λ i. leaf_at dim page.now (place_of dim i)) count) }
     ensures inners { IfOk result (λ flat. flat_inners flat ≡ firsts (λ i. inner_at dim page.now (place_of dim i)) count) }
 {
-    let numbers = numbers_of(alloc, page, (BEFORE + usize::from(dim)) * count)?;
+    let numbers = numbers_of(alloc, page, FlatEntries::width(dim) * count)?;
     Ok(FlatEntries::new(numbers, dim, count))
 }
 

@@ -33,8 +33,5 @@ pub enum Node {
     /// A node of level 0.
     Leaf(LeafEntries),
     /// A node of level 1 to 14.
-    Inner {
-        level: u8,
-        entries: InnerEntries,
-    },
+    Inner { level: u8, entries: InnerEntries },
 }

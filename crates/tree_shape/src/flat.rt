@@ -34,6 +34,13 @@ pub(crate) struct Fields<'a> {
 pub(crate) const BEFORE: usize = 5;
 
 impl FlatEntries {
+    /// Returns how many numbers an entry over points of `dim` coordinates is.
+    pub fn width(dim: u8) -> usize
+        ensures { result ≡ 5 + dim }
+    {
+        BEFORE + usize::from(dim)
+    }
+
     /// Makes the `count` entries over points of `dim` coordinates that `numbers` spell.
     pub fn new(numbers: Vec<u32>, dim: u8, count: usize) -> Self
         requires { length numbers.items ≡ (5 + dim) * count }
@@ -77,7 +84,7 @@ pub(crate) fn start_of(dim: u8, index: usize) -> usize
     requires { start_of dim (index + 1) < 2 ^ 64 }
     ensures { result ≡ start_of dim index }
 {
-    (BEFORE + usize::from(dim)) * index
+    FlatEntries::width(dim) * index
 }
 
 /// Returns the fields of entry `index` over points of `dim` coordinates.
@@ -90,7 +97,7 @@ pub(crate) fn fields_at(numbers: &[u32], dim: u8, index: usize) -> Fields<'_>
     ensures point { result.point.now ≡ take dim (drop (start_of dim index + 5) numbers.now) }
 {
     let start = start_of(dim, index);
-    let entry = &numbers[start..start + BEFORE + usize::from(dim)];
+    let entry = &numbers[start..start + FlatEntries::width(dim)];
     let (before, point) = entry.split_at(BEFORE);
     Fields {
         name: before[0],

@@ -126,7 +126,10 @@ impl TryClone for InnerEntries {
     fn try_clone(&self, alloc: Global) -> Result<Self, AllocError> {
         match &self.held {
             HeldInners::Flat(flat) => Ok(InnerEntries::flat(flat.try_clone(alloc)?)),
-            HeldInners::Apart(entries) => Ok(InnerEntries::new(copies_of(alloc, entries.as_slice())?)),
+            HeldInners::Apart(entries) => Ok(InnerEntries::new(copies_of(
+                alloc,
+                entries.as_slice(),
+            )?)),
         }
     }
 }

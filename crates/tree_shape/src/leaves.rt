@@ -126,7 +126,10 @@ impl TryClone for LeafEntries {
     fn try_clone(&self, alloc: Global) -> Result<Self, AllocError> {
         match &self.held {
             HeldLeaves::Flat(flat) => Ok(LeafEntries::flat(flat.try_clone(alloc)?)),
-            HeldLeaves::Apart(entries) => Ok(LeafEntries::new(copies_of(alloc, entries.as_slice())?)),
+            HeldLeaves::Apart(entries) => Ok(LeafEntries::new(copies_of(
+                alloc,
+                entries.as_slice(),
+            )?)),
         }
     }
 }

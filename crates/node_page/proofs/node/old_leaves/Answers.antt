@@ -3,7 +3,7 @@ use Rattle.std.specs.Arc.{arc_slice_items}
 use Rattle.tree_shape.specs.declared.entry.LeafEntry.{LeafEntry}
 use Rattle.node_page.specs.Bytes.{number_at}
 use Rattle.node_page.specs.declared.node.Version.TheVariants.{First}
-use Rattle.node_page.specs.Nodes.{firsts, leaf_in, place_in}
+use Rattle.node_page.specs.Nodes.{leaf_in, place_in}
 use Rattle.node_page.proofs.Entries.{old_leaf}
 use Rattle.node_page.proofs.Listing.{firsts_none, firsts_more}
 use Rattle.node_page.proofs.node.old_leaves.Goals as goal

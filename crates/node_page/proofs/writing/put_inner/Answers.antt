@@ -1,4 +1,4 @@
-use Rattle.std.proofs.Common.{◌≡◌, inl, inr, List, ℕ, ◌+◌, length, ◌∙◌, ap, subst, arith}
+use Rattle.std.proofs.Common.{inl, inr, ◌+◌, length, ◌∙◌, arith}
 use Rattle.tree_shape.specs.Entries.{inner_of}
 use Rattle.node_page.proofs.Numbers.{number_kept}
 use Rattle.node_page.proofs.Putting.{inner_by}

@@ -1,9 +1,9 @@
-use Rattle.std.proofs.Common.{◌≡◌, ℕ, ◌+◌, List, [], ◌∷◌, ◌++◌, take, drop, sym, ◌∙◌, ap, arith}
+use Rattle.std.proofs.Common.{◌≡◌, ℕ, ◌+◌, List, [], ◌∷◌, ◌++◌, take, drop, sym, ◌∙◌, ap}
 use Rattle.std.specs.Arc.{arc_slice_items}
 use Rattle.tree_shape.specs.declared.entry.InnerEntry.{InnerEntry}
-use Rattle.tree_shape.specs.Flat.{firsts, inner_from, start_of}
+use Rattle.tree_shape.specs.Flat.{inner_from, start_of}
 use Rattle.tree_shape.specs.Entries.{inner_of}
-use Rattle.tree_shape.proofs.Firsts.{firsts_none, firsts_more, entry_place}
+use Rattle.tree_shape.proofs.Firsts.{firsts_none, firsts_more}
 use Rattle.tree_shape.proofs.inners.into_inners.Goals as goal
 
 pub loop-index-init : goal.loop-index-init

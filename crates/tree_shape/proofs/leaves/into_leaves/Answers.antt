@@ -1,9 +1,9 @@
-use Rattle.std.proofs.Common.{◌≡◌, ℕ, ◌+◌, List, [], ◌∷◌, ◌++◌, take, drop, sym, ◌∙◌, ap, arith}
+use Rattle.std.proofs.Common.{◌≡◌, ℕ, ◌+◌, List, [], ◌∷◌, ◌++◌, take, drop, sym, ◌∙◌, ap}
 use Rattle.std.specs.Arc.{arc_slice_items}
 use Rattle.tree_shape.specs.declared.entry.LeafEntry.{LeafEntry}
-use Rattle.tree_shape.specs.Flat.{firsts, leaf_from, start_of}
+use Rattle.tree_shape.specs.Flat.{leaf_from, start_of}
 use Rattle.tree_shape.specs.Entries.{leaf_of}
-use Rattle.tree_shape.proofs.Firsts.{firsts_none, firsts_more, entry_place}
+use Rattle.tree_shape.proofs.Firsts.{firsts_none, firsts_more}
 use Rattle.tree_shape.proofs.leaves.into_leaves.Goals as goal
 
 pub loop-index-init : goal.loop-index-init

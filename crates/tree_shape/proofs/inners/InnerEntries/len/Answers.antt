@@ -1,4 +1,4 @@
-use Rattle.std.proofs.Common.{◌≡◌, length, sym, ◌∙◌, ap}
+use Rattle.std.proofs.Common.{length, sym, ◌∙◌, ap}
 use Rattle.tree_shape.specs.Flat.{inner_from, start_of}
 use Rattle.tree_shape.specs.Entries.{inners_in}
 use Rattle.tree_shape.proofs.Firsts.{length-firsts}

@@ -1,4 +1,4 @@
-use Rattle.std.proofs.Common.{◌≡◌, length, sym, ◌∙◌, ap}
+use Rattle.std.proofs.Common.{length, sym, ◌∙◌, ap}
 use Rattle.tree_shape.specs.Flat.{leaf_from, start_of}
 use Rattle.tree_shape.specs.Entries.{leaves_in}
 use Rattle.tree_shape.proofs.Firsts.{length-firsts}
