@@ -1,6 +1,8 @@
 //! The audit of a file by several threads.
 
 ghost use Rattle.std.specs.Prelude.{◌≡◌, ◌≤◌, ◌<◌, ◌+◌, ◌^◌, length, slice_index_or, IsTrue, IfOk, IfErr, IfSome};
+ghost use Rattle.tree_shape.specs.declared.entry.InnerEntry.{InnerEntry as TheEntry};
+ghost use Rattle.tree_shape.specs.Entries.{inner_of};
 ghost use Rattle.tree_shape.specs.Fill.{IsFilled, root_least};
 ghost use Rattle.batch_run.specs.Audits.{AreNumbersOf, AreNumbersOn, AreTried, IsFaultOf, IsPartOf};
 
@@ -16,7 +18,7 @@ use std::alloc::Global;
 use std::thread::Threads;
 use tree_audit::laws::parts_make_the_whole;
 use tree_audit::{AuditFault, Audited, Part, audit, audit_part, join_parts};
-use tree_shape::{InnerEntry, Live, Node, fill};
+use tree_shape::{InnerEntries, InnerRef, Live, Node, fill};
 
 // Audits the entry of the root at `place` and the subtree below it, through a reader of its own, as if nothing was met
 // before. Where the disk gives no reader, fails as if the disk failed.
@@ -26,12 +28,12 @@ fn part_of<D: SharedDisk, M: Metric>(
     metric: M,
     live: &Live,
     place: usize,
-    entry: &InnerEntry,
+    entry: InnerRef,
 ) -> Result<Part, AuditFault>
     requires pages { live.now.pages ≤ 2 ^ 24 }
     requires above { 1 ≤ live.now.height }
     requires place { place < 2 ^ 32 }
-    ensures { IfOk result (IsPartOf (M.space metric) live.now (D.state disk.now) place entry.now) }
+    ensures { IfOk result (IsPartOf (M.space metric) live.now (D.state disk.now) place (inner_of entry.entry)) }
 {
     let Some(mut reader) = disk.reader(alloc) else {
         return Err(AuditFault::Page(PageFault::Disk));
@@ -57,7 +59,7 @@ fn try_parts<R: Threads + Sync, D: SharedDisk, M: Metric>(
     disk: &D,
     metric: M,
     live: &Live,
-    entries: &[InnerEntry],
+    entries: &InnerEntries,
     workers: usize,
 ) -> Result<Vec<Result<Part, AuditFault>>, Memory>
     requires pages { live.now.pages ≤ 2 ^ 24 }
@@ -69,9 +71,9 @@ fn try_parts<R: Threads + Sync, D: SharedDisk, M: Metric>(
 {
     let work = |i: usize| -> Result<Part, AuditFault>
         requires { (live.now.pages ≤ 2 ^ 24) × (1 ≤ live.now.height) × (length entries.now < 2 ^ 32) × (i < length entries.now) }
-        ensures { (e : InnerEntry) → IfOk result (IsPartOf (M.space metric) live.entry.now (D.state disk.entry.now) i
+        ensures { (e : TheEntry) → IfOk result (IsPartOf (M.space metric) live.entry.now (D.state disk.entry.now) i
             (slice_index_or entries.entry.now i e)) }
-    { part_of(alloc, disk, metric, live, i, &entries[i]) };
+    { part_of(alloc, disk, metric, live, i, entries.at(i)) };
     share(rt, alloc, entries.len(), workers, &work)
 }
 
@@ -119,7 +121,6 @@ pub fn sound_by_parts<R: Threads + Sync, D: SharedDisk, M: Metric>(
         Node::Leaf(_) => return Ok(None),
         Node::Inner { level, entries } => (*level, entries),
     };
-    let entries = entries.as_slice();
     if !is_root(live, dim, level, entries.len()) {
         return Ok(None);
     }

@@ -14,7 +14,7 @@ use page_store::laws::sound_trees_are_toured;
 use page_tour::Tour;
 use std::alloc::Global;
 use std::marker::Model;
-use tree_shape::{LeafEntry, Live, Node};
+use tree_shape::{LeafEntries, Live, Node};
 
 // The most entries of a node. A place is the number of a leaf's page times this, plus the number of the entry. No leaf stands on
 // page 0, so no place is 0.
@@ -61,7 +61,7 @@ fn note(numbers: &mut [u32], id: u32, place: u32) -> bool
 }
 
 // Notes the places of a leaf's objects. Returns the first id that is too great, or was met before.
-fn note_leaf(numbers: &mut [u32], page: u32, entries: &[LeafEntry]) -> Result<(), u32>
+fn note_leaf(numbers: &mut [u32], page: u32, entries: &LeafEntries) -> Result<(), u32>
     requires low { 1 ≤ page }
     requires high { page < 2 ^ 24 }
     requires few { length entries.now ≤ 32 }
@@ -70,7 +70,8 @@ fn note_leaf(numbers: &mut [u32], page: u32, entries: &[LeafEntry]) -> Result<()
     ensures wrong { IfErr result (λ id. (nodes : Nodes) (met : List TheEntry) → leaf_entries (nodes page) ≡ entries.now →
         Notes nodes numbers.old met → due (length numbers.old) id < times_among (met ++ entries.now) id) }
 {
-    for (number, entry) in entries.iter().enumerate() {
+    for number in 0..entries.len() {
+        let entry = entries.at(number);
         if !note(numbers, entry.id, page * MOST + number as u32) {
             return Err(entry.id);
         }
@@ -89,7 +90,7 @@ fn note_node(numbers: &mut [u32], page: u32, node: &Node) -> Result<(), u32>
         Notes nodes numbers.old met → due (length numbers.old) id < times_among (met ++ leaf_entries (Some node.now)) id) }
 {
     match node {
-        Node::Leaf(entries) => note_leaf(numbers, page, entries.as_slice()),
+        Node::Leaf(entries) => note_leaf(numbers, page, entries),
         Node::Inner { .. } => Ok(()),
     }
 }

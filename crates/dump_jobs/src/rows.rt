@@ -1,11 +1,12 @@
 // The lines of objects.
 ghost use Rattle.std.specs.Prelude.{◌≡◌, ◌++◌, codes, OnOk};
+ghost use Rattle.tree_shape.specs.Entries.{leaf_of};
 ghost use Rattle.rows_text.specs.Texts.{coordinates_text, counted};
 ghost use Rattle.dump_jobs.specs.Scripts.{row_line};
 
 use fault_lines::push_numbered;
 use outside_io::Memory;
-use tree_shape::LeafEntry;
+use tree_shape::LeafRef;
 
 // Appends each coordinate after a comma.
 fn push_coordinates(point: &[u32], out: &mut Vec<u8>) -> Result<(), Memory>
@@ -18,11 +19,11 @@ fn push_coordinates(point: &[u32], out: &mut Vec<u8>) -> Result<(), Memory>
 }
 
 /// Appends the line of an object: its tag and its coordinates.
-pub fn push_row(entry: &LeafEntry, out: &mut Vec<u8>) -> Result<(), Memory>
-    ensures { OnOk result (out.new.items ≡ out.old.items ++ row_line (entry.now.tag, entry.now.point)) }
+pub fn push_row(entry: LeafRef, out: &mut Vec<u8>) -> Result<(), Memory>
+    ensures { OnOk result (out.new.items ≡ out.old.items ++ row_line ((leaf_of entry.entry).tag, (leaf_of entry.entry).point)) }
 {
     push_numbered(b"", entry.tag, out)?;
-    push_coordinates(entry.point.as_slice(), out)?;
+    push_coordinates(entry.point, out)?;
     out.extend_from_slice(b"\n")
 }
 

@@ -6,6 +6,7 @@ ghost use Rattle.outside_io.specs.Causes.{HasCause as HasSinkCause};
 ghost use Rattle.outside_io.specs.Sinks.{SinkState};
 ghost use Rattle.tree_shape.specs.declared.entry.LeafEntry.{LeafEntry as TheEntry};
 ghost use Rattle.tree_shape.specs.declared.live.Live.{Live as TheLive};
+ghost use Rattle.tree_shape.specs.Entries.{leaf_of};
 ghost use Rattle.tree_shape.specs.Tree.{leaf_entries};
 ghost use Rattle.page_store.specs.Reading.{nodes_of};
 ghost use Rattle.page_store.specs.Shelf.{HoldsSame};
@@ -20,24 +21,25 @@ use crate::rows::{push_head, push_row};
 use outside_io::{Failed, Sink};
 use page_store::Pages;
 use std::alloc::Global;
-use tree_shape::{LeafEntry, Live, Node};
+use tree_shape::{LeafRef, Live, Node};
 
 // A text is put once it has this many bytes.
 const PIECE: usize = 1 << 16;
 
 // Returns entry `number` of a leaf, if it is there and has this id.
-fn entry_of(node: &Node, number: usize, id: u32) -> Option<&LeafEntry>
-    ensures some { IfSome result (λ entry. (entry.now.id ≡ id) × (slice_get (leaf_entries (Some node.now)) number ≡ Some entry.now)) }
+fn entry_of(node: &Node, number: usize, id: u32) -> Option<LeafRef<'_>>
+    ensures some { IfSome result (λ entry. ((leaf_of entry).id ≡ id)
+        × (slice_get (leaf_entries (Some node.now)) number ≡ Some (leaf_of entry))) }
     ensures none { IfNone result ((entry : TheEntry) → slice_get (leaf_entries (Some node.now)) number ≡ Some entry → ¬ (entry.id ≡ id)) }
 {
     let Node::Leaf(entries) = node else {
         return None;
     };
-    let entries = entries.as_slice();
-    if number < entries.len() && entries[number].id == id {
-        return Some(&entries[number]);
+    if number >= entries.len() {
+        return None;
     }
-    None
+    let entry = entries.at(number);
+    if entry.id == id { Some(entry) } else { None }
 }
 
 // Appends the line of the object `id`, which is read at its place.

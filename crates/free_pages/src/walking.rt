@@ -8,7 +8,7 @@ ghost use Rattle.free_pages.specs.Walk.{tree_walk, IsWalkFault};
 
 use page_store::{Memory, PageFault, Pages};
 use std::alloc::Global;
-use tree_shape::{InnerEntry, Live, Node};
+use tree_shape::{InnerEntries, Live, Node};
 
 /// A walk by child numbers.
 #[derive(Drop)]
@@ -22,11 +22,11 @@ pub struct Walk {
 }
 
 // Pushes the children of `entries`, the first one topmost.
-fn put_on_top(coming: &mut Vec<u32>, entries: &[InnerEntry]) -> Result<(), Memory>
+fn put_on_top(coming: &mut Vec<u32>, entries: &InnerEntries) -> Result<(), Memory>
     ensures { OnOk result (reverse coming.new.items ≡ map (λ e. e.child) entries.now ++ reverse coming.old.items) }
 {
-    for done in 0..entries.len() {
-        coming.push(entries[entries.len() - 1 - done].child)?;
+    for index in (0..entries.len()).rev() {
+        coming.push(entries.at(index).child)?;
     }
     Ok(())
 }
@@ -37,7 +37,7 @@ fn name_children(coming: &mut Vec<u32>, node: &Node) -> Result<(), Memory>
 {
     match node {
         Node::Leaf(_) => Ok(()),
-        Node::Inner { entries, .. } => put_on_top(coming, entries.as_slice()),
+        Node::Inner { entries, .. } => put_on_top(coming, entries),
     }
 }
 

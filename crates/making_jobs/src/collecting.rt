@@ -9,30 +9,34 @@ ghost use Rattle.making_jobs.specs.Collecting.{IsOpened};
 
 use page_store::{Memory, PageFault, Pages, own_node};
 use std::alloc::Global;
-use tree_shape::{InnerEntry, LeafEntry, Live, Node};
+use tree_shape::{InnerEntries, LeafEntry, Live, Node};
 
 // Puts the pages that `entries` name on top, the first one topmost.
-fn put_on_top(coming: &mut Vec<u32>, entries: Vec<InnerEntry>) -> Result<(), Memory>
-    ensures { OnOk result (reverse coming.new.items ≡ map (λ e. e.child) entries.items ++ reverse coming.old.items) }
+fn put_on_top(coming: &mut Vec<u32>, entries: &InnerEntries) -> Result<(), Memory>
+    ensures { OnOk result (reverse coming.new.items ≡ map (λ e. e.child) entries.now ++ reverse coming.old.items) }
 {
-    let mut left = entries;
-    while let Some(entry) = left.pop() {
-        coming.push(entry.child)?;
+    for index in (0..entries.len()).rev() {
+        coming.push(entries.at(index).child)?;
     }
     Ok(())
 }
 
 // Takes a node apart: appends its objects to `found`, or puts the pages that it names on top of `coming`.
-fn take_apart(node: Node, found: &mut Vec<LeafEntry>, coming: &mut Vec<u32>) -> Result<(), Memory>
+fn take_apart(
+    alloc: Global,
+    node: Node,
+    found: &mut Vec<LeafEntry>,
+    coming: &mut Vec<u32>,
+) -> Result<(), Memory>
     ensures found { OnOk result (found.new.items ≡ found.old.items ++ leaf_entries (Some node)) }
     ensures coming { OnOk result (reverse coming.new.items ≡ map (λ e. e.child) (inner_entries (Some node)) ++ reverse coming.old.items) }
 {
     match node {
         Node::Leaf(entries) => {
-            let mut entries = entries.into_vec();
+            let mut entries = entries.into_vec(alloc)?;
             found.append(&mut entries)
         }
-        Node::Inner { entries, .. } => put_on_top(coming, entries.into_vec()),
+        Node::Inner { entries, .. } => put_on_top(coming, &entries),
     }
 }
 
@@ -51,7 +55,7 @@ fn open_page<P: Pages>(
     ensures cause { IfErr result (HasPageCause (P.shelf pages.old) (P.shelf pages.new) page) }
 {
     let node = own_node(alloc, pages, page)?;
-    match take_apart(node, found, coming) {
+    match take_apart(alloc, node, found, coming) {
         Ok(()) => Ok(()),
         Err(_) => Err(PageFault::Memory),
     }

@@ -1,6 +1,7 @@
 // The least marks of an opened node, and the pairs that they leave.
 ghost use Rattle.std.specs.Prelude.{◌≡◌, ◌++◌, ◌+◌, ◌≤◌, [], ◌∷◌, false, map, IfOk, OnOk};
 ghost use Rattle.metric_laws.specs.Counts.{CountsUpTo};
+ghost use Rattle.tree_shape.specs.Entries.{inner_of, leaf_of};
 ghost use Rattle.log_model.specs.Counts.{measured_by};
 ghost use Rattle.log_model.specs.declared.marks.Mark.TheVariants.{Near};
 ghost use Rattle.log_model.specs.JoinWalk.{object_entry, subtree_entry, entries_of, far_stored, other, radius_of};
@@ -10,7 +11,7 @@ ghost use Rattle.metric_join.specs.Steps.{measured_at, marks_for, pairs_for, Tak
 use log_model::{JoinNeed, JoinProbe, Mark, Matches, Memory, entry_count, is_far, is_skipped};
 use metric_laws::Ruler;
 use std::alloc::Global;
-use tree_shape::{InnerEntry, LeafEntry, Node};
+use tree_shape::{InnerEntries, InnerRef, LeafEntries, LeafRef, Node};
 
 /// The result of opening a pair.
 #[derive(Drop)]
@@ -70,16 +71,16 @@ impl Opening {
 fn measure_object<R: Ruler>(
     ruler: &mut R,
     probe: JoinProbe,
-    entry: &LeafEntry,
+    entry: LeafRef,
     opening: &mut Opening,
 ) -> Result<(), Memory>
-    requires { far_stored probe.need.now.apart entry.now.parent probe.rho (radius_of (other probe.need.now)) ≡ false }
+    requires { far_stored probe.need.now.apart (leaf_of entry).parent probe.rho (radius_of (other probe.need.now)) ≡ false }
     ensures metric { R.metric ruler.new ≡ R.metric ruler.old }
     ensures counted { OnOk result (CountsMarks (R.used ruler.old) (R.used ruler.new) opening.old.marks.items opening.new.marks.items) }
     ensures taken { OnOk result (TakesEntries (search_within (R.M.space (R.metric ruler.old)) probe.entry.rho) probe.entry.need.now
-        (object_entry entry.now ∷ []) opening.old opening.new) }
+        (object_entry (leaf_of entry.entry) ∷ []) opening.old opening.new) }
 {
-    let marked = measured_mark(ruler, probe, entry.point.as_slice(), 0);
+    let marked = measured_mark(ruler, probe, entry.point, 0);
     opening.marks.push(marked.mark)?;
     if let Mark::Near = marked.mark {
         opening.matches.add_object(probe, entry, marked.apart)?;
@@ -88,19 +89,18 @@ fn measure_object<R: Ruler>(
 }
 
 // Marks an object, and adds its pair where it is marked Near. Most entries are skipped, so the test for that stands in the loops
-// over them, and the work for the others stands apart: a function clears the places of its values where it begins. function clears
-// the places of its values where it begins.
+// over them, and the work for the others stands apart: a function clears the places of its values where it begins.
 #[inline(always)]
 fn mark_object<R: Ruler>(
     ruler: &mut R,
     probe: JoinProbe,
-    entry: &LeafEntry,
+    entry: LeafRef,
     opening: &mut Opening,
 ) -> Result<(), Memory>
     ensures metric { R.metric ruler.new ≡ R.metric ruler.old }
     ensures counted { OnOk result (CountsMarks (R.used ruler.old) (R.used ruler.new) opening.old.marks.items opening.new.marks.items) }
     ensures taken { OnOk result (TakesEntries (search_within (R.M.space (R.metric ruler.old)) probe.entry.rho) probe.entry.need.now
-        (object_entry entry.now ∷ []) opening.old opening.new) }
+        (object_entry (leaf_of entry.entry) ∷ []) opening.old opening.new) }
 {
     if is_skipped(probe.need.apart, entry.parent, probe.rho, 0, probe.reach) {
         opening.marks.push(Mark::Skip)?;
@@ -115,16 +115,17 @@ fn measure_subtree<R: Ruler>(
     ruler: &mut R,
     probe: JoinProbe,
     level: u8,
-    entry: &InnerEntry,
+    entry: InnerRef,
     opening: &mut Opening,
 ) -> Result<(), Memory>
-    requires { far_stored probe.need.now.apart entry.now.parent probe.rho (entry.now.radius + radius_of (other probe.need.now)) ≡ false }
+    requires { far_stored probe.need.now.apart (inner_of entry).parent probe.rho
+        ((inner_of entry).radius + radius_of (other probe.need.now)) ≡ false }
     ensures metric { R.metric ruler.new ≡ R.metric ruler.old }
     ensures counted { OnOk result (CountsMarks (R.used ruler.old) (R.used ruler.new) opening.old.marks.items opening.new.marks.items) }
     ensures taken { OnOk result (TakesEntries (search_within (R.M.space (R.metric ruler.old)) probe.entry.rho) probe.entry.need.now
-        (subtree_entry level entry.now ∷ []) opening.old opening.new) }
+        (subtree_entry level (inner_of entry.entry) ∷ []) opening.old opening.new) }
 {
-    let marked = measured_mark(ruler, probe, entry.point.as_slice(), entry.radius);
+    let marked = measured_mark(ruler, probe, entry.point, entry.radius);
     opening.marks.push(marked.mark)?;
     if let Mark::Near = marked.mark {
         opening
@@ -140,13 +141,13 @@ fn mark_subtree<R: Ruler>(
     ruler: &mut R,
     probe: JoinProbe,
     level: u8,
-    entry: &InnerEntry,
+    entry: InnerRef,
     opening: &mut Opening,
 ) -> Result<(), Memory>
     ensures metric { R.metric ruler.new ≡ R.metric ruler.old }
     ensures counted { OnOk result (CountsMarks (R.used ruler.old) (R.used ruler.new) opening.old.marks.items opening.new.marks.items) }
     ensures taken { OnOk result (TakesEntries (search_within (R.M.space (R.metric ruler.old)) probe.entry.rho) probe.entry.need.now
-        (subtree_entry level entry.now ∷ []) opening.old opening.new) }
+        (subtree_entry level (inner_of entry.entry) ∷ []) opening.old opening.new) }
 {
     if is_skipped(
         probe.need.apart,
@@ -165,7 +166,7 @@ fn mark_subtree<R: Ruler>(
 fn mark_leaf<R: Ruler>(
     ruler: &mut R,
     probe: JoinProbe,
-    entries: &[LeafEntry],
+    entries: &LeafEntries,
     opening: &mut Opening,
 ) -> Result<(), Memory>
     ensures metric { R.metric ruler.new ≡ R.metric ruler.old }
@@ -173,7 +174,8 @@ fn mark_leaf<R: Ruler>(
     ensures taken { OnOk result (TakesEntries (search_within (R.M.space (R.metric ruler.old)) probe.entry.rho) probe.entry.need.now
         (map object_entry entries.now) opening.old opening.new) }
 {
-    for entry in entries {
+    for index in 0..entries.len() {
+        let entry = entries.at(index);
         mark_object(ruler, probe, entry, opening)?;
     }
     Ok(())
@@ -184,7 +186,7 @@ fn mark_inner<R: Ruler>(
     ruler: &mut R,
     probe: JoinProbe,
     level: u8,
-    entries: &[InnerEntry],
+    entries: &InnerEntries,
     opening: &mut Opening,
 ) -> Result<(), Memory>
     ensures metric { R.metric ruler.new ≡ R.metric ruler.old }
@@ -192,7 +194,8 @@ fn mark_inner<R: Ruler>(
     ensures taken { OnOk result (TakesEntries (search_within (R.M.space (R.metric ruler.old)) probe.entry.rho) probe.entry.need.now
         (map (subtree_entry level) entries.now) opening.old opening.new) }
 {
-    for entry in entries {
+    for index in 0..entries.len() {
+        let entry = entries.at(index);
         mark_subtree(ruler, probe, level, entry, opening)?;
     }
     Ok(())
@@ -221,9 +224,9 @@ pub fn open_node<R: Ruler>(
 {
     let mut opening = Opening::new(probe.alloc, entry_count(node), needs)?;
     match node {
-        Node::Leaf(entries) => mark_leaf(ruler, probe, entries.as_slice(), &mut opening)?,
+        Node::Leaf(entries) => mark_leaf(ruler, probe, entries, &mut opening)?,
         Node::Inner { level, entries } => {
-            mark_inner(ruler, probe, *level, entries.as_slice(), &mut opening)?;
+            mark_inner(ruler, probe, *level, entries, &mut opening)?;
         }
     }
     Ok(opening)

@@ -14,8 +14,8 @@ fn push_children(stack: &mut Vec<u32>, node: &Node) -> Result<(), Memory>
     ensures { OnOk result (reverse stack.new.items ≡ children node.now ++ reverse stack.old.items) }
 {
     if let Node::Inner { entries, .. } = node {
-        for entry in entries.as_slice().iter().rev() {
-            stack.push(entry.child)?;
+        for index in (0..entries.len()).rev() {
+            stack.push(entries.at(index).child)?;
         }
     }
     Ok(())

@@ -3,6 +3,7 @@
 ghost use Rattle.std.specs.Prelude.{◌≡◌, ◌≤◌, ◌<◌, ◌+◌, ◌-◌, ◌∷◌, ◌++◌, ◌^◌, [], Some, Ok, length, max, IsTrue, IfOk, IfErr, IfSome, MatchOption, OnOk, true, false};
 ghost use Rattle.std.specs.List.{AllByRecursion};
 ghost use Rattle.metric_laws.specs.Counts.{next_count};
+ghost use Rattle.tree_shape.specs.Entries.{inner_of};
 ghost use Rattle.page_store.specs.Shelf.{HoldsSame};
 ghost use Rattle.tree_audit.specs.Audited.{IsWalkFault};
 ghost use Rattle.tree_audit.specs.Met.{AreFewer, AreNew};
@@ -16,7 +17,7 @@ use crate::walking::{Spot, Visits, step_down, walk};
 use metric_laws::Ruler;
 use page_store::{Memory, Pages};
 use std::alloc::Global;
-use tree_shape::{InnerEntry, Live};
+use tree_shape::{InnerRef, Live};
 
 /// What the walk of one part of a tree met, in the order of meeting.
 #[derive(Drop)]
@@ -35,7 +36,7 @@ fn walk_entry<P: Pages, R: Ruler>(
     visits: &mut Visits,
     root: &Spot,
     place: u32,
-    entry: &InnerEntry,
+    entry: InnerRef,
 ) -> Result<(), AuditFault>
     requires some { 1 ≤ root.now.dim }
     requires few { root.now.dim ≤ 64 }
@@ -50,10 +51,10 @@ fn walk_entry<P: Pages, R: Ruler>(
     ensures no_fault { OnOk result ((P.shelf pages.new).faults ≡ (P.shelf pages.old).faults) }
     ensures ok { OnOk result (IsTrue (P.shelf pages.old).tells
         → entry_told (R.M.space (R.metric ruler.old)) (P.shelf pages.old).read visits.old.ids.limit root.now.level [] root.now.page
-        place entry.now (seen_of visits.old) ≡ Ok (seen_of visits.new)) }
+        place (inner_of entry.entry) (seen_of visits.old) ≡ Ok (seen_of visits.new)) }
     ensures err { IfErr result (IsWalkFault (P.shelf pages.old) (P.shelf pages.new)
         (entry_told (R.M.space (R.metric ruler.old)) (P.shelf pages.old).read visits.old.ids.limit root.now.level [] root.now.page
-        place entry.now (seen_of visits.old))) }
+        place (inner_of entry.entry) (seen_of visits.old))) }
     ensures pages_limit { visits.new.pages.limit ≡ visits.old.pages.limit }
     ensures fewer { AreFewer visits.new.pages }
     ensures asked { (P.shelf pages.new).asked + length visits.old.pages.met ≤ (P.shelf pages.old).asked + length visits.new.pages.met + 1 }
@@ -73,7 +74,7 @@ pub fn audit_part<P: Pages, R: Ruler>(
     dim: u8,
     live: &Live,
     place: u32,
-    entry: &InnerEntry,
+    entry: InnerRef,
 ) -> Result<Part, AuditFault>
     requires some { 1 ≤ dim }
     requires few { dim ≤ 64 }
@@ -86,9 +87,9 @@ pub fn audit_part<P: Pages, R: Ruler>(
     ensures keeps { P.keeps pages.old pages.new }
     ensures no_fault { OnOk result ((P.shelf pages.new).faults ≡ (P.shelf pages.old).faults) }
     ensures ok { IfOk result (λ part. IsTrue (P.shelf pages.old).tells →
-        part_told (R.M.space (R.metric ruler.old)) (P.shelf pages.old).read live.now place entry.now ≡ Ok (met_in part)) }
+        part_told (R.M.space (R.metric ruler.old)) (P.shelf pages.old).read live.now place (inner_of entry.entry) ≡ Ok (met_in part)) }
     ensures err { IfErr result (IsWalkFault (P.shelf pages.old) (P.shelf pages.new)
-        (part_told (R.M.space (R.metric ruler.old)) (P.shelf pages.old).read live.now place entry.now)) }
+        (part_told (R.M.space (R.metric ruler.old)) (P.shelf pages.old).read live.now place (inner_of entry.entry))) }
     ensures all_asked { (P.shelf pages.new).asked ≤ (P.shelf pages.old).asked + max 1 live.now.pages }
     ensures all_reads { (P.shelf pages.new).reads ≤ (P.shelf pages.old).reads + max 1 live.now.pages }
 {

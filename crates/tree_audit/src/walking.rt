@@ -1,6 +1,7 @@
 // The walk of an audit.
 ghost use Rattle.std.specs.Prelude.{◌≡◌, ◌≢◌, ◌⊎◌, ℕ, List, [], ◌∷◌, ◌++◌, ◌+◌, ◌-◌, ◌≤◌, ◌<◌, ◌^◌, ◌==◌, ◌&&◌, nat_le, length, slice_index_or, Option, None, Result, Ok, Err, IsTrue, IfOk, OnOk, OnErr, IfErr};
 ghost use Rattle.metric_laws.specs.Counts.{next_count};
+ghost use Rattle.tree_shape.specs.Entries.{inner_of, leaf_of};
 ghost use Rattle.tree_shape.specs.Fill.{least_for, most_for};
 ghost use Rattle.metric_laws.specs.Space.{Space};
 ghost use Rattle.tree_shape.specs.Tree.{parent_distance, times};
@@ -15,7 +16,7 @@ use crate::met::Met;
 use metric_laws::{Point, Ruler};
 use page_store::{Memory, PageFault, Pages, SharedNode};
 use std::alloc::Global;
-use tree_shape::{InnerEntry, LeafEntry, Node, fill};
+use tree_shape::{InnerRef, LeafEntries, LeafRef, Node, fill};
 
 /// A routing entry on the way from the root.
 #[derive(Drop)]
@@ -107,20 +108,20 @@ fn audit_object<R: Ruler>(
     path: &[Step],
     page: u32,
     place: u32,
-    object: &LeafEntry,
+    object: LeafRef,
     ids: &mut Met,
 ) -> Result<(), AuditFault>
     ensures same { R.metric ruler.new ≡ R.metric ruler.old }
     ensures limit { ids.new.limit ≡ ids.old.limit }
     ensures ok { OnOk result ((ps : List ℕ) →
-        check_object (R.M.space (R.metric ruler.old)) ids.old.limit (last_point path.now) path.now page place object.now
+        check_object (R.M.space (R.metric ruler.old)) ids.old.limit (last_point path.now) path.now page place (leaf_of object.entry)
         (record { pages = ps; ids = ids.old.met })
         ≡ Ok (record { pages = ps; ids = ids.new.met })) }
     ensures err { IfErr result (λ v. (ps : List ℕ) →
         IsEntryFault (check_object (R.M.space (R.metric ruler.old)) ids.old.limit (last_point path.now) path.now page place
-        object.now (record { pages = ps; ids = ids.old.met })) v) }
+        (leaf_of object.entry) (record { pages = ps; ids = ids.old.met })) v) }
 {
-    let point = object.point.as_slice();
+    let point = object.point;
     if !ruler.fits(point) {
         return Err(AuditFault::Unfit(page, place));
     }
@@ -140,7 +141,7 @@ fn audit_objects<R: Ruler>(
     ruler: &mut R,
     path: &[Step],
     page: u32,
-    objects: &[LeafEntry],
+    objects: &LeafEntries,
     ids: &mut Met,
 ) -> Result<(), AuditFault>
     requires { length objects.now < 2 ^ 32 }
@@ -155,7 +156,7 @@ fn audit_objects<R: Ruler>(
         0 objects.now (record { pages = ps; ids = ids.old.met })) v) }
 {
     for i in 0..objects.len() {
-        audit_object(ruler, path, page, i as u32, &objects[i], ids)?;
+        audit_object(ruler, path, page, i as u32, objects.at(i), ids)?;
     }
     Ok(())
 }
@@ -166,15 +167,15 @@ fn audit_entry<R: Ruler>(
     path: &[Step],
     page: u32,
     place: u32,
-    entry: &InnerEntry,
+    entry: InnerRef,
 ) -> Result<(), AuditFault>
     ensures same { R.metric ruler.new ≡ R.metric ruler.old }
     ensures ok { OnOk result ((rest : Result Seen AuditFault) →
-        check_entry (R.M.space (R.metric ruler.old)) (last_point path.now) page place entry.now rest ≡ rest) }
+        check_entry (R.M.space (R.metric ruler.old)) (last_point path.now) page place (inner_of entry.entry) rest ≡ rest) }
     ensures err { IfErr result (λ v. (rest : Result Seen AuditFault) →
-        IsEntryFault (check_entry (R.M.space (R.metric ruler.old)) (last_point path.now) page place entry.now rest) v) }
+        IsEntryFault (check_entry (R.M.space (R.metric ruler.old)) (last_point path.now) page place (inner_of entry.entry) rest) v) }
 {
-    let point = entry.point.as_slice();
+    let point = entry.point;
     if !ruler.fits(point) {
         return Err(AuditFault::Unfit(page, place));
     }
@@ -215,7 +216,7 @@ fn audit_leaf<R: Ruler>(
     ruler: &mut R,
     path: &[Step],
     at: &Spot,
-    objects: &[LeafEntry],
+    objects: &LeafEntries,
     ids: &mut Met,
 ) -> Result<(), AuditFault>
     requires some { 1 ≤ at.now.dim }
@@ -271,14 +272,14 @@ fn arrive<P: Pages>(
 }
 
 // Makes the step to a child.
-fn step_to(alloc: Global, page: u32, place: u32, entry: &InnerEntry) -> Result<Step, Memory>
-    ensures { IfOk result (λ t. t ≡ step page place entry.now) }
+fn step_to(alloc: Global, page: u32, place: u32, entry: InnerRef) -> Result<Step, Memory>
+    ensures { IfOk result (λ t. t ≡ step page place (inner_of entry.entry)) }
 {
     Ok(Step {
         page,
         place,
         radius: entry.radius,
-        point: Point::new(alloc, entry.point.as_slice())?,
+        point: Point::new(alloc, entry.point)?,
     })
 }
 
@@ -289,21 +290,22 @@ pub fn step_down<R: Ruler>(
     path: &mut Vec<Step>,
     at: &Spot,
     place: u32,
-    entry: &InnerEntry,
+    entry: InnerRef,
 ) -> Result<Spot, AuditFault>
     requires some { 1 ≤ at.now.dim }
     requires few { at.now.dim ≤ 64 }
     requires above { 1 ≤ at.now.level }
     ensures same { R.metric ruler.new ≡ R.metric ruler.old }
-    ensures path { OnOk result (path.new.items ≡ path.old.items ++ step at.now.page place entry.now ∷ []) }
-    ensures page { IfOk result (λ child. child.page ≡ entry.now.child) }
+    ensures path { OnOk result (path.new.items ≡ path.old.items ++ step at.now.page place (inner_of entry.entry) ∷ []) }
+    ensures page { IfOk result (λ child. child.page ≡ (inner_of entry.entry).child) }
     ensures level { IfOk result (λ child. child.level ≡ at.now.level - 1) }
     ensures least { IfOk result (λ child. child.least ≡ least_for at.now.dim) }
     ensures dim { IfOk result (λ child. child.dim ≡ at.now.dim) }
     ensures ok { OnOk result ((rest : Result Seen AuditFault) →
-        check_entry (R.M.space (R.metric ruler.old)) (last_point path.old.items) at.now.page place entry.now rest ≡ rest) }
+        check_entry (R.M.space (R.metric ruler.old)) (last_point path.old.items) at.now.page place (inner_of entry.entry) rest ≡ rest) }
     ensures err { IfErr result (λ v. (rest : Result Seen AuditFault) →
-        IsEntryFault (check_entry (R.M.space (R.metric ruler.old)) (last_point path.old.items) at.now.page place entry.now rest) v) }
+        IsEntryFault (check_entry (R.M.space (R.metric ruler.old)) (last_point path.old.items) at.now.page place
+        (inner_of entry.entry) rest) v) }
 {
     audit_entry(ruler, path.as_slice(), at.page, place, entry)?;
     let step = step_to(alloc, at.page, place, entry)?;
@@ -369,17 +371,10 @@ pub fn walk<P: Pages, R: Ruler>(
     let node = arrive(alloc, pages, &mut visits.pages, at.page)?;
     let (level, entries) = match node.as_ref() {
         Node::Leaf(objects) => {
-            return audit_leaf(
-                ruler,
-                path.as_slice(),
-                &at,
-                objects.as_slice(),
-                &mut visits.ids,
-            );
+            return audit_leaf(ruler, path.as_slice(), &at, objects, &mut visits.ids);
         }
         Node::Inner { level, entries } => (*level, entries),
     };
-    let entries = entries.as_slice();
     if at.level == 0 {
         return Err(AuditFault::Fill(at.page));
     }
@@ -387,7 +382,7 @@ pub fn walk<P: Pages, R: Ruler>(
         return Err(AuditFault::Fill(at.page));
     }
     for place in 0..entries.len() {
-        let child = step_down(alloc, ruler, path, &at, place as u32, &entries[place])?;
+        let child = step_down(alloc, ruler, path, &at, place as u32, entries.at(place))?;
         walk(alloc, pages, ruler, visits, path, child)?;
         let _ = path.pop();
     }

@@ -2,6 +2,7 @@
 ghost use Rattle.std.specs.Prelude.{◌≡◌, ◌≤◌, ◌+◌, ◌++◌, [], ◌∷◌, map, length, reverse, Some, IsTrue, IfOk, IfErr, OnOk};
 ghost use Rattle.metric_laws.specs.Counts.{next_count, count_up, CountsUpTo};
 ghost use Rattle.metric_laws.specs.Space.{Space};
+ghost use Rattle.tree_shape.specs.Entries.{inner_of};
 ghost use Rattle.tree_shape.specs.Tree.{IsSoundTree, inner_entries};
 ghost use Rattle.page_store.specs.Reading.{nodes_of};
 ghost use Rattle.page_store.specs.Shelf.{HoldsSame, HasPageCause, IsPassing};
@@ -10,9 +11,9 @@ ghost use Rattle.log_model.specs.Counts.{entry_count};
 ghost use Rattle.tree_outline.specs.Shapes.{root_named, named_by, line_of, tree_lines, DrawsTo, IsCounted, IsDrawn};
 
 use metric_laws::{Listed, Point};
-use page_store::{Memory, PageFault, Pages, own_node};
+use page_store::{Memory, PageFault, Pages};
 use std::alloc::Global;
-use tree_shape::{InnerEntry, Live, Node};
+use tree_shape::{InnerEntries, InnerRef, Live, Node};
 
 /// A node of an index's tree.
 #[derive(Drop)]
@@ -51,17 +52,25 @@ pub struct Named {
     pub radius: Option<u64>,
 }
 
-// Pushes the nodes that `entries` name, the first one topmost.
-fn put_on_top(coming: &mut Vec<Named>, entries: Vec<InnerEntry>) -> Result<(), Memory>
-    ensures { OnOk result (reverse coming.new.items ≡ map named_by entries.items ++ reverse coming.old.items) }
+// Makes the node that an entry names.
+fn named_by(alloc: Global, entry: InnerRef) -> Result<Named, Memory>
+    ensures { IfOk result (λ named. named ≡ named_by (inner_of entry.entry)) }
 {
-    let mut left = entries;
-    while let Some(entry) = left.pop() {
-        coming.push(Named {
-            page: entry.child,
-            centre: Some(entry.point),
-            radius: Some(entry.radius),
-        })?;
+    let centre = Point::new(alloc, entry.point)?;
+    Ok(Named {
+        page: entry.child,
+        centre: Some(centre),
+        radius: Some(entry.radius),
+    })
+}
+
+// Pushes the nodes that `entries` name, the first one topmost.
+fn put_on_top(alloc: Global, coming: &mut Vec<Named>, entries: &InnerEntries) -> Result<(), Memory>
+    ensures { OnOk result (reverse coming.new.items ≡ map named_by entries.now ++ reverse coming.old.items) }
+{
+    for index in (0..entries.len()).rev() {
+        let named = named_by(alloc, entries.at(index))?;
+        coming.push(named)?;
     }
     Ok(())
 }
@@ -72,8 +81,8 @@ fn line_of(named: Named, node: &Node) -> ShapeLine
     ensures { result ≡ line_of named node.now }
 {
     let (level, entries) = match node {
-        Node::Leaf(entries) => (0, entries.as_slice().len()),
-        Node::Inner { level, entries } => (*level, entries.as_slice().len()),
+        Node::Leaf(entries) => (0, entries.len()),
+        Node::Inner { level, entries } => (*level, entries.len()),
     };
     ShapeLine {
         level,
@@ -83,16 +92,13 @@ fn line_of(named: Named, node: &Node) -> ShapeLine
     }
 }
 
-// Returns the entries of an inner node; a leaf has none.
-fn into_entries(alloc: Global, node: Node) -> Vec<InnerEntry>
-    ensures { result.items ≡ inner_entries (Some node) }
+// Pushes the nodes that the entries of an inner node name, the first one topmost. A leaf names none.
+fn name_children(alloc: Global, coming: &mut Vec<Named>, node: &Node) -> Result<(), Memory>
+    ensures { OnOk result (reverse coming.new.items ≡ map named_by (inner_entries (Some node.now)) ++ reverse coming.old.items) }
 {
     match node {
-        Node::Leaf(entries) => {
-            drop(entries);
-            Vec::new(alloc)
-        }
-        Node::Inner { entries, .. } => entries.into_vec(),
+        Node::Leaf(_) => Ok(()),
+        Node::Inner { entries, .. } => put_on_top(alloc, coming, entries),
     }
 }
 
@@ -113,11 +119,11 @@ fn draw<P: Pages>(
         (reverse coming.new.items)) }
     ensures cause { IfErr result (HasPageCause (P.shelf pages.old) (P.shelf pages.new) named.page) }
 {
-    let node = own_node(alloc, pages, named.page)?;
-    if lines.push(line_of(named, &node)).is_err() {
+    let node = pages.node(alloc, named.page)?;
+    if lines.push(line_of(named, node.as_ref())).is_err() {
         return Err(PageFault::Memory);
     }
-    put_on_top(coming, into_entries(alloc, node))?;
+    name_children(alloc, coming, node.as_ref())?;
     Ok(())
 }
 

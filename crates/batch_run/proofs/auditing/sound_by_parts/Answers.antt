@@ -17,7 +17,7 @@ returns-in-Some-2 g c =
     let live = c.args.live.now in
     let disk : DiskState = g.D.Disk.state c.args.disk.now in
     let on : DiskState = g.D.Disk.state c.new-pages.result.disk.now in
-    let es = c.as_slice-entries.result.now in
+    let es = c.in-Inner.entries in
     let parts : List Part = c.deref.result.now in
     let level : c.in-Inner.level ≡ live.height = c.is_root.ensures.level c.if-not-is_root.false in
     let same : on ≡ g.D.Disk.state c.in-Some.reader = (λ i. g.D.Disk.state (c.new-pages.ensures.same i)) in
@@ -27,10 +27,10 @@ returns-in-Some-2 g c =
     let tells : IsTrue on.tells = (λ i. (same i).tells) ∙ (c.in-Some.ensures.same told).0 in
     let read : reading s.words live.pages disk.bytes live.root ≡ reading_in (version_of c.new-pages.result.first_version) c.new-pages.result.dim c.new-pages.result.pages on.bytes live.root =
     λ i. reading_in (version_of (sym c.new-pages.ensures.version i)) (sym dim i) (sym c.new-pages.ensures.pages i) (sym bytes i) live.root in
-    read ∙ c.in-Ok.ensures.ok.told tells ∙ ap (λ (n : Node). Ok n) (sym c.as_ref.ensures ∙ c.in-Inner.is) ∙ (λ i. Ok (Inner (level i) (sym c.as_slice-entries.ensures i))) in
+    read ∙ c.in-Ok.ensures.ok.told tells ∙ ap (λ (n : Node). Ok n) (sym c.as_ref.ensures ∙ c.in-Inner.is) ∙ (λ i. Ok (Inner (level i) es)) in
     let all = rw c.in-Some-2.is at c.in_ok-parts.ensures in
     let tried : AreTried s live disk 0 es (map (λ part. Ok part) parts) =
     subst (AreTried s live disk 0 es) (all ∙ ap (λ (ps : List Part). (let oks : List (Result Part AuditFault) = map (λ part. Ok part) ps in oks)) (sym c.deref.ensures.value)) c.in_ok-tried.ensures in
     numbers_if_some s live disk es parts c.join_parts.result c.parts_make_the_whole.ensures (c.is_root.ensures.above c.if-not-is_root.false) root
-    (subst (λ (n : ℕ). IsFilled n (root_least live.height) (length es)) c.words-dim.ensures (c.is_root.ensures.filled c.if-not-is_root.false)) tried
+    (subst (λ (n : ℕ). IsFilled n (root_least live.height) (length es)) c.words-dim.ensures (rw c.len.ensures at (c.is_root.ensures.filled c.if-not-is_root.false))) tried
     c.join_parts.ensures.apart c.join_parts.ensures.objects c.join_parts.ensures.nodes

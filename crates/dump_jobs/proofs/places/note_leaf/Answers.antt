@@ -1,4 +1,5 @@
-use Rattle.std.proofs.Common.{rules, ◌+◌, ◌++◌, ◌<◌, List, ℕ, take, sym, subst}
+use Rattle.std.proofs.Common.{arith, rules, ◌+◌, ◌++◌, ◌<◌, List, ℕ, take, sym, subst}
+use Rattle.tree_shape.specs.Entries.{leaf_of}
 use Rattle.dump_jobs.specs.Places.{Notes}
 use Rattle.dump_jobs.specs.Rows.{due, times_among}
 use Rattle.dump_jobs.proofs.Noting.{entry_noted, entry_wrong}
@@ -6,15 +7,15 @@ use Rattle.dump_jobs.proofs.places.note_leaf.Goals as goal
 
 pub returns-then-not-note-clause-wrong : goal.returns-then-not-note-clause-wrong
 returns-then-not-note-clause-wrong c nodes met leaf before =
-    let e = c.index-entries-number.result in
+    let e = leaf_of c.at-entry.result in
     let wrong = c.note.ensures.wrong (search rules) in
     subst (λ (n : ℕ). due n e.id < times_among (met ++ c.args.entries.now) e.id) c.loop-number.auto.numbers
-    (entry_wrong nodes c.loop-number.numbers met c.args.entries.now c.loop-number.number e (c.loop-number.invariant nodes met leaf before) c.loop-number-test.true c.index-entries-number.is wrong)
+    (entry_wrong nodes c.loop-number.numbers met c.args.entries.now c.loop-number.number e (c.loop-number.invariant nodes met leaf before) (omega (arith, c.len-number-end.ensures)) c.at-entry.ensures wrong)
 
 pub loop-number-preserved : goal.loop-number-preserved
 loop-number-preserved c nodes met leaf before =
-    let e = c.index-entries-number.result in
+    let e = leaf_of c.at-entry.result in
     let noted = c.note.ensures.noted (search rules) in
     subst (λ (n : List ℕ). Notes nodes n (met ++ take (c.loop-number.number + 1) c.args.entries.now)) (sym noted.2)
-    (entry_noted nodes c.loop-number.numbers met c.args.entries.now c.loop-number.number e (c.loop-number.invariant nodes met leaf before) c.loop-number-test.true c.index-entries-number.is
+    (entry_noted nodes c.loop-number.numbers met c.args.entries.now c.loop-number.number e (c.loop-number.invariant nodes met leaf before) (omega (arith, c.len-number-end.ensures)) c.at-entry.ensures
     c.args.page leaf c.requires.low c.requires.few noted.0 noted.1)

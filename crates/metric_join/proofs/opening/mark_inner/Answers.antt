@@ -1,19 +1,20 @@
-use Rattle.std.proofs.Common.{◌∙◌, ap}
+use Rattle.std.proofs.Common.{◌∙◌, ap, arith}
+use Rattle.tree_shape.specs.Entries.{inner_of}
 use Rattle.log_model.specs.JoinWalk.{subtree_entry}
 use Rattle.log_model.specs.JoinSteps.{search_within}
 use Rattle.metric_join.proofs.Entries.{takes_next, takes_all, counts_both}
 use Rattle.metric_join.proofs.opening.mark_inner.Goals as goal
 
-pub loop-entry-preserved : goal.loop-entry-preserved
-loop-entry-preserved g c = record {
-  metric = c.mark_subtree.ensures.metric ∙ c.loop-entry.invariant.metric;
-  counted = counts_both (g.R.Ruler.used c.args.ruler.now) (g.R.Ruler.used c.loop-entry.ruler) (g.R.Ruler.used c.mark_subtree.new.ruler) c.args.opening.now.marks.items c.loop-entry.opening.marks.items c.mark_subtree.new.opening.marks.items c.loop-entry.invariant.counted c.in_ok-mark_subtree.ensures.counted;
-  taken = takes_next (search_within (g.R.M.Metric.space (g.R.Ruler.metric c.args.ruler.now)) c.args.probe.rho) (search_within (g.R.M.Metric.space (g.R.Ruler.metric c.loop-entry.ruler)) c.args.probe.rho) c.args.probe.need.now
-      (subtree_entry c.args.level) c.args.entries.now c.loop-entry.entry-index c.entry-item.result c.args.opening.now c.loop-entry.opening c.mark_subtree.new.opening
-      (ap (λ m. search_within (g.R.M.Metric.space m) c.args.probe.rho) c.loop-entry.invariant.metric) c.loop-entry-test.true c.entry-item.is c.in_ok-mark_subtree.ensures.taken c.loop-entry.invariant.taken;
+pub loop-index-preserved : goal.loop-index-preserved
+loop-index-preserved g c = record {
+  metric = c.mark_subtree.ensures.metric ∙ c.loop-index.invariant.metric;
+  counted = counts_both (g.R.Ruler.used c.args.ruler.now) (g.R.Ruler.used c.loop-index.ruler) (g.R.Ruler.used c.mark_subtree.new.ruler) c.args.opening.now.marks.items c.loop-index.opening.marks.items c.mark_subtree.new.opening.marks.items c.loop-index.invariant.counted c.in_ok-mark_subtree.ensures.counted;
+  taken = takes_next (search_within (g.R.M.Metric.space (g.R.Ruler.metric c.args.ruler.now)) c.args.probe.rho) (search_within (g.R.M.Metric.space (g.R.Ruler.metric c.loop-index.ruler)) c.args.probe.rho) c.args.probe.need.now
+      (subtree_entry c.args.level) c.args.entries.now c.loop-index.index (inner_of c.at-entry.result) c.args.opening.now c.loop-index.opening c.mark_subtree.new.opening
+      (ap (λ m. search_within (g.R.M.Metric.space m) c.args.probe.rho) c.loop-index.invariant.metric) (omega (arith, c.len-index-end.ensures)) c.at-entry.ensures c.in_ok-mark_subtree.ensures.taken c.loop-index.invariant.taken;
 }
 
 pub returns-clause-taken : goal.returns-clause-taken
 returns-clause-taken g c =
-    takes_all (search_within (g.R.M.Metric.space (g.R.Ruler.metric c.args.ruler.now)) c.args.probe.rho) c.args.probe.need.now (subtree_entry c.args.level) c.args.entries.now c.loop-entry.entry-index c.args.opening.now c.loop-entry.opening
-    c.loop-entry-test.false c.loop-entry.invariant.taken
+    takes_all (search_within (g.R.M.Metric.space (g.R.Ruler.metric c.args.ruler.now)) c.args.probe.rho) c.args.probe.need.now (subtree_entry c.args.level) c.args.entries.now c.loop-index.index c.args.opening.now c.loop-index.opening
+    (omega (arith, c.len-index-end.ensures)) c.loop-index.invariant.taken

@@ -1,4 +1,5 @@
-use Rattle.std.proofs.Common.{◌≡◌, ◌+◌, ap, refl, sym, List, ℕ, Some, false, arith}
+use Rattle.std.proofs.Common.{◌≡◌, ◌+◌, refl, false, arith}
+use Rattle.tree_shape.specs.Entries.{leaf_of}
 use Rattle.log_model.specs.declared.pairs.JoinNeed.{JoinNeed}
 use Rattle.log_model.specs.JoinWalk.{JoinSearch, far_stored, object_entry, other, radius_of}
 use Rattle.log_model.specs.JoinSteps.{search_within, paired}
@@ -12,7 +13,7 @@ returns-in_ok-add_object-clause-counted g c =
     let marked = c.measured_mark-marked in
     let some = marked.ensures.counted in
     counts_one (g.R.Ruler.used c.args.ruler.now) (g.R.Ruler.used marked.new.ruler) some.0 c.args.opening.now.marks.items c.push.new.self.items marked.result.mark
-    (rw (measured_one j n c.as_slice.result.now 0 marked.result.mark marked.ensures.mark) some.1) some.2 c.in_ok-push.ensures.items
+    (rw (measured_one j n c.args.entry.point.now 0 marked.result.mark marked.ensures.mark) some.1) some.2 c.in_ok-push.ensures.items
 
 pub returns-in_ok-add_object-clause-taken : goal.returns-in_ok-add_object-clause-taken
 returns-in_ok-add_object-clause-taken g c =
@@ -20,11 +21,11 @@ returns-in_ok-add_object-clause-taken g c =
     let n : JoinNeed = c.args.probe.need.now in
     let marked = c.measured_mark-marked in
     let bare : 0 + radius_of (other n) ≡ radius_of (other n) = omega arith in
-    let unskipped : far_stored n.apart c.args.entry.now.parent j.rho (0 + radius_of (other n)) ≡ false = rw bare c.requires in
-    takes_pair j n (object_entry c.args.entry.now) c.as_slice.result.now (ap (λ (p : List ℕ). Some p) (sym c.as_slice.ensures)) marked.result.mark
-    (least_unskipped j n c.as_slice.result.now c.args.entry.now.parent 0 marked.result.mark unskipped marked.ensures.mark)
+    let unskipped : far_stored n.apart c.args.entry.parent j.rho (0 + radius_of (other n)) ≡ false = rw bare c.requires in
+    takes_pair j n (object_entry (leaf_of c.args.entry)) c.args.entry.point.now refl marked.result.mark
+    (least_unskipped j n c.args.entry.point.now c.args.entry.parent 0 marked.result.mark unskipped marked.ensures.mark)
     c.args.opening.now (record { marks = c.push.new.self; matches = c.add_object.new.self }) c.in_ok-push.ensures.items
-    c.in-Near.is (paired n (object_entry c.args.entry.now).item marked.result.apart) marked.result.apart (marked.ensures.apart) refl
+    c.in-Near.is (paired n (object_entry (leaf_of c.args.entry)).item marked.result.apart) marked.result.apart (marked.ensures.apart) refl
     c.in_ok-add_object.ensures.hits c.in_ok-add_object.ensures.needs
 
 pub returns-in_default : goal.returns-in_default
@@ -33,13 +34,13 @@ returns-in_default g c =
     let n : JoinNeed = c.args.probe.need.now in
     let marked = c.measured_mark-marked in
     let bare : 0 + radius_of (other n) ≡ radius_of (other n) = omega arith in
-    let unskipped : far_stored n.apart c.args.entry.now.parent j.rho (0 + radius_of (other n)) ≡ false = rw bare c.requires in
+    let unskipped : far_stored n.apart c.args.entry.parent j.rho (0 + radius_of (other n)) ≡ false = rw bare c.requires in
     let some = marked.ensures.counted in
     record {
       metric = marked.ensures.metric;
-      counted = counts_one (g.R.Ruler.used c.args.ruler.now) (g.R.Ruler.used marked.new.ruler) some.0 c.args.opening.now.marks.items c.push.new.self.items marked.result.mark (rw (measured_one j n c.as_slice.result.now 0 marked.result.mark marked.ensures.mark) some.1) some.2 c.in_ok-push.ensures.items;
-      taken = takes_none j n (object_entry c.args.entry.now) c.as_slice.result.now (ap (λ (p : List ℕ). Some p) (sym c.as_slice.ensures)) marked.result.mark
-          (least_unskipped j n c.as_slice.result.now c.args.entry.now.parent 0 marked.result.mark unskipped marked.ensures.mark)
+      counted = counts_one (g.R.Ruler.used c.args.ruler.now) (g.R.Ruler.used marked.new.ruler) some.0 c.args.opening.now.marks.items c.push.new.self.items marked.result.mark (rw (measured_one j n c.args.entry.point.now 0 marked.result.mark marked.ensures.mark) some.1) some.2 c.in_ok-push.ensures.items;
+      taken = takes_none j n (object_entry (leaf_of c.args.entry)) c.args.entry.point.now refl marked.result.mark
+          (least_unskipped j n c.args.entry.point.now c.args.entry.parent 0 marked.result.mark unskipped marked.ensures.mark)
           c.args.opening.now (record { marks = c.push.new.self; matches = c.args.opening.now.matches }) c.in_ok-push.ensures.items
           c.in_default.not-Near refl refl;
     }

@@ -1,7 +1,7 @@
-use Rattle.std.proofs.Common.{◌≡◌, ◌++◌, map, reverse}
-use Rattle.page_store.specs.Tours.{children}
+use Rattle.std.proofs.Common.{◌≡◌, ◌++◌, map, drop, reverse}
+use Rattle.tree_shape.specs.declared.entry.InnerEntry.{InnerEntry}
 use Rattle.metric_join.proofs.touring.push_children.Given as goal
 
--- what isn't on the stack yet comes before what is
-abbrev pub invariant-loop-entry : goal.invariant-loop-entry
-invariant-loop-entry l = map (λ e. e.child) l.entry-iterator.iter.rest.now ++ reverse l.stack.items ≡ children l.node ++ reverse l.fn.stack.items
+-- the pages of the entries from this one on are on the stack
+abbrev pub invariant-loop-index : goal.invariant-loop-index
+invariant-loop-index l = reverse l.stack.items ≡ map (λ (e : InnerEntry). e.child) (drop l.index l.entries) ++ reverse l.fn.stack.items

@@ -1,6 +1,7 @@
 use Rattle.std.proofs.Common.{◌≡◌, ℕ, ◌-◌, ◌∷◌, ◌++◌, [], List, Ok, sym, ◌∙◌, ap, subst}
 use Rattle.std.specs.Prelude.{IfErr}
 use Rattle.std.proofs.lemmas.Result.{err_from_is_err_and, on_ok_weaker}
+use Rattle.tree_shape.specs.Entries.{inner_of}
 use Rattle.tree_shape.specs.Fill.{least_for}
 use Rattle.tree_audit.specs.declared.walking.Step.{Step}
 use Rattle.tree_audit.specs.Audited.{audited_at, step, check_entry, last_point, IsWalkFault}
@@ -14,7 +15,7 @@ returns-in_err-child-clause-err g c =
     let p = err_from_is_err_and c.from_residual.result c.from_residual.ensures.1 in
     let s = g.R.M.Metric.space (g.R.Ruler.metric c.args.ruler.now) in
     let root = c.args.root.now in
-    let entry = c.args.entry.now in
+    let entry = inner_of c.args.entry in
     let child = audited_at s (g.P.Pages.shelf c.args.pages.now).read c.args.visits.now.ids.limit (root.level - 1) (least_for s.words) (step root.page c.args.place entry ∷ []) entry.child (seen_of c.args.visits.now) in
     rw (p.1, p.2) (of_entry (g.P.Pages.shelf c.args.pages.now) (g.P.Pages.shelf c.args.pages.now) _ c.in_err-child.field-0.0
     (subst (λ (p : List Step). IsEntryFault (check_entry s (last_point p) root.page c.args.place entry child) c.in_err-child.field-0.0)
@@ -25,7 +26,7 @@ returns-clause-ok g c =
     let s = g.R.M.Metric.space (g.R.Ruler.metric c.args.ruler.now) in
     let read = (g.P.Pages.shelf c.args.pages.now).read in
     let root = c.args.root.now in
-    let entry = c.args.entry.now in
+    let entry = inner_of c.args.entry in
     let visits = c.args.visits.now in
     let child = audited_at s read visits.ids.limit (root.level - 1) (least_for s.words) (step root.page c.args.place entry ∷ []) entry.child (seen_of visits) in
     let passes : entry_told s read visits.ids.limit root.level [] root.page c.args.place entry (seen_of visits) ≡ child =
@@ -42,7 +43,7 @@ returns-clause-err g c =
     let s = g.R.M.Metric.space (g.R.Ruler.metric c.args.ruler.now) in
     let read = (g.P.Pages.shelf c.args.pages.now).read in
     let root = c.args.root.now in
-    let entry = c.args.entry.now in
+    let entry = inner_of c.args.entry in
     let visits = c.args.visits.now in
     let child = audited_at s read visits.ids.limit (root.level - 1) (least_for s.words) (step root.page c.args.place entry ∷ []) entry.child (seen_of visits) in
     let passes : entry_told s read visits.ids.limit root.level [] root.page c.args.place entry (seen_of visits) ≡ child =

@@ -3,6 +3,7 @@ use Rattle.std.specs.Prelude.{◌&&◌, ◌==◌}
 use Rattle.std.proofs.Common.{length-append}
 use Rattle.std.proofs.lemmas.Result.{err_from_is_err_and, on_ok_weaker}
 use Rattle.std.proofs.Math.Seq.{drop-cons}
+use Rattle.tree_shape.specs.Entries.{inner_of}
 use Rattle.tree_shape.specs.Fill.{least_for}
 use Rattle.tree_shape.specs.declared.entry.InnerEntry.{InnerEntry}
 use Rattle.tree_shape.specs.declared.entry.Node.{Node}
@@ -25,7 +26,7 @@ returns-in-Leaf-clause-ok g t c = on_ok_weaker c.audit_leaf.result (λ told tell
     let at = c.args.at in
     let visits = c.args.visits.now in
     leaf_page s (g.P.Pages.shelf c.args.pages.now).read visits.ids.limit at.level at.least c.args.path.now.items at.page c.in-Leaf.objects (seen_of visits) c.in_ok-node.ensures.new
-    (c.in_ok-node.ensures.ok.told tells ∙ ap (λ (n : Node). Ok n) (sym c.as_ref.ensures ∙ c.in-Leaf.is)) ∙ (rw (← c.in_ok-node.ensures.noted, ← c.as_slice-in-Leaf.ensures, ← c.as_slice.ensures.value) (told c.arrive.new.seen.met))) c.audit_leaf.ensures.ok
+    (c.in_ok-node.ensures.ok.told tells ∙ ap (λ (n : Node). Ok n) (sym c.as_ref.ensures ∙ c.in-Leaf.is)) ∙ (rw (← c.in_ok-node.ensures.noted, ← c.as_slice.ensures.value) (told c.arrive.new.seen.met))) c.audit_leaf.ensures.ok
 
 pub returns-in-Leaf-clause-err : goal.returns-in-Leaf-clause-err
 returns-in-Leaf-clause-err g t c =
@@ -34,7 +35,7 @@ returns-in-Leaf-clause-err g t c =
     let visits = c.args.visits.now in
     walk_if_err c.audit_leaf.result (g.P.Pages.shelf c.args.pages.now) (g.P.Pages.shelf c.arrive.new.pages) _ _ c.arrive.new.seen.met (λ tells.
     sym (leaf_page s (g.P.Pages.shelf c.args.pages.now).read visits.ids.limit at.level at.least c.args.path.now.items at.page c.in-Leaf.objects (seen_of visits) c.in_ok-node.ensures.new
-    (c.in_ok-node.ensures.ok.told tells ∙ ap (λ (n : Node). Ok n) (sym c.as_ref.ensures ∙ c.in-Leaf.is)) ∙ (rw (← c.in_ok-node.ensures.noted, ← c.as_slice-in-Leaf.ensures, ← c.as_slice.ensures.value) refl))) c.audit_leaf.ensures.err
+    (c.in_ok-node.ensures.ok.told tells ∙ ap (λ (n : Node). Ok n) (sym c.as_ref.ensures ∙ c.in-Leaf.is)) ∙ (rw (← c.in_ok-node.ensures.noted, ← c.as_slice.ensures.value) refl))) c.audit_leaf.ensures.err
 
 pub returns-then-at-eq0-clause-err : goal.returns-then-at-eq0-clause-err
 returns-then-at-eq0-clause-err g t c = λ tells.
@@ -48,7 +49,7 @@ returns-then-not-is_inner-clause-err g t c = λ tells.
     let s = g.R.M.Metric.space (g.R.Ruler.metric c.args.ruler.now) in
     let n = length c.in-Inner.entries in
     let why : ((c.in-Inner.level == at.level) && is_filled s at.least n) ≡ false =
-    rw (c.requires.words, ← c.as_slice-entries.ensures) (sym c.is_inner.ensures ∙ c.if-not-is_inner.true) in
+    rw (c.requires.words, ← c.len.ensures) (sym c.is_inner.ensures ∙ c.if-not-is_inner.true) in
     inner_fill s (g.P.Pages.shelf c.args.pages.now).read c.args.visits.now.ids.limit at.level at.least c.args.path.now.items at.page c.in-Inner.level c.in-Inner.entries
     (seen_of c.args.visits.now) c.in_ok-node.ensures.new (c.in_ok-node.ensures.ok.told tells ∙ ap (λ (n : Node). Ok n) (sym c.as_ref.ensures ∙ c.in-Inner.is)) why
 
@@ -58,7 +59,7 @@ loop-place-init g t c =
     let s = g.R.M.Metric.space (g.R.Ruler.metric c.args.ruler.now) in
     let n = length c.in-Inner.entries in
     let full : ((c.in-Inner.level == at.level) && is_filled s at.least n) ≡ true =
-    rw (c.requires.words, ← c.as_slice-entries.ensures) (sym c.is_inner.ensures ∙ c.if-not-is_inner.false) in
+    rw (c.requires.words, ← c.len.ensures) (sym c.is_inner.ensures ∙ c.if-not-is_inner.false) in
     record {
       metric = refl;
       same = c.in_ok-node.ensures.same;
@@ -68,7 +69,7 @@ loop-place-init g t c =
       ids_limit = refl;
       path = refl;
       left = λ tells.
-          rw (c.in_ok-node.ensures.noted, c.as_slice-entries.ensures)
+          rw c.in_ok-node.ensures.noted
           (sym (inner_page s (g.P.Pages.shelf c.args.pages.now).read c.args.visits.now.ids.limit at.level at.least c.args.path.now.items at.page c.in-Inner.level c.in-Inner.entries
           (seen_of c.args.visits.now) c.in_ok-node.ensures.new (c.in_ok-node.ensures.ok.told tells ∙ ap (λ (n : Node). Ok n) (sym c.as_ref.ensures ∙ c.in-Inner.is)) c.if-at-eq0.false full));
       fewer = c.in_ok-node.ensures.fewer;
@@ -83,12 +84,12 @@ returns-in_err-child-clause-err g t c =
     let at = c.args.at in
     let s = g.R.M.Metric.space (g.R.Ruler.metric c.args.ruler.now) in
     let read = (g.P.Pages.shelf c.args.pages.now).read in
-    let entry = c.index-entries-place.result in
+    let entry = inner_of c.at.result in
     let check = entry_told s read c.args.visits.now.ids.limit at.level c.args.path.now.items at.page in
     let seen = seen_of c.loop-place.visits in
-    let entries = c.as_slice-entries.result.now in
+    let entries = c.in-Inner.entries in
     let here : drop c.loop-place.place entries ≡ entry ∷ drop (suc c.loop-place.place) entries =
-    drop-cons entries c.loop-place.place entry (omega arith) ∙ ap (λ (e : InnerEntry). e ∷ drop (suc c.loop-place.place) entries) (sym c.index-entries-place.is) in
+    drop-cons entries c.loop-place.place entry (omega (arith, c.len-place-end.ensures)) ∙ ap (λ (e : InnerEntry). e ∷ drop (suc c.loop-place.place) entries) (sym c.at.ensures) in
     let rest : Seen → Result Seen AuditFault = λ after. each_entry check (c.loop-place.place + 1) (drop (suc c.loop-place.place) entries) after in
     rw (p.1, p.2) (walk_same (g.P.Pages.shelf c.args.pages.now) (g.P.Pages.shelf c.loop-place.pages) (and_then (check c.loop-place.place entry seen) rest) _ c.in_err-child.field-0.0
     (λ tells. ap (λ (xs : List InnerEntry). each_entry check c.loop-place.place xs seen) (sym here) ∙ i.left tells)
@@ -103,12 +104,12 @@ returns-in_err-walk-clause-err g t c =
     let at = c.args.at in
     let s = g.R.M.Metric.space (g.R.Ruler.metric c.args.ruler.now) in
     let read = (g.P.Pages.shelf c.args.pages.now).read in
-    let entry = c.index-entries-place.result in
+    let entry = inner_of c.at.result in
     let check = entry_told s read c.args.visits.now.ids.limit at.level c.args.path.now.items at.page in
     let seen = seen_of c.loop-place.visits in
-    let entries = c.as_slice-entries.result.now in
+    let entries = c.in-Inner.entries in
     let here : drop c.loop-place.place entries ≡ entry ∷ drop (suc c.loop-place.place) entries =
-    drop-cons entries c.loop-place.place entry (omega arith) ∙ ap (λ (e : InnerEntry). e ∷ drop (suc c.loop-place.place) entries) (sym c.index-entries-place.is) in
+    drop-cons entries c.loop-place.place entry (omega (arith, c.len-place-end.ensures)) ∙ ap (λ (e : InnerEntry). e ∷ drop (suc c.loop-place.place) entries) (sym c.at.ensures) in
     let rest : Seen → Result Seen AuditFault = λ after. each_entry check (c.loop-place.place + 1) (drop (suc c.loop-place.place) entries) after in
     let child = audited_at s read c.args.visits.now.ids.limit (at.level - 1) (least_for s.words) (c.args.path.now.items ++ step at.page c.loop-place.place entry ∷ []) entry.child seen in
     let passes : check c.loop-place.place entry seen ≡ child = rw (← i.metric, ← i.path) (c.in_ok-child.ensures.ok _) in
