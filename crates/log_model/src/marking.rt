@@ -8,7 +8,7 @@ ghost use Rattle.log_model.specs.Walk.{search_at, parent_skips, leaf_marks, inne
 use crate::{Mark, Memory, Need};
 use metric_laws::{Ruler, centre_test, parent_test};
 use scan_model::Hit;
-use tree_shape::{InnerEntry, LeafEntry};
+use tree_shape::{InnerEntries, LeafEntries};
 
 /// The query point and the radius that a walk prunes by.
 #[derive(Clone, Copy)]
@@ -35,7 +35,7 @@ pub fn mark_leaf<R: Ruler>(
     ruler: &mut R,
     probe: Probe,
     above: Option<u64>,
-    entries: &[LeafEntry],
+    entries: &LeafEntries,
     marks: &mut Vec<Mark>,
     hits: &mut Vec<Hit>,
 ) -> Result<(), Memory>
@@ -51,12 +51,13 @@ pub fn mark_leaf<R: Ruler>(
         (hits.new.items ≡ hits.old.items ++ leaf_hits
         (search_at (R.M.space (R.metric ruler.old)) probe.entry.q.now probe.entry.rho) above entries.now) }
 {
-    for entry in entries {
+    for index in 0..entries.len() {
+        let entry = entries.at(index);
         if is_ruled_out(above, entry.parent, probe.rho, 0) {
             marks.push(Mark::Skip)?;
             continue;
         }
-        let dist = ruler.dist(entry.point.as_slice(), probe.q);
+        let dist = ruler.dist(entry.point, probe.q);
         if centre_test(dist, probe.rho, 0) {
             marks.push(Mark::Far)?;
             continue;
@@ -72,7 +73,7 @@ pub fn mark_inner<R: Ruler>(
     ruler: &mut R,
     probe: Probe,
     above: Option<u64>,
-    entries: &[InnerEntry],
+    entries: &InnerEntries,
     marks: &mut Vec<Mark>,
     needs: &mut Vec<Need>,
 ) -> Result<(), Memory>
@@ -88,12 +89,13 @@ pub fn mark_inner<R: Ruler>(
         (needs.new.items ≡ needs.old.items ++ inner_needs
         (search_at (R.M.space (R.metric ruler.old)) probe.entry.q.now probe.entry.rho) above entries.now) }
 {
-    for entry in entries {
+    for index in 0..entries.len() {
+        let entry = entries.at(index);
         if is_ruled_out(above, entry.parent, probe.rho, entry.radius) {
             marks.push(Mark::Skip)?;
             continue;
         }
-        let dist = ruler.dist(entry.point.as_slice(), probe.q);
+        let dist = ruler.dist(entry.point, probe.q);
         if centre_test(dist, probe.rho, entry.radius) {
             marks.push(Mark::Far)?;
             continue;

@@ -1,6 +1,7 @@
 //! Tests the entries of an opened node against the other item, and collects the pairs that they make.
 
 ghost use Rattle.std.specs.Prelude.{◌≡◌, OnOk};
+ghost use Rattle.tree_shape.specs.Entries.{inner_of, leaf_of};
 ghost use Rattle.log_model.specs.JoinWalk.{object_entry, other, radius_of, subtree_entry};
 ghost use Rattle.log_model.specs.JoinSteps.{paired};
 ghost use Rattle.log_model.specs.Matches.{AddsPair};
@@ -8,7 +9,7 @@ ghost use Rattle.log_model.specs.Matches.{AddsPair};
 use crate::{Item, JoinNeed, Memory, SharedItem};
 use scan_model::Pair;
 use std::alloc::Global;
-use tree_shape::{InnerEntry, LeafEntry};
+use tree_shape::{InnerRef, LeafRef};
 
 /// What the tests of an opened node's entries need.
 #[derive(Clone, Copy)]
@@ -41,10 +42,10 @@ impl Matches {
     pub fn add_object(
         &mut self,
         probe: JoinProbe,
-        entry: &LeafEntry,
+        entry: LeafRef,
         apart: Option<u64>,
     ) -> Result<(), Memory>
-        ensures { OnOk result (AddsPair (paired probe.entry.need.now (object_entry entry.now).item apart) self.old self.new) }
+        ensures { OnOk result (AddsPair (paired probe.entry.need.now (object_entry (leaf_of entry.entry)).item apart) self.old self.new) }
     {
         if probe.need.other().is_object() {
             self.hits.push(probe.need.answer(entry.id, apart))?;
@@ -62,10 +63,10 @@ impl Matches {
         &mut self,
         probe: JoinProbe,
         level: u8,
-        entry: &InnerEntry,
+        entry: InnerRef,
         apart: Option<u64>,
     ) -> Result<(), Memory>
-        ensures { OnOk result (AddsPair (paired probe.entry.need.now (subtree_entry level entry.now).item apart) self.old self.new) }
+        ensures { OnOk result (AddsPair (paired probe.entry.need.now (subtree_entry level (inner_of entry.entry)).item apart) self.old self.new) }
     {
         let item = SharedItem::new(probe.alloc, Item::of_subtree(probe.alloc, level, entry)?)?;
         self.needs.push(probe.need.with(item, apart)?)?;

@@ -4,22 +4,23 @@
 ghost use Rattle.std.specs.Prelude.{◌≡◌, ◌+◌, Some, Ok, IfOk};
 ghost use Rattle.std.specs.Option.{option_copied};
 ghost use Rattle.metric_laws.specs.Counts.{CountsUpTo};
+ghost use Rattle.tree_shape.specs.Entries.{inner_of, leaf_of};
 ghost use Rattle.log_model.specs.JoinWalk.{rank_of, centre_of, radius_of, page_of, id_of, is_object, object_entry, subtree_entry, opens_right, opened, other, far_apart, far_stored, pair_of};
 ghost use Rattle.log_model.specs.declared.pairs.Item.{Item as TheItem};
 ghost use Rattle.log_model.specs.JoinSteps.{apart_from, paired};
 ghost use Rattle.log_model.specs.SoundJoin.{root_item, root_pair};
 
 use crate::{Item, JoinNeed, Memory, SharedItem};
-use metric_laws::{Listed, Point, Ruler, pair_test};
+use metric_laws::{Listed, Ruler, pair_test};
 use scan_model::Pair;
 use std::alloc::Global;
-use tree_shape::{InnerEntry, LeafEntry, Live};
+use tree_shape::{InnerRef, LeafRef, Live};
 
 // Copies a point's coordinates into a list, so that an item is small, and making and freeing it costs little.
-fn listed(alloc: Global, point: &Point) -> Result<Listed<u32>, Memory>
+fn listed(alloc: Global, point: &[u32]) -> Result<Listed<u32>, Memory>
     ensures { IfOk result (λ list. list ≡ point.now) }
 {
-    Ok(Listed::new(point.as_slice().to_vec(alloc)?))
+    Ok(Listed::new(point.to_vec(alloc)?))
 }
 
 impl Item {
@@ -36,23 +37,23 @@ impl Item {
     }
 
     /// Returns the object of a leaf's entry as an item.
-    pub(crate) fn of_object(alloc: Global, entry: &LeafEntry) -> Result<Self, Memory>
-        ensures { IfOk result (λ item. item ≡ (object_entry entry.now).item) }
+    pub(crate) fn of_object(alloc: Global, entry: LeafRef) -> Result<Self, Memory>
+        ensures { IfOk result (λ item. item ≡ (object_entry (leaf_of entry.entry)).item) }
     {
         Ok(Item::Object {
             id: entry.id,
-            point: listed(alloc, &entry.point)?,
+            point: listed(alloc, entry.point)?,
         })
     }
 
     /// Returns the subtree that an entry of an inner node of level `level` names, as an item.
-    pub(crate) fn of_subtree(alloc: Global, level: u8, entry: &InnerEntry) -> Result<Self, Memory>
-        ensures { IfOk result (λ item. item ≡ (subtree_entry level entry.now).item) }
+    pub(crate) fn of_subtree(alloc: Global, level: u8, entry: InnerRef) -> Result<Self, Memory>
+        ensures { IfOk result (λ item. item ≡ (subtree_entry level (inner_of entry.entry)).item) }
     {
         Ok(Item::Subtree {
             page: entry.child,
             rank: u64::from(level),
-            centre: Some(listed(alloc, &entry.point)?),
+            centre: Some(listed(alloc, entry.point)?),
             radius: entry.radius,
         })
     }

@@ -29,8 +29,8 @@ pub fn entry_count(node: &Node) -> usize
     ensures { result ≡ entry_count node.now }
 {
     match node {
-        Node::Leaf(entries) => entries.as_slice().len(),
-        Node::Inner { entries, .. } => entries.as_slice().len(),
+        Node::Leaf(entries) => entries.len(),
+        Node::Inner { entries, .. } => entries.len(),
     }
 }
 
@@ -88,7 +88,7 @@ impl Traversal {
                 ruler,
                 probe,
                 need.above,
-                entries.as_slice(),
+                entries,
                 &mut marks,
                 &mut self.hits,
             )?,
@@ -98,7 +98,7 @@ impl Traversal {
                     ruler,
                     probe,
                     need.above,
-                    entries.as_slice(),
+                    entries,
                     &mut marks,
                     &mut needs,
                 )?;

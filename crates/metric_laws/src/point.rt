@@ -25,8 +25,8 @@ enum Place {
     Shared(Part),
 }
 
-/// One list of coordinates. Up to 16 of them stand in the value itself. Longer points that are read from one page are parts of one list
-/// of numbers, which they share, so none of them takes memory of its own.
+/// One list of coordinates. Up to 16 of them stand in the value itself. Points that are taken out of one node are parts of one list of
+/// numbers, which they share, so none of them takes memory of its own.
 #[derive(Drop)]
 pub struct Point {
     place: Place,
@@ -52,15 +52,6 @@ impl Point {
         Ok(Point {
             place: Place::Own(coordinates),
         })
-    }
-
-    /// Makes a point of `coordinates`, which it takes as they are.
-    pub fn own(coordinates: SmallVec<u32, 16>) -> Self
-        ensures { result ≡ coordinates.items }
-    {
-        Point {
-            place: Place::Own(coordinates),
-        }
     }
 
     /// Makes a point of the `len` numbers from `start` on, which it shares with `numbers`.

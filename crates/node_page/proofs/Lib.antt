@@ -5,9 +5,9 @@ pub mod SlotLaws
 pub mod OneSpelling
 pub mod Opened
 pub mod Listing
-pub mod Fronts
 pub mod NodeLaws
 pub mod Putting
+pub mod Entries
 pub mod Written
 pub mod OneNode
 pub mod Published

@@ -3,43 +3,11 @@ use Rattle.std.proofs.Common.{◌≡◌, inl, inr, ℕ, zero, suc, ◌+◌, ◌*
 use Rattle.std.proofs.lemmas.Bool.{cases_lt, leb-true}
 use Rattle.std.proofs.lemmas.List.{ext_get_or, length-take-le, get_or-take, get_or_append_left, get_or-append-add}
 use Rattle.std.proofs.Math.Nat.{mul-div-le}
+pub use Rattle.tree_shape.proofs.Published.{firsts_more, firsts_none, length-firsts, place-firsts, firsts_by, firsts_same}
 use Rattle.tree_shape.specs.Fill.{most_for}
 use Rattle.node_page.specs.declared.node.Version.{Version}
 use Rattle.node_page.specs.declared.node.Version.TheVariants.{First, Second}
 use Rattle.node_page.specs.Nodes.{firsts, all_of, parent_place, place_of, place_in, is_count}
-
--- one more
-pub firsts_more : {E : Type 0} (f : ℕ → E) (n : ℕ) → firsts f (n + 1) ≡ firsts f n ++ f n ∷ []
-unfolding firsts
-firsts_more f n = ap (firsts f) (let e : n + 1 ≡ suc n = omega arith in e)
-
-pub firsts_none : {E : Type 0} (f : ℕ → E) → firsts f 0 ≡ []
-unfolding firsts
-firsts_none f = refl
-
-pub length-firsts : {E : Type 0} (f : ℕ → E) (n : ℕ) → length (firsts f n) ≡ n
-unfolding firsts
-length-firsts f zero = refl
-length-firsts f (suc n) = length-append (firsts f n) (f n ∷ []) ∙ omega (arith, length-firsts f n)
-
-pub place-firsts : {E : Type 0} (f : ℕ → E) (n k : ℕ) (d : E) → k < n → get_or (firsts f n) k d ≡ f k
-unfolding firsts
-place-firsts f zero k d below = absurd (let e : ⊥ = omega arith in e)
-place-firsts f (suc n) k d below = elim (cases_lt k n) [
-  | inl lt ↦ get_or_append_left (firsts f n) (f n ∷ []) d k (omega (arith, length-firsts f n)) ∙ place-firsts f n k d lt
-  | inr le ↦
-      (let e : k ≡ length (firsts f n) + 0 = omega (arith, length-firsts f n) in
-      let last : n ≡ k = omega arith in
-      ap (λ (m : ℕ). get_or (firsts f n ++ f n ∷ []) m d) e ∙ get_or-append-add (firsts f n) (f n ∷ []) 0 d ∙ ap f last)
-]
-
--- the front of a list whose places are known
-pub firsts_by : (f : ℕ → ℕ) (n : ℕ) (xs : List ℕ) → n ≤ length xs → ((k : ℕ) → k < n → get_or xs k 0 ≡ f k) → take n xs ≡ firsts f n
-firsts_by f n xs within places =
-    ext_get_or 0 (take n xs) (firsts f n) (length-take-le n xs within ∙ sym (length-firsts f n)) (λ k below. same k (omega (arith, below, length-take-le n xs within)))
-  where
-    same : (k : ℕ) → k < n → get_or (take n xs) k 0 ≡ get_or (firsts f n) k 0
-    same k below = get_or-take n xs k 0 below ∙ places k below ∙ sym (place-firsts f n k 0 below)
 
 -- one more that holds
 pub all_more : (f : ℕ → Bool) (n : ℕ) → all_of f n ≡ true → f n ≡ true → all_of f (n + 1) ≡ true

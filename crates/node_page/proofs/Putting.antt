@@ -8,7 +8,7 @@ use Rattle.tree_shape.specs.declared.entry.InnerEntry.{InnerEntry}
 use Rattle.node_page.specs.Bytes.{number_at}
 use Rattle.node_page.specs.Nodes.{firsts, point_at, leaf_in, leaf_at, inner_at, place_of}
 use Rattle.node_page.proofs.Numbers.{number_kept}
-use Rattle.node_page.proofs.Listing.{firsts_more}
+use Rattle.node_page.proofs.Listing.{firsts_more, firsts_same}
 
 -- one more coordinate
 pub point_step : (at j : ℕ) (old new point : List ℕ) → ((i : ℕ) → i < j → number_at (at + 4 * i) 4 old ≡ get_or point i 0) → number_at (at + 4 * j) 4 new ≡ get_or point j 0
@@ -17,15 +17,6 @@ point_step at j old new point so_far here others i below = elim (cases_lt i j) [
   | inl lt ↦ number_kept (at + 4 * i) 4 new old (λ k from to. others k (inl (omega arith))) ∙ so_far i lt
   | inr ge ↦ (let e : j ≡ i = omega arith in subst (λ (m : ℕ). number_at (at + 4 * m) 4 new ≡ get_or point m 0) e here)
 ]
-
--- lists of the same items
-pub firsts_same : {E : Type 0} (f g : ℕ → E) (n : ℕ) → ((i : ℕ) → i < n → f i ≡ g i) → firsts f n ≡ firsts g n
-unfolding firsts
-firsts_same f g zero same = refl
-firsts_same f g (suc n) same =
-    let rest = firsts_same f g n (λ i below. same i (omega arith)) in
-    let last = same n (omega arith) in
-    rw (rest, last) refl
 
 -- an entry looks at its own bytes
 point_same : (dim : ℕ) (xs ys : List ℕ) (at : ℕ) → ((k : ℕ) → at ≤ k → k < at + 4 * dim → slice_index xs k ≡ slice_index ys k) → point_at dim xs at ≡ point_at dim ys at

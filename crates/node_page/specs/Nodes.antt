@@ -3,37 +3,25 @@ use Rattle.std.specs.Prelude.{◌≡◌, ℕ, zero, suc, ◌+◌, ◌-◌, ◌*�
 use Rattle.std.specs.List.{AllByRecursion}
 use Rattle.metric_laws.specs.Space.{bound}
 use Rattle.tree_shape.specs.Fill.{most_for}
+unfoldable pub use Rattle.tree_shape.specs.Flat.{firsts}
 use Rattle.tree_shape.specs.declared.entry.LeafEntry.{LeafEntry}
 use Rattle.tree_shape.specs.declared.entry.InnerEntry.{InnerEntry}
 use Rattle.tree_shape.specs.declared.entry.Node.{Node}
 use Rattle.tree_shape.specs.declared.entry.Node.TheVariants.{Leaf, Inner}
 use Rattle.node_page.specs.Bytes.{number_at, AreZero, are_zero}
-use Rattle.std.specs.Arc.{arc_slice_items}
-use Rattle.node_page.specs.declared.node.Front.{Front}
-use Rattle.node_page.specs.declared.node.Front.TheVariants.{Unread, Read}
 use Rattle.node_page.specs.declared.node.Version.{Version}
 use Rattle.node_page.specs.declared.node.Version.TheVariants.{First, Second}
 use Rattle.node_page.specs.declared.node.NodeFault.{NodeFault}
 use Rattle.node_page.specs.declared.node.NodeFault.TheVariants.{Kind, Count, Distance, Tail}
-
--- the list of f 0, f 1 and so on, n in all
-unfoldable pub firsts : {E : Type 0} → (ℕ → E) → ℕ → List E
-firsts f zero = []
-firsts f (suc n) = firsts f n ++ f n ∷ []
 
 -- whether the test f holds at 0, 1 and so on, n in all
 unfoldable pub all_of : (ℕ → Bool) → ℕ → Bool
 all_of f zero = true
 all_of f (suc n) = all_of f n && f n
 
--- each of `numbers` is the number of four bytes at its place of the page
-abbrev pub IsFront : List ℕ → List ℕ → Type 0
-IsFront page numbers = numbers ≡ firsts (λ j. number_at (4 * j) 4 page) (length numbers)
-
--- what is read of the front of a page reaches to the place `end`; it is not read for points of at most 16 coordinates
-abbrev pub IsFrontBelow : List ℕ → ℕ → ℕ → Front → Type 0
-IsFrontBelow page end dim Unread = dim ≤ 16
-IsFrontBelow page end dim (Read numbers) = IsFront page (arc_slice_items numbers) × (end ≤ 4 * length (arc_slice_items numbers))
+-- each of `numbers` is the number of four bytes at its place behind the front of the page
+abbrev pub AreNumbers : List ℕ → List ℕ → Type 0
+AreNumbers page numbers = numbers ≡ firsts (λ j. number_at (16 + 4 * j) 4 page) (length numbers)
 
 -- the coordinates from a place on
 abbrev pub point_at : ℕ → List ℕ → ℕ → List ℕ

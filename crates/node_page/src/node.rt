@@ -1,16 +1,18 @@
 ghost use Rattle.std.specs.Prelude.{◌≡◌, ◌≢◌, ◌⊎◌, ◌+◌, ◌*◌, ◌/◌, ◌≤◌, ◌<◌, ◌==◌, length, take, true, IfOk, IfErr, Ok, Err, Some, None, slice_index};
 ghost use Rattle.tree_shape.specs.Fill.{most_for};
 ghost use Rattle.node_page.specs.declared.node.NodeFault.TheVariants.{Memory};
-ghost use Rattle.node_page.specs.Nodes.{IsFront, IsFrontBelow, SpellsIn, SpellsNode, SpellsOldNode, IsLawfulNode, firsts, point_at, parent_place, tag_at, leaf_in, inner_at, place_of, place_in, count_of, near_at, are_near, is_count, is_rest_zero, fault_in, node_in, node_fault, node_of, old_node_fault, old_node_of};
+ghost use Rattle.tree_shape.specs.Flat.{firsts};
+ghost use Rattle.tree_shape.specs.Entries.{flat_leaves, flat_inners};
+ghost use Rattle.node_page.specs.declared.node.Version.TheVariants.{First};
+ghost use Rattle.node_page.specs.Nodes.{AreNumbers, SpellsIn, SpellsNode, SpellsOldNode, IsLawfulNode, parent_place, leaf_in, leaf_at, inner_at, place_of, place_in, count_of, near_at, are_near, is_count, is_rest_zero, fault_in, node_in, node_fault, node_of, old_node_fault, old_node_of};
 
 use crate::bytes::{are_zero, get_u16, get_u32, get_u64};
 use byteorder::{BigEndian, ByteOrder};
-use metric_laws::{BOUND, Listed, Point};
-use smallvec::SmallVec;
+use metric_laws::{BOUND, Point};
 use std::alloc::{AllocError, Global};
 use std::sync::ArcSlice;
 use thiserror::Error;
-use tree_shape::{InnerEntry, LeafEntry, Node, fill};
+use tree_shape::{FlatEntries, InnerEntries, LeafEntries, LeafEntry, Node, fill};
 
 /// Why a page holds no node.
 #[derive(Clone, Copy, Debug, PartialEq, Eq, Error)]
@@ -49,23 +51,17 @@ pub enum Version {
     Second,
 }
 
-// The numbers of four bytes at the front of a page. Long points are parts of them.
-#[derive(Drop)]
-enum Front {
-    // The points are short, and stand in the values themselves.
-    Unread,
-    // The numbers.
-    Read(ArcSlice<u32>),
-}
-
 /// The bytes before the first entry.
 const ENTRIES: usize = 16;
 
 /// The bytes of a distance.
 const DISTANCE: usize = 8;
 
-/// The most coordinates of a point that stands in the value itself.
-const SHORT: u8 = 16;
+/// The numbers of four bytes of an entry before its coordinates.
+const BEFORE: usize = 5;
+
+/// The same of a leaf entry of the first version, which has no tag.
+const OLD_BEFORE: usize = 3;
 
 // Returns the number of bytes of an entry before its parent distance. The coordinates follow that.
 fn parent_place(version: Version, leaf: bool) -> usize
@@ -174,160 +170,88 @@ fn fault_of(page: &[u8; 4096], dim: u8, version: Version) -> Option<NodeFault>
     None
 }
 
-// Reads the coordinates from the place `at` on, into the value itself.
-fn coordinates_at(alloc: Global, page: &[u8; 4096], at: usize, dim: usize) -> SmallVec<u32, 16>
-    requires few { dim ≤ 16 }
-    requires within { at + 4 * dim ≤ 4096 }
-    ensures { result.items ≡ point_at dim page.now at }
-{
-    let mut coordinates = SmallVec::new(alloc);
-    for place in 0..dim {
-        coordinates.push_reserved(get_u32(page, at + 4 * place));
-    }
-    coordinates
-}
-
-// Reads the numbers of four bytes at the front of `page`.
-fn read_front(page: &[u8; 4096], numbers: &mut [u32])
-    requires { 4 * length numbers.old ≤ 4096 }
-    ensures front { IsFront page.now numbers.new }
+// Reads the numbers of four bytes in `page` from the first entry on.
+fn read_numbers(page: &[u8; 4096], numbers: &mut [u32])
+    requires { 16 + 4 * length numbers.old ≤ 4096 }
+    ensures numbers { AreNumbers page.now numbers.new }
     ensures len { length numbers.new ≡ length numbers.old }
 {
     // One loop over all of them, which LLVM makes wide.
-    BigEndian::read_u32_into(&page[..4 * numbers.len()], numbers);
+    BigEndian::read_u32_into(&page[ENTRIES..ENTRIES + 4 * numbers.len()], numbers);
 }
 
-// Reads the numbers of four bytes in `page` below the place `end`, for points of more coordinates than stand in a value itself.
-fn numbers_below(alloc: Global, page: &[u8; 4096], end: usize, dim: u8) -> Result<Front, AllocError>
-    requires within { end ≤ 4096 }
-    requires aligned { 4 * (end / 4) ≡ end }
-    ensures { IfOk result (IsFrontBelow page.now end dim) }
+// Returns the first `count` numbers of four bytes of the entries.
+fn numbers_of(alloc: Global, page: &[u8; 4096], count: usize) -> Result<Vec<u32>, AllocError>
+    requires { 16 + 4 * count ≤ 4096 }
+    ensures numbers { IfOk result (λ numbers. AreNumbers page.now numbers.items) }
+    ensures len { IfOk result (λ numbers. length numbers.items ≡ count) }
 {
-    if dim <= SHORT {
-        return Ok(Front::Unread);
-    }
-    let mut numbers = Vec::from_elem(alloc, 0u32, end / 4)?;
-    read_front(page, numbers.as_mut_slice());
-    Ok(Front::Read(ArcSlice::from_vec(numbers)?))
+    let mut numbers = Vec::from_elem(alloc, 0u32, count)?;
+    read_numbers(page, numbers.as_mut_slice());
+    Ok(numbers)
 }
 
-// Reads the point from the place `at` on. A long one is a part of the `numbers` at the front of its page.
-fn point_at(
+// Reads the entries of an inner node, or of a leaf of the second version: both have the same fields.
+fn flat_entries(
     alloc: Global,
     page: &[u8; 4096],
-    numbers: &Front,
-    at: usize,
     dim: u8,
-) -> Result<Point, AllocError>
-    requires aligned { 4 * (at / 4) ≡ at }
-    requires within { at + 4 * dim ≤ 4096 }
-    requires numbers { IsFrontBelow page.now (at + 4 * dim) dim numbers.now }
-    ensures { IfOk result (λ p. p ≡ point_at dim page.now at) }
+    count: usize,
+) -> Result<FlatEntries, AllocError>
+    requires few { dim ≤ 64 }
+    requires most { count ≤ most_for dim }
+    ensures leaves { IfOk result (λ flat. flat_leaves flat ≡ firsts (λ i. leaf_at dim page.now (place_of dim i)) count) }
+    ensures inners { IfOk result (λ flat. flat_inners flat ≡ firsts (λ i. inner_at dim page.now (place_of dim i)) count) }
 {
-    let dim = usize::from(dim);
-    match numbers {
-        Front::Unread => Ok(Point::own(coordinates_at(alloc, page, at, dim))),
-        Front::Read(numbers) => Point::part_of(numbers, at / 4, dim),
-    }
+    let numbers = numbers_of(alloc, page, (BEFORE + usize::from(dim)) * count)?;
+    Ok(FlatEntries::new(numbers, dim, count))
 }
 
-// Reads the tag of the leaf entry from the place `at` on.
-fn tag_at(page: &[u8; 4096], at: usize, version: Version) -> u64
-    requires { at + 12 ≤ 4096 }
-    ensures { result ≡ tag_at version page.now at }
-{
-    match version {
-        Version::First => u64::from(get_u32(page, at)),
-        Version::Second => get_u64(page, at + 4),
-    }
-}
-
-// Reads the leaf entry from the place `at` on.
-#[tactic(auto, unfolding(crate::specs::Nodes::leaf_in))]
-fn leaf_in(
+// Reads the objects of a leaf of the first version. The tag of each is its id.
+fn old_leaves(
     alloc: Global,
     page: &[u8; 4096],
-    numbers: &Front,
-    at: usize,
     dim: u8,
-    version: Version,
-) -> Result<LeafEntry, AllocError>
-    requires aligned { 4 * ((at + (parent_place version true + 8)) / 4) ≡ at + (parent_place version true + 8) }
-    requires within { at + (parent_place version true + 8) + 4 * dim ≤ 4096 }
-    requires numbers { IsFrontBelow page.now (at + (parent_place version true + 8) + 4 * dim) dim numbers.now }
-    ensures { IfOk result (λ e. e ≡ leaf_in version dim page.now at) }
+    count: usize,
+) -> Result<Vec<LeafEntry>, AllocError>
+    requires few { dim ≤ 64 }
+    requires most { count ≤ most_for dim }
+    ensures { IfOk result (λ es. es.items ≡ firsts (λ i. leaf_in First dim page.now (place_in First true dim i)) count) }
 {
-    let parent = at + parent_place(version, true);
-    Ok(LeafEntry {
-        id: get_u32(page, at),
-        tag: tag_at(page, at, version),
-        parent: get_u64(page, parent),
-        point: point_at(alloc, page, numbers, parent + DISTANCE, dim)?,
-    })
+    let long = usize::from(dim);
+    let numbers = numbers_of(alloc, page, (OLD_BEFORE + long) * count)?;
+    let numbers = ArcSlice::from_vec(numbers)?;
+    let mut entries = Vec::with_capacity(alloc, count)?;
+    for index in 0..count {
+        let at = place_in(Version::First, true, dim, index);
+        let id = get_u32(page, at);
+        let start = (OLD_BEFORE + long) * index + OLD_BEFORE;
+        entries.push(LeafEntry {
+            id,
+            tag: u64::from(id),
+            parent: get_u64(page, at + 4),
+            point: Point::part_of(&numbers, start, long)?,
+        })?;
+    }
+    Ok(entries)
 }
 
-// Reads the inner entry from the place `at` on.
-#[tactic(auto, unfolding(crate::specs::Nodes::inner_at))]
-fn inner_at(
-    alloc: Global,
-    page: &[u8; 4096],
-    numbers: &Front,
-    at: usize,
-    dim: u8,
-) -> Result<InnerEntry, AllocError>
-    requires aligned { 4 * ((at + 20) / 4) ≡ at + 20 }
-    requires within { at + 20 + 4 * dim ≤ 4096 }
-    requires numbers { IsFrontBelow page.now (at + 20 + 4 * dim) dim numbers.now }
-    ensures { IfOk result (λ e. e ≡ inner_at dim page.now at) }
-{
-    Ok(InnerEntry {
-        child: get_u32(page, at),
-        radius: get_u64(page, at + 4),
-        parent: get_u64(page, at + 12),
-        point: point_at(alloc, page, numbers, at + 20, dim)?,
-    })
-}
-
-// Reads the entries of a leaf.
+// Reads the objects of a leaf.
 fn leaf_entries(
     alloc: Global,
     page: &[u8; 4096],
-    numbers: &Front,
     dim: u8,
     version: Version,
     count: usize,
-) -> Result<Listed<LeafEntry>, AllocError>
+) -> Result<LeafEntries, AllocError>
     requires few { dim ≤ 64 }
     requires most { count ≤ most_for dim }
-    requires numbers { IsFrontBelow page.now (place_in version true dim count) dim numbers.now }
     ensures { IfOk result (λ es. es ≡ firsts (λ i. leaf_in version dim page.now (place_in version true dim i)) count) }
 {
-    let mut entries = Vec::with_capacity(alloc, count)?;
-    for index in 0..count {
-        let at = place_in(version, true, dim, index);
-        entries.push(leaf_in(alloc, page, numbers, at, dim, version)?)?;
+    match version {
+        Version::First => Ok(LeafEntries::new(old_leaves(alloc, page, dim, count)?)),
+        Version::Second => Ok(LeafEntries::flat(flat_entries(alloc, page, dim, count)?)),
     }
-    Ok(Listed::new(entries))
-}
-
-// Reads the entries of an inner node.
-fn inner_entries(
-    alloc: Global,
-    page: &[u8; 4096],
-    numbers: &Front,
-    dim: u8,
-    count: usize,
-) -> Result<Listed<InnerEntry>, AllocError>
-    requires few { dim ≤ 64 }
-    requires most { count ≤ most_for dim }
-    requires numbers { IsFrontBelow page.now (place_of dim count) dim numbers.now }
-    ensures { IfOk result (λ es. es ≡ firsts (λ i. inner_at dim page.now (place_of dim i)) count) }
-{
-    let mut entries = Vec::with_capacity(alloc, count)?;
-    for index in 0..count {
-        entries.push(inner_at(alloc, page, numbers, place_of(dim, index), dim)?)?;
-    }
-    Ok(Listed::new(entries))
 }
 
 // Reads the node of a page that has no fault.
@@ -340,12 +264,10 @@ fn node_in(alloc: Global, page: &[u8; 4096], dim: u8, version: Version) -> Resul
     let count = count_of(page);
     let level = page[0];
     if level == 0 {
-        let numbers = numbers_below(alloc, page, place_in(version, true, dim, count), dim)?;
-        let entries = leaf_entries(alloc, page, &numbers, dim, version, count)?;
+        let entries = leaf_entries(alloc, page, dim, version, count)?;
         return Ok(Node::Leaf(entries));
     }
-    let numbers = numbers_below(alloc, page, place_of(dim, count), dim)?;
-    let entries = inner_entries(alloc, page, &numbers, dim, count)?;
+    let entries = InnerEntries::flat(flat_entries(alloc, page, dim, count)?);
     Ok(Node::Inner { level, entries })
 }
 

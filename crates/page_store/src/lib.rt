@@ -2,7 +2,6 @@
 //! pages here.
 #![tactic(auto)]
 
-mod copying;
 mod disk_pages;
 mod image;
 mod image_pages;

@@ -2,11 +2,10 @@ ghost use Rattle.std.specs.Prelude.{◌≡◌, IfOk};
 ghost use Rattle.tree_shape.specs.declared.entry.Node.{Node as TheNode};
 
 use crate::Memory;
-use crate::copying::TryClone;
 use std::alloc::Global;
 use std::marker::Model;
 use std::rc::Rc;
-use tree_shape::Node;
+use tree_shape::{Node, TryClone};
 
 /// A node that may have several holders. Another holder costs no copy of its entries. Contracts see the node.
 #[derive(Drop)]

@@ -2,32 +2,33 @@ use Rattle.std.proofs.Common.{◌≡◌, ◌∙◌, ◌++◌, [], ◌∷◌, ℕ
 use Rattle.log_model.specs.declared.marks.Need.{Need}
 use Rattle.log_model.specs.declared.marks.Mark.TheVariants.{Far, Near}
 use Rattle.log_model.specs.Walk.{Search, search_at, away, need_of}
+use Rattle.tree_shape.specs.Entries.{inner_of}
 use Rattle.log_model.proofs.OneEntry.{inner_far, inner_near, more_of, same_of, counted_next}
 use Rattle.log_model.proofs.marking.mark_inner.Goals as goal
 
-pub loop-entry-preserved-then-centre_test : goal.loop-entry-preserved-then-centre_test
-loop-entry-preserved-then-centre_test g c =
+pub loop-index-preserved-then-centre_test : goal.loop-index-preserved-then-centre_test
+loop-index-preserved-then-centre_test g c =
     let f : Search = search_at (g.R.M.Metric.space (g.R.Ruler.metric c.args.ruler.now)) c.args.probe.q.now c.args.probe.rho in
-    let dist : c.dist-dist.result ≡ away f c.entry-item.result.point = cc (c.dist-dist.ensures.value, c.as_slice.ensures, c.loop-entry.invariant.metric) in
-    let next = inner_far f c.args.above c.args.entries.now c.loop-entry.entry-index c.entry-item.result (omega arith) c.entry-item.is
+    let dist : c.dist-dist.result ≡ away f (inner_of c.at-entry.result).point = cc (c.dist-dist.ensures.value, c.loop-index.invariant.metric) in
+    let next = inner_far f c.args.above c.args.entries.now c.loop-index.index (inner_of c.at-entry.result) (omega (arith, c.len-index-end.ensures)) c.at-entry.ensures
     (cc (c.is_ruled_out.ensures, c.if-is_ruled_out.false)) (cc (c.centre_test.ensures, c.if-centre_test.true, dist)) in
     record {
-      metric = c.dist-dist.ensures.same ∙ c.loop-entry.invariant.metric;
-      counted = counted_next _ _ _ Far _ _ c.dist-dist.ensures.counted refl next.0 c.loop-entry.invariant.counted;
-      marks = more_of _ _ _ _ _ Far c.in_ok-push-2.ensures.items next.0 c.loop-entry.invariant.marks;
-      named = same_of _ _ _ _ next.1 c.loop-entry.invariant.named;
+      metric = c.dist-dist.ensures.same ∙ c.loop-index.invariant.metric;
+      counted = counted_next _ _ _ Far _ _ c.dist-dist.ensures.counted refl next.0 c.loop-index.invariant.counted;
+      marks = more_of _ _ _ _ _ Far c.in_ok-push-2.ensures.items next.0 c.loop-index.invariant.marks;
+      named = same_of _ _ _ _ next.1 c.loop-index.invariant.named;
     }
 
-pub loop-entry-preserved : goal.loop-entry-preserved
-loop-entry-preserved g c =
+pub loop-index-preserved : goal.loop-index-preserved
+loop-index-preserved g c =
     let f : Search = search_at (g.R.M.Metric.space (g.R.Ruler.metric c.args.ruler.now)) c.args.probe.q.now c.args.probe.rho in
-    let dist : c.dist-dist.result ≡ away f c.entry-item.result.point = cc (c.dist-dist.ensures.value, c.as_slice.ensures, c.loop-entry.invariant.metric) in
-    let next = inner_near f c.args.above c.args.entries.now c.loop-entry.entry-index c.entry-item.result (omega arith) c.entry-item.is
+    let dist : c.dist-dist.result ≡ away f (inner_of c.at-entry.result).point = cc (c.dist-dist.ensures.value, c.loop-index.invariant.metric) in
+    let next = inner_near f c.args.above c.args.entries.now c.loop-index.index (inner_of c.at-entry.result) (omega (arith, c.len-index-end.ensures)) c.at-entry.ensures
     (cc (c.is_ruled_out.ensures, c.if-is_ruled_out.false)) (cc (c.centre_test.ensures, c.if-centre_test.false, dist)) in
-    let need : ◌≡◌ {A = Need} (record { page = c.entry-item.result.child; above = Some c.dist-dist.result }) (need_of f c.entry-item.result) = ap (λ (d : ℕ). record { page = c.entry-item.result.child; above = Some d }) dist in
+    let need : ◌≡◌ {A = Need} (record { page = c.at-entry.result.child; above = Some c.dist-dist.result }) (need_of f (inner_of c.at-entry.result)) = ap (λ (d : ℕ). record { page = c.at-entry.result.child; above = Some d }) dist in
     record {
-      metric = c.dist-dist.ensures.same ∙ c.loop-entry.invariant.metric;
-      counted = counted_next _ _ _ Near _ _ c.dist-dist.ensures.counted refl next.0 c.loop-entry.invariant.counted;
-      marks = more_of _ _ _ _ _ Near c.in_ok-push-3.ensures.items next.0 c.loop-entry.invariant.marks;
-      named = more_of _ _ _ _ _ (need_of f c.entry-item.result) (c.in_ok-push-4.ensures.items ∙ ap (λ (h : Need). c.loop-entry.needs.items ++ h ∷ []) need) next.1 c.loop-entry.invariant.named;
+      metric = c.dist-dist.ensures.same ∙ c.loop-index.invariant.metric;
+      counted = counted_next _ _ _ Near _ _ c.dist-dist.ensures.counted refl next.0 c.loop-index.invariant.counted;
+      marks = more_of _ _ _ _ _ Near c.in_ok-push-3.ensures.items next.0 c.loop-index.invariant.marks;
+      named = more_of _ _ _ _ _ (need_of f (inner_of c.at-entry.result)) (c.in_ok-push-4.ensures.items ∙ ap (λ (h : Need). c.loop-index.needs.items ++ h ∷ []) need) next.1 c.loop-index.invariant.named;
     }

@@ -5,13 +5,13 @@ use Rattle.log_model.specs.Walk.{leaf_marks, leaf_hits, search_at}
 use Rattle.log_model.proofs.marking.mark_leaf.Given as goal
 
 -- what was marked, named and counted so far, and what the rest adds
-abbrev pub invariant-loop-entry : goal.invariant-loop-entry
-invariant-loop-entry g l = record {
+abbrev pub invariant-loop-index : goal.invariant-loop-index
+invariant-loop-index g l = record {
   metric : g.R.Ruler.metric l.ruler ≡ g.R.Ruler.metric l.fn.ruler;
-  counted : count_up (g.R.Ruler.used l.ruler) (measured_by (leaf_marks (search_at (g.R.M.Metric.space (g.R.Ruler.metric l.fn.ruler)) l.probe.q.now l.probe.rho) l.above (drop l.entry-index l.entries)))
+  counted : count_up (g.R.Ruler.used l.ruler) (measured_by (leaf_marks (search_at (g.R.M.Metric.space (g.R.Ruler.metric l.fn.ruler)) l.probe.q.now l.probe.rho) l.above (drop l.index l.entries)))
       ≡ count_up (g.R.Ruler.used l.fn.ruler) (measured_by (leaf_marks (search_at (g.R.M.Metric.space (g.R.Ruler.metric l.fn.ruler)) l.probe.q.now l.probe.rho) l.above l.entries));
-  marks : l.marks.items ++ leaf_marks (search_at (g.R.M.Metric.space (g.R.Ruler.metric l.fn.ruler)) l.probe.q.now l.probe.rho) l.above (drop l.entry-index l.entries)
+  marks : l.marks.items ++ leaf_marks (search_at (g.R.M.Metric.space (g.R.Ruler.metric l.fn.ruler)) l.probe.q.now l.probe.rho) l.above (drop l.index l.entries)
       ≡ l.fn.marks.items ++ leaf_marks (search_at (g.R.M.Metric.space (g.R.Ruler.metric l.fn.ruler)) l.probe.q.now l.probe.rho) l.above l.entries;
-  named : l.hits.items ++ leaf_hits (search_at (g.R.M.Metric.space (g.R.Ruler.metric l.fn.ruler)) l.probe.q.now l.probe.rho) l.above (drop l.entry-index l.entries)
+  named : l.hits.items ++ leaf_hits (search_at (g.R.M.Metric.space (g.R.Ruler.metric l.fn.ruler)) l.probe.q.now l.probe.rho) l.above (drop l.index l.entries)
       ≡ l.fn.hits.items ++ leaf_hits (search_at (g.R.M.Metric.space (g.R.Ruler.metric l.fn.ruler)) l.probe.q.now l.probe.rho) l.above l.entries;
 }

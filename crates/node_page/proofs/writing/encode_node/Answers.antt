@@ -1,26 +1,19 @@
-use Rattle.std.proofs.Common.{inr, List, sym, ◌∙◌, ap, subst, arith}
-use Rattle.tree_shape.specs.declared.entry.LeafEntry.{LeafEntry}
-use Rattle.tree_shape.specs.declared.entry.InnerEntry.{InnerEntry}
-use Rattle.tree_shape.specs.declared.entry.Node.TheVariants.{Leaf, Inner}
+use Rattle.std.proofs.Common.{inr, sym, ◌∙◌, subst, arith}
 use Rattle.node_page.specs.Nodes.{SpellsNode, IsLawfulNode}
 use Rattle.node_page.proofs.Written.{leaf_written, inner_written}
 use Rattle.node_page.proofs.writing.encode_node.Goals as goal
 
 pub returns-in-Leaf : goal.returns-in-Leaf
 returns-in-Leaf c =
-    let entries = c.as_slice-entries.result.now in
-    let same = c.as_slice-entries.ensures in
-    let lawful = subst (λ (es : List LeafEntry). IsLawfulNode c.args.dim (Leaf es)) (sym same) (subst (IsLawfulNode c.args.dim) c.in-Leaf.is c.requires.lawful) in
-    subst (SpellsNode c.args.dim c.put_leaves.new.page) (ap Leaf same ∙ sym c.in-Leaf.is)
-    (leaf_written c.args.dim c.clear.new.page c.put_u16.new.page c.put_leaves.new.page entries lawful.0 c.clear.ensures c.put_u16.ensures.number c.put_u16.ensures.others
+    let lawful = subst (IsLawfulNode c.args.dim) c.in-Leaf.is c.requires.lawful in
+    subst (SpellsNode c.args.dim c.put_leaves.new.page) (sym c.in-Leaf.is)
+    (leaf_written c.args.dim c.clear.new.page c.put_u16.new.page c.put_leaves.new.page c.in-Leaf.entries lawful.0 c.clear.ensures (c.put_u16.ensures.number ∙ c.len.ensures) c.put_u16.ensures.others
     c.put_leaves.ensures.others c.put_leaves.ensures.entries lawful.1)
 
 pub returns-in-Inner : goal.returns-in-Inner
 returns-in-Inner c =
-    let entries = c.as_slice-entries-in-Inner.result.now in
-    let same = c.as_slice-entries-in-Inner.ensures in
-    let lawful = subst (λ (es : List InnerEntry). IsLawfulNode c.args.dim (Inner c.in-Inner.level es)) (sym same) (subst (IsLawfulNode c.args.dim) c.in-Inner.is c.requires.lawful) in
-    subst (SpellsNode c.args.dim c.put_inners.new.page) (ap (Inner c.in-Inner.level) same ∙ sym c.in-Inner.is)
-    (inner_written c.args.dim c.in-Inner.level c.put_u8.new.page c.put_u16-in-Inner.new.page c.put_inners.new.page entries lawful.0 lawful.1 lawful.2 lawful.3 c.put_u8.ensures.number
-    (λ k from. c.put_u8.ensures.others k (inr (omega arith)) ∙ c.clear.ensures k) c.put_u16-in-Inner.ensures.number c.put_u16-in-Inner.ensures.others
+    let lawful = subst (IsLawfulNode c.args.dim) c.in-Inner.is c.requires.lawful in
+    subst (SpellsNode c.args.dim c.put_inners.new.page) (sym c.in-Inner.is)
+    (inner_written c.args.dim c.in-Inner.level c.put_u8.new.page c.put_u16-in-Inner.new.page c.put_inners.new.page c.in-Inner.entries lawful.0 lawful.1 lawful.2 lawful.3 c.put_u8.ensures.number
+    (λ k from. c.put_u8.ensures.others k (inr (omega arith)) ∙ c.clear.ensures k) (c.put_u16-in-Inner.ensures.number ∙ c.len-in-Inner.ensures) c.put_u16-in-Inner.ensures.others
     c.put_inners.ensures.others c.put_inners.ensures.entries lawful.4)

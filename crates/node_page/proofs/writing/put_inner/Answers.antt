@@ -1,5 +1,5 @@
 use Rattle.std.proofs.Common.{◌≡◌, inl, inr, List, ℕ, ◌+◌, length, ◌∙◌, ap, subst, arith}
-use Rattle.node_page.specs.Nodes.{point_at}
+use Rattle.tree_shape.specs.Entries.{inner_of}
 use Rattle.node_page.proofs.Numbers.{number_kept}
 use Rattle.node_page.proofs.Putting.{inner_by}
 use Rattle.node_page.proofs.writing.put_inner.Goals as goal
@@ -10,11 +10,11 @@ returns-clause-entry c =
     let parent = c.put_u64-2.ensures in
     let second = c.put_u64.ensures in
     let first = c.put_u32.ensures in
-    inner_by (length c.args.entry.now.point) c.put_point.new.page c.args.at c.args.entry.now
+    inner_by (length c.args.entry.point.now) c.put_point.new.page c.args.at (inner_of c.args.entry)
     (number_kept c.args.at 4 c.put_point.new.page c.put_u32.new.page (λ k from to. point.others k (inl (omega arith)) ∙ parent.others k (inl (omega arith)) ∙ second.others k (inl (omega arith))) ∙ first.number)
     (number_kept (c.args.at + 4) 8 c.put_point.new.page c.put_u64.new.page (λ k from to. point.others k (inl (omega arith)) ∙ parent.others k (inl (omega arith))) ∙ second.number)
     (number_kept (c.args.at + 12) 8 c.put_point.new.page c.put_u64-2.new.page (λ k from to. point.others k (inl (omega arith))) ∙ parent.number)
-    (subst (λ (xs : List ℕ). point_at (length xs) c.put_point.new.page (c.args.at + 20) ≡ xs) c.as_slice.ensures point.point)
+    point.point
 
 pub returns-clause-others : goal.returns-clause-others
 returns-clause-others c k outside =
@@ -22,8 +22,7 @@ returns-clause-others c k outside =
     let parent = c.put_u64-2.ensures in
     let second = c.put_u64.ensures in
     let first = c.put_u32.ensures in
-    let long : length c.as_slice.result.now ≡ length c.args.entry.now.point = ap length c.as_slice.ensures in
     elim outside [
       | inl lt ↦ point.others k (inl (omega arith)) ∙ parent.others k (inl (omega arith)) ∙ second.others k (inl (omega arith)) ∙ first.others k (inl (omega arith))
-      | inr ge ↦ point.others k (inr (omega (arith, long, ge))) ∙ parent.others k (inr (omega arith)) ∙ second.others k (inr (omega arith)) ∙ first.others k (inr (omega arith))
+      | inr ge ↦ point.others k (inr (omega (arith, ge))) ∙ parent.others k (inr (omega arith)) ∙ second.others k (inr (omega arith)) ∙ first.others k (inr (omega arith))
     ]

@@ -1,6 +1,7 @@
 use Rattle.std.proofs.Common.{◌≡◌, inl, inr, ℕ, ◌≤◌, length, refl, ◌∙◌, ap, subst, arith}
 use Rattle.metric_laws.specs.Space.{bound}
 use Rattle.tree_shape.specs.declared.entry.InnerEntry.{InnerEntry}
+use Rattle.tree_shape.specs.Entries.{inner_of}
 use Rattle.node_page.proofs.Listing.{firsts_none, entry_within}
 use Rattle.node_page.specs.Nodes.{inner_at, place_of}
 use Rattle.node_page.proofs.Putting.{entries_step, inner_same, at_all}
@@ -8,24 +9,24 @@ use Rattle.node_page.proofs.writing.put_inners.Goals as goal
 
 pub put_inner-requires : goal.put_inner-requires
 put_inner-requires c =
-    let entry = c.index-entries-index.result in
-    let lawful = at_all (λ (e : InnerEntry). (length e.point ≡ c.args.dim) × (e.radius ≤ bound) × (e.parent ≤ bound)) c.args.entries.now c.loop-index.index entry c.requires.points c.loop-index-test.true in
-    let long : length entry.point ≡ c.args.dim = ap (λ (e : InnerEntry). length e.point) c.index-entries-index.is ∙ lawful.0 in
-    omega (arith, c.place_of.ensures, long, entry_within c.args.dim c.loop-index.index (length c.args.entries.now) c.loop-index-test.true c.requires.most)
+    let entry = inner_of c.at.result in
+    let lawful = at_all (λ (e : InnerEntry). (length e.point ≡ c.args.dim) × (e.radius ≤ bound) × (e.parent ≤ bound)) c.args.entries.now c.loop-index.index entry c.requires.points (omega (arith, c.len-index-end.ensures)) in
+    let long : length entry.point ≡ c.args.dim = ap (λ (e : InnerEntry). length e.point) c.at.ensures ∙ lawful.0 in
+    omega (arith, c.place_of.ensures, long, entry_within c.args.dim c.loop-index.index (length c.args.entries.now) (omega (arith, c.len-index-end.ensures)) c.requires.most)
 
 pub loop-index-init : goal.loop-index-init
 loop-index-init c = record { put = firsts_none (λ i. inner_at c.args.dim c.args.page.now (place_of c.args.dim i)); others = λ k outside. refl }
 
 pub loop-index-preserved : goal.loop-index-preserved
 loop-index-preserved c =
-    let entry = c.index-entries-index.result in
-    let lawful = at_all (λ (e : InnerEntry). (length e.point ≡ c.args.dim) × (e.radius ≤ bound) × (e.parent ≤ bound)) c.args.entries.now c.loop-index.index entry c.requires.points c.loop-index-test.true in
-    let long : length entry.point ≡ c.args.dim = ap (λ (e : InnerEntry). length e.point) c.index-entries-index.is ∙ lawful.0 in
+    let entry = inner_of c.at.result in
+    let lawful = at_all (λ (e : InnerEntry). (length e.point ≡ c.args.dim) × (e.radius ≤ bound) × (e.parent ≤ bound)) c.args.entries.now c.loop-index.index entry c.requires.points (omega (arith, c.len-index-end.ensures)) in
+    let long : length entry.point ≡ c.args.dim = ap (λ (e : InnerEntry). length e.point) c.at.ensures ∙ lawful.0 in
     let here = subst (λ (d : ℕ). inner_at d c.put_inner.new.page (place_of c.args.dim c.loop-index.index) ≡ entry) long
     (subst (λ (at : ℕ). inner_at (length entry.point) c.put_inner.new.page at ≡ entry) c.place_of.ensures c.put_inner.ensures.entry) in
     record {
       put = entries_step (inner_at c.args.dim) c.args.dim (inner_same c.args.dim) c.loop-index.page c.put_inner.new.page c.args.entries.now c.loop-index.index entry c.loop-index.invariant.put here
-          c.index-entries-index.is c.loop-index-test.true
+          c.at.ensures (omega (arith, c.len-index-end.ensures))
           (λ k outside. elim outside [
             | inl lt ↦ c.put_inner.ensures.others k (inl (omega (arith, c.place_of.ensures, lt)))
             | inr ge ↦ c.put_inner.ensures.others k (inr (omega (arith, c.place_of.ensures, long, ge)))

@@ -1,15 +1,23 @@
-use Rattle.std.proofs.Common.{◌≡◌, ◌+◌, ◌<◌, ℕ, length, get_or, sym, ◌∙◌, ap, subst, arith}
+use Rattle.std.proofs.Common.{◌≡◌, ◌+◌, ◌<◌, ℕ, List, length, get_or, sym, ◌∙◌, ap, subst, arith}
+use Rattle.tree_shape.specs.declared.entry.InnerEntry.{InnerEntry}
 use Rattle.tree_shape.specs.Flat.{inner_from, start_of}
-use Rattle.tree_shape.specs.Entries.{inners_in, inner_of}
+use Rattle.tree_shape.specs.Entries.{flat_inners, inners_in, inner_of}
 use Rattle.tree_shape.proofs.Firsts.{length-firsts, place-firsts, entry_place}
 use Rattle.tree_shape.proofs.inners.InnerEntries.at.Goals as goal
 
 pub inner_at-requires : goal.inner_at-requires
 inner_at-requires c =
     let flat = c.in-Flat.flat in
-    let entries : inners_in c.self.inside.held ≡ inners_in (leaves.Flat flat) = ap inners_in c.in-Flat.is in
-    let below : c.args.index < flat.count = ? in
-    entry_place (5 + flat.dim) c.args.index flat.count (length flat.numbers.items) flat.whole below
+    let entries : flat_inners flat ≡ c.args.self.now = sym (ap inners_in c.in-Flat.is) ∙ c.self.view_is in
+    let long : length c.args.self.now ≡ flat.count = ap length (sym entries) ∙ length-firsts (λ i. inner_from flat.dim flat.numbers.items (start_of flat.dim i)) flat.count in
+    entry_place (5 + flat.dim) c.args.index flat.count (length c.as_slice.result.now) (ap length c.as_slice.ensures.value ∙ flat.whole) (omega (arith, long, c.requires))
 
 pub returns-in-Flat : goal.returns-in-Flat
-returns-in-Flat c = ?
+returns-in-Flat c =
+    let flat = c.in-Flat.flat in
+    let entries : flat_inners flat ≡ c.args.self.now = sym (ap inners_in c.in-Flat.is) ∙ c.self.view_is in
+    let long : length c.args.self.now ≡ flat.count = ap length (sym entries) ∙ length-firsts (λ i. inner_from flat.dim flat.numbers.items (start_of flat.dim i)) flat.count in
+    let seen = inner_of c.inner_at.result in
+    c.inner_at.ensures ∙ ap (λ (numbers : List ℕ). inner_from flat.dim numbers (start_of flat.dim c.args.index)) c.as_slice.ensures.value
+    ∙ sym (place-firsts (λ i. inner_from flat.dim flat.numbers.items (start_of flat.dim i)) flat.count c.args.index seen (omega (arith, long, c.requires)))
+    ∙ ap (λ (es : List InnerEntry). get_or es c.args.index seen) entries

@@ -1,6 +1,0 @@
-use Rattle.std.proofs.Common.{◌≡◌}
-use Rattle.node_page.specs.Nodes.{firsts, inner_at, place_of}
-use Rattle.node_page.proofs.node.inner_entries.Given as goal
-
-abbrev pub invariant-loop-index : goal.invariant-loop-index
-invariant-loop-index l = l.entries.items ≡ firsts (λ i. inner_at l.dim l.page (place_of l.dim i)) l.index
