@@ -5,9 +5,10 @@ ghost use Rattle.std.specs.List.{AllByRecursion};
 ghost use Rattle.page_store.specs.Numbers.{number_at};
 ghost use Rattle.bulk_load.specs.Apart.{entry_to, node_to, AreChildrenBelow};
 
-use metric_laws::{Listed, Memory};
+use metric_laws::Memory;
 use page_store::Numbering;
-use tree_shape::{InnerEntry, Node};
+use std::alloc::Global;
+use tree_shape::{InnerEntries, InnerEntry, Node};
 
 // Gives the child of `entry` its page, where the children's numbers begin at place `first` of all nodes.
 fn move_child(numbering: &Numbering<'_>, first: usize, entry: &mut InnerEntry)
@@ -30,27 +31,35 @@ fn move_children(numbering: &Numbering<'_>, first: usize, entries: &mut [InnerEn
 }
 
 // Returns `node` with its children's pages, where the children's numbers begin at place `first` of all nodes.
-fn moved(numbering: &Numbering<'_>, first: usize, many: usize, node: Node) -> Node
+fn moved(
+    alloc: Global,
+    numbering: &Numbering<'_>,
+    first: usize,
+    many: usize,
+    node: Node,
+) -> Result<Node, Memory>
     requires pages { numbering.now.first ≤ 2 ^ 24 }
     requires few { first + many ≤ 2 ^ 26 }
     requires children { AreChildrenBelow many node }
-    ensures { result ≡ node_to (λ i. number_at numbering.now.numbers.now numbering.now.first (first + i)) node }
+    ensures { IfOk result (λ moved. moved ≡
+        node_to (λ i. number_at numbering.now.numbers.now numbering.now.first (first + i)) node) }
 {
     match node {
-        Node::Leaf(entries) => Node::Leaf(entries),
+        Node::Leaf(entries) => Ok(Node::Leaf(entries)),
         Node::Inner { level, entries } => {
-            let mut entries = entries.into_vec();
+            let mut entries = entries.into_vec(alloc)?;
             move_children(numbering, first, entries.as_mut_slice());
-            Node::Inner {
+            Ok(Node::Inner {
                 level,
-                entries: Listed::new(entries),
-            }
+                entries: InnerEntries::new(entries),
+            })
         }
     }
 }
 
 /// Appends the nodes `below`, numbered from 0, to `nodes`, gives each child its page, and returns the page of the last node.
 pub fn add_nodes(
+    alloc: Global,
     numbering: &Numbering<'_>,
     below: Vec<Node>,
     nodes: &mut Vec<Node>,
@@ -66,7 +75,7 @@ pub fn add_nodes(
     let first = nodes.len();
     let many = below.len();
     for node in below {
-        nodes.push(moved(numbering, first, many, node))?;
+        nodes.push(moved(alloc, numbering, first, many, node)?)?;
     }
     Ok(numbering.page_at((first + many).saturating_sub(1)))
 }

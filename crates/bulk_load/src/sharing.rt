@@ -182,7 +182,7 @@ pub fn add_tree<W: Crew<M>, M: Metric>(
     for part in parts {
         let made = part?;
         let mut entry = made.entry;
-        entry.child = add_nodes(&loading.numbering, made.nodes, nodes)?;
+        entry.child = add_nodes(alloc, &loading.numbering, made.nodes, nodes)?;
         entries.push(entry)?;
     }
     let page = push_inner(loading, set.level, entries, nodes)?;

@@ -10,11 +10,11 @@ ghost use Rattle.bulk_load.specs.Postorder.{is_top, seed_point, leaf_entry, grou
 
 use crate::crew::Scout;
 use crate::grouping::groups;
-use metric_laws::{Listed, Memory, Metric, Point, Rows};
+use metric_laws::{Memory, Metric, Point, Rows};
 use page_store::Numbering;
 use std::alloc::Global;
 use tree_growth::Group;
-use tree_shape::{Bounds, InnerEntry, LeafEntry, Node};
+use tree_shape::{Bounds, InnerEntries, InnerEntry, LeafEntries, LeafEntry, Node};
 
 /// What a load works with.
 #[derive(Clone, Copy)]
@@ -170,7 +170,7 @@ pub fn push_inner<M: Metric>(
 {
     let node = Node::Inner {
         level: level as u8,
-        entries: Listed::new(entries),
+        entries: InnerEntries::new(entries),
     };
     push_node(loading, node, nodes)
 }
@@ -231,7 +231,7 @@ pub fn add_subtree<W: Scout<M>, M: Metric>(
 {
     if set.level == 0 {
         let entries = leaf_entries(alloc, loading, set)?;
-        return push_node(loading, Node::Leaf(Listed::new(entries)), nodes);
+        return push_node(loading, Node::Leaf(LeafEntries::new(entries)), nodes);
     }
     let groups = groups_in(crew, alloc, loading, set)?;
     let mut entries = Vec::with_capacity(alloc, groups.len())?;

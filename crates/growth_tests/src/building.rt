@@ -14,7 +14,9 @@ use page_store::{Placed, Staged};
 use std::alloc::Global;
 use std::process::Abort;
 use std::thread::Threads;
-use tree_shape::{InnerEntry, LAST_GENERATION, LeafEntry, Live, MOST_PAGES, Node};
+use tree_shape::{
+    InnerEntries, InnerRef, LAST_GENERATION, LeafEntries, LeafRef, Live, MOST_PAGES, Node,
+};
 use vector_kinds::L1;
 
 // Gives a head of one dimension under L1 and of at most `limit` objects.
@@ -119,20 +121,21 @@ fn load<R: AllocGlobal + Abort + Threads + Sync>(
 }
 
 // Says whether an entry is the number `number`, below the seed `seed`.
-fn is_number(entry: &LeafEntry, number: u32, seed: u32) -> bool {
+fn is_number(entry: LeafRef, number: u32, seed: u32) -> bool {
     entry.id == number
         && entry.tag == 100 + u64::from(number)
         && entry.parent == u64::from(number.abs_diff(seed))
-        && entry.point.as_slice() == [number].as_slice()
+        && entry.point == [number].as_slice()
 }
 
 // Says whether entries are the numbers from `from` up to `to`, below the seed `seed`.
-fn are_numbers(entries: &[LeafEntry], seed: u32, from: u32, to: u32) -> bool
+fn are_numbers(entries: &LeafEntries, seed: u32, from: u32, to: u32) -> bool
     requires { from ≤ to }
 {
-    let mut is_so = entries.len() == (to - from) as usize;
-    for (entry, number) in entries.iter().zip(from..to) {
-        is_so = is_so && is_number(entry, number, seed);
+    let count = (to - from) as usize;
+    let mut is_so = entries.len() == count;
+    for index in 0..entries.len().min(count) {
+        is_so = is_so && is_number(entries.at(index), from + index as u32, seed);
     }
     is_so
 }
@@ -142,22 +145,23 @@ fn is_leaf(node: &Node, seed: u32, from: u32, to: u32) -> bool
     requires { from ≤ to }
 {
     match node {
-        Node::Leaf(entries) => are_numbers(entries.as_slice(), seed, from, to),
+        Node::Leaf(entries) => are_numbers(entries, seed, from, to),
         Node::Inner { .. } => false,
     }
 }
 
 // Says whether an entry has this page, this radius and this seed.
-fn is_above(entry: &InnerEntry, page: u32, radius: u64, seed: u32) -> bool {
+fn is_above(entry: InnerRef, page: u32, radius: u64, seed: u32) -> bool {
     (entry.child, entry.radius, entry.parent) == (page, radius, 0)
-        && entry.point.as_slice() == [seed].as_slice()
+        && entry.point == [seed].as_slice()
 }
 
 // Says whether entries have these pages, radii and seeds.
-fn are_above(entries: &[InnerEntry], wanted: &[(u32, u64, u32)]) -> bool {
+fn are_above(entries: &InnerEntries, wanted: &[(u32, u64, u32)]) -> bool {
     let mut is_so = entries.len() == wanted.len();
-    for (entry, (page, radius, seed)) in entries.iter().zip(wanted) {
-        is_so = is_so && is_above(entry, *page, *radius, *seed);
+    for index in 0..entries.len().min(wanted.len()) {
+        let (page, radius, seed) = wanted[index];
+        is_so = is_so && is_above(entries.at(index), page, radius, seed);
     }
     is_so
 }
@@ -165,29 +169,29 @@ fn are_above(entries: &[InnerEntry], wanted: &[(u32, u64, u32)]) -> bool {
 // Says whether a node is a root over leaves with these pages, radii and seeds.
 fn is_root(node: &Node, wanted: &[(u32, u64, u32)]) -> bool {
     match node {
-        Node::Inner { level, entries } => *level == 1 && are_above(entries.as_slice(), wanted),
+        Node::Inner { level, entries } => *level == 1 && are_above(entries, wanted),
         Node::Leaf(_) => false,
     }
 }
 
 // Says whether two leaves have the same entries.
-fn are_leaves_same(left: &[LeafEntry], right: &[LeafEntry]) -> bool {
+fn are_leaves_same(left: &LeafEntries, right: &LeafEntries) -> bool {
     let mut is_so = left.len() == right.len();
-    for (a, b) in left.iter().zip(right) {
-        is_so = is_so
-            && (a.id, a.tag, a.parent) == (b.id, b.tag, b.parent)
-            && a.point.as_slice() == b.point.as_slice();
+    for index in 0..left.len().min(right.len()) {
+        let (a, b) = (left.at(index), right.at(index));
+        is_so = is_so && (a.id, a.tag, a.parent) == (b.id, b.tag, b.parent) && a.point == b.point;
     }
     is_so
 }
 
 // Says whether two inner nodes have the same entries.
-fn are_inner_same(left: &[InnerEntry], right: &[InnerEntry]) -> bool {
+fn are_inner_same(left: &InnerEntries, right: &InnerEntries) -> bool {
     let mut is_so = left.len() == right.len();
-    for (a, b) in left.iter().zip(right) {
+    for index in 0..left.len().min(right.len()) {
+        let (a, b) = (left.at(index), right.at(index));
         is_so = is_so
             && (a.child, a.radius, a.parent) == (b.child, b.radius, b.parent)
-            && a.point.as_slice() == b.point.as_slice();
+            && a.point == b.point;
     }
     is_so
 }
@@ -195,16 +199,14 @@ fn are_inner_same(left: &[InnerEntry], right: &[InnerEntry]) -> bool {
 // Says whether two nodes are the same.
 fn are_same(left: &Node, right: &Node) -> bool {
     match (left, right) {
-        (Node::Leaf(left), Node::Leaf(right)) => {
-            are_leaves_same(left.as_slice(), right.as_slice())
-        }
+        (Node::Leaf(left), Node::Leaf(right)) => are_leaves_same(left, right),
         (
             Node::Inner { level, entries },
             Node::Inner {
                 level: other,
                 entries: others,
             },
-        ) => level == other && are_inner_same(entries.as_slice(), others.as_slice()),
+        ) => level == other && are_inner_same(entries, others),
         _ => false,
     }
 }

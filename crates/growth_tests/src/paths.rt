@@ -13,7 +13,7 @@ use metric_laws::{Meter, Ruler};
 use node_page::{Head, encode_node};
 use page_store::{ImagePages, PageFault, Placed, Staged, own_node};
 use std::process::Abort;
-use tree_shape::{InnerEntry, Live, Node};
+use tree_shape::{InnerEntries, InnerRef, Live, Node};
 use vector_kinds::L1;
 
 // Is an index file in memory, without its head and slots.
@@ -166,24 +166,24 @@ struct Wanted {
 }
 
 // Says whether an entry of a root is this one.
-fn is_entry(entry: &InnerEntry, wanted: &Wanted) -> bool {
+fn is_entry(entry: InnerRef, wanted: &Wanted) -> bool {
     (entry.child, entry.radius, entry.parent) == (wanted.child, wanted.radius, 0)
-        && entry.point.as_slice() == [wanted.point].as_slice()
+        && entry.point == [wanted.point].as_slice()
 }
 
 // Says whether a node is a root above leaves, with these entries.
 fn is_root(node: &Node, wanted: &[Wanted]) -> bool {
     match node {
-        Node::Inner { level, entries } => *level == 1 && are_entries(entries.as_slice(), wanted),
+        Node::Inner { level, entries } => *level == 1 && are_entries(entries, wanted),
         Node::Leaf(_) => false,
     }
 }
 
 // Says whether a root's entries are these.
-fn are_entries(entries: &[InnerEntry], wanted: &[Wanted]) -> bool {
+fn are_entries(entries: &InnerEntries, wanted: &[Wanted]) -> bool {
     let mut is_so = entries.len() == wanted.len();
-    for (entry, one) in entries.iter().zip(wanted) {
-        is_so = is_so && is_entry(entry, one);
+    for index in 0..entries.len().min(wanted.len()) {
+        is_so = is_so && is_entry(entries.at(index), &wanted[index]);
     }
     is_so
 }
@@ -191,7 +191,7 @@ fn are_entries(entries: &[InnerEntry], wanted: &[Wanted]) -> bool {
 // Counts the objects of a leaf.
 fn objects_of(node: &Node) -> Option<usize> {
     match node {
-        Node::Leaf(entries) => Some(entries.as_slice().len()),
+        Node::Leaf(entries) => Some(entries.len()),
         Node::Inner { .. } => None,
     }
 }

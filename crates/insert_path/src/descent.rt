@@ -200,14 +200,14 @@ pub fn descend<P: Pages, R: Ruler>(
             if spot.level != 0 {
                 return Err(PageFault::Level(spot.page));
             }
-            let entries = entries.into_vec();
+            let entries = entries.into_vec(alloc)?;
             Ok(at_leaf(alloc, ruler, task, spot, entries, &mut written.nodes)?)
         }
         Node::Inner { level, entries } => {
             if level != spot.level {
                 return Err(PageFault::Level(spot.page));
             }
-            let entries = entries.into_vec();
+            let entries = entries.into_vec(alloc)?;
             let place = choose(ruler, &entries, task.object.point);
             let child = &entries[place];
             let below = Spot {

@@ -11,10 +11,10 @@ use crate::faults::fault_of;
 use crate::grew::{Grew, Stem};
 use crate::staging::stage_node;
 use crate::task::{Spot, Task, Written};
-use metric_laws::{Listed, Memory, Ruler};
+use metric_laws::{Memory, Ruler};
 use page_store::{NewTree, PageFault, Pages};
 use std::alloc::Global;
-use tree_shape::{InnerEntry, Live, Node};
+use tree_shape::{InnerEntries, InnerEntry, Live, Node};
 
 // Makes the entry of a half in a new root.
 fn entry_in_root(stem: Stem) -> InnerEntry
@@ -29,13 +29,13 @@ fn entry_in_root(stem: Stem) -> InnerEntry
 }
 
 // Makes the two entries of a new root.
-fn root_entries(alloc: Global, first: Stem, second: Stem) -> Result<Listed<InnerEntry>, Memory>
+fn root_entries(alloc: Global, first: Stem, second: Stem) -> Result<InnerEntries, Memory>
     ensures { IfOk result (λ es. es ≡ root_entry first ∷ root_entry second ∷ []) }
 {
     let mut entries = Vec::with_capacity(alloc, 2)?;
     entries.push(entry_in_root(first))?;
     entries.push(entry_in_root(second))?;
-    Ok(Listed::new(entries))
+    Ok(InnerEntries::new(entries))
 }
 
 // Stages a new root above two halves, and returns its page.

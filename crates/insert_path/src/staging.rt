@@ -8,10 +8,10 @@ ghost use Rattle.page_store.specs.Numbers.{number_at};
 
 use crate::grew::{Grew, Stem};
 use crate::task::Task;
-use metric_laws::{Listed, Memory, Ruler};
+use metric_laws::{Memory, Ruler};
 use promote_split::{Entry, Half, Halves, split};
 use std::alloc::Global;
-use tree_shape::{InnerEntry, LeafEntry, Node};
+use tree_shape::{InnerEntries, InnerEntry, LeafEntries, LeafEntry, Node};
 
 /// An entry that makes nodes.
 pub trait NodeEntry: Entry {
@@ -19,27 +19,30 @@ pub trait NodeEntry: Entry {
     ghost make: { ℕ → List Self → Node };
 
     /// Makes the node at `level` with `entries`.
-    fn node(level: u8, entries: Listed<Self>) -> Node
-        ensures { result ≡ make level entries };
+    fn node(level: u8, entries: Vec<Self>) -> Node
+        ensures { result ≡ make level entries.items };
 }
 
 impl NodeEntry for LeafEntry {
     ghost make = { λ level es. Leaf es };
 
-    fn node(_level: u8, entries: Listed<LeafEntry>) -> Node
-        ensures { result ≡ Leaf entries }
+    fn node(_level: u8, entries: Vec<LeafEntry>) -> Node
+        ensures { result ≡ Leaf entries.items }
     {
-        Node::Leaf(entries)
+        Node::Leaf(LeafEntries::new(entries))
     }
 }
 
 impl NodeEntry for InnerEntry {
     ghost make = { λ level es. Inner level es };
 
-    fn node(level: u8, entries: Listed<InnerEntry>) -> Node
-        ensures { result ≡ Inner level entries }
+    fn node(level: u8, entries: Vec<InnerEntry>) -> Node
+        ensures { result ≡ Inner level entries.items }
     {
-        Node::Inner { level, entries }
+        Node::Inner {
+            level,
+            entries: InnerEntries::new(entries),
+        }
     }
 }
 
@@ -75,7 +78,7 @@ fn stage_half<E: NodeEntry>(
         radius,
         entries,
     } = half;
-    let page = stage_node(task, E::node(level, entries), nodes)?;
+    let page = stage_node(task, E::node(level, entries.into_vec()), nodes)?;
     Ok(Stem {
         page,
         point,
@@ -160,6 +163,6 @@ pub fn stage<R: Ruler, E: NodeEntry>(
         let grew = stage_split(alloc, ruler, task, level, entries, nodes)?;
         return Ok(grew);
     }
-    let page = stage_node(task, E::node(level, Listed::new(entries)), nodes)?;
+    let page = stage_node(task, E::node(level, entries), nodes)?;
     Ok(Grew::One(page))
 }

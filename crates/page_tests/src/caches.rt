@@ -52,14 +52,14 @@ fn shown(node: &Node) -> Shown {
     let mut sum = 0u32;
     match node {
         Node::Leaf(entries) => {
-            for entry in entries.as_slice() {
-                sum = sum.wrapping_add(entry.id);
+            for index in 0..entries.len() {
+                sum = sum.wrapping_add(entries.at(index).id);
             }
             (0, sum)
         }
         Node::Inner { level, entries } => {
-            for entry in entries.as_slice() {
-                sum = sum.wrapping_add(entry.child);
+            for index in 0..entries.len() {
+                sum = sum.wrapping_add(entries.at(index).child);
             }
             (*level, sum)
         }

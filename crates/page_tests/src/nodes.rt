@@ -4,7 +4,7 @@ use node_page::{
     encode_head, encode_node, encode_slot,
 };
 use std::process::Abort;
-use tree_shape::Node;
+use tree_shape::{LeafRef, Node};
 
 // Is the head of a small index of points of two coordinates under L1.
 const HEAD: Head = Head {
@@ -124,15 +124,15 @@ fn leaf_page(last: usize) -> [u8; 4096] {
     page
 }
 
+// Says whether an object has id 0 and tag 0, and is at (3, 4).
+fn is_object(entry: LeafRef) -> bool {
+    (entry.id, entry.tag) == (0, 0) && entry.point == [3u32, 4].as_slice()
+}
+
 // Says whether a node is a leaf of one object with id 0 and tag 0 at (3, 4).
 fn is_leaf(node: &Node) -> bool {
     match node {
-        Node::Leaf(entries) => match entries.as_slice() {
-            [entry] => {
-                (entry.id, entry.tag) == (0, 0) && entry.point.as_slice() == [3u32, 4].as_slice()
-            }
-            _ => false,
-        },
+        Node::Leaf(entries) => entries.len() == 1 && is_object(entries.at(0)),
         Node::Inner { .. } => false,
     }
 }

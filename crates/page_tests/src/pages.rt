@@ -1,11 +1,11 @@
 use crate::caches::holds;
 use disk_model::{Disk, MemoryDisk};
-use metric_laws::{Listed, Memory};
+use metric_laws::Memory;
 use node_page::NodeFault;
 use page_store::{DiskPages, ImagePages, PageFault, Pages, Staged, laws};
 use std::alloc::Global;
 use std::process::Abort;
-use tree_shape::Node;
+use tree_shape::{LeafEntries, Node};
 
 // Sets the byte at `at` of a file.
 fn put(bytes: &mut [u8], at: usize, byte: u8) {
@@ -38,10 +38,7 @@ fn fault_at<P: Pages>(alloc: Global, pages: &mut P, page: u32) -> Option<PageFau
 // Says whether a node is a leaf of one object at (3, 4).
 fn is_leaf(node: &Node) -> bool {
     match node {
-        Node::Leaf(entries) => match entries.as_slice() {
-            [entry] => entry.point.as_slice() == [3, 4].as_slice(),
-            _ => false,
-        },
+        Node::Leaf(entries) => entries.len() == 1 && entries.at(0).point == [3, 4].as_slice(),
         Node::Inner { .. } => false,
     }
 }
@@ -113,7 +110,7 @@ fn is_any_leaf(node: &Node) -> bool {
 fn nodes_are_staged(rt: HostRuntime) {
     let mut staged = Staged::new(rt.alloc());
     holds(&rt, staged.is_empty());
-    let leaf = Node::Leaf(Listed::new(Vec::new(rt.alloc())));
+    let leaf = Node::Leaf(LeafEntries::new(Vec::new(rt.alloc())));
     staged.stage(7, leaf).expect(&rt, "memory");
     assert!(rt; staged.len() == 1);
     holds(&rt, staged.page_at(0) == 7);

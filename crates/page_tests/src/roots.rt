@@ -6,13 +6,13 @@ ghost use Rattle.shadow_root.specs.Making.{IsMade};
 
 use crate::caches::holds;
 use disk_model::{Disk, Failed, MemoryDisk};
-use metric_laws::{Listed, Point};
+use metric_laws::Point;
 use node_page::{Head, HeadFault};
 use page_store::Staged;
 use shadow_root::{CreateFault, OpenFault, commit, create, laws, open};
 use std::alloc::{AllocError, Global};
 use std::process::Abort;
-use tree_shape::{LeafEntry, Live, Node};
+use tree_shape::{LeafEntries, LeafEntry, Live, Node};
 
 // Is the head of a small index of points of two coordinates under L1.
 const HEAD: Head = Head {
@@ -79,7 +79,7 @@ fn leaf(alloc: Global, x: u32) -> Result<Node, AllocError>
         parent: 0,
         point: Point::new(alloc, &[x, 4])?,
     })?;
-    Ok(Node::Leaf(Listed::new(entries)))
+    Ok(Node::Leaf(LeafEntries::new(entries)))
 }
 
 // Opens a disk.

@@ -1,20 +1,20 @@
 ghost use Rattle.std.specs.Prelude.{◌≡◌, ◌≤◌, ◌^◌, length, IfOk};
 
 use crate::caches::holds;
-use metric_laws::{Listed, Memory};
+use metric_laws::Memory;
 use page_store::{NewTree, Numbering, Placed, RoomFault, Staged, settle};
 use std::alloc::Global;
 use std::process::Abort;
-use tree_shape::{Live, Node};
+use tree_shape::{LeafEntries, Live, Node};
 
 // Makes three empty leaves. The last is the root.
 fn three_leaves(alloc: Global, root: u32) -> Result<NewTree, Memory>
     ensures { IfOk result (λ tree. (length tree.nodes.items ≡ 3) × (tree.root ≡ root) × (tree.height ≡ 0) × (tree.added ≡ 5)) }
 {
     let mut nodes = Vec::new(alloc);
-    nodes.push(Node::Leaf(Listed::new(Vec::new(alloc))))?;
-    nodes.push(Node::Leaf(Listed::new(Vec::new(alloc))))?;
-    nodes.push(Node::Leaf(Listed::new(Vec::new(alloc))))?;
+    nodes.push(Node::Leaf(LeafEntries::new(Vec::new(alloc))))?;
+    nodes.push(Node::Leaf(LeafEntries::new(Vec::new(alloc))))?;
+    nodes.push(Node::Leaf(LeafEntries::new(Vec::new(alloc))))?;
     Ok(NewTree {
         nodes,
         root,

@@ -172,7 +172,15 @@ fn part_of(rt: &(impl AllocGlobal + Abort), bytes: &[u8], child: u32) -> Result<
     let entry = entry_to(rt, child);
     let mut pages = ImagePages::new(bytes, 2, 5);
     let mut ruler = Meter::new(L1::new(2));
-    audit_part(rt.alloc(), &mut pages, &mut ruler, 2, &SIX, 0, &entry)
+    audit_part(
+        rt.alloc(),
+        &mut pages,
+        &mut ruler,
+        2,
+        &SIX,
+        0,
+        entry.as_ref(),
+    )
 }
 
 // Gives `count` times the part of the file of six below the root's child.

@@ -2,6 +2,7 @@
 ghost use Rattle.std.specs.Prelude.{◌≡◌, ◌++◌, ◌+◌, ◌<◌, ◌^◌, OnOk, IfOk, decimal};
 ghost use Rattle.fault_lines.specs.Lines.{numbered};
 ghost use Rattle.rows_text.specs.Texts.{space};
+ghost use Rattle.tree_shape.specs.Entries.{inner_of, leaf_of};
 ghost use Rattle.log_model.specs.declared.marks.Mark.TheVariants.{Skip, Near};
 ghost use Rattle.log_model.specs.Walk.{allows_object, allows_subtree, away};
 ghost use Rattle.show_jobs.specs.Walks.{indent, object_line, subtree_line};
@@ -14,7 +15,7 @@ use log_model::{Mark, is_ruled_out};
 use metric_laws::{Metric, centre_test};
 use metric_mix::MixSpace;
 use outside_io::Memory;
-use tree_shape::{InnerEntry, LeafEntry};
+use tree_shape::{InnerRef, LeafRef};
 
 // What entries are tested by.
 #[derive(Clone, Copy)]
@@ -64,11 +65,11 @@ pub fn push_place(
 }
 
 // Tests the mark of an object.
-fn test_object(gauge: Gauge, above: Option<u64>, entry: &LeafEntry, mark: Mark) -> Tested
-    ensures allowed { result.allowed ≡ allows_object (search_by gauge.entry) above entry.now mark }
-    ensures dist { (mark ≡ Skip → ⊥) → result.dist ≡ away (search_by gauge.entry) entry.now.point }
+fn test_object(gauge: Gauge, above: Option<u64>, entry: LeafRef, mark: Mark) -> Tested
+    ensures allowed { result.allowed ≡ allows_object (search_by gauge.entry) above (leaf_of entry.entry) mark }
+    ensures dist { (mark ≡ Skip → ⊥) → result.dist ≡ away (search_by gauge.entry) (leaf_of entry.entry).point }
 {
-    let point = entry.point.as_slice();
+    let point = entry.point;
     match mark {
         Mark::Skip => Tested {
             allowed: is_ruled_out(above, entry.parent, gauge.rho, 0),
@@ -92,11 +93,11 @@ fn test_object(gauge: Gauge, above: Option<u64>, entry: &LeafEntry, mark: Mark) 
 }
 
 // Tests the mark of a subtree.
-fn test_subtree(gauge: Gauge, above: Option<u64>, entry: &InnerEntry, mark: Mark) -> Tested
-    ensures allowed { result.allowed ≡ allows_subtree (search_by gauge.entry) above entry.now mark }
-    ensures dist { (mark ≡ Skip → ⊥) → result.dist ≡ away (search_by gauge.entry) entry.now.point }
+fn test_subtree(gauge: Gauge, above: Option<u64>, entry: InnerRef, mark: Mark) -> Tested
+    ensures allowed { result.allowed ≡ allows_subtree (search_by gauge.entry) above (inner_of entry.entry) mark }
+    ensures dist { (mark ≡ Skip → ⊥) → result.dist ≡ away (search_by gauge.entry) (inner_of entry.entry).point }
 {
-    let point = entry.point.as_slice();
+    let point = entry.point;
     match mark {
         Mark::Skip => Tested {
             allowed: is_ruled_out(above, entry.parent, gauge.rho, entry.radius),
@@ -121,15 +122,15 @@ pub fn show_object(
     gauge: Gauge,
     coming: Coming,
     place: u64,
-    entry: &LeafEntry,
+    entry: LeafRef,
     mark: Mark,
     out: &mut Vec<u8>,
 ) -> Result<bool, Memory>
     requires { coming.depth + 1 < 2 ^ 32 }
     ensures line { OnOk result (out.new.items ≡ out.old.items ++
-        object_line (search_by gauge.entry) coming place entry.now mark) }
+        object_line (search_by gauge.entry) coming place (leaf_of entry.entry) mark) }
     ensures allowed { IfOk result (λ allowed. allowed ≡
-        allows_object (search_by gauge.entry) coming.need.above entry.now mark) }
+        allows_object (search_by gauge.entry) coming.need.above (leaf_of entry.entry) mark) }
 {
     let above = coming.need.above;
     let tested = test_object(gauge, above, entry, mark);
@@ -148,16 +149,16 @@ pub fn show_subtree(
     gauge: Gauge,
     coming: Coming,
     place: u64,
-    entry: &InnerEntry,
+    entry: InnerRef,
     mark: Mark,
     out: &mut Vec<u8>,
 ) -> Result<Tested, Memory>
     requires { coming.depth + 1 < 2 ^ 32 }
     ensures line { OnOk result (out.new.items ≡ out.old.items ++
-        subtree_line (search_by gauge.entry) coming place entry.now mark) }
+        subtree_line (search_by gauge.entry) coming place (inner_of entry.entry) mark) }
     ensures allowed { IfOk result (λ tested. tested.allowed ≡
-        allows_subtree (search_by gauge.entry) coming.need.above entry.now mark) }
-    ensures dist { IfOk result (λ tested. mark ≡ Near → tested.dist ≡ away (search_by gauge.entry) entry.now.point) }
+        allows_subtree (search_by gauge.entry) coming.need.above (inner_of entry.entry) mark) }
+    ensures dist { IfOk result (λ tested. mark ≡ Near → tested.dist ≡ away (search_by gauge.entry) (inner_of entry.entry).point) }
 {
     let above = coming.need.above;
     let tested = test_subtree(gauge, above, entry, mark);

@@ -13,7 +13,7 @@ use crate::{Coming, Counts};
 use fault_lines::push_numbered;
 use log_model::{Mark, Need};
 use outside_io::Memory;
-use tree_shape::{InnerEntry, LeafEntry, Node};
+use tree_shape::{InnerEntries, LeafEntries, Node};
 
 // Appends the line of an opened node.
 fn push_node(depth: u32, page: u32, level: u8, out: &mut Vec<u8>) -> Result<(), Memory>
@@ -29,7 +29,7 @@ fn push_node(depth: u32, page: u32, level: u8, out: &mut Vec<u8>) -> Result<(), 
 fn show_leaf(
     gauge: Gauge,
     coming: Coming,
-    entries: &[LeafEntry],
+    entries: &LeafEntries,
     marks: &[Mark],
     out: &mut Vec<u8>,
 ) -> Result<bool, Memory>
@@ -42,7 +42,7 @@ fn show_leaf(
 {
     let mut allowed = true;
     for i in 0..entries.len() {
-        let is_allowed = show_object(gauge, coming, i as u64, &entries[i], marks[i], out)?;
+        let is_allowed = show_object(gauge, coming, i as u64, entries.at(i), marks[i], out)?;
         allowed &= is_allowed;
     }
     Ok(allowed)
@@ -63,7 +63,7 @@ fn push_near(items: &mut Vec<Coming>, mark: Mark, item: Coming) -> Result<(), Me
 fn show_inner(
     gauge: Gauge,
     coming: Coming,
-    entries: &[InnerEntry],
+    entries: &InnerEntries,
     marks: &[Mark],
     walk: &mut Walk,
 ) -> Result<bool, Memory>
@@ -80,7 +80,7 @@ fn show_inner(
 {
     let mut allowed = true;
     for i in 0..entries.len() {
-        let entry = &entries[i];
+        let entry = entries.at(i);
         let tested = show_subtree(gauge, coming, i as u64, entry, marks[i], &mut walk.lines)?;
         let below = Coming {
             need: Need {
@@ -117,11 +117,11 @@ fn show_entries(
     match node {
         Node::Leaf(entries) => {
             push_node(coming.depth, coming.need.page, 0, &mut walk.lines)?;
-            show_leaf(gauge, coming, entries.as_slice(), marks, &mut walk.lines)
+            show_leaf(gauge, coming, entries, marks, &mut walk.lines)
         }
         Node::Inner { level, entries } => {
             push_node(coming.depth, coming.need.page, *level, &mut walk.lines)?;
-            show_inner(gauge, coming, entries.as_slice(), marks, walk)
+            show_inner(gauge, coming, entries, marks, walk)
         }
     }
 }

@@ -1,5 +1,6 @@
 // The line of an entry beside another item, and the test of its mark.
 ghost use Rattle.std.specs.Prelude.{◌≡◌, ◌++◌, ◌+◌, ◌<◌, ◌^◌, [], ◌∷◌, OnOk, IfOk};
+ghost use Rattle.tree_shape.specs.Entries.{inner_of, leaf_of};
 ghost use Rattle.log_model.specs.declared.marks.Mark.TheVariants.{Skip, Near};
 ghost use Rattle.log_model.specs.Walk.{near_ones};
 ghost use Rattle.log_model.specs.JoinWalk.{allows_entry, object_entry, subtree_entry, with_entry, within_apart};
@@ -16,7 +17,7 @@ use metric_mix::MixSpace;
 use outside_io::Memory;
 use show_jobs::push_place;
 use std::alloc::Global;
-use tree_shape::{InnerEntry, LeafEntry};
+use tree_shape::{InnerRef, LeafRef};
 
 // What a walk searches by.
 #[derive(Clone, Copy)]
@@ -66,15 +67,15 @@ fn apart_from(space: MixSpace, need: &JoinNeed, point: &[u32]) -> Option<u64>
 }
 
 // Tests the mark of an object.
-fn test_object(gauge: PairGauge, entry: &LeafEntry, mark: Mark) -> PairTested
+fn test_object(gauge: PairGauge, entry: LeafRef, mark: Mark) -> PairTested
     ensures allowed { result.allowed ≡ allows_entry (search_by gauge.entry.search) gauge.entry.coming.now.need
-        (object_entry entry.now) mark }
+        (object_entry (leaf_of entry.entry)) mark }
     ensures apart { (mark ≡ Skip → ⊥) →
-        result.apart ≡ (with_entry (space_in gauge.entry.search.space) gauge.entry.coming.now.need (object_entry entry.now)).apart }
+        result.apart ≡ (with_entry (space_in gauge.entry.search.space) gauge.entry.coming.now.need (object_entry (leaf_of entry.entry))).apart }
 {
     let need = &gauge.coming.need;
     let reach = need.other().radius();
-    let point = entry.point.as_slice();
+    let point = entry.point;
     match mark {
         Mark::Skip => PairTested {
             allowed: is_skipped(need.apart, entry.parent, gauge.search.rho, 0, reach),
@@ -98,15 +99,15 @@ fn test_object(gauge: PairGauge, entry: &LeafEntry, mark: Mark) -> PairTested
 }
 
 // Tests the mark of a subtree, which an inner node of level `level` names.
-fn test_subtree(gauge: PairGauge, level: u8, entry: &InnerEntry, mark: Mark) -> PairTested
+fn test_subtree(gauge: PairGauge, level: u8, entry: InnerRef, mark: Mark) -> PairTested
     ensures allowed { result.allowed ≡ allows_entry (search_by gauge.entry.search) gauge.entry.coming.now.need
-        (subtree_entry level entry.now) mark }
+        (subtree_entry level (inner_of entry.entry)) mark }
     ensures apart { (mark ≡ Skip → ⊥) →
-        result.apart ≡ (with_entry (space_in gauge.entry.search.space) gauge.entry.coming.now.need (subtree_entry level entry.now)).apart }
+        result.apart ≡ (with_entry (space_in gauge.entry.search.space) gauge.entry.coming.now.need (subtree_entry level (inner_of entry.entry))).apart }
 {
     let need = &gauge.coming.need;
     let reach = need.other().radius();
-    let point = entry.point.as_slice();
+    let point = entry.point;
     match mark {
         Mark::Skip => PairTested {
             allowed: is_skipped(
@@ -136,17 +137,17 @@ fn test_subtree(gauge: PairGauge, level: u8, entry: &InnerEntry, mark: Mark) -> 
 pub fn show_object(
     gauge: PairGauge,
     place: u64,
-    entry: &LeafEntry,
+    entry: LeafRef,
     mark: Mark,
     out: &mut Vec<u8>,
 ) -> Result<PairTested, Memory>
     requires { gauge.coming.now.depth + 1 < 2 ^ 32 }
     ensures line { OnOk result (out.new.items ≡ out.old.items ++
-        pair_entry_line (search_by gauge.entry.search) gauge.entry.coming.now place (object_entry entry.now) mark) }
+        pair_entry_line (search_by gauge.entry.search) gauge.entry.coming.now place (object_entry (leaf_of entry.entry)) mark) }
     ensures allowed { IfOk result (λ tested. tested.allowed ≡
-        allows_entry (search_by gauge.entry.search) gauge.entry.coming.now.need (object_entry entry.now) mark) }
+        allows_entry (search_by gauge.entry.search) gauge.entry.coming.now.need (object_entry (leaf_of entry.entry)) mark) }
     ensures apart { IfOk result (λ tested. mark ≡ Near → tested.apart ≡
-        (with_entry (space_in gauge.entry.search.space) gauge.entry.coming.now.need (object_entry entry.now)).apart) }
+        (with_entry (space_in gauge.entry.search.space) gauge.entry.coming.now.need (object_entry (leaf_of entry.entry))).apart) }
 {
     let tested = test_object(gauge, entry, mark);
     let need = &gauge.coming.need;
@@ -166,17 +167,17 @@ pub fn show_subtree(
     gauge: PairGauge,
     level: u8,
     place: u64,
-    entry: &InnerEntry,
+    entry: InnerRef,
     mark: Mark,
     out: &mut Vec<u8>,
 ) -> Result<PairTested, Memory>
     requires { gauge.coming.now.depth + 1 < 2 ^ 32 }
     ensures line { OnOk result (out.new.items ≡ out.old.items ++
-        pair_entry_line (search_by gauge.entry.search) gauge.entry.coming.now place (subtree_entry level entry.now) mark) }
+        pair_entry_line (search_by gauge.entry.search) gauge.entry.coming.now place (subtree_entry level (inner_of entry.entry)) mark) }
     ensures allowed { IfOk result (λ tested. tested.allowed ≡
-        allows_entry (search_by gauge.entry.search) gauge.entry.coming.now.need (subtree_entry level entry.now) mark) }
+        allows_entry (search_by gauge.entry.search) gauge.entry.coming.now.need (subtree_entry level (inner_of entry.entry)) mark) }
     ensures apart { IfOk result (λ tested. mark ≡ Near → tested.apart ≡
-        (with_entry (space_in gauge.entry.search.space) gauge.entry.coming.now.need (subtree_entry level entry.now)).apart) }
+        (with_entry (space_in gauge.entry.search.space) gauge.entry.coming.now.need (subtree_entry level (inner_of entry.entry))).apart) }
 {
     let tested = test_subtree(gauge, level, entry, mark);
     let need = &gauge.coming.need;
@@ -194,13 +195,13 @@ pub fn show_subtree(
 // Adds the pair of an object that is marked Near, at the distance `apart`.
 pub fn name_object(
     gauge: PairGauge,
-    entry: &LeafEntry,
+    entry: LeafRef,
     mark: Mark,
     apart: Option<u64>,
     named: &mut Matches,
 ) -> Result<(), Memory>
     ensures { OnOk result (named.new.needs.items ≡ named.old.needs.items ++ needs_among
-        (near_ones (paired gauge.entry.coming.now.need (object_entry entry.now).item apart ∷ []) (mark ∷ []))) }
+        (near_ones (paired gauge.entry.coming.now.need (object_entry (leaf_of entry.entry)).item apart ∷ []) (mark ∷ []))) }
 {
     let probe = JoinProbe {
         alloc: gauge.search.alloc,
@@ -218,13 +219,13 @@ pub fn name_object(
 pub fn name_subtree(
     gauge: PairGauge,
     level: u8,
-    entry: &InnerEntry,
+    entry: InnerRef,
     mark: Mark,
     apart: Option<u64>,
     named: &mut Matches,
 ) -> Result<(), Memory>
     ensures { OnOk result (named.new.needs.items ≡ named.old.needs.items ++ needs_among
-        (near_ones (paired gauge.entry.coming.now.need (subtree_entry level entry.now).item apart ∷ []) (mark ∷ []))) }
+        (near_ones (paired gauge.entry.coming.now.need (subtree_entry level (inner_of entry.entry)).item apart ∷ []) (mark ∷ []))) }
 {
     let probe = JoinProbe {
         alloc: gauge.search.alloc,

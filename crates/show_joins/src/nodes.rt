@@ -18,7 +18,7 @@ use join_jobs::side_name;
 use log_model::{Item, JoinNeed, Mark};
 use outside_io::Memory;
 use show_jobs::{Counts, count_marks, push_indent};
-use tree_shape::{InnerEntry, LeafEntry, Node};
+use tree_shape::{InnerEntries, LeafEntries, Node};
 
 // Appends the name of an item.
 fn push_item(item: &Item, out: &mut Vec<u8>) -> Result<(), Memory>
@@ -47,7 +47,7 @@ fn push_pair(coming: &PairComing, level: u8, out: &mut Vec<u8>) -> Result<(), Me
 // Appends the lines of a leaf's entries, and the pairs that their marks need. Returns whether all marks are allowed.
 fn show_leaf(
     gauge: PairGauge,
-    entries: &[LeafEntry],
+    entries: &LeafEntries,
     marks: &[Mark],
     walk: &mut PairWalk,
 ) -> Result<bool, Memory>
@@ -65,7 +65,7 @@ fn show_leaf(
 {
     let mut allowed = true;
     for i in 0..entries.len() {
-        let entry = &entries[i];
+        let entry = entries.at(i);
         let tested = show_object(gauge, i as u64, entry, marks[i], &mut walk.lines)?;
         name_object(gauge, entry, marks[i], tested.apart, &mut walk.named)?;
         allowed &= tested.allowed;
@@ -78,7 +78,7 @@ fn show_leaf(
 fn show_inner(
     gauge: PairGauge,
     level: u8,
-    entries: &[InnerEntry],
+    entries: &InnerEntries,
     marks: &[Mark],
     walk: &mut PairWalk,
 ) -> Result<bool, Memory>
@@ -98,7 +98,7 @@ fn show_inner(
 {
     let mut allowed = true;
     for i in 0..entries.len() {
-        let entry = &entries[i];
+        let entry = entries.at(i);
         let tested = show_subtree(gauge, level, i as u64, entry, marks[i], &mut walk.lines)?;
         name_subtree(gauge, level, entry, marks[i], tested.apart, &mut walk.named)?;
         allowed &= tested.allowed;
@@ -130,11 +130,11 @@ fn show_entries(
     match node {
         Node::Leaf(entries) => {
             push_pair(gauge.coming, 0, &mut walk.lines)?;
-            show_leaf(gauge, entries.as_slice(), marks, walk)
+            show_leaf(gauge, entries, marks, walk)
         }
         Node::Inner { level, entries } => {
             push_pair(gauge.coming, *level, &mut walk.lines)?;
-            show_inner(gauge, *level, entries.as_slice(), marks, walk)
+            show_inner(gauge, *level, entries, marks, walk)
         }
     }
 }

@@ -24,16 +24,16 @@ returns-in_err-grew-in-Inner-clause-cause g t c =
     let p = err_from_is_err_and c.from_residual-in_err-grew-in-Inner.result c.from_residual-in_err-grew-in-Inner.ensures.1 in
     rw (p.1, p.2) (cause_below (g.P.Pages.shelf c.args.pages.now) (g.P.Pages.shelf c.own_node.new.pages) (g.P.Pages.shelf c.descend.new.pages) _ _ c.in_err-grew-in-Inner.field-0.0 c.own_node.ensures.same
     (λ tells. fault_below (g.R.M.Metric.space (g.R.Ruler.metric c.args.ruler.now)) (g.R.M.Metric.space (g.R.Ruler.metric c.choose-place.new.ruler)) (g.P.Pages.shelf c.args.pages.now).read (g.P.Pages.shelf c.own_node.new.pages).read
-    c.args.task.now.object.point.now c.args.spot.now.level (c.args.spot.now.level - 1) c.args.spot.now.page c.in-Inner.level c.in_ok-node.node c.in-Inner.entries c.into_vec-entries-in-Inner.result.items c.deref.result.now
+    c.args.task.now.object.point.now c.args.spot.now.level (c.args.spot.now.level - 1) c.args.spot.now.page c.in-Inner.level c.in_ok-node.node c.in-Inner.entries c.in_ok-entries-in-Inner.entries.items c.deref.result.now
     c.choose-place.result c.index-child.result.now (ap g.R.M.Metric.space c.choose-place.ensures.metric) c.own_node.ensures.same.read
     (level_above (g.P.Pages.shelf c.args.pages.now).dim c.in-Inner.level c.args.spot.now.level c.in_ok-node.node c.in-Inner.entries c.in_ok-node.ensures.ok.lawful c.in-Inner.is c.if-level-spot.false)
-    c.if-level-spot.false c.in-Inner.is c.into_vec-entries-in-Inner.ensures
+    c.if-level-spot.false c.in-Inner.is c.in_ok-entries-in-Inner.ensures
     c.deref.ensures.value c.choose-place.ensures.chosen c.choose-place.ensures.place c.index-child.ensures (c.in_ok-node.ensures.ok.told tells))
     c.in_err-grew-in-Inner.ensures.cause)
 
 pub back_at-requires-clause-near : goal.back_at-requires-clause-near
 back_at-requires-clause-near g t c κs within =
-    read_near (g.P.Pages.shelf c.args.pages.now).dim c.in-Inner.level c.in_ok-node.node c.in-Inner.entries _ c.in_ok-node.ensures.ok.lawful c.in-Inner.is c.into_vec-entries-in-Inner.ensures
+    read_near (g.P.Pages.shelf c.args.pages.now).dim c.in-Inner.level c.in_ok-node.node c.in-Inner.entries _ c.in_ok-node.ensures.ok.lawful c.in-Inner.is c.in_ok-entries-in-Inner.ensures
 
 pub back_at-requires-clause-small : goal.back_at-requires-clause-small
 back_at-requires-clause-small g t c κs within =
@@ -43,8 +43,8 @@ pub returns-in_ok-at_leaf-in-Leaf-clause-descends : goal.returns-in_ok-at_leaf-i
 returns-in_ok-at_leaf-in-Leaf-clause-descends g t c =
     leaf_step c.args.task.now.policy c.args.task.now.bounds (number_at c.args.task.now.numbering.numbers.now c.args.task.now.numbering.first) (record { id = c.args.task.now.object.id; tag = c.args.task.now.object.tag; point = c.args.task.now.object.point.now })
     (g.R.M.Metric.space (g.R.Ruler.metric c.args.ruler.now)) (g.P.Pages.shelf c.args.pages.now) c.args.spot.now.level c.args.spot.now.page (above_of c.args.spot.now.root c.args.spot.now.above.now)
-    c.in_ok-node.node c.in-Leaf.entries c.into_vec-entries.result.items c.args.written.now.left.items _ c.args.written.now.nodes.items _ _
-    c.if-spot-ne0.false c.in_ok-node.ensures.ok c.in-Leaf.is c.into_vec-entries.ensures (search rules) c.in_ok-at_leaf-in-Leaf.ensures.staged c.in_ok-at_leaf-in-Leaf.ensures.within
+    c.in_ok-node.node c.in-Leaf.entries c.in_ok-entries-in-Leaf.entries.items c.args.written.now.left.items _ c.args.written.now.nodes.items _ _
+    c.if-spot-ne0.false c.in_ok-node.ensures.ok c.in-Leaf.is c.in_ok-entries-in-Leaf.ensures (search rules) c.in_ok-at_leaf-in-Leaf.ensures.staged c.in_ok-at_leaf-in-Leaf.ensures.within
 
 pub returns-in_ok-back_at-in-Inner-clause-descends : goal.returns-in_ok-back_at-in-Inner-clause-descends
 returns-in_ok-back_at-in-Inner-clause-descends g t c =
@@ -52,10 +52,10 @@ returns-in_ok-back_at-in-Inner-clause-descends g t c =
     (g.R.M.Metric.space (g.R.Ruler.metric c.args.ruler.now)) (g.R.M.Metric.space (g.R.Ruler.metric c.choose-place.new.ruler)) (g.R.M.Metric.space (g.R.Ruler.metric c.descend.new.ruler))
     (g.P.Pages.shelf c.args.pages.now) (g.P.Pages.shelf c.own_node.new.pages)
     c.args.spot.now.level (c.args.spot.now.level - 1) c.args.spot.now.page c.in-Inner.level (above_of c.args.spot.now.root c.args.spot.now.above.now)
-    c.in_ok-node.node c.in-Inner.entries c.into_vec-entries-in-Inner.result.items c.deref.result.now c.choose-place.result c.index-child.result.now
+    c.in_ok-node.node c.in-Inner.entries c.in_ok-entries-in-Inner.entries.items c.deref.result.now c.choose-place.result c.index-child.result.now
     c.args.written.now.left.items c.push.new.self.items c.descend.new.written.left.items c.args.written.now.nodes.items c.descend.new.written.nodes.items _ c.in_ok-grew-in-Inner.grew _
     (ap g.R.M.Metric.space c.choose-place.ensures.metric) (ap g.R.M.Metric.space c.descend.ensures.metric) c.own_node.ensures.same
     (level_above (g.P.Pages.shelf c.args.pages.now).dim c.in-Inner.level c.args.spot.now.level c.in_ok-node.node c.in-Inner.entries c.in_ok-node.ensures.ok.lawful c.in-Inner.is c.if-level-spot.false)
     c.if-level-spot.false
-    c.in_ok-node.ensures.ok c.in-Inner.is c.into_vec-entries-in-Inner.ensures c.deref.ensures.value c.choose-place.ensures.chosen c.choose-place.ensures.place c.index-child.ensures (search rules)
+    c.in_ok-node.ensures.ok c.in-Inner.is c.in_ok-entries-in-Inner.ensures c.deref.ensures.value c.choose-place.ensures.chosen c.choose-place.ensures.place c.index-child.ensures (search rules)
     c.as_slice.result.now c.as_slice.ensures c.in_ok-grew-in-Inner.ensures.descends c.in_ok-back_at-in-Inner.ensures.staged c.in_ok-back_at-in-Inner.ensures.near
