@@ -1,5 +1,6 @@
 pub mod Statuses
 pub mod Telling
+mod Taken
 pub mod Spaces
 pub mod Audited
 pub mod Ends

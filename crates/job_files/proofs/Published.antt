@@ -18,3 +18,5 @@ pub use Rattle.job_files.proofs.logs.Ends.{of_two, of_three, said_all, said_some
 pub use Rattle.job_files.proofs.logs.Showing.{show_logs}
 -- Nodes stand below a file's number of pages.
 pub use Rattle.job_files.proofs.logs.Within.{nodes_within}
+-- What was left to read, and what was read of it.
+pub use Rattle.job_files.proofs.Taken.{always, weaker, read_whole}

@@ -1,3 +1,2 @@
-mod ProgramLemmas
 mod TaskLemmas
 mod FileLemmas

@@ -25,8 +25,10 @@ use Rattle.job_join.specs.Jobs.{Joins, JudgesLogs as JudgesJoinLogs}
 use Rattle.job_show.specs.declared.report.Marks.{Marks}
 use Rattle.job_show.specs.Jobs.{ShowsLogs}
 use Rattle.job_show_joins.specs.Jobs.{ShowsLogs as ShowsJoinLogs}
-use Rattle.session_run.proofs.Published.{always, memory_session}
-use Rattle.mtree_cli.specs.Run.{Task, Uses, Scene, Does, HasTooManyPages, IsStatusOf, TakesWithin, nothing, scan_texts, task_of, uses, uses_of}
+use Rattle.job_files.proofs.Published.{always}
+use Rattle.session_run.proofs.Published.{memory_session}
+use Rattle.job_scan.specs.Jobs.{scan_texts}
+use Rattle.mtree_cli.specs.Run.{Task, Uses, Scene, Does, HasTooManyPages, IsStatusOf, TakesWithin, nothing, task_of, uses, uses_of}
 use Rattle.std.proofs.lemmas.Bool.{true≢false}
 use Rattle.batch_run.specs.Jobs.Batches.{IsTooLong}
 use Rattle.batch_run.proofs.Published.{out_of_memory}
@@ -39,7 +41,7 @@ use Rattle.job_seal.specs.Carries.{CarriesLogs}
 use Rattle.job_seal.specs.Proofs.{ProvesLogs}
 use Rattle.job_files.specs.declared.logs.stop.LogStop.{LogStop}
 use Rattle.job_files.specs.declared.logs.stop.LogStop.TheVariants as stop
-use Rattle.mtree_cli.proofs.ProgramLemmas.{fault_writes, memory_ends}
+use Rattle.job_scan.proofs.Published.{fault_writes, memory_ends}
 
 -- the task of a job of the words
 pub task_is : (words : List (List ℕ)) (found named : Job (Bor (List ℕ))) → job_of words ≡ Some (texts_in found) → found ≡ named → task_of (job_of words) ≡ task_of (Some (texts_in named))

@@ -1,6 +1,5 @@
 -- What a run does for its command line's words.
 use Rattle.std.specs.Prelude.{◌≡◌, ◌⊎◌, ◌<◌, ◌≤◌, ◌+◌, ◌^◌, ℕ, Bool, true, false, Option, Some, None, List, [], ◌++◌, length, codes, IfSome, IsTrue}
-use Rattle.std.specs.List.{concat}
 use Rattle.std.specs.Io.KnownBytes.{Appends, Consumes}
 use Rattle.outside_io.specs.Bytes.{AppendsPrefix}
 use Rattle.outside_io.specs.Causes.{Rose}
@@ -13,6 +12,7 @@ use Rattle.disk_model.specs.Disk.{DiskState}
 use Rattle.node_page.specs.declared.head.Head.{Head}
 use Rattle.job_files.specs.Jobs.{Creates, Audits, IsAuditStatus}
 use Rattle.job_files.specs.Shapes.{Shapes, IsShapeStatus}
+use Rattle.job_scan.specs.Jobs.{Asked, WritesScan, IsScanStatus, scan_texts}
 use Rattle.job_stats.specs.Jobs.{Stats as TellsStats}
 use Rattle.job_dump.specs.Jobs.{Dumps, IsDumpStatus}
 use Rattle.job_show.specs.declared.report.Marks.{Marks}
@@ -26,12 +26,7 @@ use Rattle.job_logs.specs.Jobs.{JudgesLogs}
 use Rattle.job_join.specs.Jobs.{Joins, IsJoinStatus, JudgesLogs as JudgesJoinLogs}
 use Rattle.job_words.specs.declared.job.Job.TheVariants as job
 use Rattle.job_words.specs.declared.names.SpaceName.{SpaceName}
-use Rattle.metric_mix.specs.MixSpaces.{mix_space}
-use Rattle.plain_scan.specs.Written.{IsFrontOf, first_text, reply_texts}
-use Rattle.answer_texts.specs.Ending.{IsTold}
 use Rattle.session_run.specs.Job.{RunsSession, IsSessionStatus}
-use Rattle.rows_text.specs.Meaning.{Setting}
-use Rattle.rows_text.specs.Script.{script}
 use Rattle.job_make.specs.declared.generating.Generation.{Generation}
 use Rattle.job_make.specs.Jobs.{Generates, IsFillStatus}
 use Rattle.job_make.specs.Migrating.{Migrates, IsMigrateStatus, RefusesNothing}
@@ -41,12 +36,6 @@ use Rattle.job_seal.specs.Seals.{Seals, IsSealStatus}
 use Rattle.job_seal.specs.Carries.{CarriesLogs, IsCarriedLogsStatus}
 use Rattle.job_seal.specs.Proofs.{ProvesLogs, IsProofStatus}
 
--- a scan: its space, the greatest number of objects, and whether tags are shown
-pub record Asked : Type 0 where
-  pub space : SpaceName
-  pub limit : ℕ
-  pub show : Bool
-
 -- the words ask for the scan `asked`
 abbrev pub IsScan : List (List ℕ) → Asked → Type 0
 IsScan words asked = job_of words ≡ Some (job.Scan asked.space asked.limit asked.show)
@@ -54,32 +43,6 @@ IsScan words asked = job_of words ≡ Some (job.Scan asked.space asked.limit ask
 -- the words ask for a session
 abbrev pub IsSession : List (List ℕ) → Type 0
 IsSession words = (index : List ℕ) × (log : Option (List ℕ)) × (workers : ℕ) × (show : Bool) × (job_of words ≡ Some (job.Session index log workers show))
-
--- the space and the limit of a scan
-abbrev pub setting_of : Asked → Setting
-setting_of asked = record { space = mix_space (kind_of asked.space.metric) asked.space.dim; limit = asked.limit }
-
--- the texts of the replies to a script
-abbrev pub scan_texts : Asked → List ℕ → List (List ℕ)
-scan_texts asked bytes = reply_texts (setting_of asked) asked.show (script asked.space.dim bytes)
-
--- What is on out when a scan ends with a status: the acknowledged replies, then `rest`. `more` are the texts of the replies that
--- were not acknowledged.
-pub record Ends (Failed : Type 0) (status : ℕ) (acknowledged more : List (List ℕ)) (rest : List ℕ) : Type 0 where
-  pub done : status ≡ 0 → (more ≡ []) × (rest ≡ [])
-  pub input : status ≡ 3 → (acknowledged ≡ []) × IsTold Failed rest (codes "fault input\n")
-  pub output : status ≡ 4 → IsFrontOf rest (first_text more)
-  pub long : status ≡ 7 → (acknowledged ≡ []) × IsTold Failed rest (codes "fault long\n")
-  pub memory : status ≡ 8 → IsTold Failed rest (codes "fault memory\n")
-
--- a scan put the first of the texts, each whole, and then what its status says
-pub record WritesScan (old new : SinkState) (texts : List (List ℕ)) (status : ℕ) : Type 0 where
-  pub acknowledged : List (List ℕ)
-  pub more : List (List ℕ)
-  pub rest : List ℕ
-  pub whole : texts ≡ acknowledged ++ more
-  pub ends : Ends (Rose old.faults new.faults) status acknowledged more rest
-  pub written : Appends old.written new.written (concat acknowledged ++ rest)
 
 -- the line that a run without a job puts
 abbrev pub usage : List ℕ
@@ -265,10 +228,6 @@ pub record TakesWithin (Large : Type 0) (input0 input1 left0 left1 : Option (Lis
   pub few_logs : length log_bytes ≤ 2 ^ 30 + 4096
   pub long : (2 ^ 26 < length script_bytes) ⊎ (2 ^ 30 < length log_bytes) → status ≡ 7
   pub only : status ≡ 7 → (2 ^ 26 < length script_bytes) ⊎ ((2 ^ 30 < length log_bytes) ⊎ Large)
-
--- the statuses of a scan
-abbrev pub IsScanStatus : ℕ → Type 0
-IsScanStatus n = (n ≡ 0) ⊎ ((n ≡ 3) ⊎ ((n ≡ 4) ⊎ ((n ≡ 7) ⊎ (n ≡ 8))))
 
 -- the statuses with which a task may end
 abbrev pub IsStatusOf : Task → ℕ → Type 0

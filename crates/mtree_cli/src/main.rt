@@ -11,7 +11,6 @@ mod number_tests;
 mod program;
 #[cfg(test)]
 mod runs;
-mod scan_job;
 #[cfg(test)]
 mod session_tests;
 mod telling;

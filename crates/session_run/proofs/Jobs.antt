@@ -40,7 +40,8 @@ use Rattle.answer_texts.specs.Asked.{Held, held_in}
 use Rattle.answer_texts.specs.Ending.{IsTold, TellsFault}
 use Rattle.answer_texts.proofs.Published.{told_behind, disk_ends, input_ends, long_ends, memory_ends, line_alone, disk_told, input_told, long_told, memory_told, none_told}
 use Rattle.session_run.specs.Turns.{AreTurns, Turn, answers_of, held_on}
-use Rattle.session_run.proofs.Taken.{always, read_whole, unfinished, weaker}
+use Rattle.job_files.proofs.Published.{always, read_whole, weaker}
+use Rattle.session_run.proofs.Taken.{unfinished}
 use Rattle.job_files.specs.Spaces.{space_of}
 use Rattle.session_run.specs.Job.{HasEnded, HasFinished, HasRefused, HoldsFront, IsComplete, IsLeft, Leaves, LeavesAll, ReadsFew, ReadsAsked, ReadsScript, RunsOn, RunsAsked, RunsScript, RunsSession, SessionEnds, asked_by, setting_in, state_in}
 use Rattle.outside_io.proofs.Published.{rose_before}

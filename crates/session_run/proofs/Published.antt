@@ -2,7 +2,5 @@
 
 -- What a command does that leaves the objects of a file as they are.
 pub use Rattle.session_run.proofs.Reading.{objects_on}
--- What was left to read, and what was read of it.
-pub use Rattle.session_run.proofs.Taken.{always, weaker, read_whole}
 -- A session for which memory ran out before it began.
 pub use Rattle.session_run.proofs.Jobs.{memory_session}

@@ -2,31 +2,23 @@
 use Rattle.std.proofs.Common.{◌≡◌, ◌≢◌, ℕ, Bool, List, [], refl, subst, arith, Option, Some, None}
 use Rattle.std.specs.Prelude.{codes, IfSome}
 use Rattle.std.specs.Io.KnownBytes.{Consumes, IsAtEnd}
-use Rattle.std.proofs.KnownBytes.{Consumes-all}
 use Rattle.outside_io.specs.Sinks.{SinkState, Tells}
 use Rattle.disk_model.specs.Disk.{DiskState, IsUnchanged, MayLeave}
 use Rattle.disk_model.specs.Moments.{started}
 use Rattle.batch_run.specs.Jobs.Batches.{HasOpened, RunsBatch, RunsScript}
 use Rattle.answer_texts.specs.Ending.{TellsFault}
 use Rattle.answer_texts.proofs.Published.{input_told, line_alone, long_told, memory_told}
+use Rattle.job_files.proofs.Published.{always, read_whole, weaker}
 use Rattle.batch_run.proofs.jobs.Opened.{input_line, long_line, memory_line, unfinished, not_these}
 
 unchanged_self : (disk : DiskState) → IsUnchanged disk disk
 unchanged_self disk = record { same_tells = refl; same_bytes = refl; same_images = λ image. (λ left. left, λ left. left); time = started disk (MayLeave disk) (λ image left. left) }
 
-always : {A : Type 0} (o : Option A) (P : A → Type 0) → ((x : A) → P x) → IfSome o P
-always None P all = tt
-always (Some x) P all = all x
-
-weaker : {A : Type 0} (o : Option A) (P Q : A → Type 0) → ((x : A) → P x → Q x) → IfSome o P → IfSome o Q
-weaker None P Q step some = tt
-weaker (Some x) P Q step some = step x some
-
 pub whole : (show : Bool) (left0 left1 : Option (List ℕ)) (bytes : List ℕ) (disk0 disk1 : DiskState) (out0 out1 log0 log1 : SinkState) (status : ℕ) → Consumes left0 left1 bytes → IsAtEnd left1 →
     HasOpened show bytes disk0 disk1 out0 out1 log0 log1 status → RunsBatch show left0 disk0 disk1 out0 out1 log0 log1 status
 whole show left0 left1 bytes disk0 disk1 out0 out1 log0 log1 status took end opened = record {
   runs = weaker left0 (λ xs. bytes ≡ xs) (λ xs. RunsScript show xs disk0 out0 out1 log0 log1 status)
-      (λ xs same. subst (λ (bs : List ℕ). RunsScript show bs disk0 out0 out1 log0 log1 status) same opened.runs) (Consumes-all left0 left1 bytes [] bytes took end refl);
+      (λ xs same. subst (λ (bs : List ℕ). RunsScript show bs disk0 out0 out1 log0 log1 status) same opened.runs) (read_whole left0 left1 bytes took end);
   unchanged = opened.unchanged;
   disk = opened.disk;
   not_index = opened.not_index;

@@ -15,7 +15,7 @@ use Rattle.plain_scan.specs.Written.{Writes, reply_texts}
 use Rattle.rows_text.specs.Script.{script}
 use Rattle.answer_texts.specs.Ending.{IsTold}
 use Rattle.answer_texts.proofs.Published.{told_behind}
-use Rattle.mtree_cli.specs.Run.{Asked, WritesScan, Ends, scan_texts}
+use Rattle.job_scan.specs.Jobs.{Asked, WritesScan, Ends, scan_texts}
 use Rattle.outside_io.proofs.Published.{rose_before}
 
 -- faults

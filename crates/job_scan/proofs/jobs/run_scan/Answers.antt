@@ -1,8 +1,8 @@
 use Rattle.std.proofs.Common.{◌≡◌, [], ℕ, List, ◌∙◌, refl}
-use Rattle.mtree_cli.specs.Run.{Asked}
-use Rattle.session_run.proofs.Published.{always, weaker, read_whole}
-use Rattle.mtree_cli.proofs.ProgramLemmas.{fault_writes, input_ends, long_ends, memory_ends, same_scan}
-use Rattle.mtree_cli.proofs.scan_job.run_scan.Goals as goal
+use Rattle.job_scan.specs.Jobs.{Asked}
+use Rattle.job_files.proofs.Published.{always, weaker, read_whole}
+use Rattle.job_scan.proofs.Endings.{fault_writes, input_ends, long_ends, memory_ends, same_scan}
+use Rattle.job_scan.proofs.jobs.run_scan.Goals as goal
 
 pub returns-in-Ok-clause-wrote : goal.returns-in-Ok-clause-wrote
 returns-in-Ok-clause-wrote g c =

@@ -1,4 +1,3 @@
-// The job `scan`: a script on a plain list.
 ghost use Rattle.std.specs.Prelude.{◌≡◌, ◌⊎◌, ◌≤◌, ◌^◌, length, IfSome};
 ghost use Rattle.std.specs.Io.KnownBytes.{IsAtEnd};
 ghost use Rattle.outside_io.specs.Bytes.{TakesUpTo};
@@ -9,7 +8,7 @@ ghost use Rattle.job_words.specs.Names.{kind_of};
 ghost use Rattle.metric_mix.specs.MixSpaces.{mix_space};
 ghost use Rattle.plain_scan.specs.Written.{reply_texts};
 ghost use Rattle.rows_text.specs.Script.{script};
-ghost use Rattle.mtree_cli.specs.Run.{IsScanStatus, WritesScan, scan_texts};
+ghost use Rattle.job_scan.specs.Jobs.{IsScanStatus, WritesScan, scan_texts};
 
 use job_files::{FAULT_INPUT, FAULT_LONG, FAULT_MEMORY, MOST_INPUT, end_with};
 use job_words::SpaceName;

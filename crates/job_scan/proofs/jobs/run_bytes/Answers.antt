@@ -1,6 +1,6 @@
 use Rattle.std.proofs.Common.{[]}
-use Rattle.mtree_cli.proofs.ProgramLemmas.{fault_writes, memory_ends, stopped}
-use Rattle.mtree_cli.proofs.scan_job.run_bytes.Goals as goal
+use Rattle.job_scan.proofs.Endings.{fault_writes, memory_ends, stopped}
+use Rattle.job_scan.proofs.jobs.run_bytes.Goals as goal
 
 pub returns-in_default-clause-wrote : goal.returns-in_default-clause-wrote
 returns-in_default-clause-wrote g c = fault_writes _ _ _ c.end_with.result.0 _ c.end_with.ensures.line (λ front line. memory_ends _ _ [] _ front c.end_with.ensures.status line)

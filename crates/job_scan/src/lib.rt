@@ -1,0 +1,6 @@
+//! The job `scan`: a script on a plain list.
+#![tactic(auto)]
+
+mod jobs;
+
+pub use jobs::run_scan;
