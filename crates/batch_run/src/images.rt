@@ -8,7 +8,7 @@ ghost use Rattle.batch_run.specs.Images.{HasBytes, IsImageOf, IsPartRead, HasIma
 use crate::Memory;
 use crate::gathering::all_done;
 use disk_model::{Disk, SharedDisk};
-use file_jobs::MOST_WHOLE_PAGES;
+use job_files::MOST_WHOLE_PAGES;
 use metric_laws::Listed;
 use outside_io::Failed;
 use page_store::Parts;

@@ -21,7 +21,7 @@ use Rattle.image_answers.specs.Outcomes.{IsOutcomeOf, IsTold}
 use Rattle.mtree_c.specs.declared.answering.TaggedHit.{TaggedHit}
 use Rattle.mtree_c.specs.declared.answering.Sizes.{Sizes}
 use Rattle.caller_ends.specs.Rooms.{StandAtFront}
-use Rattle.file_jobs.specs.Spaces.{space_of}
+use Rattle.job_files.specs.Spaces.{space_of}
 use Rattle.mtree_c.specs.Answers.{Answer, ComesTo, HandsAnswer, HasNoAnswer, IsAnswer, IsUnanswered, frame_for, sizes_of, status_of, tagged}
 use Rattle.mtree_c.proofs.Putting.{length-tagged}
 

@@ -9,23 +9,23 @@ use Rattle.outside_io.specs.Causes.{Rose}
 use Rattle.outside_io.specs.Sinks.{SinkState, Tells}
 use Rattle.disk_model.specs.Disk.{DiskState, IsUnchanged}
 use Rattle.slice_disk.specs.Held.{held}
-use Rattle.file_jobs.specs.Jobs.{Audits, IsAuditStatus, IsAudited, IsNoIndex, IsSoundWith}
-use Rattle.file_jobs.specs.Lines.{damaged_text, not_index_text, rejected_text, shape_text, sound_text}
-use Rattle.file_jobs.specs.Shapes.{IsDamaged, IsShapeOf, IsShapeStatus, IsSound, Shapes}
+use Rattle.job_files.specs.Jobs.{Audits, IsAuditStatus, IsAudited, IsNoIndex, IsSoundWith}
+use Rattle.job_files.specs.Lines.{damaged_text, not_index_text, rejected_text, shape_text, sound_text}
+use Rattle.job_files.specs.Shapes.{IsDamaged, IsShapeOf, IsShapeStatus, IsSound, Shapes}
 use Rattle.page_store.specs.Files.{IsLarge}
-use Rattle.seal_jobs.specs.Seals.{IsSealed, IsSealStatus, Seals, sealed_text}
-use Rattle.file_jobs.specs.Logs.Sayings.{Saying}
-use Rattle.file_jobs.specs.Logs.Jobs.{IsLogStatus, JudgesBytes, ReadsLogs, Writes}
+use Rattle.job_seal.specs.Seals.{IsSealed, IsSealStatus, Seals, sealed_text}
+use Rattle.job_files.specs.Logs.Sayings.{Saying}
+use Rattle.job_files.specs.Logs.Jobs.{IsLogStatus, JudgesBytes, ReadsLogs, Writes}
 use Rattle.caller_ends.specs.Rooms.{StandAtFront}
 use Rattle.mtree_c.specs.Rooms.{HandsText}
 use Rattle.prune_log.specs.Spelling.{frame_bytes}
-use Rattle.seal_jobs.specs.Proofs.{IsProofStatus, ProvesLogs, Shown}
-use Rattle.seal_jobs.specs.Carries.{CarriesLogs, CarriesOn, IsCarriedLogsStatus, IsDone, IsRefusal}
+use Rattle.job_seal.specs.Proofs.{IsProofStatus, ProvesLogs, Shown}
+use Rattle.job_seal.specs.Carries.{CarriesLogs, CarriesOn, IsCarriedLogsStatus, IsDone, IsRefusal}
 use Rattle.mtree_c.specs.declared.carrying.CarriedSizes.{CarriedSizes}
 use Rattle.mtree_c.specs.Carrying.{HandsCarried, IsCarriedText, carried_sizes}
-use Rattle.stats_jobs.specs.Jobs.{AreStatsOf, Stats, stats_text}
-use Rattle.dump_jobs.specs.Jobs.{Dumps, HoldsRows, IsDamaged as IsDumpDamaged, IsDumpStatus, fault_text}
-use Rattle.dump_jobs.specs.Scripts.{script_text}
+use Rattle.job_stats.specs.Jobs.{AreStatsOf, Stats, stats_text}
+use Rattle.job_dump.specs.Jobs.{Dumps, HoldsRows, IsDamaged as IsDumpDamaged, IsDumpStatus, fault_text}
+use Rattle.job_dump.specs.Scripts.{script_text}
 use Rattle.mtree_c.specs.Texts.{IsAuditText, IsDumpText, IsProofText, IsSealText, IsShapeText, IsStatsText, IsTextOnLogs, IsUnopenedText}
 
 pub unmoved : Rose 0 0 → ⊥

@@ -12,7 +12,7 @@ use Rattle.rows_text.specs.declared.command.Command.{Command}
 use Rattle.rows_text.specs.declared.command.Command.TheVariants as command
 use Rattle.rows_text.specs.declared.reply.Reply.TheVariants as reply
 use Rattle.rows_text.specs.Meaning.{has_points_of}
-use Rattle.file_jobs.specs.Jobs.{IsNoIndex}
+use Rattle.job_files.specs.Jobs.{IsNoIndex}
 use Rattle.image_answers.specs.declared.outcome.Outcome.{Outcome}
 use Rattle.image_answers.specs.declared.outcome.Outcome.TheVariants as outcome
 use Rattle.image_answers.specs.Outcomes.{IsOutcomeOf}
@@ -20,7 +20,7 @@ use Rattle.mtree_c.specs.declared.answering.TaggedHit.{TaggedHit}
 use Rattle.mtree_c.specs.declared.answering.Sizes.{Sizes}
 use Rattle.mtree_c.specs.declared.describing.Description.{Description}
 use Rattle.caller_ends.specs.Rooms.{StandAtFront}
-use Rattle.file_jobs.specs.Spaces.{space_of}
+use Rattle.job_files.specs.Spaces.{space_of}
 
 -- each hit with its tag
 abbrev pub tagged : List Hit → List ℕ → List TaggedHit

@@ -1,7 +1,7 @@
 -- What a call hands over of carried logs.
 use Rattle.std.specs.Prelude.{◌≡◌, ◌≢◌, ◌⊎◌, ◌<◌, ◌^◌, ℕ, List, [], length, codes, Some}
 use Rattle.page_store.specs.Files.{IsLarge}
-use Rattle.seal_jobs.specs.Carries.{CarriesOn, IsDone}
+use Rattle.job_seal.specs.Carries.{CarriesOn, IsDone}
 use Rattle.mtree_c.specs.declared.carrying.CarriedSizes.{CarriedSizes}
 use Rattle.caller_ends.specs.Rooms.{StandAtFront}
 use Rattle.mtree_c.specs.Texts.{IsUnopenedText}

@@ -14,8 +14,8 @@ use Rattle.log_model.specs.declared.logs.Log.{Log}
 use Rattle.rows_text.specs.declared.command.Command.{Command}
 use Rattle.rows_text.specs.declared.command.Command.TheVariants as command
 use Rattle.rows_text.specs.declared.reply.Reply.TheVariants as reply
-use Rattle.file_jobs.specs.Jobs.{IsNoIndex}
-use Rattle.file_jobs.specs.Spaces.{space_of}
+use Rattle.job_files.specs.Jobs.{IsNoIndex}
+use Rattle.job_files.specs.Spaces.{space_of}
 use Rattle.image_answers.specs.declared.outcome.Outcome.TheVariants as outcome
 use Rattle.image_answers.specs.Outcomes.{ArePagesOf}
 use Rattle.mtree_c.specs.declared.answering.TaggedHit.{TaggedHit}

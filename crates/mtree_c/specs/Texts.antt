@@ -2,27 +2,27 @@
 use Rattle.std.specs.Prelude.{◌≡◌, ◌⊎◌, ◌<◌, ◌^◌, ℕ, List, ◌++◌, length, codes, Some}
 use Rattle.std.specs.List.{concat, flat_map}
 use Rattle.tree_audit.specs.declared.faults.AuditFault.{AuditFault}
-use Rattle.file_jobs.specs.Jobs.{IsAudited, IsNoIndex, IsSoundWith}
-use Rattle.file_jobs.specs.Lines.{damaged_text, not_index_text, rejected_text, shape_text, sound_text}
-use Rattle.file_jobs.specs.Shapes.{IsDamaged, IsShapeOf, IsSound}
+use Rattle.job_files.specs.Jobs.{IsAudited, IsNoIndex, IsSoundWith}
+use Rattle.job_files.specs.Lines.{damaged_text, not_index_text, rejected_text, shape_text, sound_text}
+use Rattle.job_files.specs.Shapes.{IsDamaged, IsShapeOf, IsSound}
 use Rattle.node_page.specs.declared.head.Head.{Head}
 use Rattle.page_store.specs.declared.pages.PageFault.{PageFault}
 use Rattle.page_store.specs.Files.{IsLarge}
-use Rattle.seal_jobs.specs.Seals.{IsSealed, sealed_text}
+use Rattle.job_seal.specs.Seals.{IsSealed, sealed_text}
 use Rattle.tree_outline.specs.declared.outline.ShapeLine.{ShapeLine}
 use Rattle.tree_shape.specs.declared.live.Live.{Live}
-use Rattle.file_jobs.specs.declared.logs.report.Report.{Report}
-use Rattle.log_jobs.specs.Jobs.{Says}
-use Rattle.file_jobs.specs.Logs.Sayings.{Saying}
+use Rattle.job_files.specs.declared.logs.report.Report.{Report}
+use Rattle.job_logs.specs.Jobs.{Says}
+use Rattle.job_files.specs.Logs.Sayings.{Saying}
 use Rattle.prune_log.specs.Spelling.{frame_bytes}
-use Rattle.seal_jobs.specs.Proofs.{AreShown, IsEnd, Shown, all_accepted}
-use Rattle.stats_jobs.specs.declared.numbers.LevelNumbers.{LevelNumbers}
-use Rattle.stats_jobs.specs.Jobs.{AreStatsOf, stats_text}
-use Rattle.dump_jobs.specs.declared.fault.DumpFault.{DumpFault}
-use Rattle.dump_jobs.specs.Jobs.{HoldsRows, IsDamaged as IsDumpDamaged, fault_text}
-use Rattle.dump_jobs.specs.Scripts.{script_text}
-use Rattle.show_jobs.specs.declared.report.Marks.TheVariants as marks
-use Rattle.show_jobs.specs.Jobs.{Shows}
+use Rattle.job_seal.specs.Proofs.{AreShown, IsEnd, Shown, all_accepted}
+use Rattle.job_stats.specs.declared.numbers.LevelNumbers.{LevelNumbers}
+use Rattle.job_stats.specs.Jobs.{AreStatsOf, stats_text}
+use Rattle.job_dump.specs.declared.fault.DumpFault.{DumpFault}
+use Rattle.job_dump.specs.Jobs.{HoldsRows, IsDamaged as IsDumpDamaged, fault_text}
+use Rattle.job_dump.specs.Scripts.{script_text}
+use Rattle.job_show.specs.declared.report.Marks.TheVariants as marks
+use Rattle.job_show.specs.Jobs.{Shows}
 
 -- why the bytes are no file of version 2, in a line
 abbrev pub IsUnopenedText : List ℕ → List ℕ → Type 0

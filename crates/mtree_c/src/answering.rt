@@ -6,7 +6,7 @@ ghost use Rattle.log_model.specs.Grammar.{IsLawfulLog};
 ghost use Rattle.rows_text.specs.declared.command.Command.{Command};
 ghost use Rattle.rows_text.specs.declared.command.Command.TheVariants as command;
 ghost use Rattle.rows_text.specs.declared.reply.Reply.TheVariants as reply;
-ghost use Rattle.file_jobs.specs.Jobs.{IsNoIndex};
+ghost use Rattle.job_files.specs.Jobs.{IsNoIndex};
 ghost use Rattle.image_answers.specs.declared.outcome.Outcome.TheVariants as outcome;
 ghost use Rattle.image_answers.specs.Outcomes.{IsLawful};
 ghost use Rattle.mtree_c.specs.Answers.{ComesTo, HandsAnswer, HasNoAnswer, IsUnanswered, frame_for, status_of};
@@ -14,8 +14,8 @@ ghost use Rattle.mtree_c.specs.Answers.{ComesTo, HandsAnswer, HasNoAnswer, IsUna
 use crate::rooms::put_hits;
 use crate::{DAMAGED, MEMORY, NO_QUERY, SHORT};
 use caller_ends::{Gathered, put_front};
-use file_jobs::{open_index, space_of};
 use image_answers::{Memory, Outcome, nearest_outcome, range_outcome};
+use job_files::{open_index, space_of};
 use log_model::Log;
 use metric_laws::{Listed, Point};
 use node_page::Head;

@@ -6,8 +6,8 @@ ghost use Rattle.mtree_c.specs.Carrying.{HandsCarried, IsCarriedText, carried_si
 
 use crate::{MEMORY, SHORT};
 use caller_ends::{Gathered, SliceSource, put_front};
+use job_seal::carry_logs;
 use outside_io::Status;
-use seal_jobs::carry_logs;
 use slice_disk::SliceDisk;
 use std::alloc::Global;
 

@@ -7,11 +7,11 @@ ghost use Rattle.mtree_c.specs.Texts.{IsDumpText, IsSealText, IsShapeText, IsSta
 use crate::answering::open_file;
 use crate::rooms::hand_text;
 use caller_ends::Gathered;
-use dump_jobs::dump_index;
-use file_jobs::shape_index;
-use seal_jobs::seal_index;
+use job_dump::dump_index;
+use job_files::shape_index;
+use job_seal::seal_index;
+use job_stats::stats_index;
 use slice_disk::SliceDisk;
-use stats_jobs::stats_index;
 use std::alloc::Global;
 
 /// What the head and the live slot of an index file say.

@@ -10,8 +10,8 @@ ghost use Rattle.mtree_c.specs.Each.{AnswersRows, AnswersTo, AsksSome, HandsEach
 
 use crate::answering::{Answer, TaggedHit, answer_of, open_file};
 use crate::{MEMORY, NO_QUERY, SHORT};
-use file_jobs::space_of;
 use image_answers::{Memory, Outcome, cached_pages, nearest_on, range_on};
+use job_files::space_of;
 use metric_laws::{Metric, Point};
 use node_page::Head;
 use page_cache::Cached;

@@ -1,19 +1,19 @@
 // Audits a file and judges logs, and writes the lines of the program on them.
 ghost use Rattle.std.specs.Prelude.{◌≡◌};
-ghost use Rattle.log_jobs.specs.Laws.{FaultlessIsComplete};
-ghost use Rattle.file_jobs.specs.declared.logs.report.Report.TheVariants.{Answers, Verdicts};
+ghost use Rattle.job_logs.specs.Laws.{FaultlessIsComplete};
+ghost use Rattle.job_files.specs.declared.logs.report.Report.TheVariants.{Answers, Verdicts};
 ghost use Rattle.mtree_c.specs.Rooms.{HandsText};
-ghost use Rattle.seal_jobs.specs.Laws.{AcceptedShow};
+ghost use Rattle.job_seal.specs.Laws.{AcceptedShow};
 ghost use Rattle.mtree_c.specs.Texts.{IsAuditText, IsLogText, IsProofText, IsShownText};
 
 use crate::rooms::hand_text;
 use caller_ends::{Gathered, SliceSource};
-use file_jobs::audit_index;
-use log_jobs::laws::faultless_is_complete;
-use log_jobs::{check_logs, verify_logs};
-use seal_jobs::laws::accepted_show;
-use seal_jobs::prove_logs;
-use show_jobs::{Marks, show_logs};
+use job_files::audit_index;
+use job_logs::laws::faultless_is_complete;
+use job_logs::{check_logs, verify_logs};
+use job_seal::laws::accepted_show;
+use job_seal::prove_logs;
+use job_show::{Marks, show_logs};
 use slice_disk::SliceDisk;
 use std::alloc::Global;
 

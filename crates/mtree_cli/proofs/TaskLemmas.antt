@@ -19,26 +19,26 @@ use Rattle.job_words.specs.declared.names.Split.TheVariants.{Hyperplane, Balance
 use Rattle.std.specs.Borrow.{Bor}
 use Rattle.job_words.specs.Jobs.{job_of, texts_in}
 use Rattle.job_words.specs.declared.job.Job.{Job}
-use Rattle.file_jobs.specs.declared.logs.report.Report.{Report}
-use Rattle.log_jobs.specs.Jobs.{JudgesLogs}
-use Rattle.join_jobs.specs.Jobs.{Joins, JudgesLogs as JudgesJoinLogs}
-use Rattle.show_jobs.specs.declared.report.Marks.{Marks}
-use Rattle.show_jobs.specs.Jobs.{ShowsLogs}
-use Rattle.show_joins.specs.Jobs.{ShowsLogs as ShowsJoinLogs}
+use Rattle.job_files.specs.declared.logs.report.Report.{Report}
+use Rattle.job_logs.specs.Jobs.{JudgesLogs}
+use Rattle.job_join.specs.Jobs.{Joins, JudgesLogs as JudgesJoinLogs}
+use Rattle.job_show.specs.declared.report.Marks.{Marks}
+use Rattle.job_show.specs.Jobs.{ShowsLogs}
+use Rattle.job_show_joins.specs.Jobs.{ShowsLogs as ShowsJoinLogs}
 use Rattle.session_run.proofs.Published.{always, memory_session}
 use Rattle.mtree_cli.specs.Run.{Task, Uses, Scene, Does, HasTooManyPages, IsStatusOf, TakesWithin, nothing, scan_texts, task_of, uses, uses_of}
 use Rattle.std.proofs.lemmas.Bool.{true≢false}
 use Rattle.batch_run.specs.Jobs.Batches.{IsTooLong}
 use Rattle.batch_run.proofs.Published.{out_of_memory}
-use Rattle.making_jobs.specs.Jobs.{IsSummary, ids_of, points_of}
-use Rattle.making_jobs.proofs.Published.{no_memory, migrates_no_memory}
-use Rattle.making_jobs.specs.Migrating.{RefusesNothing}
+use Rattle.job_make.specs.Jobs.{IsSummary, ids_of, points_of}
+use Rattle.job_make.proofs.Published.{no_memory, migrates_no_memory}
+use Rattle.job_make.specs.Migrating.{RefusesNothing}
 use Rattle.mtree_cli.specs.Run.Task.{Scan, Create, Session, Shape, Stats, Dump, Show, ShowJoins, Audit, VerifyOrCheck, VerifyOrCheckJoins, Join, Gen, Migrate, Batch, Seal, ProofByIndex, ProofByDigest, NoTask}
-use Rattle.seal_jobs.specs.Seals.{Seals}
-use Rattle.seal_jobs.specs.Carries.{CarriesLogs}
-use Rattle.seal_jobs.specs.Proofs.{ProvesLogs}
-use Rattle.file_jobs.specs.declared.logs.stop.LogStop.{LogStop}
-use Rattle.file_jobs.specs.declared.logs.stop.LogStop.TheVariants as stop
+use Rattle.job_seal.specs.Seals.{Seals}
+use Rattle.job_seal.specs.Carries.{CarriesLogs}
+use Rattle.job_seal.specs.Proofs.{ProvesLogs}
+use Rattle.job_files.specs.declared.logs.stop.LogStop.{LogStop}
+use Rattle.job_files.specs.declared.logs.stop.LogStop.TheVariants as stop
 use Rattle.mtree_cli.proofs.ProgramLemmas.{fault_writes, memory_ends}
 
 -- the task of a job of the words

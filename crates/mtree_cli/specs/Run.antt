@@ -11,19 +11,19 @@ use Rattle.job_words.specs.declared.job.Job.{Job}
 use Rattle.job_words.specs.declared.names.PolicyNames.{PolicyNames}
 use Rattle.disk_model.specs.Disk.{DiskState}
 use Rattle.node_page.specs.declared.head.Head.{Head}
-use Rattle.file_jobs.specs.Jobs.{Creates, Audits, IsAuditStatus}
-use Rattle.file_jobs.specs.Shapes.{Shapes, IsShapeStatus}
-use Rattle.stats_jobs.specs.Jobs.{Stats as TellsStats}
-use Rattle.dump_jobs.specs.Jobs.{Dumps, IsDumpStatus}
-use Rattle.show_jobs.specs.declared.report.Marks.{Marks}
-use Rattle.show_jobs.specs.declared.report.Marks.TheVariants as marks
-use Rattle.show_jobs.specs.Jobs.{ShowsLogs}
-use Rattle.show_joins.specs.Jobs.{ShowsLogs as ShowsJoinLogs}
-use Rattle.file_jobs.specs.declared.logs.report.Report.{Report}
-use Rattle.file_jobs.specs.declared.logs.report.Report.TheVariants as report
-use Rattle.file_jobs.specs.Logs.Jobs.{IsLogStatus}
-use Rattle.log_jobs.specs.Jobs.{JudgesLogs}
-use Rattle.join_jobs.specs.Jobs.{Joins, IsJoinStatus, JudgesLogs as JudgesJoinLogs}
+use Rattle.job_files.specs.Jobs.{Creates, Audits, IsAuditStatus}
+use Rattle.job_files.specs.Shapes.{Shapes, IsShapeStatus}
+use Rattle.job_stats.specs.Jobs.{Stats as TellsStats}
+use Rattle.job_dump.specs.Jobs.{Dumps, IsDumpStatus}
+use Rattle.job_show.specs.declared.report.Marks.{Marks}
+use Rattle.job_show.specs.declared.report.Marks.TheVariants as marks
+use Rattle.job_show.specs.Jobs.{ShowsLogs}
+use Rattle.job_show_joins.specs.Jobs.{ShowsLogs as ShowsJoinLogs}
+use Rattle.job_files.specs.declared.logs.report.Report.{Report}
+use Rattle.job_files.specs.declared.logs.report.Report.TheVariants as report
+use Rattle.job_files.specs.Logs.Jobs.{IsLogStatus}
+use Rattle.job_logs.specs.Jobs.{JudgesLogs}
+use Rattle.job_join.specs.Jobs.{Joins, IsJoinStatus, JudgesLogs as JudgesJoinLogs}
 use Rattle.job_words.specs.declared.job.Job.TheVariants as job
 use Rattle.job_words.specs.declared.names.SpaceName.{SpaceName}
 use Rattle.metric_mix.specs.MixSpaces.{mix_space}
@@ -32,14 +32,14 @@ use Rattle.answer_texts.specs.Ending.{IsTold}
 use Rattle.session_run.specs.Job.{RunsSession, IsSessionStatus}
 use Rattle.rows_text.specs.Meaning.{Setting}
 use Rattle.rows_text.specs.Script.{script}
-use Rattle.making_jobs.specs.declared.generating.Generation.{Generation}
-use Rattle.making_jobs.specs.Jobs.{Generates, IsFillStatus}
-use Rattle.making_jobs.specs.Migrating.{Migrates, IsMigrateStatus, RefusesNothing}
+use Rattle.job_make.specs.declared.generating.Generation.{Generation}
+use Rattle.job_make.specs.Jobs.{Generates, IsFillStatus}
+use Rattle.job_make.specs.Migrating.{Migrates, IsMigrateStatus, RefusesNothing}
 use Rattle.page_store.specs.Files.{IsLarge}
 use Rattle.batch_run.specs.Jobs.Batches.{IsBatchStatus, RunsBatch}
-use Rattle.seal_jobs.specs.Seals.{Seals, IsSealStatus}
-use Rattle.seal_jobs.specs.Carries.{CarriesLogs, IsCarriedLogsStatus}
-use Rattle.seal_jobs.specs.Proofs.{ProvesLogs, IsProofStatus}
+use Rattle.job_seal.specs.Seals.{Seals, IsSealStatus}
+use Rattle.job_seal.specs.Carries.{CarriesLogs, IsCarriedLogsStatus}
+use Rattle.job_seal.specs.Proofs.{ProvesLogs, IsProofStatus}
 
 -- a scan: its space, the greatest number of objects, and whether tags are shown
 pub record Asked : Type 0 where

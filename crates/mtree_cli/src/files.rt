@@ -6,7 +6,7 @@ ghost use Rattle.job_words.specs.Jobs.{job_of};
 ghost use Rattle.mtree_cli.specs.Files.{EndsOnFiles, opened_names};
 
 use crate::program::run;
-use file_jobs::{FAULT_MEMORY, end_with};
+use job_files::{FAULT_MEMORY, end_with};
 use job_words::{FileNames, JobFault, files_of, no_files, read_job};
 use named_files::{Folder, Named, Opened, Refusal, open_files};
 use outside_io::{Sink, Source, Status};

@@ -19,8 +19,8 @@ mod telling;
 mod tests;
 mod watched;
 
-use file_jobs::{FAULT_MEMORY, end_with, put_line};
 use files::run_on_files;
+use job_files::{FAULT_MEMORY, end_with, put_line};
 use job_words::JobFault;
 use named_files::HostFolder;
 use outside_io::{StdSink, StdSource};

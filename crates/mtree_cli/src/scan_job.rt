@@ -11,7 +11,7 @@ ghost use Rattle.plain_scan.specs.Written.{reply_texts};
 ghost use Rattle.rows_text.specs.Script.{script};
 ghost use Rattle.mtree_cli.specs.Run.{IsScanStatus, WritesScan, scan_texts};
 
-use file_jobs::{FAULT_INPUT, FAULT_LONG, FAULT_MEMORY, MOST_INPUT, end_with};
+use job_files::{FAULT_INPUT, FAULT_LONG, FAULT_MEMORY, MOST_INPUT, end_with};
 use job_words::SpaceName;
 use metric_mix::MixSpace;
 use outside_io::{ReadAll, Sink, Source, Status, read_all};

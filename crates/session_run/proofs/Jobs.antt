@@ -18,8 +18,8 @@ use Rattle.shadow_root.specs.declared.faults.OpenFault.{OpenFault}
 use Rattle.shadow_root.specs.declared.faults.OpenFault.TheVariants as fault
 use Rattle.page_store.specs.Files.{IsSoundFile, nodes_in}
 use Rattle.index_core.specs.Causes.{HasReaderCause}
-use Rattle.file_jobs.specs.Jobs.{IsNoIndex, Refuses}
-use Rattle.file_jobs.proofs.Published.{no_index, rose_by_disk, no_index_unsound}
+use Rattle.job_files.specs.Jobs.{IsNoIndex, Refuses}
+use Rattle.job_files.proofs.Published.{no_index, rose_by_disk, no_index_unsound}
 use Rattle.tree_shape.specs.declared.live.Live.{Live}
 use Rattle.tree_shape.specs.Tree.{IsSoundTree}
 use Rattle.index_core.specs.Answers.{IsSoundOn}
@@ -28,7 +28,7 @@ use Rattle.index_core.specs.Files.{IsLawfulFile, nodes_on}
 use Rattle.index_core.specs.Index.{OpenIndex, StandsAlone}
 use Rattle.index_core.proofs.Published.{holds}
 use Rattle.session_run.proofs.Reading.{objects_on}
-use Rattle.file_jobs.specs.Lines.{not_index_text, unopened_name, unopened_text}
+use Rattle.job_files.specs.Lines.{not_index_text, unopened_name, unopened_text}
 use Rattle.rows_text.specs.declared.command.Command.{Command}
 use Rattle.rows_text.specs.Meaning.{State}
 use Rattle.rows_text.specs.Script.{script}
@@ -41,7 +41,7 @@ use Rattle.answer_texts.specs.Ending.{IsTold, TellsFault}
 use Rattle.answer_texts.proofs.Published.{told_behind, disk_ends, input_ends, long_ends, memory_ends, line_alone, disk_told, input_told, long_told, memory_told, none_told}
 use Rattle.session_run.specs.Turns.{AreTurns, Turn, answers_of, held_on}
 use Rattle.session_run.proofs.Taken.{always, read_whole, unfinished, weaker}
-use Rattle.file_jobs.specs.Spaces.{space_of}
+use Rattle.job_files.specs.Spaces.{space_of}
 use Rattle.session_run.specs.Job.{HasEnded, HasFinished, HasRefused, HoldsFront, IsComplete, IsLeft, Leaves, LeavesAll, ReadsFew, ReadsAsked, ReadsScript, RunsOn, RunsAsked, RunsScript, RunsSession, SessionEnds, asked_by, setting_in, state_in}
 use Rattle.outside_io.proofs.Published.{rose_before}
 

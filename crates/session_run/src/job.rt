@@ -9,7 +9,7 @@ ghost use Rattle.index_core.specs.Files.{nodes_on};
 ghost use Rattle.index_core.specs.Index.{MayGoOn};
 ghost use Rattle.std.specs.List.{AllByRecursion};
 ghost use Rattle.session_run.specs.Session.{IsAsking};
-ghost use Rattle.file_jobs.specs.Spaces.{space_of};
+ghost use Rattle.job_files.specs.Spaces.{space_of};
 ghost use Rattle.session_run.specs.Job.{HasEnded, HasFinished, HasRefused, IsComplete, IsSessionStatus, LeavesAll, ReadsAsked, ReadsFew, RunsAsked, RunsOn, RunsSession, state_in};
 
 use crate::requests::{Requests, ScriptBytes};
@@ -17,11 +17,11 @@ use crate::running::session;
 use crate::stop::SessionStop;
 use bulk_load::Crew;
 use disk_model::Disk;
-use file_jobs::{
+use index_core::Index;
+use job_files::{
     FAULT_DISK, FAULT_INPUT, FAULT_LONG, FAULT_MEMORY, MOST_INPUT, damaged_text, end_unopened,
     end_with, open_index, space_of,
 };
-use index_core::Index;
 use metric_laws::Metric;
 use metric_mix::MixSpace;
 use node_page::laws::{fault_is_not_open, one_live_slot};

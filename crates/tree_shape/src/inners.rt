@@ -52,7 +52,7 @@ fn inner_at(numbers: &[u32], dim: u8, index: usize) -> InnerRef<'_>
     }
 }
 
-// Takes the subtrees out of one list of numbers, of which their points stay parts.
+// Takes the subtrees out of one list of numbers. Their points stay parts of it.
 fn into_inners(alloc: Global, flat: FlatEntries) -> Result<Vec<InnerEntry>, AllocError>
     ensures { IfOk result (λ entries. entries.items ≡ flat_inners flat) }
 {
@@ -91,6 +91,7 @@ impl InnerEntries {
     }
 
     /// Returns the number of subtrees.
+    #[inline(always)]
     pub fn len(&self) -> usize
         ensures { result ≡ length self.now }
     {
@@ -101,6 +102,8 @@ impl InnerEntries {
     }
 
     /// Returns subtree `index`.
+    // The loops over entries are in other crates, and most of them look at two fields.
+    #[inline(always)]
     pub fn at(&self, index: usize) -> InnerRef<'_>
         requires { index < length self.now }
         ensures { inner_of result ≡ slice_index_or self.now index (inner_of result) }

@@ -52,7 +52,7 @@ fn leaf_at(numbers: &[u32], dim: u8, index: usize) -> LeafRef<'_>
     }
 }
 
-// Takes the objects out of one list of numbers, of which their points stay parts.
+// Takes the objects out of one list of numbers. Their points stay parts of it.
 fn into_leaves(alloc: Global, flat: FlatEntries) -> Result<Vec<LeafEntry>, AllocError>
     ensures { IfOk result (λ entries. entries.items ≡ flat_leaves flat) }
 {
@@ -91,6 +91,7 @@ impl LeafEntries {
     }
 
     /// Returns the number of objects.
+    #[inline(always)]
     pub fn len(&self) -> usize
         ensures { result ≡ length self.now }
     {
@@ -101,6 +102,8 @@ impl LeafEntries {
     }
 
     /// Returns object `index`.
+    // The loops over entries are in other crates, and most of them look at two fields.
+    #[inline(always)]
     pub fn at(&self, index: usize) -> LeafRef<'_>
         requires { index < length self.now }
         ensures { leaf_of result ≡ slice_index_or self.now index (leaf_of result) }

@@ -13,15 +13,15 @@ use Rattle.node_page.specs.Laws.{FaultIsNotOpen, OneLiveSlot}
 use Rattle.node_page.specs.Opening.{OpensTo}
 use Rattle.page_store.specs.Files.{IsSoundFile, nodes_in}
 use Rattle.page_store.specs.Reading.{Read, nodes_of, reading}
-use Rattle.file_jobs.specs.Jobs.{Refuses}
-use Rattle.file_jobs.proofs.Published.{no_index_unsound}
+use Rattle.job_files.specs.Jobs.{Refuses}
+use Rattle.job_files.proofs.Published.{no_index_unsound}
 use Rattle.batch_run.specs.declared.images.ImageFault.{ImageFault}
 use Rattle.batch_run.specs.declared.images.ImageFault.TheVariants as fault
 use Rattle.batch_run.specs.Images.{HasImageCause, ImagesHoldTheFile, IsImageOf}
 use Rattle.answer_texts.specs.Asked.{Held, held_in}
 use Rattle.answer_texts.proofs.Published.{disk_ends, disk_told, input_ends, line_alone, long_ends, long_told, memory_ends, memory_told, none_told}
 use Rattle.image_answers.specs.Outcomes.{HasDamage}
-use Rattle.file_jobs.specs.Spaces.{space_of}
+use Rattle.job_files.specs.Spaces.{space_of}
 use Rattle.batch_run.specs.Jobs.Batches.{HasFinished, HasOpened, RunsOn, RunsScript}
 use Rattle.batch_run.proofs.jobs.Running.{unread}
 use Rattle.outside_io.proofs.Published.{rose_before}

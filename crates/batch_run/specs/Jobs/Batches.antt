@@ -16,14 +16,14 @@ use Rattle.node_page.specs.Opening.{OpensTo}
 use Rattle.page_store.specs.declared.pages.PageFault.{PageFault}
 use Rattle.page_store.specs.Files.{IsSoundFile, IsLarge}
 use Rattle.page_store.specs.Reading.{reading}
-use Rattle.file_jobs.specs.Jobs.{IsIndex, IsNoIndex}
-use Rattle.file_jobs.specs.Lines.{not_index_text, damaged_text}
+use Rattle.job_files.specs.Jobs.{IsIndex, IsNoIndex}
+use Rattle.job_files.specs.Lines.{not_index_text, damaged_text}
 use Rattle.answer_texts.specs.Answered.{Answered, commands_of, framed, if_any, logs_of, texts_of}
 use Rattle.answer_texts.specs.Asked.{Held, held_in}
 use Rattle.answer_texts.specs.Ending.{Ends, EndsIn, TellsFault}
 use Rattle.answer_texts.specs.Put.{AreCut}
 use Rattle.image_answers.specs.Outcomes.{HasDamage, IsTurn}
-use Rattle.file_jobs.specs.Spaces.{space_of}
+use Rattle.job_files.specs.Spaces.{space_of}
 
 -- For the command after the acknowledged ones, a front of its log's frame was put; or all of the frame, and a front of its reply.
 pub record IsCutShort (s : Space) (show : Bool) (held : Held) (more : List Command) (rest log_rest : List ℕ) : Type 0 where

@@ -3,7 +3,7 @@ use Rattle.std.specs.Prelude.{◌≡◌, ◌⊎◌, ℕ, List, [], ◌∷◌, �
 use Rattle.std.specs.List.{AllByRecursion}
 use Rattle.std.specs.Io.KnownBytes.{Appends}
 use Rattle.outside_io.specs.Sinks.{SinkState, Tells}
-use Rattle.file_jobs.specs.Lines.{damaged_text}
+use Rattle.job_files.specs.Lines.{damaged_text}
 use Rattle.answer_texts.specs.Put.{AreCut, IsCut}
 use Rattle.page_store.specs.Shelf.{IsDamage}
 use Rattle.batch_run.specs.declared.jobs.piles.Prepared.{Prepared}

@@ -2,16 +2,16 @@
 ghost use Rattle.std.specs.Prelude.{◌≡◌, ◌≤◌, ◌^◌, None, length, IsTrue, IfOk, IfErr};
 ghost use Rattle.outside_io.specs.Causes.{Rose};
 ghost use Rattle.disk_model.specs.Disk.{IsUnchanged};
-ghost use Rattle.file_jobs.specs.Spaces.{space_of};
+ghost use Rattle.job_files.specs.Spaces.{space_of};
 ghost use Rattle.tree_shape.specs.Tree.{pages_at};
 ghost use Rattle.node_page.specs.Heads.{IsLawfulHead};
 ghost use Rattle.page_store.specs.Reading.{reading, nodes_of};
 ghost use Rattle.tree_audit.specs.Audited.{audit_fault};
-ghost use Rattle.file_jobs.specs.Jobs.{Audits, HasFault, IsAuditStatus};
+ghost use Rattle.job_files.specs.Jobs.{Audits, HasFault, IsAuditStatus};
 
 use crate::sound_by_parts;
 use disk_model::SharedDisk;
-use file_jobs::{MOST_WHOLE_PAGES, audit_opened, end_rejected, end_sound, open_index, space_of};
+use job_files::{MOST_WHOLE_PAGES, audit_opened, end_rejected, end_sound, open_index, space_of};
 use node_page::Head;
 use outside_io::{Sink, Status};
 use std::alloc::Global;

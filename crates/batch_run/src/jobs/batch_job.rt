@@ -8,7 +8,7 @@ ghost use Rattle.node_page.specs.Heads.{IsLawfulHead};
 ghost use Rattle.page_store.specs.Files.{nodes_in};
 ghost use Rattle.page_store.specs.Images.{bytes_in};
 ghost use Rattle.answer_texts.specs.Asked.{held_in};
-ghost use Rattle.file_jobs.specs.Spaces.{space_of};
+ghost use Rattle.job_files.specs.Spaces.{space_of};
 ghost use Rattle.batch_run.specs.Jobs.Batches.{HasFinished, HasOpened, IsBatchStatus, IsTooLong, RunsBatch, RunsOn};
 ghost use Rattle.batch_run.specs.Jobs.Putting.{HasEnded};
 
@@ -19,7 +19,7 @@ use crate::jobs::stop::BatchStop;
 use crate::laws::images_hold_the_file;
 use crate::{ImageFault, read_parts};
 use disk_model::SharedDisk;
-use file_jobs::{
+use job_files::{
     FAULT_DISK, FAULT_INPUT, FAULT_LONG, FAULT_MEMORY, MOST_INPUT, end_at_page, end_with,
     open_index, space_of,
 };

@@ -1,5 +1,5 @@
 use Rattle.std.proofs.Common.{inl, inr, List, ℕ, refl, subst}
-use Rattle.file_jobs.specs.Jobs.{IsNoIndex}
+use Rattle.job_files.specs.Jobs.{IsNoIndex}
 use Rattle.mtree_c.proofs.Told.{unwritten}
 use Rattle.mtree_c.proofs.answering.open_file.Goals as goal
 

@@ -1,8 +1,8 @@
 use Rattle.std.proofs.Common.{refl, ap, arith, List, ℕ}
 use Rattle.std.specs.Prelude.{Some}
 use Rattle.slice_disk.specs.Held.{held}
-use Rattle.file_jobs.specs.declared.logs.report.Report.TheVariants.{Answers}
-use Rattle.log_jobs.specs.Jobs.{IsOnlyRead, Says}
+use Rattle.job_files.specs.declared.logs.report.Report.TheVariants.{Answers}
+use Rattle.job_logs.specs.Jobs.{IsOnlyRead, Says}
 use Rattle.mtree_c.specs.Texts.{IsLogText}
 use Rattle.mtree_c.proofs.Told.{hands_text, log_text, unmoved, unwritten}
 use Rattle.mtree_c.proofs.judging.mtree_check.Goals as goal

@@ -2,8 +2,8 @@ use Rattle.std.proofs.Common.{refl, ap, arith, List, ℕ}
 use Rattle.std.specs.Prelude.{Some}
 use Rattle.slice_disk.specs.Held.{held}
 use Rattle.disk_model.specs.Disk.{IsUnchanged}
-use Rattle.show_jobs.specs.declared.report.Marks.TheVariants.{Each}
-use Rattle.show_jobs.specs.Jobs.{Shows}
+use Rattle.job_show.specs.declared.report.Marks.TheVariants.{Each}
+use Rattle.job_show.specs.Jobs.{Shows}
 use Rattle.mtree_c.specs.Texts.{IsShownText}
 use Rattle.mtree_c.proofs.Told.{hands_text, log_text, unmoved, unwritten}
 use Rattle.mtree_c.proofs.judging.mtree_show.Goals as goal

@@ -2,7 +2,7 @@ use Rattle.std.proofs.Common.{refl, inl, sym, subst, arith}
 use Rattle.job_words.specs.Words.{texts_of}
 use Rattle.job_words.specs.Jobs.{job_of}
 use Rattle.job_words.specs.declared.job.Job.TheVariants as job
-use Rattle.file_jobs.specs.declared.logs.report.Report.TheVariants.{Verdicts, Answers}
+use Rattle.job_files.specs.declared.logs.report.Report.TheVariants.{Verdicts, Answers}
 use Rattle.mtree_cli.specs.Run.{Does, HasTooManyPages, Task, TakesWithin, task_of, uses}
 use Rattle.mtree_cli.proofs.TaskLemmas.{scene, task_is, is_used, unchanged, memory_does, memory_status, nothing_taken, input_taken, batch_taken, seal_taken, carried_taken, proofs_taken, logs_taken, logs_rose, join_logs_taken, join_logs_rose, join_rose, shown_taken, shown_rose, shown_joins_taken, shown_joins_rose}
 use Rattle.mtree_cli.proofs.program.run.Goals as goal

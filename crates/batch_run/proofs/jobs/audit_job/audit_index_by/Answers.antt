@@ -4,8 +4,8 @@ use Rattle.disk_model.specs.Moments.{then_unchanged}
 use Rattle.metric_mix.specs.MixSpaces.{mix_space}
 use Rattle.page_store.specs.Reading.{reading}
 use Rattle.tree_audit.specs.Audited.{audit_fault}
-use Rattle.file_jobs.specs.Jobs.{IsAudited, IsPassing}
-use Rattle.file_jobs.proofs.Published.{neither, audited_before, sound_before, told_by, audit_rose, none_of_three, none_of_four}
+use Rattle.job_files.specs.Jobs.{IsAudited, IsPassing}
+use Rattle.job_files.proofs.Published.{neither, audited_before, sound_before, told_by, audit_rose, none_of_three, none_of_four}
 use Rattle.batch_run.proofs.jobs.audit_job.audit_index_by.Goals as goal
 use Rattle.outside_io.proofs.Published.{rose_before}
 

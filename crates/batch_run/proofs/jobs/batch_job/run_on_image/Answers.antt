@@ -10,7 +10,7 @@ use Rattle.page_store.specs.Images.{bytes_in}
 use Rattle.batch_run.specs.Dealing.{Rounds}
 use Rattle.batch_run.specs.Jobs.Preparing.{AreStacked, IsPreparedFor}
 use Rattle.batch_run.proofs.jobs.Piling.{stacked, zipped_in}
-use Rattle.file_jobs.specs.Spaces.{space_of}
+use Rattle.job_files.specs.Spaces.{space_of}
 use Rattle.batch_run.proofs.jobs.Running.{all_put, finished, out_of_memory, stopped, unread}
 use Rattle.batch_run.proofs.jobs.batch_job.run_on_image.Goals as goal
 

@@ -1,7 +1,0 @@
-use Rattle.std.proofs.Common.{◌≡◌, ◌++◌, take}
-use Rattle.rows_text.specs.Texts.{coordinates_text}
-use Rattle.dump_jobs.proofs.rows.push_coordinates.Given as goal
-
--- the coordinates so far are written
-abbrev pub invariant-loop-x : goal.invariant-loop-x
-invariant-loop-x l = l.out.items ≡ l.fn.out.items ++ coordinates_text (take l.x-index l.point)

@@ -1,5 +1,0 @@
-use Rattle.file_jobs.proofs.Telling.{told}
-use Rattle.file_jobs.proofs.lines.end_with.Goals as goal
-
-pub returns-clause-line : goal.returns-clause-line
-returns-clause-line g c = told c.put.result c.put.ensures.ok c.put.ensures.err c.put.ensures.cause.failed

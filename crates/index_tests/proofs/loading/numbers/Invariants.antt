@@ -1,6 +1,0 @@
-use Rattle.std.proofs.Common.{◌≡◌, length}
-use Rattle.std.specs.Prelude.{All, IsTrue}
-use Rattle.index_tests.proofs.loading.numbers.Given as goal
-
-abbrev pub invariant-loop-x : goal.invariant-loop-x
-invariant-loop-x g l = (l.rows.words ≡ 1) × (length l.rows.points ≡ l.x) × All (λ p. IsTrue ((g.M.Metric.space l.metric).fits p)) l.rows.points

@@ -1,5 +1,0 @@
-use Rattle.index_core.specs.Index.{MayGoOn}
-use Rattle.index_tests.proofs.trial.insert_all.Given as goal
-
-abbrev pub invariant-loop-x : goal.invariant-loop-x
-invariant-loop-x g l = MayGoOn l.index (g.D.Disk.state l.disk)

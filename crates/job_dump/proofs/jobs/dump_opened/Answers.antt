@@ -1,0 +1,8 @@
+use Rattle.job_files.proofs.Published.{space_by_head}
+use Rattle.job_dump.proofs.jobs.dump_opened.Goals as goal
+
+pub new-pages-requires-clause-some : goal.new-pages-requires-clause-some
+new-pages-requires-clause-some g c = (space_by_head c.args.head.now.kind c.args.head.now.dim c.requires.head.space).low_dim
+
+pub new-pages-requires-clause-few : goal.new-pages-requires-clause-few
+new-pages-requires-clause-few g c = (space_by_head c.args.head.now.kind c.args.head.now.dim c.requires.head.space).high_dim

@@ -1,0 +1,240 @@
+// The line of an entry beside another item, and the test of its mark.
+ghost use Rattle.std.specs.Prelude.{◌≡◌, ◌++◌, ◌+◌, ◌<◌, ◌^◌, [], ◌∷◌, OnOk, IfOk};
+ghost use Rattle.tree_shape.specs.Entries.{inner_of, leaf_of};
+ghost use Rattle.log_model.specs.declared.marks.Mark.TheVariants.{Skip, Near};
+ghost use Rattle.log_model.specs.Walk.{near_ones};
+ghost use Rattle.log_model.specs.JoinWalk.{allows_entry, object_entry, subtree_entry, with_entry, within_apart};
+ghost use Rattle.log_model.specs.JoinSteps.{apart_from, needs_among, paired};
+ghost use Rattle.job_show.specs.Steps.{space_in};
+ghost use Rattle.job_show_joins.specs.Walks.{pair_entry_line};
+ghost use Rattle.job_show_joins.specs.Steps.{search_by};
+
+use crate::reasons::{item_radius, push_pair_reason};
+use crate::{PairComing, PairReach};
+use job_show::push_place;
+use log_model::{JoinNeed, JoinProbe, Mark, Matches, is_far, is_skipped};
+use metric_laws::Meter;
+use metric_mix::MixSpace;
+use outside_io::Memory;
+use std::alloc::Global;
+use tree_shape::{InnerRef, LeafRef};
+
+// What a walk searches by.
+#[derive(Clone, Copy)]
+pub struct PairSearch {
+    // The allocator for copied points.
+    pub alloc: Global,
+    // The space of both trees.
+    pub space: MixSpace,
+    // The radius that prunes.
+    pub rho: u64,
+}
+
+// What the entries of an opened node are tested by.
+#[derive(Clone, Copy)]
+pub struct PairGauge<'a> {
+    // The search.
+    pub search: PairSearch,
+    // The pair whose item of greater rank is opened.
+    pub coming: &'a PairComing,
+}
+
+// The test of a mark.
+#[derive(Clone, Copy)]
+pub struct PairTested {
+    // Whether the mark is allowed.
+    pub allowed: bool,
+    // The distance of the entry from the other item, where that has a centre and the mark is not Skip.
+    pub apart: Option<u64>,
+}
+
+// Returns whether two objects are an answer, by their distance.
+fn is_within(apart: Option<u64>, rho: u64) -> bool
+    ensures { result ≡ within_apart apart rho }
+{
+    match apart {
+        None => false,
+        Some(dist) => dist <= rho,
+    }
+}
+
+// Returns the distance of an entry's point from the other item, where that has a centre.
+fn apart_from(space: MixSpace, need: &JoinNeed, point: &[u32]) -> Option<u64>
+    ensures { result ≡ apart_from (space_in space) need.now point.now }
+{
+    let mut ruler = Meter::new(space);
+    need.apart_from(&mut ruler, point)
+}
+
+// Tests the mark of an object.
+fn test_object(gauge: PairGauge, entry: LeafRef, mark: Mark) -> PairTested
+    ensures allowed { result.allowed ≡ allows_entry (search_by gauge.entry.search) gauge.entry.coming.now.need
+        (object_entry (leaf_of entry.entry)) mark }
+    ensures apart { (mark ≡ Skip → ⊥) →
+        result.apart ≡ (with_entry (space_in gauge.entry.search.space) gauge.entry.coming.now.need (object_entry (leaf_of entry.entry))).apart }
+{
+    let need = &gauge.coming.need;
+    let reach = need.other().radius();
+    let point = entry.point;
+    match mark {
+        Mark::Skip => PairTested {
+            allowed: is_skipped(need.apart, entry.parent, gauge.search.rho, 0, reach),
+            apart: None,
+        },
+        Mark::Far => {
+            let apart = apart_from(gauge.search.space, need, point);
+            PairTested {
+                allowed: is_far(apart, gauge.search.rho, 0, reach),
+                apart,
+            }
+        }
+        Mark::Near => {
+            let apart = apart_from(gauge.search.space, need, point);
+            PairTested {
+                allowed: !need.other().is_object() || is_within(apart, gauge.search.rho),
+                apart,
+            }
+        }
+    }
+}
+
+// Tests the mark of a subtree, which an inner node of level `level` names.
+fn test_subtree(gauge: PairGauge, level: u8, entry: InnerRef, mark: Mark) -> PairTested
+    ensures allowed { result.allowed ≡ allows_entry (search_by gauge.entry.search) gauge.entry.coming.now.need
+        (subtree_entry level (inner_of entry.entry)) mark }
+    ensures apart { (mark ≡ Skip → ⊥) →
+        result.apart ≡ (with_entry (space_in gauge.entry.search.space) gauge.entry.coming.now.need (subtree_entry level (inner_of entry.entry))).apart }
+{
+    let need = &gauge.coming.need;
+    let reach = need.other().radius();
+    let point = entry.point;
+    match mark {
+        Mark::Skip => PairTested {
+            allowed: is_skipped(
+                need.apart,
+                entry.parent,
+                gauge.search.rho,
+                entry.radius,
+                reach,
+            ),
+            apart: None,
+        },
+        Mark::Far => {
+            let apart = apart_from(gauge.search.space, need, point);
+            PairTested {
+                allowed: is_far(apart, gauge.search.rho, entry.radius, reach),
+                apart,
+            }
+        }
+        Mark::Near => PairTested {
+            allowed: true,
+            apart: apart_from(gauge.search.space, need, point),
+        },
+    }
+}
+
+// Appends the line of an object, and returns the test of its mark.
+pub fn show_object(
+    gauge: PairGauge,
+    place: u64,
+    entry: LeafRef,
+    mark: Mark,
+    out: &mut Vec<u8>,
+) -> Result<PairTested, Memory>
+    requires { gauge.coming.now.depth + 1 < 2 ^ 32 }
+    ensures line { OnOk result (out.new.items ≡ out.old.items ++
+        pair_entry_line (search_by gauge.entry.search) gauge.entry.coming.now place (object_entry (leaf_of entry.entry)) mark) }
+    ensures allowed { IfOk result (λ tested. tested.allowed ≡
+        allows_entry (search_by gauge.entry.search) gauge.entry.coming.now.need (object_entry (leaf_of entry.entry)) mark) }
+    ensures apart { IfOk result (λ tested. mark ≡ Near → tested.apart ≡
+        (with_entry (space_in gauge.entry.search.space) gauge.entry.coming.now.need (object_entry (leaf_of entry.entry))).apart) }
+{
+    let tested = test_object(gauge, entry, mark);
+    let need = &gauge.coming.need;
+    let reach = PairReach {
+        rho: gauge.search.rho,
+        own: None,
+        other: item_radius(need.other()),
+    };
+    push_place(gauge.coming.depth + 1, place, b" object ", entry.id, out)?;
+    push_pair_reason(need.apart, entry.parent, tested.apart, reach, mark, out)?;
+    out.extend_from_slice(b"\n")?;
+    Ok(tested)
+}
+
+// Appends the line of a subtree, and returns the test of its mark.
+pub fn show_subtree(
+    gauge: PairGauge,
+    level: u8,
+    place: u64,
+    entry: InnerRef,
+    mark: Mark,
+    out: &mut Vec<u8>,
+) -> Result<PairTested, Memory>
+    requires { gauge.coming.now.depth + 1 < 2 ^ 32 }
+    ensures line { OnOk result (out.new.items ≡ out.old.items ++
+        pair_entry_line (search_by gauge.entry.search) gauge.entry.coming.now place (subtree_entry level (inner_of entry.entry)) mark) }
+    ensures allowed { IfOk result (λ tested. tested.allowed ≡
+        allows_entry (search_by gauge.entry.search) gauge.entry.coming.now.need (subtree_entry level (inner_of entry.entry)) mark) }
+    ensures apart { IfOk result (λ tested. mark ≡ Near → tested.apart ≡
+        (with_entry (space_in gauge.entry.search.space) gauge.entry.coming.now.need (subtree_entry level (inner_of entry.entry))).apart) }
+{
+    let tested = test_subtree(gauge, level, entry, mark);
+    let need = &gauge.coming.need;
+    let reach = PairReach {
+        rho: gauge.search.rho,
+        own: Some(entry.radius),
+        other: item_radius(need.other()),
+    };
+    push_place(gauge.coming.depth + 1, place, b" child ", entry.child, out)?;
+    push_pair_reason(need.apart, entry.parent, tested.apart, reach, mark, out)?;
+    out.extend_from_slice(b"\n")?;
+    Ok(tested)
+}
+
+// Adds the pair of an object that is marked Near, at the distance `apart`.
+pub fn name_object(
+    gauge: PairGauge,
+    entry: LeafRef,
+    mark: Mark,
+    apart: Option<u64>,
+    named: &mut Matches,
+) -> Result<(), Memory>
+    ensures { OnOk result (named.new.needs.items ≡ named.old.needs.items ++ needs_among
+        (near_ones (paired gauge.entry.coming.now.need (object_entry (leaf_of entry.entry)).item apart ∷ []) (mark ∷ []))) }
+{
+    let probe = JoinProbe {
+        alloc: gauge.search.alloc,
+        need: &gauge.coming.need,
+        rho: gauge.search.rho,
+        reach: gauge.coming.need.other().radius(),
+    };
+    match mark {
+        Mark::Near => named.add_object(probe, entry, apart),
+        Mark::Skip | Mark::Far => Ok(()),
+    }
+}
+
+// Adds the pair of a subtree that is marked Near, at the distance `apart`.
+pub fn name_subtree(
+    gauge: PairGauge,
+    level: u8,
+    entry: InnerRef,
+    mark: Mark,
+    apart: Option<u64>,
+    named: &mut Matches,
+) -> Result<(), Memory>
+    ensures { OnOk result (named.new.needs.items ≡ named.old.needs.items ++ needs_among
+        (near_ones (paired gauge.entry.coming.now.need (subtree_entry level (inner_of entry.entry)).item apart ∷ []) (mark ∷ []))) }
+{
+    let probe = JoinProbe {
+        alloc: gauge.search.alloc,
+        need: &gauge.coming.need,
+        rho: gauge.search.rho,
+        reach: gauge.coming.need.other().radius(),
+    };
+    match mark {
+        Mark::Near => named.add_subtree(probe, level, entry, apart),
+        Mark::Skip | Mark::Far => Ok(()),
+    }
+}

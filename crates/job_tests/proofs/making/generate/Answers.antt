@@ -1,7 +1,0 @@
-use Rattle.std.proofs.Common.{refl}
-use Rattle.node_page.specs.Heads.{is_version, is_space, is_policy, is_limit}
-use Rattle.job_tests.proofs.making.generate.Goals as goal
-
-pub generate_index-requires-clause-lawful : goal.generate_index-requires-clause-lawful
-unfolding is_version is_space is_policy is_limit
-generate_index-requires-clause-lawful g c = record { version = refl; space = refl; policy = refl; limit = refl }

@@ -1,6 +1,0 @@
-use Rattle.std.proofs.Common.{◌≡◌}
-use Rattle.making_jobs.specs.Generator.{generated_row}
-use Rattle.making_jobs.proofs.generator.fill_row.Given as goal
-
-abbrev pub invariant-loop-j : goal.invariant-loop-j
-invariant-loop-j l = l.row.items ≡ generated_row l.seed l.j l.i

@@ -1,6 +1,0 @@
-use Rattle.std.proofs.Common.{◌≡◌}
-use Rattle.making_jobs.specs.Generator.{generated_rows}
-use Rattle.making_jobs.proofs.generator.generated_rows.Given as goal
-
-abbrev pub invariant-loop-i : goal.invariant-loop-i
-invariant-loop-i l = l.rows ≡ record { words = l.dim; points = generated_rows l.seed l.dim l.i }

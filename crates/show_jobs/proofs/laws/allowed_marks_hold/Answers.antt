@@ -1,5 +1,0 @@
-use Rattle.show_jobs.proofs.Wholeness.{object_holds, subtree_holds}
-use Rattle.show_jobs.proofs.laws.allowed_marks_hold.Goals as goal
-
-pub returns : goal.returns
-returns c f above = (object_holds f above, subtree_holds f above)

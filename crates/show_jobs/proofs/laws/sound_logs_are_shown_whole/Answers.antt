@@ -1,5 +1,0 @@
-use Rattle.show_jobs.proofs.Wholeness.{sound_whole}
-use Rattle.show_jobs.proofs.laws.sound_logs_are_shown_whole.Goals as goal
-
-pub returns : goal.returns
-returns c = sound_whole

@@ -1,6 +1,0 @@
-use Rattle.show_jobs.proofs.Courses.{untoured}
-use Rattle.show_jobs.proofs.opened.nodes_in.Goals as goal
-
-pub returns-in_ok-stop_at-in-Err-clause-nodes : goal.returns-in_ok-stop_at-in-Err-clause-nodes
-returns-in_ok-stop_at-in-Err-clause-nodes g c tells toured =
-    untoured c.tour_has_one_course.ensures c.args.live.now (g.P.Pages.shelf c.args.pages.now) (g.P.Pages.shelf c.count_nodes.new.pages) tells toured c.in-Err.fault c.in-Err.ensures.cause c.in_ok-stop_at-in-Err.ensures.damage

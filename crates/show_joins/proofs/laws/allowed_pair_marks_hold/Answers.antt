@@ -1,5 +1,0 @@
-use Rattle.show_joins.proofs.PairReasons.{pair_holds}
-use Rattle.show_joins.proofs.laws.allowed_pair_marks_hold.Goals as goal
-
-pub returns : goal.returns
-returns c = pair_holds

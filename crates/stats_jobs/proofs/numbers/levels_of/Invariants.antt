@@ -1,7 +1,0 @@
-use Rattle.std.proofs.Common.{◌-◌}
-use Rattle.stats_jobs.proofs.Levels.{StandAbove}
-use Rattle.stats_jobs.proofs.numbers.levels_of.Given as goal
-
--- the levels so far are those above the next one
-abbrev pub invariant-loop-above : goal.invariant-loop-above
-invariant-loop-above l = StandAbove l.lines l.height (l.height - l.above) l.levels.items

@@ -1,0 +1,8 @@
+use Rattle.std.proofs.Common.{false}
+use Rattle.disk_model.specs.Memory.Images.{memory_state}
+use Rattle.page_store.specs.Shelves.{disk_shelf}
+use Rattle.page_cache.specs.Keeping.{Agrees}
+use Rattle.test_pages.proofs.caches.a_cache_is_lent.Given as goal
+
+abbrev pub invariant-loop-page : goal.invariant-loop-page
+invariant-loop-page g l = Agrees l.kept (disk_shelf false 1 6 (memory_state l.disk) 0)
