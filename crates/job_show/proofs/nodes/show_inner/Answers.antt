@@ -1,4 +1,5 @@
 use Rattle.std.proofs.Common.{◌<◌, length, arith}
+use Rattle.tree_shape.specs.declared.entry.InnerEntry.{InnerEntry}
 use Rattle.tree_shape.specs.Entries.{inner_of}
 use Rattle.log_model.specs.Walk.{Search, allows_subtree}
 use Rattle.job_show.specs.Walks.{subtree_line}
@@ -9,8 +10,8 @@ use Rattle.job_show.proofs.nodes.show_inner.Goals as goal
 pub loop-i-preserved : goal.loop-i-preserved
 loop-i-preserved c =
     let f : Search = search_by c.args.gauge in
-    let e = inner_of c.at-entry.result in
-    let low : c.loop-i.i < length c.args.entries.now = omega (arith, c.loop-i-test.true, c.len.ensures) in
+    let e : InnerEntry = inner_of c.at-entry.result in
+    let low : c.loop-i.i < length c.args.entries.now = omega (arith, c.loop-i-test.true, c.len-i-end.ensures) in
     let told = c.in_ok-tested.ensures in
     record {
       lines = lines_next (subtree_line f c.args.coming) c.args.entries.now c.args.marks.now c.loop-i.i e _ _ _ low c.requires.long c.at-entry.ensures told.line c.loop-i.invariant.lines;

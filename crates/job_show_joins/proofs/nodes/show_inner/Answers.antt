@@ -1,5 +1,6 @@
 use Rattle.std.proofs.Common.{ℕ, ◌<◌, List, Option, ◌++◌, ap, arith, length, refl}
 use Rattle.std.specs.Option.{is_none}
+use Rattle.tree_shape.specs.declared.entry.InnerEntry.{InnerEntry}
 use Rattle.tree_shape.specs.Entries.{inner_of}
 use Rattle.log_model.specs.declared.pairs.JoinNeed.{JoinNeed}
 use Rattle.log_model.specs.JoinWalk.{JoinSearch, allows_entry, subtree_entry}
@@ -27,8 +28,8 @@ pub loop-i-preserved : goal.loop-i-preserved
 loop-i-preserved c =
     let j : JoinSearch = search_by c.args.gauge.search in
     let n : JoinNeed = c.args.gauge.coming.now.need in
-    let e = inner_of c.at-entry.result in
-    let low : c.loop-i.i < length c.args.entries.now = omega (arith, c.loop-i-test.true, c.len.ensures) in
+    let e : InnerEntry = inner_of c.at-entry.result in
+    let low : c.loop-i.i < length c.args.entries.now = omega (arith, c.loop-i-test.true, c.len-i-end.ensures) in
     let told = c.in_ok-tested.ensures in
     record {
       lines = lines_next (λ p x m. pair_entry_line j c.args.gauge.coming.now p ((subtree_entry c.args.level) x) m) c.args.entries.now c.args.marks.now c.loop-i.i e _ _ _ low c.requires.long c.at-entry.ensures told.line c.loop-i.invariant.lines;
