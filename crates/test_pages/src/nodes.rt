@@ -4,7 +4,7 @@ use node_page::{
     encode_head, encode_node, encode_slot,
 };
 use std::process::Abort;
-use tree_shape::{LeafRef, Node};
+use tree_shape::{LeafEntries, LeafRef, Node, TryClone};
 
 // Is the head of a small index of points of two coordinates under L1.
 const HEAD: Head = Head {
@@ -194,4 +194,72 @@ fn a_leaf_of_the_first_version(rt: HostRuntime) {
     put(&mut page, 36, 1);
     let fault = decode_old_node(rt.alloc(), &page, 2).err();
     holds(&rt, fault == Some(NodeFault::Tail));
+}
+
+// Is an object of three coordinates: its id, its tag, its parent distance and its point.
+type Object = (u32, u64, u64, [u32; 3]);
+
+const FIRST: Object = (
+    0x0102_0304,
+    0x0506_0708_090a_0b0c,
+    0x3f_1112_1314,
+    [0x1516_1718, 0xffff_ffff, 0],
+);
+
+const SECOND: Object = (7, u64::MAX, 1 << 38, [1, 0, 0x8000_0000]);
+
+const OBJECTS: [u8; 64] = [
+    1, 2, 3, 4, 5, 6, 7, 8, 9, 10, 11, 12, 0, 0, 0, 0x3f, 0x11, 0x12, 0x13, 0x14, 0x15, 0x16, 0x17,
+    0x18, 0xff, 0xff, 0xff, 0xff, 0, 0, 0, 0, 0, 0, 0, 7, 0xff, 0xff, 0xff, 0xff, 0xff, 0xff, 0xff,
+    0xff, 0, 0, 0, 0x40, 0, 0, 0, 0, 0, 0, 0, 1, 0, 0, 0, 0, 0x80, 0, 0, 0,
+];
+
+// Gives the page of a leaf of these two objects.
+fn page_of_two() -> [u8; 4096] {
+    let mut page = [0u8; 4096];
+    put(&mut page, 3, 2);
+    for index in 0..OBJECTS.len() {
+        put(&mut page, index.saturating_add(16), OBJECTS[index]);
+    }
+    page
+}
+
+// Says whether this object is seen.
+fn is_seen(entry: LeafRef, object: &Object) -> bool {
+    (entry.id, entry.tag, entry.parent) == (object.0, object.1, object.2)
+        && entry.point == object.3.as_slice()
+}
+
+// Says whether a node is a leaf of these two objects.
+fn are_two(node: &Node) -> bool {
+    match node {
+        Node::Leaf(entries) => {
+            entries.len() == 2 && is_seen(entries.at(0), &FIRST) && is_seen(entries.at(1), &SECOND)
+        }
+        Node::Inner { .. } => false,
+    }
+}
+
+// Takes the objects of a leaf out, and makes a leaf of them again.
+fn made_again(rt: &(impl AllocGlobal + Abort), node: Node) -> Node {
+    match node {
+        Node::Leaf(entries) => {
+            let objects = entries.into_vec(rt.alloc()).expect(rt, "memory");
+            Node::Leaf(LeafEntries::new(objects))
+        }
+        inner => inner,
+    }
+}
+
+// Sees the same objects in the list of numbers, in its copy, and each by itself.
+#[test]
+fn the_objects_of_a_leaf_are_seen_taken_out_and_copied(rt: HostRuntime) {
+    let node = decode_node(rt.alloc(), &page_of_two(), 3).expect(&rt, "a leaf");
+    holds(&rt, are_two(&node));
+    let copy = node.try_clone(rt.alloc()).expect(&rt, "memory");
+    holds(&rt, are_two(&copy));
+    let apart = made_again(&rt, copy);
+    holds(&rt, are_two(&apart));
+    let again = apart.try_clone(rt.alloc()).expect(&rt, "memory");
+    holds(&rt, are_two(&again));
 }
