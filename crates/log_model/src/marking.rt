@@ -51,8 +51,9 @@ pub fn mark_leaf<R: Ruler>(
         (hits.new.items ≡ hits.old.items ++ leaf_hits
         (search_at (R.M.space (R.metric ruler.old)) probe.entry.q.now probe.entry.rho) above entries.now) }
 {
-    for index in 0..entries.len() {
-        let entry = entries.at(index);
+    let view = entries.seen();
+    for index in 0..view.len() {
+        let entry = view.at(index);
         if is_ruled_out(above, entry.parent, probe.rho, 0) {
             marks.push(Mark::Skip)?;
             continue;
@@ -89,8 +90,9 @@ pub fn mark_inner<R: Ruler>(
         (needs.new.items ≡ needs.old.items ++ inner_needs
         (search_at (R.M.space (R.metric ruler.old)) probe.entry.q.now probe.entry.rho) above entries.now) }
 {
-    for index in 0..entries.len() {
-        let entry = entries.at(index);
+    let view = entries.seen();
+    for index in 0..view.len() {
+        let entry = view.at(index);
         if is_ruled_out(above, entry.parent, probe.rho, entry.radius) {
             marks.push(Mark::Skip)?;
             continue;

@@ -119,8 +119,9 @@ pub fn check_leaf<R: Ruler>(
     ensures counted { IfOk result (λ w. IfNone w (R.used ruler.new ≡ count_up (R.used ruler.old) (measured_by marks.now))) }
     ensures few_counted { CountsUpTo (R.used ruler.old) (R.used ruler.new) (measured_by marks.now) }
 {
-    for i in 0..entries.len() {
-        let entry = entries.at(i);
+    let view = entries.seen();
+    for i in 0..view.len() {
+        let entry = view.at(i);
         let checked = check_object(ruler, probe, above, entry, marks[i]);
         if !checked.allowed {
             return Ok(Some(i as u32));
@@ -157,8 +158,9 @@ pub fn check_inner<R: Ruler>(
     ensures counted { IfOk result (λ w. IfNone w (R.used ruler.new ≡ count_up (R.used ruler.old) (measured_by marks.now))) }
     ensures few_counted { CountsUpTo (R.used ruler.old) (R.used ruler.new) (measured_by marks.now) }
 {
-    for i in 0..entries.len() {
-        let entry = entries.at(i);
+    let view = entries.seen();
+    for i in 0..view.len() {
+        let entry = view.at(i);
         let checked = check_subtree(ruler, probe, above, entry, marks[i]);
         if !checked.allowed {
             return Ok(Some(i as u32));

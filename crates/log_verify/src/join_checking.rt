@@ -185,8 +185,9 @@ fn check_leaf<R: Ruler>(
         (search_within (R.M.space (R.metric ruler.old)) probe.entry.rho) probe.entry.need.now (Node.Leaf entries.now) marks.now)) }
     ensures few_counted { CountsUpTo (R.used ruler.old) (R.used ruler.new) (measured_by marks.now) }
 {
-    for i in 0..entries.len() {
-        let entry = entries.at(i);
+    let view = entries.seen();
+    for i in 0..view.len() {
+        let entry = view.at(i);
         let checked = check_object(ruler, probe, entry, marks[i]);
         if !checked.allowed {
             return Ok(Some(i as u32));
@@ -221,8 +222,9 @@ fn check_inner<R: Ruler>(
         (Node.Inner level entries.now) marks.now)) }
     ensures few_counted { CountsUpTo (R.used ruler.old) (R.used ruler.new) (measured_by marks.now) }
 {
-    for i in 0..entries.len() {
-        let entry = entries.at(i);
+    let view = entries.seen();
+    for i in 0..view.len() {
+        let entry = view.at(i);
         let checked = check_subtree(ruler, probe, level, entry, marks[i]);
         if !checked.allowed {
             return Ok(Some(i as u32));

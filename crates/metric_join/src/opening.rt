@@ -174,8 +174,9 @@ fn mark_leaf<R: Ruler>(
     ensures taken { OnOk result (TakesEntries (search_within (R.M.space (R.metric ruler.old)) probe.entry.rho) probe.entry.need.now
         (map object_entry entries.now) opening.old opening.new) }
 {
-    for index in 0..entries.len() {
-        let entry = entries.at(index);
+    let view = entries.seen();
+    for index in 0..view.len() {
+        let entry = view.at(index);
         mark_object(ruler, probe, entry, opening)?;
     }
     Ok(())
@@ -194,8 +195,9 @@ fn mark_inner<R: Ruler>(
     ensures taken { OnOk result (TakesEntries (search_within (R.M.space (R.metric ruler.old)) probe.entry.rho) probe.entry.need.now
         (map (subtree_entry level) entries.now) opening.old opening.new) }
 {
-    for index in 0..entries.len() {
-        let entry = entries.at(index);
+    let view = entries.seen();
+    for index in 0..view.len() {
+        let entry = view.at(index);
         mark_subtree(ruler, probe, level, entry, opening)?;
     }
     Ok(())

@@ -40,8 +40,9 @@ pub fn note_leaf<R: Ruler>(
     ensures seen { OnOk result (seen.new.items ≡ seen.old.items
         ++ map (object_sight (search_at (R.M.space (R.metric ruler.old)) probe.entry.q.now probe.entry.rho) above) entries.now) }
 {
-    for index in 0..entries.len() {
-        let entry = entries.at(index);
+    let view = entries.seen();
+    for index in 0..view.len() {
+        let entry = view.at(index);
         let skip = skip_of(above, entry.parent, 0);
         let sight = look(ruler, probe, entry.point, entry.id, 0, skip);
         seen.push(sight)?;
@@ -70,8 +71,9 @@ pub fn queue_inner<R: Ruler>(
     ensures seen { OnOk result (seen.new.items ≡ seen.old.items
         ++ map (subtree_sight (search_at (R.M.space (R.metric ruler.old)) probe.entry.q.now probe.entry.rho) above) entries.now) }
 {
-    for index in 0..entries.len() {
-        let entry = entries.at(index);
+    let view = entries.seen();
+    for index in 0..view.len() {
+        let entry = view.at(index);
         let skip = skip_of(above, entry.parent, entry.radius);
         let sight = look(ruler, probe, entry.point, entry.child, entry.radius, skip);
         seen.push(sight)?;

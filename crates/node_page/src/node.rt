@@ -4,7 +4,7 @@ ghost use Rattle.node_page.specs.declared.node.NodeFault.TheVariants.{Memory};
 ghost use Rattle.tree_shape.specs.Flat.{firsts};
 ghost use Rattle.tree_shape.specs.Entries.{flat_leaves, flat_inners};
 ghost use Rattle.node_page.specs.declared.node.Version.TheVariants.{First};
-ghost use Rattle.node_page.specs.Nodes.{AreNumbers, SpellsIn, SpellsNode, SpellsOldNode, IsLawfulNode, parent_place, leaf_in, leaf_at, inner_at, place_of, place_in, count_of, near_at, are_near, is_count, is_rest_zero, fault_in, node_in, node_fault, node_of, old_node_fault, old_node_of};
+ghost use Rattle.node_page.specs.Nodes.{AreNumbers, AreNumbersFrom, SpellsIn, SpellsNode, SpellsOldNode, IsLawfulNode, parent_place, leaf_in, leaf_at, inner_at, place_of, place_in, count_of, near_at, are_near, is_count, is_rest_zero, fault_in, node_in, node_fault, node_of, old_node_fault, old_node_of};
 
 use crate::bytes::{are_zero, get_u16, get_u32, get_u64};
 use byteorder::{BigEndian, ByteOrder};
@@ -59,6 +59,9 @@ const DISTANCE: usize = 8;
 
 /// The numbers of four bytes of a leaf entry of the first version before its coordinates.
 const OLD_BEFORE: usize = 3;
+
+/// How many numbers of four bytes are read at once.
+const BLOCK: usize = 64;
 
 // Returns the number of bytes of an entry before its parent distance. The coordinates follow that.
 fn parent_place(version: Version, leaf: bool) -> usize
@@ -167,24 +170,32 @@ fn fault_of(page: &[u8; 4096], dim: u8, version: Version) -> Option<NodeFault>
     None
 }
 
-// Reads the numbers of four bytes in `page` from the first entry on.
-fn read_numbers(page: &[u8; 4096], numbers: &mut [u32])
-    requires { 16 + 4 * length numbers.old ≤ 4096 }
-    ensures numbers { AreNumbers page.now numbers.new }
+// Reads the numbers of four bytes in `page` from number `from` behind the front on.
+fn read_numbers(page: &[u8; 4096], from: usize, numbers: &mut [u32])
+    requires { 16 + 4 * (from + length numbers.old) ≤ 4096 }
+    ensures numbers { AreNumbersFrom from page.now numbers.new }
     ensures len { length numbers.new ≡ length numbers.old }
 {
     // One loop over all of them, which LLVM makes wide.
-    BigEndian::read_u32_into(&page[ENTRIES..ENTRIES + 4 * numbers.len()], numbers);
+    let at = ENTRIES + 4 * from;
+    BigEndian::read_u32_into(&page[at..at + 4 * numbers.len()], numbers);
 }
 
 // Returns the first `count` numbers of four bytes of the entries.
+// They are read a block at a time, so that no memory is cleared before it is written.
 fn numbers_of(alloc: Global, page: &[u8; 4096], count: usize) -> Result<Vec<u32>, AllocError>
     requires { 16 + 4 * count ≤ 4096 }
     ensures numbers { IfOk result (λ numbers. AreNumbers page.now numbers.items) }
     ensures len { IfOk result (λ numbers. length numbers.items ≡ count) }
 {
-    let mut numbers = Vec::from_elem(alloc, 0u32, count)?;
-    read_numbers(page, numbers.as_mut_slice());
+    let mut numbers = Vec::with_capacity(alloc, count)?;
+    let mut block = [0; BLOCK];
+    while numbers.len() < count {
+        let from = numbers.len();
+        let part = &mut block[..BLOCK.min(count - from)];
+        read_numbers(page, from, part);
+        numbers.extend_from_slice(part)?;
+    }
     Ok(numbers)
 }
 

@@ -25,8 +25,9 @@ pub fn meet_objects<R: Ruler>(
     ensures met { OnOk result (IsPermutation
         (map (candidate_of (R.M.space (R.metric ruler.old)) q.now) entries.now ++ candidates.old) candidates.new) }
 {
-    for index in 0..entries.len() {
-        let entry = entries.at(index);
+    let view = entries.seen();
+    for index in 0..view.len() {
+        let entry = view.at(index);
         let dist = ruler.dist(entry.point, q);
         candidates.add(Candidate {
             dist,
@@ -48,8 +49,9 @@ pub fn queue_subtrees<R: Ruler>(
     ensures queued { OnOk result (IsPermutation
         (map (subtree_of (R.M.space (R.metric ruler.old)) q.now) entries.now ++ subtrees.old) subtrees.new) }
 {
-    for index in 0..entries.len() {
-        let entry = entries.at(index);
+    let view = entries.seen();
+    for index in 0..view.len() {
+        let entry = view.at(index);
         let dist = ruler.dist(entry.point, q);
         subtrees.add(Subtree {
             low: dist.saturating_sub(entry.radius),

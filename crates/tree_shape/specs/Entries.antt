@@ -9,6 +9,10 @@ use Rattle.tree_shape.specs.declared.leaves.HeldLeaves.{HeldLeaves}
 use Rattle.tree_shape.specs.declared.leaves.HeldLeaves.TheVariants as leaves
 use Rattle.tree_shape.specs.declared.inners.HeldInners.{HeldInners}
 use Rattle.tree_shape.specs.declared.inners.HeldInners.TheVariants as inners
+use Rattle.tree_shape.specs.declared.leaves.SeenLeaves.{SeenLeaves}
+use Rattle.tree_shape.specs.declared.leaves.SeenLeaves.TheVariants as seen_leaves
+use Rattle.tree_shape.specs.declared.inners.SeenInners.{SeenInners}
+use Rattle.tree_shape.specs.declared.inners.SeenInners.TheVariants as seen_inners
 use Rattle.tree_shape.specs.Flat.{firsts, start_of, leaf_from, inner_from}
 
 -- the objects that the numbers spell
@@ -28,6 +32,16 @@ leaves_in (leaves.Apart entries) = entries.items
 abbrev pub inners_in : HeldInners → List InnerEntry
 inners_in (inners.Flat flat) = flat_inners flat
 inners_in (inners.Apart entries) = entries.items
+
+-- the objects of a leaf, where they are seen
+abbrev pub leaves_seen : SeenLeaves → List LeafEntry
+leaves_seen (seen_leaves.Flat flat) = firsts (λ i. leaf_from flat.dim flat.numbers.now (start_of flat.dim i)) flat.count
+leaves_seen (seen_leaves.Apart entries) = entries.now.items
+
+-- the subtrees of an inner node, where they are seen
+abbrev pub inners_seen : SeenInners → List InnerEntry
+inners_seen (seen_inners.Flat flat) = firsts (λ i. inner_from flat.dim flat.numbers.now (start_of flat.dim i)) flat.count
+inners_seen (seen_inners.Apart entries) = entries.now.items
 
 -- the object that is seen
 abbrev pub leaf_of : LeafRef → LeafEntry

@@ -17,6 +17,17 @@ pub struct FlatEntries {
     ghost whole: { length numbers.items ≡ (5 + dim) * count },
 }
 
+/// The entries of a node as one list of numbers, where they stand.
+#[derive(Clone, Copy)]
+pub(crate) struct FlatView<'a> {
+    pub numbers: &'a [u32],
+    // The number of a point's coordinates.
+    pub dim: u8,
+    // The number of entries.
+    pub count: usize,
+    ghost whole: { length numbers.now ≡ (5 + dim) * count },
+}
+
 /// The fields of an entry.
 #[derive(Clone, Copy)]
 pub(crate) struct Fields<'a> {
@@ -52,6 +63,20 @@ impl FlatEntries {
             numbers,
             dim,
             count,
+        }
+    }
+
+    /// Returns the entries where they stand.
+    #[inline(always)]
+    pub(crate) fn seen(&self) -> FlatView<'_>
+        ensures numbers { result.numbers.now ≡ self.now.numbers.items }
+        ensures dim { result.dim ≡ self.now.dim }
+        ensures count { result.count ≡ self.now.count }
+    {
+        FlatView {
+            numbers: self.numbers.as_slice(),
+            dim: self.dim,
+            count: self.count,
         }
     }
 

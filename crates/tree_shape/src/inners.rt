@@ -5,7 +5,7 @@ ghost use Rattle.tree_shape.specs.Flat.{inner_from, start_of};
 ghost use Rattle.tree_shape.specs.Entries.{flat_inners, inner_of};
 
 use crate::copying::{TryClone, copies_of};
-use crate::flat::{BEFORE, FlatEntries, fields_at, start_of};
+use crate::flat::{BEFORE, FlatEntries, FlatView, fields_at, start_of};
 use crate::{InnerEntry, InnerRef};
 use metric_laws::Point;
 use std::alloc::{AllocError, Global};
@@ -35,6 +35,32 @@ impl Model for InnerEntries {
     ghost Value = { List TheEntry };
 
     ghost view = { λ l. inners_in l.held };
+}
+
+// Where the subtrees are seen.
+#[derive(Clone, Copy)]
+enum SeenInners<'a> {
+    // In one list of numbers.
+    Flat(FlatView<'a>),
+    // Each by itself.
+    Apart(&'a Vec<InnerEntry>),
+}
+
+/// The subtrees of an inner node, where they stand. Contracts see the list of them.
+// A loop over entries holds it by value: so the compiler keeps it in registers, where it would read `InnerEntries` again for each entry.
+#[derive(Drop)]
+pub struct InnerView<'a> {
+    seen: SeenInners<'a>,
+}
+
+impl<'a> Model for InnerView<'a> {
+    ghost use Rattle.std.specs.Prelude.{List};
+    ghost use Rattle.tree_shape.specs.declared.entry.InnerEntry.{InnerEntry as TheEntry};
+    ghost use Rattle.tree_shape.specs.Entries.{inners_seen};
+
+    ghost Value = { List TheEntry };
+
+    ghost view = { λ v. inners_seen v.seen };
 }
 
 // Returns subtree `index` of the subtrees that `numbers` spell.
@@ -90,15 +116,24 @@ impl InnerEntries {
         }
     }
 
+    /// Returns the subtrees where they stand.
+    #[inline(always)]
+    pub fn seen(&self) -> InnerView<'_>
+        ensures { result ≡ self.now }
+    {
+        let seen = match &self.held {
+            HeldInners::Flat(flat) => SeenInners::Flat(flat.seen()),
+            HeldInners::Apart(entries) => SeenInners::Apart(entries),
+        };
+        InnerView { seen }
+    }
+
     /// Returns the number of subtrees.
     #[inline(always)]
     pub fn len(&self) -> usize
         ensures { result ≡ length self.now }
     {
-        match &self.held {
-            HeldInners::Flat(flat) => flat.count,
-            HeldInners::Apart(entries) => entries.len(),
-        }
+        self.seen().len()
     }
 
     /// Returns subtree `index`.
@@ -108,10 +143,7 @@ impl InnerEntries {
         requires { index < length self.now }
         ensures { inner_of result ≡ slice_index_or self.now index (inner_of result) }
     {
-        match &self.held {
-            HeldInners::Flat(flat) => inner_at(flat.numbers.as_slice(), flat.dim, index),
-            HeldInners::Apart(entries) => entries[index].as_ref(),
-        }
+        self.seen().at(index)
     }
 
     /// Takes the subtrees out, each by itself.
@@ -121,6 +153,31 @@ impl InnerEntries {
         match self.held {
             HeldInners::Flat(flat) => into_inners(alloc, flat),
             HeldInners::Apart(entries) => Ok(entries),
+        }
+    }
+}
+
+impl<'a> InnerView<'a> {
+    /// Returns the number of subtrees.
+    #[inline(always)]
+    pub fn len(&self) -> usize
+        ensures { result ≡ length self.now }
+    {
+        match self.seen {
+            SeenInners::Flat(flat) => flat.count,
+            SeenInners::Apart(entries) => entries.len(),
+        }
+    }
+
+    /// Returns subtree `index`.
+    #[inline(always)]
+    pub fn at(&self, index: usize) -> InnerRef<'a>
+        requires { index < length self.now }
+        ensures { inner_of result ≡ slice_index_or self.now index (inner_of result) }
+    {
+        match self.seen {
+            SeenInners::Flat(flat) => inner_at(flat.numbers, flat.dim, index),
+            SeenInners::Apart(entries) => entries[index].as_ref(),
         }
     }
 }

@@ -5,7 +5,7 @@ ghost use Rattle.tree_shape.specs.Flat.{leaf_from, start_of};
 ghost use Rattle.tree_shape.specs.Entries.{flat_leaves, leaf_of};
 
 use crate::copying::{TryClone, copies_of};
-use crate::flat::{BEFORE, FlatEntries, fields_at, start_of};
+use crate::flat::{BEFORE, FlatEntries, FlatView, fields_at, start_of};
 use crate::{LeafEntry, LeafRef};
 use metric_laws::Point;
 use std::alloc::{AllocError, Global};
@@ -35,6 +35,32 @@ impl Model for LeafEntries {
     ghost Value = { List TheEntry };
 
     ghost view = { λ l. leaves_in l.held };
+}
+
+// Where the objects are seen.
+#[derive(Clone, Copy)]
+enum SeenLeaves<'a> {
+    // In one list of numbers.
+    Flat(FlatView<'a>),
+    // Each by itself.
+    Apart(&'a Vec<LeafEntry>),
+}
+
+/// The objects of a leaf, where they stand. Contracts see the list of them.
+// A loop over entries holds it by value: so the compiler keeps it in registers, where it would read `LeafEntries` again for each entry.
+#[derive(Drop)]
+pub struct LeafView<'a> {
+    seen: SeenLeaves<'a>,
+}
+
+impl<'a> Model for LeafView<'a> {
+    ghost use Rattle.std.specs.Prelude.{List};
+    ghost use Rattle.tree_shape.specs.declared.entry.LeafEntry.{LeafEntry as TheEntry};
+    ghost use Rattle.tree_shape.specs.Entries.{leaves_seen};
+
+    ghost Value = { List TheEntry };
+
+    ghost view = { λ v. leaves_seen v.seen };
 }
 
 // Returns object `index` of the objects that `numbers` spell.
@@ -90,15 +116,24 @@ impl LeafEntries {
         }
     }
 
+    /// Returns the objects where they stand.
+    #[inline(always)]
+    pub fn seen(&self) -> LeafView<'_>
+        ensures { result ≡ self.now }
+    {
+        let seen = match &self.held {
+            HeldLeaves::Flat(flat) => SeenLeaves::Flat(flat.seen()),
+            HeldLeaves::Apart(entries) => SeenLeaves::Apart(entries),
+        };
+        LeafView { seen }
+    }
+
     /// Returns the number of objects.
     #[inline(always)]
     pub fn len(&self) -> usize
         ensures { result ≡ length self.now }
     {
-        match &self.held {
-            HeldLeaves::Flat(flat) => flat.count,
-            HeldLeaves::Apart(entries) => entries.len(),
-        }
+        self.seen().len()
     }
 
     /// Returns object `index`.
@@ -108,10 +143,7 @@ impl LeafEntries {
         requires { index < length self.now }
         ensures { leaf_of result ≡ slice_index_or self.now index (leaf_of result) }
     {
-        match &self.held {
-            HeldLeaves::Flat(flat) => leaf_at(flat.numbers.as_slice(), flat.dim, index),
-            HeldLeaves::Apart(entries) => entries[index].as_ref(),
-        }
+        self.seen().at(index)
     }
 
     /// Takes the objects out, each by itself.
@@ -121,6 +153,31 @@ impl LeafEntries {
         match self.held {
             HeldLeaves::Flat(flat) => into_leaves(alloc, flat),
             HeldLeaves::Apart(entries) => Ok(entries),
+        }
+    }
+}
+
+impl<'a> LeafView<'a> {
+    /// Returns the number of objects.
+    #[inline(always)]
+    pub fn len(&self) -> usize
+        ensures { result ≡ length self.now }
+    {
+        match self.seen {
+            SeenLeaves::Flat(flat) => flat.count,
+            SeenLeaves::Apart(entries) => entries.len(),
+        }
+    }
+
+    /// Returns object `index`.
+    #[inline(always)]
+    pub fn at(&self, index: usize) -> LeafRef<'a>
+        requires { index < length self.now }
+        ensures { leaf_of result ≡ slice_index_or self.now index (leaf_of result) }
+    {
+        match self.seen {
+            SeenLeaves::Flat(flat) => leaf_at(flat.numbers, flat.dim, index),
+            SeenLeaves::Apart(entries) => entries[index].as_ref(),
         }
     }
 }

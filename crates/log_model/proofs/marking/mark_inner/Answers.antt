@@ -1,4 +1,5 @@
-use Rattle.std.proofs.Common.{◌≡◌, ◌∙◌, ◌++◌, [], ◌∷◌, ℕ, ap, refl, arith, Some}
+use Rattle.std.proofs.Common.{◌≡◌, ◌∙◌, ◌++◌, [], ◌∷◌, ℕ, ap, refl, arith, Some, List, get_or, length}
+use Rattle.tree_shape.specs.declared.entry.InnerEntry.{InnerEntry}
 use Rattle.log_model.specs.declared.marks.Need.{Need}
 use Rattle.log_model.specs.declared.marks.Mark.TheVariants.{Far, Near}
 use Rattle.log_model.specs.Walk.{Search, search_at, away, need_of}
@@ -10,7 +11,7 @@ pub loop-index-preserved-then-centre_test : goal.loop-index-preserved-then-centr
 loop-index-preserved-then-centre_test g c =
     let f : Search = search_at (g.R.M.Metric.space (g.R.Ruler.metric c.args.ruler.now)) c.args.probe.q.now c.args.probe.rho in
     let dist : c.dist-dist.result ≡ away f (inner_of c.at-entry.result).point = cc (c.dist-dist.ensures.value, c.loop-index.invariant.metric) in
-    let next = inner_far f c.args.above c.args.entries.now c.loop-index.index (inner_of c.at-entry.result) (omega (arith, c.len-index-end.ensures)) c.at-entry.ensures
+    let next = inner_far f c.args.above c.args.entries.now c.loop-index.index (inner_of c.at-entry.result) (omega (arith, c.len-index-end.ensures, ap length c.seen-view.ensures)) (c.at-entry.ensures ∙ ap (λ (es : List InnerEntry). get_or es c.loop-index.index (inner_of c.at-entry.result)) c.seen-view.ensures)
     (cc (c.is_ruled_out.ensures, c.if-is_ruled_out.false)) (cc (c.centre_test.ensures, c.if-centre_test.true, dist)) in
     record {
       metric = c.dist-dist.ensures.same ∙ c.loop-index.invariant.metric;
@@ -23,7 +24,7 @@ pub loop-index-preserved : goal.loop-index-preserved
 loop-index-preserved g c =
     let f : Search = search_at (g.R.M.Metric.space (g.R.Ruler.metric c.args.ruler.now)) c.args.probe.q.now c.args.probe.rho in
     let dist : c.dist-dist.result ≡ away f (inner_of c.at-entry.result).point = cc (c.dist-dist.ensures.value, c.loop-index.invariant.metric) in
-    let next = inner_near f c.args.above c.args.entries.now c.loop-index.index (inner_of c.at-entry.result) (omega (arith, c.len-index-end.ensures)) c.at-entry.ensures
+    let next = inner_near f c.args.above c.args.entries.now c.loop-index.index (inner_of c.at-entry.result) (omega (arith, c.len-index-end.ensures, ap length c.seen-view.ensures)) (c.at-entry.ensures ∙ ap (λ (es : List InnerEntry). get_or es c.loop-index.index (inner_of c.at-entry.result)) c.seen-view.ensures)
     (cc (c.is_ruled_out.ensures, c.if-is_ruled_out.false)) (cc (c.centre_test.ensures, c.if-centre_test.false, dist)) in
     let need : ◌≡◌ {A = Need} (record { page = c.at-entry.result.child; above = Some c.dist-dist.result }) (need_of f (inner_of c.at-entry.result)) = ap (λ (d : ℕ). record { page = c.at-entry.result.child; above = Some d }) dist in
     record {

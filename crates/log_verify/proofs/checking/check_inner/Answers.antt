@@ -1,4 +1,4 @@
-use Rattle.std.proofs.Common.{◌≡◌, ◌∙◌, ap, sym, subst, length, ◌<◌, ◌+◌, get_or, true, arith}
+use Rattle.std.proofs.Common.{◌≡◌, ◌∙◌, ap, sym, subst, length, ◌<◌, ◌+◌, get_or, true, arith, List}
 use Rattle.tree_shape.specs.declared.entry.InnerEntry.{InnerEntry}
 use Rattle.tree_shape.specs.Entries.{inner_of}
 use Rattle.log_model.specs.declared.marks.Mark.TheVariants.{Skip}
@@ -9,13 +9,13 @@ use Rattle.log_verify.proofs.checking.check_inner.Goals as goal
 
 pub returns-then-not-checked-clause-few_counted : goal.returns-then-not-checked-clause-few_counted
 returns-then-not-checked-clause-few_counted g c =
-    let low : c.loop-i.i < length c.args.marks.now = omega (arith, c.requires.long, c.len-i-end.ensures, c.loop-i-test.true) in
+    let low : c.loop-i.i < length c.args.marks.now = omega (arith, c.requires.long, c.len-i-end.ensures, ap length c.seen-view.ensures, c.loop-i-test.true) in
     so_far_counted _ _ c.args.marks.now (c.loop-i.i + 1)
     (next_counted _ _ _ c.args.marks.now c.loop-i.i (get_or c.args.marks.now c.loop-i.i Skip) low (mark_is c.args.marks.now c.loop-i.i low) c.loop-i.invariant.counted c.check_subtree-checked.ensures.counted)
 
 pub returns-in_err-push_near-clause-few_counted : goal.returns-in_err-push_near-clause-few_counted
 returns-in_err-push_near-clause-few_counted g c =
-    let low : c.loop-i.i < length c.args.marks.now = omega (arith, c.requires.long, c.len-i-end.ensures, c.loop-i-test.true) in
+    let low : c.loop-i.i < length c.args.marks.now = omega (arith, c.requires.long, c.len-i-end.ensures, ap length c.seen-view.ensures, c.loop-i-test.true) in
     so_far_counted _ _ c.args.marks.now (c.loop-i.i + 1)
     (next_counted _ _ _ c.args.marks.now c.loop-i.i (get_or c.args.marks.now c.loop-i.i Skip) low (mark_is c.args.marks.now c.loop-i.i low) c.loop-i.invariant.counted c.check_subtree-checked.ensures.counted)
 
@@ -23,17 +23,17 @@ pub loop-i-preserved : goal.loop-i-preserved
 loop-i-preserved g c =
     let f : Search = search_at (g.R.M.Metric.space (g.R.Ruler.metric c.args.ruler.now)) c.args.probe.q.now c.args.probe.rho in
     let e : InnerEntry = inner_of c.at-entry.result in
-    let below : c.loop-i.i < length c.args.entries.now = omega (arith, c.len-i-end.ensures, c.loop-i-test.true) in
-    let low : c.loop-i.i < length c.args.marks.now = omega (arith, c.requires.long, c.len-i-end.ensures, c.loop-i-test.true) in
+    let below : c.loop-i.i < length c.args.entries.now = omega (arith, c.len-i-end.ensures, ap length c.seen-view.ensures, c.loop-i-test.true) in
+    let low : c.loop-i.i < length c.args.marks.now = omega (arith, c.requires.long, c.len-i-end.ensures, ap length c.seen-view.ensures, c.loop-i-test.true) in
     let here : search_at (g.R.M.Metric.space (g.R.Ruler.metric c.loop-i.ruler)) c.args.probe.q.now c.args.probe.rho ≡ f =
     ap (λ m. search_at (g.R.M.Metric.space m) c.args.probe.q.now c.args.probe.rho) c.loop-i.invariant.metric in
     let fine : allows_subtree f c.args.above e (get_or c.args.marks.now c.loop-i.i Skip) ≡ true =
     subst (λ (s : Search). allows_subtree s c.args.above e (get_or c.args.marks.now c.loop-i.i Skip) ≡ true) here (sym c.check_subtree-checked.ensures.allowed ∙ not_false c.check_subtree-checked.result.allowed c.if-not-checked.false) in
     record {
       metric = c.check_subtree-checked.ensures.metric ∙ c.loop-i.invariant.metric;
-      wrong = one_left (allows_subtree f c.args.above) c.args.entries.now c.args.marks.now c.loop-i.i e below c.requires.long c.at-entry.ensures fine ∙ c.loop-i.invariant.wrong;
+      wrong = one_left (allows_subtree f c.args.above) c.args.entries.now c.args.marks.now c.loop-i.i e below c.requires.long (c.at-entry.ensures ∙ ap (λ (es : List InnerEntry). get_or es c.loop-i.i (inner_of c.at-entry.result)) c.seen-view.ensures) fine ∙ c.loop-i.invariant.wrong;
       named = named_next _ _ _ _ _ _ _ c.in_ok-push_near.ensures
           (near_same (get_or c.args.marks.now c.loop-i.i Skip) _ (need_of f e) (λ near. ap (need_at e.child) (c.check_subtree-checked.ensures.dist near ∙ ap (λ (s : Search). away s e.point) here)))
-          (one_named (need_of f) c.args.entries.now c.args.marks.now c.loop-i.i e below c.requires.long c.at-entry.ensures) c.loop-i.invariant.named;
+          (one_named (need_of f) c.args.entries.now c.args.marks.now c.loop-i.i e below c.requires.long (c.at-entry.ensures ∙ ap (λ (es : List InnerEntry). get_or es c.loop-i.i (inner_of c.at-entry.result)) c.seen-view.ensures)) c.loop-i.invariant.named;
       counted = next_counted _ _ _ c.args.marks.now c.loop-i.i (get_or c.args.marks.now c.loop-i.i Skip) low (mark_is c.args.marks.now c.loop-i.i low) c.loop-i.invariant.counted c.check_subtree-checked.ensures.counted;
     }

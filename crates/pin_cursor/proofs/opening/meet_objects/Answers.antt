@@ -1,4 +1,4 @@
-use Rattle.std.proofs.Common.{◌≡◌, ◌<◌, length, ◌∙◌, ◌∷◌, ◌++◌, ◌+◌, List, drop, arith, subst}
+use Rattle.std.proofs.Common.{◌≡◌, ◌<◌, length, ◌∙◌, ◌∷◌, ◌++◌, ◌+◌, List, drop, arith, subst, get_or, ap}
 use Rattle.std.specs.Prelude.{map, IsPermutation}
 use Rattle.metric_laws.specs.Space.{Space}
 use Rattle.tree_shape.specs.declared.entry.LeafEntry.{LeafEntry}
@@ -12,10 +12,10 @@ pub loop-index-preserved : goal.loop-index-preserved
 loop-index-preserved g c =
     let s : Space = g.R.M.Metric.space (g.R.Ruler.metric c.args.ruler.now) in
     let e : LeafEntry = leaf_of c.at-entry.result in
-    let below : c.loop-index.index < length c.args.entries.now = omega (arith, c.len-index-end.ensures, c.loop-index-test.true) in
+    let below : c.loop-index.index < length c.args.entries.now = omega (arith, c.len-index-end.ensures, ap length c.seen-view.ensures, c.loop-index-test.true) in
     let dist : c.dist-dist.result ≡ s.dist e.point c.args.q.now = cc (c.dist-dist.ensures.value, c.loop-index.invariant.metric) in
     let x : ◌≡◌ {A = Candidate} (record { dist = c.dist-dist.result; id = e.id; tag = e.tag }) (candidate_of s c.args.q.now e) = (λ i. record { dist = dist i; id = e.id; tag = e.tag }) in
-    let next = map-drop (candidate_of s c.args.q.now) c.args.entries.now c.loop-index.index e below c.at-entry.ensures in
+    let next = map-drop (candidate_of s c.args.q.now) c.args.entries.now c.loop-index.index e below (c.at-entry.ensures ∙ ap (λ (es : List LeafEntry). get_or es c.loop-index.index (leaf_of c.at-entry.result)) c.seen-view.ensures) in
     record {
       metric = c.dist-dist.ensures.same ∙ c.loop-index.invariant.metric;
       met = moved_one (map (candidate_of s c.args.q.now) c.args.entries.now ++ c.args.candidates.now) (map (candidate_of s c.args.q.now) (drop (c.loop-index.index + 1) c.args.entries.now))

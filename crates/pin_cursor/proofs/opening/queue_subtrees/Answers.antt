@@ -1,4 +1,4 @@
-use Rattle.std.proofs.Common.{◌≡◌, ◌<◌, length, ◌∙◌, ◌∷◌, ◌++◌, ◌+◌, ◌-◌, List, drop, arith, subst}
+use Rattle.std.proofs.Common.{◌≡◌, ◌<◌, length, ◌∙◌, ◌∷◌, ◌++◌, ◌+◌, ◌-◌, List, drop, arith, subst, get_or, ap}
 use Rattle.std.specs.Prelude.{map, IsPermutation}
 use Rattle.metric_laws.specs.Space.{Space}
 use Rattle.tree_shape.specs.declared.entry.InnerEntry.{InnerEntry}
@@ -12,11 +12,11 @@ pub loop-index-preserved : goal.loop-index-preserved
 loop-index-preserved g c =
     let s : Space = g.R.M.Metric.space (g.R.Ruler.metric c.args.ruler.now) in
     let e : InnerEntry = inner_of c.at-entry.result in
-    let below : c.loop-index.index < length c.args.entries.now = omega (arith, c.len-index-end.ensures, c.loop-index-test.true) in
+    let below : c.loop-index.index < length c.args.entries.now = omega (arith, c.len-index-end.ensures, ap length c.seen-view.ensures, c.loop-index-test.true) in
     let dist : c.dist-dist.result ≡ s.dist e.point c.args.q.now = cc (c.dist-dist.ensures.value, c.loop-index.invariant.metric) in
     let low : c.saturating_sub.result ≡ s.dist e.point c.args.q.now - e.radius = cc (dist, c.saturating_sub.ensures) in
     let x : ◌≡◌ {A = Subtree} (record { low = c.saturating_sub.result; page = e.child }) (subtree_of s c.args.q.now e) = (λ i. record { low = low i; page = e.child }) in
-    let next = map-drop (subtree_of s c.args.q.now) c.args.entries.now c.loop-index.index e below c.at-entry.ensures in
+    let next = map-drop (subtree_of s c.args.q.now) c.args.entries.now c.loop-index.index e below (c.at-entry.ensures ∙ ap (λ (es : List InnerEntry). get_or es c.loop-index.index (inner_of c.at-entry.result)) c.seen-view.ensures) in
     record {
       metric = c.dist-dist.ensures.same ∙ c.loop-index.invariant.metric;
       queued = moved_one (map (subtree_of s c.args.q.now) c.args.entries.now ++ c.args.subtrees.now) (map (subtree_of s c.args.q.now) (drop (c.loop-index.index + 1) c.args.entries.now))
