@@ -9,6 +9,7 @@ use Rattle.node_page.specs.Nodes.{IsLawfulNode}
 use Rattle.node_page.specs.Opening.{OpensTo, IsLawfulLive}
 use Rattle.page_store.specs.Reading.{IsWithin, nodes_of}
 use Rattle.page_store.specs.Shelf.{Shelf}
+use Rattle.node_page.specs.declared.node.Version.TheVariants.{Second}
 use Rattle.page_store.specs.Shelves.{disk_shelf}
 use Rattle.page_cache.specs.Keeping.{Pairs}
 use Rattle.index_core.specs.Lending.{KeptAgrees, SameRoom}
@@ -22,7 +23,7 @@ pub record OpenFile (M : Type 0) : Type 0 where
 
 -- the pages of an opened index on a disk, where `asked` reads were asked for so far
 abbrev pub pages_on : {M : Type 0} → OpenFile M → DiskState → ℕ → Shelf
-pages_on file disk asked = disk_shelf false file.head.dim file.live.pages disk asked
+pages_on file disk asked = disk_shelf Second file.head.dim file.live.pages disk asked
 
 -- their nodes
 abbrev pub nodes_on : {M : Type 0} → OpenFile M → DiskState → Nodes

@@ -139,7 +139,7 @@ impl<M: Metric> View<M> {
         ensures kept { lent_kept result ≡ self.old.kept }
         ensures same_reference { (lent_inner result).disk.ghost_name ≡ disk.entry.ghost_name }
         ensures same { (lent_inner result).disk.now ≡ disk.old }
-        ensures shelf { lent_shelf (λ p. disk_shelf p.first_version p.dim p.pages (D.state p.disk.now) p.asked) result
+        ensures shelf { lent_shelf (λ p. disk_shelf p.version p.dim p.pages (D.state p.disk.now) p.asked) result
             ≡ pages_on self.old (D.state disk.old) 0 }
     {
         let pages = DiskPages::new(disk, self.head.dim, self.live.pages);

@@ -10,6 +10,7 @@ use Rattle.node_page.specs.declared.head.Head.{Head}
 use Rattle.node_page.specs.Opening.{OpensTo}
 use Rattle.page_store.specs.Files.{nodes_in}
 use Rattle.page_store.specs.Shelf.{Shelf}
+use Rattle.node_page.specs.declared.node.Version.TheVariants.{Second}
 use Rattle.page_store.specs.Shelves.{disk_shelf}
 use Rattle.fault_lines.specs.Lines.{numbered}
 use Rattle.rows_text.specs.Texts.{line_end}
@@ -23,7 +24,7 @@ use Rattle.job_dump.specs.Scripts.{script_text}
 
 -- the pages of an opened file of version 2
 abbrev pub opened_shelf : Head → Live → DiskState → Shelf
-opened_shelf head live disk = disk_shelf false head.dim live.pages disk 0
+opened_shelf head live disk = disk_shelf Second head.dim live.pages disk 0
 
 -- the file opens to a tree with these tags and points
 pub record HoldsRows (file : List ℕ) (rows : List (ℕ × List ℕ)) : Type 0 where

@@ -26,8 +26,8 @@ use job_files::{
     put_line, space_of,
 };
 use metric_laws::{Meter, Metric};
-use node_page::Head;
 use node_page::laws::{fault_is_not_open, one_live_slot};
+use node_page::{Head, Version};
 use outside_io::{Sink, Status};
 use page_store::{DiskPages, Pages};
 use shadow_root::open;
@@ -137,7 +137,7 @@ fn audited_objects<D: Disk>(
         (old_fault head.now live.now (D.state disk.old).bytes)) }
     ensures later { (D.state disk.old).faults ≤ (D.state disk.new).faults }
 {
-    let mut pages = DiskPages::old(disk, head.dim, live.pages);
+    let mut pages = DiskPages::of_version(disk, head.dim, live.pages, Version::First);
     audited(alloc, &mut pages, space_of(head), head.dim, live)
 }
 

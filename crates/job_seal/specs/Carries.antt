@@ -9,6 +9,7 @@ use Rattle.tree_shape.specs.declared.live.Live.{Live}
 use Rattle.node_page.specs.declared.head.Head.{Head}
 use Rattle.node_page.specs.Opening.{OpensTo}
 use Rattle.page_store.specs.Reading.{reading}
+use Rattle.node_page.specs.declared.node.Version.TheVariants.{Second}
 use Rattle.page_store.specs.Shelves.{disk_shelf}
 use Rattle.page_cache.specs.Keeping.{Pairs, Agrees}
 use Rattle.log_model.specs.declared.logs.Log.{Log}
@@ -33,7 +34,7 @@ judged file head live log = log_fault (space_of head) (reading head.dim live.pag
 
 -- what is cached of an opened file's pages is what the pages hold on this disk
 abbrev pub IsKeptOf : DiskState → Head → Live → Pairs → Type 0
-IsKeptOf disk head live kept = Agrees kept (disk_shelf false head.dim live.pages disk 0)
+IsKeptOf disk head live kept = Agrees kept (disk_shelf Second head.dim live.pages disk 0)
 
 abbrev pub carried_line : ℕ → List ℕ
 carried_line i = frame i ++ codes " carried\n"

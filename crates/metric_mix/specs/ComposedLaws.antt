@@ -5,7 +5,9 @@ use Rattle.std.proofs.lemmas.Bool.{and_parts}
 use Rattle.std.proofs.lemmas.List.{take-append-drop, length-append}
 use Rattle.std.proofs.lemmas.List.Elements.{All-append}
 use Rattle.metric_laws.specs.Space.{Space, IsSpace, bound}
-use Rattle.metric_mix.specs.Composed.{capped_space, fits_both, sum_space, most_space}
+use Rattle.metric_mix.specs.Composed.{capped_space, fits_both, joined_space}
+use Rattle.metric_mix.specs.declared.joined.Joining.{Joining}
+use Rattle.metric_mix.specs.declared.joined.Joining.TheVariants.{Sum, Most}
 
 pub capped_axioms : (s : Space) (most : ℕ) → IsSpace s → 1 ≤ most → most ≤ bound → IsSpace (capped_space s most)
 capped_axioms s most is some low = record {
@@ -41,7 +43,7 @@ both_small s t is it p fits =
 both_same : (n : ℕ) (a b : List ℕ) → take n a ≡ take n b → drop n a ≡ drop n b → a ≡ b
 both_same n a b front back = sym (take-append-drop n a) ∙ (λ i. front i ++ back i) ∙ take-append-drop n b
 
-pub sum_axioms : (s t : Space) → IsSpace s → IsSpace t → s.words + t.words ≤ 64 → IsSpace (sum_space s t)
+sum_axioms : (s t : Space) → IsSpace s → IsSpace t → s.words + t.words ≤ 64 → IsSpace (joined_space Sum s t)
 sum_axioms s t is it few = record {
   some_words = omega (arith, is.some_words);
   few_words = few;
@@ -68,7 +70,7 @@ sum_axioms s t is it few = record {
   bounded = λ a b fa fb. omega arith;
 }
 
-pub most_axioms : (s t : Space) → IsSpace s → IsSpace t → s.words + t.words ≤ 64 → IsSpace (most_space s t)
+most_axioms : (s t : Space) → IsSpace s → IsSpace t → s.words + t.words ≤ 64 → IsSpace (joined_space Most s t)
 most_axioms s t is it few = record {
   some_words = omega (arith, is.some_words);
   few_words = few;
@@ -99,3 +101,7 @@ most_axioms s t is it few = record {
         it.bounded (drop s.words a) (drop s.words b) (back_fits s t a fa) (back_fits s t b fb),
       );
 }
+
+pub joined_axioms : (joining : Joining) (s t : Space) → IsSpace s → IsSpace t → s.words + t.words ≤ 64 → IsSpace (joined_space joining s t)
+joined_axioms Sum s t is it few = sum_axioms s t is it few
+joined_axioms Most s t is it few = most_axioms s t is it few

@@ -8,8 +8,9 @@ use Rattle.std.proofs.lemmas.List.Folds.{list_all-append}
 use Rattle.metric_laws.specs.Space.{Space, IsSpace}
 use Rattle.vector_kinds.specs.Vectors.{is_vector, vector_space}
 use Rattle.vector_kinds.specs.VectorLaws.{hamming_axioms, l1_axioms, max_axioms}
-use Rattle.metric_mix.specs.Composed.{sum_space, most_space}
-use Rattle.metric_mix.specs.ComposedLaws.{capped_axioms, sum_axioms, most_axioms}
+use Rattle.metric_mix.specs.Composed.{joined_space}
+use Rattle.metric_mix.specs.declared.joined.Joining.TheVariants.{Sum, Most}
+use Rattle.metric_mix.specs.ComposedLaws.{capped_axioms, joined_axioms}
 use Rattle.metric_mix.specs.Permutations.{kendall_space}
 use Rattle.metric_mix.specs.KendallLaws.{kendall_axioms}
 use Rattle.metric_mix.specs.Sets.{hausdorff_space}
@@ -81,14 +82,14 @@ lawful_even kind dim halves lawful =
     let none : dim % 2 ≡ 0 = eqb-true (dim % 2) 0 even in
     omega arith
 
-half_sum : (dim : ℕ) → 1 ≤ dim → dim ≤ 64 → dim / 2 + dim / 2 ≡ dim → IsSpace (sum_space (vector_space 2 (dim / 2)) (vector_space 1 (dim / 2)))
+half_sum : (dim : ℕ) → 1 ≤ dim → dim ≤ 64 → dim / 2 + dim / 2 ≡ dim → IsSpace (joined_space Sum (vector_space 2 (dim / 2)) (vector_space 1 (dim / 2)))
 half_sum dim some few even =
-    sum_axioms (vector_space 2 (dim / 2)) (vector_space 1 (dim / 2))
+    joined_axioms Sum (vector_space 2 (dim / 2)) (vector_space 1 (dim / 2))
     (l1_axioms (dim / 2) (omega arith) (omega arith)) (hamming_axioms (dim / 2) (omega arith) (omega arith)) (omega arith)
 
-half_most : (dim : ℕ) → 1 ≤ dim → dim ≤ 64 → dim / 2 + dim / 2 ≡ dim → IsSpace (most_space (vector_space 2 (dim / 2)) (vector_space 1 (dim / 2)))
+half_most : (dim : ℕ) → 1 ≤ dim → dim ≤ 64 → dim / 2 + dim / 2 ≡ dim → IsSpace (joined_space Most (vector_space 2 (dim / 2)) (vector_space 1 (dim / 2)))
 half_most dim some few even =
-    most_axioms (vector_space 2 (dim / 2)) (vector_space 1 (dim / 2))
+    joined_axioms Most (vector_space 2 (dim / 2)) (vector_space 1 (dim / 2))
     (l1_axioms (dim / 2) (omega arith) (omega arith)) (hamming_axioms (dim / 2) (omega arith) (omega arith)) (omega arith)
 
 pub lawful_axioms : MixSpacesAreSpaces

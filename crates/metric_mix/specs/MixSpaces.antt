@@ -2,7 +2,8 @@
 use Rattle.std.specs.Prelude.{◌≢◌, ◌≤◌, IsTrue, ℕ, ◌/◌, ◌%◌, ◌==◌, ◌&&◌, ◌||◌, Bool, true, List, codes, nat_le, if◌then◌else◌}
 use Rattle.metric_laws.specs.Space.{Space, IsSpace}
 use Rattle.vector_kinds.specs.Vectors.{is_vector, vector_space}
-use Rattle.metric_mix.specs.Composed.{capped_space, sum_space, most_space}
+use Rattle.metric_mix.specs.Composed.{capped_space, joined_space}
+use Rattle.metric_mix.specs.declared.joined.Joining.TheVariants.{Sum, Most}
 use Rattle.metric_mix.specs.Permutations.{kendall_space}
 use Rattle.metric_mix.specs.Sets.{hausdorff_space}
 
@@ -19,8 +20,8 @@ abbrev pub mix_parts : ℕ → ℕ → Space
 mix_parts kind dim =
     if kind == 4 then kendall_space dim
     else (if kind == 5 then hausdorff_space dim
-    else (if kind == 6 then sum_space (vector_space 2 (dim / 2)) (vector_space 1 (dim / 2))
-    else (if kind == 7 then most_space (vector_space 2 (dim / 2)) (vector_space 1 (dim / 2))
+    else (if kind == 6 then joined_space Sum (vector_space 2 (dim / 2)) (vector_space 1 (dim / 2))
+    else (if kind == 7 then joined_space Most (vector_space 2 (dim / 2)) (vector_space 1 (dim / 2))
     else (if kind == 8 then capped_space (vector_space 2 dim) 65535
     else vector_space kind dim))))
 

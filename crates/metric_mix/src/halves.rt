@@ -1,6 +1,6 @@
 ghost use Rattle.std.specs.Prelude.{◌≡◌, ◌≤◌, ◌/◌, ◌%◌};
 
-use crate::{Most, Sum};
+use crate::{Joined, Joining};
 use vector_kinds::{Hamming, L1};
 
 /// Points of two halves: L1 measures the first half, and Hamming the second. The number of coordinates is even.
@@ -23,21 +23,13 @@ impl Halves {
         Halves { dim }
     }
 
-    /// Returns the metric that adds the distances of the halves.
-    pub fn sum(self) -> Sum<L1, Hamming>
+    /// Returns the metric that joins the distances of the halves.
+    pub fn joined(self, joining: Joining) -> Joined<L1, Hamming>
         ensures first { result.first.dim ≡ self.dim / 2 }
         ensures second { result.second.dim ≡ self.dim / 2 }
+        ensures joining { result.joining ≡ joining }
     {
         let half = self.dim / 2;
-        Sum::new(L1::new(half), Hamming::new(half))
-    }
-
-    /// Returns the metric that takes the greater of the distances of the halves.
-    pub fn most(self) -> Most<L1, Hamming>
-        ensures first { result.first.dim ≡ self.dim / 2 }
-        ensures second { result.second.dim ≡ self.dim / 2 }
-    {
-        let half = self.dim / 2;
-        Most::new(L1::new(half), Hamming::new(half))
+        Joined::new(L1::new(half), Hamming::new(half), joining)
     }
 }

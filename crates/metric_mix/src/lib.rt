@@ -8,15 +8,12 @@ mod joined;
 mod kendall;
 pub mod laws;
 mod mix_space;
-mod most;
 mod permutations;
 mod sets;
-mod sum;
 
 pub use capped::Capped;
 pub use halves::Halves;
 pub use hausdorff::Hausdorff;
+pub use joined::{Joined, Joining};
 pub use kendall::Kendall;
 pub use mix_space::MixSpace;
-pub use most::Most;
-pub use sum::Sum;

@@ -1,7 +1,7 @@
 ghost use Rattle.std.specs.Prelude.{◌≡◌, ◌≤◌, ◌<◌, ◌↔◌, ◌⊎◌, false, IfOk, IsErrOf, IsOk, IsTrue};
 ghost use Rattle.metric_mix.specs.MixSpaces.{is_lawful, mix_name};
 
-use crate::{Capped, Halves, Hausdorff, Kendall};
+use crate::{Capped, Halves, Hausdorff, Joining, Kendall};
 use metric_laws::Metric;
 use vector_kinds::{Hamming, L1, Max, Space, SpaceFault};
 
@@ -134,8 +134,8 @@ impl Metric for MixSpace {
             MixSpace::Plain(space) => space.fits(p),
             MixSpace::Kendall(metric) => metric.fits(p),
             MixSpace::Hausdorff(metric) => metric.fits(p),
-            MixSpace::MixSum(halves) => halves.sum().fits(p),
-            MixSpace::MixMax(halves) => halves.most().fits(p),
+            MixSpace::MixSum(halves) => halves.joined(Joining::Sum).fits(p),
+            MixSpace::MixMax(halves) => halves.joined(Joining::Most).fits(p),
             MixSpace::L1Cap(metric) => metric.fits(p),
         }
     }
@@ -146,8 +146,8 @@ impl Metric for MixSpace {
             MixSpace::Plain(space) => space.dist(a, b),
             MixSpace::Kendall(metric) => metric.dist(a, b),
             MixSpace::Hausdorff(metric) => metric.dist(a, b),
-            MixSpace::MixSum(halves) => halves.sum().dist(a, b),
-            MixSpace::MixMax(halves) => halves.most().dist(a, b),
+            MixSpace::MixSum(halves) => halves.joined(Joining::Sum).dist(a, b),
+            MixSpace::MixMax(halves) => halves.joined(Joining::Most).dist(a, b),
             MixSpace::L1Cap(metric) => Capped::new(*metric, MOST).dist(a, b),
         }
     }

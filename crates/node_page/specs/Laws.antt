@@ -4,7 +4,7 @@ use Rattle.tree_shape.specs.declared.live.Live.{Live}
 use Rattle.node_page.specs.Heads.{SpellsHead, head_fault}
 use Rattle.node_page.specs.Slots.{SpellsSlot}
 use Rattle.node_page.specs.Opening.{OpensTo, open_fault, live_of}
-use Rattle.node_page.specs.Nodes.{SpellsIn, SpellsNode, node_fault, SpellsOldNode, old_node_fault}
+use Rattle.node_page.specs.Nodes.{SpellsIn, fault_in}
 use Rattle.tree_shape.specs.declared.entry.Node.{Node}
 use Rattle.node_page.specs.declared.head.Head.{Head}
 use Rattle.node_page.specs.declared.slot.Slot.{Slot}
@@ -39,13 +39,9 @@ OneLiveSlot =
     (file : List ℕ) (head head2 : Head) (live live2 : Live) → OpensTo file head live → OpensTo file head2 live2 →
     ((head ≡ head2) × (live ≡ live2) × (live ≡ live_of file))
 
--- a page has no fault exactly where it spells some node
+-- a page of each version has no fault exactly where it spells some node
 abbrev pub FaultIsNoNode : Type 0
-FaultIsNoNode = (dim : ℕ) (page : List ℕ) → (node_fault dim page ≡ None) ↔ ((node : Node) × SpellsNode dim page node)
-
--- a page of the first version has no fault exactly where it spells some node
-abbrev pub FaultIsNoOldNode : Type 0
-FaultIsNoOldNode = (dim : ℕ) (page : List ℕ) → (old_node_fault dim page ≡ None) ↔ ((node : Node) × SpellsOldNode dim page node)
+FaultIsNoNode = (version : Version) (dim : ℕ) (page : List ℕ) → (fault_in version dim page ≡ None) ↔ ((node : Node) × SpellsIn version dim page node)
 
 -- pages that spell one node, both by one version, are one page
 abbrev pub OneNodePage : Type 0

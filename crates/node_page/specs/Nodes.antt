@@ -98,10 +98,6 @@ SpellsIn version dim page (Inner level es) =
 abbrev pub SpellsNode : ℕ → List ℕ → Node → Type 0
 SpellsNode dim page node = SpellsIn Second dim page node
 
--- the page spells the node by the first version
-abbrev pub SpellsOldNode : ℕ → List ℕ → Node → Type 0
-SpellsOldNode dim page node = SpellsIn First dim page node
-
 -- whether the distances of the entry from a place on are at most the bound; a leaf's has no radius
 unfoldable pub near_at : Version → Bool → List ℕ → ℕ → Bool
 near_at version leaf page at = nat_le (number_at (at + parent_place version leaf) 8 page) bound && (leaf || nat_le (number_at (at + 4) 8 page) bound)
@@ -128,27 +124,11 @@ fault_in version dim page =
     else if not (is_rest_zero version dim (slice_index page 0 == 0) page (count_of page)) then Some Tail
     else None
 
--- the first fault of a page of the second version
-abbrev pub node_fault : ℕ → List ℕ → Option NodeFault
-node_fault dim page = fault_in Second dim page
-
--- the first fault of a page of the first version
-abbrev pub old_node_fault : ℕ → List ℕ → Option NodeFault
-old_node_fault dim page = fault_in First dim page
-
 -- the node of a page that has no fault
 unfoldable pub node_in : Version → ℕ → List ℕ → Node
 node_in version dim page =
     if slice_index page 0 == 0 then Leaf (firsts (λ i. leaf_in version dim page (place_in version true dim i)) (count_of page))
     else Inner (slice_index page 0) (firsts (λ i. inner_at dim page (place_of dim i)) (count_of page))
-
--- the node of a page of the second version
-abbrev pub node_of : ℕ → List ℕ → Node
-node_of dim page = node_in Second dim page
-
--- the node of a page of the first version
-abbrev pub old_node_of : ℕ → List ℕ → Node
-old_node_of dim page = node_in First dim page
 
 -- a node that a page can hold
 abbrev pub IsLawfulNode : ℕ → Node → Type 0

@@ -1,6 +1,6 @@
 //! Laws of the spellings of heads, slots and nodes, and of the files that open.
 
-ghost use Rattle.node_page.specs.Laws.{FaultIsNoHead, FaultIsNoNode, FaultIsNoOldNode, OneHeadPage, OneSlotPage, OneNodePage, FaultIsNotOpen, OneLiveSlot};
+ghost use Rattle.node_page.specs.Laws.{FaultIsNoHead, FaultIsNoNode, OneHeadPage, OneSlotPage, OneNodePage, FaultIsNotOpen, OneLiveSlot};
 
 /// A page has no fault exactly where it spells a head.
 pub fn fault_is_no_head()
@@ -17,14 +17,9 @@ pub fn one_slot_page()
     ensures { OneSlotPage }
 {}
 
-/// A page has no fault exactly where it spells a node over points of `dim` coordinates.
+/// A page of each version has no fault exactly where it spells a node over points of `dim` coordinates.
 pub fn fault_is_no_node()
     ensures { FaultIsNoNode }
-{}
-
-/// A page of the first version has no fault exactly where it spells a node over points of `dim` coordinates.
-pub fn fault_is_no_old_node()
-    ensures { FaultIsNoOldNode }
 {}
 
 /// A node has one page by each version.

@@ -4,7 +4,7 @@ ghost use Rattle.node_page.specs.declared.node.NodeFault.TheVariants.{Memory};
 ghost use Rattle.tree_shape.specs.Flat.{firsts};
 ghost use Rattle.tree_shape.specs.Entries.{flat_leaves, flat_inners};
 ghost use Rattle.node_page.specs.declared.node.Version.TheVariants.{First};
-ghost use Rattle.node_page.specs.Nodes.{AreNumbers, AreNumbersFrom, SpellsIn, SpellsNode, SpellsOldNode, IsLawfulNode, parent_place, leaf_in, leaf_at, inner_at, place_of, place_in, count_of, near_at, are_near, is_count, is_rest_zero, fault_in, node_in, node_fault, node_of, old_node_fault, old_node_of};
+ghost use Rattle.node_page.specs.Nodes.{AreNumbers, AreNumbersFrom, SpellsIn, IsLawfulNode, parent_place, leaf_in, leaf_at, inner_at, place_of, place_in, count_of, near_at, are_near, is_count, is_rest_zero, fault_in, node_in};
 
 use crate::bytes::{are_zero, get_u16, get_u32, get_u64};
 use byteorder::{BigEndian, ByteOrder};
@@ -279,13 +279,23 @@ fn node_in(alloc: Global, page: &[u8; 4096], dim: u8, version: Version) -> Resul
     Ok(Node::Inner { level, entries })
 }
 
-// Reads a node of a version, or names the first fault.
-fn decode(alloc: Global, page: &[u8; 4096], dim: u8, version: Version) -> Result<Node, NodeFault>
+/// Reads a node over points of `dim` coordinates from a page of a file of `version`, or names the first fault in the order of
+/// `NodeFault`. A page of zeros is an empty leaf. In a leaf of the first version the tag of an object is its id.
+pub fn decode_node(
+    alloc: Global,
+    page: &[u8; 4096],
+    dim: u8,
+    version: Version,
+) -> Result<Node, NodeFault>
     requires some { 1 ≤ dim }
     requires few { dim ≤ 64 }
+    // The page spells the node that is read.
     ensures ok { IfOk result (λ node. SpellsIn version dim page.now node) }
+    // The node that is read can be written.
     ensures lawful { IfOk result (λ node. IsLawfulNode dim node) }
+    // The node that is read is the page's, and the page has no fault.
     ensures told { IfOk result (λ node. (fault_in version dim page.now ≡ None) × (node ≡ node_in version dim page.now)) }
+    // A node that the page spells is read, unless memory runs out.
     ensures only { (node : Node) → SpellsIn version dim page.now node → (result ≡ Ok node) ⊎ (result ≡ Err NodeFault.Memory) }
     ensures fault { IfErr result (λ fault. (fault ≡ NodeFault.Memory) ⊎ (fault_in version dim page.now ≡ Some fault)) }
     ensures memory { IfErr result (λ fault. fault ≡ NodeFault.Memory → fault_in version dim page.now ≡ None) }
@@ -294,42 +304,4 @@ fn decode(alloc: Global, page: &[u8; 4096], dim: u8, version: Version) -> Result
         return Err(fault);
     }
     Ok(node_in(alloc, page, dim, version)?)
-}
-
-/// Reads a node over points of `dim` coordinates from a page of a file of version 2, or names the first fault in the
-/// order of `NodeFault`. A page of zeros is an empty leaf.
-pub fn decode_node(alloc: Global, page: &[u8; 4096], dim: u8) -> Result<Node, NodeFault>
-    requires some { 1 ≤ dim }
-    requires few { dim ≤ 64 }
-    // The page spells the node that is read.
-    ensures ok { IfOk result (λ node. SpellsNode dim page.now node) }
-    // The node that is read can be written.
-    ensures lawful { IfOk result (λ node. IsLawfulNode dim node) }
-    // The node that is read is the page's, and the page has no fault.
-    ensures told { IfOk result (λ node. (node_fault dim page.now ≡ None) × (node ≡ node_of dim page.now)) }
-    // A node that the page spells is read, unless memory runs out.
-    ensures only { (node : Node) → SpellsNode dim page.now node → (result ≡ Ok node) ⊎ (result ≡ Err NodeFault.Memory) }
-    ensures fault { IfErr result (λ fault. (fault ≡ NodeFault.Memory) ⊎ (node_fault dim page.now ≡ Some fault)) }
-    ensures memory { IfErr result (λ fault. fault ≡ NodeFault.Memory → node_fault dim page.now ≡ None) }
-{
-    decode(alloc, page, dim, Version::Second)
-}
-
-/// Reads a node over points of `dim` coordinates from a page of a file of version 1, whose leaf entries have no tags: the
-/// tag of an object is its id. It names the same faults in the same order as `decode_node`.
-pub fn decode_old_node(alloc: Global, page: &[u8; 4096], dim: u8) -> Result<Node, NodeFault>
-    requires some { 1 ≤ dim }
-    requires few { dim ≤ 64 }
-    // The page spells the node that is read.
-    ensures ok { IfOk result (λ node. SpellsOldNode dim page.now node) }
-    // The node that is read can be written.
-    ensures lawful { IfOk result (λ node. IsLawfulNode dim node) }
-    // The node that is read is the page's, and the page has no fault.
-    ensures told { IfOk result (λ node. (old_node_fault dim page.now ≡ None) × (node ≡ old_node_of dim page.now)) }
-    // A node that the page spells is read, unless memory runs out.
-    ensures only { (node : Node) → SpellsOldNode dim page.now node → (result ≡ Ok node) ⊎ (result ≡ Err NodeFault.Memory) }
-    ensures fault { IfErr result (λ fault. (fault ≡ NodeFault.Memory) ⊎ (old_node_fault dim page.now ≡ Some fault)) }
-    ensures memory { IfErr result (λ fault. fault ≡ NodeFault.Memory → old_node_fault dim page.now ≡ None) }
-{
-    decode(alloc, page, dim, Version::First)
 }

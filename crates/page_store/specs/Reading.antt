@@ -36,10 +36,6 @@ reading_in version dim pages file page =
 abbrev pub reading : ℕ → ℕ → List ℕ → Read
 reading dim pages file = reading_in Second dim pages file
 
-abbrev pub version_of : Bool → Version
-version_of true = First
-version_of false = Second
-
 abbrev pub node_or_none : Result Node PageFault → Option Node
 node_or_none (Ok node) = Some node
 node_or_none (Err fault) = None

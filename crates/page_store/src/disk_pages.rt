@@ -1,10 +1,12 @@
-ghost use Rattle.std.specs.Prelude.{◌≡◌, ◌≤◌, ◌^◌, true, false, IsTrue};
+ghost use Rattle.std.specs.Prelude.{◌≡◌, ◌≤◌, ◌^◌, IsTrue};
 ghost use Rattle.disk_model.specs.Disk.{IsUnchanged};
+ghost use Rattle.node_page.specs.declared.node.Version.TheVariants.{Second};
 ghost use Rattle.page_store.specs.Reading.{reading};
 
 use crate::reading::{is_within, node_on, read_page};
 use crate::{PageFault, Pages, SharedNode};
 use disk_model::Disk;
+use node_page::Version;
 use std::alloc::Global;
 
 /// The pages of a file on a disk.
@@ -18,8 +20,8 @@ pub struct DiskPages<'a, D: Disk> {
     pub pages: u32,
     /// The number of requests for a node. The count stops at the greatest `u64`.
     pub asked: u64,
-    /// Whether the file is of version 1.
-    pub first_version: bool,
+    /// The version of the file.
+    pub version: Version,
     // The page that was read last.
     bytes: [u8; 4096],
     ghost some: { 1 ≤ dim },
@@ -38,20 +40,13 @@ impl<'a, D: Disk> DiskPages<'a, D> {
         ensures dim { result.dim ≡ dim }
         ensures pages { result.pages ≡ pages }
         ensures asked { result.asked ≡ 0 }
-        ensures version { result.first_version ≡ false }
+        ensures version { result.version ≡ Second }
     {
-        DiskPages {
-            disk,
-            dim,
-            pages,
-            asked: 0,
-            first_version: false,
-            bytes: [0; 4096],
-        }
+        DiskPages::of_version(disk, dim, pages, Version::Second)
     }
 
-    /// Returns the pages of a file of version 1, with none asked for yet.
-    pub fn old(disk: &'a mut D, dim: u8, pages: u32) -> Self
+    /// Returns the pages of a file of `version`, with none asked for yet.
+    pub fn of_version(disk: &'a mut D, dim: u8, pages: u32, version: Version) -> Self
         requires some { 1 ≤ dim }
         requires few { dim ≤ 64 }
         requires small { pages ≤ 2 ^ 24 }
@@ -60,14 +55,14 @@ impl<'a, D: Disk> DiskPages<'a, D> {
         ensures dim { result.dim ≡ dim }
         ensures pages { result.pages ≡ pages }
         ensures asked { result.asked ≡ 0 }
-        ensures version { result.first_version ≡ true }
+        ensures version { result.version ≡ version }
     {
         DiskPages {
             disk,
             dim,
             pages,
             asked: 0,
-            first_version: true,
+            version,
             bytes: [0; 4096],
         }
     }
@@ -78,7 +73,7 @@ impl<D: Disk> Pages for DiskPages<'_, D> {
     ghost use Rattle.disk_model.specs.Disk.{IsUnchanged};
     ghost use Rattle.page_store.specs.Shelves.{disk_shelf};
 
-    ghost shelf = { λ p. disk_shelf p.first_version p.dim p.pages (D.state p.disk.now) p.asked };
+    ghost shelf = { λ p. disk_shelf p.version p.dim p.pages (D.state p.disk.now) p.asked };
 
     ghost keeps = { λ p q. (q.disk.ghost_name ≡ p.disk.ghost_name) × IsUnchanged (D.state p.disk.now) (D.state q.disk.now) };
 
@@ -100,6 +95,6 @@ impl<D: Disk> Pages for DiskPages<'_, D> {
         if read_page(self.disk, page, &mut self.bytes).is_err() {
             return Err(PageFault::Disk);
         }
-        node_on(alloc, page, &self.bytes, self.dim, self.first_version)
+        node_on(alloc, page, &self.bytes, self.dim, self.version)
     }
 }

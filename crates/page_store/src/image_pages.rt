@@ -4,6 +4,7 @@ ghost use Rattle.page_store.specs.Images.{bytes_in};
 use crate::image::Image;
 use crate::reading::{is_within, node_on, node_on_cut, whole_page};
 use crate::{PageFault, Pages, SharedNode};
+use node_page::Version;
 use std::alloc::Global;
 
 /// The pages of a file of version 2 whose bytes are in memory. They are the pages of a disk with these bytes.
@@ -78,7 +79,7 @@ impl Pages for ImagePages<'_> {
         }
         let (file, place) = self.image.place(page);
         if let Some(bytes) = whole_page(file, place) {
-            return node_on(alloc, page, bytes, self.dim, false);
+            return node_on(alloc, page, bytes, self.dim, Version::Second);
         }
         node_on_cut(alloc, file, place, page, self.dim)
     }

@@ -1,5 +1,5 @@
 ghost use Rattle.std.specs.Prelude.{◌≡◌, ◌⊎◌, ◌+◌, ◌^◌, ◌<◌, ◌≤◌, IsTrue, OnOk, IfOk, IfErr, IfSome, slice_index};
-ghost use Rattle.page_store.specs.Reading.{is_within, version_of, IsBytesFault};
+ghost use Rattle.page_store.specs.Reading.{is_within, IsBytesFault};
 ghost use Rattle.node_page.specs.Nodes.{IsLawfulNode, fault_in, node_in};
 ghost use Rattle.outside_io.specs.Causes.{HasCause};
 ghost use Rattle.disk_model.specs.Disk.{IsUnchanged};
@@ -8,7 +8,7 @@ ghost use Rattle.node_page.specs.declared.node.Version.TheVariants.{Second};
 
 use crate::{PageFault, SharedNode};
 use disk_model::{Disk, Failed};
-use node_page::{NodeFault, decode_node, decode_old_node};
+use node_page::{NodeFault, Version, decode_node};
 use std::alloc::Global;
 use tree_shape::{Node, PAGE};
 
@@ -60,23 +60,23 @@ pub fn is_within(pages: u32, page: u32) -> bool
     page >= 3 && page < pages
 }
 
-/// Returns the node that a page's bytes spell, in a file of version 1 or 2 over points of `dim` coordinates. A page that spells no
+/// Returns the node that a page's bytes spell, in a file of `version` over points of `dim` coordinates. A page that spells no
 /// node is `Bad`; no other refusal comes but `Memory`.
 pub fn node_on(
     alloc: Global,
     page: u32,
     bytes: &[u8; 4096],
     dim: u8,
-    first_version: bool,
+    version: Version,
 ) -> Result<SharedNode, PageFault>
     requires some { 1 ≤ dim }
     requires few { dim ≤ 64 }
     ensures lawful { IfOk result (IsLawfulNode dim) }
-    ensures told { IfOk result (λ node. (fault_in (version_of first_version) dim bytes.now ≡ None)
-        × (node ≡ node_in (version_of first_version) dim bytes.now)) }
-    ensures fault { IfErr result (IsBytesFault (version_of first_version) dim bytes.now page) }
+    ensures told { IfOk result (λ node. (fault_in version dim bytes.now ≡ None)
+        × (node ≡ node_in version dim bytes.now)) }
+    ensures fault { IfErr result (IsBytesFault version dim bytes.now page) }
 {
-    match decode(alloc, bytes, dim, first_version) {
+    match decode_node(alloc, bytes, dim, version) {
         Ok(node) => Ok(SharedNode::new(alloc, node)?),
         Err(NodeFault::Memory) => Err(PageFault::Memory),
         Err(fault) => Err(PageFault::Bad(page, fault)),
@@ -101,26 +101,5 @@ pub fn node_on_cut(
 {
     let mut bytes = [0; 4096];
     copy_page(file, number, &mut bytes);
-    node_on(alloc, page, &bytes, dim, false)
-}
-
-// Reads a node in the given version.
-fn decode(
-    alloc: Global,
-    bytes: &[u8; 4096],
-    dim: u8,
-    first_version: bool,
-) -> Result<Node, NodeFault>
-    requires some { 1 ≤ dim }
-    requires few { dim ≤ 64 }
-    ensures lawful { IfOk result (IsLawfulNode dim) }
-    ensures told { IfOk result (λ node. (fault_in (version_of first_version) dim bytes.now ≡ None)
-        × (node ≡ node_in (version_of first_version) dim bytes.now)) }
-    ensures fault { IfErr result (λ fault. (fault ≡ NodeFault.Memory) ⊎ (fault_in (version_of first_version) dim bytes.now ≡ Some fault)) }
-{
-    if first_version {
-        decode_old_node(alloc, bytes, dim)
-    } else {
-        decode_node(alloc, bytes, dim)
-    }
+    node_on(alloc, page, &bytes, dim, Version::Second)
 }

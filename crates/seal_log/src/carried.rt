@@ -17,7 +17,7 @@ use crate::paths::leads_to;
 use crate::{CarriedPage, Parts, ProofFault};
 use log_model::{Log, Record};
 use metric_laws::Listed;
-use node_page::Head;
+use node_page::{Head, Version};
 use page_store::{PageFault, SharedNode, node_on};
 use prune_log::{LogFault, decode_log};
 use std::alloc::Global;
@@ -79,7 +79,7 @@ impl Carried {
         ensures fault { IfErr result (IsBytesFault Second self.now.head.dim (page_of (file_of self.now) page) page) }
     {
         let bytes = page_bytes(self.pages.as_slice(), page);
-        node_on(alloc, page, &bytes, self.head.dim, false)
+        node_on(alloc, page, &bytes, self.head.dim, Version::Second)
     }
 
     /// Returns the fault of the first record whose page isn't carried.

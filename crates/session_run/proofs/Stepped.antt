@@ -24,6 +24,7 @@ use Rattle.page_store.specs.Placing.{live_pages}
 use Rattle.page_store.specs.Reached.{IsReached}
 use Rattle.page_store.specs.Reading.{nodes_of, reading}
 use Rattle.page_store.specs.Shelf.{IsPassing}
+use Rattle.node_page.specs.declared.node.Version.TheVariants.{Second}
 use Rattle.page_store.specs.Shelves.{disk_shelf}
 use Rattle.log_model.proofs.Published.{length-points}
 use Rattle.pin_cursor.specs.Cursor.{OpenCursor, IsCursorOn, begun, rest_of, tags_of}
@@ -100,7 +101,7 @@ pub record IsStep (s : Space) (dim : ℕ) (disk : DiskState) (c now : OpenCursor
 -- a cursor refused
 pub record IsRefusal (s : Space) (dim : ℕ) (before after : DiskState) (c : OpenCursor) (fault : PageFault) : Type 0 where
   pub asked : ℕ
-  pub cause : HasPageCause c (disk_shelf false dim c.live.pages before 0) (disk_shelf false dim c.live.pages after asked) fault
+  pub cause : HasPageCause c (disk_shelf Second dim c.live.pages before 0) (disk_shelf Second dim c.live.pages after asked) fault
   pub sound : (nodes : Nodes) → IsTrue before.tells → IsSoundTree s nodes c.live → HoldsTree dim nodes c.live before.bytes → IsCursorOn s nodes c → IsPassing fault
 
 -- a disk that is only read

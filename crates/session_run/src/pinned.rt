@@ -5,6 +5,7 @@ ghost use Rattle.disk_model.specs.Disk.{IsUnchanged};
 ghost use Rattle.tree_shape.specs.Tree.{Nodes, IsSoundTree};
 ghost use Rattle.page_store.specs.Reading.{nodes_of, reading};
 ghost use Rattle.page_store.specs.Shelf.{IsPassing};
+ghost use Rattle.node_page.specs.declared.node.Version.TheVariants.{Second};
 ghost use Rattle.page_store.specs.Shelves.{disk_shelf};
 ghost use Rattle.rows_text.specs.declared.command.Command.TheVariants as command;
 ghost use Rattle.rows_text.specs.Meaning.{TagsAre, most_cursors};
@@ -87,8 +88,8 @@ fn step_cursor<M: Metric, D: Disk>(
         HoldsTree index.now.file.head.dim nodes cursor.old.live (D.state disk.old).bytes →
         IsCursorOn (M.space index.now.file.metric) nodes cursor.old → IsPassing fault) }
     ensures cause { IfErr result (λ fault. (asked : ℕ)
-        × HasPageCause cursor.old (disk_shelf false index.now.file.head.dim cursor.old.live.pages (D.state disk.old) 0)
-        (disk_shelf false index.now.file.head.dim cursor.old.live.pages (D.state disk.new) asked) fault) }
+        × HasPageCause cursor.old (disk_shelf Second index.now.file.head.dim cursor.old.live.pages (D.state disk.old) 0)
+        (disk_shelf Second index.now.file.head.dim cursor.old.live.pages (D.state disk.new) asked) fault) }
 {
     index.is_lawful();
     let mut pages = DiskPages::new(disk, index.head().dim, cursor.live().pages);

@@ -1,5 +1,5 @@
 use metric_laws::{Meter, Metric, Ruler};
-use metric_mix::{Capped, Halves, Hausdorff, Kendall, MixSpace, Most, Sum};
+use metric_mix::{Capped, Halves, Hausdorff, Joined, Joining, Kendall, MixSpace};
 use std::test::Fail;
 use vector_kinds::{Hamming, L1, SpaceFault};
 
@@ -146,17 +146,29 @@ fn distances_of_worked_points(rt: HostRuntime) -> Result<(), Fail> {
 fn each_metric_alone(rt: HostRuntime) {
     let (a, b) = ([1, 2, 7, 7], [3, 2, 7, 8]);
     assert!(rt; distance(Capped::new(L1::new(4), 2), &a, &b) == Some(2));
-    assert!(rt; distance(Sum::new(L1::new(2), Hamming::new(2)), &a, &b) == Some(3));
-    assert!(rt; distance(Most::new(L1::new(2), Hamming::new(2)), &a, &b) == Some(2));
-    assert!(rt; distance(Halves::new(4).sum(), &a, &b) == Some(3));
-    assert!(rt; distance(Halves::new(4).most(), &a, &b) == Some(2));
+    assert!(rt;
+        distance(
+            Joined::new(L1::new(2), Hamming::new(2), Joining::Sum),
+            &a,
+            &b
+        ) == Some(3)
+    );
+    assert!(rt;
+        distance(
+            Joined::new(L1::new(2), Hamming::new(2), Joining::Most),
+            &a,
+            &b
+        ) == Some(2)
+    );
+    assert!(rt; distance(Halves::new(4).joined(Joining::Sum), &a, &b) == Some(3));
+    assert!(rt; distance(Halves::new(4).joined(Joining::Most), &a, &b) == Some(2));
     assert!(rt; distance(Kendall::new(2), &[0, 1], &[1, 0]) == Some(1));
     assert!(rt; distance(Hausdorff::new(2), &[0, 9], &[4, 4]) == Some(5));
 }
 
 #[test]
 fn a_sum_stops_at_the_greatest_distance(rt: HostRuntime) {
-    let far = Sum::new(L1::new(32), L1::new(32));
+    let far = Joined::new(L1::new(32), L1::new(32), Joining::Sum);
     assert!(rt; distance(far, &[0; 64], &[4294967295; 64]) == Some(274877906880));
     let mut meter = Meter::new(Capped::new(far, 1));
     assert!(rt; measured(&mut meter, &[0; 64], &[4294967295; 64]) == 1);

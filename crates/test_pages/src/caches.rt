@@ -1,6 +1,7 @@
 ghost use Rattle.std.specs.Prelude.{◌≡◌, ◌≤◌, ℕ, false, IsTrue, Contains};
 ghost use Rattle.disk_model.specs.Disk.{IsUnchanged};
 ghost use Rattle.page_store.specs.Shelf.{Shelf, HoldsSame};
+ghost use Rattle.node_page.specs.declared.node.Version.TheVariants.{Second};
 ghost use Rattle.page_store.specs.Shelves.{disk_shelf};
 ghost use Rattle.page_cache.specs.Keeping.{Agrees};
 ghost use Rattle.page_cache.specs.Laws.{GrowsTo};
@@ -196,9 +197,9 @@ fn look<D: Disk>(
     kept: Kept,
     page: u32,
 ) -> (Result<Shown, PageFault>, Kept)
-    requires { Agrees kept (disk_shelf false 1 6 (D.state disk.old) 0) }
+    requires { Agrees kept (disk_shelf Second 1 6 (D.state disk.old) 0) }
     ensures same { IsUnchanged (D.state disk.old) (D.state disk.new) }
-    ensures agrees { Agrees result.1 (disk_shelf false 1 6 (D.state disk.new) 0) }
+    ensures agrees { Agrees result.1 (disk_shelf Second 1 6 (D.state disk.new) 0) }
 {
     laws::agreement_lasts();
     let mut pages = Cached::from_parts(DiskPages::new(disk, 1, 6), kept);

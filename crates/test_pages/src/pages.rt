@@ -1,7 +1,7 @@
 use crate::caches::holds;
 use disk_model::{Disk, MemoryDisk};
 use metric_laws::Memory;
-use node_page::NodeFault;
+use node_page::{NodeFault, Version};
 use page_store::{DiskPages, ImagePages, PageFault, Pages, Staged, laws};
 use std::alloc::Global;
 use std::process::Abort;
@@ -88,7 +88,7 @@ fn pages_of_a_file(rt: HostRuntime) {
 
 // Says why page 4 of a disk with a file of version 1 gives no node.
 fn old_fault<D: Disk>(alloc: Global, disk: &mut D) -> Option<PageFault> {
-    let mut pages = DiskPages::old(disk, 2, 5);
+    let mut pages = DiskPages::of_version(disk, 2, 5, Version::First);
     fault_at(alloc, &mut pages, 4)
 }
 

@@ -4,7 +4,7 @@ use Rattle.disk_model.specs.Disk.{DiskState}
 use Rattle.tree_shape.specs.declared.entry.Node.{Node}
 use Rattle.tree_shape.specs.declared.entry.Node.TheVariants.{Inner}
 use Rattle.tree_shape.specs.Fill.{IsFilled, root_least}
-use Rattle.page_store.specs.Reading.{reading, reading_in, version_of}
+use Rattle.page_store.specs.Reading.{reading, reading_in}
 use Rattle.tree_audit.specs.declared.faults.AuditFault.{AuditFault}
 use Rattle.tree_audit.specs.declared.parts.Part.{Part}
 use Rattle.batch_run.specs.Audits.{AreTried}
@@ -25,8 +25,8 @@ returns-in-Some-2 g c =
     let root : IsRootWith s live disk es = λ told.
     let bytes : on.bytes ≡ disk.bytes = (λ i. (same i).bytes) ∙ (c.in-Some.ensures.same told).1 in
     let tells : IsTrue on.tells = (λ i. (same i).tells) ∙ (c.in-Some.ensures.same told).0 in
-    let read : reading s.words live.pages disk.bytes live.root ≡ reading_in (version_of c.new-pages.result.first_version) c.new-pages.result.dim c.new-pages.result.pages on.bytes live.root =
-    λ i. reading_in (version_of (sym c.new-pages.ensures.version i)) (sym dim i) (sym c.new-pages.ensures.pages i) (sym bytes i) live.root in
+    let read : reading s.words live.pages disk.bytes live.root ≡ reading_in c.new-pages.result.version c.new-pages.result.dim c.new-pages.result.pages on.bytes live.root =
+    λ i. reading_in (sym c.new-pages.ensures.version i) (sym dim i) (sym c.new-pages.ensures.pages i) (sym bytes i) live.root in
     read ∙ c.in-Ok.ensures.ok.told tells ∙ ap (λ (n : Node). Ok n) (sym c.as_ref.ensures ∙ c.in-Inner.is) ∙ (λ i. Ok (Inner (level i) es)) in
     let all = rw c.in-Some-2.is at c.in_ok-parts.ensures in
     let tried : AreTried s live disk 0 es (map (λ part. Ok part) parts) =

@@ -2,7 +2,7 @@ use Rattle.std.proofs.Common.{◌≡◌, ap, sym, refl, rules}
 use Rattle.std.proofs.Common.{Option, IfErr, subst}
 use Rattle.metric_mix.specs.MixSpaces.{mix_space}
 use Rattle.metric_mix.specs.MixKinds.{mix_kind, mix_dim}
-use Rattle.page_store.specs.Reading.{reading, reading_in, version_of}
+use Rattle.page_store.specs.Reading.{reading, reading_in}
 use Rattle.page_store.specs.Shelves.{disk_shelf}
 use Rattle.tree_audit.specs.declared.faults.AuditFault.{AuditFault}
 use Rattle.tree_audit.specs.Audited.{audit_fault, HasAuditCause}
@@ -23,9 +23,9 @@ returns-clause-err g c =
     let m = c.new-ruler.result.metric in
     let head = c.args.head.now in
     let live = c.args.live.now in
-    let old = disk_shelf p.first_version p.dim p.pages (g.D.Disk.state p.disk.now) p.asked in
-    let new = disk_shelf q.first_version q.dim q.pages (g.D.Disk.state q.disk.now) q.asked in
-    let told : audit_fault (mix_space (mix_kind m) (mix_dim m)) (reading_in (version_of p.first_version) p.dim p.pages (g.D.Disk.state p.disk.now).bytes) live
+    let old = disk_shelf p.version p.dim p.pages (g.D.Disk.state p.disk.now) p.asked in
+    let new = disk_shelf q.version q.dim q.pages (g.D.Disk.state q.disk.now) q.asked in
+    let told : audit_fault (mix_space (mix_kind m) (mix_dim m)) (reading_in p.version p.dim p.pages (g.D.Disk.state p.disk.now).bytes) live
     ≡ audit_fault (mix_space head.kind head.dim) (reading head.dim live.pages (g.D.Disk.state c.args.disk.now).bytes) live =
     rw (c.new-pages.ensures.version, c.new-pages.ensures.dim, c.new-pages.ensures.pages, c.new-pages.ensures.same, c.new-ruler.ensures.metric, c.space_of.ensures.kind, c.space_of.ensures.dim) refl in
     of_audit c.audit.result old new (g.D.Disk.state c.args.disk.now) _ _

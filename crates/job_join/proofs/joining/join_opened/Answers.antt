@@ -18,8 +18,8 @@ returns-clause-joined g c =
     let trees = c.args.trees.now in
     let d = g.D.Disk.state c.args.index.now in
     let e = g.E.Disk.state c.args.other.now in
-    let a = asked_for (disk_shelf p.inner.first_version p.inner.dim p.inner.pages (g.D.Disk.state p.inner.disk.now) p.inner.asked) p.asked in
-    let b = asked_for (disk_shelf q.inner.first_version q.inner.dim q.inner.pages (g.E.Disk.state q.inner.disk.now) q.inner.asked) q.asked in
+    let a = asked_for (disk_shelf p.inner.version p.inner.dim p.inner.pages (g.D.Disk.state p.inner.disk.now) p.inner.asked) p.asked in
+    let b = asked_for (disk_shelf q.inner.version q.inner.dim q.inner.pages (g.E.Disk.state q.inner.disk.now) q.inner.asked) q.asked in
     let sides : Sides trees d e a b = record {
       one = c.requires.one_space;
       left = record {
@@ -34,7 +34,7 @@ returns-clause-joined g c =
       };
     } in
     let same : mix_space (mix_kind m) (mix_dim m) ≡ space_of (tree_of d trees.left) = rw (c.new-ruler.ensures.metric, c.space_of.ensures.kind, c.space_of.ensures.dim) refl in
-    join_of c.join-joined.result _ trees d e c.args.radius a (asked_for (disk_shelf p2.inner.first_version p2.inner.dim p2.inner.pages (g.D.Disk.state p2.inner.disk.now) p2.inner.asked) p2.asked) b (asked_for (disk_shelf q2.inner.first_version q2.inner.dim q2.inner.pages (g.E.Disk.state q2.inner.disk.now) q2.inner.asked) q2.asked) _ _
+    join_of c.join-joined.result _ trees d e c.args.radius a (asked_for (disk_shelf p2.inner.version p2.inner.dim p2.inner.pages (g.D.Disk.state p2.inner.disk.now) p2.inner.asked) p2.asked) b (asked_for (disk_shelf q2.inner.version q2.inner.dim q2.inner.pages (g.E.Disk.state q2.inner.disk.now) q2.inner.asked) q2.asked) _ _
     sides same c.join-joined.ensures.joined c.join-joined.ensures.scanned
 
 pub returns-clause-refused : goal.returns-clause-refused
@@ -47,8 +47,8 @@ returns-clause-refused g c =
     let trees = c.args.trees.now in
     let d = g.D.Disk.state c.args.index.now in
     let e = g.E.Disk.state c.args.other.now in
-    let a = asked_for (disk_shelf p.inner.first_version p.inner.dim p.inner.pages (g.D.Disk.state p.inner.disk.now) p.inner.asked) p.asked in
-    let b = asked_for (disk_shelf q.inner.first_version q.inner.dim q.inner.pages (g.E.Disk.state q.inner.disk.now) q.inner.asked) q.asked in
+    let a = asked_for (disk_shelf p.inner.version p.inner.dim p.inner.pages (g.D.Disk.state p.inner.disk.now) p.inner.asked) p.asked in
+    let b = asked_for (disk_shelf q.inner.version q.inner.dim q.inner.pages (g.E.Disk.state q.inner.disk.now) q.inner.asked) q.asked in
     let sides : Sides trees d e a b = record {
       one = c.requires.one_space;
       left = record {
@@ -63,5 +63,5 @@ returns-clause-refused g c =
       };
     } in
     let same : mix_space (mix_kind m) (mix_dim m) ≡ space_of (tree_of d trees.left) = rw (c.new-ruler.ensures.metric, c.space_of.ensures.kind, c.space_of.ensures.dim) refl in
-    refusal_of c.join-joined.result _ trees d _ e _ a (asked_for (disk_shelf p2.inner.first_version p2.inner.dim p2.inner.pages (g.D.Disk.state p2.inner.disk.now) p2.inner.asked) p2.asked) b (asked_for (disk_shelf q2.inner.first_version q2.inner.dim q2.inner.pages (g.E.Disk.state q2.inner.disk.now) q2.inner.asked) q2.asked)
+    refusal_of c.join-joined.result _ trees d _ e _ a (asked_for (disk_shelf p2.inner.version p2.inner.dim p2.inner.pages (g.D.Disk.state p2.inner.disk.now) p2.inner.asked) p2.asked) b (asked_for (disk_shelf q2.inner.version q2.inner.dim q2.inner.pages (g.E.Disk.state q2.inner.disk.now) q2.inner.asked) q2.asked)
     sides same (search rules) (search rules) c.join-joined.ensures.cause c.join-joined.ensures.sound

@@ -4,7 +4,7 @@ use Rattle.std.proofs.lemmas.Result.{IfOk-weaker}
 use Rattle.metric_mix.specs.MixSpaces.{mix_space}
 use Rattle.metric_mix.specs.MixKinds.{mix_kind, mix_dim}
 use Rattle.outside_io.specs.declared.status.Status.{Status}
-use Rattle.page_store.specs.Reading.{reading_in, version_of}
+use Rattle.page_store.specs.Reading.{reading_in}
 use Rattle.log_verify.specs.JoinJudged.{join_fault}
 use Rattle.prune_log.specs.Reading.{join_log_at, frames_at}
 use Rattle.job_files.specs.Logs.Jobs.{Puts, stop_of}
@@ -24,7 +24,7 @@ returns-clause-puts g c t u =
     let r = c.args.trees.now.right in
     let d = g.D.Disk.state c.args.index.now in
     let e = g.E.Disk.state c.args.other.now in
-    let judge = join_fault (mix_space (mix_kind m) (mix_dim m)) (reading_in (version_of p.first_version) p.dim p.pages dp.bytes) (reading_in (version_of q.first_version) q.dim q.pages dq.bytes) l.1 r.1 in
+    let judge = join_fault (mix_space (mix_kind m) (mix_dim m)) (reading_in p.version p.dim p.pages dp.bytes) (reading_in q.version q.dim q.pages dq.bytes) l.1 r.1 in
     let told : judge ≡ judge_of (tree_of d l) (tree_of e r) =
     rw (c.from_parts-left_pages.ensures, c.from_parts-right_pages.ensures, c.new-left_pages.ensures.version, c.new-left_pages.ensures.dim, c.new-left_pages.ensures.pages, c.new-left_pages.ensures.same, c.new-right_pages.ensures.version, c.new-right_pages.ensures.dim, c.new-right_pages.ensures.pages, c.new-right_pages.ensures.same, c.space_of-space.ensures.kind, c.space_of-space.ensures.dim) refl in
     let tells : dp.tells ≡ d.tells = rw (c.from_parts-left_pages.ensures, c.new-left_pages.ensures.same) refl in
@@ -43,7 +43,7 @@ returns-clause-status g c =
     let r = c.args.trees.now.right in
     let d = g.D.Disk.state c.args.index.now in
     let e = g.E.Disk.state c.args.other.now in
-    let judge = join_fault (mix_space (mix_kind m) (mix_dim m)) (reading_in (version_of p.first_version) p.dim p.pages dp.bytes) (reading_in (version_of q.first_version) q.dim q.pages dq.bytes) l.1 r.1 in
+    let judge = join_fault (mix_space (mix_kind m) (mix_dim m)) (reading_in p.version p.dim p.pages dp.bytes) (reading_in q.version q.dim q.pages dq.bytes) l.1 r.1 in
     let told : judge ≡ judge_of (tree_of d l) (tree_of e r) =
     rw (c.from_parts-left_pages.ensures, c.from_parts-right_pages.ensures, c.new-left_pages.ensures.version, c.new-left_pages.ensures.dim, c.new-left_pages.ensures.pages, c.new-left_pages.ensures.same, c.new-right_pages.ensures.version, c.new-right_pages.ensures.dim, c.new-right_pages.ensures.pages, c.new-right_pages.ensures.same, c.space_of-space.ensures.kind, c.space_of-space.ensures.dim) refl in
     let tells : dp.tells ≡ d.tells = rw (c.from_parts-left_pages.ensures, c.new-left_pages.ensures.same) refl in

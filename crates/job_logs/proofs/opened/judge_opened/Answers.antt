@@ -2,7 +2,7 @@ use Rattle.std.proofs.Common.{◌≡◌, Bool, refl, sym, subst}
 use Rattle.std.specs.Prelude.{IsTrue, IfOk}
 use Rattle.metric_mix.specs.MixSpaces.{mix_space}
 use Rattle.metric_mix.specs.MixKinds.{mix_kind, mix_dim}
-use Rattle.page_store.specs.Reading.{reading_in, version_of}
+use Rattle.page_store.specs.Reading.{reading_in}
 use Rattle.log_verify.specs.Judged.{log_fault}
 use Rattle.prune_log.specs.Reading.{log_at, frames_at}
 use Rattle.job_files.specs.Logs.Jobs.{Puts, stop_of}
@@ -17,7 +17,7 @@ returns-clause-status g c =
     let m = c.space_of-space.result in
     let head = c.args.opened.now.0 in
     let live = c.args.opened.now.1 in
-    let told : log_fault (mix_space (mix_kind m) (mix_dim m)) (reading_in (version_of p.first_version) p.dim p.pages (g.D.Disk.state p.disk.now).bytes) live
+    let told : log_fault (mix_space (mix_kind m) (mix_dim m)) (reading_in p.version p.dim p.pages (g.D.Disk.state p.disk.now).bytes) live
     ≡ judge_of (g.D.Disk.state c.args.index.now).bytes head live =
     rw (c.from_parts-pages.ensures, c.new-pages.ensures.version, c.new-pages.ensures.dim, c.new-pages.ensures.pages, c.new-pages.ensures.same, c.space_of-space.ensures.kind, c.space_of-space.ensures.dim) refl in
     let tells : (g.D.Disk.state p.disk.now).tells ≡ (g.D.Disk.state c.args.index.now).tells = rw (c.from_parts-pages.ensures, c.new-pages.ensures.same) refl in
@@ -30,7 +30,7 @@ returns-clause-puts g c told_bytes =
     let m = c.space_of-space.result in
     let head = c.args.opened.now.0 in
     let live = c.args.opened.now.1 in
-    let told : log_fault (mix_space (mix_kind m) (mix_dim m)) (reading_in (version_of p.first_version) p.dim p.pages (g.D.Disk.state p.disk.now).bytes) live
+    let told : log_fault (mix_space (mix_kind m) (mix_dim m)) (reading_in p.version p.dim p.pages (g.D.Disk.state p.disk.now).bytes) live
     ≡ judge_of (g.D.Disk.state c.args.index.now).bytes head live =
     rw (c.from_parts-pages.ensures, c.new-pages.ensures.version, c.new-pages.ensures.dim, c.new-pages.ensures.pages, c.new-pages.ensures.same, c.space_of-space.ensures.kind, c.space_of-space.ensures.dim) refl in
     let tells : (g.D.Disk.state p.disk.now).tells ≡ (g.D.Disk.state c.args.index.now).tells = rw (c.from_parts-pages.ensures, c.new-pages.ensures.same) refl in

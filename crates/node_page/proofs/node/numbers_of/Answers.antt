@@ -6,10 +6,10 @@ use Rattle.node_page.proofs.node.numbers_of.Goals as goal
 
 pub loop-block-init : goal.loop-block-init
 loop-block-init c = record {
-    numbers = subst (AreNumbers c.args.page.now) (sym c.in_ok-numbers.ensures.items) (numbers_none c.args.page.now);
-    few = omega (arith, ap length c.in_ok-numbers.ensures.items);
-    long = refl;
-  }
+  numbers = subst (AreNumbers c.args.page.now) (sym c.in_ok-numbers.ensures.items) (numbers_none c.args.page.now);
+  few = omega (arith, ap length c.in_ok-numbers.ensures.items);
+  long = refl;
+}
 
 pub loop-block-preserved : goal.loop-block-preserved
 loop-block-preserved c =

@@ -47,5 +47,5 @@ returns-clause-exact g c =
 pub returns-in-Err-clause-cause : goal.returns-in-Err-clause-cause
 returns-in-Err-clause-cause g c =
     list_cause c.in-Err.fault c.read_fault.result _
-    (lent_shelf (λ (p : DiskPages g.row.D.Denot g.D.Disk). disk_shelf p.first_version p.dim p.pages (g.D.Disk.state p.disk.now) p.asked) c.of-answer.new.pages) c.args.self.now (g.D.Disk.state c.args.disk.now) _
+    (lent_shelf (λ (p : DiskPages g.row.D.Denot g.D.Disk). disk_shelf p.version p.dim p.pages (g.D.Disk.state p.disk.now) p.asked) c.of-answer.new.pages) c.args.self.now (g.D.Disk.state c.args.disk.now) _
     c.self.inside.live c.lend-pages.ensures.shelf (ap (λ (f : OpenFile g.row.M.Denot). f.live) c.self.view_is) (search rules) c.read_fault.ensures c.in-Err.ensures.err

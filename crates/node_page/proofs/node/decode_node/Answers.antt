@@ -1,7 +1,7 @@
 use Rattle.std.proofs.Common.{◌≡◌, inl, Some, None, Ok, sym, ◌∙◌, ap, subst}
 use Rattle.node_page.specs.Nodes.{SpellsIn}
 use Rattle.node_page.proofs.NodeLaws.{spells_by_none, none_by_spells, node_is, never_memory, few_by_none, lawful_by_spells}
-use Rattle.node_page.proofs.node.decode.Goals as goal
+use Rattle.node_page.proofs.node.decode_node.Goals as goal
 
 pub returns-in-Some-clause-only : goal.returns-in-Some-clause-only
 returns-in-Some-clause-only c node spells =
