@@ -50,7 +50,11 @@ fn push_needs(stack: &mut Vec<Need>, rho: u64, seen: &[Sight]) -> Result<(), Mem
 fn marks_at(alloc: Global, rho: u64, seen: &[Sight]) -> Result<Vec<Mark>, Memory>
     ensures { IfOk result (λ marks. marks.items ≡ map (mark_at rho) seen.now) }
 {
-    seen.iter().map(|sight| sight.mark(rho)).collect(alloc)
+    let mut marks = Vec::with_capacity(alloc, seen.len())?;
+    for index in 0..seen.len() {
+        marks.push(seen[index].mark(rho))?;
+    }
+    Ok(marks)
 }
 
 // Appends the record of `page` with the least marks at the radius `rho`.

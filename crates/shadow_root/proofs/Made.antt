@@ -12,7 +12,7 @@ use Rattle.node_page.specs.Bytes.{number_at}
 use Rattle.node_page.specs.Heads.{SpellsHead}
 use Rattle.node_page.specs.Slots.{SpellsSlot}
 use Rattle.node_page.specs.declared.node.NodeFault.{NodeFault}
-use Rattle.node_page.specs.Nodes.{SpellsNode, node_of, count_of, firsts}
+use Rattle.node_page.specs.Nodes.{SpellsNode, node_in, count_of, firsts}
 use Rattle.node_page.specs.Opening.{page_of, OpensTo}
 use Rattle.node_page.proofs.Published.{number_kept, none_by_spells, node_is}
 use Rattle.page_store.proofs.Published.{place-page_of, reads_page}
@@ -58,7 +58,7 @@ within_three = refl
 pub leaf_read : (dim : ℕ) (file : List ℕ) → SpellsNode dim (page_of file 3) (Leaf []) → nodes_of (reading dim 4 file) 3 ≡ Some (Leaf [])
 leaf_read dim file spells =
     let read : reading dim 4 file 3 ≡ Ok (Leaf []) =
-    reads_page Second dim 4 file 3 within_three ∙ ap (λ (o : Option NodeFault). judged 3 o (node_of dim (page_of file 3))) (none_by_spells Second dim (page_of file 3) (Leaf []) spells)
+    reads_page Second dim 4 file 3 within_three ∙ ap (λ (o : Option NodeFault). judged 3 o (node_in Second dim (page_of file 3))) (none_by_spells Second dim (page_of file 3) (Leaf []) spells)
     ∙ ap (λ (n : Node). Ok n) (node_is Second dim (page_of file 3) (Leaf []) spells) in
     rw read refl
 
