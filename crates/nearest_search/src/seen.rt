@@ -65,35 +65,7 @@ pub fn skip_of(above: Option<u64>, stored: u64, radius: u64) -> u64
     }
 }
 
-// Measures an entry that `skip` does not rule out at the radius of `probe`.
-// It stands apart from `look`: many entries are skipped, and a call costs as much as a distance.
-#[inline(never)]
-fn measure<R: Ruler>(
-    ruler: &mut R,
-    probe: Probe,
-    point: &[u32],
-    name: u32,
-    radius: u64,
-    skip: u64,
-) -> Sight
-    requires { skip ≤ probe.rho }
-    ensures metric { R.metric ruler.new ≡ R.metric ruler.old }
-    ensures used { R.used ruler.new ≤ R.used ruler.old + 1 }
-    ensures bounded { result.dist ≤ 2 ^ 38 }
-    ensures sight { result ≡
-        sight_of (search_at (R.M.space (R.metric ruler.old)) probe.entry.q.now probe.entry.rho) name radius skip point.now }
-{
-    let dist = ruler.dist(point, probe.q);
-    Sight {
-        name,
-        skip,
-        far: dist.saturating_sub(radius),
-        dist,
-    }
-}
-
 /// Looks at an entry. Its distance is computed, unless `skip` rules it out at the radius of `probe`.
-#[inline(always)]
 pub fn look<R: Ruler>(
     ruler: &mut R,
     probe: Probe,
@@ -116,5 +88,11 @@ pub fn look<R: Ruler>(
             dist: 0,
         };
     }
-    measure(ruler, probe, point, name, radius, skip)
+    let dist = ruler.dist(point, probe.q);
+    Sight {
+        name,
+        skip,
+        far: dist.saturating_sub(radius),
+        dist,
+    }
 }
