@@ -34,6 +34,37 @@ fn distances_of_worked_points(rt: HostRuntime) -> Result<(), Fail> {
             b: &[4294967295; 64],
             distances: [64, 274877906880, 4294967295],
         },
+        // The greatest sum of 64 differences of 26 bits, and sums with one difference more than that.
+        Row {
+            a: &[67108863; 64],
+            b: &[0; 64],
+            distances: [64, 4294967232, 67108863],
+        },
+        Row {
+            a: &[67108864; 64],
+            b: &[0; 64],
+            distances: [64, 4294967296, 67108864],
+        },
+        Row {
+            a: &[4294967295; 8],
+            b: &[0, 1, 2, 3, 4, 5, 6, 7],
+            distances: [8, 34359738332, 4294967295],
+        },
+        Row {
+            a: &[9; 16],
+            b: &[0, 1, 2, 3, 4, 5, 6, 7, 8, 9, 10, 11, 12, 13, 14, 15],
+            distances: [15, 66, 9],
+        },
+        Row {
+            a: &[3; 32],
+            b: &[1; 32],
+            distances: [32, 64, 2],
+        },
+        Row {
+            a: &[67108864; 63],
+            b: &[0; 63],
+            distances: [63, 4227858432, 67108864],
+        },
         Row {
             a: &[1, 2, 3, 4],
             b: &[1, 0, 3, 0],

@@ -1,7 +1,7 @@
 use Rattle.std.proofs.Common.{arith}
 use Rattle.metric_laws.specs.Pruning.{gap}
 use Rattle.vector_kinds.proofs.Pairs.{sum_end}
-use Rattle.vector_kinds.proofs.differences.sum.Goals as goal
+use Rattle.vector_kinds.proofs.differences.wide_sum.Goals as goal
 
 pub returns : goal.returns
 returns c =

@@ -2,7 +2,7 @@ use Rattle.std.proofs.Common.{◌≡◌, ◌+◌, ◌*◌, ◌≤◌, drop}
 use Rattle.std.specs.Prelude.{sum_by}
 use Rattle.std.specs.List.{zip}
 use Rattle.metric_laws.specs.Pruning.{gap}
-use Rattle.vector_kinds.proofs.differences.sum.Given as goal
+use Rattle.vector_kinds.proofs.differences.wide_sum.Given as goal
 
 abbrev pub invariant-loop-i : goal.invariant-loop-i
 invariant-loop-i l = record {
