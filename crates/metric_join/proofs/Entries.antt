@@ -1,6 +1,7 @@
 -- The entries of an opened node, one after the other.
-use Rattle.std.proofs.Common.{◌≡◌, ◌≢◌, ℕ, zero, suc, ◌+◌, ◌<◌, ◌≤◌, Bool, true, false, Option, Some, List, [], ◌∷◌, ◌++◌, map, drop, get_or, length, refl, sym, ap, ◌∙◌, append_assoc, drop-cons, arith, subst}
-use Rattle.std.specs.Prelude.{if◌then◌else◌}
+use Rattle.std.proofs.Common.{◌≡◌, ◌≢◌, ℕ, zero, suc, ◌+◌, ◌<◌, ◌≤◌, Bool, true, false, Option, Some, List, [], ◌∷◌, ◌++◌, map, drop, get_or, length, length-append, refl, sym, ap, ◌∙◌, append_assoc, drop-cons, arith, subst}
+use Rattle.std.specs.Prelude.{◌-◌, replicate, if◌then◌else◌}
+use Rattle.std.proofs.lemmas.List.{drop-drop, get_or-drop, length-drop, length-replicate}
 use Rattle.metric_laws.specs.Space.{Space}
 use Rattle.log_model.specs.declared.marks.Mark.{Mark}
 use Rattle.log_model.specs.declared.marks.Mark.TheVariants.{Skip, Far, Near}
@@ -12,7 +13,7 @@ use Rattle.log_model.specs.JoinWalk.{JoinSearch, Entry, opens_right, other, apar
 use Rattle.log_model.specs.JoinSteps.{apart_from, paired, hits_among, needs_among}
 use Rattle.log_model.proofs.Published.{paired_same, hits_append, needs_append, count_up_both}
 use Rattle.metric_join.specs.declared.opening.Opening.{Opening}
-use Rattle.metric_join.specs.Steps.{least_at, measured_at, marks_for, pairs_for, TakesEntries, CountsMarks}
+use Rattle.metric_join.specs.Steps.{is_ruled_out, least_at, measured_at, marks_for, pairs_for, TakesEntries, CountsMarks}
 
 -- an entry is as far from the other item as its point is
 apart_same : (s : Space) (n : JoinNeed) (e : Entry) (point : List ℕ) → centre_of e.item ≡ Some point → (with_entry s n e).apart ≡ apart_from s n point
@@ -116,6 +117,65 @@ takes_next j h n entry es i e start old new same low is one so_far last rest =
     drops : drop i es ≡ e ∷ drop (i + 1) es
     drops = rw (drop-cons es i e low, ← is) (ap (λ (k : ℕ). e ∷ drop k es) (let k : suc i ≡ i + 1 = omega arith in k))
 
+-- entries that stored distances rule out are marked Skip, and leave no pair
+module _ {X : Type 0} (j : JoinSearch) (n : JoinNeed) (entry : X → Entry) where
+  ruled_out : (e : Entry) → is_ruled_out j.rho n e ≡ true → least_for_entry j n e ≡ Skip
+  ruled_out e is = cases (is_ruled_out j.rho n e) _ is
+    where
+      cases : (b : Bool) (m : Mark) → b ≡ true → (if b then Skip else m) ≡ Skip
+      cases true m is = refl
+      cases false m is = absurd (let no = is in cc)
+
+  abbrev AreRuledOut : ℕ → List X → Type 0
+  AreRuledOut k xs = (m : ℕ) (d : X) → m < k → is_ruled_out j.rho n (entry (get_or xs m d)) ≡ true
+
+  marks_run : (k : ℕ) (xs : List X) → k ≤ length xs → AreRuledOut k xs → marks_for j n (map entry xs) ≡ replicate k Skip ++ marks_for j n (map entry (drop k xs))
+  marks_run zero xs few out = refl
+  marks_run (suc k) [] few out = absurd (omega arith)
+  marks_run (suc k) (x ∷ xs) few out =
+      ap (λ (m : Mark). m ∷ marks_for j n (map entry xs)) (ruled_out (entry x) (out 0 x (omega arith)))
+      ∙ ap (λ (ms : List Mark). Skip ∷ ms) (marks_run k xs (omega arith) (λ m d below. out (suc m) d (omega arith)))
+
+  pairs_run : (k : ℕ) (xs : List X) → k ≤ length xs → AreRuledOut k xs → pairs_for j n (map entry xs) ≡ pairs_for j n (map entry (drop k xs))
+  pairs_run zero xs few out = refl
+  pairs_run (suc k) [] few out = absurd (omega arith)
+  pairs_run (suc k) (x ∷ xs) few out =
+      ap (λ (m : Mark). map (with_entry j.space n) (near_ones (entry x ∷ map entry xs) (m ∷ marks_for j n (map entry xs)))) (ruled_out (entry x) (out 0 x (omega arith)))
+      ∙ pairs_run k xs (omega arith) (λ m d below. out (suc m) d (omega arith))
+
+  takes_run : (k : ℕ) (xs : List X) → k ≤ length xs → AreRuledOut k xs → (old mid : Opening) → mid.marks.items ≡ old.marks.items ++ replicate k Skip → mid.matches ≡ old.matches →
+      (last : Opening) → TakesEntries j n (map entry (drop k xs)) mid last → TakesEntries j n (map entry xs) old last
+  takes_run k xs few out old mid skipped same last rest = record {
+    marks = onward _ _ _ _ _ _ skipped rest.marks (marks_run k xs few out);
+    hits = rest.hits ∙ ap (λ m. m.hits.items ++ hits_among (pairs_for j n (map entry (drop k xs)))) same
+        ∙ ap (λ (ps : List JoinNeed). old.matches.hits.items ++ hits_among ps) (sym (pairs_run k xs few out));
+    needs = rest.needs ∙ ap (λ m. m.needs.items ++ needs_among (pairs_for j n (map entry (drop k xs)))) same
+        ∙ ap (λ (ps : List JoinNeed). old.matches.needs.items ++ needs_among ps) (sym (pairs_run k xs few out));
+  }
+
+  -- a loop that has taken the entries up to a place, and marks the next ones Skip: what takes the others takes all
+  pub takes_skipped : (es : List X) (at next : ℕ) (start old mid : Opening) → at ≤ next → next ≤ length es →
+      ((k : ℕ) (d : X) → at ≤ k → k < next → is_ruled_out j.rho n (entry (get_or es k d)) ≡ true) →
+      mid.marks.items ≡ old.marks.items ++ replicate (next - at) Skip → mid.matches ≡ old.matches →
+      ((last : Opening) → TakesEntries j n (map entry (drop at es)) old last → TakesEntries j n (map entry es) start last) →
+      (last : Opening) → TakesEntries j n (map entry (drop next es)) mid last → TakesEntries j n (map entry es) start last
+  takes_skipped es at next start old mid low high out skipped same so_far last rest =
+      so_far last (takes_run (next - at) (drop at es) (omega (arith, length-drop at es)) here old mid skipped same last
+      (subst (λ (l : List X). TakesEntries j n (map entry l) mid last) there rest))
+    where
+      here : AreRuledOut (next - at) (drop at es)
+      here m d below = subst (λ (x : X). is_ruled_out j.rho n (entry x) ≡ true) (sym (get_or-drop at es m d)) (out (at + m) d (omega arith) (omega arith))
+
+      there : drop next es ≡ drop (next - at) (drop at es)
+      there = ap (λ (k : ℕ). drop k es) (let e : next ≡ at + (next - at) = omega arith in e) ∙ sym (drop-drop (next - at) at es)
+
+-- how many entries are marked
+pub long_skipped : (old new : List Mark) (next : ℕ) → new ≡ old ++ replicate (next - length old) Skip → length old ≤ next → length new ≡ next
+long_skipped old new next is low = omega (arith, ap length is, length-append old (replicate (next - length old) Skip), length-replicate (next - length old) Skip)
+
+pub long_next : (j : JoinSearch) (n : JoinNeed) (e : Entry) (old new : Opening) → TakesEntries j n (e ∷ []) old new → length new.marks.items ≡ length old.marks.items + 1
+long_next j n e old new one = ap length one.marks ∙ length-append old.marks.items (marks_for j n (e ∷ []))
+
 -- nothing is left to take
 pub takes_nothing : (j : JoinSearch) (n : JoinNeed) (a : Opening) → TakesEntries j n [] a a
 takes_nothing j n a = record { marks = nothing a.marks.items; hits = nothing a.matches.hits.items; needs = nothing a.matches.needs.items }
@@ -140,6 +200,19 @@ counts_one used used2 k old new m few is added =
 pub counts_both : (used used2 used3 : ℕ) (old mid new : List Mark) → CountsMarks used used2 old mid → CountsMarks used2 used3 mid new → CountsMarks used used3 old new
 counts_both used used2 used3 old mid new one two =
     (one.0 + two.0, omega (arith, one.1, two.1), two.2 ∙ ap (λ (u : ℕ). count_up u two.0) one.2 ∙ count_up_both used one.0 two.0)
+
+pub counts_skipped : (used k : ℕ) (old new : List Mark) → new ≡ old ++ replicate k Skip → CountsMarks used used old new
+counts_skipped used k old new is = (0, rw is (omega (arith, more old)), refl)
+  where
+    none : (k : ℕ) → measured_by (replicate k Skip) ≡ 0
+    none zero = refl
+    none (suc k) = none k
+
+    more : (ms : List Mark) → measured_by (ms ++ replicate k Skip) ≡ measured_by ms
+    more [] = none k
+    more (Skip ∷ ms) = more ms
+    more (Far ∷ ms) = omega (arith, more ms)
+    more (Near ∷ ms) = omega (arith, more ms)
 
 pub counts_none : (used : ℕ) (old : List Mark) → CountsMarks used used old old
 counts_none used old = (0, omega arith, refl)

@@ -1,17 +1,19 @@
 // The least marks of an opened node, and the pairs that they leave.
-ghost use Rattle.std.specs.Prelude.{◌≡◌, ◌++◌, ◌+◌, ◌≤◌, [], ◌∷◌, false, map, IfOk, OnOk};
+ghost use Rattle.std.specs.Prelude.{◌≡◌, ℕ, ◌++◌, ◌+◌, ◌-◌, ◌≤◌, ◌<◌, [], ◌∷◌, true, false, map, length, replicate, slice_index_or, IfOk, OnOk};
+ghost use Rattle.tree_shape.specs.declared.entry.LeafEntry.{LeafEntry};
+ghost use Rattle.tree_shape.specs.declared.entry.InnerEntry.{InnerEntry};
 ghost use Rattle.metric_laws.specs.Counts.{CountsUpTo};
 ghost use Rattle.tree_shape.specs.Entries.{inner_of, leaf_of};
 ghost use Rattle.log_model.specs.Counts.{measured_by};
-ghost use Rattle.log_model.specs.declared.marks.Mark.TheVariants.{Near};
+ghost use Rattle.log_model.specs.declared.marks.Mark.TheVariants.{Skip, Near};
 ghost use Rattle.log_model.specs.JoinWalk.{object_entry, subtree_entry, entries_of, far_stored, other, radius_of};
 ghost use Rattle.log_model.specs.JoinSteps.{search_within, apart_from, hits_among, needs_among};
-ghost use Rattle.metric_join.specs.Steps.{measured_at, marks_for, pairs_for, TakesEntries, CountsMarks};
+ghost use Rattle.metric_join.specs.Steps.{is_ruled_out, measured_at, marks_for, pairs_for, TakesEntries, CountsMarks};
 
 use log_model::{JoinNeed, JoinProbe, Mark, Matches, Memory, entry_count, is_far, is_skipped};
 use metric_laws::Ruler;
 use std::alloc::Global;
-use tree_shape::{InnerEntries, InnerRef, LeafEntries, LeafRef, Node};
+use tree_shape::{InnerEntries, InnerRef, InnerView, LeafEntries, LeafRef, LeafView, Node};
 
 /// The result of opening a pair.
 #[derive(Drop)]
@@ -64,6 +66,72 @@ impl Opening {
             },
         })
     }
+
+    // Marks entries Skip until `entries` are marked.
+    fn skip_up_to(&mut self, entries: usize) -> Result<(), Memory>
+        requires { length self.old.marks.items ≤ entries }
+        ensures marks { OnOk result
+            (self.new.marks.items ≡ self.old.marks.items ++ replicate (entries - length self.old.marks.items) Skip) }
+        ensures matches { self.new.matches ≡ self.old.matches }
+    {
+        self.marks.resize(entries, Mark::Skip)
+    }
+}
+
+// Returns the first object from object `from` on that its stored distance does not rule out, or the number of objects. Stored distances
+// rule most objects out, so this loop writes nothing, and the work for the others stands apart.
+#[inline(always)]
+fn next_object(probe: JoinProbe, objects: &LeafView, from: usize) -> usize
+    requires { from ≤ length objects.now }
+    ensures low { from ≤ result }
+    ensures high { result ≤ length objects.now }
+    ensures ruled_out { (k : ℕ) (e : LeafEntry) → from ≤ k → k < result →
+        is_ruled_out probe.entry.rho probe.entry.need.now (object_entry (slice_index_or objects.now k e)) ≡ true }
+    ensures next { (e : LeafEntry) → result < length objects.now →
+        is_ruled_out probe.entry.rho probe.entry.need.now (object_entry (slice_index_or objects.now result e)) ≡ false }
+{
+    let mut at = from;
+    while at < objects.len() {
+        if !is_skipped(
+            probe.need.apart,
+            objects.at(at).parent,
+            probe.rho,
+            0,
+            probe.reach,
+        ) {
+            return at;
+        }
+        at += 1;
+    }
+    at
+}
+
+// Returns the first subtree from subtree `from` on that its stored distance does not rule out, or the number of subtrees.
+#[inline(always)]
+fn next_subtree(probe: JoinProbe, level: u8, subtrees: &InnerView, from: usize) -> usize
+    requires { from ≤ length subtrees.now }
+    ensures low { from ≤ result }
+    ensures high { result ≤ length subtrees.now }
+    ensures ruled_out { (k : ℕ) (e : InnerEntry) → from ≤ k → k < result →
+        is_ruled_out probe.entry.rho probe.entry.need.now (subtree_entry level (slice_index_or subtrees.now k e)) ≡ true }
+    ensures next { (e : InnerEntry) → result < length subtrees.now →
+        is_ruled_out probe.entry.rho probe.entry.need.now (subtree_entry level (slice_index_or subtrees.now result e)) ≡ false }
+{
+    let mut at = from;
+    while at < subtrees.len() {
+        let entry = subtrees.at(at);
+        if !is_skipped(
+            probe.need.apart,
+            entry.parent,
+            probe.rho,
+            entry.radius,
+            probe.reach,
+        ) {
+            return at;
+        }
+        at += 1;
+    }
+    at
 }
 
 // Marks an object that is not skipped, and adds its pair where it is marked Near.
@@ -86,27 +154,6 @@ fn measure_object<R: Ruler>(
         opening.matches.add_object(probe, entry, marked.apart)?;
     }
     Ok(())
-}
-
-// Marks an object, and adds its pair where it is marked Near. Most entries are skipped, so the test for that stands in the loops
-// over them, and the work for the others stands apart: a function clears the places of its values where it begins.
-#[inline(always)]
-fn mark_object<R: Ruler>(
-    ruler: &mut R,
-    probe: JoinProbe,
-    entry: LeafRef,
-    opening: &mut Opening,
-) -> Result<(), Memory>
-    ensures metric { R.metric ruler.new ≡ R.metric ruler.old }
-    ensures counted { OnOk result (CountsMarks (R.used ruler.old) (R.used ruler.new) opening.old.marks.items opening.new.marks.items) }
-    ensures taken { OnOk result (TakesEntries (search_within (R.M.space (R.metric ruler.old)) probe.entry.rho) probe.entry.need.now
-        (object_entry (leaf_of entry.entry) ∷ []) opening.old opening.new) }
-{
-    if is_skipped(probe.need.apart, entry.parent, probe.rho, 0, probe.reach) {
-        opening.marks.push(Mark::Skip)?;
-        return Ok(());
-    }
-    measure_object(ruler, probe, entry, opening)
 }
 
 // Marks a subtree that an inner node of level `level` names and that is not skipped, and adds its pair where it is marked Near.
@@ -135,33 +182,6 @@ fn measure_subtree<R: Ruler>(
     Ok(())
 }
 
-// Marks a subtree that an inner node of level `level` names, and adds its pair where it is marked Near.
-#[inline(always)]
-fn mark_subtree<R: Ruler>(
-    ruler: &mut R,
-    probe: JoinProbe,
-    level: u8,
-    entry: InnerRef,
-    opening: &mut Opening,
-) -> Result<(), Memory>
-    ensures metric { R.metric ruler.new ≡ R.metric ruler.old }
-    ensures counted { OnOk result (CountsMarks (R.used ruler.old) (R.used ruler.new) opening.old.marks.items opening.new.marks.items) }
-    ensures taken { OnOk result (TakesEntries (search_within (R.M.space (R.metric ruler.old)) probe.entry.rho) probe.entry.need.now
-        (subtree_entry level (inner_of entry.entry) ∷ []) opening.old opening.new) }
-{
-    if is_skipped(
-        probe.need.apart,
-        entry.parent,
-        probe.rho,
-        entry.radius,
-        probe.reach,
-    ) {
-        opening.marks.push(Mark::Skip)?;
-        return Ok(());
-    }
-    measure_subtree(ruler, probe, level, entry, opening)
-}
-
 // Marks the entries of a leaf.
 fn mark_leaf<R: Ruler>(
     ruler: &mut R,
@@ -169,15 +189,22 @@ fn mark_leaf<R: Ruler>(
     entries: &LeafEntries,
     opening: &mut Opening,
 ) -> Result<(), Memory>
+    requires { opening.old.marks.items ≡ [] }
     ensures metric { R.metric ruler.new ≡ R.metric ruler.old }
     ensures counted { OnOk result (CountsMarks (R.used ruler.old) (R.used ruler.new) opening.old.marks.items opening.new.marks.items) }
     ensures taken { OnOk result (TakesEntries (search_within (R.M.space (R.metric ruler.old)) probe.entry.rho) probe.entry.need.now
         (map object_entry entries.now) opening.old opening.new) }
 {
-    let view = entries.seen();
-    for index in 0..view.len() {
-        let entry = view.at(index);
-        mark_object(ruler, probe, entry, opening)?;
+    let objects = entries.seen();
+    let mut at = 0;
+    while at < objects.len() {
+        let next = next_object(probe, &objects, at);
+        opening.skip_up_to(next)?;
+        if next == objects.len() {
+            return Ok(());
+        }
+        measure_object(ruler, probe, objects.at(next), opening)?;
+        at = next + 1;
     }
     Ok(())
 }
@@ -190,15 +217,22 @@ fn mark_inner<R: Ruler>(
     entries: &InnerEntries,
     opening: &mut Opening,
 ) -> Result<(), Memory>
+    requires { opening.old.marks.items ≡ [] }
     ensures metric { R.metric ruler.new ≡ R.metric ruler.old }
     ensures counted { OnOk result (CountsMarks (R.used ruler.old) (R.used ruler.new) opening.old.marks.items opening.new.marks.items) }
     ensures taken { OnOk result (TakesEntries (search_within (R.M.space (R.metric ruler.old)) probe.entry.rho) probe.entry.need.now
         (map (subtree_entry level) entries.now) opening.old opening.new) }
 {
-    let view = entries.seen();
-    for index in 0..view.len() {
-        let entry = view.at(index);
-        mark_subtree(ruler, probe, level, entry, opening)?;
+    let subtrees = entries.seen();
+    let mut at = 0;
+    while at < subtrees.len() {
+        let next = next_subtree(probe, level, &subtrees, at);
+        opening.skip_up_to(next)?;
+        if next == subtrees.len() {
+            return Ok(());
+        }
+        measure_subtree(ruler, probe, level, subtrees.at(next), opening)?;
+        at = next + 1;
     }
     Ok(())
 }
