@@ -6,6 +6,7 @@ pub mod Ways
 pub mod Verdicts
 pub mod JoinSoundness
 pub mod JoinMarks
+pub mod JoinRuns
 pub mod JoinWays
 pub mod JoinDifferences
 pub mod JoinVerdicts

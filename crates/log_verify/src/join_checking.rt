@@ -1,11 +1,13 @@
 // Checks the marks of one record of a join against its node.
-ghost use Rattle.std.specs.Prelude.{◌≡◌, ◌++◌, ◌<◌, ◌^◌, [], ◌∷◌, length, OnOk, IfOk, IfNone};
-ghost use Rattle.log_model.specs.declared.marks.Mark.TheVariants.{Near};
+ghost use Rattle.std.specs.Prelude.{◌≡◌, ℕ, ◌++◌, ◌+◌, ◌<◌, ◌≤◌, ◌^◌, true, [], ◌∷◌, length, slice_index_or, OnOk, IfOk, IfNone};
+ghost use Rattle.log_model.specs.declared.marks.Mark.TheVariants.{Skip, Near};
+ghost use Rattle.tree_shape.specs.declared.entry.LeafEntry.{LeafEntry};
+ghost use Rattle.tree_shape.specs.declared.entry.InnerEntry.{InnerEntry};
 ghost use Rattle.metric_laws.specs.Counts.{CountsUpTo};
 ghost use Rattle.tree_shape.specs.Entries.{leaf_of, inner_of};
 ghost use Rattle.log_model.specs.Counts.{entry_count, measured_by};
 ghost use Rattle.log_model.specs.Walk.{near_ones};
-ghost use Rattle.log_model.specs.JoinWalk.{allows_entry, object_entry, subtree_entry, join_hits, join_needs, within_apart};
+ghost use Rattle.log_model.specs.JoinWalk.{allows_entry, far_stored, other, radius_of, object_entry, subtree_entry, join_hits, join_needs, within_apart};
 ghost use Rattle.log_model.specs.JoinSteps.{apart_from, search_within, hits_among, needs_among, paired};
 ghost use Rattle.log_verify.specs.JoinJudged.{join_wrong_in};
 ghost use Rattle.log_verify.specs.JoinSteps.{object_pair, subtree_pair};
@@ -13,7 +15,7 @@ ghost use Rattle.log_verify.specs.JoinSteps.{object_pair, subtree_pair};
 use log_model::{JoinProbe, Mark, Matches, Memory, is_far, is_skipped};
 use metric_laws::Ruler;
 use std::alloc::Global;
-use tree_shape::{InnerEntries, InnerRef, LeafEntries, LeafRef, Node};
+use tree_shape::{InnerEntries, InnerRef, InnerView, LeafEntries, LeafRef, LeafView, Node};
 
 // The result for an entry and its mark.
 #[derive(Clone, Copy)]
@@ -43,6 +45,68 @@ fn apart_from<R: Ruler>(ruler: &mut R, probe: JoinProbe, point: &[u32]) -> Optio
     ensures counted { CountsUpTo (R.used ruler.old) (R.used ruler.new) 1 }
 {
     probe.need.apart_from(ruler, point)
+}
+
+// Returns the first object from object `from` on that is not rightly marked Skip, or the number of objects. Most objects are rightly
+// marked Skip, so this loop does nothing else.
+fn pass_objects(probe: JoinProbe, objects: &LeafView, marks: &[Mark], from: usize) -> usize
+    requires long { length marks.now ≡ length objects.now }
+    requires within { from ≤ length objects.now }
+    ensures low { from ≤ result }
+    ensures high { result ≤ length objects.now }
+    ensures marks { (k : ℕ) → from ≤ k → k < result → slice_index_or marks.now k Skip ≡ Skip }
+    ensures skipped { (k : ℕ) (e : LeafEntry) → from ≤ k → k < result →
+        far_stored probe.entry.need.now.apart (slice_index_or objects.now k e).parent probe.entry.rho
+        (0 + radius_of (other probe.entry.need.now)) ≡ true }
+{
+    let mut at = from;
+    while at < objects.len() {
+        let Mark::Skip = marks[at] else {
+            return at;
+        };
+        if !is_skipped(
+            probe.need.apart,
+            objects.at(at).parent,
+            probe.rho,
+            0,
+            probe.reach,
+        ) {
+            return at;
+        }
+        at += 1;
+    }
+    at
+}
+
+// Returns the first subtree from subtree `from` on that is not rightly marked Skip, or the number of subtrees.
+fn pass_subtrees(probe: JoinProbe, subtrees: &InnerView, marks: &[Mark], from: usize) -> usize
+    requires long { length marks.now ≡ length subtrees.now }
+    requires within { from ≤ length subtrees.now }
+    ensures low { from ≤ result }
+    ensures high { result ≤ length subtrees.now }
+    ensures marks { (k : ℕ) → from ≤ k → k < result → slice_index_or marks.now k Skip ≡ Skip }
+    ensures skipped { (k : ℕ) (e : InnerEntry) → from ≤ k → k < result →
+        far_stored probe.entry.need.now.apart (slice_index_or subtrees.now k e).parent probe.entry.rho
+        ((slice_index_or subtrees.now k e).radius + radius_of (other probe.entry.need.now)) ≡ true }
+{
+    let mut at = from;
+    while at < subtrees.len() {
+        let Mark::Skip = marks[at] else {
+            return at;
+        };
+        let entry = subtrees.at(at);
+        if !is_skipped(
+            probe.need.apart,
+            entry.parent,
+            probe.rho,
+            entry.radius,
+            probe.reach,
+        ) {
+            return at;
+        }
+        at += 1;
+    }
+    at
 }
 
 // Checks the mark of an object.
@@ -185,14 +249,16 @@ fn check_leaf<R: Ruler>(
         (search_within (R.M.space (R.metric ruler.old)) probe.entry.rho) probe.entry.need.now (Node.Leaf entries.now) marks.now)) }
     ensures few_counted { CountsUpTo (R.used ruler.old) (R.used ruler.new) (measured_by marks.now) }
 {
-    let view = entries.seen();
-    for i in 0..view.len() {
-        let entry = view.at(i);
-        let checked = check_object(ruler, probe, entry, marks[i]);
+    let objects = entries.seen();
+    let mut at = pass_objects(probe, &objects, marks, 0);
+    while at < objects.len() {
+        let entry = objects.at(at);
+        let checked = check_object(ruler, probe, entry, marks[at]);
         if !checked.allowed {
-            return Ok(Some(i as u32));
+            return Ok(Some(at as u32));
         }
-        name_object(probe, named, entry, marks[i], checked.apart)?;
+        name_object(probe, named, entry, marks[at], checked.apart)?;
+        at = pass_objects(probe, &objects, marks, at + 1);
     }
     Ok(None)
 }
@@ -222,14 +288,16 @@ fn check_inner<R: Ruler>(
         (Node.Inner level entries.now) marks.now)) }
     ensures few_counted { CountsUpTo (R.used ruler.old) (R.used ruler.new) (measured_by marks.now) }
 {
-    let view = entries.seen();
-    for i in 0..view.len() {
-        let entry = view.at(i);
-        let checked = check_subtree(ruler, probe, level, entry, marks[i]);
+    let subtrees = entries.seen();
+    let mut at = pass_subtrees(probe, &subtrees, marks, 0);
+    while at < subtrees.len() {
+        let entry = subtrees.at(at);
+        let checked = check_subtree(ruler, probe, level, entry, marks[at]);
         if !checked.allowed {
-            return Ok(Some(i as u32));
+            return Ok(Some(at as u32));
         }
-        name_subtree(probe, named, level, entry, marks[i], checked.apart)?;
+        name_subtree(probe, named, level, entry, marks[at], checked.apart)?;
+        at = pass_subtrees(probe, &subtrees, marks, at + 1);
     }
     Ok(None)
 }

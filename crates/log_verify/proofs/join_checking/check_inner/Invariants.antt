@@ -1,4 +1,4 @@
-use Rattle.std.proofs.Common.{◌≡◌, ◌++◌, map, drop, take}
+use Rattle.std.proofs.Common.{◌≡◌, ◌++◌, ◌-◌, ◌≤◌, length, map, drop, take}
 use Rattle.metric_laws.specs.Counts.{CountsUpTo}
 use Rattle.log_model.specs.Counts.{measured_by}
 use Rattle.log_model.specs.Walk.{near_ones}
@@ -8,14 +8,18 @@ use Rattle.log_verify.specs.Judged.{first_wrong}
 use Rattle.log_verify.proofs.join_checking.check_inner.Given as goal
 
 -- what is left to check and to name, and what it cost so far
-abbrev pub invariant-loop-i : goal.invariant-loop-i
-invariant-loop-i g l = record {
+abbrev pub invariant-loop-at : goal.invariant-loop-at
+invariant-loop-at g l = record {
   metric : g.R.Ruler.metric l.ruler ≡ g.R.Ruler.metric l.fn.ruler;
-  wrong : first_wrong (allows_entry (search_within (g.R.M.Metric.space (g.R.Ruler.metric l.fn.ruler)) l.probe.rho) l.probe.need.now) (map (subtree_entry l.level) (drop l.i l.entries)) (drop l.i l.marks) l.i
+  wrong : first_wrong (allows_entry (search_within (g.R.M.Metric.space (g.R.Ruler.metric l.fn.ruler)) l.probe.rho) l.probe.need.now) (map (subtree_entry l.level) (drop l.at l.entries)) (drop l.at l.marks) l.at
       ≡ first_wrong (allows_entry (search_within (g.R.M.Metric.space (g.R.Ruler.metric l.fn.ruler)) l.probe.rho) l.probe.need.now) (map (subtree_entry l.level) l.entries) l.marks 0;
-  hits : l.named.hits.items ++ hits_among (map (with_entry (g.R.M.Metric.space (g.R.Ruler.metric l.fn.ruler)) l.probe.need.now) (near_ones (map (subtree_entry l.level) (drop l.i l.entries)) (drop l.i l.marks)))
+  hits : l.named.hits.items ++ hits_among (map (with_entry (g.R.M.Metric.space (g.R.Ruler.metric l.fn.ruler)) l.probe.need.now) (near_ones (map (subtree_entry l.level) (drop l.at l.entries)) (drop l.at l.marks)))
       ≡ l.fn.named.hits.items ++ hits_among (map (with_entry (g.R.M.Metric.space (g.R.Ruler.metric l.fn.ruler)) l.probe.need.now) (near_ones (map (subtree_entry l.level) l.entries) l.marks));
-  needs : l.named.needs.items ++ needs_among (map (with_entry (g.R.M.Metric.space (g.R.Ruler.metric l.fn.ruler)) l.probe.need.now) (near_ones (map (subtree_entry l.level) (drop l.i l.entries)) (drop l.i l.marks)))
+  needs : l.named.needs.items ++ needs_among (map (with_entry (g.R.M.Metric.space (g.R.Ruler.metric l.fn.ruler)) l.probe.need.now) (near_ones (map (subtree_entry l.level) (drop l.at l.entries)) (drop l.at l.marks)))
       ≡ l.fn.named.needs.items ++ needs_among (map (with_entry (g.R.M.Metric.space (g.R.Ruler.metric l.fn.ruler)) l.probe.need.now) (near_ones (map (subtree_entry l.level) l.entries) l.marks));
-  counted : CountsUpTo (g.R.Ruler.used l.fn.ruler) (g.R.Ruler.used l.ruler) (measured_by (take l.i l.marks));
+  low : l.at ≤ length l.entries;
+  counted : CountsUpTo (g.R.Ruler.used l.fn.ruler) (g.R.Ruler.used l.ruler) (measured_by (take l.at l.marks));
 }
+
+abbrev pub decreases-loop-at : goal.decreases-loop-at
+decreases-loop-at g l = length l.entries - l.at
