@@ -182,3 +182,10 @@ module _ (s : Space) (q : List ℕ) (r : ℕ) (above : Option ℕ) (i : ℕ) whe
         let least : is_near (least_for_subtree (search_at s q r) above e) ≡ false = ap is_near (sym (subtree_marked s q r r same_rho above e)) ∙ far in
         rw (add-one, drop-cons es i e low, ← is)
         (ap (λ (xs : List InnerEntry). map (pending_of (search_at s q r)) xs) (far_ones e (drop (suc i) es) (least_for_subtree (search_at s q r) above e) (inner_marks (search_at s q r) above (drop (suc i) es)) least))
+
+-- an entry that its parent distance rules out
+pub skipped_sight : (s : Space) (q p : List ℕ) (rho name radius skip : ℕ) → rho < skip →
+    (◌≡◌ {A = Sight} (record { name = name; skip = skip; far = 0; dist = 0 }) (sight_of (search_at s q rho) name radius skip p)) × (is_near (mark_at rho (sight_of (search_at s q rho) name radius skip p)) ≡ false)
+skipped_sight s q p rho name radius skip below =
+    let out : nat_lt rho skip ≡ true = grind (arith, nat_tests) in
+    (rw out refl, rw (out, out) refl)

@@ -7,7 +7,8 @@ ghost use Rattle.page_store.specs.Shelf.{HoldsSame, HasPageCause};
 ghost use Rattle.log_model.specs.Counts.{entry_count};
 ghost use Rattle.log_model.specs.Walk.{search_at};
 ghost use Rattle.nearest_search.specs.Machine.{dists_of, pendings_of};
-ghost use Rattle.nearest_search.specs.Opened.{leaf_dists, inner_pendings, Takes, IsOpened};
+ghost use Rattle.nearest_search.specs.Opened.{leaf_dists, inner_pendings, PassesObjects, PassesSubtrees, Takes, IsOpened};
+ghost use Rattle.metric_laws.specs.Space.{Space};
 ghost use Rattle.nearest_search.specs.Seeing.{object_sight, subtree_sight, IsSeenOf};
 ghost use Rattle.nearest_search.specs.Keeping.{kept_seen};
 
@@ -21,7 +22,63 @@ use log_model::Probe;
 use metric_laws::Ruler;
 use page_store::{PageFault, Pages};
 use std::alloc::{AllocError, Global};
-use tree_shape::{InnerEntries, LeafEntries, Node};
+use tree_shape::{InnerEntries, InnerView, LeafEntries, LeafView, Node};
+
+// Sees the objects from object `from` on that their parent distances rule out, and returns the first that they do not, or the number
+// of objects. They rule most objects out, so this loop does nothing else.
+fn pass_objects(
+    probe: Probe,
+    above: Option<u64>,
+    objects: &LeafView,
+    from: usize,
+    seen: &mut Vec<Sight>,
+) -> Result<usize, AllocError>
+    requires { from ≤ length objects.now }
+    ensures low { IfOk result (λ next. from ≤ next) }
+    ensures high { IfOk result (λ next. next ≤ length objects.now) }
+    ensures passed { IfOk result (λ next. (s : Space) →
+        PassesObjects (search_at s probe.entry.q.now probe.entry.rho) above objects.now from next seen.old.items seen.new.items) }
+{
+    let mut at = from;
+    while at < objects.len() {
+        let entry = objects.at(at);
+        let skip = skip_of(above, entry.parent, 0);
+        if probe.rho >= skip {
+            return Ok(at);
+        }
+        seen.push(Sight::skipped(entry.id, skip))?;
+        at += 1;
+    }
+    Ok(at)
+}
+
+// Sees the subtrees from subtree `from` on that their parent distances rule out, and returns the first that they do not, or the number
+// of subtrees.
+fn pass_subtrees(
+    probe: Probe,
+    above: Option<u64>,
+    subtrees: &InnerView,
+    from: usize,
+    seen: &mut Vec<Sight>,
+) -> Result<usize, AllocError>
+    requires { from ≤ length subtrees.now }
+    ensures low { IfOk result (λ next. from ≤ next) }
+    ensures high { IfOk result (λ next. next ≤ length subtrees.now) }
+    ensures passed { IfOk result (λ next. (s : Space) →
+        PassesSubtrees (search_at s probe.entry.q.now probe.entry.rho) above subtrees.now from next seen.old.items seen.new.items) }
+{
+    let mut at = from;
+    while at < subtrees.len() {
+        let entry = subtrees.at(at);
+        let skip = skip_of(above, entry.parent, entry.radius);
+        if probe.rho >= skip {
+            return Ok(at);
+        }
+        seen.push(Sight::skipped(entry.child, skip))?;
+        at += 1;
+    }
+    Ok(at)
+}
 
 /// Takes in the distances of a leaf's objects.
 pub fn note_leaf<R: Ruler>(
@@ -40,16 +97,17 @@ pub fn note_leaf<R: Ruler>(
     ensures seen { OnOk result (seen.new.items ≡ seen.old.items
         ++ map (object_sight (search_at (R.M.space (R.metric ruler.old)) probe.entry.q.now probe.entry.rho) above) entries.now) }
 {
-    let view = entries.seen();
-    for index in 0..view.len() {
-        let entry = view.at(index);
+    let objects = entries.seen();
+    let mut at = pass_objects(probe, above, &objects, 0, seen)?;
+    while at < objects.len() {
+        let entry = objects.at(at);
         let skip = skip_of(above, entry.parent, 0);
         let sight = look(ruler, probe, entry.point, entry.id, 0, skip);
         seen.push(sight)?;
-        if !sight.is_near(probe.rho) {
-            continue;
+        if sight.is_near(probe.rho) {
+            best.keep(sight.dist)?;
         }
-        best.keep(sight.dist)?;
+        at = pass_objects(probe, above, &objects, at + 1, seen)?;
     }
     Ok(())
 }
@@ -71,20 +129,21 @@ pub fn queue_inner<R: Ruler>(
     ensures seen { OnOk result (seen.new.items ≡ seen.old.items
         ++ map (subtree_sight (search_at (R.M.space (R.metric ruler.old)) probe.entry.q.now probe.entry.rho) above) entries.now) }
 {
-    let view = entries.seen();
-    for index in 0..view.len() {
-        let entry = view.at(index);
+    let subtrees = entries.seen();
+    let mut at = pass_subtrees(probe, above, &subtrees, 0, seen)?;
+    while at < subtrees.len() {
+        let entry = subtrees.at(at);
         let skip = skip_of(above, entry.parent, entry.radius);
         let sight = look(ruler, probe, entry.point, entry.child, entry.radius, skip);
         seen.push(sight)?;
-        if !sight.is_near(probe.rho) {
-            continue;
+        if sight.is_near(probe.rho) {
+            frontier.add(Pending {
+                low: sight.far,
+                page: entry.child,
+                above: Some(sight.dist),
+            })?;
         }
-        frontier.add(Pending {
-            low: sight.far,
-            page: entry.child,
-            above: Some(sight.dist),
-        })?;
+        at = pass_subtrees(probe, above, &subtrees, at + 1, seen)?;
     }
     Ok(())
 }

@@ -30,6 +30,18 @@ pub enum Seen {
 }
 
 impl Sight {
+    /// Makes the sight of an entry that `skip` rules out.
+    pub fn skipped(name: u32, skip: u64) -> Self
+        ensures { result ≡ record { name = name; skip = skip; far = 0; dist = 0 } }
+    {
+        Sight {
+            name,
+            skip,
+            far: 0,
+            dist: 0,
+        }
+    }
+
     /// Returns the least mark of the entry at the radius `rho`.
     pub fn mark(&self, rho: u64) -> Mark
         ensures { result ≡ mark_at rho self.now }
@@ -81,12 +93,7 @@ pub fn look<R: Ruler>(
         sight_of (search_at (R.M.space (R.metric ruler.old)) probe.entry.q.now probe.entry.rho) name radius skip point.now }
 {
     if probe.rho < skip {
-        return Sight {
-            name,
-            skip,
-            far: 0,
-            dist: 0,
-        };
+        return Sight::skipped(name, skip);
     }
     let dist = ruler.dist(point, probe.q);
     Sight {
