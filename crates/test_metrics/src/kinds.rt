@@ -34,7 +34,7 @@ fn distances_of_worked_points(rt: HostRuntime) -> Result<(), Fail> {
             b: &[4294967295; 64],
             distances: [64, 274877906880, 4294967295],
         },
-        // The greatest sum of 64 differences of 26 bits, and sums with one difference more than that.
+        // The greatest sum of 64 differences of 26 bits. With one more in each the sum would be 0 in 32 bits.
         Row {
             a: &[67108863; 64],
             b: &[0; 64],
