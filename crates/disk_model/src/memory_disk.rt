@@ -256,6 +256,10 @@ impl Disk for MemoryDisk {
         Ok(())
     }
 
+    /// Writes as the trait says. A write that fails changes no byte.
+    /// Clauses: what is asked of the caller (the one without a name); what is left on the disk (`written`, `others`, `unwritten`); what a
+    /// crash may leave (`torn`, `time`); what stays (`tells`); the cost (`reads`); when it fails (`fails`); the cause of an error
+    /// (`cause`); the whole new state (`next`).
     fn write_at(&mut self, at: u64, bytes: &[u8]) -> Result<(), Failed>
         requires { at + length bytes.now ≤ 2 ^ 37 }
         ensures written { OnOk result (IsTrue (memory_state self.old).tells
@@ -275,6 +279,9 @@ impl Disk for MemoryDisk {
         self.write(at as usize, bytes)
     }
 
+    /// Syncs as the trait says. A sync that fails changes nothing.
+    /// Clauses: what a crash may leave (`durable`, `fewer`, `time`); what stays (`bytes`, `tells`); the cost (`reads`); when it fails
+    /// (`fails`); the cause of an error (`cause`); the whole new state (`next`).
     fn sync(&mut self) -> Result<(), Failed>
         ensures durable { OnOk result (LeavesOnly (memory_state self.new) (memory_state self.old).bytes) }
         ensures bytes { (memory_state self.new).bytes ≡ (memory_state self.old).bytes }

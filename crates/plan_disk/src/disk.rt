@@ -192,6 +192,10 @@ impl Disk for PlanDisk<'_> {
         Ok(())
     }
 
+    /// Adds a write to the plan. A write that fails adds none.
+    /// Clauses: what is asked of the caller (the one without a name); what is left on the disk (`written`, `others`); what a crash may
+    /// leave (`torn`, `time`); what stays (`tells`); the cost (`reads`); when it fails (`refused`); the cause of an error (`cause`); the
+    /// whole new state (`next`).
     fn write_at(&mut self, at: u64, bytes: &[u8]) -> Result<(), Failed>
         requires { at + length bytes.now ≤ 2 ^ 37 }
         ensures written { OnOk result (IsTrue (plan_state self.old).tells
