@@ -107,6 +107,8 @@ impl PlainList {
     }
 
     // Opens a cursor over all objects.
+    // Clauses: what is asked of the caller (`few`, `points`, `query`, `numbers`); the answer and the new state (`ok`, `tagged`); what stays
+    // (`rows`, `tags`); what an error leaves (`err`).
     fn open<M: Metric>(&mut self, alloc: Global, metric: &M, q: &[u32]) -> Result<Reply, Memory>
         requires few { length self.old.rows.points < 2 ^ 32 }
         requires points { All (λ p. IsTrue ((M.space metric.now).fits p)) self.old.rows.points }
@@ -128,6 +130,8 @@ impl PlainList {
     }
 
     // Carries out a command, where its points are points of the space.
+    // Clauses: what is asked of the caller (`list`, `limit`, `numbers`, `readable`, `points`); the answer and the new state (`ok`,
+    // `tagged`); what stays (`list`); the numbers that cursors take (`numbers`); what an error leaves (`err`).
     fn execute<M: Metric>(
         &mut self,
         alloc: Global,
@@ -178,6 +182,8 @@ impl PlainList {
     }
 
     /// Carries out a command, under a limit on the number of objects. When memory runs out the list is as before.
+    /// Clauses: what is asked of the caller (`list`, `limit`, `numbers`, `readable`); the answer and the new state (`ok`, `tagged`); what
+    /// stays (`list`); the numbers that cursors take (`numbers`); what an error leaves (`err`).
     pub fn step<M: Metric>(
         &mut self,
         alloc: Global,

@@ -51,6 +51,9 @@ pub struct Scan<M: Metric> {
 }
 
 // Carries out one command and writes its reply.
+// Clauses: what is asked of the caller (`list`, `limit`, `numbers`, `readable`); what is written (`puts`); what changes (`state`); what
+// stays (`list`); the numbers that cursors take (`numbers`); the cost (`one_put`); the cause of an error (`rose`); faults of the devices
+// (`later`).
 fn answer<M: Metric, K: Sink>(
     alloc: Global,
     scan: &Scan<M>,
