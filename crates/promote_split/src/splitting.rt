@@ -138,6 +138,8 @@ fn split_by<E: Entry>(
 
 /// Splits the n entries of a node into two halves by the policy, by n * n distances. The entries keep their order. Each is in one
 /// half, and its stored distance becomes the one to that half's point.
+/// Clauses: what is asked of the caller (`some`, `room`, `radii`); the answer (`halves`, `shares`, `within`, `near`); what stays
+/// (`metric`); the cost (`counted`).
 pub fn split<R: Ruler, E: Entry>(
     alloc: Global,
     ruler: &mut R,
