@@ -63,6 +63,8 @@ impl Free {
     /// checked when the walk reaches it. A page that the walk opened before is `Repeats`, unasked; one that holds no node is `Bad`;
     /// and one below 3 or not below the number of pages is `Outside`. None of these comes on a sound tree. `Disk` comes where the
     /// disk failed. The walk takes a byte for each page of the file, and each free page takes 4.
+    /// Clauses: what is asked of the caller (`pages`); the answer (`outside`, `sound`, `numbers`, `fresh`, `kept`); what stays (`same`,
+    /// `keeps`); the cost (`asked`, `reads`); the cause of an error (`err`, `passing`); faults of the devices (`no_fault`).
     pub fn of<P: Pages>(alloc: Global, pages: &mut P, live: &Live) -> Result<Self, PageFault>
         requires pages { live.now.pages ≡ (P.shelf pages.old).pages }
         ensures same { HoldsSame (P.shelf pages.old) (P.shelf pages.new) }

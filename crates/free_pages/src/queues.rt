@@ -146,6 +146,8 @@ fn release_first(free: &mut VecDeque<u32>, held: &mut VecDeque<Held>, least: Opt
 }
 
 /// Frees each held page, unless the least pin is below its generation.
+/// Clauses: what is asked of the caller (`free_ascend`, `held_ascend`, `apart`, `room`); what changes (`free`, `held`); room that is not
+/// lost (`free_room`, `held_room`); lengths that do not grow (`fewer`, `shorter`).
 pub fn release(free: &mut VecDeque<u32>, held: &mut VecDeque<Held>, least: Option<u64>)
     requires free_ascend { Ascends 0 free.old.items }
     requires held_ascend { Ascends 0 (held_pages held.old.items) }

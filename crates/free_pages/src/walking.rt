@@ -62,6 +62,8 @@ fn begin(alloc: Global, live: &Live) -> Result<Walk, Memory>
 }
 
 // Opens a page that the walk reaches.
+// Clauses: what is asked of the caller (`limit`, `few`); what changes (`opened`, `one`); what stays (`same`, `keeps`, `flags`); the cost
+// (`asked`, `reads`); the cause of an error (`err`); faults of the devices (`no_fault`).
 fn visit<P: Pages>(
     alloc: Global,
     pages: &mut P,
@@ -95,6 +97,8 @@ fn visit<P: Pages>(
 }
 
 /// Walks the live tree in pre-order, and opens each of its pages once.
+/// Clauses: what is asked of the caller (`pages`); the answer (`ok`, `few`); what stays (`same`, `keeps`); the cost (`asked`, `reads`); the
+/// cause of an error (`err`); faults of the devices (`no_fault`).
 pub fn walk_tree<P: Pages>(alloc: Global, pages: &mut P, live: &Live) -> Result<Walk, PageFault>
     requires pages { live.now.pages ≡ (P.shelf pages.old).pages }
     ensures same { HoldsSame (P.shelf pages.old) (P.shelf pages.new) }

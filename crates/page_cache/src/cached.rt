@@ -109,6 +109,8 @@ impl<P: Pages> Pages for Cached<P> {
     /// Returns the node of a page: the cached one, or what the pages behind give, which is then cached. A refusal does not change
     /// the cache. Where memory for caching the node runs out, the cache does not change either. `Memory` comes also where a node has
     /// as many holders as can be counted.
+    /// Clauses: the answer (`ok`, `hit`); what stays (`same`, `keeps`); what the cache holds (`kept`); the cost (`asked`, `reads`,
+    /// `unread`, `unasked`, `asks`); the cause of an error (`cause`, `outside`); faults of the devices (`no_fault`).
     fn node(&mut self, alloc: Global, page: u32) -> Result<SharedNode, PageFault>
         ensures ok { IfOk result (IsNodeOf (asked_for (P.shelf self.old.inner) self.old.asked) page) }
         ensures cause { IfErr result (HasPageCause (asked_for (P.shelf self.old.inner) self.old.asked)

@@ -31,6 +31,8 @@ pub struct DiskPages<'a, D: Disk> {
 
 impl<'a, D: Disk> DiskPages<'a, D> {
     /// Returns the pages of a file of version 2, with none asked for yet.
+    /// Clauses: what is asked of the caller (`some`, `few`, `small`); the disk behind the answer (`same_reference`, `same`); the fields of
+    /// the answer (`dim`, `pages`, `asked`, `version`).
     pub fn new(disk: &'a mut D, dim: u8, pages: u32) -> Self
         requires some { 1 ≤ dim }
         requires few { dim ≤ 64 }
@@ -46,6 +48,8 @@ impl<'a, D: Disk> DiskPages<'a, D> {
     }
 
     /// Returns the pages of a file of `version`, with none asked for yet.
+    /// Clauses: what is asked of the caller (`some`, `few`, `small`); the disk behind the answer (`same_reference`, `same`); the fields of
+    /// the answer (`dim`, `pages`, `asked`, `version`).
     pub fn of_version(disk: &'a mut D, dim: u8, pages: u32, version: Version) -> Self
         requires some { 1 ≤ dim }
         requires few { dim ≤ 64 }

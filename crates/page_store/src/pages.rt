@@ -52,6 +52,8 @@ pub trait Pages {
 
     /// Returns the node of page `page`. `Outside` comes before the other refusals, and without a read. `Repeats` and `Level` never
     /// come.
+    /// Clauses: the answer (`ok`); what stays (`same`, `keeps`); the cost (`asked`, `reads`, `unread`); the cause of an error (`cause`,
+    /// `outside`); faults of the devices (`no_fault`).
     fn node(&mut self, alloc: Global, page: u32) -> Result<SharedNode, PageFault>
         ensures ok { IfOk result (IsNodeOf (shelf self.old) page) }
         ensures cause { IfErr result (HasPageCause (shelf self.old) (shelf self.new) page) }

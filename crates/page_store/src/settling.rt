@@ -96,6 +96,8 @@ fn other_side(side: u8) -> u8
 
 /// Gives the nodes of a new tree their pages, and returns what the next live slot holds. `NoRoom` comes exactly where the nodes
 /// beyond the given numbers need more pages than a file may have.
+/// Clauses: what is asked of the caller (`first`, `low_pages`, `pages`, `count`, `generation`, `few`, `numbers`, `height`, `root`); the
+/// answer (`staged`, `next`, `left`, `placement`); when it succeeds (`room`); the cause of an error (`cause`).
 pub fn settle(
     alloc: Global,
     numbering: &Numbering<'_>,

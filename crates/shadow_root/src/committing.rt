@@ -18,6 +18,8 @@ use tree_shape::{Live, PAGE};
 pub const OPEN: u8 = 0xa5;
 
 // Writes each staged node to its page.
+// Clauses: what is asked of the caller (`some`, `few`, `below`, `lawful`); what is left on the disk (`bytes`, `in_place`, `long`); what a
+// crash may leave (`images`); what stays (`tells`); the cost (`reads`); the cause of an error (`cause`).
 fn write_nodes<D: Disk>(disk: &mut D, dim: u8, staged: &Staged) -> Result<(), Failed>
     requires some { 1 ≤ dim }
     requires few { dim ≤ 64 }
@@ -61,6 +63,8 @@ fn close_gate<D: Disk>(disk: &mut D, gate: u64) -> Result<(), Failed>
 }
 
 // Writes the nodes beside the live tree and closes the other gate, all of it on the disk.
+// Clauses: what is asked of the caller (`some`, `few`, `successor`, `staged`, `ready`); what is left on the disk (`staged`); what a crash
+// may leave (`images`, `only`); what stays (`tells`); the cost (`reads`); the cause of an error (`cause`).
 fn stage<D: Disk>(
     disk: &mut D,
     dim: u8,
@@ -129,6 +133,8 @@ pub fn write_through<D: Disk>(disk: &mut D, at: u64, bytes: &[u8]) -> Result<(),
 /// Makes `next` the live tree of a file of version 2 over points of `dim` coordinates. Its new nodes are staged beside the live
 /// tree `live`. The opening of one gate byte changes the live slot: a crash at any moment leaves the one tree or the other.
 /// `Failed` comes only where the disk failed; then the file has to be opened anew.
+/// Clauses: what is asked of the caller (`some`, `few`, `successor`, `staged`, `ready`); what is left on the disk (`done`); what a crash
+/// may leave (`any_moment`, `only`); what stays (`tells`); the cost (`reads`); the cause of an error (`cause`).
 pub fn commit<D: Disk>(
     disk: &mut D,
     dim: u8,

@@ -38,6 +38,8 @@ fn write_page<D: Disk>(disk: &mut D, number: u32, page: &[u8; 4096]) -> Result<(
 }
 
 // Writes the head, a closed slot, a slot of zeros and a page of zeros, which is an empty leaf.
+// Clauses: what is left on the disk (`head`, `slot`, `other`, `leaf`, `size`); what a crash may leave (`only`); what stays (`tells`); the
+// cost (`reads`); the cause of an error (`cause`).
 fn lay_out<D: Disk>(
     disk: &mut D,
     head: &[u8; 4096],
@@ -96,6 +98,9 @@ fn closed_slot() -> Slot
 /// Makes an empty index in an empty file, and returns its live tree. `NotEmpty` comes exactly where the file's size isn't 0;
 /// the file is then left as it is. `Disk` comes only where the disk failed, and then nothing is known of the file. The head's
 /// fields are lawful and its version is 2.
+/// Clauses: what is asked of the caller (`lawful`, `version`); the answer (`live`); when it succeeds (`empty`); what is left on the disk
+/// (`made`, `bare`); what a crash may leave (`only`); what stays (`tells`); the cost (`reads`); the cause of an error (`fault`); faults of
+/// the devices (`later`, `no_fault`).
 pub fn create<D: Disk>(disk: &mut D, head: &Head) -> Result<Live, CreateFault>
     requires lawful { IsLawfulHead head.now }
     requires version { head.now.version ≡ 2 }
