@@ -25,6 +25,10 @@ use tree_shape::Live;
 /// marks and the marks; then a record that is left over; then the first answer that differs.
 ///
 /// It asks for at most one page for each record, of either side, and computes at most one distance for each mark that isn't Skip.
+/// Clauses: what is asked of the caller (`lawful`); the answer (`records`, `faultless`, `sound`); what stays (`metric`, `left_same`,
+/// `left_keeps`, `right_same`, `right_keeps`); the cost (`few_asked`, `few_counted`); the cause of an error (`cause`, `complete`); faults
+/// of the devices (`left_no_fault`, `right_no_fault`).
+/// Arguments: `left` and `right` are the pages of the two trees, `ll` and `lr` their live slots, and `ruler` measures for both.
 pub fn verify_join<P: Pages, Q: Pages, R: Ruler>(
     alloc: Global,
     left: &mut P,

@@ -88,6 +88,8 @@ fn verdict_of(right: bool, fault: PageFault) -> JoinVerdict
 }
 
 // Returns the node of the opened item.
+// Clauses: the answer (`few`, `told`); what stays (`left_same`, `left_keeps`, `right_same`, `right_keeps`); the cost (`few_asked`); the
+// cause of an error (`cause`); faults of the devices (`left_no_fault`, `right_no_fault`).
 #[tactic(auto, using(crate::proofs::Counting::ask_left, crate::proofs::Counting::ask_right))]
 fn opened_node<P: Pages, Q: Pages>(
     alloc: Global,
@@ -124,6 +126,9 @@ fn opened_node<P: Pages, Q: Pages>(
 
 // Takes the next record. It has to name the side and the page of the opened item of the next needed pair, and to have one allowed
 // mark for each entry of that page's node.
+// Clauses: what is asked of the caller (the one without a name); what changes (`taken`, `ok`); what stays (`metric`, `rho`, `left_same`,
+// `left_keeps`, `right_same`, `right_keeps`); the cost (`few_asked`, `few_counted`); the cause of an error (`cause`); faults of the devices
+// (`left_no_fault`, `right_no_fault`).
 fn take_record<P: Pages, Q: Pages, R: Ruler>(
     alloc: Global,
     left: &mut P,
@@ -184,6 +189,9 @@ fn take_record<P: Pages, Q: Pages, R: Ruler>(
 }
 
 /// Walks along all the records, and returns the answers that they name.
+/// Clauses: what is asked of the caller (`start`, `few`); the answer (`ok`); what stays (`metric`, `left_same`, `left_keeps`, `right_same`,
+/// `right_keeps`); the cost (`few_asked`, `few_counted`); the cause of an error (`cause`); faults of the devices (`left_no_fault`,
+/// `right_no_fault`).
 pub fn walk_records<P: Pages, Q: Pages, R: Ruler>(
     alloc: Global,
     left: &mut P,

@@ -26,6 +26,9 @@ use tree_shape::Live;
 ///
 /// It asks for at most one page for each record, and computes at most one distance for each mark that isn't Skip. `Page` with
 /// `PageFault::Disk` comes where the disk failed.
+/// Clauses: what is asked of the caller (`lawful`); the answer (`records`, `faultless`, `sound`); what stays (`metric`, `same`, `keeps`);
+/// the cost (`asked`, `few_asked`, `reads`, `counted`, `few_counted`); the cause of an error (`cause`, `complete`); faults of the devices
+/// (`no_fault`).
 pub fn verify<P: Pages, R: Ruler>(
     alloc: Global,
     pages: &mut P,

@@ -115,6 +115,8 @@ fn check_node<R: Ruler>(
 }
 
 // Takes the next record. It has to name the next needed page, and to have one allowed mark for each entry of that page's node.
+// Clauses: what is asked of the caller (the one without a name); what changes (`taken`, `ok`); what stays (`metric`, `same`, `keeps`); the
+// cost (`asked`, `few_asked`, `reads`, `counted`, `few_counted`); the cause of an error (`cause`); faults of the devices (`no_fault`).
 fn take_record<P: Pages, R: Ruler>(
     alloc: Global,
     pages: &mut P,
@@ -166,6 +168,8 @@ fn take_record<P: Pages, R: Ruler>(
 }
 
 /// Walks from the root along all the records, and returns the hits that they name.
+/// Clauses: what is asked of the caller (the one without a name); the answer (`ok`); what stays (`metric`, `same`, `keeps`); the cost
+/// (`asked`, `few_asked`, `reads`, `counted`, `few_counted`); the cause of an error (`cause`); faults of the devices (`no_fault`).
 pub fn walk_records<P: Pages, R: Ruler>(
     alloc: Global,
     pages: &mut P,

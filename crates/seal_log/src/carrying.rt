@@ -110,6 +110,8 @@ fn put_front(out: &mut Vec<u8>, pages: u32, count: u32) -> Result<(), Memory>
 
 /// Returns the carried log of a log over the file with this tree: pages 0, 1 and 2 and the pages that the log's records name, with
 /// their paths, and the log. Reads each page once. `Disk` comes only where the disk failed. Changes nothing.
+/// Clauses: what is asked of the caller (`some`, `few`, `lawful`, `within`); the answer (`carries`); what stays (`same`); the cost
+/// (`reads`); the cause of an error (`disk`); faults of the devices (`later`, `no_fault`).
 pub fn carry<D: Disk>(
     alloc: Global,
     disk: &mut D,

@@ -32,6 +32,8 @@ fn seal_page<D: Disk>(disk: &mut D, page: u32) -> Result<[u8; 32], SealFault>
 
 /// Returns the tree over the digests of the first `pages` pages of a file. Reads each page once. `Disk` comes only where the disk
 /// failed. Changes nothing.
+/// Clauses: what is asked of the caller (`some`, `few`); the answer (`sealed`, `size`); what stays (`same`); the cost (`reads`); the cause
+/// of an error (`disk`); faults of the devices (`later`, `no_fault`).
 pub fn seal<D: Disk>(alloc: Global, disk: &mut D, pages: u32) -> Result<Tree, SealFault>
     requires some { 4 ≤ pages }
     requires few { pages ≤ 262144 }
