@@ -52,6 +52,8 @@ fn all_places(alloc: Global, count: usize) -> Result<Vec<u32>, Memory>
 }
 
 // Makes the tree of all rows, in place of one that has no objects.
+// Clauses: what is asked of the caller (`ready`, `load`, `some`, `few`, `workers`, `first`); the answer (`nodes`, `root`, `height`,
+// `added`, `left`).
 fn new_tree<W: Crew<M>, M: Metric>(
     crew: &W,
     alloc: Global,
@@ -92,6 +94,11 @@ fn new_tree<W: Crew<M>, M: Metric>(
 /// Makes the nodes of the tree of `rows` with `tags`, for a commit to an index that has no objects. Row i gets the id i. The rows
 /// alone settle the tree: any number of workers gives the same. New nodes get the pages `numbers`, in order, and then those from
 /// the file's end on. Children are numbered before their parent, in order of groups.
+/// Clauses: what is asked of the caller (`ready`, `head`, `live`, `empty`, `words`, `some`, `few`, `fits`, `tags`, `workers`, `numbers`);
+/// what the commit needs (`placement`, `many`, `apart`); the answer (`by_itself`, `left`, `loaded`); the cause of an error (`worn`,
+/// `cause`).
+/// Arguments: `crew` and `workers` do the work in the space of `metric`, `head`, `live` and `numbers` are the file and its free pages, and
+/// `rows` and `tags` are the objects.
 pub fn build<W: Crew<M>, M: Metric>(
     crew: &W,
     alloc: Global,

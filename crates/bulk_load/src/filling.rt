@@ -63,6 +63,8 @@ fn candidates<M: Metric>(
 }
 
 // Moves the object at `place` to `group`, where it may leave its own.
+// Clauses: what is asked of the caller (`group`, `place`, `groups`, `counts`); what changes (`placed`); what stays (`long`, `groups`,
+// `counts`, `len`).
 fn move_over(least: usize, group: usize, place: usize, placed: &mut [Member], counts: &mut [usize])
     requires group { (group < length counts.old) × (length counts.old ≤ 64) }
     requires place { place < length placed.old }
@@ -86,6 +88,8 @@ fn move_over(least: usize, group: usize, place: usize, placed: &mut [Member], co
 }
 
 // Fills up one group, if it has fewer than `least` objects.
+// Clauses: what is asked of the caller (`group`, `placed`, `groups`, `len`, `counts`); what changes (`placed`); what stays (`long`,
+// `groups`, `counts`, `len`).
 fn fill_one<M: Metric>(
     alloc: Global,
     distances: &Distances<'_, M>,

@@ -116,6 +116,10 @@ fn parted<W: Scout<M>, M: Metric>(
 
 /// Returns the groups of `set` that make the entries of a node at a level above 0. The set and the groups hold places of the rows.
 /// Fails only out of memory.
+/// Clauses: what is asked of the caller (`ready`, `rows`, `points`, `places`, `ascends`, `level`, `fill`, `size`, `workers`); the answer
+/// (the one without a name).
+/// Arguments: `crew` and `workers` do the work in the space of `metric`, `set` names the members among `rows`, and `level`, `root` and
+/// `fill` say which node is made.
 pub fn groups<W: Scout<M>, M: Metric>(
     crew: &W,
     alloc: Global,

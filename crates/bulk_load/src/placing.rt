@@ -141,6 +141,8 @@ fn choose<M: Metric>(
 }
 
 // Returns where the object at `place` goes, and how many seeds are before the next place; `before` seeds are before this one.
+// Clauses: what is asked of the caller (`place`, `width`, `seeds`, `before`, `counts`, `hint`); the answer (`seeds`, `small`, `step`); what
+// changes (`grown`); what stays (`counts`).
 #[tactic(auto, using(crate::proofs::Steps::seed_step, crate::proofs::Steps::member_step))]
 fn place_one<M: Metric>(
     placing: &Placing<'_, M>,

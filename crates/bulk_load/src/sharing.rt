@@ -149,6 +149,8 @@ fn all_made<W: Crew<M>, M: Metric>(
 }
 
 /// Appends the nodes of the tree of `set` as `add_subtree` does, by as many workers as the load has.
+/// Clauses: what is asked of the caller (`ready`, `load`, `rows`, `workers`, `first`, `seed`, `set`, `level`, `few`); the answer (`page`);
+/// what changes (`nodes`).
 pub fn add_tree<W: Crew<M>, M: Metric>(
     crew: &W,
     alloc: Global,

@@ -205,6 +205,8 @@ pub fn groups_in<W: Scout<M>, M: Metric>(
 }
 
 /// Appends the nodes of the subtree of `set` to `nodes`, children before their parent, and returns the page of the subtree's root.
+/// Clauses: what is asked of the caller (`ready`, `load`, `rows`, `workers`, `first`, `seed`, `set`, `level`, `few`); the answer (`page`);
+/// what changes (`nodes`).
 pub fn add_subtree<W: Scout<M>, M: Metric>(
     crew: &W,
     alloc: Global,

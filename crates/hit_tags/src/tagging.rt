@@ -17,6 +17,8 @@ use tree_shape::Live;
 
 // Returns the tag of each hit by the walk of the live tree by the found log. It opens each page; but where the log is known to mark
 // each node that the walk reaches, it opens only pages with a Near mark.
+// Clauses: what is asked of the caller (`marked`); the answer (`each`, `met`); what stays (`same`, `keeps`); the cost (`asked`, `reads`);
+// the cause of an error (`cause`); faults of the devices (`no_fault`).
 fn walked_tags<P: Pages>(
     alloc: Global,
     pages: &mut P,
@@ -51,6 +53,8 @@ fn walked_tags<P: Pages>(
 /// what it met. No distance is computed.
 ///
 /// It asks for at most one page for each record. `Disk` comes where the disk failed, and `Repeats` and `Level` never come.
+/// Clauses: the answer (`each`, `met`, `own`, `objects`); what stays (`same`, `keeps`); the cost (`asked`, `reads`); the cause of an error
+/// (`cause`, `sound`); faults of the devices (`no_fault`).
 pub fn tags_of<P: Pages>(
     alloc: Global,
     pages: &mut P,
@@ -83,6 +87,8 @@ pub fn tags_of<P: Pages>(
 
 /// Like `tags_of`, for a log that marks each node that its walk reaches, as the log of a search does: opens only pages with a Near
 /// mark. On a sound tree these are the leaves of the hits and the pages that lead to them.
+/// Clauses: what is asked of the caller (`marked`); the answer (`each`, `met`, `objects`); what stays (`same`, `keeps`); the cost (`asked`,
+/// `reads`, `near`, `near_reads`); the cause of an error (`cause`); faults of the devices (`no_fault`).
 pub fn marked_tags<P: Pages>(
     alloc: Global,
     pages: &mut P,

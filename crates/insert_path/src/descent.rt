@@ -125,6 +125,8 @@ struct Regrowth {
 }
 
 // Puts what a subtree has grown to into its node, and stages the node.
+// Clauses: what is asked of the caller (`first`, `few`, `some`, `room`, `place`, `near`, `small`); the answer (`staged`, `near`); what
+// stays (`metric`); how many nodes are added (`count`).
 fn back_at<R: Ruler>(
     alloc: Global,
     ruler: &mut R,
@@ -164,6 +166,8 @@ fn back_at<R: Ruler>(
 }
 
 // Inserts the object below a page, and returns what the page's node has grown to.
+// Clauses: what is asked of the caller (`first`, `few`, `some`, `room`); the answer (`descends`); what stays (`metric`, `keeps`); what
+// stays, and the cost (`asked`); how many nodes are added (`count`); the cause of an error (`cause`); faults of the devices (`no_fault`).
 pub fn descend<P: Pages, R: Ruler>(
     alloc: Global,
     pages: &mut P,

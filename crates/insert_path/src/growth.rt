@@ -104,6 +104,9 @@ fn grow_root(
 }
 
 // Walks down from the live root, and makes the new tree.
+// Clauses: what is asked of the caller (`height`, `first`, `some`, `room`); the answer (`walks`, `added`); what stays (`metric`, `keeps`);
+// what stays, and the cost (`asked`); how many nodes are new (`count`); the cause of an error (`cause`); faults of the devices
+// (`no_fault`).
 pub fn grow<P: Pages, R: Ruler>(
     alloc: Global,
     pages: &mut P,

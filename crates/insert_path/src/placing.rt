@@ -25,6 +25,12 @@ use tree_shape::{LAST_GENERATION, Live, fill};
 /// Inserts an object with the point `p` and the tag `tag` into the tree of a file, and returns the new nodes, for a commit. Its id
 /// is the number of objects before. New nodes get the pages `numbers`, in order, and then those from the file's end on. They are
 /// numbered from the leaf upward, the first half of a node before the second, a new root last.
+/// Clauses: what is asked of the caller (`fits`, `head`, `live`, `words`, `dim`, `pages`, `numbers`, `outside`); what the commit needs
+/// (`placement`, `apart`); the pages that the new nodes replace (`left_within`, `takes_place`); the answer (`walked`, `inserted`); what
+/// stays (`metric`, `keeps`); what stays, and the cost (`asked`); the cause of an error (`full`, `worn`, `cause`, `sound`); faults of the
+/// devices (`no_fault`).
+/// Arguments: `pages`, `head`, `live` and `numbers` are the file and its free pages, `ruler` measures in its space, and `p` and `tag` are
+/// the object.
 pub fn place<P: Pages, R: Ruler>(
     alloc: Global,
     pages: &mut P,

@@ -110,6 +110,8 @@ fn stage_halves<E: NodeEntry>(
 }
 
 // Stages a node with one entry too many, in halves.
+// Clauses: what is asked of the caller (`first`, `few`, `some`, `room`, `many`, `radii`); the answer (`staged`); what stays (`metric`); how
+// many nodes are added (`count`).
 fn stage_split<R: Ruler, E: NodeEntry>(
     alloc: Global,
     ruler: &mut R,

@@ -52,6 +52,9 @@ fn joined_of(alloc: Global, ll: &Live, lr: &Live, r: u64, walk: JoinWalk) -> Res
 /// the number of pages is `Outside`. One page more is `Repeats` where the first walk of a tree has opened as many nodes as the
 /// live slot counts pages, or where a path of the walk of pairs has gone through as many. None of these comes on sound trees.
 /// `Disk` comes where that side's disk failed.
+/// Clauses: the answer (`scanned`); the answer and its cost (`joined`); what stays (`metric`, `left_same`, `left_keeps`, `right_same`,
+/// `right_keeps`); the cause of an error (`cause`, `sound`); faults of the devices (`left_no_fault`, `right_no_fault`).
+/// Arguments: `left` and `right` are the pages of the two trees, `ll` and `lr` their live slots, and `ruler` measures for both.
 pub fn join<P: Pages, Q: Pages, R: Ruler>(
     alloc: Global,
     left: &mut P,

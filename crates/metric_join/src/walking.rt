@@ -202,6 +202,8 @@ fn opened_node<P: Pages, Q: Pages>(
 }
 
 // Opens the item of greater rank of a needed pair.
+// Clauses: what changes (`on`, `lighter`); what stays (`metric`, `rho`, `left_same`, `left_keeps`, `right_same`, `right_keeps`); the cause
+// of an error (`cause`); faults of the devices (`left_no_fault`, `right_no_fault`).
 fn open_pair<P: Pages, Q: Pages, R: Ruler>(
     alloc: Global,
     left: &mut P,
@@ -242,6 +244,8 @@ fn open_pair<P: Pages, Q: Pages, R: Ruler>(
 }
 
 /// Walks on until no pair waits, or a page gives no node.
+/// Clauses: the answer (`ok`); what stays (`metric`, `left_same`, `left_keeps`, `right_same`, `right_keeps`); the cause of an error
+/// (`cause`); faults of the devices (`left_no_fault`, `right_no_fault`).
 pub fn walk_pairs<P: Pages, Q: Pages, R: Ruler>(
     alloc: Global,
     left: &mut P,

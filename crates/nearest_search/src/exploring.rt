@@ -29,6 +29,8 @@ pub struct Explored {
 
 /// Opens subtrees by least possible distance until none is within the radius of the k least distances (VLDB 1997,
 /// section 3.2).
+/// Clauses: what is asked of the caller (`point`, `queue`, `best`, `kept`); the answer and the new state (`ok`); what stays (`metric`,
+/// `same`, `keeps`); the cost (`asked`, `reads`, `measured`); the cause of an error (`cause`, `sound`); faults of the devices (`no_fault`).
 pub fn explore<P: Pages, R: Ruler>(
     alloc: Global,
     pages: &mut P,

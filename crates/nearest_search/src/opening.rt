@@ -190,6 +190,8 @@ fn see_node<R: Ruler>(
 }
 
 /// Opens the page of a subtree at a radius, and keeps what was seen of its entries.
+/// Clauses: what changes (`opened`); what stays (`metric`, `same`, `keeps`, `count`); the cost (`used`, `asked`, `reads`); the cause of an
+/// error (`cause`); faults of the devices (`no_fault`).
 pub fn open_page<P: Pages, R: Ruler>(
     alloc: Global,
     pages: &mut P,

@@ -104,6 +104,9 @@ impl Cursor {
     /// A page that holds no node is `Bad`. A page below 3 or not below the number of pages is `Outside`. A page is `Repeats` where
     /// this step and the earlier successful ones opened as many nodes as the file has pages, and this page is to be opened too. None
     /// of these comes on a sound tree. `Disk` comes where the disk failed, and `Memory` where memory ran out.
+    /// Clauses: what is asked of the caller (`point`, `some`); the answer (`few`, `each`, `gives`, `ends`); what changes (`given`,
+    /// `accounted`, `reached`, `walks`); what stays (`metric`, `same`, `keeps`, `live`, `point`); the cost (`opened`, `work`, `asked`,
+    /// `reads`); what an error leaves (`unchanged`); the cause of an error (`cause`, `sound`); faults of the devices (`no_fault`).
     pub fn step<P: Pages, R: Ruler>(
         &mut self,
         alloc: Global,

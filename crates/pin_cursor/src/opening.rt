@@ -62,6 +62,8 @@ pub fn queue_subtrees<R: Ruler>(
 }
 
 /// Opens a page: the objects or subtrees of its node wait from now on.
+/// Clauses: what changes (`node`); what stays (`metric`, `same`, `keeps`, `opened`, `given`, `hits`, `tags`); the cost (`asked`, `reads`);
+/// the cause of an error (`cause`); faults of the devices (`no_fault`).
 pub fn open_page<P: Pages, R: Ruler>(
     alloc: Global,
     pages: &mut P,

@@ -25,6 +25,8 @@ pub struct Goal<'a> {
 
 /// Gives the next hits: as many as are wanted, or all that are left. A subtree is opened before a candidate at the same distance as
 /// the subtree's lower bound is given, since it may hold an object with a lower id (VLDB 1997, section 3.2).
+/// Clauses: what is asked of the caller (`point`, `hits`, `tags`, `few`, `room`); what changes (`way`, `ends`); what stays (`metric`,
+/// `same`, `keeps`); the cost (`asked`, `reads`); the cause of an error (`cause`, `sound`); faults of the devices (`no_fault`).
 pub fn advance<P: Pages, R: Ruler>(
     alloc: Global,
     pages: &mut P,

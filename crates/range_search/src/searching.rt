@@ -17,6 +17,8 @@ use std::alloc::Global;
 use tree_shape::Live;
 
 // Opens a page that the walk needs, and processes its node.
+// Clauses: what changes (`opened`, `longer`); what stays (`metric`, `same`, `keeps`); the cost (`asked`, `reads`); the cause of an error
+// (`cause`); faults of the devices (`no_fault`).
 fn open_page<P: Pages, R: Ruler>(
     alloc: Global,
     pages: &mut P,
@@ -45,6 +47,8 @@ fn open_page<P: Pages, R: Ruler>(
 }
 
 // Walks the live tree with the least marks. After as many pages as the file has, a further page is refused without a request.
+// Clauses: the answer (`ok`, `few`); what stays (`metric`, `same`, `keeps`); the cost (`asked`, `reads`); the cause of an error (`cause`);
+// faults of the devices (`no_fault`).
 fn follow<P: Pages, R: Ruler>(
     alloc: Global,
     pages: &mut P,
@@ -84,6 +88,8 @@ fn follow<P: Pages, R: Ruler>(
 /// A page that holds no node is `Bad`. A page below 3 or not below the number of pages is `Outside`. A page is `Repeats` where the
 /// walk has opened as many nodes as the file has pages and needs this page too. None of these comes on a sound tree. `Disk` comes
 /// where the disk failed.
+/// Clauses: what is asked of the caller (`point`, `few_pages`); the answer (`scanned`); the answer and its cost (`found`); what stays
+/// (`metric`, `same`, `keeps`); the cost (`asked`, `reads`); the cause of an error (`cause`, `sound`); faults of the devices (`no_fault`).
 pub fn range<P: Pages, R: Ruler>(
     alloc: Global,
     pages: &mut P,

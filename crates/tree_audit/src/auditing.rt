@@ -48,6 +48,9 @@ pub fn visits_for(alloc: Global, live: &Live) -> Result<Visits, Memory>
 /// at each entry: its point is not in the space; its stored distance is wrong; at an object, the first radius from the root down
 /// that leaves it out, and an id out of range or met before; at an inner entry, the walk of its child. At the end, another number
 /// of objects than the slot's. Each page is asked for once. The audit takes about 5 bytes for each page and object.
+/// Clauses: what is asked of the caller (`some`, `few`, `dim`, `words`, `pages`); the answer (`ok`, `objects`, `nodes`); what stays
+/// (`metric`, `same`, `keeps`); the cost (`asked`, `reads`, `all_asked`, `all_reads`); the cause of an error (`err`); faults of the devices
+/// (`no_fault`).
 pub fn audit<P: Pages, R: Ruler>(
     alloc: Global,
     pages: &mut P,

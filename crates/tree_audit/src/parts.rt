@@ -29,6 +29,10 @@ pub struct Part {
 }
 
 // Walks an entry of the root and the subtree below it.
+// Clauses: what is asked of the caller (`some`, `few`, `above`, `dim`, `words`, `limit`, `fewer`); what changes (`ok`); what stays
+// (`metric`, `same`, `keeps`, `pages_limit`, `fewer`); the cost (`asked`, `reads`); the cause of an error (`err`); faults of the devices
+// (`no_fault`).
+// Arguments: `pages`, `ruler` and `visits` change with each step of the walk, and `root`, `place` and `entry` say where it begins.
 fn walk_entry<P: Pages, R: Ruler>(
     alloc: Global,
     pages: &mut P,
@@ -67,6 +71,9 @@ fn walk_entry<P: Pages, R: Ruler>(
 
 /// Audits the entry of the root at `place`, and the subtree below it, as `audit` does, but as if nothing was met before:
 /// returns what was met, or the first fault. So the parts of a tree can be audited apart from one another.
+/// Clauses: what is asked of the caller (`some`, `few`, `above`, `dim`, `words`, `pages`); the answer (`ok`); what stays (`metric`, `same`,
+/// `keeps`); the cost (`all_asked`, `all_reads`); the cause of an error (`err`); faults of the devices (`no_fault`).
+/// Arguments: those of `audit`, and `place` and `entry` name the part.
 pub fn audit_part<P: Pages, R: Ruler>(
     alloc: Global,
     pages: &mut P,

@@ -240,6 +240,9 @@ fn audit_leaf<R: Ruler>(
 }
 
 // Reads the node of a page that the walk reaches.
+// Clauses: what is asked of the caller (`limit`, `fewer`); the answer (`ok`); what changes (`new`, `noted`); what stays (`same`, `keeps`,
+// `limit`, `fewer`); the cost (`asked`, `reads`); what an error leaves (`unseen`); the cause of an error (`err`); faults of the devices
+// (`no_fault`).
 fn arrive<P: Pages>(
     alloc: Global,
     pages: &mut P,
@@ -284,6 +287,8 @@ fn step_to(alloc: Global, page: u32, place: u32, entry: InnerRef) -> Result<Step
 }
 
 /// Goes down to the child of `entry`, which is audited before: the step to it stands last on the path.
+/// Clauses: what is asked of the caller (`some`, `few`, `above`); the answer (`page`, `level`, `least`, `dim`); what changes (`path`); when
+/// it succeeds (`ok`); what stays (`same`); the cause of an error (`err`).
 pub fn step_down<R: Ruler>(
     alloc: Global,
     ruler: &mut R,
@@ -330,6 +335,9 @@ fn is_inner(at: &Spot, level: u8, count: usize) -> bool
 }
 
 /// Walks the subtree of a page in pre-order.
+/// Clauses: what is asked of the caller (`some`, `few`, `dim`, `words`, `limit`, `fewer`); what changes (`ok`); what stays (`metric`,
+/// `same`, `keeps`, `pages_limit`, `ids_limit`, `path`, `fewer`); the cost (`asked`, `reads`, `all_asked`, `all_reads`); the cause of an
+/// error (`err`); faults of the devices (`no_fault`).
 pub fn walk<P: Pages, R: Ruler>(
     alloc: Global,
     pages: &mut P,

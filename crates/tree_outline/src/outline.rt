@@ -128,6 +128,8 @@ fn draw<P: Pages>(
 }
 
 /// Walks the live tree in pre-order by its child numbers. After as many pages as the file has, one more is refused unasked.
+/// Clauses: the answer (`counted`, `lines`, `walk`); what stays (`same`, `keeps`); the cost (`asked_once`, `read_once`, `asked`, `reads`);
+/// the cause of an error (`cause`, `sound`); faults of the devices (`no_fault`).
 pub fn shape_of<P: Pages>(alloc: Global, pages: &mut P, live: &Live) -> Result<Shape, PageFault>
     ensures same { HoldsSame (P.shelf pages.old) (P.shelf pages.new) }
     ensures keeps { P.keeps pages.old pages.new }
