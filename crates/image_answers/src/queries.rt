@@ -97,6 +97,7 @@ fn tagged<P: Pages>(
 }
 
 /// Finds all objects within `r` of `q`. Where tags are not wanted, the hits have none, and no page is opened for them.
+/// Arguments: `pages`, `metric` and `live` are the opened file, `q` and `r` the query, and `tags` says whether tags are wanted.
 pub fn range_on<M: Metric>(
     alloc: Global,
     pages: &mut Cached<ImagePages<'_>>,
@@ -125,6 +126,7 @@ pub fn range_on<M: Metric>(
 }
 
 /// Finds the `k` objects nearest to `q`. Where tags are not wanted, the hits have none, and no page is opened for them.
+/// Arguments: `pages`, `metric` and `live` are the opened file, `q` and `k` the query, and `tags` says whether tags are wanted.
 pub fn nearest_on<M: Metric>(
     alloc: Global,
     pages: &mut Cached<ImagePages<'_>>,

@@ -48,6 +48,8 @@ impl<M: Metric> Index<M> {
     /// Opens an index file whose points `metric` measures, after a sync: what a read gives then is all that a crash may leave.
     /// The faults are those of `View::open_read`. `Disk` comes also where the sync failed. A load uses one thread, and no free list
     /// is made yet.
+    /// Clauses: the answer (`stands`, `lawful`, `opened`); what stays (`bytes`, `tells`); what a crash may leave (`time`, `fewer`,
+    /// `synced`); the cost (`reads`); the cause of an error (`cause`); faults of the devices (`later`, `no_fault`).
     pub fn open_write<D: Disk>(disk: &mut D, metric: M) -> Result<Self, OpenFault>
         ensures stands { IfOk result (λ index. StandsAlone index (D.state disk.new)) }
         ensures lawful { IfOk result (λ index. IsLawfulFile (M.space metric).words index.file) }
@@ -147,6 +149,9 @@ impl<M: Metric> Index<M> {
 
     /// Returns every object within `r` of `q`, by distance, then by id, and the log that shows it. `Stopped` comes where a commit
     /// failed before, and touches nothing. The other refusals are those of `View::range`.
+    /// Clauses: what is asked of the caller (`stands`, `point`); the answer (`searched`); the answer and its cost (`found`); what stays
+    /// (`stands`, `reads`, `rest`); the cost (`few`); the cause of an error (`stopped`, `cause`, `damage`); faults of the devices
+    /// (`no_fault`).
     pub fn range<D: Disk>(
         &mut self,
         alloc: Global,
@@ -179,6 +184,8 @@ impl<M: Metric> Index<M> {
     }
 
     /// Returns the `k` objects nearest to `q`, by distance, then by id, and the log that shows it. The refusals are those of `range`.
+    /// Clauses: what is asked of the caller (`stands`, `point`, `some`); the answer (`searched`, `front`); what stays (`stands`, `reads`,
+    /// `rest`); the cost (`few`); the cause of an error (`stopped`, `cause`, `damage`); faults of the devices (`no_fault`).
     pub fn nearest<D: Disk>(
         &mut self,
         alloc: Global,

@@ -21,6 +21,9 @@ use tree_shape::{LAST_GENERATION, Live};
 impl<M: Metric> Index<M> {
     // Commits `placement`, made on pages of the free list `free`, and then returns `answer`. A disk fault in the commit stops the
     // index.
+    // Clauses: what is asked of the caller (`going`, `stands`, `only`, `lawful`, `beside`, `placed`, `follows`); what the commit does, and
+    // what a crash may leave (`written`); what stays (`stands`, `tells`); the cost (`reads`); the cause of an error (`refusals`, `rose`);
+    // faults of the devices (`later`, `no_fault`).
     pub(crate) fn commit_placed<D: Disk>(
         &mut self,
         disk: &mut D,
@@ -72,6 +75,9 @@ impl<M: Metric> Index<M> {
 
     /// Adds an object with point `p`, and returns its id, which is the number of objects before. Its tag is the id. The
     /// refusals are those of `insert_tagged`.
+    /// Clauses: what is asked of the caller (`stands`, `point`); what the commit does, and what a crash may leave (`written`); what stays
+    /// (`stands`, `tells`); the cost (`few`, `most`); the cause of an error (`stopped`, `full`, `worn`, `cause`, `damage`, `undamaged`);
+    /// faults of the devices (`later`, `no_fault`).
     pub fn insert<D: Disk>(
         &mut self,
         alloc: Global,
@@ -116,6 +122,9 @@ impl<M: Metric> Index<M> {
     /// pages than a file may have; and `Commit` where the disk failed in the commit. `Commit` stops the index: the file then has
     /// the object or not, and has to be opened anew. `Memory` may come in place of any but the first three, and never after the
     /// first write.
+    /// Clauses: what is asked of the caller (`stands`, `point`); what the commit does, and what a crash may leave (`written`); what stays
+    /// (`stands`, `tells`); the cost (`few`, `most`); the cause of an error (`stopped`, `full`, `worn`, `cause`, `damage`, `undamaged`);
+    /// faults of the devices (`later`, `no_fault`).
     pub fn insert_tagged<D: Disk>(
         &mut self,
         alloc: Global,

@@ -18,6 +18,8 @@ use std::alloc::Global;
 
 impl<M: Metric> View<M> {
     // Lists the pages that the live tree does not need, by a walk of the tree.
+    // Clauses: what is asked of the caller (`stands`); the answer (`kept`, `made`, `lawful`, `beside`, `exact`); what stays (`stands`,
+    // `reads`); the cost (`few`); the cause of an error (`cause`, `undamaged`); faults of the devices (`no_fault`).
     fn list_free<D: Disk>(&mut self, alloc: Global, disk: &mut D) -> Result<Free, IndexFault>
         requires stands { StandsOn self.old (D.state disk.old) }
         ensures stands { StandsOn self.new (D.state disk.new) }
@@ -50,6 +52,9 @@ impl<M: Metric> View<M> {
 
 impl<M: Metric> Index<M> {
     // Takes the free list out. Where it isn't made yet, the live tree is walked once.
+    // Clauses: what is asked of the caller (`stands`); the answer (`list`, `kept`, `lawful`, `beside`, `exact`); what changes (`rest`);
+    // what stays (`stands`, `reads`, `there`); the cost (`few`); the cause of an error (`made`, `cause`, `undamaged`); faults of the
+    // devices (`no_fault`).
     pub(crate) fn take_free<D: Disk>(
         &mut self,
         alloc: Global,

@@ -36,6 +36,9 @@ fn build_fault(fault: BuildFault) -> IndexFault
 
 impl<M: Metric> View<M> {
     // Places the tree of `rows` with `tags` on free pages, in place of a tree that has no objects.
+    // Clauses: what is asked of the caller (`ready`, `empty`, `unworn`, `some`, `few`, `fits`, `tags`, `some_workers`, `few_workers`,
+    // `within`); the answer (`placed`, `numbered`, `many`, `by_itself`, `loads`); the cause of an error (`cause`).
+    // Arguments: `crew` and `workers` do the work, `free` has the pages, and `rows` and `tags` are the objects.
     pub(crate) fn build<W: Crew<M>>(
         &self,
         crew: &W,
@@ -122,6 +125,11 @@ impl<M: Metric> Index<M> {
     }
 
     // Loads `rows`, which may be loaded, on pages of the free list `free`.
+    // Clauses: what is asked of the caller (`ready`, `may`, `stands`, `only`, `lawful`, `beside`, `some`, `fits`, `tags`); what the commit
+    // does, and what a crash may leave (`written`); what stays (`stands`, `tells`); the cost (`reads`); the cause of an error (`cause`,
+    // `undamaged`); faults of the devices (`later`, `no_fault`).
+    // Arguments: `crew` does the work, `self` and `disk` are the index and its file, `free` has the pages, and `rows` and `tags` are the
+    // objects.
     fn load_on<W: Crew<M>, D: Disk>(
         &mut self,
         crew: &W,
@@ -169,6 +177,9 @@ impl<M: Metric> Index<M> {
 
     /// Loads `rows` into an index that has no objects, and returns how many they are. Row i gets the id i, and its id as its
     /// tag. The refusals are those of `load_tagged`.
+    /// Clauses: what is asked of the caller (`ready`, `stands`, `some`, `fits`); what the commit does, and what a crash may leave
+    /// (`written`); what stays (`stands`, `tells`); the cost (`few`, `most`); the cause of an error (`refused`, `cause`, `damage`,
+    /// `undamaged`); faults of the devices (`later`, `no_fault`).
     pub fn load<W: Crew<M>, D: Disk>(
         &mut self,
         crew: &W,
@@ -216,6 +227,9 @@ impl<M: Metric> Index<M> {
     /// or `Damaged` (`Bad`, `Outside` or `Repeats`, with the page) of the walk that makes the free list, where it isn't made yet;
     /// `NoRoom` where the new nodes need more pages than a file may have; `Memory`; and `Commit` where the disk failed in the commit.
     /// `Commit` stops the index: the file then has the objects or not, and has to be opened anew.
+    /// Clauses: what is asked of the caller (`ready`, `stands`, `some`, `fits`, `tags`); what the commit does, and what a crash may leave
+    /// (`written`); what stays (`stands`, `tells`); the cost (`few`, `most`); the cause of an error (`refused`, `cause`, `damage`,
+    /// `undamaged`); faults of the devices (`later`, `no_fault`).
     pub fn load_tagged<W: Crew<M>, D: Disk>(
         &mut self,
         crew: &W,

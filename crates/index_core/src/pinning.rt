@@ -22,6 +22,9 @@ impl<M: Metric> Index<M> {
     /// is inserted or loaded. A stop forgets all pins. `Stopped` comes where a commit failed before. `Disk`, `Damaged` and `Memory`
     /// come from the walk of the live tree, where no free list is made yet. `Memory` comes also where there is no room for the pin.
     /// Nothing is written.
+    /// Clauses: what is asked of the caller (`stands`); the answer (`live`); what changes (`pinned`, `guards`); what stays (`stands`,
+    /// `reads`, `rest`, `guarded`, `exact`); the cost (`few`); what an error leaves (`refused`); the cause of an error (`stopped`, `cause`,
+    /// `damage`, `made`, `undamaged`); faults of the devices (`no_fault`).
     pub fn pin<D: Disk>(&mut self, alloc: Global, disk: &mut D) -> Result<Live, IndexFault>
         requires stands { MayGoOn self.old (D.state disk.old) }
         ensures stopped { self.old.stopped ≡ true → (result ≡ Err IndexFault.Stopped) × (self.new ≡ self.old) × (disk.new ≡ disk.old) }

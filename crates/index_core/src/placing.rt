@@ -28,6 +28,9 @@ pub struct Placement {
 impl<M: Metric> View<M> {
     // Places one more object, with point `p` and tag `tag`, on free pages. A split of each node from the leaf up and a new root take
     // at most `2 * height + 3` pages.
+    // Clauses: what is asked of the caller (`stands`, `point`, `more`, `unworn`, `beside`, `within`); the answer (`placed`, `numbered`,
+    // `one`, `takes_place`, `inserts`); what stays (`stands`, `reads`); the cost (`few`); the cause of an error (`cause`, `undamaged`);
+    // faults of the devices (`no_fault`).
     pub(crate) fn place<D: Disk>(
         &mut self,
         alloc: Global,

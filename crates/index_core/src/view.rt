@@ -57,6 +57,8 @@ impl<M: Metric> View<M> {
     /// Opens an index file whose points `metric` measures. Besides the faults of a file that is no index,
     /// `Head(HeadFault::Version)` comes where the file is of version 1, and `Head(HeadFault::Space)` where its points have another
     /// number of coordinates than the metric's. `Disk` comes where the disk failed.
+    /// Clauses: the answer (`stands`, `lawful`, `metric`, `none_kept`); what stays (`same`); the cost (`reads`); the cause of an error
+    /// (`cause`); faults of the devices (`later`, `no_fault`).
     pub fn open_read<D: Disk>(disk: &mut D, metric: M) -> Result<Self, OpenFault>
         ensures stands { IfOk result (λ view. StandsOn view (D.state disk.new)) }
         ensures lawful { IfOk result (IsLawfulFile (M.space metric).words) }
@@ -149,6 +151,8 @@ impl<M: Metric> View<M> {
     /// Returns every object within `r` of `q`, by distance, then by id, and the log that shows it. `Damaged` holds `Bad`, `Outside`
     /// or `Repeats` with the page that the walk reached; none of these comes on a sound file. `Disk` comes where the disk failed. The
     /// disk is read at most once per record of the log, and never more often than the file has pages.
+    /// Clauses: what is asked of the caller (`stands`, `point`); the answer (`searched`); the answer and its cost (`found`); what stays
+    /// (`stands`, `reads`); the cost (`few`); the cause of an error (`cause`); faults of the devices (`no_fault`).
     pub fn range<D: Disk>(
         &mut self,
         alloc: Global,
@@ -177,6 +181,8 @@ impl<M: Metric> View<M> {
 
     /// Returns the `k` objects nearest to `q`, by distance, then by id, and the log that shows it. The refusals are those of `range`.
     /// On a sound file the disk is read at most once per record of the log, and on any file never more often than it has pages.
+    /// Clauses: what is asked of the caller (`stands`, `point`, `some`); the answer (`searched`, `front`); what stays (`stands`, `reads`);
+    /// the cost (`few`); the cause of an error (`cause`); faults of the devices (`no_fault`).
     pub fn nearest<D: Disk>(
         &mut self,
         alloc: Global,

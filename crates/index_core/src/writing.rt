@@ -39,6 +39,8 @@ fn forget(kept: &mut Option<Kept>, staged: &Staged)
 impl<M: Metric> View<M> {
     // Commits `placed` for the file, and settles the free list `free`: its first `used` pages are taken, and it has room for the
     // pages that are left. What is kept of pages that are written anew is dropped before the first write.
+    // Clauses: what is asked of the caller (`stands`, `only`, `beside`, `within`, `room`, `placed`, `follows`); what a crash may leave
+    // (`moments`); what changes (`committed`); what stays (`tells`); the cost (`reads`); the cause of an error (`cause`).
     pub(crate) fn write<D: Disk>(
         &mut self,
         disk: &mut D,
