@@ -53,6 +53,7 @@ fn part_of<D: SharedDisk, M: Metric>(
 }
 
 // Audits each entry of the root by itself. The entries are cut in order into pieces of `ceil(e / workers)`.
+// Arguments: `rt` and `workers` are the threads, `disk`, `metric` and `live` the file, and `entries` its parts.
 fn try_parts<R: Threads + Sync, D: SharedDisk, M: Metric>(
     rt: &R,
     alloc: Global,
@@ -135,6 +136,7 @@ pub fn sound_by_parts<R: Threads + Sync, D: SharedDisk, M: Metric>(
 /// first fault in the order of `audit`. The result is the same for every number of workers, 1 to 64.
 ///
 /// Where its parts do not show the tree to be sound, one worker audits it whole and names the fault.
+/// Arguments: `rt` and `workers` are the threads, and `image`, `metric`, `dim` and `live` the opened file.
 pub fn audit_image<R: Threads + Sync, M: Metric>(
     rt: &R,
     alloc: Global,

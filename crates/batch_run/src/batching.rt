@@ -72,6 +72,7 @@ fn outcome_on<M: Metric>(
 ///
 /// On a sound image each reply is that of a plain list of the image's objects, and each log the least one. On any image a
 /// search that meets a damaged page is `Damaged`, and the commands after it are answered all the same.
+/// Arguments: `rt` and `workers` are the threads, `image`, `metric` and `live` the opened file, and `commands` the work.
 pub fn batch<R: Threads + Sync, M: Metric>(
     rt: &R,
     alloc: Global,

@@ -49,6 +49,8 @@ impl From<Failed> for ImageFault {
 
 /// Reads the first `pages` pages of a file, of 4096 bytes each, in one read. Where the file ends before, the bytes past its end
 /// are 0. `TooLong` comes before all else and touches nothing; `Disk` comes where the disk failed.
+/// Clauses: the answer (`image`, `size`); when it succeeds (`few`); what stays (`same`); the cost (`reads`); the cause of an error (`long`,
+/// `cause`); faults of the devices (`done`, `later`).
 pub fn read_image<D: Disk>(alloc: Global, disk: &mut D, pages: u32) -> Result<Vec<u8>, ImageFault>
     ensures image { IfOk result (λ image. IsTrue (D.state disk.old).tells → IsImageOf pages (D.state disk.old).bytes image.items) }
     // The size holds also where the disk does not tell its bytes.
@@ -138,6 +140,8 @@ fn one_part(alloc: Global, bytes: Vec<u8>, pages: u32) -> Result<Parts, Memory>
 
 /// Reads the same bytes by `workers` threads, 1 to 64. Each reads a part through a reader of its own. Where one of them
 /// could not read its part, and where there is one thread, the file is read as `read_image` reads it.
+/// Clauses: what is asked of the caller (`some_workers`, `few_workers`); the answer (`image`, `size`); when it succeeds (`few`); what stays
+/// (`same`); the cost (`reads`); the cause of an error (`long`, `cause`); faults of the devices (`done`, `later`).
 pub fn read_parts<R: Threads + Sync, D: SharedDisk>(
     rt: &R,
     alloc: Global,

@@ -80,6 +80,8 @@ pub fn space_of(head: &Head) -> MixSpace
 }
 
 /// Audits the tree of an opened file of version 2. `AuditFault::Page` with `PageFault::Disk` comes where the disk failed.
+/// Clauses: what is asked of the caller (`head`, `pages`); the answer (`ok`, `objects`, `nodes`); what stays (`same`); the cost (`reads`);
+/// the cause of an error (`err`); faults of the devices (`later`, `no_fault`).
 pub fn audit_opened<D: Disk>(
     alloc: Global,
     disk: &mut D,
@@ -163,6 +165,8 @@ pub fn end_sound<K: Sink>(alloc: Global, audited: &Audited, out: &mut K) -> Stat
 
 /// Opens an index of version 2. Otherwise writes why the file is none, and returns the status: 5 where the disk failed, and 6
 /// where the file is no index of version 2. Nothing is changed.
+/// Clauses: the answer (`opens`, `version`, `head`, `some`, `pages`, `height`); what stays (`same`, `silent`); the cost (`reads`); the
+/// cause of an error (`refuses`); faults of the devices (`later`, `no_fault`, `written_later`).
 pub fn open_index<D: Disk, K: Sink>(disk: &mut D, out: &mut K) -> Result<(Head, Live), Status>
     ensures same { IsUnchanged (D.state disk.old) (D.state disk.new) }
     ensures opens { IfOk result (λ opened. IsTrue (D.state disk.old).tells → OpensTo (D.state disk.old).bytes opened.0 opened.1) }

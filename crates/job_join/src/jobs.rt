@@ -17,6 +17,8 @@ use outside_io::{Sink, Source, Status};
 use std::alloc::Global;
 
 /// Opens two indexes of version 2. Otherwise it writes why the first file that is no index is none, and returns the status.
+/// Clauses: the answer (`opens`, `other_opens`, `lawful`); what stays (`same`, `other_same`, `silent`); the cause of an error (`refuses`);
+/// faults of the devices (`later`, `other_later`, `written_later`).
 pub fn open_both<D: Disk, E: Disk, K: Sink>(
     index: &mut D,
     other: &mut E,

@@ -83,6 +83,8 @@ fn joined_texts(alloc: Global, joined: Joined) -> Result<(Vec<u8>, Vec<u8>), Mem
 }
 
 /// Ends a join that is done: puts the frame of its log, and then the lines of its pairs.
+/// Clauses: what is asked of the caller (`lawful`, `pairs`); what is written (`done`, `cut`, `memory`); what stays (`kept`); which statuses
+/// come (`statuses`); the cause of an error (`output`); faults of the devices (`later`, `log_later`).
 pub fn end_joined<K: Sink, T: Sink>(
     alloc: Global,
     joined: Joined,

@@ -50,6 +50,8 @@ pub struct Docket<'a> {
 }
 
 // Says what there is to say about the logs of two opened files of one space.
+// Clauses: what is asked of the caller (`lawful`, `one_space`); the answer (`status`); which statuses come (`statuses`); what is written
+// (`puts`); what stays (`same`, `other_same`); the cause of an error (`output`, `disk`); faults of the devices (`later`).
 fn judge_opened<D: Disk, E: Disk, K: Sink>(
     alloc: Global,
     docket: &Docket<'_>,
@@ -103,6 +105,8 @@ fn judge_opened<D: Disk, E: Disk, K: Sink>(
 
 // Audits two opened files of one space, the left one first, and writes the result. Where both are sound, it also says what there is
 // to say about their logs.
+// Clauses: what is asked of the caller (`lawful`, `one_space`); the answer (`status`); which statuses come (`statuses`); what is written
+// (`puts`); what stays (`same`, `other_same`); the cause of an error (`output`, `disk`); faults of the devices (`later`).
 fn check_opened<D: Disk, E: Disk, K: Sink>(
     alloc: Global,
     index: &mut D,
@@ -142,6 +146,8 @@ fn check_opened<D: Disk, E: Disk, K: Sink>(
 }
 
 /// Says what there is to say about two opened files and the logs of their join.
+/// Clauses: what is asked of the caller (the one without a name); the answer (`status`); which statuses come (`statuses`); what is written
+/// (`puts`); what stays (`same`, `other_same`); the cause of an error (`output`, `disk`); faults of the devices (`later`).
 pub fn report_on<D: Disk, E: Disk, K: Sink>(
     alloc: Global,
     docket: &Docket<'_>,

@@ -23,6 +23,8 @@ use std::alloc::Global;
 use tree_shape::Live;
 
 // Says what there is to say about the logs of an opened file.
+// Clauses: what is asked of the caller (`head`, `pages`); the answer (`status`); which statuses come (`statuses`); what is written
+// (`puts`); what stays (`same`); the cost (`reads`); the cause of an error (`output`, `disk`); faults of the devices (`later`).
 fn judge_opened<D: Disk, K: Sink>(
     alloc: Global,
     report: Report,
@@ -65,6 +67,8 @@ fn judge_opened<D: Disk, K: Sink>(
 }
 
 // Audits an opened file and writes the result. Where it is sound, it also says what there is to say about its logs.
+// Clauses: what is asked of the caller (`head`, `pages`); the answer (`status`); which statuses come (`statuses`); what is written
+// (`puts`); what stays (`same`); the cost (`reads`); the cause of an error (`output`, `disk`); faults of the devices (`later`).
 fn check_opened<D: Disk, K: Sink>(
     alloc: Global,
     index: &mut D,
@@ -96,6 +100,8 @@ fn check_opened<D: Disk, K: Sink>(
 }
 
 /// Says what there is to say about an opened file and its logs, and returns the status.
+/// Clauses: what is asked of the caller (`head`, `pages`); the answer (`status`); which statuses come (`statuses`); what is written
+/// (`puts`); what stays (`same`); the cost (`reads`); the cause of an error (`output`, `disk`); faults of the devices (`later`).
 pub fn report_on<D: Disk, K: Sink>(
     alloc: Global,
     report: Report,

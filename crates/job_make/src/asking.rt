@@ -56,6 +56,8 @@ pub fn page_fault(fault: IndexFault) -> PageFault
 }
 
 // Runs query `t` at a point.
+// Clauses: what is asked of the caller (`going`, `stands`, `point`); the answer (`searched`); what stays (`stands`, `reads`, `rest`); the
+// cause of an error (`reading`, `disk`).
 fn search<M: Metric, D: Disk>(
     alloc: Global,
     index: &mut Index<M>,
@@ -81,6 +83,8 @@ fn search<M: Metric, D: Disk>(
 }
 
 // Returns whether the verifier accepts a log by the live tree of a file of version 2.
+// Clauses: what is asked of the caller (`some`, `narrow`, `pages`, `lawful`); the answer (`sound`); what stays (`same`); the cause of an
+// error (`cause`, `passing`); faults of the devices (`later`).
 fn is_accepted<M: Metric, D: Disk>(
     alloc: Global,
     disk: &mut D,
@@ -112,6 +116,8 @@ fn is_accepted<M: Metric, D: Disk>(
 }
 
 // Runs query `t` at a point, and has its log checked.
+// Clauses: what is asked of the caller (`going`, `stands`, `point`); the answer (`few`, `answered`); what stays (`stands`, `reads`,
+// `rest`); the cause of an error (`cause`).
 fn ask<M: Metric, D: Disk>(
     alloc: Global,
     index: &mut Index<M>,
@@ -154,6 +160,8 @@ fn ask<M: Metric, D: Disk>(
 
 /// Runs eight queries at points of the rows, and has the log of each checked against the file. Query `t`, counted from 0, is at the
 /// point of row `t * n / 8` of n rows. It asks for the 10 nearest objects where `t` is even, otherwise for all objects within 1000.
+/// Clauses: what is asked of the caller (`going`, `stands`, `some`, `few`, `fits`); the answer (`tallied`); what stays (`stands`, `reads`,
+/// `rest`); the cause of an error (`cause`).
 pub fn ask_all<M: Metric, D: Disk>(
     alloc: Global,
     index: &mut Index<M>,

@@ -89,6 +89,10 @@ fn is_of<M: Metric>(index: &Index<M>, head: &Head, live: &Live) -> bool
 /// any. `crew` does the work, with `workers` workers, 1 to 64. At every moment a crash leaves the file with no object or with all of
 /// them. `Unopened`, `Changed` and `Damaged` come only on a disk that does not tell its bytes, where the bytes are not those that
 /// were written. `Disk` (and `Unopened` with it) comes only where the disk failed.
+/// Clauses: what is asked of the caller (`ready`, `lawful`, `some`, `many`, `first`, `made`, `only`, `fits`, `few`, `tags`); the answer
+/// (`filled`, `going`, `stands`, `head`, `kind`, `dim`); what a crash may leave (`moments`); what stays (`tells`); the cause of an error
+/// (`cause`); faults of the devices (`later`, `no_fault`).
+/// Arguments: `crew` and `workers` do the work, `disk`, `head` and `live` are the file that was just made, and `objects` goes into it.
 pub fn fill<W: Crew<MixSpace>, D: Disk>(
     crew: &W,
     alloc: Global,

@@ -53,6 +53,11 @@ fn end_unfilled<K: Sink>(alloc: Global, fault: FillFault, out: &mut K) -> Status
 /// Makes an index with this head in an empty file, and fills it with these objects. Otherwise it writes why not, and returns the
 /// status: 5 where the disk failed; 6 where the file holds something, which stays as it is; 8 where memory ran out; 9 where a page
 /// is damaged, which comes only on a disk that does not tell its bytes.
+/// Clauses: what is asked of the caller (`ready`, `lawful`, `version`, `some`, `many`, `fits`, `few`, `tags`); when it succeeds (`empty`);
+/// the answer (`filled`, `going`, `stands`, `head`, `kind`, `dim`); what a crash may leave (`since`); what stays (`silent`, `tells`); which
+/// statuses come (`statuses`); the cause of an error (`unfilled`); faults of the devices (`later`, `out_later`).
+/// Arguments: `crew` and `workers` do the work, `disk` and `head` are the file to be made, `objects` goes into it, and `out` gets the line
+/// on a refusal.
 pub fn make_filled<W: Crew<MixSpace>, D: Disk, K: Sink>(
     crew: &W,
     alloc: Global,
@@ -194,6 +199,8 @@ fn generated_objects(alloc: Global, asked: &Generation) -> Result<Objects, Memor
 /// the number of objects, the number of nodes, the tree's height, and the results of the queries. Status 4: the lines could not be
 /// written; 5: the disk failed; 6: the file holds something, and stays as it is; 8: memory ran out; 9: a page is damaged, which
 /// comes only on a disk that does not tell its bytes.
+/// Clauses: what is asked of the caller (`ready`, `lawful`, `version`, `vectors`, `some`, `few`, `one_worker`, `many_workers`); what the
+/// job does (`generates`); which statuses come (`statuses`); the cause of an error (`rose`); faults of the devices (`later`).
 pub fn generate_index<W: Crew<MixSpace>, D: Disk, K: Sink>(
     crew: &W,
     alloc: Global,

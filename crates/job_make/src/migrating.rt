@@ -55,6 +55,8 @@ fn want_empty<D: Disk, K: Sink>(disk: &mut D, out: &mut K) -> Result<(), Status>
 }
 
 // Opens a file of version 1. Otherwise it writes why the file is none.
+// Clauses: the answer (`opens`, `version`, `head`, `pages`, `count`); what stays (`same`, `silent`); which statuses come (`unwritten`); the
+// cause of an error (`refuses`); faults of the devices (`later`, `out_later`).
 fn open_old<D: Disk, K: Sink>(disk: &mut D, out: &mut K) -> Result<(Head, Live), Status>
     ensures same { IsUnchanged (D.state disk.old) (D.state disk.new) }
     ensures opens { IfOk result (λ opened. IsTrue (D.state disk.old).tells → OpensTo (D.state disk.old).bytes opened.0 opened.1) }
@@ -81,6 +83,8 @@ fn open_old<D: Disk, K: Sink>(disk: &mut D, out: &mut K) -> Result<(Head, Live),
 }
 
 // Audits a live tree over points of `dim` coordinates, and returns its objects.
+// Clauses: what is asked of the caller (`some`, `few`, `dim`, `words`, `pages`, `within`); the answer (`fits`, `count`, `tag_count`,
+// `sound`, `points`, `tags`); what stays (`same`, `keeps`); the cause of an error (`fault`).
 fn audited<P: Pages, M: Metric>(
     alloc: Global,
     pages: &mut P,
@@ -115,6 +119,8 @@ fn audited<P: Pages, M: Metric>(
 }
 
 // Audits the live tree of an opened file of version 1, and returns its objects.
+// Clauses: what is asked of the caller (`head`, `pages`); the answer (`fits`, `count`, `tag_count`, `sound`, `points`, `tags`); what stays
+// (`same`); the cause of an error (`fault`); faults of the devices (`later`).
 fn audited_objects<D: Disk>(
     alloc: Global,
     disk: &mut D,
@@ -142,6 +148,8 @@ fn audited_objects<D: Disk>(
 }
 
 // Returns the head and the objects of a sound file of version 1. Otherwise it writes why the file is none, and returns the status.
+// Clauses: the answer (`is`, `head`, `fits`, `few`, `tag_count`); what stays (`same`, `silent`); the cause of an error (`refuses`, `rose`);
+// faults of the devices (`later`, `out_later`).
 fn read_old<D: Disk, K: Sink>(
     alloc: Global,
     disk: &mut D,

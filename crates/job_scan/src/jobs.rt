@@ -31,6 +31,8 @@ fn space_of(name: SpaceName) -> MixSpace
 }
 
 // Runs a script that is already read.
+// Clauses: what is asked of the caller (`few`, `dim`, `some`, `narrow`, `limit`); what is written (`wrote`); which statuses come
+// (`statuses`); the cause of an error (`rose`); faults of the devices (`later`).
 fn run_bytes<K: Sink>(
     alloc: Global,
     scan: &Scan<MixSpace>,
@@ -62,6 +64,8 @@ fn run_bytes<K: Sink>(
 
 /// Runs the script of `input` on a plain list of at most `limit` objects, and writes each reply to `out`. Status 3: the input could
 /// not be read; 4: the replies could not be written; 7: the input is longer than 2 ^ 26 bytes; 8: memory ran out.
+/// Clauses: what is asked of the caller (`space`, `limit`); what is written (`wrote`); what is taken of the input (`long`, `end`); which
+/// statuses come (`statuses`); when it succeeds (`complete`); the cause of an error (`input`, `output`); faults of the devices (`counts`).
 pub fn run_scan<S: Source, K: Sink>(
     alloc: Global,
     space: SpaceName,

@@ -64,6 +64,8 @@ fn judge_by<M: Metric, P: Pages>(
 }
 
 // Returns the first fault of a log over an opened index, and the cache of its pages.
+// Clauses: what is asked of the caller (`head`, `few`, `kept`, `lawful`); the answer (`told`, `kept`); what stays (`same`); the cause of an
+// error (`disk`, `not_sink`); faults of the devices (`later`).
 fn judge_log<D: Disk>(
     alloc: Global,
     index: &mut D,
@@ -141,6 +143,10 @@ fn carried_frame<D: Disk>(
 }
 
 // Returns the frame and the line of a log with its first fault or none, and whether it has none.
+// Clauses: what is asked of the caller (`head`, `some`, `few`, `size`, `sealed`, `lawful`, `told`); the answer (`tells`); what stays
+// (`same`); the cause of an error (`disk`, `not_sink`); faults of the devices (`later`).
+// Arguments: `index`, `opened` and `tree` are the file, its head and live slot, and its digests, and `number`, `log` and `found` are the
+// frame's number, its log and the log's first fault or none.
 fn log_texts<D: Disk>(
     alloc: Global,
     index: &mut D,
@@ -173,6 +179,11 @@ fn log_texts<D: Disk>(
 }
 
 // Puts the frame and then the line of a log. Returns whether it has no fault, and the cache of the pages.
+// Clauses: what is asked of the caller (`head`, `some`, `few`, `size`, `sealed`, `kept`, `lawful`); the answer (`kept`); what is written
+// (`puts`, `stops`); what stays (`same`); the cause of an error (`disk`, `output`); faults of the devices (`later`, `out_later`,
+// `log_later`).
+// Arguments: `index`, `opened`, `tree` and `kept` are the file, its head and live slot, its digests and the cache of its pages, `number`
+// and `log` are the frame, and `out` and `log_out` are written.
 fn carry_log<D: Disk, K: Sink, L: Sink>(
     alloc: Global,
     index: &mut D,
@@ -218,6 +229,10 @@ fn carry_log<D: Disk, K: Sink, L: Sink>(
 }
 
 // Puts the frames and the lines of logs. Returns whether none has a fault.
+// Clauses: what is asked of the caller (`head`, `some`, `few`, `size`, `sealed`, `kept`, `lawful`); what is written (`puts`, `stops`); what
+// stays (`same`); the cause of an error (`disk`, `output`); faults of the devices (`later`, `out_later`, `log_later`).
+// Arguments: `index`, `opened`, `tree` and `kept` are the file, its head and live slot, its digests and the cache of its pages, and `out`
+// and `log_out` are written.
 fn carry_all<D: Disk, K: Sink, L: Sink>(
     alloc: Global,
     index: &mut D,
@@ -275,6 +290,10 @@ fn carried_end(accepted: bool) -> &'static [u8]
 
 // Puts the frames and the lines of the logs that the bytes spell, and the last line. Judges all logs with one cache of pages.
 // Returns the status.
+// Clauses: what is asked of the caller (`head`, `some`, `few`, `size`, `sealed`); what is written (`ends`, `stops`); what stays (`same`);
+// which statuses come (`statuses`); the cause of an error (`disk`, `output`); faults of the devices (`later`, `out_later`, `log_later`).
+// Arguments: `index`, `opened` and `tree` are the file, its head and live slot, and its digests, `bytes` spell the logs, and `out` and
+// `log_out` are written.
 fn carry_bytes<D: Disk, K: Sink, L: Sink>(
     alloc: Global,
     index: &mut D,
@@ -320,6 +339,8 @@ fn carry_bytes<D: Disk, K: Sink, L: Sink>(
 }
 
 // Seals an opened index once, and puts the frames and the lines of the logs that the bytes spell. Returns the status.
+// Clauses: what is asked of the caller (`head`, `some`, `few`); what is written (`ends`, `stops`); what stays (`same`); which statuses come
+// (`statuses`); the cause of an error (`disk`, `output`); faults of the devices (`later`, `out_later`, `log_later`).
 fn carry_opened<D: Disk, K: Sink, L: Sink>(
     alloc: Global,
     index: &mut D,
@@ -354,6 +375,8 @@ fn carry_opened<D: Disk, K: Sink, L: Sink>(
 }
 
 // Opens an index, and puts the frames and the lines of the logs that the bytes spell.
+// Clauses: what is written (`done`, `halted`, `not_index`, `long`); what stays (`same`, `kept`); which statuses come (`statuses`); the
+// cause of an error (`disk`, `output`); faults of the devices (`later`, `out_later`, `log_later`).
 fn carry_index<D: Disk, K: Sink, L: Sink>(
     alloc: Global,
     index: &mut D,

@@ -13,6 +13,8 @@ use tree_shape::Live;
 
 /// Opens an index of version 2 with at most 262144 pages. Otherwise it writes why the file is none, and returns the status: 5 where
 /// the disk failed, 6 where the file is no index of version 2, and 7 where it has more pages. Changes nothing.
+/// Clauses: the answer (`opens`, `version`, `head`, `some`, `few`); what stays (`same`, `silent`); the cause of an error (`refuses`);
+/// faults of the devices (`later`, `written_later`).
 pub fn open_small<D: Disk, K: Sink>(disk: &mut D, out: &mut K) -> Result<(Head, Live), Status>
     ensures same { IsUnchanged (D.state disk.old) (D.state disk.new) }
     ensures opens { IfOk result (λ opened. IsTrue (D.state disk.old).tells → OpensTo (D.state disk.old).bytes opened.0 opened.1) }

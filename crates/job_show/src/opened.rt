@@ -77,6 +77,8 @@ pub fn count_opened<D: Disk>(
 }
 
 // Writes what is shown of the logs of an opened file.
+// Clauses: what is asked of the caller (`head`, `pages`); the answer (`status`); which statuses come (`statuses`); what is written
+// (`puts`); what stays (`same`); the cause of an error (`output`, `disk`); faults of the devices (`later`).
 pub fn show_opened<D: Disk, K: Sink>(
     alloc: Global,
     docket: &Docket<'_>,

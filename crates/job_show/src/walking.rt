@@ -85,6 +85,8 @@ fn node_told<P: Pages>(
 }
 
 // Shows the next record. A record that does not lead on ends the walk.
+// Clauses: what is asked of the caller (`deep`, `small`); what changes (`shown`, `depths`, `counts`); what stays (`same`, `keeps`); the
+// cause of an error (`disk`, `not_sink`).
 fn show_record<P: Pages>(
     alloc: Global,
     pages: &mut P,
@@ -117,6 +119,8 @@ fn show_record<P: Pages>(
 }
 
 // Shows the records of a walk from the root, as far as they lead.
+// Clauses: what is asked of the caller (`few`, `marks`); the answer (`lines`, `counts`, `few`); what stays (`same`, `keeps`); the cause of
+// an error (`disk`, `not_sink`).
 pub fn show_records<P: Pages>(
     alloc: Global,
     pages: &mut P,

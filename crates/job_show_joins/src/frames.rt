@@ -105,6 +105,8 @@ fn show_walk<P: Pages, Q: Pages>(
 }
 
 // Judges and shows the log of frame `frame`, and puts its text. Returns whether it has no fault.
+// Clauses: what is asked of the caller (the one without a name); the answer (`sound`); what is written (`puts`); what stays (`same`,
+// `left_keeps`, `right_keeps`); the cause of an error (`output`, `disk`); faults of the devices (`later`).
 fn show_frame<P: Pages, Q: Pages, K: Sink>(
     view: &JoinView,
     left: &mut P,
@@ -134,6 +136,8 @@ fn show_frame<P: Pages, Q: Pages, K: Sink>(
 }
 
 // Judges and shows the logs of all frames, and puts their texts. Returns whether none has a fault.
+// Clauses: what is asked of the caller (the one without a name); the answer (`sound`); what is written (`puts`); what stays (`same`,
+// `left_keeps`, `right_keeps`); the cause of an error (`output`, `disk`); faults of the devices (`later`).
 fn show_frames<P: Pages, Q: Pages, K: Sink>(
     view: &JoinView,
     left: &mut P,
@@ -181,6 +185,8 @@ fn put_head<K: Sink>(marks: Marks, out: &mut K) -> Result<(), LogStop>
 }
 
 // Shows the logs of all frames below what stands above them, and puts the line at the end. Returns whether no log has a fault.
+// Clauses: what is asked of the caller (the one without a name); the answer (`sound`); what is written (`puts`); what stays (`same`,
+// `left_keeps`, `right_keeps`); the cause of an error (`output`, `disk`); faults of the devices (`later`).
 fn show_all<P: Pages, Q: Pages, K: Sink>(
     view: &JoinView,
     left: &mut P,
@@ -208,6 +214,8 @@ fn show_all<P: Pages, Q: Pages, K: Sink>(
 }
 
 // Writes what is shown of the logs that `bytes` spell, and returns the status.
+// Clauses: the answer (`status`); which statuses come (`statuses`); what is written (`puts`); what stays (`same`, `left_keeps`,
+// `right_keeps`); the cause of an error (`output`, `disk`); faults of the devices (`later`).
 pub fn show_bytes<P: Pages, Q: Pages, K: Sink>(
     view: &JoinView,
     left: &mut P,

@@ -198,6 +198,8 @@ fn go_on(walk: &mut PairWalk, depth: u32, goes: bool) -> Result<(), Memory>
 }
 
 // Shows a node. The walk goes on to the pairs that its marks need, where each mark is allowed.
+// Clauses: what is asked of the caller (`long`, `short`, `deep`, `small`, `room`); what changes (`lines`, `counts`, `measured`, `few`,
+// `stack`).
 pub fn show_node(
     gauge: PairGauge,
     node: &Node,

@@ -33,6 +33,8 @@ pub struct Docket<'a> {
 }
 
 // Returns the numbers of the nodes of two opened files, or `None` where a tree can't be walked. Counts none where the spaces differ.
+// Clauses: what is asked of the caller (the one without a name); the answer (`nodes`, `other_nodes`); what stays (`same`, `other_same`);
+// the cause of an error (`disk`, `not_sink`); faults of the devices (`later`, `other_later`).
 pub fn count_both<D: Disk, E: Disk>(
     alloc: Global,
     index: &mut D,
@@ -61,6 +63,8 @@ pub fn count_both<D: Disk, E: Disk>(
 }
 
 // Writes what is shown of the logs of two opened files of one space.
+// Clauses: what is asked of the caller (`lawful`, `one_space`); the answer (`status`); which statuses come (`statuses`); what is written
+// (`puts`); what stays (`same`, `other_same`); the cause of an error (`output`, `disk`); faults of the devices (`later`).
 fn show_opened<D: Disk, E: Disk, K: Sink>(
     alloc: Global,
     docket: &Docket<'_>,
@@ -113,6 +117,8 @@ fn show_opened<D: Disk, E: Disk, K: Sink>(
 }
 
 // Writes what is shown of the logs of joins of two opened files.
+// Clauses: what is asked of the caller (the one without a name); the answer (`status`); which statuses come (`statuses`); what is written
+// (`puts`); what stays (`same`, `other_same`); the cause of an error (`output`, `disk`); faults of the devices (`later`).
 pub fn show_trees<D: Disk, E: Disk, K: Sink>(
     alloc: Global,
     docket: &Docket<'_>,

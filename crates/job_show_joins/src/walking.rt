@@ -128,6 +128,8 @@ fn node_told<P: Pages, Q: Pages>(
 }
 
 // Shows the next record. A record that does not lead on ends the walk.
+// Clauses: what is asked of the caller (`deep`, `short`, `small`, `room`); what changes (`shown`, `depths`, `counts`, `measured`); what
+// stays (`same`, `left_keeps`, `right_keeps`); the cause of an error (`disk`, `not_sink`).
 fn show_record<P: Pages, Q: Pages>(
     search: PairSearch,
     left: &mut P,
@@ -170,6 +172,8 @@ fn show_record<P: Pages, Q: Pages>(
 }
 
 // Shows the records of a walk that has begun, as far as they lead.
+// Clauses: what is asked of the caller (`few`, `marks`, `lines`, `counts`, `measured`, `deep`); the answer (`shown`); what stays (`same`,
+// `left_keeps`, `right_keeps`); the cause of an error (`disk`, `not_sink`).
 pub fn show_records<P: Pages, Q: Pages>(
     search: PairSearch,
     left: &mut P,

@@ -19,6 +19,9 @@ use rows_text::{Command, Refusal, Reply};
 use std::alloc::Global;
 
 // Carries out `command`, where its points are points of the space.
+// Clauses: what is asked of the caller (`ready`, `going`, `stands`, `numbers`, `kept`, `readable`, `points`); what the command does
+// (`done`); what stays (`stands`).
+// Arguments: `crew` does the work of loads, `index`, `cursors` and `disk` may all change, and `show` and `command` say what is asked.
 fn execute<W: Crew<M>, M: Metric, D: Disk>(
     crew: &W,
     alloc: Global,
@@ -63,6 +66,7 @@ fn execute<W: Crew<M>, M: Metric, D: Disk>(
 }
 
 /// Carries out `command`. Refuses a command with a point that is not in the space.
+/// Arguments: `crew` does the work of loads, `index`, `cursors` and `disk` may all change, and `show` and `command` say what is asked.
 pub fn step<W: Crew<M>, M: Metric, D: Disk>(
     crew: &W,
     alloc: Global,

@@ -58,6 +58,8 @@ pub struct PinnedCursors {
 }
 
 // Steps `cursor` by up to `n` hits, in its tree as the disk has it.
+// Clauses: what is asked of the caller (`point`, `few`, `some`); the answer (`each`, `gives`); what changes (`given`, `walks`); what stays
+// (`same`, `live`, `point`); what an error leaves (`unchanged`); the cause of an error (`sound`, `cause`); faults of the devices (`later`).
 fn step_cursor<M: Metric, D: Disk>(
     alloc: Global,
     index: &Index<M>,
@@ -98,6 +100,8 @@ fn step_cursor<M: Metric, D: Disk>(
 }
 
 // Pins the live tree, unless an open cursor has it pinned already.
+// Clauses: what is asked of the caller (`going`, `stands`, `pinned`); what changes (`pinned`, `guards`); what stays (`stands`, `reads`,
+// `rest`, `guarded`); the cause of an error (`cause`, `damage`, `undamaged`).
 fn pin_tree<M: Metric, D: Disk>(
     alloc: Global,
     index: &mut Index<M>,
@@ -203,6 +207,8 @@ impl PinnedCursors {
     }
 
     /// Returns the next `n` hits of cursor `number`, or all that are left.
+    /// Clauses: what is asked of the caller (`kept`, `some`); the answer (`tagged`, `advanced`); what stays (`same`, `kept`, `next`,
+    /// `through`); the cause of an error (`cause`, `damage`); faults of the devices (`later`).
     pub fn advance<M: Metric, D: Disk>(
         &mut self,
         alloc: Global,

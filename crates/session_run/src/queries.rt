@@ -18,6 +18,8 @@ use rows_text::Reply;
 use std::alloc::Global;
 
 // Returns the hits of `found`, with their tags where `show` asks for them, and their log.
+// Clauses: what is asked of the caller (`going`, `stands`); the answer (`answer`); what stays (`stands`, `reads`, `rest`); the cost
+// (`few`); the cause of an error (`cause`, `damage`).
 fn found_answer<M: Metric, D: Disk>(
     alloc: Global,
     index: &mut Index<M>,

@@ -20,6 +20,8 @@ use tree_audit::{AuditFault, Audited};
 use tree_shape::Live;
 
 // Audits an opened file of version 2: by several threads, where they find no fault.
+// Clauses: what is asked of the caller (`head`, `pages`, `some`, `many`); the answer (`ok`, `objects`, `nodes`); what stays (`same`); the
+// cause of an error (`err`); faults of the devices (`later`).
 fn audit_by<R: Threads + Sync, D: SharedDisk>(
     rt: &R,
     alloc: Global,

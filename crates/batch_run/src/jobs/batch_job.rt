@@ -56,6 +56,10 @@ struct Task<'a> {
 }
 
 // Runs a task on an image of the index.
+// Clauses: what is asked of the caller (`head`, `pages`, `some`, `many`, `few`); what the batch does (`runs`); the cause of each status
+// (`finished`); faults of the devices (`later`, `log_later`).
+// Arguments: `rt` has the threads, `image`, `head` and `live` are the opened file, `task` says what is asked, and `out` and `log_out` are
+// written.
 fn run_on_image<R: Threads + Sync, K: Sink, T: Sink>(
     rt: &R,
     alloc: Global,
@@ -159,6 +163,10 @@ fn run_on_index<R: Threads + Sync, D: SharedDisk, K: Sink, T: Sink>(
 /// Status 3: the input could not be read; 4: a reply or a log could not be written; 5: the disk failed; 6: the file is no index
 /// of version 2; 7: the input is longer than 2 ^ 26 bytes, or the index has more than 262144 pages; 8: out of memory; 9: a
 /// search met a damaged page of a file that is not sound.
+/// Clauses: what is asked of the caller (`some`, `many`); what the batch does (`runs`); what is taken of the input (`long`, `end`); which
+/// statuses come (`statuses`); the cause of an error (`input`, `output`); faults of the devices (`counts`).
+/// Arguments: `rt` and `workers` are the threads, `index` is the file, `input` and `show_tags` say what is asked, and `out` and `log_out`
+/// are written.
 pub fn run_batch<R: Threads + Sync, D: SharedDisk, S: Source, K: Sink, T: Sink>(
     rt: &R,
     alloc: Global,

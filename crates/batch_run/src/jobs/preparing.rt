@@ -26,6 +26,7 @@ use tree_shape::Live;
 const WORKER_NODES: usize = 16_384;
 
 // Adds what is to be put for one more command.
+// Arguments: `pages`, `metric` and `live` are the opened file, `command` and `show` say what is asked, and `pile` gets the texts.
 fn add_for<M: Metric>(
     alloc: Global,
     pages: &mut Cached<ImagePages<'_>>,
@@ -46,6 +47,8 @@ fn add_for<M: Metric>(
 }
 
 // Prepares what is to be put for the commands that are dealt to `worker`, round by round.
+// Arguments: `image`, `metric` and `live` are the opened file, `commands` and `show` say what is asked, and `deal` and `worker` say which
+// of the commands.
 fn pile_of<M: Metric>(
     alloc: Global,
     image: Image<'_>,
@@ -85,6 +88,8 @@ fn pile_of<M: Metric>(
 /// Prepares what is to be put for each of `commands` on the file with the bytes of `image`: a pile for each worker, for the
 /// commands dealt to it. A worker writes its logs as bytes at once, so that no log is held in another form. A hit is written with
 /// its tag where `show` is set.
+/// Arguments: `rt` has the threads, `image`, `metric` and `live` are the opened file, `commands` and `show` say what is asked, and `deal`
+/// says which worker does what.
 pub fn prepare_all<R: Threads + Sync, M: Metric>(
     rt: &R,
     alloc: Global,

@@ -44,6 +44,8 @@ fn audit_file<D: Disk>(
 }
 
 /// Audits an opened file and puts the line on it under `name`. Returns whether it has no fault.
+/// Clauses: what is asked of the caller (`head`, `pages`); the answer (`sound`); what is written (`puts`); what stays (`same`); the cost
+/// (`reads`); the cause of an error (`output`, `disk`); faults of the devices (`later`, `written_later`).
 pub fn put_audit<D: Disk, K: Sink>(
     alloc: Global,
     name: &[u8],

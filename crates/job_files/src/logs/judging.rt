@@ -42,6 +42,8 @@ fn frame_text<C: Court>(
 }
 
 // Judges the log of frame `frame` and puts its text. Returns whether it has no fault.
+// Clauses: what is asked of the caller (the one without a name); the answer (`sound`); what is written (`puts`); what stays (`tells`,
+// `judges`, `keeps`); the cost (`few`); the cause of an error (`output`, `disk`); faults of the devices (`later`).
 fn judge_frame<C: Court, K: Sink>(
     alloc: Global,
     report: Report,
