@@ -193,6 +193,7 @@ fn hand_over(
 /// bytes, at the front of `log`; 2: the point is not in the file's space; 4: a buffer has no room for what `sizes` tells; 6:
 /// the bytes are no index of version 2; 8: out of memory; 9: the search met a damaged page. Where the status isn't 0,
 /// both buffers are left as they are.
+/// Arguments: `point` and `radius` say what is asked of `file`, and `hits`, `log` and `sizes` are the caller's own buffers.
 #[unsafe(no_mangle)]
 pub extern "C" fn mtree_range(
     alloc: Global,
@@ -211,6 +212,7 @@ pub extern "C" fn mtree_range(
 
 /// Finds the `count` objects nearest to a point, by distance, then by id. All else is as in [`mtree_range`], with status 2 also
 /// where `count` is 0.
+/// Arguments: `point` and `count` say what is asked of `file`, and `hits`, `log` and `sizes` are the caller's own buffers.
 #[unsafe(no_mangle)]
 pub extern "C" fn mtree_nearest(
     alloc: Global,

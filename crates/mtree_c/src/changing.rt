@@ -29,6 +29,8 @@ pub extern "C" fn mtree_create_in(
 /// `session`, and so is the status: 0 done; 6 the bytes are no index of version 2; 7 there are more than 2^26 bytes of script; 9 a damaged
 /// page; and 2 `size` is more than `room` has; 4 a buffer has no room for what `sizes` tells; 8 out of memory. With status 2, 4 and 8 the
 /// buffers are left as they are.
+/// Arguments: `room` and `size` are the file, `script` and `show_tags` say what is asked, and `text`, `log` and `sizes` are the caller's
+/// own buffers.
 #[unsafe(no_mangle)]
 pub extern "C" fn mtree_session_in(
     alloc: Global,
@@ -51,6 +53,8 @@ pub extern "C" fn mtree_session_in(
 /// replies stand at the front of `text`, and the frames of the queries' logs at the front of `log`. The status is that of `session`: 0 done;
 /// 6 the bytes are no index of version 2; 7 there are more than 2^26 bytes of script; 9 a damaged page; and 4 a buffer has no room for what
 /// `sizes` tells; 8 out of memory. With status 4 and 8 the buffers are left as they are.
+/// Arguments: `script` and `show_tags` say what is asked of `file`, and `steps`, `written`, `text`, `log` and `sizes` are the caller's own
+/// buffers.
 #[unsafe(no_mangle)]
 pub extern "C" fn mtree_session_plan(
     alloc: Global,

@@ -204,6 +204,7 @@ fn put_found(found: &[TaggedHit], room: &mut [TaggedHit])
 }
 
 // Answers `ask` about each point, and hands the answers over.
+// Arguments: `ask` and `points` say what is asked of `file`, and `hits`, `counts` and `size` are the caller's own buffers.
 fn hand_each(
     alloc: Global,
     file: &[u8],
@@ -236,6 +237,7 @@ fn hand_each(
 /// file's space; 4: `hits` has no room for `size` hits; 6: the bytes are no index of version 2; 8: out of memory; 9: the search of
 /// some point met a damaged page. Where the status isn't 0, both buffers are left as they are. Where it is neither 0 nor 4, `size` is
 /// 0.
+/// Arguments: `points` and `radius` say what is asked of `file`, and `hits`, `counts` and `size` are the caller's own buffers.
 #[unsafe(no_mangle)]
 pub extern "C" fn mtree_range_each(
     alloc: Global,
@@ -253,6 +255,7 @@ pub extern "C" fn mtree_range_each(
 
 /// Finds the `count` objects nearest to each of many points. All else is as in [`mtree_range_each`], with status 2 also where `count`
 /// is 0.
+/// Arguments: `points` and `count` say what is asked of `file`, and `hits`, `counts` and `size` are the caller's own buffers.
 #[unsafe(no_mangle)]
 pub extern "C" fn mtree_nearest_each(
     alloc: Global,

@@ -79,6 +79,8 @@ fn hand_plan(
 /// replies stand at the front of `text`, and the frames of the queries' logs at the front of `log`. The status is that of `session`: 0 done;
 /// 6 the bytes are no index of version 2; 7 there are more than 2^26 bytes of script; 9 a damaged page; and 4 a buffer has no room for what
 /// `sizes` tells; 8 out of memory. With status 4 and 8 the buffers are left as they are.
+/// Arguments: `script` and `show_tags` say what is asked of `file`, and `steps`, `written`, `text`, `log` and `sizes` are the caller's own
+/// buffers.
 pub fn session_plan(
     alloc: Global,
     file: &[u8],
@@ -101,6 +103,7 @@ pub fn session_plan(
 }
 
 /// Hands over what a session would do to a file that is asked `requests`.
+/// Arguments: `requests` says what is asked of `file`, and `steps`, `written`, `text`, `log` and `sizes` are the caller's own buffers.
 pub fn asked_plan<S: Requests>(
     alloc: Global,
     file: &[u8],
