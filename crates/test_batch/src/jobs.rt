@@ -134,6 +134,7 @@ fn count_logs(rt: &(impl AllocGlobal + Abort), frames: &[u8]) -> usize {
 }
 
 // Runs a script on an index by `workers` workers, and checks the status, the lines, and the number of logs.
+// Arguments: `workers`, `bytes`, `script` and `fails` make the run, and `status` and `said` are what it has to come to.
 fn check_by<R: AllocGlobal + Threads + Sync + Abort>(
     rt: &R,
     workers: usize,

@@ -119,6 +119,7 @@ fn count_on<D: Disk>(rt: &impl Abort, disk: &mut D) -> u32 {
 }
 
 // Does the commands of a script on an index.
+// Arguments: `index` and `disk` are the index and its file, `script` and `show` say what is asked, and `out` and `log_out` are written.
 fn run_on<R: AllocGlobal + Abort, M: Metric, D: Disk, K: Sink, T: Sink>(
     rt: &R,
     index: &mut Index<M>,
