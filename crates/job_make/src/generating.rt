@@ -200,7 +200,8 @@ fn generated_objects(alloc: Global, asked: &Generation) -> Result<Objects, Memor
 /// written; 5: the disk failed; 6: the file holds something, and stays as it is; 8: memory ran out; 9: a page is damaged, which
 /// comes only on a disk that does not tell its bytes.
 /// Clauses: what is asked of the caller (`ready`, `lawful`, `version`, `vectors`, `some`, `few`, `one_worker`, `many_workers`); what the
-/// job does (`generates`); which statuses come (`statuses`); the cause of an error (`rose`); faults of the devices (`later`).
+/// job does, and what a crash may leave (`generates`); which statuses come (`statuses`); the cause of an error (`rose`); faults of the
+/// devices (`later`).
 pub fn generate_index<W: Crew<MixSpace>, D: Disk, K: Sink>(
     crew: &W,
     alloc: Global,

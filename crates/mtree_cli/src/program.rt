@@ -87,11 +87,11 @@ fn marks_of(counts_only: bool) -> Marks
 /// `index` with `other` and puts its log to `log_out`. With `--other`, `verify`, `check` and `show` take join logs and both indexes. `seal`
 /// writes the root digest of the whole file of `index`. `proof` with an index puts each log of `log_in` to `log_out` with the pages
 /// that it names. `proof` with a digest judges such carried logs of `log_in` by the digest alone.
-/// Clauses: what the job does (`does`); what its answers mean (`check_is_true`, `join_check_is_true`, `carried_is_true`,
-/// `carried_is_accepted`, `session_is_plain`, `logs_are_sound`); what stays (`memory`, `other_same`, `index`, `untouched`, `log_untouched`,
-/// `other`, `log_out`, `kept`); what is taken of the inputs (`long`, `end`); which statuses come (`statuses`); when it succeeds
-/// (`complete`, `complete_session`); the cause of an error (`input`, `output`, `disk`, `either_output`, `either_disk`); faults of the
-/// devices (`counts`).
+/// Clauses: what the job does, and what a crash may leave (`does`); what its answers mean (`check_is_true`, `join_check_is_true`,
+/// `carried_is_true`, `carried_is_accepted`, `session_is_plain`, `logs_are_sound`); what stays (`memory`, `other_same`, `index`,
+/// `untouched`, `log_untouched`, `other`, `log_out`, `kept`); what is taken of the inputs (`long`, `end`); which statuses come
+/// (`statuses`); when it succeeds (`complete`, `complete_session`); the cause of an error (`input`, `output`, `disk`, `either_output`,
+/// `either_disk`); faults of the devices (`counts`).
 /// Arguments: `rt` and `alloc` are the machine's, `words` name the job, and `index`, `other`, `input`, `log_in`, `out` and `log_out` are
 /// all that a job may touch.
 pub fn run<R: Threads + Sync, D: SharedDisk, E: Disk, S: Source, L: Source, K: Sink, T: Sink>(

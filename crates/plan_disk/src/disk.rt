@@ -192,7 +192,7 @@ impl Disk for PlanDisk<'_> {
         Ok(())
     }
 
-    /// Adds a write to the plan. A write that fails adds none.
+    /// Adds a write to the plan. A write that fails is not added.
     /// Clauses: what is asked of the caller (the one without a name); what is left on the disk (`written`, `others`); what a crash may
     /// leave (`torn`, `time`); what stays (`tells`); the cost (`reads`); when it fails (`refused`); the cause of an error (`cause`); the
     /// whole new state (`next`).

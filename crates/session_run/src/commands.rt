@@ -19,8 +19,8 @@ use rows_text::{Command, Refusal, Reply};
 use std::alloc::Global;
 
 // Carries out `command`, where its points are points of the space.
-// Clauses: what is asked of the caller (`ready`, `going`, `stands`, `numbers`, `kept`, `readable`, `points`); what the command does
-// (`done`); what stays (`stands`).
+// Clauses: what is asked of the caller (`ready`, `going`, `stands`, `numbers`, `kept`, `readable`, `points`); what the command does, and
+// what a crash may leave (`done`); what stays (`stands`).
 // Arguments: `crew` does the work of loads, `index`, `cursors` and `disk` may all change, and `show` and `command` say what is asked.
 fn execute<W: Crew<M>, M: Metric, D: Disk>(
     crew: &W,

@@ -46,8 +46,8 @@ fn end_stopped<K: Sink>(alloc: Global, why: SessionStop, out: &mut K) -> Status
 }
 
 // Does what is asked on an opened index.
-// Clauses: what is asked of the caller (`ready`, `going`, `stands`); what the session does (`runs`); the cost (`reads`); the cause of each
-// status (`finished`); faults of the devices (`later`, `out_later`, `log_later`).
+// Clauses: what is asked of the caller (`ready`, `going`, `stands`); what the session does, and what a crash may leave (`runs`); the cost
+// (`reads`); the cause of each status (`finished`); faults of the devices (`later`, `out_later`, `log_later`).
 // Arguments: `crew` does the work of loads, `opened` and `index` are the index and its file, `requests` and `show_tags` say what is asked,
 // and `out` and `log_out` are written.
 fn run_opened<W: Crew<MixSpace>, S: Requests, D: Disk, K: Sink, T: Sink>(
@@ -150,9 +150,9 @@ pub fn run_requests<W: Crew<MixSpace>, S: Requests, D: Disk, K: Sink, T: Sink>(
 /// loads, with `workers` workers, 1 to 64. Status 3: the input could not be read; 4: a reply or a log could not be written; 5: the disk
 /// failed; 6: the file is no index of version 2; 7: the input is longer than 2 ^ 26 bytes; 8: memory ran out; 9: a page of a file that
 /// is not sound is damaged.
-/// Clauses: what is asked of the caller (`ready`, `some`, `many`); what the session does (`runs`); what is taken of the input (`long`,
-/// `end`); which statuses come (`statuses`); when it succeeds (`complete`); the cause of an error (`input`, `output`); faults of the
-/// devices (`counts`).
+/// Clauses: what is asked of the caller (`ready`, `some`, `many`); what the session does, and what a crash may leave (`runs`); what is
+/// taken of the input (`long`, `end`); which statuses come (`statuses`); when it succeeds (`complete`); the cause of an error (`input`,
+/// `output`); faults of the devices (`counts`).
 /// Arguments: `crew` and `workers` do the work of loads, `index` is the file, `input` and `show_tags` say what is asked, and `out` and
 /// `log_out` are written.
 pub fn run_session<W: Crew<MixSpace>, D: Disk, S: Source, K: Sink, T: Sink>(

@@ -70,9 +70,9 @@ fn turn<W: Crew<M>, M: Metric, D: Disk, K: Sink, T: Sink>(
 /// On a sound index each reply is that of a plain list, unless the file has no room or no further generation, and each log is the
 /// least one. A crash at any moment leaves the objects after some first commands; at the end, at least those of the acknowledged
 /// ones.
-/// Clauses: what is asked of the caller (`ready`, `going`, `stands`, `few`, `readable`); what the session does (`run`); what stays
-/// (`stands`, `going`, `head`, `tells`); what is written (`grew`, `log_grew`); the cause of an error (`cause`, `damage`); faults of the
-/// devices (`later`, `out_later`, `log_later`).
+/// Clauses: what is asked of the caller (`ready`, `going`, `stands`, `few`, `readable`); what the session does, and what a crash may leave
+/// (`run`); what stays (`stands`, `going`, `head`, `tells`); what is written (`grew`, `log_grew`); the cause of an error (`cause`,
+/// `damage`); faults of the devices (`later`, `out_later`, `log_later`).
 /// Arguments: `crew` does the work of loads, `index` and `disk` are the index and its file, `commands` and `show` say what is asked, and
 /// `out` and `log_out` are written.
 pub fn session<W: Crew<M>, M: Metric, D: Disk, K: Sink, T: Sink>(

@@ -240,9 +240,9 @@ fn audit_leaf<R: Ruler>(
 }
 
 // Reads the node of a page that the walk reaches.
-// Clauses: what is asked of the caller (`limit`, `fewer`); the answer (`ok`); what changes (`new`, `noted`); what stays (`same`, `keeps`,
-// `limit`, `fewer`); the cost (`asked`, `reads`); what an error leaves (`unseen`); the cause of an error (`err`); faults of the devices
-// (`no_fault`).
+// Clauses: what is asked of the caller (`limit`, `fewer`); the answer (`ok`); when it succeeds (`new`); what changes (`noted`); what stays
+// (`same`, `keeps`, `limit`, `fewer`); the cost (`asked`, `reads`); what an error leaves (`unseen`); the cause of an error (`err`); faults
+// of the devices (`no_fault`).
 fn arrive<P: Pages>(
     alloc: Global,
     pages: &mut P,
