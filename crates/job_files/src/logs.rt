@@ -3,6 +3,7 @@
 mod auditing;
 mod court;
 mod ending;
+mod first_fault;
 mod judging;
 mod lines;
 mod putting;
@@ -12,6 +13,7 @@ mod stop;
 pub use auditing::put_audit;
 pub use court::Court;
 pub use ending::{end_stopped, read_logs};
+pub use first_fault::first_fault;
 pub use judging::judge_bytes;
 pub use lines::{
     log_fault_name, push_answers, push_frame, push_state, push_verdict, undecoded_text,

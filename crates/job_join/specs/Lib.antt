@@ -1,3 +1,4 @@
+pub mod Both
 pub mod Lines
 pub mod Trees
 pub mod Jobs

@@ -1,11 +1,11 @@
+use crate::first_join_fault::first_join_fault;
 use crate::lines::{push_answers, push_verdict};
 use job_files::logs::{Court, LogStop};
 use log_model::JoinLog;
-use log_verify::{JoinVerdict, verify_join};
-use metric_laws::Meter;
+use log_verify::JoinVerdict;
 use metric_mix::MixSpace;
 use outside_io::Memory;
-use page_store::{PageFault, Pages};
+use page_store::Pages;
 use prune_log::{LogFault, decode_join_frames};
 use std::alloc::Global;
 use tree_shape::Live;
@@ -108,26 +108,14 @@ impl<P: Pages, Q: Pages> Court for JoinCourt<'_, '_, P, Q> {
     }
 
     fn judge(&mut self, alloc: Global, log: &JoinLog) -> Result<Option<JoinVerdict>, LogStop> {
-        let mut ruler = Meter::new(self.space);
-        let judged = verify_join(
+        first_join_fault(
             alloc,
+            self.space,
             self.left_pages,
             self.right_pages,
-            &mut ruler,
             &self.left,
             &self.right,
             log,
-        );
-        match judged {
-            Ok(_) => Ok(None),
-            Err(JoinVerdict::Memory) => Err(LogStop::Memory),
-            Err(
-                JoinVerdict::Page {
-                    fault: PageFault::Disk,
-                    ..
-                },
-            ) => Err(LogStop::Disk),
-            Err(why) => Ok(Some(why)),
-        }
+        )
     }
 }

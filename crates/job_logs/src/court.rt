@@ -1,10 +1,9 @@
-use job_files::logs::{Court, LogStop, push_answers, push_verdict};
+use job_files::logs::{Court, LogStop, first_fault, push_answers, push_verdict};
 use log_model::Log;
-use log_verify::{Verdict, verify};
-use metric_laws::Meter;
+use log_verify::Verdict;
 use metric_mix::MixSpace;
 use outside_io::Memory;
-use page_store::{PageFault, Pages};
+use page_store::Pages;
 use prune_log::{LogFault, decode_frames};
 use std::alloc::Global;
 use tree_shape::Live;
@@ -83,12 +82,6 @@ impl<P: Pages> Court for LogCourt<'_, P> {
     }
 
     fn judge(&mut self, alloc: Global, log: &Log) -> Result<Option<Verdict>, LogStop> {
-        let mut ruler = Meter::new(self.space);
-        match verify(alloc, self.pages, &mut ruler, &self.live, log) {
-            Ok(_) => Ok(None),
-            Err(Verdict::Memory) => Err(LogStop::Memory),
-            Err(Verdict::Page(PageFault::Disk)) => Err(LogStop::Disk),
-            Err(why) => Ok(Some(why)),
-        }
+        first_fault(alloc, self.space, self.pages, &self.live, log)
     }
 }

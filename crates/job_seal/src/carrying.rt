@@ -7,9 +7,7 @@ ghost use Rattle.outside_io.specs.Causes.{Rose};
 ghost use Rattle.outside_io.specs.Sinks.{Tells};
 ghost use Rattle.disk_model.specs.Disk.{IsUnchanged};
 ghost use Rattle.node_page.specs.Heads.{IsLawfulHead};
-ghost use Rattle.page_store.specs.Shelf.{HoldsSame};
 ghost use Rattle.log_model.specs.Grammar.{IsLawfulLog};
-ghost use Rattle.log_verify.specs.Judged.{log_fault};
 ghost use Rattle.prune_log.specs.Spelling.{frame_bytes};
 ghost use Rattle.seal_log.specs.Carrying.{Carries};
 ghost use Rattle.seal_log.specs.Digests.{leaf_digests};
@@ -22,46 +20,22 @@ ghost use Rattle.job_seal.specs.Carries.{CarriesLogs, CarriesOn, EndsCarried, Ha
 use crate::opening::open_small;
 use crate::proof_lines::rejected_text;
 use disk_model::Disk;
-use job_files::logs::{LogStop, end_stopped, push_frame, put, read_logs, undecoded_text};
+use job_files::logs::{
+    LogStop, end_stopped, first_fault, push_frame, put, read_logs, undecoded_text,
+};
 use job_files::space_of;
 use log_model::{Log, Record};
-use log_verify::{Verdict, verify};
-use metric_laws::{Meter, Metric};
+use log_verify::Verdict;
 use node_page::Head;
 use outside_io::{Memory, Sink, Source, Status};
 use page_cache::laws::empty_cache_agrees;
 use page_cache::{Cached, KEPT_NODES, Kept};
-use page_store::{DiskPages, PageFault, Pages};
+use page_store::DiskPages;
 use prune_log::{LogFault, decode_frames, frame};
 use seal_log::laws::carried_logs_are_accepted;
 use seal_log::{ProofFault, SealFault, Tree, carry, seal};
 use std::alloc::Global;
 use tree_shape::Live;
-
-// Returns the first fault of a log, if it has one.
-fn judge_by<M: Metric, P: Pages>(
-    alloc: Global,
-    metric: M,
-    pages: &mut P,
-    live: &Live,
-    log: &Log,
-) -> Result<Option<Verdict>, LogStop>
-    requires { IsLawfulLog log.now }
-    ensures same { HoldsSame (P.shelf pages.old) (P.shelf pages.new) }
-    ensures keeps { P.keeps pages.old pages.new }
-    ensures told { IfOk result (λ found. IsTrue (P.shelf pages.old).tells →
-        log_fault (M.space metric) (P.shelf pages.old).read live.now log.now ≡ found) }
-    ensures disk { IsErrOf result LogStop.Disk → Rose (P.shelf pages.old).faults (P.shelf pages.new).faults }
-    ensures not_sink { IsErrOf result LogStop.Sink → ⊥ }
-{
-    let mut ruler = Meter::new(metric);
-    match verify(alloc, pages, &mut ruler, live, log) {
-        Ok(_) => Ok(None),
-        Err(Verdict::Memory) => Err(LogStop::Memory),
-        Err(Verdict::Page(PageFault::Disk)) => Err(LogStop::Disk),
-        Err(why) => Ok(Some(why)),
-    }
-}
 
 // Returns the first fault of a log over an opened index, and the cache of its pages.
 // Clauses: what is asked of the caller (`head`, `few`, `kept`, `lawful`); the answer (`told`, `kept`); what stays (`same`); the cause of an
@@ -88,7 +62,7 @@ fn judge_log<D: Disk>(
     let (head, live) = opened;
     let pages = DiskPages::new(index, head.dim, live.pages);
     let mut pages = Cached::from_parts(pages, kept);
-    let judged = judge_by(alloc, space_of(head), &mut pages, live, log);
+    let judged = first_fault(alloc, space_of(head), &mut pages, live, log);
     let (inner, kept) = pages.into_parts();
     let _index = inner.disk;
     Ok((judged?, kept))

@@ -16,12 +16,11 @@ use crate::shown::Walk;
 use crate::texts::frame_text;
 use crate::view::View;
 use crate::walking::show_records;
-use job_files::logs::{LogStop, Report, put, undecoded_text};
+use job_files::logs::{LogStop, Report, first_fault, put, undecoded_text};
 use log_model::{Log, radius_of};
-use log_verify::{Verdict, verify};
-use metric_laws::{Meter, Metric};
+use metric_laws::Metric;
 use outside_io::{Sink, Status};
-use page_store::{PageFault, Pages};
+use page_store::Pages;
 use prune_log::{LogFault, decode_frames};
 use scan_model::Query;
 use std::alloc::Global;
@@ -43,29 +42,6 @@ fn names_tree(view: &View, log: &Log) -> bool
     log.generation == view.live.generation
         && log.root == view.live.root
         && view.space.fits(point_of(&log.query))
-}
-
-// Returns the first fault of a log, if it has one.
-fn judge<P: Pages>(
-    alloc: Global,
-    view: &View,
-    pages: &mut P,
-    log: &Log,
-) -> Result<Option<Verdict>, LogStop>
-    requires { IsLawfulLog log.now }
-    ensures same { HoldsSame (P.shelf pages.old) (P.shelf pages.new) }
-    ensures keeps { P.keeps pages.old pages.new }
-    ensures told { IfOk result (λ found. IsTrue (P.shelf pages.old).tells → fault_by view.now (P.shelf pages.old).read log.now ≡ found) }
-    ensures disk { IsErrOf result LogStop.Disk → Rose (P.shelf pages.old).faults (P.shelf pages.new).faults }
-    ensures not_sink { IsErrOf result LogStop.Sink → ⊥ }
-{
-    let mut ruler = Meter::new(view.space);
-    match verify(alloc, pages, &mut ruler, &view.live, log) {
-        Ok(_) => Ok(None),
-        Err(Verdict::Memory) => Err(LogStop::Memory),
-        Err(Verdict::Page(PageFault::Disk)) => Err(LogStop::Disk),
-        Err(why) => Ok(Some(why)),
-    }
 }
 
 // Shows the walk of a log. Nothing is shown where it names another tree, or its point is not one of the space.
@@ -117,7 +93,7 @@ fn show_frame<P: Pages, K: Sink>(
     ensures output { IsErrOf result LogStop.Sink → Rose (K.state out.old).faults (K.state out.new).faults }
     ensures disk { IsErrOf result LogStop.Disk → Rose (P.shelf pages.old).faults (P.shelf pages.new).faults }
 {
-    let fault = judge(alloc, view, pages, &log)?;
+    let fault = first_fault(alloc, view.space, pages, &view.live, &log)?;
     let walk = show_walk(alloc, view, pages, &log)?;
     let text = frame_text(alloc, view, frame, log, fault, &walk)?;
     put(out, &text)?;

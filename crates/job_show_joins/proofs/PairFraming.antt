@@ -9,7 +9,8 @@ use Rattle.job_files.specs.Logs.Sayings.{are_sound}
 use Rattle.job_files.specs.Logs.Jobs.{Puts}
 use Rattle.job_show.proofs.Published.{HasPut, one_more, then_put, stopped_put}
 use Rattle.job_show_joins.specs.declared.view.JoinView.{JoinView}
-use Rattle.job_show_joins.specs.Steps.{HoldBoth, fault_by, text_by, texts_by}
+use Rattle.job_join.specs.Both.{HoldBoth}
+use Rattle.job_show_joins.specs.Steps.{fault_by, text_by, texts_by}
 
 and_assoc : (x y z : Bool) → (x && (y && z)) ≡ ((x && y) && z)
 and_assoc true y z = refl

@@ -19,7 +19,8 @@ use Rattle.job_show.specs.Walks.{with_marks}
 use Rattle.job_show_joins.specs.declared.shown.PairComing.{PairComing}
 use Rattle.job_show_joins.specs.declared.shown.PairWalk.{PairWalk}
 use Rattle.job_show_joins.specs.Walks.{PairsShown, coming_at, measured_beside, node_then, node_told, nothing_shown, pair_lines, pairs_coming, shown, shown_on}
-use Rattle.job_show_joins.specs.Steps.{AreUpTo, HoldBoth, shown_then}
+use Rattle.job_join.specs.Both.{HoldBoth}
+use Rattle.job_show_joins.specs.Steps.{AreUpTo, shown_then}
 
 -- ---- both sides
 

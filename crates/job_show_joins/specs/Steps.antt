@@ -1,9 +1,7 @@
 -- The steps of what is shown of joins.
-use Rattle.std.specs.Prelude.{◌⊎◌, ℕ, ◌+◌, ◌≤◌, List, ◌++◌, Option, Result}
+use Rattle.std.specs.Prelude.{ℕ, ◌+◌, ◌≤◌, List, ◌++◌, Option, Result}
 use Rattle.std.specs.List.{AllByRecursion}
-use Rattle.outside_io.specs.Causes.{Rose}
 use Rattle.page_store.specs.Reading.{Read}
-use Rattle.page_store.specs.Shelf.{Shelf, HoldsSame}
 use Rattle.log_model.specs.declared.logs.JoinLog.{JoinLog}
 use Rattle.log_model.specs.JoinWalk.{JoinSearch}
 use Rattle.log_model.specs.JoinSteps.{search_within}
@@ -19,17 +17,6 @@ use Rattle.job_show_joins.specs.declared.view.JoinView.{JoinView}
 use Rattle.job_show_joins.specs.Frames.{frame_text, frame_texts}
 use Rattle.job_show_joins.specs.Jobs.{showing}
 use Rattle.job_show_joins.specs.Walks.{PairsShown}
-
--- ---- the pages of both sides
-
--- the pages of both sides hold what they held
-pub record HoldBoth (left0 left1 right0 right1 : Shelf) : Type 0 where
-  pub left : HoldsSame left0 left1
-  pub right : HoldsSame right0 right1
-
--- a disk of the two sides failed
-abbrev pub OneRose : Shelf → Shelf → Shelf → Shelf → Type 0
-OneRose left0 left1 right0 right1 = Rose left0.faults left1.faults ⊎ Rose right0.faults right1.faults
 
 -- ---- a walk
 

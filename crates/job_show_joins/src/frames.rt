@@ -9,7 +9,8 @@ ghost use Rattle.job_files.specs.Logs.Jobs.{Puts, stop_of};
 ghost use Rattle.job_files.specs.Logs.Sayings.{are_sound};
 ghost use Rattle.job_show.specs.Steps.{space_in};
 ghost use Rattle.job_show_joins.specs.Frames.{head_texts, shown_of};
-ghost use Rattle.job_show_joins.specs.Steps.{HoldBoth, OneRose, fault_by, said_by, text_by, texts_by, walk_shown};
+ghost use Rattle.job_join.specs.Both.{HoldBoth, OneRose};
+ghost use Rattle.job_show_joins.specs.Steps.{fault_by, said_by, text_by, texts_by, walk_shown};
 
 use crate::entries::PairSearch;
 use crate::shown::PairWalk;
@@ -17,12 +18,12 @@ use crate::texts::frame_text;
 use crate::view::JoinView;
 use crate::walking::show_records;
 use job_files::logs::{LogStop, put, undecoded_text};
+use job_join::first_join_fault;
 use job_show::{Marks, end_text};
 use log_model::JoinLog;
-use log_verify::{JoinVerdict, verify_join};
-use metric_laws::{BOUND, Meter};
+use metric_laws::BOUND;
 use outside_io::{Sink, Status};
-use page_store::{PageFault, Pages};
+use page_store::Pages;
 use prune_log::{LogFault, decode_join_frames};
 use tree_shape::Live;
 
@@ -31,44 +32,6 @@ fn names(named: (u64, u32), live: &Live) -> bool
     ensures { result ≡ names named live.now }
 {
     named.0 == live.generation && named.1 == live.root
-}
-
-// Returns the first fault of a log, if it has one.
-fn judge<P: Pages, Q: Pages>(
-    view: &JoinView,
-    left: &mut P,
-    right: &mut Q,
-    log: &JoinLog,
-) -> Result<Option<JoinVerdict>, LogStop>
-    requires { IsLawfulJoinLog log.now }
-    ensures same { HoldBoth (P.shelf left.old) (P.shelf left.new) (Q.shelf right.old) (Q.shelf right.new) }
-    ensures left_keeps { P.keeps left.old left.new }
-    ensures right_keeps { Q.keeps right.old right.new }
-    ensures told { IfOk result (λ found. IsTrue (P.shelf left.old).tells → IsTrue (Q.shelf right.old).tells →
-        fault_by view.now (P.shelf left.old).read (Q.shelf right.old).read log.now ≡ found) }
-    ensures disk { IsErrOf result LogStop.Disk → OneRose (P.shelf left.old) (P.shelf left.new) (Q.shelf right.old) (Q.shelf right.new) }
-    ensures not_sink { IsErrOf result LogStop.Sink → ⊥ }
-{
-    let mut ruler = Meter::new(view.space);
-    match verify_join(
-        view.alloc,
-        left,
-        right,
-        &mut ruler,
-        &view.left,
-        &view.right,
-        log,
-    ) {
-        Ok(_) => Ok(None),
-        Err(JoinVerdict::Memory) => Err(LogStop::Memory),
-        Err(
-            JoinVerdict::Page {
-                fault: PageFault::Disk,
-                ..
-            },
-        ) => Err(LogStop::Disk),
-        Err(why) => Ok(Some(why)),
-    }
 }
 
 // Shows the walk of a log. Nothing is shown where it names another tree. A log of 2^32 records or more, which needs more than the 2^30
@@ -128,7 +91,15 @@ fn show_frame<P: Pages, Q: Pages, K: Sink>(
     ensures output { IsErrOf result LogStop.Sink → Rose (K.state out.old).faults (K.state out.new).faults }
     ensures disk { IsErrOf result LogStop.Disk → OneRose (P.shelf left.old) (P.shelf left.new) (Q.shelf right.old) (Q.shelf right.new) }
 {
-    let fault = judge(view, left, right, &log)?;
+    let fault = first_join_fault(
+        view.alloc,
+        view.space,
+        left,
+        right,
+        &view.left,
+        &view.right,
+        &log,
+    )?;
     let walk = show_walk(view, left, right, &log)?;
     let text = frame_text(view, frame, log, fault, &walk)?;
     put(out, &text)?;

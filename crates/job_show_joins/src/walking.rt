@@ -11,7 +11,8 @@ ghost use Rattle.log_verify.specs.JoinJudged.{is_of};
 ghost use Rattle.job_show.specs.Walks.{node_marked, none_counted, with_marks};
 ghost use Rattle.job_show.specs.Steps.{AreSmall};
 ghost use Rattle.job_show_joins.specs.Walks.{coming_at, node_told, shown};
-ghost use Rattle.job_show_joins.specs.Steps.{AreUpTo, HoldBoth, OneRose, search_by, shown_then, walk_shown};
+ghost use Rattle.job_join.specs.Both.{HoldBoth, OneRose};
+ghost use Rattle.job_show_joins.specs.Steps.{AreUpTo, search_by, shown_then, walk_shown};
 
 use crate::PairComing;
 use crate::entries::{PairGauge, PairSearch};

@@ -61,7 +61,7 @@ const DISTANCE: usize = 8;
 const OLD_BEFORE: usize = 3;
 
 /// How many numbers of four bytes are read at once.
-const BLOCK: usize = 64;
+const BLOCK: usize = 256;
 
 // Returns the number of bytes of an entry before its parent distance. The coordinates follow that.
 fn parent_place(version: Version, leaf: bool) -> usize

@@ -3,7 +3,8 @@ use Rattle.std.specs.Prelude.{All, IsTrue}
 use Rattle.log_model.specs.Grammar.{IsLawfulJoinLog}
 use Rattle.job_files.specs.Logs.Sayings.{are_sound}
 use Rattle.job_show.proofs.Published.{HasPut}
-use Rattle.job_show_joins.specs.Steps.{HoldBoth, fault_by, texts_by}
+use Rattle.job_join.specs.Both.{HoldBoth}
+use Rattle.job_show_joins.specs.Steps.{fault_by, texts_by}
 use Rattle.job_show_joins.proofs.frames.show_frames.Given as goal
 
 -- the texts so far are put, and the others are those of the other logs

@@ -2,7 +2,8 @@ use Rattle.std.proofs.Common.{◌≡◌, ◌≤◌, ◌*◌, reverse, drop}
 use Rattle.std.specs.Prelude.{IsTrue}
 use Rattle.job_show.proofs.Published.{AreFew}
 use Rattle.job_show_joins.specs.Walks.{shown}
-use Rattle.job_show_joins.specs.Steps.{AreUpTo, HoldBoth, search_by}
+use Rattle.job_join.specs.Both.{HoldBoth}
+use Rattle.job_show_joins.specs.Steps.{AreUpTo, search_by}
 use Rattle.job_show_joins.proofs.PairSteps.{then_shown}
 use Rattle.job_show_joins.proofs.walking.show_records.Given as goal
 

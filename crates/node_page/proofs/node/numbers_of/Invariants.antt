@@ -7,7 +7,7 @@ abbrev pub invariant-loop-block : goal.invariant-loop-block
 invariant-loop-block l = record {
   numbers : AreNumbers l.fn.page l.numbers.items;
   few : length l.numbers.items ≤ l.fn.count;
-  long : length l.block ≡ 64;
+  long : length l.block ≡ 256;
 }
 
 abbrev pub decreases-loop-block : goal.decreases-loop-block
