@@ -12,8 +12,8 @@ use page_store::{PageFault, Pages};
 use std::alloc::Global;
 use tree_shape::Live;
 
-/// Returns the first fault of `log`, a join's, over the trees of `left` and `right` in their pages, if it has one. A disk that fails and
-/// want of memory say nothing of the log.
+/// Returns the first fault of `log`, a join's, over the trees of `left` and `right` in their pages, if it has one. Where a disk fails
+/// or memory runs out, nothing is said of the log.
 /// Clauses: what is asked of the caller (the one without a name); the answer (`told`); what stays (`same`, `left_keeps`, `right_keeps`);
 /// the cost (`reads`); the cause of an error (`disk`, `not_sink`).
 /// Arguments: each tree is `left_pages` or `right_pages` with its slot.

@@ -13,8 +13,8 @@ use page_store::{PageFault, Pages};
 use std::alloc::Global;
 use tree_shape::Live;
 
-/// Returns the first fault of `log` over the tree of `live` in `pages`, if it has one. A disk that fails and want of memory say nothing of
-/// the log.
+/// Returns the first fault of `log` over the tree of `live` in `pages`, if it has one. Where the disk fails or memory runs out,
+/// nothing is said of the log.
 pub fn first_fault<M: Metric, P: Pages>(
     alloc: Global,
     metric: M,
