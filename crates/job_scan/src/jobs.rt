@@ -89,7 +89,8 @@ pub fn run_scan<S: Source, K: Sink>(
     ensures end { result.0 ≡ 0 → IsAtEnd (S.left input.new) }
     // With no fault and an input within its limit a scan is done, unless memory runs out.
     ensures complete { IfSome (S.left input.old) (λ bytes. length bytes ≤ 2 ^ 26 →
-        ¬ Rose (S.faults input.old) (S.faults input.new) → ¬ Rose (K.state out.old).faults (K.state out.new).faults → (result.0 ≡ 0) ⊎ (result.0 ≡ 8)) }
+        ¬ Rose (S.faults input.old) (S.faults input.new) → ¬ Rose (K.state out.old).faults (K.state out.new).faults →
+        (result.0 ≡ 0) ⊎ (result.0 ≡ 8)) }
     ensures counts { (S.faults input.old ≤ S.faults input.new) × ((K.state out.old).faults ≤ (K.state out.new).faults) }
 {
     let scan = Scan {

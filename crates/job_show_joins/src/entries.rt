@@ -71,7 +71,8 @@ fn test_object(gauge: PairGauge, entry: LeafRef, mark: Mark) -> PairTested
     ensures allowed { result.allowed ≡ allows_entry (search_by gauge.entry.search) gauge.entry.coming.now.need
         (object_entry (leaf_of entry.entry)) mark }
     ensures apart { (mark ≡ Skip → ⊥) →
-        result.apart ≡ (with_entry (space_in gauge.entry.search.space) gauge.entry.coming.now.need (object_entry (leaf_of entry.entry))).apart }
+        result.apart ≡ (with_entry (space_in gauge.entry.search.space)
+        gauge.entry.coming.now.need (object_entry (leaf_of entry.entry))).apart }
 {
     let need = &gauge.coming.need;
     let reach = need.other().radius();
@@ -103,7 +104,8 @@ fn test_subtree(gauge: PairGauge, level: u8, entry: InnerRef, mark: Mark) -> Pai
     ensures allowed { result.allowed ≡ allows_entry (search_by gauge.entry.search) gauge.entry.coming.now.need
         (subtree_entry level (inner_of entry.entry)) mark }
     ensures apart { (mark ≡ Skip → ⊥) →
-        result.apart ≡ (with_entry (space_in gauge.entry.search.space) gauge.entry.coming.now.need (subtree_entry level (inner_of entry.entry))).apart }
+        result.apart ≡ (with_entry (space_in gauge.entry.search.space)
+        gauge.entry.coming.now.need (subtree_entry level (inner_of entry.entry))).apart }
 {
     let need = &gauge.coming.need;
     let reach = need.other().radius();

@@ -66,7 +66,8 @@ impl Matches {
         entry: InnerRef,
         apart: Option<u64>,
     ) -> Result<(), Memory>
-        ensures { OnOk result (AddsPair (paired probe.entry.need.now (subtree_entry level (inner_of entry.entry)).item apart) self.old self.new) }
+        ensures { OnOk result (AddsPair
+            (paired probe.entry.need.now (subtree_entry level (inner_of entry.entry)).item apart) self.old self.new) }
     {
         let item = SharedItem::new(probe.alloc, Item::of_subtree(probe.alloc, level, entry)?)?;
         self.needs.push(probe.need.with(item, apart)?)?;

@@ -119,7 +119,8 @@ fn check_object<R: Ruler>(
     ensures metric { R.metric ruler.new ≡ R.metric ruler.old }
     ensures allowed { result.allowed ≡ allows_entry (search_within (R.M.space (R.metric ruler.old)) probe.entry.rho) probe.entry.need.now
         (object_entry (leaf_of entry.entry)) mark }
-    ensures apart { mark ≡ Near → result.apart ≡ (object_pair (R.M.space (R.metric ruler.old)) probe.entry.need.now (leaf_of entry.entry)).apart }
+    ensures apart { mark ≡ Near →
+        result.apart ≡ (object_pair (R.M.space (R.metric ruler.old)) probe.entry.need.now (leaf_of entry.entry)).apart }
     ensures counted { CountsUpTo (R.used ruler.old) (R.used ruler.new) (measured_by (mark ∷ [])) }
 {
     match mark {

@@ -20,7 +20,8 @@ pub fn hold_below(p: &[u32], n: u8) -> bool
 fn discordant_after(i: usize, a: &[u32], b: &[u32]) -> u64
     requires a { i < length a.now }
     requires b { i < length b.now }
-    ensures value { result ≡ count_by (λ q. is_discordant ((slice_index a.now i, slice_index b.now i), q)) (zip (drop (i + 1) a.now) (drop (i + 1) b.now)) }
+    ensures value { result ≡ count_by (λ q. is_discordant ((slice_index a.now i, slice_index b.now i), q))
+        (zip (drop (i + 1) a.now) (drop (i + 1) b.now)) }
     ensures few { result ≤ length a.now }
 {
     let (x, y) = (a[i], b[i]);

@@ -10,8 +10,8 @@ use crate::sessions::{SessionSizes, session_in};
 use plan_disk::Step;
 use std::alloc::Global;
 
-/// Makes an empty index of `shape` at the front of `room`, of `size` bytes. Status 0: done; 2: no index has this shape; 4: `room` has no room
-/// for `size` bytes; 8: out of memory. With status 2, 4 and 8 the buffer is left as it is.
+/// Makes an empty index of `shape` at the front of `room`, of `size` bytes. Status 0: done; 2: no index has this shape; 4: `room` has no
+/// room for `size` bytes; 8: out of memory. With status 2, 4 and 8 the buffer is left as it is.
 #[unsafe(no_mangle)]
 pub extern "C" fn mtree_create_in(
     alloc: Global,
@@ -50,9 +50,9 @@ pub extern "C" fn mtree_session_in(
 
 /// Runs a script on the bytes of an index file, which stay as they are. The writes and syncs that the program's `session` does to the file
 /// stand at the front of `steps`, in their order, and the bytes of the writes at the front of `written`, one write's after another's. The
-/// replies stand at the front of `text`, and the frames of the queries' logs at the front of `log`. The status is that of `session`: 0 done;
-/// 6 the bytes are no index of version 2; 7 there are more than 2^26 bytes of script; 9 a damaged page; and 4 a buffer has no room for what
-/// `sizes` tells; 8 out of memory. With status 4 and 8 the buffers are left as they are.
+/// replies stand at the front of `text`, and the frames of the queries' logs at the front of `log`. The status is that of `session`: 0
+/// done; 6 the bytes are no index of version 2; 7 there are more than 2^26 bytes of script; 9 a damaged page; and 4 a buffer has no room
+/// for what `sizes` tells; 8 out of memory. With status 4 and 8 the buffers are left as they are.
 /// Arguments: `script` and `show_tags` say what is asked of `file`, and `steps`, `written`, `text`, `log` and `sizes` are the caller's own
 /// buffers.
 #[unsafe(no_mangle)]

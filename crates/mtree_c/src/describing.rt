@@ -90,9 +90,9 @@ pub extern "C" fn mtree_stats(alloc: Global, file: &[u8], text: &mut [u8], size:
     hand_text(status, &out, text, size)
 }
 
-/// Gives the objects of an index file as a script that makes them again. The lines at the front of `text`, of `size` bytes, are those of the
-/// program's `dump`, and so is the status: 0 done; 4, 6 and 8 as in [`mtree_shape`]; 9 a page gave no node, or an object's id is not there
-/// once.
+/// Gives the objects of an index file as a script that makes them again. The lines at the front of `text`, of `size` bytes, are those of
+/// the program's `dump`, and so is the status: 0 done; 4, 6 and 8 as in [`mtree_shape`]; 9 a page gave no node, or an object's id is not
+/// there once.
 #[unsafe(no_mangle)]
 pub extern "C" fn mtree_dump(alloc: Global, file: &[u8], text: &mut [u8], size: &mut usize) -> u8
     ensures { HandsText (IsDumpText file.now) text.old text.new size.new result }

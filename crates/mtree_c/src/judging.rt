@@ -80,8 +80,8 @@ pub extern "C" fn mtree_check(
     hand_text(status, &out, text, size)
 }
 
-/// Shows the walk that each log of `logs` tells of, by the bytes of an index file, which is not audited. The lines are those of the program's
-/// `show`, and the statuses are those of [`mtree_verify`].
+/// Shows the walk that each log of `logs` tells of, by the bytes of an index file, which is not audited. The lines are those of the
+/// program's `show`, and the statuses are those of [`mtree_verify`].
 #[unsafe(no_mangle)]
 pub extern "C" fn mtree_show(
     alloc: Global,

@@ -76,9 +76,9 @@ fn hand_plan(
 
 /// Runs `script` on the bytes of an index file, which stay as they are. Hands over what the program's `session` does to the file: its
 /// writes and syncs in their order at the front of `steps`, and the bytes of the writes, one after another, at the front of `written`. The
-/// replies stand at the front of `text`, and the frames of the queries' logs at the front of `log`. The status is that of `session`: 0 done;
-/// 6 the bytes are no index of version 2; 7 there are more than 2^26 bytes of script; 9 a damaged page; and 4 a buffer has no room for what
-/// `sizes` tells; 8 out of memory. With status 4 and 8 the buffers are left as they are.
+/// replies stand at the front of `text`, and the frames of the queries' logs at the front of `log`. The status is that of `session`: 0
+/// done; 6 the bytes are no index of version 2; 7 there are more than 2^26 bytes of script; 9 a damaged page; and 4 a buffer has no room
+/// for what `sizes` tells; 8 out of memory. With status 4 and 8 the buffers are left as they are.
 /// Arguments: `script` and `show_tags` say what is asked of `file`, and `steps`, `written`, `text`, `log` and `sizes` are the caller's own
 /// buffers.
 pub fn session_plan(

@@ -87,10 +87,10 @@ fn hand_left(
 }
 
 /// Runs `script` on the index file at the front of `room`, of `size` bytes, as the program's `session` does: all of it, or nothing. The
-/// file after it stands at the front of `room`, the replies at the front of `text`, and the frames of the queries' logs at the front of `log`.
-/// The status is that of `session`: 0 done; 6 the bytes are no index of version 2; 7 there are more than 2^26 bytes of script; 9 a
-/// damaged page; and 2 `size` is more than `room` has; 4 a buffer has no room for what `sizes` tells; 8 out of memory. With status 2, 4
-/// and 8 the buffers are left as they are.
+/// file after it stands at the front of `room`, the replies at the front of `text`, and the frames of the queries' logs at the front of
+/// `log`. The status is that of `session`: 0 done; 6 the bytes are no index of version 2; 7 there are more than 2^26 bytes of script; 9 a
+/// damaged page; and 2 `size` is more than `room` has; 4 a buffer has no room for what `sizes` tells; 8 out of memory. With status 2, 4 and
+/// 8 the buffers are left as they are.
 /// Arguments: `room` and `size` are the file, `script` and `show_tags` say what is asked, and `text`, `log` and `sizes` are the caller's
 /// own buffers.
 pub fn session_in(

@@ -26,7 +26,8 @@ fn put_point(page: &mut [u8; 4096], at: usize, point: &[u32])
 fn put_leaf(page: &mut [u8; 4096], at: usize, entry: LeafRef)
     requires { at + 20 + 4 * length entry.point.now ≤ 4096 }
     ensures entry { leaf_at (length entry.entry.point.now) page.new at ≡ leaf_of entry.entry }
-    ensures others { (k : ℕ) → (k < at) ⊎ (at + 20 + 4 * length entry.entry.point.now ≤ k) → slice_index page.new k ≡ slice_index page.old k }
+    ensures others { (k : ℕ) → (k < at) ⊎ (at + 20 + 4 * length entry.entry.point.now ≤ k) →
+        slice_index page.new k ≡ slice_index page.old k }
 {
     put_u32(page, at, entry.id);
     put_u64(page, at + 4, entry.tag);
@@ -38,7 +39,8 @@ fn put_leaf(page: &mut [u8; 4096], at: usize, entry: LeafRef)
 fn put_inner(page: &mut [u8; 4096], at: usize, entry: InnerRef)
     requires { at + 20 + 4 * length entry.point.now ≤ 4096 }
     ensures entry { inner_at (length entry.entry.point.now) page.new at ≡ inner_of entry.entry }
-    ensures others { (k : ℕ) → (k < at) ⊎ (at + 20 + 4 * length entry.entry.point.now ≤ k) → slice_index page.new k ≡ slice_index page.old k }
+    ensures others { (k : ℕ) → (k < at) ⊎ (at + 20 + 4 * length entry.entry.point.now ≤ k) →
+        slice_index page.new k ≡ slice_index page.old k }
 {
     put_u32(page, at, entry.child);
     put_u64(page, at + 4, entry.radius);

@@ -1,4 +1,5 @@
-//! A session of commands on an index, and the job `session`. Every reply is the plain scan's, and every query's log is put before its reply.
+//! A session of commands on an index, and the job `session`. Every reply is the plain scan's. Every query's log is put
+//! before its reply.
 #![tactic(auto)]
 
 mod answer;

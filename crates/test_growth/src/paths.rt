@@ -81,7 +81,8 @@ fn place_at(
     requires live { IsLawfulLive head.now.limit (file.now.live.pages * 4096) file.now.live }
     requires numbers { AreNumbers file.now.live.pages numbers.now }
     requires outside { AreOutside (nodes_of (reading head.now.dim file.now.live.pages file.now.bytes.items)) file.now.live numbers.now }
-    ensures nodes { IfOk result (λ placed. AllByRecursion (λ s. IsWithin placed.next.pages s.page × IsLawfulNode head.now.dim s.node) placed.staged) }
+    ensures nodes { IfOk result (λ placed.
+        AllByRecursion (λ s. IsWithin placed.next.pages s.page × IsLawfulNode head.now.dim s.node) placed.staged) }
     ensures lawful { IfOk result (λ placed. IsLawfulLive head.now.limit (placed.next.pages * 4096) placed.next) }
 {
     let mut ruler = Meter::new(L1::new(head.dim));
