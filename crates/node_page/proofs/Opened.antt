@@ -49,7 +49,7 @@ lawful_by_test limit size live is =
       room = leb-true (live.pages * 4096) size each.8;
     }
 
-test_by_lawful : (limit size : ℕ) (live : Live) → IsLawfulLive limit size live → is_lawful_live limit size live ≡ true
+pub test_by_lawful : (limit size : ℕ) (live : Live) → IsLawfulLive limit size live → is_lawful_live limit size live ≡ true
 unfolding is_lawful_live
 test_by_lawful limit size live lawful =
     nine_back (nat_le 1 live.generation) (nat_le live.generation (2 ^ 48 - 1)) (nat_le 3 live.root) (nat_lt live.root live.pages) (nat_le live.height 14)

@@ -7,8 +7,8 @@ ghost use Rattle.seal_log.specs.Judged.{after_head};
 ghost use Rattle.seal_log.specs.Opened.{IsLiveIn, IsLiveOf};
 
 use crate::ProofFault;
-use node_page::{Head, HeadFault, decode_head, decode_slot, read_gate};
-use tree_shape::{LAST_GENERATION, Live, MOST_PAGES};
+use node_page::{Head, HeadFault, decode_head, decode_slot, is_lawful_live, live_at, read_gate};
+use tree_shape::Live;
 
 // Reads the head on page 0, which has to be of version 2.
 pub fn read_head(page: &[u8; 4096]) -> Result<Head, ProofFault>
@@ -30,15 +30,7 @@ pub fn read_head(page: &[u8; 4096]) -> Result<Head, ProofFault>
 fn is_lawful(limit: u32, pages: u32, live: &Live) -> bool
     ensures { IsTrue result ↔ (IsLawfulLive limit (4096 * pages) live.now × (live.now.pages ≡ pages)) }
 {
-    live.generation >= 1
-        && live.generation <= LAST_GENERATION
-        && live.root >= 3
-        && live.root < pages
-        && live.height <= 14
-        && live.count <= limit
-        && pages >= 4
-        && pages <= MOST_PAGES
-        && live.pages == pages
+    live.pages == pages && is_lawful_live(limit, u64::from(pages) * 4096, live)
 }
 
 // Returns the live slot on `page`, where the other slot is on `other`: its gate is open, and the other's is closed or of a lesser
@@ -53,14 +45,7 @@ fn live_in(side: u8, page: &[u8; 4096], other: &[u8; 4096], limit: u32, pages: u
         return None;
     }
     let slot = decode_slot(page)?;
-    let live = Live {
-        side,
-        generation: slot.generation,
-        root: slot.root,
-        height: slot.height,
-        count: slot.count,
-        pages: slot.pages,
-    };
+    let live = live_at(side, &slot);
     if !is_lawful(limit, pages, &live) {
         return None;
     }

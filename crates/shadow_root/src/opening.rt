@@ -10,9 +10,9 @@ ghost use Rattle.shadow_root.specs.Opening.{HasOpenCause, told_as, side_of, numb
 
 use crate::OpenFault;
 use disk_model::Disk;
-use node_page::{Gate, Head, Slot, decode_head, decode_slot, read_gate};
+use node_page::{Gate, Head, decode_head, decode_slot, is_lawful_live, live_at, read_gate};
 use page_store::read_page;
-use tree_shape::{LAST_GENERATION, Live, MOST_PAGES};
+use tree_shape::Live;
 
 /// The size of the head and the two slots, in bytes.
 const LEAST_SIZE: u64 = 12_288;
@@ -39,36 +39,6 @@ fn live_side(first: &Gate, second: &Gate) -> Result<Side, OpenFault>
     Ok(Side::Second)
 }
 
-// Makes the live tree of a slot.
-fn live_at(side: u8, slot: &Slot) -> Live
-    ensures { result ≡ live_at side slot.now }
-{
-    Live {
-        side,
-        generation: slot.generation,
-        root: slot.root,
-        height: slot.height,
-        count: slot.count,
-        pages: slot.pages,
-    }
-}
-
-// Returns whether a live slot keeps the bounds of a file of `size` bytes whose head has the limit `limit`.
-#[tactic(auto, unfolding(node_page::specs::Opening::is_lawful_live))]
-fn is_lawful(limit: u32, size: u64, live: &Live) -> bool
-    ensures { result ≡ is_lawful_live limit size live.now }
-{
-    live.generation >= 1
-        && live.generation <= LAST_GENERATION
-        && live.root >= 3
-        && live.root < live.pages
-        && live.height <= 14
-        && live.count <= limit
-        && live.pages >= 4
-        && live.pages <= MOST_PAGES
-        && u64::from(live.pages) * 4096 <= size
-}
-
 // Reads the live tree of the slot on `page`, which is open.
 fn live_in(page: &[u8; 4096], side: u8, limit: u32, size: u64) -> Result<Live, OpenFault>
     ensures spelled { IfOk result (λ live. (slot : Slot) × SpellsSlot page.now slot × (live ≡ live_at side slot)) }
@@ -81,7 +51,7 @@ fn live_in(page: &[u8; 4096], side: u8, limit: u32, size: u64) -> Result<Live, O
         None => return Err(OpenFault::Slot),
     };
     let live = live_at(side, &slot);
-    if !is_lawful(limit, size, &live) {
+    if !is_lawful_live(limit, size, &live) {
         return Err(OpenFault::Slot);
     }
     Ok(live)
