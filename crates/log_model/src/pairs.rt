@@ -1,10 +1,5 @@
-ghost use Rattle.std.specs.Prelude.{◌≡◌, IfOk};
-
-use crate::Memory;
 use metric_laws::Listed;
-use std::alloc::Global;
-use std::marker::Model;
-use std::rc::Rc;
+use tree_shape::Shared;
 
 /// What a join pairs: a subtree or an object of one of its trees.
 #[derive(Drop)]
@@ -29,44 +24,8 @@ pub enum Item {
     },
 }
 
-/// An item that several pairs may hold. Another holder costs no copy of its point. Contracts see the item.
-#[derive(Drop)]
-pub struct SharedItem {
-    item: Rc<Item>,
-}
-
-impl Model for SharedItem {
-    ghost use Rattle.log_model.specs.declared.pairs.Item.{Item as TheItem};
-
-    ghost Value = { TheItem };
-
-    ghost view = { λ s. s.item.value };
-}
-
-impl SharedItem {
-    /// Makes an item with one holder.
-    pub fn new(alloc: Global, item: Item) -> Result<Self, Memory>
-        ensures { IfOk result (λ shared. shared ≡ item) }
-    {
-        let item = Rc::new(alloc, item)?;
-        Ok(SharedItem { item })
-    }
-
-    /// Returns the item.
-    pub fn as_ref(&self) -> &Item
-        ensures { result.now ≡ self.now }
-    {
-        self.item.as_ref()
-    }
-
-    /// Adds a holder of the same item.
-    pub fn share(&self) -> Result<Self, Memory>
-        ensures { IfOk result (λ shared. shared ≡ self.now) }
-    {
-        let item = self.item.clone()?;
-        Ok(SharedItem { item })
-    }
-}
+/// An item that several pairs may hold.
+pub type SharedItem = Shared<Item>;
 
 /// A pair of items whose objects a join still has to compare.
 #[derive(Drop)]

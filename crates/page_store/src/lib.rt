@@ -11,7 +11,6 @@ mod pages;
 mod parts;
 mod reading;
 mod settling;
-mod shared;
 mod staging;
 
 pub use disk_pages::DiskPages;
@@ -22,8 +21,10 @@ pub use pages::{PageFault, Pages, own_node};
 pub use parts::Parts;
 pub use reading::{node_on, read_page};
 pub use settling::{NewTree, RoomFault, settle};
-pub use shared::SharedNode;
 pub use staging::{Placed, Staged, StagedNode};
+
+/// A node that several may hold.
+pub type SharedNode = tree_shape::Shared<tree_shape::Node>;
 
 /// The error when memory runs out.
 pub type Memory = std::alloc::AllocError;

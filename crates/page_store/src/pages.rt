@@ -83,5 +83,5 @@ pub fn own_node<P: Pages>(alloc: Global, pages: &mut P, page: u32) -> Result<Nod
     ensures keeps { P.keeps pages.old pages.new }
 {
     let shared = pages.node(alloc, page)?;
-    Ok(shared.into_node(alloc)?)
+    Ok(shared.into_value(alloc)?)
 }

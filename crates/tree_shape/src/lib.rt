@@ -10,6 +10,7 @@ pub mod laws;
 mod leaves;
 mod live;
 mod refs;
+mod shared;
 
 pub use copying::TryClone;
 pub use entry::{InnerEntry, LeafEntry, Node};
@@ -19,3 +20,4 @@ pub use inners::{InnerEntries, InnerView};
 pub use leaves::{LeafEntries, LeafView};
 pub use live::{LAST_GENERATION, Live, MOST_PAGES, PAGE};
 pub use refs::{InnerRef, LeafRef};
+pub use shared::Shared;
