@@ -2,6 +2,7 @@ pub mod Totals
 pub mod Near
 pub mod Arithmetic
 pub mod Pops
+pub mod Held
 pub mod Waits
 pub mod Steps
 pub mod Radius

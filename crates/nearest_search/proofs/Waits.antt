@@ -1,51 +1,36 @@
 -- The order of the queue.
-use Rattle.std.proofs.Common.{◌≡◌, get_or, ℕ, zero, suc, ◌+◌, ◌<◌, ◌≤◌, inl, inr, false, List, [], ◌∷◌, ◌++◌, refl, sym, ap, arith, length, min}
-use Rattle.std.specs.Prelude.{map, IsPermutation}
+use Rattle.std.proofs.Common.{◌≡◌, ℕ, ◌+◌, ◌<◌, ◌≤◌, inl, inr, false, Option, Some, None, List, [], ◌∷◌, ◌++◌, refl, sym, ap, arith, length, min}
+use Rattle.std.specs.Prelude.{IsPermutation, IfSome}
 use Rattle.std.specs.Ordering.{nat_cmp, ordering_then, is_lt}
 use Rattle.std.specs.Option.{option_cmp}
 use Rattle.std.specs.declared.cmp.Ordering.{Ordering}
-use Rattle.std.specs.BinaryHeap.{IsUpperBound}
-use Rattle.std.specs.declared.cmp.Reverse.{Reverse}
 use Rattle.std.proofs.lemmas.Bool.Decides.{nat_tests}
-use Rattle.std.proofs.lemmas.List.Sorted.{IsPermutation-map, IsPermutation-trans, IsPermutation-sym, IsPermutation-middle, IsPermutation-append_right, length_permutation}
+use Rattle.std.proofs.lemmas.List.Sorted.{IsPermutation-trans, IsPermutation-sym, IsPermutation-middle, IsPermutation-append_right, length_permutation}
 use Rattle.metric_laws.specs.Lists.{IsIn}
 use Rattle.nearest_search.specs.declared.pending.Pending.{Pending}
+use Rattle.nearest_search.specs.Least.{IsLeast}
 use Rattle.nearest_search.specs.Queue.{pending_order, IsNext, AllBeyond}
 use Rattle.nearest_search.proofs.Totals.{in-permutation}
-
-abbrev pub waiting : List (Reverse Pending) → List Pending
-waiting xs = map (λ r. r.0) xs
 
 -- what isn't before is no nearer
 pub not_before : (a b : ℕ) (o : Ordering) → is_lt (ordering_then (nat_cmp a b) o) ≡ false → b ≤ a
 not_before a b o h = grind (arith, nat_tests)
 
-pub first_of : (top : Reverse Pending) (xs : List (Reverse Pending)) → IsUpperBound (λ x y. pending_order y.0 x.0) top xs → (y : Pending) → IsIn y (waiting xs) → top.0.low ≤ y.low
-first_of top [] up y i = absurd i
-first_of top (x ∷ xs) up y i =
-    elim i [
-      | inl e ↦ rw e (not_before x.0.low top.0.low (ordering_then (nat_cmp x.0.page top.0.page) (option_cmp nat_cmp x.0.above top.0.above)) up.0)
-      | inr w ↦ first_of top xs up.1 y w
-    ]
+pub least_low : (x : Pending) (xs : List Pending) → IsLeast pending_order x xs → (y : Pending) → IsIn y xs → x.low ≤ y.low
+least_low x xs least y i = not_before y.low x.low (ordering_then (nat_cmp y.page x.page) (option_cmp nat_cmp y.above x.above)) (least.least y i)
 
-pub waits-at : (xs : List (Reverse Pending)) (k : ℕ) (x : Reverse Pending) → k < length xs → get_or xs k x ≡ x → IsIn x.0 (waiting xs)
-waits-at [] k x low is = absurd (omega arith)
-waits-at (y ∷ ys) zero x low is = inl (sym (ap (λ r. r.0) is))
-waits-at (y ∷ ys) (suc k) x low is = inr (waits-at ys k x (omega arith) is)
-
-pub next_is : (rho : ℕ) (xs ys : List (Reverse Pending)) (first top : Reverse Pending) → IsPermutation xs (top ∷ ys) → IsUpperBound (λ x y. pending_order y.0 x.0) top xs →
-    0 < length xs → first ≡ get_or xs 0 first → first.0.low ≤ rho → IsNext rho (waiting xs) top.0 (waiting ys)
-next_is rho xs ys first top popped up some is low = record {
-  popped = IsPermutation-map (λ (r : Reverse Pending). r.0) xs (top ∷ ys) popped;
-  low = (let l = first_of top xs up first.0 (waits-at xs 0 first some (sym is)) in omega arith);
-  first = first_of top xs up;
+-- what is taken as the least is next, where another of the queue is within rho
+pub next_is : (rho : ℕ) (xs ys : List Pending) (first : Pending) (taken : Option Pending) → IfSome taken (λ x. IsPermutation xs (x ∷ ys)) → IfSome taken (λ x. IsLeast pending_order x xs) →
+    IsIn first xs → first.low ≤ rho → IfSome taken (λ x. IsNext rho xs x ys)
+next_is rho xs ys first None popped least i low = tt
+next_is rho xs ys first (Some x) popped least i low = record {
+  popped = popped;
+  low = (let l = least_low x xs least first i in omega arith);
+  first = least_low x xs least;
 }
 
-pub all_beyond_first : (rho : ℕ) (xs : List (Reverse Pending)) (first : Reverse Pending) → IsUpperBound (λ x y. pending_order y.0 x.0) first xs → rho < first.0.low → AllBeyond rho (waiting xs)
-all_beyond_first rho xs first up far y i = let l = first_of first xs up y i in omega arith
-
-pub waits_pushed : (x : Reverse Pending) (xs ys : List (Reverse Pending)) → IsPermutation (x ∷ xs) ys → IsPermutation (x.0 ∷ waiting xs) (waiting ys)
-waits_pushed x xs ys pushed = IsPermutation-map (λ (r : Reverse Pending). r.0) (x ∷ xs) ys pushed
+pub all_beyond_first : (rho : ℕ) (xs : List Pending) (first : Pending) → IsLeast pending_order first xs → rho < first.low → AllBeyond rho xs
+all_beyond_first rho xs first least far y i = let l = least_low first xs least y i in omega arith
 
 -- one of what is still to be queued is queued
 pub moved_one : (all P cur cur' : List Pending) (x : Pending) → IsPermutation all (x ∷ P ++ cur) → IsPermutation (x ∷ cur) cur' → IsPermutation all (P ++ cur')

@@ -1,4 +1,5 @@
 pub mod Counts
+pub mod Least
 pub mod Queue
 pub mod Seeing
 pub mod Keeping

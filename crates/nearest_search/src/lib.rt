@@ -9,7 +9,9 @@ mod logging;
 mod machine;
 mod opening;
 mod pending;
+mod queue;
 mod searching;
 mod seen;
 
+pub use queue::{ClonesExactly, MinQueue};
 pub use searching::nearest;

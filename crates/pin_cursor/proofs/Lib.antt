@@ -1,5 +1,5 @@
 pub mod Lists
-pub mod Heaps
+pub mod Nearest
 pub mod Opens
 pub mod Pops
 pub mod Starts

@@ -8,6 +8,7 @@ ghost use Rattle.pin_cursor.specs.Cursor.{OpenCursor, IsCursorOn, HoldsTree};
 ghost use Rattle.pin_cursor.specs.Steps.{HasStepCause, IsUnderWay, HasGiven, stage};
 
 use crate::opening::open_page;
+use crate::waits::{reach_of, take_nearest, take_within};
 use crate::walk::Walk;
 use metric_laws::Ruler;
 use page_store::{PageFault, Pages};
@@ -62,15 +63,15 @@ pub fn advance<P: Pages, R: Ruler>(
 {
     while (walk.hits.len() as u64) < goal.n {
         let spent = walk.opened == live.pages;
-        let reach = walk.candidates.reach();
-        if let Some(next) = walk.subtrees.take_within(reach) {
+        let reach = reach_of(&walk.candidates);
+        if let Some(next) = take_within(&mut walk.subtrees, reach) {
             if spent {
                 return Err(PageFault::Repeats(next.page));
             }
             open_page(alloc, pages, ruler, goal.q, next.page, walk)?;
             walk.opened += 1;
         } else {
-            let Some(next) = walk.candidates.take_first() else {
+            let Some(next) = take_nearest(&mut walk.candidates) else {
                 return Ok(());
             };
             walk.give(next)?;

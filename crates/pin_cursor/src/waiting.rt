@@ -1,3 +1,7 @@
+ghost use Rattle.std.proofs.Common.{rules};
+
+use nearest_search::ClonesExactly;
+
 /// A subtree that is not opened yet. Subtrees are ordered by their lower bound of the distance, then by page.
 #[derive(Clone, Copy, PartialEq, Eq, PartialOrd, Ord)]
 pub struct Subtree {
@@ -16,4 +20,12 @@ pub struct Candidate {
     pub id: u32,
     /// The caller's tag of the object.
     pub tag: u64,
+}
+
+impl ClonesExactly for Subtree {
+    ghost equal_clone = { Prim.search rules };
+}
+
+impl ClonesExactly for Candidate {
+    ghost equal_clone = { Prim.search rules };
 }

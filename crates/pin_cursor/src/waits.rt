@@ -1,14 +1,14 @@
-ghost use Rattle.std.specs.Prelude.{◌≡◌, ◌↔◌, IsTrue, List, [], ◌∷◌, map, IfOk, IfSome, IfNone, OnOk, IsPermutation};
-ghost use Rattle.std.specs.BinaryHeap.{heap_items, IsHeap};
-ghost use Rattle.pin_cursor.specs.declared.waiting.Subtree.{Subtree};
-ghost use Rattle.pin_cursor.specs.declared.waiting.Candidate.{Candidate};
-ghost use Rattle.pin_cursor.specs.Order.{subtree_order, candidate_order, IsReach, IsBeyond, AllBeyond, IsFirst};
+ghost use Rattle.std.specs.Prelude.{◌≡◌, ◌↔◌, IsTrue, [], ◌∷◌, IfSome, IfNone, IsPermutation};
+ghost use Rattle.pin_cursor.specs.Order.{IsReach, IsBeyond, AllBeyond, IsFirst};
 
 use crate::waiting::{Candidate, Subtree};
-use std::alloc::{AllocError, Global};
-use std::cmp::Reverse;
-use std::collections::BinaryHeap;
-use std::marker::Model;
+use nearest_search::MinQueue;
+
+/// The subtrees that are not opened yet, the nearest first.
+pub type Subtrees = MinQueue<Subtree>;
+
+/// The objects that were met and are not given yet, the nearest first.
+pub type Candidates = MinQueue<Candidate>;
 
 // Returns whether a distance is beyond the reach. Without a reach nothing is beyond it.
 fn is_beyond(reach: Option<u64>, low: u64) -> bool
@@ -20,127 +20,39 @@ fn is_beyond(reach: Option<u64>, low: u64) -> bool
     }
 }
 
-/// The subtrees that are not opened yet, the nearest first.
-#[derive(Drop)]
-pub struct Subtrees {
-    heap: BinaryHeap<Reverse<Subtree>>,
+/// Takes the nearest of `subtrees`, unless each is further than `reach`. A subtree exactly at `reach` is taken: it may hold an
+/// object with a lower id.
+pub fn take_within(subtrees: &mut Subtrees, reach: Option<u64>) -> Option<Subtree>
+    ensures some { IfSome result (λ x. IsPermutation subtrees.old (x ∷ subtrees.new)) }
+    ensures within { IfSome result (λ x. IsBeyond reach x.low → ⊥) }
+    ensures none { IfNone result (AllBeyond reach subtrees.old) }
+    ensures same { IfNone result (subtrees.new ≡ subtrees.old) }
+{
+    let Some(first) = subtrees.first() else {
+        return None;
+    };
+    if is_beyond(reach, first.low) {
+        return None;
+    }
+    subtrees.take_first()
 }
 
-impl Model for Subtrees {
-    ghost Value = { List Subtree };
-
-    ghost view = { λ s. map (λ r. r.0) (heap_items s.heap) };
-
-    ghost invariant = { λ s. IsHeap (λ x y. subtree_order y.0 x.0) (heap_items s.heap) };
-}
-
-impl Subtrees {
-    /// Makes an empty set of subtrees.
-    pub fn new(alloc: Global) -> Self
-        ensures { result ≡ [] }
-    {
-        Subtrees {
-            heap: BinaryHeap::new(alloc),
-        }
-    }
-
-    /// Copies the subtrees.
-    pub fn copy(&self) -> Result<Self, AllocError>
-        ensures { IfOk result (λ copy. copy ≡ self.now) }
-    {
-        let heap = self.heap.clone()?;
-        Ok(Subtrees { heap })
-    }
-
-    /// Adds a subtree.
-    pub fn add(&mut self, x: Subtree) -> Result<(), AllocError>
-        ensures { OnOk result (IsPermutation (x ∷ self.old) self.new) }
-    {
-        self.heap.push(Reverse(x))?;
-        Ok(())
-    }
-
-    /// Takes the nearest subtree, unless each is further than the reach. A subtree exactly at the reach is taken: it may hold an
-    /// object with a lower id.
-    pub fn take_within(&mut self, reach: Option<u64>) -> Option<Subtree>
-        ensures some { IfSome result (λ x. IsPermutation self.old (x ∷ self.new)) }
-        ensures within { IfSome result (λ x. IsBeyond reach x.low → ⊥) }
-        ensures none { IfNone result (AllBeyond reach self.old) }
-        ensures same { IfNone result (self.new ≡ self.old) }
-    {
-        let Some(Reverse(first)) = self.heap.peek() else {
-            return None;
-        };
-        if is_beyond(reach, first.low) {
-            return None;
-        }
-        let Some(Reverse(next)) = self.heap.pop() else {
-            return None;
-        };
-        Some(next)
+/// Returns the distance of the nearest of `candidates`, if there is one.
+pub fn reach_of(candidates: &Candidates) -> Option<u64>
+    ensures { IsReach candidates.now result }
+{
+    match candidates.first() {
+        Some(first) => Some(first.dist),
+        None => None,
     }
 }
 
-/// The objects that were met and are not given yet, the nearest first.
-#[derive(Drop)]
-pub struct Candidates {
-    heap: BinaryHeap<Reverse<Candidate>>,
-}
-
-impl Model for Candidates {
-    ghost Value = { List Candidate };
-
-    ghost view = { λ s. map (λ r. r.0) (heap_items s.heap) };
-
-    ghost invariant = { λ s. IsHeap (λ x y. candidate_order y.0 x.0) (heap_items s.heap) };
-}
-
-impl Candidates {
-    /// Makes an empty set of candidates.
-    pub fn new(alloc: Global) -> Self
-        ensures { result ≡ [] }
-    {
-        Candidates {
-            heap: BinaryHeap::new(alloc),
-        }
-    }
-
-    /// Copies the candidates.
-    pub fn copy(&self) -> Result<Self, AllocError>
-        ensures { IfOk result (λ copy. copy ≡ self.now) }
-    {
-        let heap = self.heap.clone()?;
-        Ok(Candidates { heap })
-    }
-
-    /// Adds a candidate.
-    pub fn add(&mut self, x: Candidate) -> Result<(), AllocError>
-        ensures { OnOk result (IsPermutation (x ∷ self.old) self.new) }
-    {
-        self.heap.push(Reverse(x))?;
-        Ok(())
-    }
-
-    /// Returns the distance of the nearest candidate, if there is one.
-    pub fn reach(&self) -> Option<u64>
-        ensures { IsReach self.now result }
-    {
-        match self.heap.peek() {
-            Some(Reverse(first)) => Some(first.dist),
-            None => None,
-        }
-    }
-
-    /// Takes the nearest candidate; of equally near ones, the one with the lowest id.
-    pub fn take_first(&mut self) -> Option<Candidate>
-        ensures some { IfSome result (λ x. IsPermutation self.old (x ∷ self.new)) }
-        ensures first { IfSome result (λ x. IsFirst x self.old) }
-        ensures none { IfNone result (self.old ≡ []) }
-        ensures same { IfNone result (self.new ≡ self.old) }
-    {
-        let Some(Reverse(next)) = self.heap.pop() else {
-            return None;
-        };
-        Some(next)
-    }
+/// Takes the nearest of `candidates`; of equally near ones, the one with the lowest id.
+pub fn take_nearest(candidates: &mut Candidates) -> Option<Candidate>
+    ensures some { IfSome result (λ x. IsPermutation candidates.old (x ∷ candidates.new)) }
+    ensures first { IfSome result (λ x. IsFirst x candidates.old) }
+    ensures none { IfNone result (candidates.old ≡ []) }
+    ensures same { IfNone result (candidates.new ≡ candidates.old) }
+{
+    candidates.take_first()
 }

@@ -19,13 +19,13 @@ pub returns-then-spent-clause-cause : goal.returns-then-spent-clause-cause
 returns-then-spent-clause-cause g c =
     way_repeats (g.R.M.Metric.space (g.R.Ruler.metric c.args.ruler.now)) (g.met.R.Ruler.axioms c.args.ruler.now) (g.P.Pages.shelf c.args.pages.now) c.args.live.now c.args.goal.q.now c.requires.point
     c.args.walk.now.given c.args.walk.now.opened c.args.walk.now.subtrees c.args.walk.now.candidates (g.P.Pages.shelf c.loop-alloc.pages) c.loop-alloc.walk.given c.loop-alloc.walk.opened c.loop-alloc.walk.subtrees
-    c.loop-alloc.walk.candidates c.loop-alloc.walk.hits.items c.loop-alloc.walk.tags.items c.loop-alloc.invariant.way c.in-Some.next c.take_within.new.self c.in-Some.ensures.some (search rules)
+    c.loop-alloc.walk.candidates c.loop-alloc.walk.hits.items c.loop-alloc.walk.tags.items c.loop-alloc.invariant.way c.in-Some.next c.take_within.new.subtrees c.in-Some.ensures.some (search rules)
 
 pub returns-then-spent-clause-sound : goal.returns-then-spent-clause-sound
 returns-then-spent-clause-sound g c nodes tells sound holds on =
     way_room (g.R.M.Metric.space (g.R.Ruler.metric c.args.ruler.now)) (g.met.R.Ruler.axioms c.args.ruler.now) (g.P.Pages.shelf c.args.pages.now) c.args.live.now c.args.goal.q.now c.requires.point
     c.args.walk.now.given c.args.walk.now.opened c.args.walk.now.subtrees c.args.walk.now.candidates (g.P.Pages.shelf c.loop-alloc.pages) c.loop-alloc.walk.given c.loop-alloc.walk.opened c.loop-alloc.walk.subtrees
-    c.loop-alloc.walk.candidates c.loop-alloc.walk.hits.items c.loop-alloc.walk.tags.items c.loop-alloc.invariant.way c.in-Some.next c.take_within.new.self c.in-Some.ensures.some nodes tells sound holds on
+    c.loop-alloc.walk.candidates c.loop-alloc.walk.hits.items c.loop-alloc.walk.tags.items c.loop-alloc.invariant.way c.in-Some.next c.take_within.new.subtrees c.in-Some.ensures.some nodes tells sound holds on
     (search rules)
 
 pub returns-in_err-open_page-clause-asked : goal.returns-in_err-open_page-clause-asked
@@ -40,7 +40,7 @@ returns-in_err-open_page-clause-cause g c =
     let p = err_from_is_err_and c.from_residual.result c.from_residual.ensures.1 in
     rw (p.1, p.2) (way_cause (g.R.M.Metric.space (g.R.Ruler.metric c.args.ruler.now)) (g.met.R.Ruler.axioms c.args.ruler.now) (g.P.Pages.shelf c.args.pages.now) c.args.live.now c.args.goal.q.now c.requires.point
     c.args.walk.now.given c.args.walk.now.opened c.args.walk.now.subtrees c.args.walk.now.candidates (g.P.Pages.shelf c.loop-alloc.pages) c.loop-alloc.walk.given c.loop-alloc.walk.opened c.loop-alloc.walk.subtrees
-    c.loop-alloc.walk.candidates c.loop-alloc.walk.hits.items c.loop-alloc.walk.tags.items c.loop-alloc.invariant.way c.in-Some.next c.take_within.new.self c.in-Some.ensures.some
+    c.loop-alloc.walk.candidates c.loop-alloc.walk.hits.items c.loop-alloc.walk.tags.items c.loop-alloc.invariant.way c.in-Some.next c.take_within.new.subtrees c.in-Some.ensures.some
     (g.P.Pages.shelf c.open_page.new.pages) c.in_err-open_page.field-0.0 c.in_err-open_page.ensures.cause)
 
 pub returns-in_err-open_page-clause-sound : goal.returns-in_err-open_page-clause-sound
@@ -48,7 +48,7 @@ returns-in_err-open_page-clause-sound g c =
     let p = err_from_is_err_and c.from_residual.result c.from_residual.ensures.1 in
     rw (p.1, p.2) (λ nodes tells sound holds on. way_passes (g.R.M.Metric.space (g.R.Ruler.metric c.args.ruler.now)) (g.met.R.Ruler.axioms c.args.ruler.now) (g.P.Pages.shelf c.args.pages.now) c.args.live.now c.args.goal.q.now c.requires.point
     c.args.walk.now.given c.args.walk.now.opened c.args.walk.now.subtrees c.args.walk.now.candidates (g.P.Pages.shelf c.loop-alloc.pages) c.loop-alloc.walk.given c.loop-alloc.walk.opened c.loop-alloc.walk.subtrees
-    c.loop-alloc.walk.candidates c.loop-alloc.walk.hits.items c.loop-alloc.walk.tags.items c.loop-alloc.invariant.way c.in-Some.next c.take_within.new.self c.in-Some.ensures.some nodes tells sound holds on
+    c.loop-alloc.walk.candidates c.loop-alloc.walk.hits.items c.loop-alloc.walk.tags.items c.loop-alloc.invariant.way c.in-Some.next c.take_within.new.subtrees c.in-Some.ensures.some nodes tells sound holds on
     (g.P.Pages.shelf c.open_page.new.pages) c.in_err-open_page.field-0.0 c.in_err-open_page.ensures.cause)
 
 pub loop-alloc-preserved-in-Some : goal.loop-alloc-preserved-in-Some
@@ -60,9 +60,9 @@ loop-alloc-preserved-in-Some g c = record {
   way = rw (c.open_page.ensures.given, c.open_page.ensures.opened, c.open_page.ensures.hits, c.open_page.ensures.tags)
       (way_opens (g.R.M.Metric.space (g.R.Ruler.metric c.args.ruler.now)) (g.met.R.Ruler.axioms c.args.ruler.now) (g.P.Pages.shelf c.args.pages.now) c.args.live.now c.args.goal.q.now c.requires.point
       c.args.walk.now.given c.args.walk.now.opened c.args.walk.now.subtrees c.args.walk.now.candidates (g.P.Pages.shelf c.loop-alloc.pages) c.loop-alloc.walk.given c.loop-alloc.walk.opened c.loop-alloc.walk.subtrees
-      c.loop-alloc.walk.candidates c.loop-alloc.walk.hits.items c.loop-alloc.walk.tags.items c.loop-alloc.invariant.way c.in-Some.next c.take_within.new.self c.in-Some.ensures.some
+      c.loop-alloc.walk.candidates c.loop-alloc.walk.hits.items c.loop-alloc.walk.tags.items c.loop-alloc.invariant.way c.in-Some.next c.take_within.new.subtrees c.in-Some.ensures.some
       (g.P.Pages.shelf c.open_page.new.pages) c.open_page.new.walk.candidates c.open_page.new.walk.subtrees
-      (subst (λ m. IsOpened (g.R.M.Metric.space m) c.args.goal.q.now (g.P.Pages.shelf c.loop-alloc.pages) c.in-Some.next.page c.loop-alloc.walk.candidates c.open_page.new.walk.candidates c.take_within.new.self
+      (subst (λ m. IsOpened (g.R.M.Metric.space m) c.args.goal.q.now (g.P.Pages.shelf c.loop-alloc.pages) c.in-Some.next.page c.loop-alloc.walk.candidates c.open_page.new.walk.candidates c.take_within.new.subtrees
       c.open_page.new.walk.subtrees) c.loop-alloc.invariant.metric c.in_ok-open_page.ensures.node)
       c.open_page.ensures.same c.open_page.ensures.asked c.open_page.ensures.reads (let f = c.loop-alloc.invariant.way.few in omega arith));
 }
@@ -78,10 +78,10 @@ loop-alloc-preserved g c = record {
   metric = c.loop-alloc.invariant.metric;
   keeps = c.loop-alloc.invariant.keeps;
   no_fault = c.loop-alloc.invariant.no_fault;
-  long = rw c.in_ok-give.ensures.hits (let l = length-append c.loop-alloc.walk.hits.items (hit_of c.in-Some-take_first.next ∷ []) in omega arith);
+  long = rw c.in_ok-give.ensures.hits (let l = length-append c.loop-alloc.walk.hits.items (hit_of c.in-Some-take_nearest.next ∷ []) in omega arith);
   way = rw (c.in_ok-give.ensures.given, c.give.ensures.opened, c.give.ensures.subtrees, c.in_default.ensures.same, c.give.ensures.candidates, c.in_ok-give.ensures.hits, c.in_ok-give.ensures.tags)
       (way_gives (g.R.M.Metric.space (g.R.Ruler.metric c.args.ruler.now)) (g.met.R.Ruler.axioms c.args.ruler.now) (g.P.Pages.shelf c.args.pages.now) c.args.live.now c.args.goal.q.now c.requires.point
       c.args.walk.now.given c.args.walk.now.opened c.args.walk.now.subtrees c.args.walk.now.candidates (g.P.Pages.shelf c.loop-alloc.pages) c.loop-alloc.walk.given c.loop-alloc.walk.opened c.loop-alloc.walk.subtrees
-      c.loop-alloc.walk.candidates c.loop-alloc.walk.hits.items c.loop-alloc.walk.tags.items c.loop-alloc.invariant.way c.in-Some-take_first.next c.take_first.new.self c.in-Some-take_first.ensures.some
-      c.in-Some-take_first.ensures.first c.reach-reach.result c.reach-reach.ensures c.in_default.ensures.none);
+      c.loop-alloc.walk.candidates c.loop-alloc.walk.hits.items c.loop-alloc.walk.tags.items c.loop-alloc.invariant.way c.in-Some-take_nearest.next c.take_nearest.new.candidates c.in-Some-take_nearest.ensures.some
+      c.in-Some-take_nearest.ensures.first c.reach_of-reach.result c.reach_of-reach.ensures c.in_default.ensures.none);
 }
