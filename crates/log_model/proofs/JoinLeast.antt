@@ -69,9 +69,9 @@ near_entry j n e far = hits (is_hit (with_entry j.space n e)) refl
     hits false h = refl
 
 entry_allowed : (j : JoinSearch) (n : JoinNeed) (e : Entry) → IsTrue (allows_entry j n e (least_for_entry j n e))
-entry_allowed j n e = cases (join_skips j n e) (join_far j n e) refl refl
+entry_allowed j n e = cases (join_skips j.rho n e) (join_far j n e) refl refl
   where
-    cases : (s c : Bool) → join_skips j n e ≡ s → join_far j n e ≡ c → IsTrue (allows_entry j n e (if s then Skip else (if c then Far else Near)))
+    cases : (s c : Bool) → join_skips j.rho n e ≡ s → join_far j n e ≡ c → IsTrue (allows_entry j n e (if s then Skip else (if c then Far else Near)))
     cases true c i k = i
     cases false true i k = k
     cases false false i k = near_entry j n e k

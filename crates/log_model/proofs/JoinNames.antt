@@ -228,7 +228,7 @@ module _ (j : JoinSearch) (axioms : IsSpace j.space) (left right : Nodes) where
       cases true m t p = far_items n.left e.item sound.left_sound m.item (radius_of e.item) (radius_of n.left) (omega arith) t z p
       cases false m t p = far_items e.item n.right m.item sound.right_sound (radius_of e.item) (radius_of n.right) refl t z p
 
-  pub skip_pair : (n : JoinNeed) → IsSoundNeed j.space left right n → (e : Entry) → Member n (opens_right n) e → join_skips j n e ≡ true → (z : Pair) → PairIn (with_entry j.space n e) z → ⊥
+  pub skip_pair : (n : JoinNeed) → IsSoundNeed j.space left right n → (e : Entry) → Member n (opens_right n) e → join_skips j.rho n e ≡ true → (z : Pair) → PairIn (with_entry j.space n e) z → ⊥
   skip_pair n sound e member test z pair =
       sides (opens_right n) (centre_of n.left) (centre_of n.right) refl refl member (rw sound.apart_is at test) pair
     where

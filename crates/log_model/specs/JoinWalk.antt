@@ -106,16 +106,17 @@ abbrev pub within_apart : Option ℕ → ℕ → Bool
 within_apart None rho = false
 within_apart (Some d) rho = nat_le d rho
 
--- the tests of an entry of the opened item against the other item
+-- the test of an entry of the opened item against the other item by the distance of the two
 abbrev pub join_far : JoinSearch → JoinNeed → Entry → Bool
 join_far j n e = far_apart (with_entry j.space n e).apart j.rho (radius_of e.item) (radius_of (other n))
 
-abbrev pub join_skips : JoinSearch → JoinNeed → Entry → Bool
-join_skips j n e = far_stored n.apart e.stored j.rho (radius_of e.item + radius_of (other n))
+-- the test of such an entry by the stored distances, at the pruning radius `rho`
+abbrev pub join_skips : ℕ → JoinNeed → Entry → Bool
+join_skips rho n e = far_stored n.apart e.stored rho (radius_of e.item + radius_of (other n))
 
 -- the marks that an entry may have
 abbrev pub allows_entry : JoinSearch → JoinNeed → Entry → Mark → Bool
-allows_entry j n e Skip = join_skips j n e
+allows_entry j n e Skip = join_skips j.rho n e
 allows_entry j n e Far = join_far j n e
 allows_entry j n e Near = if is_hit (with_entry j.space n e) then within_apart (with_entry j.space n e).apart j.rho else true
 
@@ -129,7 +130,7 @@ JoinAllowed j n node marks = AllZip (λ e m. IsTrue (allows_entry j n e m)) (ent
 
 -- the least marks: Skip where it is allowed, else Far where it is allowed, else Near
 abbrev pub least_for_entry : JoinSearch → JoinNeed → Entry → Mark
-least_for_entry j n e = if join_skips j n e then Skip else (if join_far j n e then Far else Near)
+least_for_entry j n e = if join_skips j.rho n e then Skip else (if join_far j n e then Far else Near)
 
 abbrev pub JoinLeast : JoinRule
 JoinLeast j n node marks = marks ≡ map (least_for_entry j n) (entries_of node)

@@ -17,7 +17,7 @@ chosen false one other is = absurd (let no = is in cc)
 
 module _ {X : Type 0} (j : JoinSearch) (n : JoinNeed) (entry : X → Entry) where
   abbrev AreSkipped : ℕ → List X → List Mark → Type 0
-  AreSkipped k xs marks = (m : ℕ) (d : X) → m < k → (get_or marks m Skip ≡ Skip) × (join_skips j n (entry (get_or xs m d)) ≡ true)
+  AreSkipped k xs marks = (m : ℕ) (d : X) → m < k → (get_or marks m Skip ≡ Skip) × (join_skips j.rho n (entry (get_or xs m d)) ≡ true)
 
   wrong_run : (k : ℕ) (xs : List X) (marks : List Mark) (i : ℕ) → k ≤ length xs → length marks ≡ length xs → AreSkipped k xs marks →
       first_wrong (allows_entry j n) (map entry xs) marks i ≡ first_wrong (allows_entry j n) (map entry (drop k xs)) (drop k marks) (i + k)
@@ -27,7 +27,7 @@ module _ {X : Type 0} (j : JoinSearch) (n : JoinNeed) (entry : X → Entry) wher
   wrong_run (suc k) (x ∷ xs) (m ∷ marks) i few long skipped =
       let here = skipped 0 x (omega arith) in
       let rest : Option ℕ = first_wrong (allows_entry j n) (map entry xs) marks (i + 1) in
-      ap (λ (y : Mark). if allows_entry j n (entry x) y then rest else Some i) here.0 ∙ chosen (join_skips j n (entry x)) rest (Some i) here.1
+      ap (λ (y : Mark). if allows_entry j n (entry x) y then rest else Some i) here.0 ∙ chosen (join_skips j.rho n (entry x)) rest (Some i) here.1
       ∙ wrong_run k xs marks (i + 1) (omega arith) (omega arith) (λ p d below. skipped (suc p) d (omega arith))
       ∙ ap (λ (p : ℕ). first_wrong (allows_entry j n) (map entry (drop k xs)) (drop k marks) p) (let e : i + 1 + k ≡ i + suc k = omega arith in e)
 
@@ -41,11 +41,11 @@ module _ {X : Type 0} (j : JoinSearch) (n : JoinNeed) (entry : X → Entry) wher
 
   -- from one place to another
   module _ (es : List X) (marks : List Mark) (at next : ℕ) (low : at ≤ next) (high : next ≤ length es) (long : length marks ≡ length es)
-      (marked : (k : ℕ) → at ≤ k → k < next → get_or marks k Skip ≡ Skip) (skipped : (k : ℕ) (d : X) → at ≤ k → k < next → join_skips j n (entry (get_or es k d)) ≡ true) where
+      (marked : (k : ℕ) → at ≤ k → k < next → get_or marks k Skip ≡ Skip) (skipped : (k : ℕ) (d : X) → at ≤ k → k < next → join_skips j.rho n (entry (get_or es k d)) ≡ true) where
     here : AreSkipped (next - at) (drop at es) (drop at marks)
     here m d below = (
       get_or-drop at marks m Skip ∙ marked (at + m) (omega arith) (omega arith),
-      subst (λ (x : X). join_skips j n (entry x) ≡ true) (sym (get_or-drop at es m d)) (skipped (at + m) d (omega arith) (omega arith)),
+      subst (λ (x : X). join_skips j.rho n (entry x) ≡ true) (sym (get_or-drop at es m d)) (skipped (at + m) d (omega arith) (omega arith)),
     )
 
     up : at + (next - at) ≡ next

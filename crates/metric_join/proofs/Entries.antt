@@ -9,11 +9,11 @@ use Rattle.log_model.specs.declared.pairs.JoinNeed.{JoinNeed}
 use Rattle.metric_laws.specs.Counts.{count_up}
 use Rattle.log_model.specs.Counts.{measured_by}
 use Rattle.log_model.specs.Walk.{near_ones}
-use Rattle.log_model.specs.JoinWalk.{JoinSearch, Entry, opens_right, other, apart_of, centre_of, radius_of, far_apart, far_stored, with_entry, least_for_entry}
+use Rattle.log_model.specs.JoinWalk.{JoinSearch, Entry, opens_right, other, apart_of, centre_of, radius_of, far_apart, far_stored, with_entry, join_skips, least_for_entry}
 use Rattle.log_model.specs.JoinSteps.{apart_from, paired, hits_among, needs_among}
 use Rattle.log_model.proofs.Published.{paired_same, hits_append, needs_append, count_up_both}
 use Rattle.metric_join.specs.declared.opening.Opening.{Opening}
-use Rattle.metric_join.specs.Steps.{is_ruled_out, least_at, measured_at, marks_for, pairs_for, TakesEntries, CountsMarks}
+use Rattle.metric_join.specs.Steps.{least_at, measured_at, marks_for, pairs_for, TakesEntries, CountsMarks}
 
 -- an entry is as far from the other item as its point is
 apart_same : (s : Space) (n : JoinNeed) (e : Entry) (point : List ℕ) → centre_of e.item ≡ Some point → (with_entry s n e).apart ≡ apart_from s n point
@@ -119,15 +119,15 @@ takes_next j h n entry es i e start old new same low is one so_far last rest =
 
 -- entries that stored distances rule out are marked Skip, and leave no pair
 module _ {X : Type 0} (j : JoinSearch) (n : JoinNeed) (entry : X → Entry) where
-  ruled_out : (e : Entry) → is_ruled_out j.rho n e ≡ true → least_for_entry j n e ≡ Skip
-  ruled_out e is = cases (is_ruled_out j.rho n e) _ is
+  ruled_out : (e : Entry) → join_skips j.rho n e ≡ true → least_for_entry j n e ≡ Skip
+  ruled_out e is = cases (join_skips j.rho n e) _ is
     where
       cases : (b : Bool) (m : Mark) → b ≡ true → (if b then Skip else m) ≡ Skip
       cases true m is = refl
       cases false m is = absurd (let no = is in cc)
 
   abbrev AreRuledOut : ℕ → List X → Type 0
-  AreRuledOut k xs = (m : ℕ) (d : X) → m < k → is_ruled_out j.rho n (entry (get_or xs m d)) ≡ true
+  AreRuledOut k xs = (m : ℕ) (d : X) → m < k → join_skips j.rho n (entry (get_or xs m d)) ≡ true
 
   marks_run : (k : ℕ) (xs : List X) → k ≤ length xs → AreRuledOut k xs → marks_for j n (map entry xs) ≡ replicate k Skip ++ marks_for j n (map entry (drop k xs))
   marks_run zero xs few out = refl
@@ -155,7 +155,7 @@ module _ {X : Type 0} (j : JoinSearch) (n : JoinNeed) (entry : X → Entry) wher
 
   -- a loop that has taken the entries up to a place, and marks the next ones Skip: what takes the others takes all
   pub takes_skipped : (es : List X) (at next : ℕ) (start old mid : Opening) → at ≤ next → next ≤ length es →
-      ((k : ℕ) (d : X) → at ≤ k → k < next → is_ruled_out j.rho n (entry (get_or es k d)) ≡ true) →
+      ((k : ℕ) (d : X) → at ≤ k → k < next → join_skips j.rho n (entry (get_or es k d)) ≡ true) →
       mid.marks.items ≡ old.marks.items ++ replicate (next - at) Skip → mid.matches ≡ old.matches →
       ((last : Opening) → TakesEntries j n (map entry (drop at es)) old last → TakesEntries j n (map entry es) start last) →
       (last : Opening) → TakesEntries j n (map entry (drop next es)) mid last → TakesEntries j n (map entry es) start last
@@ -164,7 +164,7 @@ module _ {X : Type 0} (j : JoinSearch) (n : JoinNeed) (entry : X → Entry) wher
       (subst (λ (l : List X). TakesEntries j n (map entry l) mid last) there rest))
     where
       here : AreRuledOut (next - at) (drop at es)
-      here m d below = subst (λ (x : X). is_ruled_out j.rho n (entry x) ≡ true) (sym (get_or-drop at es m d)) (out (at + m) d (omega arith) (omega arith))
+      here m d below = subst (λ (x : X). join_skips j.rho n (entry x) ≡ true) (sym (get_or-drop at es m d)) (out (at + m) d (omega arith) (omega arith))
 
       there : drop next es ≡ drop (next - at) (drop at es)
       there = ap (λ (k : ℕ). drop k es) (let e : next ≡ at + (next - at) = omega arith in e) ∙ sym (drop-drop (next - at) at es)

@@ -37,10 +37,6 @@ measured_at j n point radius = if far_apart (apart_from j.space n point) j.rho r
 abbrev pub least_at : JoinSearch → JoinNeed → List ℕ → ℕ → ℕ → Mark
 least_at j n point stored radius = if far_stored n.apart stored j.rho (radius + radius_of (other n)) then Skip else measured_at j n point radius
 
--- whether the stored distances rule an entry out
-abbrev pub is_ruled_out : ℕ → JoinNeed → Entry → Bool
-is_ruled_out rho n e = far_stored n.apart e.stored rho (radius_of e.item + radius_of (other n))
-
 -- the least marks of entries, and the pairs that they leave
 abbrev pub marks_for : JoinSearch → JoinNeed → List Entry → List Mark
 marks_for j n es = map (least_for_entry j n) es

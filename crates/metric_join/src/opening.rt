@@ -6,9 +6,9 @@ ghost use Rattle.metric_laws.specs.Counts.{CountsUpTo};
 ghost use Rattle.tree_shape.specs.Entries.{inner_of, leaf_of};
 ghost use Rattle.log_model.specs.Counts.{measured_by};
 ghost use Rattle.log_model.specs.declared.marks.Mark.TheVariants.{Skip, Near};
-ghost use Rattle.log_model.specs.JoinWalk.{object_entry, subtree_entry, entries_of, far_stored, other, radius_of};
+ghost use Rattle.log_model.specs.JoinWalk.{object_entry, subtree_entry, entries_of, far_stored, join_skips, other, radius_of};
 ghost use Rattle.log_model.specs.JoinSteps.{search_within, apart_from, hits_among, needs_among};
-ghost use Rattle.metric_join.specs.Steps.{is_ruled_out, measured_at, marks_for, pairs_for, TakesEntries, CountsMarks};
+ghost use Rattle.metric_join.specs.Steps.{measured_at, marks_for, pairs_for, TakesEntries, CountsMarks};
 
 use log_model::{JoinNeed, JoinProbe, Mark, Matches, Memory, entry_count, is_far, is_skipped};
 use metric_laws::Ruler;
@@ -86,9 +86,9 @@ fn next_object(probe: JoinProbe, objects: &LeafView, from: usize) -> usize
     ensures low { from ≤ result }
     ensures high { result ≤ length objects.now }
     ensures ruled_out { (k : ℕ) (e : LeafEntry) → from ≤ k → k < result →
-        is_ruled_out probe.entry.rho probe.entry.need.now (object_entry (slice_index_or objects.now k e)) ≡ true }
+        join_skips probe.entry.rho probe.entry.need.now (object_entry (slice_index_or objects.now k e)) ≡ true }
     ensures next { (e : LeafEntry) → result < length objects.now →
-        is_ruled_out probe.entry.rho probe.entry.need.now (object_entry (slice_index_or objects.now result e)) ≡ false }
+        join_skips probe.entry.rho probe.entry.need.now (object_entry (slice_index_or objects.now result e)) ≡ false }
 {
     let mut at = from;
     while at < objects.len() {
@@ -113,9 +113,9 @@ fn next_subtree(probe: JoinProbe, level: u8, subtrees: &InnerView, from: usize) 
     ensures low { from ≤ result }
     ensures high { result ≤ length subtrees.now }
     ensures ruled_out { (k : ℕ) (e : InnerEntry) → from ≤ k → k < result →
-        is_ruled_out probe.entry.rho probe.entry.need.now (subtree_entry level (slice_index_or subtrees.now k e)) ≡ true }
+        join_skips probe.entry.rho probe.entry.need.now (subtree_entry level (slice_index_or subtrees.now k e)) ≡ true }
     ensures next { (e : InnerEntry) → result < length subtrees.now →
-        is_ruled_out probe.entry.rho probe.entry.need.now (subtree_entry level (slice_index_or subtrees.now result e)) ≡ false }
+        join_skips probe.entry.rho probe.entry.need.now (subtree_entry level (slice_index_or subtrees.now result e)) ≡ false }
 {
     let mut at = from;
     while at < subtrees.len() {

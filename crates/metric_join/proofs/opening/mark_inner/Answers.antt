@@ -4,9 +4,8 @@ use Rattle.tree_shape.specs.declared.entry.InnerEntry.{InnerEntry}
 use Rattle.tree_shape.specs.Entries.{inner_of}
 use Rattle.log_model.specs.declared.marks.Mark.{Mark}
 use Rattle.log_model.specs.declared.marks.Mark.TheVariants.{Skip}
-use Rattle.log_model.specs.JoinWalk.{JoinSearch, subtree_entry}
+use Rattle.log_model.specs.JoinWalk.{JoinSearch, subtree_entry, join_skips}
 use Rattle.log_model.specs.JoinSteps.{search_within}
-use Rattle.metric_join.specs.Steps.{is_ruled_out}
 use Rattle.metric_join.proofs.Entries.{takes_next, takes_skipped, takes_all, counts_both, counts_skipped, long_skipped, long_next}
 use Rattle.metric_join.proofs.opening.mark_inner.Goals as goal
 
@@ -26,8 +25,8 @@ loop-at-preserved g c =
     let high : next ≤ length es = omega (arith, c.next_subtree-next.ensures.high, ap length c.seen-subtrees.ensures) in
     let skipped : mid.marks.items ≡ old.marks.items ++ replicate (next - at) Skip =
     c.in_ok-skip_up_to.ensures.marks ∙ ap (λ (k : ℕ). old.marks.items ++ replicate (next - k) Skip) c.loop-at.invariant.long in
-    let out : (k : ℕ) (d : InnerEntry) → at ≤ k → k < next → is_ruled_out c.args.probe.rho c.args.probe.need.now ((subtree_entry c.args.level) (get_or es k d)) ≡ true =
-    subst (λ (l : List InnerEntry). (k : ℕ) (d : InnerEntry) → at ≤ k → k < next → is_ruled_out c.args.probe.rho c.args.probe.need.now ((subtree_entry c.args.level) (get_or l k d)) ≡ true)
+    let out : (k : ℕ) (d : InnerEntry) → at ≤ k → k < next → join_skips c.args.probe.rho c.args.probe.need.now ((subtree_entry c.args.level) (get_or es k d)) ≡ true =
+    subst (λ (l : List InnerEntry). (k : ℕ) (d : InnerEntry) → at ≤ k → k < next → join_skips c.args.probe.rho c.args.probe.need.now ((subtree_entry c.args.level) (get_or l k d)) ≡ true)
     c.seen-subtrees.ensures c.next_subtree-next.ensures.ruled_out in
     let here : entry ≡ get_or es next entry = c.at.ensures ∙ ap (λ (l : List InnerEntry). get_or l next entry) c.seen-subtrees.ensures in
     let u0 = g.R.Ruler.used c.args.ruler.now in
@@ -67,8 +66,8 @@ returns-then-next-len-clause-taken g c =
     let high : next ≤ length es = omega (arith, c.next_subtree-next.ensures.high, ap length c.seen-subtrees.ensures) in
     let skipped : mid.marks.items ≡ old.marks.items ++ replicate (next - at) Skip =
     c.in_ok-skip_up_to.ensures.marks ∙ ap (λ (k : ℕ). old.marks.items ++ replicate (next - k) Skip) c.loop-at.invariant.long in
-    let out : (k : ℕ) (d : InnerEntry) → at ≤ k → k < next → is_ruled_out c.args.probe.rho c.args.probe.need.now ((subtree_entry c.args.level) (get_or es k d)) ≡ true =
-    subst (λ (l : List InnerEntry). (k : ℕ) (d : InnerEntry) → at ≤ k → k < next → is_ruled_out c.args.probe.rho c.args.probe.need.now ((subtree_entry c.args.level) (get_or l k d)) ≡ true)
+    let out : (k : ℕ) (d : InnerEntry) → at ≤ k → k < next → join_skips c.args.probe.rho c.args.probe.need.now ((subtree_entry c.args.level) (get_or es k d)) ≡ true =
+    subst (λ (l : List InnerEntry). (k : ℕ) (d : InnerEntry) → at ≤ k → k < next → join_skips c.args.probe.rho c.args.probe.need.now ((subtree_entry c.args.level) (get_or l k d)) ≡ true)
     c.seen-subtrees.ensures c.next_subtree-next.ensures.ruled_out in
     takes_all j c.args.probe.need.now (subtree_entry c.args.level) es next start mid (omega (arith, c.if-next-len.true, c.len-in-loop-at.ensures, ap length c.seen-subtrees.ensures))
     (takes_skipped j c.args.probe.need.now (subtree_entry c.args.level) es at next start old mid c.next_subtree-next.ensures.low high out skipped c.skip_up_to.ensures.matches c.loop-at.invariant.taken)
